@@ -1,0 +1,4 @@
+pub mod Arithmetic
+pub mod Ring
+pub mod Signed
+pub mod Sums

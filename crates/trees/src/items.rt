@@ -1,0 +1,182 @@
+ghost use Rattle.std.specs.Prelude.{◌≡◌, [], ◌∷◌, ◌++◌, ◌<◌, length, slice_get, slice_set, ◌↔◌, IsTrue, IfOk, MatchOption, OnOk, OnErr, OnSome};
+ghost use Rattle.std.specs.Option.{option_copied};
+
+use std::alloc::{AllocError, Global};
+use std::marker::Model;
+
+/// A vector that contracts see as the list of its elements alone.
+#[derive(Debug, Drop)]
+pub struct Items<T> {
+    items: Vec<T>,
+}
+
+impl<T> Model for Items<T> {
+    ghost use Rattle.std.specs.Prelude.{List};
+    ghost use Rattle.std.specs.Coded.{coded_list};
+
+    ghost Value = { List T };
+
+    ghost coded = { coded_list T.code };
+
+    ghost view = { λ a. a.items.items };
+}
+
+impl<T> Items<T> {
+    /// An empty list, which takes no memory.
+    pub fn new(alloc: Global) -> Items<T>
+        ensures { result ≡ [] }
+    {
+        Items {
+            items: Vec::new(alloc),
+        }
+    }
+
+    /// The elements of a vector, which takes no memory.
+    pub fn from_vec(items: Vec<T>) -> Items<T>
+        ensures { result ≡ items.items }
+    {
+        Items { items }
+    }
+
+    /// Gives the vector back, which takes no memory.
+    pub fn into_vec(self) -> Vec<T>
+        ensures { result.items ≡ self }
+    {
+        let Items { items } = self;
+        items
+    }
+
+    /// The elements.
+    pub fn as_slice(&self) -> &[T]
+        ensures { result.now ≡ self.now }
+    {
+        self.items.as_slice()
+    }
+
+    /// The number of elements.
+    pub fn len(&self) -> usize
+        ensures { result ≡ length self.now }
+    {
+        self.items.len()
+    }
+
+    /// Whether there is no element.
+    pub fn is_empty(&self) -> bool
+        ensures { IsTrue result ↔ (self.now ≡ []) }
+    {
+        self.items.is_empty()
+    }
+
+    /// The element at a place, or none past the end.
+    pub fn get(&self, at: usize) -> Option<&T>
+        ensures value { option_copied result ≡ slice_get self.now at }
+        ensures within { OnSome result (at < length self.now) }
+    {
+        self.items.get(at)
+    }
+
+    /// Takes the last element off.
+    pub fn pop(&mut self) -> Option<T>
+        ensures { MatchOption result ((self.old ≡ []) × (self.new ≡ [])) (λ last. self.old ≡ self.new ++ last ∷ []) }
+    {
+        self.items.pop()
+    }
+}
+
+impl<T: Drop> Items<T> {
+    /// Appends an element. Refused for want of memory, the list is as before.
+    pub fn push(&mut self, item: T) -> Result<(), AllocError>
+        ensures ok { OnOk result (self.new ≡ self.old ++ item ∷ []) }
+        ensures err { OnErr result (self.new ≡ self.old) }
+    {
+        self.items.push(item)?;
+        Ok(())
+    }
+
+    /// Moves the elements of `more` to the end. Refused for want of memory, the list is as before.
+    pub fn append(&mut self, more: Items<T>) -> Result<(), AllocError>
+        ensures ok { OnOk result (self.new ≡ self.old ++ more) }
+        ensures err { OnErr result (self.new ≡ self.old) }
+    {
+        let Items { mut items } = more;
+        self.items.append(&mut items)
+    }
+
+    /// Puts an element in the place of another.
+    pub fn set(&mut self, at: usize, item: T)
+        requires { at < length self.old }
+        ensures { self.new ≡ slice_set self.old at item }
+    {
+        self.items[at] = item;
+    }
+}
+
+impl<T: Copy> Items<T> {
+    /// A list of these elements.
+    pub fn from_slice(alloc: Global, items: &[T]) -> Result<Items<T>, AllocError>
+        ensures { IfOk result (λ list. list ≡ items.now) }
+    {
+        let items = Vec::from_slice(alloc, items)?;
+        Ok(Items { items })
+    }
+}
+
+#[cfg(test)]
+mod tests {
+    use super::*;
+    use crate::Boxed;
+    use std::test::Fail;
+
+    #[derive(Debug, Drop)]
+    enum Tree {
+        Leaf(u64),
+        Pair(Boxed<Tree>, Boxed<Tree>),
+        Row(Items<Tree>),
+    }
+
+    fn leaves(tree: &Tree) -> u64 {
+        match tree {
+            Tree::Leaf(_) => 1,
+            Tree::Pair(first, second) => leaves(first.get()).wrapping_add(leaves(second.get())),
+            Tree::Row(row) => {
+                let mut count = 0u64;
+                for child in row.as_slice() {
+                    count = count.wrapping_add(leaves(child));
+                }
+                count
+            }
+        }
+    }
+
+    #[test]
+    fn trees_reach_themselves(rt: HostRuntime) -> Result<(), Fail> {
+        let alloc = rt.alloc();
+        let pair = Tree::Pair(
+            Boxed::new(alloc, Tree::Leaf(7))?,
+            Boxed::new(alloc, Tree::Leaf(8))?,
+        );
+        let mut row = Items::new(alloc);
+        row.push(pair)?;
+        row.push(Tree::Leaf(9))?;
+        assert_eq!(rt; leaves(&Tree::Row(row)), 3);
+        let boxed = Boxed::new(alloc, 5u64)?;
+        assert_eq!(rt; boxed.into_inner(), 5);
+        Ok(())
+    }
+
+    #[test]
+    fn lists_are_lists(rt: HostRuntime) -> Result<(), Fail> {
+        let alloc = rt.alloc();
+        let mut list = Items::from_slice(alloc, &[3u64, 4])?;
+        list.push(5)?;
+        list.append(Items::from_vec(vec![in alloc; 6u64, 7]?))?;
+        list.set(0, 2);
+        assert_eq!(rt; list.len(), 5);
+        assert!(rt; !list.is_empty());
+        assert_eq!(rt; list.get(1), Some(&4));
+        assert_eq!(rt; list.get(5), None);
+        assert_eq!(rt; list.pop(), Some(7));
+        assert_eq!(rt; list.into_vec().as_slice(), [2, 4, 5, 6].as_slice());
+        Ok(())
+    }
+}
