@@ -1,0 +1,87 @@
+-- When a statement is well formed: two facts, each of which the calls that take a statement name.
+use Rattle.std.specs.Prelude.{◌≡◌, ◌≢◌, ℕ, zero, suc, ◌+◌, ◌<◌, ◌≤◌, List, [], ◌∷◌, length, refl}
+use denote.Hole.Carrier.{hidden}
+use Rattle.limits.specs.Limits.{greatest_order, greatest_variables}
+use Rattle.index_notation.specs.declared.syntax.Access.{Access}
+use Rattle.index_notation.specs.declared.syntax.Expr.{Expr, Num, Access as AccessOf, Add', Sub', Mul', Neg', Add, Sub, Mul, Neg, Row_of-Expr, end_of-Expr, more_of-Expr}
+use Rattle.index_notation.specs.declared.syntax.Expr.TheBlock.{hidden-the_row-Expr-0}
+use Rattle.index_notation.specs.declared.syntax.Statement.{Statement}
+
+-- P of each element
+abbrev pub Each : {A : Type 0} → (A → Type 0) → List A → Type 0
+Each P [] = Unit {0}
+Each P (x ∷ xs) = P x × Each P xs
+
+-- no two elements are equal
+abbrev pub IsDistinct : List ℕ → Type 0
+IsDistinct [] = Unit {0}
+IsDistinct (x ∷ xs) = Each (λ y. x ≢ y) xs × IsDistinct xs
+
+-- count numbers one after another, from n on
+abbrev pub numbers_from : ℕ → ℕ → List ℕ
+numbers_from n zero = []
+numbers_from n (suc count) = n ∷ numbers_from (n + 1) count
+
+-- an access to one of so many tensors by some of so many variables
+pub record IsAccess (tensors vars : ℕ) (a : Access) : Type 0 where
+  pub tensor : a.tensor < tensors
+  pub vars_stand : Each (λ v. v < vars) a.vars
+  pub order : length a.vars ≤ greatest_order
+
+abbrev mutual
+  -- the accesses of an expression are among so many
+  pub AccessesUnder : ℕ → Expr → Type 0
+  AccessesUnder n (Num k) = Unit {0}
+  AccessesUnder n (AccessOf k) = k < n
+  AccessesUnder n (Add' p a q b) = AccessesUnder_in n a × AccessesUnder_in n b
+  AccessesUnder n (Sub' p a q b) = AccessesUnder_in n a × AccessesUnder_in n b
+  AccessesUnder n (Mul' p a q b) = AccessesUnder_in n a × AccessesUnder_in n b
+  AccessesUnder n (Neg' p a) = AccessesUnder_in n a
+
+  -- the same of the one expression in a box
+  pub AccessesUnder_in : {m : _} → ℕ → Row_of-Expr m → Type 0
+  AccessesUnder_in n end_of-Expr = Unit {0}
+  AccessesUnder_in n (more_of-Expr e rest) = AccessesUnder n e
+
+-- each number of a tensor, a variable and an access stands in its list, within the limits
+pub record IsNumbered (s : Statement) : Type 0 where
+  pub left : IsAccess (length s.tensors) (length s.vars) s.left
+  pub right : Each (IsAccess (length s.tensors) (length s.vars)) s.accesses
+  pub expr : AccessesUnder (length s.accesses) s.expr
+  pub variables : length s.vars ≤ greatest_variables
+
+-- two accesses of one tensor have one number of variables
+abbrev pub HaveOneOrder : Access → Access → Type 0
+HaveOneOrder a b = a.tensor ≡ b.tensor → length a.vars ≡ length b.vars
+
+-- each access has the order of every later one of its tensor
+abbrev pub HaveOrders : List Access → Type 0
+HaveOrders [] = Unit {0}
+HaveOrders (a ∷ rest) = Each (HaveOneOrder a) rest × HaveOrders rest
+
+-- what the checks of names show: the result is tensor 0 and isn't read, each tensor has one order, no access
+-- has a variable twice, and the left side's variables are numbered 0, 1 and so on
+pub record IsWellNamed (s : Statement) : Type 0 where
+  pub result : s.left.tensor ≡ 0
+  pub unread : Each (λ a. a.tensor ≢ 0) s.accesses
+  pub orders : HaveOrders (s.left ∷ s.accesses)
+  pub left_once : IsDistinct s.left.vars
+  pub right_once : Each (λ a. IsDistinct a.vars) s.accesses
+  pub standing : s.left.vars ≡ numbers_from 0 (length s.left.vars)
+
+-- what stands in an expression that is made of its parts
+pub accesses_under_add : (n : ℕ) (a b : Expr) → AccessesUnder n (Add a b) ≡ (AccessesUnder n a × AccessesUnder n b)
+unfolding hidden-the_row-Expr-0 hidden
+accesses_under_add n a b = refl
+
+pub accesses_under_sub : (n : ℕ) (a b : Expr) → AccessesUnder n (Sub a b) ≡ (AccessesUnder n a × AccessesUnder n b)
+unfolding hidden-the_row-Expr-0 hidden
+accesses_under_sub n a b = refl
+
+pub accesses_under_mul : (n : ℕ) (a b : Expr) → AccessesUnder n (Mul a b) ≡ (AccessesUnder n a × AccessesUnder n b)
+unfolding hidden-the_row-Expr-0 hidden
+accesses_under_mul n a b = refl
+
+pub accesses_under_neg : (n : ℕ) (a : Expr) → AccessesUnder n (Neg a) ≡ AccessesUnder n a
+unfolding hidden-the_row-Expr-0 hidden
+accesses_under_neg n a = refl
