@@ -1,0 +1,114 @@
+-- Arrays found by their names.
+use Rattle.std.specs.Prelude.{◌≡◌, ◌⊎◌, ℕ, zero, suc, ◌+◌, ◌<◌, Bool, true, false, ◌==◌, ◌&&◌, if◌then◌else◌, List, [], ◌∷◌, length, Option, Some, None, slice_index_or, slice_set, refl}
+use Rattle.std.proofs.Common.{◌∙◌, sym, ap, subst, arith, drop, inl, inr}
+use Rattle.std.proofs.lemmas.Bool.Decides.{nat_tests}
+use Rattle.kernel_code.specs.declared.syntax.Arr.{Arr}
+use Rattle.kernel_code.specs.declared.syntax.Arr.TheVariants.{Range, Values, Dimension, Ends, Coordinates, Width, Key, Sums, ListCoordinates, ListPositions}
+use Rattle.kernel_code.specs.declared.arrays.Words.{Words}
+use Rattle.kernel_code.specs.Arrays.{same_arr}
+use Rattle.kernel_code.specs.Store.{array_of, IsPlaceOf}
+
+same_number : (n m : ℕ) → (n == m) ≡ true → n ≡ m
+same_number n m h = grind (arith, nat_tests)
+
+number_same : (n : ℕ) → (n == n) ≡ true
+number_same n = grind (arith, nat_tests)
+
+both_true : (a b : Bool) → (a && b) ≡ true → (a ≡ true) × (b ≡ true)
+both_true true b h = (refl, h)
+both_true false b h = cc
+
+one_name : (f : ℕ → Arr) (n m : ℕ) → (n == m) ≡ true → f n ≡ f m
+one_name f n m h = ap f (same_number n m h)
+
+two_names : (f : ℕ → ℕ → Arr) (n m k l : ℕ) → ((n == m) && (k == l)) ≡ true → f n k ≡ f m l
+two_names f n m k l h = let both = both_true (n == m) (k == l) h in ap (λ x. f x k) (same_number n m both.0) ∙ ap (f m) (same_number k l both.1)
+
+pub same_arr_is : (a b : Arr) → same_arr a b ≡ true → a ≡ b
+same_arr_is Range Range h = refl
+same_arr_is (Values n) (Values m) h = one_name Values n m h
+same_arr_is (Dimension n k) (Dimension m l) h = two_names Dimension n m k l h
+same_arr_is (Ends n k) (Ends m l) h = two_names Ends n m k l h
+same_arr_is (Coordinates n k) (Coordinates m l) h = two_names Coordinates n m k l h
+same_arr_is (Width n k) (Width m l) h = two_names Width n m k l h
+same_arr_is (Key n k) (Key m l) h = two_names Key n m k l h
+same_arr_is (Sums n) (Sums m) h = one_name Sums n m h
+same_arr_is (ListCoordinates n) (ListCoordinates m) h = one_name ListCoordinates n m h
+same_arr_is (ListPositions n) (ListPositions m) h = one_name ListPositions n m h
+same_arr_is _ _ h = cc
+
+same_pair : (n k : ℕ) → ((n == n) && (k == k)) ≡ true
+same_pair n k = ap (λ b. b && (k == k)) (number_same n) ∙ number_same k
+
+pub same_arr_self : (a : Arr) → same_arr a a ≡ true
+same_arr_self Range = refl
+same_arr_self (Values n) = number_same n
+same_arr_self (Dimension n k) = same_pair n k
+same_arr_self (Ends n k) = same_pair n k
+same_arr_self (Coordinates n k) = same_pair n k
+same_arr_self (Width n k) = same_pair n k
+same_arr_self (Key n k) = same_pair n k
+same_arr_self (Sums n) = number_same n
+same_arr_self (ListCoordinates n) = number_same n
+same_arr_self (ListPositions n) = number_same n
+
+-- an array that isn't the first one is passed over
+pub array_of_drop : (ws : List Words) (i : ℕ) (a : Arr) (d : Words) → i < length ws → same_arr (slice_index_or ws i d).name a ≡ false → array_of (drop (suc i) ws) a ≡ array_of (drop i ws) a
+array_of_drop [] i a d l h = absurd (omega arith)
+array_of_drop (w ∷ ws) zero a d l h = sym (ap (λ b. if b then Some w.words.items else array_of ws a) h)
+array_of_drop (w ∷ ws) (suc i) a d l h = array_of_drop ws i a d (omega arith) h
+
+pub at_any : (ws : List Words) (i : ℕ) (d e : Words) → i < length ws → slice_index_or ws i d ≡ slice_index_or ws i e
+at_any [] i d e l = absurd (omega arith)
+at_any (w ∷ ws) zero d e l = refl
+at_any (w ∷ ws) (suc i) d e l = at_any ws i d e (omega arith)
+
+below_or_here : (j i : ℕ) → j < i + 1 → (j < i) ⊎ (j ≡ i)
+below_or_here j i h = grind arith
+
+-- one more name that isn't this one
+pub before_more : (ws : List Words) (i : ℕ) (a : Arr) (w : Words) → i < length ws → same_arr (slice_index_or ws i w).name a ≡ false → ((j : ℕ) (d : Words) → j < i → same_arr (slice_index_or ws j d).name a ≡ false) → (j : ℕ) (d : Words) → j < i + 1 → same_arr (slice_index_or ws j d).name a ≡ false
+before_more ws i a w l h before j d lt = elim (below_or_here j i lt) [
+  | inl below ↦ before j d below
+  | inr here ↦ ap (λ k. same_arr (slice_index_or ws k d).name a) here ∙ ap (λ v. same_arr v.name a) (at_any ws i d w l) ∙ h
+]
+
+-- the array at the place of a name
+found : (ws : List Words) (i : ℕ) (a : Arr) (d : Words) → i < length ws → (slice_index_or ws i d).name ≡ a → ((j : ℕ) → j < i → same_arr (slice_index_or ws j d).name a ≡ false) → array_of ws a ≡ Some (slice_index_or ws i d).words.items
+found [] i a d l n h = absurd (omega arith)
+found (w ∷ ws) zero a d l n h = ap (λ b. if b then Some w.words.items else array_of ws a) (ap (λ x. same_arr x a) n ∙ same_arr_self a)
+found (w ∷ ws) (suc i) a d l n h = ap (λ b. if b then Some w.words.items else array_of ws a) (h 0 (omega arith)) ∙ found ws i a d (omega arith) n (λ j lt. h (suc j) (omega arith))
+
+pub array_of_place : (ws : List Words) (a : Arr) (i : ℕ) (d : Words) → IsPlaceOf ws a i → array_of ws a ≡ Some (slice_index_or ws i d).words.items
+array_of_place ws a i d p = found ws i a d p.within (p.name d) (λ j l. p.before j d l)
+
+-- which of two arrays a name finds
+abbrev chosen : Bool → Option (List ℕ) → Option (List ℕ) → Option (List ℕ)
+chosen b x y = if b then x else y
+
+chosen_same : (b : Bool) (x y z : Option (List ℕ)) → chosen b x z ≡ chosen b x (chosen b y z)
+chosen_same true x y z = refl
+chosen_same false x y z = refl
+
+chosen_apart : (b c : Bool) (x y z : Option (List ℕ)) → (b ≡ true → c ≡ true → ⊥) → chosen b x (chosen c y z) ≡ chosen c y (chosen b x z)
+chosen_apart true true x y z h = absurd (h refl refl)
+chosen_apart true false x y z h = refl
+chosen_apart false c x y z h = refl
+
+not_both : (x a b : Arr) → same_arr x a ≡ false → same_arr a b ≡ true → same_arr x b ≡ true → ⊥
+not_both x a b h p q = let e : x ≡ a = same_arr_is x b q ∙ sym (same_arr_is a b p) in let t : same_arr x a ≡ true = ap (λ y. same_arr y a) e ∙ same_arr_self a in cc
+
+replaced : (ws : List Words) (i : ℕ) (a b : Arr) (new d : Words) → i < length ws → (slice_index_or ws i d).name ≡ a → ((j : ℕ) → j < i → same_arr (slice_index_or ws j d).name a ≡ false) → new.name ≡ a
+    → array_of (slice_set ws i new) b ≡ (if same_arr a b then Some new.words.items else array_of ws b)
+replaced [] i a b new d l n h e = absurd (omega arith)
+replaced (w ∷ ws) zero a b new d l n h e =
+    ap (λ x. chosen (same_arr x b) (Some new.words.items) (array_of ws b)) e
+    ∙ chosen_same (same_arr a b) (Some new.words.items) (Some w.words.items) (array_of ws b)
+    ∙ ap (λ x. chosen (same_arr a b) (Some new.words.items) (chosen (same_arr x b) (Some w.words.items) (array_of ws b))) (sym n)
+replaced (w ∷ ws) (suc i) a b new d l n h e =
+    ap (chosen (same_arr w.name b) (Some w.words.items)) (replaced ws i a b new d (omega arith) n (λ j lt. h (suc j) (omega arith)) e)
+    ∙ sym (chosen_apart (same_arr a b) (same_arr w.name b) (Some new.words.items) (Some w.words.items) (array_of ws b) (not_both w.name a b (h 0 (omega arith))))
+
+-- an array replaced at the place of its name
+pub array_of_set : (ws : List Words) (a : Arr) (i : ℕ) (new : Words) → IsPlaceOf ws a i → new.name ≡ a → array_of (slice_set ws i new) ≡ (λ b. if same_arr a b then Some new.words.items else array_of ws b)
+array_of_set ws a i new p e = λ k b. replaced ws i a b new new p.within (p.name new) (λ j l. p.before j new l) e k

@@ -1,0 +1,4 @@
+pub mod ArrayLemmas
+pub mod RunLemmas
+pub mod StoreLemmas
+pub mod WidthLemmas

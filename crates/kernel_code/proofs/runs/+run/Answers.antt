@@ -1,0 +1,109 @@
+use Rattle.std.proofs.Common.{rules, ◌≡◌, ◌∙◌, ◌+◌, ◌-◌, ◌<◌, ◌∷◌, IfOk, Some, suc, sym, ap, subst, arith, drop, slice_index_or}
+use Rattle.std.proofs.Common.{true, false}
+use Rattle.std.proofs.Math.Seq.{drop-cons}
+use Rattle.kernel_code.specs.Meaning.{State, Outcome, Ended, one_turn, value, run, run_list, run_turns, then_run}
+use Rattle.kernel_code.specs.Kernels.{within}
+use Rattle.kernel_code.specs.Turns.{at_least_list}
+use Rattle.kernel_code.specs.Store.{state_of, outcome_of, has_ended, setting}
+use Rattle.kernel_code.specs.Equations.{run_while}
+use Rattle.kernel_code.proofs.RunLemmas.{ended_within, not_ended, is_ended, first_then, loop_ended, loop_more, turn_then, if_no, if_yes}
+use Rattle.kernel_code.proofs.runs.+run.Goals as goal
+
+pub run_statement-returns-in-Some-eq0 : goal.run_statement-returns-in-Some-eq0
+run_statement-returns-in-Some-eq0 t c =
+    let st = state_of c.args.machine.now in
+    let set = setting c.args.workspaces.now in
+    let test : value c.in-If.e st ≡ Some 0 = cc in
+    let e : run_list set c.args.limit c.as_slice.result.now st ≡ run set c.args.limit c.args.s.now st = ap (λ code. run_list set c.args.limit code st) c.as_slice.ensures ∙ if_no set c.args.limit c.in-If.e c.in-If.first c.in-If.second st test ∙ ap (λ s. run set c.args.limit s st) (sym c.in-If.is) in
+    subst (λ o. IfOk c.run_statements.result (λ ending. outcome_of ending (state_of c.run_statements.new.machine) ≡ within c.args.limit o)) e c.run_statements.ensures
+
+pub run_statement-returns-in-Some : goal.run_statement-returns-in-Some
+run_statement-returns-in-Some t c =
+    let st = state_of c.args.machine.now in
+    let set = setting c.args.workspaces.now in
+    let test : value c.in-If.e st ≡ Some c.in-Some.field-0 = cc in
+    let e : run_list set c.args.limit c.as_slice-in-Some.result.now st ≡ run set c.args.limit c.args.s.now st = ap (λ code. run_list set c.args.limit code st) c.as_slice-in-Some.ensures ∙ if_yes set c.args.limit c.in-If.e c.in-If.first c.in-If.second st c.in-Some.field-0 test (omega arith) ∙ ap (λ s. run set c.args.limit s st) (sym c.in-If.is) in
+    subst (λ o. IfOk c.run_statements-in-Some.result (λ ending. outcome_of ending (state_of c.run_statements-in-Some.new.machine) ≡ within c.args.limit o)) e c.run_statements-in-Some.ensures
+
+pub run_statement-returns-in-While : goal.run_statement-returns-in-While
+run_statement-returns-in-While t c =
+    let st = state_of c.args.machine.now in
+    let set = setting c.args.workspaces.now in
+    let e : run_turns c.args.limit c.in-While.kind (value c.in-While.e) (run_list set c.args.limit c.as_slice-in-While.result.now) st ≡ run set c.args.limit c.args.s.now st = ap (λ code. run_turns c.args.limit c.in-While.kind (value c.in-While.e) (run_list set c.args.limit code) st) c.as_slice-in-While.ensures ∙ sym (run_while set c.args.limit c.in-While.kind c.in-While.e c.in-While.body st) ∙ ap (λ s. run set c.args.limit s st) (sym c.in-While.is) in
+    subst (λ o. IfOk c.run_loop.result (λ ending. outcome_of ending (state_of c.run_loop.new.machine) ≡ within c.args.limit o)) e c.run_loop.ensures
+
+pub run_statements-returns-then-not-has_ended : goal.run_statements-returns-then-not-has_ended
+run_statements-returns-then-not-has_ended t c =
+    let set = setting c.args.workspaces.now in
+    let stmts = c.args.statements.now in
+    let rest = drop (suc c.loop-s.s-index) stmts in
+    let this = slice_index_or stmts c.loop-s.s-index c.s-item.result in
+    let st = state_of c.loop-s.machine in
+    let new = state_of c.run_statement.new.machine in
+    let here = drop-cons stmts c.loop-s.s-index c.s-item.result c.loop-s-test.true in
+    let stop : has_ended c.in_ok-ending.ending ≡ false = cc in
+    let did : outcome_of c.in_ok-ending.ending new ≡ within c.args.limit (run set c.args.limit this st) = c.in_ok-ending.ensures ∙ ap (λ s. within c.args.limit (run set c.args.limit s st)) c.s-item.is in
+    not_ended c.in_ok-ending.ending new (λ s. within c.args.limit (run_list set c.args.limit rest s)) stop
+    ∙ sym (ap (λ code. within c.args.limit (run_list set c.args.limit code st)) here ∙ first_then set c.args.limit this rest st (outcome_of c.in_ok-ending.ending new) did)
+    ∙ c.loop-s.invariant.1
+
+pub run_statements-loop-s-preserved : goal.run_statements-loop-s-preserved
+run_statements-loop-s-preserved t c =
+    let set = setting c.args.workspaces.now in
+    let stmts = c.args.statements.now in
+    let rest = drop (suc c.loop-s.s-index) stmts in
+    let this = slice_index_or stmts c.loop-s.s-index c.s-item.result in
+    let st = state_of c.loop-s.machine in
+    let new = state_of c.run_statement.new.machine in
+    let here = drop-cons stmts c.loop-s.s-index c.s-item.result c.loop-s-test.true in
+    let next : c.loop-s.s-index + 1 ≡ suc c.loop-s.s-index = omega arith in
+    let on : has_ended c.in_ok-ending.ending ≡ true = cc in
+    let did : Ended new ≡ within c.args.limit (run set c.args.limit this st) = sym (is_ended c.in_ok-ending.ending new on) ∙ c.in_ok-ending.ensures ∙ ap (λ s. within c.args.limit (run set c.args.limit s st)) c.s-item.is in (
+      ended_within c.args.limit new (run set c.args.limit this st) did,
+      ap (λ i. within c.args.limit (run_list set c.args.limit (drop i stmts) new)) next
+          ∙ sym (ap (λ code. within c.args.limit (run_list set c.args.limit code st)) here ∙ first_then set c.args.limit this rest st (Ended new) did)
+          ∙ c.loop-s.invariant.1,
+    )
+
+pub run_loop-returns-in-Some-eq0 : goal.run_loop-returns-in-Some-eq0
+run_loop-returns-in-Some-eq0 t c =
+    let test : value c.args.e.now (state_of c.loop.machine) ≡ Some 0 = cc in
+    loop_ended c.args.limit (c.args.limit - c.loop.counter) c.args.kind (value c.args.e.now) (run_list (setting c.args.workspaces.now) c.args.limit c.args.body.now) (state_of c.loop.machine) test c.loop.invariant.0 ∙ c.loop.invariant.1
+
+pub run_loop-returns-then-turns_made-limit : goal.run_loop-returns-then-turns_made-limit
+run_loop-returns-then-turns_made-limit t c =
+    let test : value c.args.e.now (state_of c.loop.machine) ≡ Some c.in-Some.field-0 = cc in
+    loop_more c.args.limit (c.args.limit - c.loop.counter) c.args.kind (value c.args.e.now) (run_list (setting c.args.workspaces.now) c.args.limit c.args.body.now) (state_of c.loop.machine) c.in-Some.field-0 (at_least_list (setting c.args.workspaces.now) c.args.limit c.args.body.now) test (omega arith) (omega arith) (omega arith) ∙ c.loop.invariant.1
+
+pub run_loop-returns-then-not-has_ended : goal.run_loop-returns-then-not-has_ended
+run_loop-returns-then-not-has_ended t c =
+    let set = setting c.args.workspaces.now in
+    let body = run_list set c.args.limit c.args.body.now in
+    let test = value c.args.e.now in
+    let st = state_of c.loop.machine in
+    let left = c.args.limit - (c.loop.counter + 1) in
+    let one_less : c.args.limit - c.loop.counter ≡ suc left = omega arith in
+    let go : test st ≡ Some c.in-Some.field-0 = cc in
+    let stop : has_ended c.in_ok-ending.ending ≡ false = cc in
+    let did : outcome_of c.in_ok-ending.ending (state_of c.run_statements.new.machine) ≡ within c.args.limit (body (one_turn st c.args.kind)) = c.in_ok-ending.ensures ∙ ap (λ s. within c.args.limit (body s)) c.count_turn.ensures.is in
+    not_ended c.in_ok-ending.ending (state_of c.run_statements.new.machine) (λ s. within c.args.limit (run_turns left c.args.kind test body s)) stop
+    ∙ sym (ap (λ j. within c.args.limit (run_turns j c.args.kind test body st)) one_less ∙ turn_then c.args.limit left c.args.kind test body st c.in-Some.field-0 (outcome_of c.in_ok-ending.ending (state_of c.run_statements.new.machine)) (at_least_list set c.args.limit c.args.body.now) go (omega arith) did)
+    ∙ c.loop.invariant.1
+
+pub run_loop-loop-preserved : goal.run_loop-loop-preserved
+run_loop-loop-preserved t c =
+    let set = setting c.args.workspaces.now in
+    let body = run_list set c.args.limit c.args.body.now in
+    let test = value c.args.e.now in
+    let st = state_of c.loop.machine in
+    let left = c.args.limit - (c.loop.counter + 1) in
+    let one_less : c.args.limit - c.loop.counter ≡ suc left = omega arith in
+    let go : test st ≡ Some c.in-Some.field-0 = cc in
+    let on : has_ended c.in_ok-ending.ending ≡ true = cc in
+    let new = state_of c.run_statements.new.machine in
+    let ended : Ended new ≡ outcome_of c.in_ok-ending.ending new = sym (is_ended c.in_ok-ending.ending new on) in
+    let did : Ended new ≡ within c.args.limit (body (one_turn st c.args.kind)) = ended ∙ c.in_ok-ending.ensures ∙ ap (λ s. within c.args.limit (body s)) c.count_turn.ensures.is in (
+      ended_within c.args.limit new (body (one_turn st c.args.kind)) did,
+      sym (ap (λ j. within c.args.limit (run_turns j c.args.kind test body st)) one_less ∙ turn_then c.args.limit left c.args.kind test body st c.in-Some.field-0 (Ended new) (at_least_list set c.args.limit c.args.body.now) go (omega arith) did)
+          ∙ c.loop.invariant.1,
+    )

@@ -1,0 +1,98 @@
+ghost use Rattle.std.specs.Prelude.{◌≡◌, ℕ, ◌+◌, ◌++◌, replicate, ◌<◌, ◌≤◌, Bool, true, false, length, MatchOption, IfOk, OnOk, OnErr, Some, None, slice_index_or, option_map};
+ghost use Rattle.kernel_code.specs.Arrays.{same_arr, may_write, may_have, sum_in};
+ghost use Rattle.kernel_code.specs.Meaning.{word_count};
+ghost use Rattle.numbers.specs.Ring.{ring};
+ghost use Rattle.kernel_code.specs.Store.{array_of, IsPlaceOf};
+
+use crate::syntax::Arr;
+use limits::{greatest_pairs_of_workspace, greatest_positions};
+use std::alloc::AllocError;
+
+/// An array with its name.
+#[derive(Debug, Drop)]
+pub(crate) struct Words {
+    pub(crate) name: Arr,
+    pub(crate) words: Vec<u64>,
+}
+
+fn is_same(a: Arr, b: Arr) -> bool
+    ensures { result ≡ same_arr a b }
+{
+    a == b
+}
+
+/// Whether a kernel may write an array.
+pub(crate) fn may_be_written(a: Arr) -> bool
+    ensures { result ≡ may_write a }
+{
+    match a {
+        Arr::Range | Arr::Dimension(_, _) => false,
+        Arr::Values(tensor)
+        | Arr::Ends(tensor, _)
+        | Arr::Coordinates(tensor, _)
+        | Arr::Width(tensor, _) => tensor == 0,
+        Arr::Key(_, _) | Arr::Sums(_) | Arr::ListCoordinates(_) | Arr::ListPositions(_) => true,
+    }
+}
+
+/// Whether an array may have so many words.
+#[tactic(auto, using(limits::specs::Limits::positions_are_small))]
+pub(crate) fn may_be_long(a: Arr, count: u64) -> bool
+    ensures { result ≡ may_have a count }
+{
+    match a {
+        Arr::Values(_) | Arr::Coordinates(_, _) => count <= greatest_positions(),
+        Arr::Ends(_, _) => count <= greatest_positions() + 1,
+        Arr::Key(_, _) | Arr::Sums(_) => count <= greatest_pairs_of_workspace(),
+        _ => true,
+    }
+}
+
+/// The sum of two words of an array: of values, or of plain words.
+#[tactic(auto, unfolding(numbers::specs::Ring::word_sum))]
+pub(crate) fn sum_of_words(a: Arr, x: u64, y: u64) -> u64
+    ensures { result ≡ sum_in ring a x y }
+{
+    match a {
+        Arr::Values(_) | Arr::Sums(_) => numbers::add(x, y),
+        Arr::Range
+        | Arr::Dimension(_, _)
+        | Arr::Ends(_, _)
+        | Arr::Coordinates(_, _)
+        | Arr::Width(_, _)
+        | Arr::Key(_, _)
+        | Arr::ListCoordinates(_)
+        | Arr::ListPositions(_) => x.wrapping_add(y),
+    }
+}
+
+/// The place of the first array with this name.
+pub(crate) fn place_of(arrays: &[Words], a: Arr) -> Option<usize>
+    ensures { MatchOption result (array_of arrays.now a ≡ None) (IsPlaceOf arrays.now a) }
+{
+    for (i, array) in arrays.iter().enumerate() {
+        if is_same(array.name, a) {
+            return Some(i);
+        }
+    }
+    None
+}
+
+/// The sum of two words as a length: the last word where it would be more.
+#[tactic(auto, unfolding(crate::specs::Meaning::word_count))]
+pub(crate) fn sum_as_word(x: u64, y: u64) -> u64
+    ensures { result ≡ word_count (x + y) }
+{
+    x.saturating_add(y)
+}
+
+/// Appends n copies of a word. Refused for want of memory, the words are open.
+pub(crate) fn append_copies(words: &mut Vec<u64>, n: u64, word: u64) -> Result<(), AllocError>
+    ensures { OnOk result (words.new.items ≡ words.old.items ++ replicate n word) }
+{
+    words.reserve(n as usize)?;
+    for _ in 0..n {
+        words.push(word)?;
+    }
+    Ok(())
+}

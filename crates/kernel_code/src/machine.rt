@@ -1,0 +1,385 @@
+ghost use Rattle.std.specs.Prelude.{◌≡◌, ℕ, ◌+◌, ◌^◌, ◌<◌, List, length, MatchOption, IfOk, OnOk, OnErr, ◌++◌, ◌∷◌, [], Some, None, take, replicate, slice_get, option_map};
+ghost use Rattle.numbers.specs.Ring.{ring};
+ghost use Rattle.kernel_code.specs.Arrays.{sum_in};
+ghost use Rattle.kernel_code.specs.Meaning.{Ended, Stuck, Outcome, set_array, one_turn, sort_outcome, sort_sum_outcome, with_array, changed, grown, word_count, value, word_at, length_of, run_list, set_outcome, put_outcome, add_outcome, push_outcome, extend_outcome, cut_outcome};
+ghost use Rattle.kernel_code.specs.Kernels.{within};
+ghost use Rattle.kernel_code.specs.Store.{count_of, state_of, outcome_of, empty_state, restarted, setting, has_ended, kept_at, made, IsWritable};
+
+use crate::arrays::{
+    Words, append_copies, may_be_long, may_be_written, place_of, sum_as_word, sum_of_words,
+};
+use crate::operators::{apply_to_operands, least_operand, width_of_operand};
+use crate::runs::run_statements;
+use crate::syntax::{Arr, KExpr, KStmt, LoopKind, Turns};
+use std::alloc::{AllocError, Global};
+use std::mem;
+
+/// What a kernel works on: variables, arrays, and the turns that loops have made.
+#[derive(Debug, Drop)]
+pub struct Machine {
+    alloc: Global,
+    variables: Vec<Option<u64>>,
+    arrays: Vec<Words>,
+    turns: Turns,
+}
+
+const NO_TURNS: Turns = Turns {
+    merge: 0,
+    skip: 0,
+    gather: 0,
+    drain: 0,
+    probe: 0,
+};
+
+/// How a run ends.
+#[derive(Clone, Copy, Debug, PartialEq, Eq, Drop)]
+pub enum Ending {
+    /// The code has run to its end.
+    Ended,
+    /// An index isn't below its array's length, a variable has no value, an array doesn't exist or mayn't
+    /// be written, a width has no word, or rows have columns of different lengths.
+    Stuck,
+    /// An array would have grown past its limit, to this length.
+    Over { array: Arr, count: u64 },
+    /// A loop would have gone on with no turn left.
+    More,
+}
+
+impl Ending {
+    pub(crate) fn has_ended(self) -> bool
+        ensures { result ≡ has_ended self }
+    {
+        matches!(self, Ending::Ended)
+    }
+}
+
+/// The value of an expression, or none where it is stuck.
+pub(crate) fn value_of(machine: &Machine, e: &KExpr) -> Option<u64>
+    ensures { result ≡ value e.now (state_of machine.now) }
+{
+    match e {
+        KExpr::Num(n) => Some(*n),
+        KExpr::Var(x) => machine.variable(*x),
+        KExpr::At(a, i) => {
+            let i = value_of(machine, i.get());
+            machine.word(*a, i)
+        }
+        KExpr::Len(a) => machine.length(*a),
+        KExpr::Bin(op, a, b) => {
+            let x = value_of(machine, a.get());
+            let y = value_of(machine, b.get());
+            apply_to_operands(*op, x, y)
+        }
+        KExpr::Min(a, b) => {
+            let x = value_of(machine, a.get());
+            let y = value_of(machine, b.get());
+            least_operand(x, y)
+        }
+        KExpr::Width(e) => {
+            let x = value_of(machine, e.get());
+            width_of_operand(x)
+        }
+    }
+}
+
+impl Machine {
+    /// A machine with no variable, no array and no turn made. It takes no memory.
+    pub fn new(alloc: Global) -> Machine
+        ensures { state_of result ≡ empty_state }
+    {
+        Machine {
+            alloc,
+            variables: Vec::new(alloc),
+            arrays: Vec::new(alloc),
+            turns: NO_TURNS,
+        }
+    }
+
+    /// Gives an array these words, whether or not it was there. Refused for want of memory, the machine
+    /// is as before and the words are dropped.
+    pub fn add_array(&mut self, a: Arr, words: Vec<u64>) -> Result<(), AllocError>
+        ensures ok { OnOk result (state_of self.new ≡ set_array (state_of self.old) a words.items) }
+        ensures err { OnErr result (state_of self.new ≡ state_of self.old) }
+    {
+        match place_of(self.arrays.as_slice(), a) {
+            Some(place) => self.arrays[place].words = words,
+            None => self.arrays.push(Words { name: a, words })?,
+        }
+        Ok(())
+    }
+
+    /// Takes the words of an array out, which leaves the array empty. It takes no memory.
+    pub fn take_array(&mut self, a: Arr) -> Option<Vec<u64>>
+        ensures words { option_map (λ words. words.items) result ≡ (state_of self.old).arrays a }
+        ensures left { MatchOption result (state_of self.new ≡ state_of self.old) (λ _. state_of self.new ≡ set_array (state_of self.old) a []) }
+    {
+        let Some(place) = place_of(self.arrays.as_slice(), a) else {
+            return None;
+        };
+        Some(mem::replace(&mut self.arrays[place].words, Vec::new(self.alloc)))
+    }
+
+    /// The turns made by the last run.
+    pub fn turns(&self) -> Turns
+        ensures { count_of result ≡ (state_of self.now).turns }
+    {
+        self.turns
+    }
+
+    /// Runs code from its start, with no variable set, until `budget` turns are made in all. `workspaces`
+    /// has the number of keys of each workspace. The arrays are those of the machine, and stay its own.
+    /// Refused for want of memory, the machine holds whatever the run has made of it.
+    pub fn run(
+        &mut self,
+        code: &[KStmt],
+        workspaces: &[u64],
+        budget: u64,
+    ) -> Result<Ending, AllocError>
+        ensures { IfOk result (λ ending. outcome_of ending (state_of self.new) ≡ within budget (run_list (setting workspaces.now) budget code.now (restarted (state_of self.old)))) }
+    {
+        self.variables.clear();
+        self.turns = NO_TURNS;
+        run_statements(self, code, workspaces, budget)
+    }
+
+    /// Gives the variables up to x a place.
+    fn make_room(&mut self, x: u64) -> Result<(), AllocError>
+        ensures same { OnOk result ((y : ℕ) → kept_at (slice_get self.new.variables.items y) ≡ kept_at (slice_get self.old.variables.items y)) }
+        ensures others { OnOk result ((self.new.arrays ≡ self.old.arrays) × (self.new.turns ≡ self.old.turns)) }
+        ensures room { OnOk result (x < length self.new.variables.items) }
+    {
+        for _ in self.variables.len() as u64..x {
+            self.variables.push(None)?;
+        }
+        if self.variables.len() as u64 <= x {
+            self.variables.push(None)?;
+        }
+        Ok(())
+    }
+
+    /// The value of a variable, or none where it has none.
+    pub fn variable(&self, x: u64) -> Option<u64>
+        ensures { result ≡ (state_of self.now).vars x }
+    {
+        match self.variables.get(x as usize) {
+            None => None,
+            Some(value) => *value,
+        }
+    }
+
+    /// The words of an array, or none where it doesn't exist.
+    pub fn array(&self, a: Arr) -> Option<&[u64]>
+        ensures { option_map (λ words. words.now) result ≡ (state_of self.now).arrays a }
+    {
+        let place = place_of(self.arrays.as_slice(), a)?;
+        Some(self.arrays[place].words.as_slice())
+    }
+
+    fn word(&self, a: Arr, i: Option<u64>) -> Option<u64>
+        ensures { result ≡ word_at ((state_of self.now).arrays a) i }
+    {
+        let words = self.array(a)?;
+        let i = i?;
+        words.get(i as usize).copied()
+    }
+
+    fn length(&self, a: Arr) -> Option<u64>
+        ensures { result ≡ length_of ((state_of self.now).arrays a) }
+    {
+        let words = self.array(a)?;
+        Some(words.len() as u64)
+    }
+
+    pub(crate) fn set(&mut self, x: u64, value: Option<u64>) -> Result<Ending, AllocError>
+        ensures is { IfOk result (λ ending. outcome_of ending (state_of self.new) ≡ set_outcome (state_of self.old) x value) }
+        ensures turns { OnOk result (self.new.turns ≡ self.old.turns) }
+    {
+        let Some(value) = value else {
+            return Ok(Ending::Stuck);
+        };
+        self.make_room(x)?;
+        self.variables[x as usize] = Some(value);
+        Ok(Ending::Ended)
+    }
+
+    /// The place of an array that exists and may be written.
+    fn writable(&self, a: Arr) -> Option<usize>
+        ensures { MatchOption result ((next : List ℕ → Outcome) → with_array (state_of self.now) a next ≡ Stuck (state_of self.now).turns) (IsWritable self.now a) }
+    {
+        if !may_be_written(a) {
+            return None;
+        }
+        place_of(self.arrays.as_slice(), a)
+    }
+
+    fn put_word(&mut self, a: Arr, i: u64, value: u64) -> Ending
+        ensures is { outcome_of result (state_of self.new) ≡ with_array (state_of self.old) a (changed (state_of self.old) a i (λ _. value)) }
+        ensures turns { self.new.turns ≡ self.old.turns }
+    {
+        let Some(place) = self.writable(a) else {
+            return Ending::Stuck;
+        };
+        let words = &mut self.arrays[place].words;
+        if i >= words.len() as u64 {
+            return Ending::Stuck;
+        }
+        words[i as usize] = value;
+        Ending::Ended
+    }
+
+    fn add_word(&mut self, a: Arr, i: u64, value: u64) -> Ending
+        ensures is { outcome_of result (state_of self.new) ≡ with_array (state_of self.old) a (changed (state_of self.old) a i (λ old. sum_in ring a old value)) }
+        ensures turns { self.new.turns ≡ self.old.turns }
+    {
+        let Some(place) = self.writable(a) else {
+            return Ending::Stuck;
+        };
+        let words = &mut self.arrays[place].words;
+        if i >= words.len() as u64 {
+            return Ending::Stuck;
+        }
+        let sum = sum_of_words(a, words[i as usize], value);
+        words[i as usize] = sum;
+        Ending::Ended
+    }
+
+    fn push_word(&mut self, a: Arr, value: u64) -> Result<Ending, AllocError>
+        ensures is { IfOk result (λ ending. outcome_of ending (state_of self.new) ≡ with_array (state_of self.old) a (λ xs. grown (state_of self.old) a (length xs + 1) xs (value ∷ []))) }
+        ensures turns { OnOk result (self.new.turns ≡ self.old.turns) }
+    {
+        let Some(place) = self.writable(a) else {
+            return Ok(Ending::Stuck);
+        };
+        let words = &mut self.arrays[place].words;
+        let count = words.len() as u64 + 1;
+        if !may_be_long(a, count) {
+            return Ok(Ending::Over { array: a, count });
+        }
+        words.push(value)?;
+        Ok(Ending::Ended)
+    }
+
+    fn extend_words(&mut self, a: Arr, n: u64, value: u64) -> Result<Ending, AllocError>
+        ensures is { IfOk result (λ ending. outcome_of ending (state_of self.new) ≡ with_array (state_of self.old) a (λ xs. grown (state_of self.old) a (word_count (length xs + n)) xs (replicate n value))) }
+        ensures turns { OnOk result (self.new.turns ≡ self.old.turns) }
+    {
+        let Some(place) = self.writable(a) else {
+            return Ok(Ending::Stuck);
+        };
+        let words = &mut self.arrays[place].words;
+        let count = sum_as_word(words.len() as u64, n);
+        if !may_be_long(a, count) {
+            return Ok(Ending::Over { array: a, count });
+        }
+        append_copies(words, n, value)?;
+        Ok(Ending::Ended)
+    }
+
+    fn cut_words(&mut self, a: Arr, n: u64) -> Ending
+        ensures is { outcome_of result (state_of self.new) ≡ with_array (state_of self.old) a (λ xs. Ended (set_array (state_of self.old) a (take n xs))) }
+        ensures turns { self.new.turns ≡ self.old.turns }
+    {
+        let Some(place) = self.writable(a) else {
+            return Ending::Stuck;
+        };
+        self.arrays[place].words.truncate(n as usize);
+        Ending::Ended
+    }
+
+    pub(crate) fn put(&mut self, a: Arr, i: Option<u64>, value: Option<u64>) -> Ending
+        ensures is { outcome_of result (state_of self.new) ≡ put_outcome (state_of self.old) a i value }
+        ensures turns { self.new.turns ≡ self.old.turns }
+    {
+        match (i, value) {
+            (Some(i), Some(value)) => self.put_word(a, i, value),
+            _ => Ending::Stuck,
+        }
+    }
+
+    pub(crate) fn add(&mut self, a: Arr, i: Option<u64>, value: Option<u64>) -> Ending
+        ensures is { outcome_of result (state_of self.new) ≡ add_outcome ring (state_of self.old) a i value }
+        ensures turns { self.new.turns ≡ self.old.turns }
+    {
+        match (i, value) {
+            (Some(i), Some(value)) => self.add_word(a, i, value),
+            _ => Ending::Stuck,
+        }
+    }
+
+    pub(crate) fn push(&mut self, a: Arr, value: Option<u64>) -> Result<Ending, AllocError>
+        ensures is { IfOk result (λ ending. outcome_of ending (state_of self.new) ≡ push_outcome (state_of self.old) a value) }
+        ensures turns { OnOk result (self.new.turns ≡ self.old.turns) }
+    {
+        match value {
+            Some(value) => self.push_word(a, value),
+            None => Ok(Ending::Stuck),
+        }
+    }
+
+    pub(crate) fn extend(
+        &mut self,
+        a: Arr,
+        n: Option<u64>,
+        value: Option<u64>,
+    ) -> Result<Ending, AllocError>
+        ensures is { IfOk result (λ ending. outcome_of ending (state_of self.new) ≡ extend_outcome (state_of self.old) a n value) }
+        ensures turns { OnOk result (self.new.turns ≡ self.old.turns) }
+    {
+        match (n, value) {
+            (Some(n), Some(value)) => self.extend_words(a, n, value),
+            _ => Ok(Ending::Stuck),
+        }
+    }
+
+    pub(crate) fn cut(&mut self, a: Arr, n: Option<u64>) -> Ending
+        ensures is { outcome_of result (state_of self.new) ≡ cut_outcome (state_of self.old) a n }
+        ensures turns { self.new.turns ≡ self.old.turns }
+    {
+        match n {
+            Some(n) => self.cut_words(a, n),
+            None => Ending::Stuck,
+        }
+    }
+
+    /// The turns made, of all kinds.
+    pub(crate) fn turns_made(&self) -> u64
+        requires { made self.now < 2 ^ 64 }
+        ensures { result ≡ made self.now }
+    {
+        let turns = &self.turns;
+        turns.merge + turns.skip + turns.gather + turns.drain + turns.probe
+    }
+
+    /// Counts a turn.
+    pub(crate) fn count_turn(&mut self, kind: LoopKind)
+        requires { made self.old + 1 < 2 ^ 64 }
+        ensures is { state_of self.new ≡ one_turn (state_of self.old) kind }
+        ensures made { made self.new ≡ made self.old + 1 }
+    {
+        match kind {
+            LoopKind::Merge => self.turns.merge += 1,
+            LoopKind::Skip => self.turns.skip += 1,
+            LoopKind::Gather => self.turns.gather += 1,
+            LoopKind::Drain => self.turns.drain += 1,
+            LoopKind::Probe => self.turns.probe += 1,
+        }
+    }
+
+    pub(crate) fn sort(&mut self, list: u64) -> Result<Ending, AllocError>
+        ensures is { IfOk result (λ ending. outcome_of ending (state_of self.new) ≡ sort_outcome (state_of self.old) list ((state_of self.old).arrays (Arr.ListCoordinates list)) ((state_of self.old).arrays (Arr.ListPositions list))) }
+        ensures turns { OnOk result (self.new.turns ≡ self.old.turns) }
+    {
+        Err(AllocError)
+    }
+
+    pub(crate) fn sort_sum(
+        &mut self,
+        workspace: u64,
+        workspaces: &[u64],
+    ) -> Result<Ending, AllocError>
+        ensures is { IfOk result (λ ending. outcome_of ending (state_of self.new) ≡ sort_sum_outcome ring (state_of self.old) workspace (slice_get workspaces.now workspace) ((state_of self.old).arrays (Arr.Sums workspace))) }
+        ensures turns { OnOk result (self.new.turns ≡ self.old.turns) }
+    {
+        Err(AllocError)
+    }
+}

@@ -1,0 +1,116 @@
+ghost use Rattle.std.specs.Prelude.{◌≡◌, ◌≤◌, IfOk, OnOk};
+ghost use Rattle.numbers.specs.Ring.{ring};
+ghost use Rattle.kernel_code.specs.Meaning.{Ended, run, run_list, run_turns, value};
+ghost use Rattle.kernel_code.specs.Kernels.{within};
+ghost use Rattle.kernel_code.specs.Store.{state_of, outcome_of, made, setting};
+
+use crate::machine::{Ending, Machine, value_of};
+use crate::syntax::{KExpr, KStmt, LoopKind};
+use std::alloc::AllocError;
+
+/// Runs a statement, until `limit` turns are made in all.
+#[cycle(run)]
+pub(crate) fn run_statement(
+    machine: &mut Machine,
+    s: &KStmt,
+    workspaces: &[u64],
+    limit: u64,
+) -> Result<Ending, AllocError>
+    requires { made machine.old ≤ limit }
+    ensures { IfOk result (λ ending. outcome_of ending (state_of machine.new) ≡ within limit (run (setting workspaces.now) limit s.now (state_of machine.old))) }
+{
+    match s {
+        KStmt::Set(x, e) => {
+            let value = value_of(machine, e);
+            machine.set(*x, value)
+        }
+        KStmt::Put(a, i, e) => {
+            let i = value_of(machine, i);
+            let value = value_of(machine, e);
+            Ok(machine.put(*a, i, value))
+        }
+        KStmt::AddTo(a, i, e) => {
+            let i = value_of(machine, i);
+            let value = value_of(machine, e);
+            Ok(machine.add(*a, i, value))
+        }
+        KStmt::Push(a, e) => {
+            let value = value_of(machine, e);
+            machine.push(*a, value)
+        }
+        KStmt::Extend(a, count, e) => {
+            let n = value_of(machine, count);
+            let value = value_of(machine, e);
+            machine.extend(*a, n, value)
+        }
+        KStmt::Cut(a, e) => {
+            let n = value_of(machine, e);
+            Ok(machine.cut(*a, n))
+        }
+        KStmt::Sort(list) => machine.sort(*list),
+        KStmt::SortSum(workspace) => machine.sort_sum(*workspace, workspaces),
+        KStmt::If(e, first, second) => match value_of(machine, e) {
+            None => Ok(Ending::Stuck),
+            Some(0) => run_statements(machine, second.as_slice(), workspaces, limit),
+            Some(_) => run_statements(machine, first.as_slice(), workspaces, limit),
+        },
+        KStmt::While(kind, e, body) => {
+            run_loop(machine, body.as_slice(), *kind, e, workspaces, limit)
+        }
+    }
+}
+
+/// Runs statements in order, until `limit` turns are made in all.
+#[cycle(run)]
+pub(crate) fn run_statements(
+    machine: &mut Machine,
+    statements: &[KStmt],
+    workspaces: &[u64],
+    limit: u64,
+) -> Result<Ending, AllocError>
+    requires { made machine.old ≤ limit }
+    ensures { IfOk result (λ ending. outcome_of ending (state_of machine.new) ≡ within limit (run_list (setting workspaces.now) limit statements.now (state_of machine.old))) }
+{
+    for s in statements {
+        let ending = run_statement(machine, s, workspaces, limit)?;
+        if !ending.has_ended() {
+            return Ok(ending);
+        }
+    }
+    Ok(Ending::Ended)
+}
+
+/// Runs a loop from its test on, until `limit` turns are made in all.
+#[cycle(run)]
+fn run_loop(
+    machine: &mut Machine,
+    body: &[KStmt],
+    kind: LoopKind,
+    e: &KExpr,
+    workspaces: &[u64],
+    limit: u64,
+) -> Result<Ending, AllocError>
+    requires { made machine.old ≤ limit }
+    ensures { IfOk result (λ ending. outcome_of ending (state_of machine.new) ≡ within limit (run_turns limit kind (value e.now) (run_list (setting workspaces.now) limit body.now) (state_of machine.old))) }
+{
+    for _ in 0..limit {
+        match value_of(machine, e) {
+            None => return Ok(Ending::Stuck),
+            Some(0) => return Ok(Ending::Ended),
+            Some(_) => {}
+        }
+        if machine.turns_made() >= limit {
+            return Ok(Ending::More);
+        }
+        machine.count_turn(kind);
+        let ending = run_statements(machine, body, workspaces, limit)?;
+        if !ending.has_ended() {
+            return Ok(ending);
+        }
+    }
+    match value_of(machine, e) {
+        None => Ok(Ending::Stuck),
+        Some(0) => Ok(Ending::Ended),
+        Some(_) => Ok(Ending::More),
+    }
+}

@@ -1,0 +1,99 @@
+// A sink in memory whose calls can be made to fail.
+ghost use Rattle.std.specs.Prelude.{◌≡◌, [], true, Some};
+
+use crate::count::raised;
+use crate::memory_text::MemoryText;
+use crate::refusal::Refusal;
+use crate::script::Script;
+use crate::sink::Sink;
+use std::alloc::{AllocError, Global};
+
+/// Keeps the bytes that it is given. Its calls are numbered from 1; those whose numbers it is told fail.
+#[derive(Drop)]
+pub struct MemSink {
+    text: MemoryText,
+    script: Script,
+    faults: u64,
+}
+
+impl MemSink {
+    /// An empty sink that fails no call and cuts no piece.
+    pub fn new(alloc: Global) -> Self
+        ensures written { ⟦<MemSink as Sink>⟧.written result ≡ Some [] }
+        ensures unfinished { ⟦<MemSink as Sink>⟧.unfinished result ≡ true }
+        ensures faults { ⟦<MemSink as Sink>⟧.faults result ≡ 0 }
+        ensures wants { ⟦<MemSink as Sink>⟧.wants result ≡ 0 }
+    {
+        MemSink {
+            text: MemoryText::new(alloc),
+            script: Script::new(alloc),
+            faults: 0,
+        }
+    }
+
+    /// Makes the call of this number fail, the first being number 1.
+    pub fn fail_at(&mut self, call: u64) -> Result<(), AllocError> {
+        self.script.fail_at(call)
+    }
+
+    /// Makes writes take at most so many bytes: these numbers are used in turn, from the first again after the last.
+    /// A 0 counts as 1. Numbers given later come after these.
+    pub fn cut_into(&mut self, lengths: &[usize]) -> Result<(), AllocError> {
+        self.script.cut_into(lengths)
+    }
+
+    /// The bytes that it was given.
+    pub fn written(&self) -> &[u8]
+        ensures { ⟦<MemSink as Sink>⟧.written self.now ≡ Some result.now }
+    {
+        self.text.bytes()
+    }
+
+    /// Whether a `finish` is due.
+    pub fn is_unfinished(&self) -> bool
+        ensures { result ≡ ⟦<MemSink as Sink>⟧.unfinished self.now }
+    {
+        self.text.is_unfinished()
+    }
+
+    /// How often a call failed.
+    pub fn faults(&self) -> u64
+        ensures { result ≡ ⟦<MemSink as Sink>⟧.faults self.now }
+    {
+        self.faults
+    }
+
+    /// How often it wanted memory.
+    pub fn wants(&self) -> u64
+        ensures { result ≡ ⟦<MemSink as Sink>⟧.wants self.now }
+    {
+        self.text.wants()
+    }
+}
+
+impl Sink for MemSink {
+    ghost written = { λ s. ⟦<MemoryText as Sink>⟧.written s.text };
+
+    ghost unfinished = { λ s. ⟦<MemoryText as Sink>⟧.unfinished s.text };
+
+    ghost faults = { λ s. s.faults };
+
+    ghost wants = { λ s. ⟦<MemoryText as Sink>⟧.wants s.text };
+
+    fn write(&mut self, piece: &[u8]) -> Result<usize, Refusal> {
+        if self.script.next_call() {
+            self.faults = raised(self.faults);
+            return Err(Refusal::Failed);
+        }
+        let n = self.script.piece_length(piece.len());
+        self.text.write(&piece[..n])
+    }
+
+    fn finish(&mut self) -> Result<(), Refusal> {
+        if self.script.next_call() {
+            self.faults = raised(self.faults);
+            return Err(Refusal::Failed);
+        }
+        self.text.finish()
+    }
+}

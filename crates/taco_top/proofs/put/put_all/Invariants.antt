@@ -1,0 +1,11 @@
+use Rattle.std.proofs.Common.{◌≡◌, ◌++◌, length, List, ℕ}
+use Rattle.outside.specs.Folder.{appended}
+use Rattle.taco_top.specs.Puts.{PutsSoFar}
+use Rattle.taco_top.proofs.put.put_all.Given as goal
+
+-- what was put so far and what is left are the whole, and no count has moved
+abbrev pub invariant-loop-rest : goal.invariant-loop-rest
+invariant-loop-rest g l = PutsSoFar g.S.Sink.written g.S.Sink.faults g.S.Sink.wants l.fn.sink l.sink l.bytes l.rest
+
+abbrev pub decreases-loop-rest : goal.decreases-loop-rest
+decreases-loop-rest g l = length l.rest

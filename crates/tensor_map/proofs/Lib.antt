@@ -1,0 +1,4 @@
+pub mod Greatest
+pub mod Summed
+pub mod Neighbours
+pub mod Sorting

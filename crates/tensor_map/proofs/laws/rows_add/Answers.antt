@@ -1,0 +1,5 @@
+use Rattle.tensor_map.specs.Laws.{value_append, listed_append}
+use Rattle.tensor_map.proofs.laws.rows_add.Goals as goal
+
+pub returns : goal.returns
+returns c = record { values = value_append; listed = listed_append }

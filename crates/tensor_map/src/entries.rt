@@ -1,0 +1,195 @@
+ghost use Rattle.std.specs.Prelude.{◌≡◌, ℕ, ◌≤◌, ◌<◌, ◌↔◌, [], ◌∷◌, ◌++◌, length, IsTrue, IsOk, IfOk, OnOk, OnErr, MatchOption, slice_index_or, slice_set, nat_eq, max, List, take, filter};
+ghost use Rattle.limits.specs.Limits.{greatest_order};
+ghost use Rattle.numbers.specs.Ring.{ring};
+ghost use Rattle.tensor_map.specs.Summed.{joined, summed};
+ghost use Rattle.tensor_map.specs.Entries.{Entry};
+ghost use Rattle.std.specs.Cmp.Lexicographic.{pointwise};
+
+use crate::Coords;
+use numbers::{add, zero};
+use std::alloc::{AllocError, Global};
+use std::marker::Model;
+
+/// Coordinates and the value there.
+#[derive(Debug, Drop)]
+struct Entry {
+    coords: Coords,
+    value: u64,
+}
+
+/// Entries of a tensor in a row, which may repeat coordinates.
+#[derive(Debug, Drop)]
+pub struct Entries {
+    order: usize,
+    list: Vec<Entry>,
+}
+
+impl Model for Entries {
+    ghost use Rattle.tensor_map.specs.Entries.{Entries as Row, AreEntries};
+
+    ghost Value = { Row };
+
+    ghost view = { λ e. record { order = e.order; list = e.list.items } };
+
+    ghost invariant = { λ e. AreEntries (record { order = e.order; list = e.list.items }) };
+}
+
+impl Entries {
+    ghost use Rattle.tensor_map.specs.Entries.{AreEntries, SameValues, SameListed, StrictlyIncreasing, is_nonzero, NoneIsZero, IsGreatest};
+
+    /// No entries, of a tensor of this order. It takes no memory.
+    pub fn new(alloc: Global, order: usize) -> Result<Entries, AllocError>
+        requires { order ≤ greatest_order }
+        ensures order { IfOk result (λ entries. entries.order ≡ order) }
+        ensures empty { IfOk result (λ entries. entries.list ≡ []) }
+        ensures succeeds { IsOk result }
+    {
+        Ok(Entries {
+            order,
+            list: Vec::new(alloc),
+        })
+    }
+
+    /// Appends an entry. Refused for want of memory, the entries are as before.
+    pub fn push(&mut self, coords: &[u64], v: u64) -> Result<(), AllocError>
+        requires { length coords.now ≡ self.old.order }
+        ensures order { self.new.order ≡ self.old.order }
+        ensures ok { OnOk result (self.new.list ≡ self.old.list ++ record { coords = coords.now; value = v } ∷ []) }
+        ensures err { OnErr result (self.new ≡ self.old) }
+    {
+        let alloc = *self.list.allocator();
+        let entry = Entry {
+            coords: Coords::from_slice(alloc, coords),
+            value: v,
+        };
+        self.list.push(entry)?;
+        Ok(())
+    }
+
+    /// The coordinates of an entry, counted from 0, one a mode.
+    pub fn coords(&self, i: usize) -> &[u64]
+        requires { i < length self.now.list }
+        ensures value { (d : Entry) → result.now ≡ (slice_index_or self.now.list i d).coords }
+        ensures long { length result.now ≡ self.now.order }
+    {
+        self.list[i].coords.as_slice()
+    }
+
+    /// The value of an entry.
+    pub fn value(&self, i: usize) -> u64
+        requires { i < length self.now.list }
+        ensures { (d : Entry) → result ≡ (slice_index_or self.now.list i d).value }
+    {
+        self.list[i].value
+    }
+
+    /// The number of entries.
+    pub fn len(&self) -> usize
+        ensures value { result ≡ length self.now.list }
+        ensures entries { AreEntries self.now }
+    {
+        self.list.len()
+    }
+
+    /// Whether there is no entry.
+    pub fn is_empty(&self) -> bool
+        ensures { IsTrue result ↔ (self.now.list ≡ []) }
+    {
+        self.list.is_empty()
+    }
+
+    /// The number of modes of the tensor.
+    pub fn order(&self) -> usize
+        ensures value { result ≡ self.now.order }
+        ensures short { result ≤ greatest_order }
+    {
+        self.order
+    }
+
+    /// Puts the entries in increasing lexicographic order of their coordinates, and adds the values of equal ones.
+    /// A sum of zero stays. Refused for want of memory, the entries are as before.
+    pub fn sort_sum(&mut self) -> Result<(), AllocError>
+        ensures order { self.new.order ≡ self.old.order }
+        ensures values { OnOk result (SameValues ring self.old.list self.new.list) }
+        ensures listed { OnOk result (SameListed self.old.list self.new.list) }
+        ensures increasing { OnOk result (StrictlyIncreasing self.new.list) }
+        ensures shorter { length self.new.list ≤ length self.old.list }
+        ensures err { OnErr result (self.new ≡ self.old) }
+    {
+        self.list.sort_by(|left, right| left.coords.as_slice().cmp(&right.coords.as_slice()))?;
+        let kept = add_neighbours(self.list.as_mut_slice());
+        self.list.truncate(kept);
+        Ok(())
+    }
+
+    /// Drops the entries whose value is zero, and keeps the others in their order. It takes no memory.
+    pub fn nonzero(&mut self)
+        ensures order { self.new.order ≡ self.old.order }
+        ensures kept { self.new.list ≡ filter (is_nonzero ring) self.old.list }
+        ensures none { NoneIsZero ring self.new.list }
+        ensures values { SameValues ring self.old.list self.new.list }
+        ensures increasing { StrictlyIncreasing self.old.list → StrictlyIncreasing self.new.list }
+    {
+        self.list.retain(|entry| entry.value != zero());
+    }
+
+    /// The greatest coordinate that an entry has in a mode, and none exactly where there is no entry.
+    pub fn greatest(&self, mode: usize) -> Option<u64>
+        requires { mode < self.now.order }
+        ensures { MatchOption result (self.now.list ≡ []) (IsGreatest self.now.list mode) }
+    {
+        let mut greatest = None;
+        for i in 0..self.list.len() {
+            let coordinate = self.list[i].coords.as_slice()[mode];
+            greatest = Some(greater(greatest, coordinate));
+        }
+        greatest
+    }
+}
+
+/// The coordinate, or the one before it where that is greater.
+fn greater(before: Option<u64>, coordinate: u64) -> u64
+    ensures { MatchOption before (result ≡ coordinate) (λ most. result ≡ max most coordinate) }
+{
+    before.map_or(coordinate, |most: u64| most.max(coordinate))
+}
+
+/// Adds entries that follow one another with equal coordinates, and moves what is left to the front.
+fn add_neighbours(entries: &mut [Entry]) -> usize
+    ensures within { result ≤ length entries.old }
+    ensures front { take result entries.new ≡ summed ring entries.old }
+{
+    if entries.is_empty() {
+        return 0;
+    }
+    let mut last = 0;
+    for next in 1..entries.len() {
+        if have_equal_coords(entries, next, last) {
+            join(entries, last, next);
+        } else {
+            last += 1;
+            entries.swap(last, next);
+        }
+    }
+    last + 1
+}
+
+/// Whether two entries have the same coordinates.
+fn have_equal_coords(entries: &[Entry], i: usize, j: usize) -> bool
+    requires first { i < length entries.now }
+    requires second { j < length entries.now }
+    ensures { (d : Entry) → result ≡ pointwise nat_eq (slice_index_or entries.now i d).coords (slice_index_or entries.now j d).coords }
+{
+    entries[i].coords.as_slice() == entries[j].coords.as_slice()
+}
+
+/// Adds the value of one entry to that of another.
+fn join(entries: &mut [Entry], into: usize, from: usize)
+    requires first { into < length entries.old }
+    requires second { from < length entries.old }
+    ensures { (d : Entry) → entries.new ≡ slice_set entries.old into (joined ring (slice_index_or entries.old into d) (slice_index_or entries.old from d)) }
+{
+    let value = entries[from].value;
+    let entry = &mut entries[into];
+    entry.value = add(entry.value, value);
+}
