@@ -1,0 +1,4 @@
+pub mod Buffer
+pub mod Memory
+pub mod PlacesLend
+pub mod SegmentLend
