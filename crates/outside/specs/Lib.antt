@@ -3,6 +3,8 @@ pub mod Refusal
 pub mod Count
 pub mod Fault
 pub mod Folder
+pub mod MemFolder
+pub mod MemSink
 pub mod MemoryFile
 pub mod MemoryFiles
 pub mod ReadStop

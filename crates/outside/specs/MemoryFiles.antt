@@ -4,9 +4,10 @@ use Rattle.outside.specs.Told.{NoFile}
 use Rattle.outside.specs.MemoryFile.{told, name_of}
 use Rattle.outside.specs.declared.memory_files.MemoryFiles.{MemoryFiles}
 
--- the file being read, the one being written, the faulted one and the counts are as before
-pub record KeepsFiles (old new : MemoryFiles) : Type 0 where
-  pub reading_is : name_of new.files.items new.reading ≡ name_of old.files.items old.reading
+-- the file being read and its rest, the one being written, the faulted one and the count are as before
+pub record KeepsPlaces (old new : MemoryFiles) : Type 0 where
+  pub reading_is : new.reading ≡ old.reading
+  pub read_name_is : name_of new.files.items new.reading ≡ name_of old.files.items old.reading
   pub writing_is : name_of new.files.items new.writing ≡ name_of old.files.items old.writing
   pub faulted_is : name_of new.files.items new.faulted ≡ name_of old.files.items old.faulted
   pub text_is : new.text.items ≡ old.text.items

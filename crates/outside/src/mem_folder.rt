@@ -2,7 +2,7 @@
 ghost use Rattle.std.specs.Prelude.{◌≡◌, ℕ, List, None, Some, false, OnOk, OnErr, MatchOption, length};
 ghost use Rattle.std.specs.Option.{option_copied};
 ghost use Rattle.outside.specs.Told.{NoFile, Bytes};
-ghost use Rattle.outside.specs.Folder.{KeepsOthers};
+ghost use Rattle.outside.specs.Folder.{KeepsOthers, KeepsReading, KeepsFaults};
 
 use crate::count::raised;
 use crate::folder::Folder;
@@ -22,11 +22,14 @@ pub struct MemFolder {
 }
 
 impl MemFolder {
+    ghost use Rattle.outside.specs.MemFolder.{IsSameButScript};
+
     /// A folder without files that fails no call and cuts no piece.
     pub fn new(alloc: Global) -> Self
         ensures empty { (name : List ℕ) → ⟦<MemFolder as Folder>⟧.holds result name ≡ NoFile }
         ensures reading { ⟦<MemFolder as Folder>⟧.reading result ≡ None }
         ensures writing { ⟦<MemFolder as Folder>⟧.writing result ≡ None }
+        ensures faulted { ⟦<MemFolder as Folder>⟧.faulted result ≡ None }
         ensures finished { ⟦<MemFolder as Folder>⟧.unfinished result ≡ false }
         ensures read_faults { ⟦<MemFolder as Folder>⟧.read_faults result ≡ 0 }
         ensures write_faults { ⟦<MemFolder as Folder>⟧.write_faults result ≡ 0 }
@@ -45,21 +48,28 @@ impl MemFolder {
         ensures added { OnOk result (⟦<MemFolder as Folder>⟧.holds self.new name.now ≡ Bytes bytes.now) }
         ensures others { OnOk result (KeepsOthers ⟦<MemFolder as Folder>⟧.holds name.now self.old self.new) }
         ensures refused { OnErr result (⟦<MemFolder as Folder>⟧.holds self.new ≡ ⟦<MemFolder as Folder>⟧.holds self.old) }
-        ensures reading { ⟦<MemFolder as Folder>⟧.reading self.new ≡ ⟦<MemFolder as Folder>⟧.reading self.old }
         ensures writing { ⟦<MemFolder as Folder>⟧.writing self.new ≡ ⟦<MemFolder as Folder>⟧.writing self.old }
         ensures unfinished { ⟦<MemFolder as Folder>⟧.unfinished self.new ≡ ⟦<MemFolder as Folder>⟧.unfinished self.old }
+        ensures keeps_reading { KeepsReading ⟦<MemFolder as Folder>⟧.reading ⟦<MemFolder as Folder>⟧.rest ⟦<MemFolder as Folder>⟧.taken self.old self.new }
+        ensures no_read_fault { KeepsFaults ⟦<MemFolder as Folder>⟧.read_faults ⟦<MemFolder as Folder>⟧.faulted self.old self.new }
+        ensures no_write_fault { ⟦<MemFolder as Folder>⟧.write_faults self.new ≡ ⟦<MemFolder as Folder>⟧.write_faults self.old }
+        ensures no_want { ⟦<MemFolder as Folder>⟧.wants self.new ≡ ⟦<MemFolder as Folder>⟧.wants self.old }
     {
         self.files.add(name, bytes)
     }
 
     /// Makes the call of this number fail, the first being number 1.
-    pub fn fail_at(&mut self, call: u64) -> Result<(), AllocError> {
+    pub fn fail_at(&mut self, call: u64) -> Result<(), AllocError>
+        ensures { IsSameButScript self.old self.new }
+    {
         self.script.fail_at(call)
     }
 
     /// Makes reads give and writes take at most so many bytes: these numbers are used in turn, from the first again
     /// after the last. A 0 counts as 1. Numbers given later come after these.
-    pub fn cut_into(&mut self, lengths: &[usize]) -> Result<(), AllocError> {
+    pub fn cut_into(&mut self, lengths: &[usize]) -> Result<(), AllocError>
+        ensures { IsSameButScript self.old self.new }
+    {
         self.script.cut_into(lengths)
     }
 

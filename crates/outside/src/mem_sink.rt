@@ -17,6 +17,8 @@ pub struct MemSink {
 }
 
 impl MemSink {
+    ghost use Rattle.outside.specs.MemSink.{IsSameButScript};
+
     /// An empty sink that fails no call and cuts no piece.
     pub fn new(alloc: Global) -> Self
         ensures written { ⟦<MemSink as Sink>⟧.written result ≡ Some [] }
@@ -32,13 +34,17 @@ impl MemSink {
     }
 
     /// Makes the call of this number fail, the first being number 1.
-    pub fn fail_at(&mut self, call: u64) -> Result<(), AllocError> {
+    pub fn fail_at(&mut self, call: u64) -> Result<(), AllocError>
+        ensures { IsSameButScript self.old self.new }
+    {
         self.script.fail_at(call)
     }
 
     /// Makes writes take at most so many bytes: these numbers are used in turn, from the first again after the last.
     /// A 0 counts as 1. Numbers given later come after these.
-    pub fn cut_into(&mut self, lengths: &[usize]) -> Result<(), AllocError> {
+    pub fn cut_into(&mut self, lengths: &[usize]) -> Result<(), AllocError>
+        ensures { IsSameButScript self.old self.new }
+    {
         self.script.cut_into(lengths)
     }
 

@@ -31,12 +31,13 @@ pub struct MemoryFiles {
 }
 
 impl MemoryFiles {
-    ghost use Rattle.outside.specs.MemoryFiles.{KeepsFiles, FailsToStart, FailsToRead};
+    ghost use Rattle.outside.specs.MemoryFiles.{KeepsPlaces, FailsToStart, FailsToRead};
 
     pub(crate) fn new(alloc: Global) -> Self
         ensures files { result.files.items ≡ [] }
         ensures reading { result.reading ≡ None }
         ensures writing { result.writing ≡ None }
+        ensures faulted { result.faulted ≡ None }
         ensures finished { result.is_unfinished ≡ false }
         ensures wants { result.wants ≡ 0 }
     {
@@ -57,7 +58,7 @@ impl MemoryFiles {
     pub(crate) fn add(&mut self, name: &str, bytes: &[u8]) -> Result<(), AllocError>
         ensures added { OnOk result (Changes self.old.files.items self.new.files.items name.now (Bytes bytes.now)) }
         ensures refused { OnErr result (self.new.files.items ≡ self.old.files.items) }
-        ensures keeps { KeepsFiles self.old self.new }
+        ensures keeps { KeepsPlaces self.old self.new }
     {
         let bytes = Vec::from_slice(self.alloc, bytes)?;
         put_file(self.alloc, &mut self.files, name, bytes)?;

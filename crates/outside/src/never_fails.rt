@@ -1,7 +1,7 @@
 // A folder and a sink in memory that never fail.
 ghost use Rattle.std.specs.Prelude.{◌≡◌, ℕ, List, [], None, Some, true, false, OnOk, OnErr, MatchOption};
 ghost use Rattle.outside.specs.Told.{NoFile, Bytes};
-ghost use Rattle.outside.specs.Folder.{KeepsOthers};
+ghost use Rattle.outside.specs.Folder.{KeepsOthers, KeepsReading};
 
 use crate::folder::Folder;
 use crate::memory_files::MemoryFiles;
@@ -24,6 +24,7 @@ impl NeverFails {
         ensures empty { (name : List ℕ) → ⟦<NeverFails as Folder>⟧.holds result name ≡ NoFile }
         ensures reading { ⟦<NeverFails as Folder>⟧.reading result ≡ None }
         ensures writing { ⟦<NeverFails as Folder>⟧.writing result ≡ None }
+        ensures faulted { ⟦<NeverFails as Folder>⟧.faulted result ≡ None }
         ensures finished { ⟦<NeverFails as Folder>⟧.unfinished result ≡ false }
         ensures written { ⟦<NeverFails as Sink>⟧.written result ≡ Some [] }
         ensures unfinished { ⟦<NeverFails as Sink>⟧.unfinished result ≡ true }
@@ -39,6 +40,10 @@ impl NeverFails {
         ensures added { OnOk result (⟦<NeverFails as Folder>⟧.holds self.new name.now ≡ Bytes bytes.now) }
         ensures others { OnOk result (KeepsOthers ⟦<NeverFails as Folder>⟧.holds name.now self.old self.new) }
         ensures refused { OnErr result (⟦<NeverFails as Folder>⟧.holds self.new ≡ ⟦<NeverFails as Folder>⟧.holds self.old) }
+        ensures writing { ⟦<NeverFails as Folder>⟧.writing self.new ≡ ⟦<NeverFails as Folder>⟧.writing self.old }
+        ensures unfinished { ⟦<NeverFails as Folder>⟧.unfinished self.new ≡ ⟦<NeverFails as Folder>⟧.unfinished self.old }
+        ensures keeps_reading { KeepsReading ⟦<NeverFails as Folder>⟧.reading ⟦<NeverFails as Folder>⟧.rest ⟦<NeverFails as Folder>⟧.taken self.old self.new }
+        ensures no_want { ⟦<NeverFails as Folder>⟧.wants self.new ≡ ⟦<NeverFails as Folder>⟧.wants self.old }
         ensures written { ⟦<NeverFails as Sink>⟧.written self.new ≡ ⟦<NeverFails as Sink>⟧.written self.old }
     {
         self.files.add(name, bytes)
