@@ -1,4 +1,5 @@
 pub mod ArrayLemmas
 pub mod RunLemmas
+pub mod SortLemmas
 pub mod StoreLemmas
 pub mod WidthLemmas

@@ -1,14 +1,14 @@
 -- Runs of lists of statements and of loops, piece by piece, where at most n turns are told of.
-use Rattle.std.specs.Prelude.{◌≡◌, ℕ, zero, suc, ◌+◌, ◌-◌, ◌≤◌, ◌<◌, Bool, true, false, nat_le, if◌then◌else◌, List, [], ◌∷◌, length, Option, Some, None, refl}
-use Rattle.std.proofs.Common.{◌∙◌, sym, ap, subst, arith}
+use Rattle.std.specs.Prelude.{◌≡◌, ℕ, zero, suc, ◌≤◌, ◌<◌, Bool, true, false, nat_le, if◌then◌else◌, List, ◌∷◌, Option, Some, refl}
+use Rattle.std.proofs.Common.{◌∙◌, sym, ap, arith}
 use Rattle.std.proofs.lemmas.Bool.Decides.{nat_tests}
 use Rattle.kernel_code.specs.declared.syntax.LoopKind.{LoopKind}
 use Rattle.kernel_code.specs.declared.syntax.KExpr.{KExpr}
-use Rattle.kernel_code.specs.declared.syntax.KStmt.{KStmt, If, While}
+use Rattle.kernel_code.specs.declared.syntax.KStmt.{KStmt, If}
 use Rattle.kernel_code.specs.declared.machine.Ending.{Ending}
 use Rattle.kernel_code.specs.declared.machine.Ending.TheVariants as ending
 use Rattle.kernel_code.specs.Meaning.{Setting, State, Outcome, Ended, Stuck, Over, More, value, one_turn, then_run, choice, run, run_list, run_turns}
-use Rattle.kernel_code.specs.Equations.{run_if, run_while}
+use Rattle.kernel_code.specs.Equations.{run_if}
 use Rattle.kernel_code.specs.Kernels.{all_turns, within}
 use Rattle.kernel_code.specs.Turns.{AtLeast, at_least_turns, at_least_list, one_turn_more, within_then, within_beyond, within_ended, at_least_after_turn}
 use Rattle.kernel_code.specs.Store.{outcome_of, has_ended}

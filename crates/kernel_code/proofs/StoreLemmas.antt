@@ -1,15 +1,15 @@
 -- What changes of the machine's arrays are in the state that it stands for.
-use Rattle.std.specs.Prelude.{◌≡◌, ℕ, ◌+◌, ◌<◌, ◌≤◌, Bool, true, false, nat_lt, if◌then◌else◌, List, [], ◌∷◌, ◌++◌, length, take, Option, Some, None, slice_get, slice_index_or, slice_index, slice_set, refl}
+use Rattle.std.specs.Prelude.{◌≡◌, ℕ, ◌<◌, ◌≤◌, Bool, true, false, nat_lt, if◌then◌else◌, List, [], ◌∷◌, ◌++◌, length, Option, Some, None, slice_get, slice_index_or, slice_index, slice_set, refl}
 use Rattle.std.specs.Vec.{with_item}
-use Rattle.std.proofs.Common.{◌∙◌, sym, ap, subst, arith}
+use Rattle.std.proofs.Common.{◌∙◌, sym, ap, arith}
 use Rattle.std.proofs.lemmas.Bool.Decides.{nat_tests}
 use Rattle.kernel_code.specs.declared.syntax.Arr.{Arr}
 use Rattle.kernel_code.specs.declared.syntax.LoopKind.{LoopKind}
 use Rattle.kernel_code.specs.declared.syntax.LoopKind.TheVariants.{Merge, Skip, Gather, Drain, Probe}
 use Rattle.kernel_code.specs.declared.arrays.Words.{Words}
 use Rattle.kernel_code.specs.declared.machine.Machine.{Machine}
-use Rattle.kernel_code.specs.Arrays.{same_arr, may_have, may_write}
-use Rattle.kernel_code.specs.Meaning.{State, Outcome, Ended, Stuck, Over, set_array, with_array, if_written, changed, grown}
+use Rattle.kernel_code.specs.Arrays.{same_arr, may_have}
+use Rattle.kernel_code.specs.Meaning.{Outcome, Ended, Stuck, Over, set_array, with_array, if_written, changed, grown}
 use Rattle.kernel_code.specs.Store.{array_of, state_of, count_of, kept_at, IsPlaceOf, IsWritable}
 use Rattle.kernel_code.proofs.ArrayLemmas.{array_of_place, array_of_set, same_arr_is}
 

@@ -1,6 +1,6 @@
 -- What code does from a state, with no bound on turns to be named: the rules of sequencing, of each statement and of loops.
-use Rattle.std.specs.Prelude.{◌≡◌, ℕ, zero, suc, ◌+◌, ◌≤◌, ◌<◌, Bool, true, false, nat_lt, if◌then◌else◌, List, [], ◌∷◌, ◌++◌, length, map, take, replicate, Option, Some, None, slice_get, slice_index, slice_set, refl}
-use Rattle.std.proofs.Common.{◌∙◌, sym, ap, arith}
+use Rattle.std.specs.Prelude.{◌≡◌, ℕ, zero, suc, ◌+◌, ◌≤◌, ◌<◌, Bool, true, false, nat_lt, if◌then◌else◌, List, [], ◌∷◌, ◌++◌, length, take, replicate, Some, slice_get, slice_index, slice_set, refl}
+use Rattle.std.proofs.Common.{◌∙◌, ap, arith}
 use Rattle.std.proofs.lemmas.Bool.Decides.{nat_tests}
 use Rattle.kernel_code.specs.declared.syntax.Arr.{Arr}
 use Rattle.kernel_code.specs.declared.syntax.Arr.TheVariants.{Sums, ListCoordinates, ListPositions}
@@ -8,7 +8,7 @@ use Rattle.kernel_code.specs.declared.syntax.LoopKind.{LoopKind}
 use Rattle.kernel_code.specs.declared.syntax.KExpr.{KExpr}
 use Rattle.kernel_code.specs.declared.syntax.KStmt.{KStmt, Set, Put, AddTo, Push, Extend, Cut, Sort, SortSum, If, While}
 use Rattle.kernel_code.specs.Arrays.{may_write, may_have, sum_in}
-use Rattle.kernel_code.specs.Meaning.{Setting, State, Outcome, Ended, Stuck, Over, More, value, then_run, with_value, if_written, with_array, set_var, set_array, one_turn, changed, grown, word_count, choice, run, run_list, run_turns, sort_outcome, sort_sum_outcome, set_outcome, put_outcome, add_outcome, push_outcome, extend_outcome, cut_outcome}
+use Rattle.kernel_code.specs.Meaning.{Setting, State, Outcome, Ended, Stuck, Over, More, value, then_run, if_written, with_array, set_var, set_array, one_turn, changed, grown, word_count, choice, run, run_list, run_turns, sort_outcome, sort_sum_outcome, set_outcome, put_outcome, add_outcome, push_outcome, extend_outcome, cut_outcome}
 use Rattle.kernel_code.specs.Equations.{run_if, run_while}
 
 -- P of the state that a run ends in, R of the growth that it is refused; never stuck, never out of turns

@@ -1,5 +1,5 @@
 -- What the meaning says at an expression or a statement that is made of parts, one equation for each.
-use Rattle.std.specs.Prelude.{◌≡◌, ℕ, min, List, Option, refl}
+use Rattle.std.specs.Prelude.{◌≡◌, ℕ, min, List, refl}
 use Rattle.std.proofs.Common.{◌∙◌, ap}
 use denote.Hole.Carrier.{hidden}
 use Rattle.kernel_code.specs.declared.syntax.Arr.{Arr}
@@ -9,7 +9,7 @@ use Rattle.kernel_code.specs.declared.syntax.KExpr.{KExpr, At, Bin, Min, Width}
 use Rattle.kernel_code.specs.declared.syntax.KExpr.TheBlock.{hidden-the_row-KExpr-0}
 use Rattle.kernel_code.specs.declared.syntax.KStmt.{KStmt, If, While, Row_of-KStmt, end_of-KStmt, more_of-KStmt, items-the_row-KStmt, items_hidden-the_row-KStmt-0}
 use Rattle.kernel_code.specs.declared.syntax.KStmt.TheBlock.{hidden-the_row-KStmt-0}
-use Rattle.kernel_code.specs.Meaning.{Setting, State, Outcome, value, word_at, width_of, apply_each, apply_both, choice, then_run, run, run_row, run_list, run_turns}
+use Rattle.kernel_code.specs.Meaning.{Setting, State, value, word_at, width_of, apply_each, apply_both, choice, then_run, run, run_row, run_list, run_turns}
 
 pub value_at : (a : Arr) (i : KExpr) (s : State) → value (At a i) s ≡ word_at (s.arrays a) (value i s)
 unfolding hidden-the_row-KExpr-0 hidden

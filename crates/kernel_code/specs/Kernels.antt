@@ -1,5 +1,5 @@
 -- What a kernel does: where its run starts, and how it ends within so many turns in all.
-use Rattle.std.specs.Prelude.{◌≡◌, ℕ, ◌+◌, ◌-◌, Bool, nat_lt, nat_le, if◌then◌else◌, List, [], length, Option, Some, None, slice_index}
+use Rattle.std.specs.Prelude.{ℕ, ◌+◌, ◌-◌, Bool, nat_lt, nat_le, if◌then◌else◌, List, [], length, Option, Some, None, slice_index}
 use Rattle.numbers.specs.Arithmetic.{Arithmetic}
 use Rattle.kernel_code.specs.declared.syntax.Arr.{Arr}
 use Rattle.kernel_code.specs.declared.syntax.Arr.TheVariants.{Range, Values, Dimension, Ends, Coordinates, Width, Key, Sums, ListCoordinates, ListPositions}
@@ -8,7 +8,7 @@ use Rattle.kernel_code.specs.declared.syntax.LoopKind.TheVariants.{Merge, Skip, 
 use Rattle.kernel_code.specs.declared.syntax.Place.{Place}
 use Rattle.kernel_code.specs.declared.syntax.Place.TheVariants.{Level, Workspace}
 use Rattle.kernel_code.specs.declared.syntax.Kernel.{Kernel}
-use Rattle.kernel_code.specs.Meaning.{Setting, State, Outcome, Ended, Stuck, Over, More, run_list}
+use Rattle.kernel_code.specs.Meaning.{State, Outcome, Ended, Stuck, Over, More, run_list}
 
 -- all turns, of whatever kind
 abbrev pub all_turns : (LoopKind → ℕ) → ℕ

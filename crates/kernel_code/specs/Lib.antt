@@ -6,3 +6,6 @@ pub mod Kernels
 pub mod Turns
 pub mod Store
 pub mod Does
+pub mod Keeps
+pub mod More
+pub mod Laws

@@ -1,5 +1,5 @@
 -- What an expression's value is, and what a statement does.
-use Rattle.std.specs.Prelude.{◌≡◌, ℕ, zero, suc, ◌+◌, ◌-◌, ◌*◌, ◌^◌, ◌<◌, ◌≤◌, min, Bool, true, false, not, nat_lt, nat_le, ◌==◌, ◌&&◌, ◌||◌, if◌then◌else◌, List, [], ◌∷◌, ◌++◌, length, map, take, replicate, Option, Some, None, slice_get, slice_index, slice_set, bit_and}
+use Rattle.std.specs.Prelude.{◌≡◌, ℕ, zero, suc, ◌+◌, ◌-◌, ◌*◌, ◌^◌, ◌<◌, min, Bool, true, false, not, nat_lt, nat_le, ◌==◌, ◌&&◌, ◌||◌, if◌then◌else◌, List, [], ◌∷◌, ◌++◌, length, map, take, replicate, Option, Some, None, slice_get, slice_index, slice_set, bit_and}
 use Rattle.std.proofs.Common.{arith}
 use Rattle.std.proofs.lemmas.Bool.Decides.{nat_tests}
 use Rattle.numbers.specs.Arithmetic.{Arithmetic}
@@ -13,7 +13,7 @@ use Rattle.kernel_code.specs.declared.syntax.Op.TheVariants as op
 use Rattle.kernel_code.specs.declared.syntax.KExpr.{KExpr, Num, Var, At', Len, Bin', Min', Width', Row_of-KExpr, end_of-KExpr, more_of-KExpr}
 use Rattle.kernel_code.specs.declared.syntax.KStmt.{KStmt, Set, Put, AddTo, Push, Extend, Cut, Sort, SortSum, If', While', Row_of-KStmt, end_of-KStmt, more_of-KStmt}
 use Rattle.kernel_code.specs.Arrays.{same_arr, may_write, may_have, sum_in}
-use Rattle.kernel_code.specs.Rows.{ListRow, sorted_rows, list_rows, Row, summed_rows, rows_from, column_of}
+use Rattle.kernel_code.specs.Rows.{sorted_rows, list_rows, Row, summed_rows, rows_from, column_of}
 
 -- how values are added, and the number of keys of each workspace
 pub record Setting : Type 0 where

@@ -1,29 +1,31 @@
 -- Rows of a scratch list and of a workspace, in order.
-use Rattle.std.specs.Prelude.{◌≡◌, ℕ, ◌+◌, Bool, true, false, ◌==◌, nat_lt, if◌then◌else◌, List, [], ◌∷◌, map, slice_index}
+use Rattle.std.specs.Prelude.{ℕ, ◌+◌, Bool, nat_lt, if◌then◌else◌, List, [], ◌∷◌, map, slice_index}
 use Rattle.std.specs.declared.cmp.Ordering.{Ordering}
 use Rattle.std.specs.declared.cmp.Ordering.TheVariants.{Less, Equal, Greater}
-use Rattle.std.specs.Ordering.{nat_cmp, ordering_then}
+use Rattle.std.specs.Ordering.{nat_cmp}
+use Rattle.std.specs.Cmp.Lexicographic.{slice_cmp}
+use Rattle.kernel_code.specs.declared.rows.ListRow.{ListRow}
 use Rattle.numbers.specs.Arithmetic.{Arithmetic}
 
--- a row of a scratch list
-pub record ListRow : Type 0 where
-  pub coordinate : ℕ
-  pub position : ℕ
+-- an element among sorted ones: before the first that isn't before it
+abbrev pub insert_by : {X : Type 0} → (X → X → Bool) → X → List X → List X
+insert_by before r [] = r ∷ []
+insert_by before r (q ∷ qs) = if before q r then q ∷ insert_by before r qs else r ∷ (q ∷ qs)
 
--- a row among sorted ones: before the first whose coordinate is no less
-abbrev pub insert_row : ListRow → List ListRow → List ListRow
-insert_row r [] = r ∷ []
-insert_row r (q ∷ qs) = if nat_lt q.coordinate r.coordinate then q ∷ insert_row r qs else r ∷ (q ∷ qs)
+-- the elements in order; those of which none is before the other stay as they stood
+abbrev pub sorted_by : {X : Type 0} → (X → X → Bool) → List X → List X
+sorted_by before [] = []
+sorted_by before (r ∷ rs) = insert_by before r (sorted_by before rs)
 
--- rows sorted by coordinate; those with equal ones stay in order
-abbrev pub sorted_rows : List ListRow → List ListRow
-sorted_rows [] = []
-sorted_rows (r ∷ rs) = insert_row r (sorted_rows rs)
-
+-- the rows of a scratch list
 abbrev pub list_rows : List ℕ → List ℕ → List ListRow
 list_rows [] positions = []
 list_rows (c ∷ cs) [] = []
 list_rows (c ∷ cs) (p ∷ ps) = record { coordinate = c; position = p } ∷ list_rows cs ps
+
+-- rows sorted by coordinate
+abbrev pub sorted_rows : List ListRow → List ListRow
+sorted_rows rows = sorted_by (λ q r. nat_lt q.coordinate r.coordinate) rows
 
 -- a row of a workspace
 pub record Row : Type 0 where
@@ -32,10 +34,7 @@ pub record Row : Type 0 where
 
 -- key lists in the order of a dictionary
 abbrev pub compare_keys : List ℕ → List ℕ → Ordering
-compare_keys [] [] = Equal
-compare_keys [] (k ∷ ks) = Less
-compare_keys (k ∷ ks) [] = Greater
-compare_keys (k ∷ ks) (l ∷ ls) = ordering_then (nat_cmp k l) (compare_keys ks ls)
+compare_keys ks ls = slice_cmp nat_cmp ks ls
 
 -- a row before others, or its value added to a row with its keys
 abbrev pub placed : Ordering → Arithmetic → Row → Row → List Row → List Row → List Row

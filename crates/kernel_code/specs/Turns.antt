@@ -1,7 +1,7 @@
 -- Turns are only ever added: a run leaves at least as many as it starts with, so that what is told of a
 -- run within n turns in all can be told piece by piece.
-use Rattle.std.specs.Prelude.{◌≡◌, ℕ, zero, suc, ◌+◌, ◌≤◌, ◌<◌, ◌==◌, Bool, true, false, nat_lt, nat_le, if◌then◌else◌, List, [], ◌∷◌, ◌++◌, length, Option, Some, None, slice_get, slice_set, refl}
-use Rattle.std.proofs.Common.{◌∙◌, sym, ap, subst, arith}
+use Rattle.std.specs.Prelude.{◌≡◌, ℕ, zero, suc, ◌+◌, ◌≤◌, ◌<◌, ◌==◌, Bool, true, false, nat_lt, nat_le, if◌then◌else◌, List, [], ◌∷◌, length, Option, Some, None, slice_get, refl}
+use Rattle.std.proofs.Common.{◌∙◌, sym, ap, arith}
 use Rattle.std.proofs.lemmas.Bool.Decides.{nat_tests}
 use Rattle.numbers.specs.Arithmetic.{Arithmetic}
 use Rattle.kernel_code.specs.declared.syntax.Arr.{Arr}
@@ -11,7 +11,7 @@ use Rattle.kernel_code.specs.declared.syntax.LoopKind.TheVariants.{Merge, Skip, 
 use Rattle.kernel_code.specs.declared.syntax.KStmt.{KStmt, Set, Put, AddTo, Push, Extend, Cut, Sort, SortSum, If', While', Row_of-KStmt, end_of-KStmt, more_of-KStmt}
 use Rattle.kernel_code.specs.Arrays.{may_write, may_have, sum_in}
 use Rattle.kernel_code.specs.Rows.{Row}
-use Rattle.kernel_code.specs.Meaning.{Setting, State, Outcome, Ended, Stuck, Over, More, value, set_array, one_turn, then_run, with_value, if_written, with_array, changed, grown, set_outcome, put_outcome, add_outcome, push_outcome, extend_outcome, cut_outcome, sort_outcome, sort_sum_outcome, summed, key_columns, set_columns, choice, run_turns, run, run_row, run_list}
+use Rattle.kernel_code.specs.Meaning.{Setting, State, Outcome, Ended, Stuck, Over, More, value, one_turn, then_run, with_value, if_written, with_array, changed, grown, sort_outcome, sort_sum_outcome, summed, key_columns, set_columns, choice, run_turns, run, run_row, run_list}
 use Rattle.kernel_code.specs.Kernels.{all_turns, within}
 
 -- a run that leaves at least n turns

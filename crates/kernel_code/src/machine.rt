@@ -9,6 +9,7 @@ use crate::arrays::{
     Words, append_copies, may_be_long, may_be_written, place_of, sum_as_word, sum_of_words,
 };
 use crate::operators::{apply_to_operands, least_operand, width_of_operand};
+use crate::rows::{coordinates_of, positions_of, rows_of_list, sort_rows};
 use crate::runs::run_statements;
 use crate::syntax::{Arr, KExpr, KStmt, LoopKind, Turns};
 use std::alloc::{AllocError, Global};
@@ -99,6 +100,7 @@ impl Machine {
     /// is as before and the words are dropped.
     pub fn add_array(&mut self, a: Arr, words: Vec<u64>) -> Result<(), AllocError>
         ensures ok { OnOk result (state_of self.new ≡ set_array (state_of self.old) a words.items) }
+        ensures same { OnOk result (self.new.turns ≡ self.old.turns) }
         ensures err { OnErr result (state_of self.new ≡ state_of self.old) }
     {
         match place_of(self.arrays.as_slice(), a) {
@@ -128,7 +130,8 @@ impl Machine {
 
     /// Runs code from its start, with no variable set, until `budget` turns are made in all. `workspaces`
     /// has the number of keys of each workspace. The arrays are those of the machine, and stay its own.
-    /// Refused for want of memory, the machine holds whatever the run has made of it.
+    /// Refused for want of memory, the machine holds whatever the run has made of it. A `SortSum` isn't run
+    /// yet: it answers want of memory.
     pub fn run(
         &mut self,
         code: &[KStmt],
@@ -365,13 +368,30 @@ impl Machine {
         }
     }
 
+    /// Sorts the rows of a scratch list by their coordinates.
     pub(crate) fn sort(&mut self, list: u64) -> Result<Ending, AllocError>
         ensures is { IfOk result (λ ending. outcome_of ending (state_of self.new) ≡ sort_outcome (state_of self.old) list ((state_of self.old).arrays (Arr.ListCoordinates list)) ((state_of self.old).arrays (Arr.ListPositions list))) }
         ensures turns { OnOk result (self.new.turns ≡ self.old.turns) }
     {
-        Err(AllocError)
+        let Some(coordinates) = self.array(Arr::ListCoordinates(list)) else {
+            return Ok(Ending::Stuck);
+        };
+        let Some(positions) = self.array(Arr::ListPositions(list)) else {
+            return Ok(Ending::Stuck);
+        };
+        if coordinates.len() != positions.len() {
+            return Ok(Ending::Stuck);
+        }
+        let mut rows = rows_of_list(self.alloc, coordinates, positions)?;
+        sort_rows(&mut rows)?;
+        let coordinates = coordinates_of(self.alloc, rows.as_slice())?;
+        let positions = positions_of(self.alloc, rows.as_slice())?;
+        self.add_array(Arr::ListCoordinates(list), coordinates)?;
+        self.add_array(Arr::ListPositions(list), positions)?;
+        Ok(Ending::Ended)
     }
 
+    /// Not run yet: it answers want of memory whatever the workspace holds.
     pub(crate) fn sort_sum(
         &mut self,
         workspace: u64,

@@ -1,7 +1,7 @@
-use Rattle.std.proofs.Common.{rules, ◌≡◌, ◌∙◌, ◌+◌, ◌-◌, ◌<◌, ◌∷◌, IfOk, Some, suc, sym, ap, subst, arith, drop, slice_index_or}
+use Rattle.std.proofs.Common.{◌≡◌, ◌∙◌, ◌+◌, ◌-◌, IfOk, Some, suc, sym, ap, subst, arith, drop, slice_index_or}
 use Rattle.std.proofs.Common.{true, false}
 use Rattle.std.proofs.Math.Seq.{drop-cons}
-use Rattle.kernel_code.specs.Meaning.{State, Outcome, Ended, one_turn, value, run, run_list, run_turns, then_run}
+use Rattle.kernel_code.specs.Meaning.{Ended, one_turn, value, run, run_list, run_turns}
 use Rattle.kernel_code.specs.Kernels.{within}
 use Rattle.kernel_code.specs.Turns.{at_least_list}
 use Rattle.kernel_code.specs.Store.{state_of, outcome_of, has_ended, setting}

@@ -1,6 +1,6 @@
-use Rattle.std.proofs.Common.{◌≡◌, ◌∙◌, [], Some, sym, subst, ap, refl}
+use Rattle.std.proofs.Common.{◌∙◌, Some, sym, subst, ap, refl}
 use Rattle.kernel_code.specs.Meaning.{set_array}
-use Rattle.kernel_code.specs.Store.{IsPlaceOf, array_of, state_of}
+use Rattle.kernel_code.specs.Store.{IsPlaceOf, state_of}
 use Rattle.kernel_code.proofs.StoreLemmas.{words_replaced, words_at}
 use Rattle.kernel_code.proofs.machine.Machine.take_array.Goals as goal
 

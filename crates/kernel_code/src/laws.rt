@@ -1,0 +1,33 @@
+ghost use Rattle.kernel_code.specs.Laws.{DependsOnMentioned, RunsInOrder, ChoosesByTest, LoopsByTurns, TurnsNeverFall, StartsAsGiven};
+ghost use Rattle.kernel_code.specs.More.{GoesOn};
+
+/// An expression depends on the variables and arrays that it mentions alone.
+#[tactic(auto, using(crate::specs::Laws::depends_on_mentioned))]
+pub fn expressions_depend_on_what_they_mention()
+    ensures { DependsOnMentioned }
+{}
+
+/// Code runs in order, a choice does one of its bodies, and a loop goes turn by turn.
+#[tactic(auto, using(crate::specs::Laws::runs_in_order, crate::specs::Laws::chooses_by_test, crate::specs::Laws::loops_by_turns))]
+pub fn code_is_made_of_parts()
+    ensures order { RunsInOrder }
+    ensures choice { ChoosesByTest }
+    ensures turns { LoopsByTurns }
+{}
+
+/// A run leaves at least the turns that it starts with.
+#[tactic(auto, using(crate::specs::Laws::turns_never_fall))]
+pub fn turns_are_only_added()
+    ensures { TurnsNeverFall }
+{}
+
+/// A kernel that finishes, is stuck or is refused a growth within n turns does the same within more.
+#[tactic(auto, using(crate::specs::More::goes_on))]
+pub fn more_turns_do_the_same()
+    ensures { GoesOn }
+{}
+
+/// A kernel without workspaces and scratch lists starts on the arrays that it is given.
+pub fn kernels_start_on_what_is_given()
+    ensures { StartsAsGiven }
+{}
