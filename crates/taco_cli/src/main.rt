@@ -3,10 +3,9 @@
 #![tactic(auto)]
 
 use outside::{RealFolder, StdSink};
-use std::env;
-use std::io;
 use std::process::ExitCode;
 use std::rt::Env;
+use std::{env, io};
 
 /// The command line, with the program's name first. Arguments that can't be read are a call with no words.
 fn words_of<R: Env + AllocGlobal>(rt: &R) -> io::Result<Vec<String>> {
