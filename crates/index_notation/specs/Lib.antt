@@ -1,1 +1,9 @@
 pub mod Statement
+pub mod Tokens
+pub mod TokenLaws
+pub mod Sentence
+pub mod SentenceLaws
+pub mod Numbering
+pub mod NumberingLaws
+pub mod Text
+pub mod TextLaws

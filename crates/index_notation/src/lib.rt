@@ -1,8 +1,13 @@
 //! Statements of index notation, as the tensor algebra compiler of Kjolstad and others (OOPSLA 2017) has
 //! them: one assignment whose right side is made of accesses to tensors, numbers, sums, differences,
-//! products and negations. Here stand the types, and when a statement is well formed.
+//! products and negations. Here stand the types, when a statement is well formed, and the relation
+//! between texts and statements: the tokens of a text, the sentence that they are, and its numbering.
 #![tactic(auto)]
 
+mod laws;
+mod sentence;
 mod syntax;
 
+pub use laws::{one_statement_a_text, one_token_list_a_text};
+pub use sentence::{Mark, Sentence, Token, WrittenAccess};
 pub use syntax::{Access, Expr, Name, Statement, copy_access, copy_expr, copy_name};

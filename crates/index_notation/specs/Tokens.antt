@@ -1,0 +1,73 @@
+-- The tokens of a statement's text: its names, numbers and marks, with spaces and tabs anywhere between them.
+use Rattle.std.specs.Prelude.{◌≡◌, ℕ, Bool, true, false, ◌||◌, ◌==◌, if◌then◌else◌, List, [], ◌∷◌, ◌++◌}
+use Rattle.std.specs.Char.{is_ascii_alphabetic, is_ascii_alphanumeric, is_ascii_digit}
+use Rattle.index_notation.specs.declared.sentence.Mark.{Mark}
+use Rattle.index_notation.specs.declared.sentence.Mark.TheVariants.{Equals, Plus, Minus, Times, Open, Close, Comma}
+use Rattle.index_notation.specs.declared.sentence.Token.{Token}
+use Rattle.index_notation.specs.declared.sentence.Token.TheVariants.{Name as NameToken, Number as NumberToken, Mark as MarkToken}
+
+-- a space or a tab
+abbrev pub is_blank : ℕ → Bool
+is_blank byte = (byte == 32) || (byte == 9)
+
+-- a letter, a digit or an underscore, with which a name goes on
+abbrev pub goes_on : ℕ → Bool
+goes_on byte = is_ascii_alphanumeric byte || (byte == 95)
+
+-- what stands behind the blanks at a text's front
+abbrev pub behind_blanks : List ℕ → List ℕ
+behind_blanks [] = []
+behind_blanks (byte ∷ text) = if is_blank byte then behind_blanks text else byte ∷ text
+
+-- a text begins with a byte that passes the test
+abbrev pub BeginsWith : (ℕ → Bool) → List ℕ → Type 0
+BeginsWith test [] = ⊥
+BeginsWith test (byte ∷ text) = test byte ≡ true
+
+-- a text is empty, or begins with a byte that doesn't pass the test
+abbrev pub StopsAt : (ℕ → Bool) → List ℕ → Type 0
+StopsAt test [] = Unit {0}
+StopsAt test (byte ∷ text) = test byte ≡ false
+
+-- each byte of a text passes the test
+abbrev pub EachPasses : (ℕ → Bool) → List ℕ → Type 0
+EachPasses test [] = Unit {0}
+EachPasses test (byte ∷ text) = (test byte ≡ true) × EachPasses test text
+
+-- bytes that pass a test, taken as long as possible before `rest`, of which the first passes another too
+pub record IsLongest (first test : ℕ → Bool) (bytes rest : List ℕ) : Type 0 where
+  pub begins : BeginsWith first bytes
+  pub each : EachPasses test bytes
+  pub stops : StopsAt test rest
+
+-- the byte that is a mark: `= + - * ( ) ,`
+abbrev pub byte_of : Mark → ℕ
+byte_of Equals = 61
+byte_of Plus = 43
+byte_of Minus = 45
+byte_of Times = 42
+byte_of Open = 40
+byte_of Close = 41
+byte_of Comma = 44
+
+-- the bytes of a token
+abbrev pub spelling : Token → List ℕ
+spelling (NameToken name) = name.bytes
+spelling (NumberToken digits) = digits
+spelling (MarkToken mark) = byte_of mark ∷ []
+
+-- a name is a letter and what goes on in a name, a number is digits, and both are taken as long as possible
+abbrev pub StandsBefore : Token → List ℕ → Type 0
+StandsBefore (NameToken name) rest = IsLongest is_ascii_alphabetic goes_on name.bytes rest
+StandsBefore (NumberToken digits) rest = IsLongest is_ascii_digit is_ascii_digit digits rest
+StandsBefore (MarkToken mark) rest = Unit {0}
+
+-- behind its blanks a text is this token, and then the rest
+pub record IsNext (text : List ℕ) (token : Token) (rest : List ℕ) : Type 0 where
+  pub spelled : behind_blanks text ≡ spelling token ++ rest
+  pub stands : StandsBefore token rest
+
+-- a text is these tokens one after another, with blanks anywhere before, between and behind them
+abbrev pub IsTokens : List ℕ → List Token → Type 0
+IsTokens text [] = behind_blanks text ≡ []
+IsTokens text (token ∷ tokens) = (rest : List ℕ) × IsNext text token rest × IsTokens rest tokens

@@ -1,0 +1,38 @@
+use crate::syntax::Name;
+use trees::Items;
+
+/// A token of one byte: `=`, `+`, `-`, `*`, `(`, `)` or `,`.
+#[derive(Clone, Copy, Debug, PartialEq, Eq)]
+pub enum Mark {
+    Equals,
+    Plus,
+    Minus,
+    Times,
+    Open,
+    Close,
+    Comma,
+}
+
+/// A token of a statement's text: a name, the digits of a number, or a mark.
+#[derive(Debug, Drop)]
+pub enum Token {
+    Name(Name),
+    Number(Items<u8>),
+    Mark(Mark),
+}
+
+/// An access as it is written: its name, and the variables in its brackets, of which there are none
+/// where it has no brackets.
+#[derive(Debug, Drop)]
+pub struct WrittenAccess {
+    pub name: Name,
+    pub vars: Items<Name>,
+}
+
+/// A statement as it is written: `left = first * more * ..`.
+#[derive(Debug, Drop)]
+pub struct Sentence {
+    pub left: WrittenAccess,
+    pub first: WrittenAccess,
+    pub more: Items<WrittenAccess>,
+}

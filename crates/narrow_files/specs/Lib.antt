@@ -1,0 +1,5 @@
+pub mod Narrow
+pub mod NarrowLaws
+pub mod PlaceLaws
+pub mod Places
+pub mod Readings

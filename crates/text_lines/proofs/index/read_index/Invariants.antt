@@ -1,0 +1,10 @@
+use Rattle.std.proofs.Common.{take}
+use Rattle.std.specs.Str.Parse.{AllDigits, digits_value}
+use Rattle.text_lines.specs.Digits.{IsKept}
+use Rattle.text_lines.proofs.index.read_index.Given as goal
+
+abbrev pub invariant-loop-byte : goal.invariant-loop-byte
+invariant-loop-byte l = record {
+  digits : AllDigits 10 (take l.byte-index l.token);
+  kept : IsKept l.number (digits_value 10 (take l.byte-index l.token));
+}

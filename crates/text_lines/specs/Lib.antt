@@ -1,0 +1,9 @@
+pub mod Digits
+pub mod Lines
+pub mod LineLaws
+pub mod Numbers
+pub mod NumberLaws
+pub mod Parts
+pub mod Tokens
+pub mod PrintedLaws
+pub mod TokenLaws

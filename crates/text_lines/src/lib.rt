@@ -1,0 +1,20 @@
+//! Lines of a text, tokens of a line, and the numbers that tokens stand for: `specs/Lines.antt`,
+//! `specs/Tokens.antt` and `specs/Numbers.antt` say what they are, and the functions of `laws` state what
+//! follows.
+#![tactic(auto)]
+
+mod cuts;
+mod index;
+mod laws;
+mod num_fault;
+
+pub use cuts::{cut_line, cut_token, is_blank};
+pub use index::read_index;
+pub use laws::{
+    joined_lines_are_cut_back, joined_tokens_are_cut_back, printed_numbers_are_read_back,
+    printed_numbers_are_tokens, tokens_are_whole_numbers_or_not,
+};
+pub use num_fault::NumFault;
+
+#[cfg(test)]
+mod tests;

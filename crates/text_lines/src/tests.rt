@@ -1,0 +1,80 @@
+use crate::{
+    NumFault, cut_line, cut_token, is_blank, joined_lines_are_cut_back, joined_tokens_are_cut_back,
+    printed_numbers_are_read_back, printed_numbers_are_tokens, read_index,
+    tokens_are_whole_numbers_or_not,
+};
+
+const TEXTS: [(&[u8], &[&[u8]]); 8] = [
+    (b"", &[]),
+    (b"1 5\n3 7\n", &[b"1 5", b"3 7"]),
+    (b"1 5\r\n3 7", &[b"1 5", b"3 7"]),
+    (b"\n\n1", &[b"", b"", b"1"]),
+    (b"1\r", &[b"1"]),
+    (b"1\n\r", &[b"1", b""]),
+    (b"a\rb\r\r\n", &[b"a\rb\r"]),
+    (b"\r\n", &[b""]),
+];
+
+#[test]
+fn texts_have_lines(rt: HostRuntime) {
+    for (text, wanted) in TEXTS {
+        let mut rest = text;
+        for line in wanted {
+            let cut = cut_line(rest);
+            assert!(rt; cut.is_some(), "{text:?}");
+            if let Some((first, behind)) = cut {
+                assert_eq!(rt; first, *line, "{text:?}");
+                rest = behind;
+            }
+        }
+        assert!(rt; cut_line(rest).is_none(), "{text:?}");
+    }
+}
+
+const LINES: [(&[u8], &[&[u8]]); 5] = [
+    (b"", &[]),
+    (b" \t ", &[]),
+    (b"1 2 3", &[b"1", b"2", b"3"]),
+    (b"\t 10 \t -7  ", &[b"10", b"-7"]),
+    (b"#a\x0b1", &[b"#a\x0b1"]),
+];
+
+#[test]
+fn lines_have_tokens(rt: HostRuntime) {
+    for (line, wanted) in LINES {
+        let mut rest = line;
+        for token in wanted {
+            let cut = cut_token(rest);
+            assert!(rt; cut.is_some(), "{line:?}");
+            if let Some((first, behind)) = cut {
+                assert_eq!(rt; first, *token, "{line:?}");
+                rest = behind;
+            }
+        }
+        assert!(rt; cut_token(rest).is_none(), "{line:?}");
+    }
+    assert!(rt; is_blank(b' ') && is_blank(b'\t') && !is_blank(b'\r'));
+}
+
+#[test]
+fn tokens_are_numbers(rt: HostRuntime) {
+    let rows: [(&[u8], u64, Result<u64, NumFault>); 9] = [
+        (b"0", 5, Ok(0)),
+        (b"5", 5, Ok(5)),
+        (b"6", 5, Err(NumFault::NumRange)),
+        (b"0000000000000000000000000000000007", 7, Ok(7)),
+        (b"18446744073709551615", u64::MAX, Ok(u64::MAX)),
+        (b"18446744073709551616", u64::MAX, Err(NumFault::NumRange)),
+        (b"18446744073709551616x", u64::MAX, Err(NumFault::NotNumber)),
+        (b"", u64::MAX, Err(NumFault::NotNumber)),
+        (b"+1", u64::MAX, Err(NumFault::NotNumber)),
+    ];
+    for (token, greatest, wanted) in rows {
+        assert_eq!(rt; read_index(token, greatest), wanted, "{token:?}");
+    }
+    joined_lines_are_cut_back();
+    joined_tokens_are_cut_back();
+    printed_numbers_are_read_back();
+    printed_numbers_are_tokens();
+    tokens_are_whole_numbers_or_not();
+}

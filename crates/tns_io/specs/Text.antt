@@ -1,0 +1,29 @@
+-- The text of a tensor: a line for each coordinate list below the ranges whose value isn't zero.
+use Rattle.std.specs.Prelude.{◌≡◌, ◌≢◌, ℕ, ◌+◌, List, [], ◌∷◌, ◌++◌, ◌⊎◌, ◌↔◌}
+use Rattle.std.specs.List.{flat_map}
+use Rattle.std.specs.Fmt.{decimal, signed_decimal}
+use Rattle.numbers.specs.Arithmetic.{Arithmetic}
+use Rattle.numbers.specs.Signed.{signed_of}
+use Rattle.tensor_map.specs.Order.{Increasing}
+use Rattle.tns_io.specs.Positions.{IsBelow}
+
+-- each coordinate, counted from 1, and a blank behind it
+abbrev pub coords_text : List ℕ → List ℕ
+coords_text coords = flat_map (λ c. decimal (c + 1) ++ 32 ∷ []) coords
+
+-- the coordinates, the value with its sign and a line feed
+abbrev pub line_text : List ℕ → ℕ → List ℕ
+line_text coords value = coords_text coords ++ (signed_decimal (signed_of value) ++ 10 ∷ [])
+
+-- the coordinate list is one of these
+abbrev pub IsAmong : List (List ℕ) → List ℕ → Type 0
+IsAmong [] coords = ⊥
+IsAmong (place ∷ places) coords = (place ≡ coords) ⊎ IsAmong places coords
+
+-- the places are in lexicographic order the coordinate lists below the ranges whose value isn't zero, and the text
+-- is their lines, one after another
+pub record IsTnsText (a : Arithmetic) (ranges : List ℕ) (value : List ℕ → ℕ) (text : List ℕ) : Type 0 where
+  pub places : List (List ℕ)
+  pub increasing : Increasing places
+  pub exact : (coords : List ℕ) → IsAmong places coords ↔ (IsBelow ranges coords × (value coords ≢ a.zero))
+  pub lines : text ≡ flat_map (λ coords. line_text coords (value coords)) places
