@@ -2,4 +2,5 @@ pub mod ArrayLemmas
 pub mod RunLemmas
 pub mod SortLemmas
 pub mod StoreLemmas
+pub mod SumLemmas
 pub mod WidthLemmas

@@ -6,6 +6,7 @@ use Rattle.std.proofs.lemmas.Bool.Decides.{nat_tests}
 use Rattle.kernel_code.specs.declared.syntax.Arr.{Arr}
 use Rattle.kernel_code.specs.declared.syntax.LoopKind.{LoopKind}
 use Rattle.kernel_code.specs.declared.syntax.LoopKind.TheVariants.{Merge, Skip, Gather, Drain, Probe}
+use Rattle.kernel_code.specs.declared.syntax.Turns.{Turns}
 use Rattle.kernel_code.specs.declared.arrays.Words.{Words}
 use Rattle.kernel_code.specs.declared.machine.Machine.{Machine}
 use Rattle.kernel_code.specs.Arrays.{same_arr, may_have}
@@ -110,6 +111,10 @@ none_made Probe = refl
 
 pub no_turns_made : count_of (record { merge = 0; skip = 0; gather = 0; drain = 0; probe = 0 }) ≡ (λ k. 0)
 no_turns_made = λ i k. none_made k i
+
+-- turns are what is counted of each kind
+pub same_turns : (t u : Turns) → count_of t ≡ count_of u → t ≡ u
+same_turns t u h = λ i. record { merge = h i Merge; skip = h i Skip; gather = h i Gather; drain = h i Drain; probe = h i Probe }
 
 pub no_variables : (xs : List (Option ℕ)) → xs ≡ [] → (x : ℕ) → kept_at (slice_get xs x) ≡ None
 no_variables xs e x = ap (λ ys. kept_at (slice_get ys x)) e

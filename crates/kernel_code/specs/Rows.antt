@@ -1,10 +1,10 @@
 -- Rows of a scratch list and of a workspace, in order.
 use Rattle.std.specs.Prelude.{ℕ, ◌+◌, Bool, nat_lt, if◌then◌else◌, List, [], ◌∷◌, map, slice_index}
 use Rattle.std.specs.declared.cmp.Ordering.{Ordering}
-use Rattle.std.specs.declared.cmp.Ordering.TheVariants.{Less, Equal, Greater}
-use Rattle.std.specs.Ordering.{nat_cmp}
+use Rattle.std.specs.Ordering.{nat_cmp, is_lt, is_eq}
 use Rattle.std.specs.Cmp.Lexicographic.{slice_cmp}
 use Rattle.kernel_code.specs.declared.rows.ListRow.{ListRow}
+use Rattle.kernel_code.specs.declared.sums.PlacedRow.{PlacedRow}
 use Rattle.numbers.specs.Arithmetic.{Arithmetic}
 
 -- an element among sorted ones: before the first that isn't before it
@@ -36,27 +36,36 @@ pub record Row : Type 0 where
 abbrev pub compare_keys : List ℕ → List ℕ → Ordering
 compare_keys ks ls = slice_cmp nat_cmp ks ls
 
--- a row before others, or its value added to a row with its keys
-abbrev pub placed : Ordering → Arithmetic → Row → Row → List Row → List Row → List Row
-placed Less arithmetic r q qs further = r ∷ (q ∷ qs)
-placed Equal arithmetic r q qs further = record { keys = q.keys; value = arithmetic.plus r.value q.value } ∷ qs
-placed Greater arithmetic r q qs further = q ∷ further
+abbrev pub row_before : Row → Row → Bool
+row_before q r = is_lt (compare_keys q.keys r.keys)
 
--- a row among sorted ones with different keys
-abbrev pub add_row : Arithmetic → Row → List Row → List Row
-add_row arithmetic r [] = r ∷ []
-add_row arithmetic r (q ∷ qs) = placed (compare_keys r.keys q.keys) arithmetic r q qs (add_row arithmetic r qs)
+-- a row ahead of others, or its value added to that of the first where their keys are equal
+abbrev pub join_row : Arithmetic → Row → List Row → List Row
+join_row arithmetic r [] = r ∷ []
+join_row arithmetic r (q ∷ qs) = if is_eq (compare_keys r.keys q.keys) then record { keys = q.keys; value = arithmetic.plus r.value q.value } ∷ qs else r ∷ (q ∷ qs)
+
+-- neighbours with equal keys as one row with the sum of their values
+abbrev pub joined_rows : Arithmetic → List Row → List Row
+joined_rows arithmetic [] = []
+joined_rows arithmetic (r ∷ rs) = join_row arithmetic r (joined_rows arithmetic rs)
 
 -- rows sorted by their keys, each key list once with the sum of its values
 abbrev pub summed_rows : Arithmetic → List Row → List Row
-summed_rows arithmetic [] = []
-summed_rows arithmetic (r ∷ rs) = add_row arithmetic r (summed_rows arithmetic rs)
+summed_rows arithmetic rows = joined_rows arithmetic (sorted_by row_before rows)
+
+-- the keys at place i of columns
+abbrev pub keys_at : List (List ℕ) → ℕ → List ℕ
+keys_at columns i = map (λ column. slice_index column i) columns
 
 -- the rows from place i on that columns of keys and a column of values make
 abbrev pub rows_from : List (List ℕ) → ℕ → List ℕ → List Row
 rows_from columns i [] = []
-rows_from columns i (v ∷ vs) = record { keys = map (λ column. slice_index column i) columns; value = v } ∷ rows_from columns (i + 1) vs
+rows_from columns i (v ∷ vs) = record { keys = keys_at columns i; value = v } ∷ rows_from columns (i + 1) vs
 
 -- column k of rows
 abbrev pub column_of : ℕ → List Row → List ℕ
 column_of k rows = map (λ r. slice_index r.keys k) rows
+
+-- a row of which only the place of its keys is kept
+abbrev pub row_of : List (List ℕ) → PlacedRow → Row
+row_of columns p = record { keys = keys_at columns p.place; value = p.value }

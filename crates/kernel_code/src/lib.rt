@@ -13,6 +13,7 @@ mod machine;
 mod operators;
 mod rows;
 mod runs;
+mod sums;
 mod syntax;
 #[cfg(test)]
 mod tests;

@@ -1,8 +1,9 @@
-ghost use Rattle.std.specs.Prelude.{◌≡◌, ℕ, ◌+◌, ◌^◌, ◌<◌, List, length, MatchOption, IfOk, OnOk, OnErr, ◌++◌, ◌∷◌, [], Some, None, take, replicate, slice_get, option_map};
+ghost use Rattle.std.specs.Prelude.{◌≡◌, ℕ, ◌+◌, ◌^◌, ◌<◌, List, length, MatchOption, IfOk, OnOk, OnErr, ◌++◌, ◌∷◌, [], Some, None, take, replicate, slice_get, option_map, unwrap_or, map};
 ghost use Rattle.numbers.specs.Ring.{ring};
 ghost use Rattle.kernel_code.specs.Arrays.{sum_in};
-ghost use Rattle.kernel_code.specs.Meaning.{Ended, Stuck, Outcome, set_array, one_turn, sort_outcome, sort_sum_outcome, with_array, changed, grown, word_count, value, word_at, length_of, run_list, set_outcome, put_outcome, add_outcome, push_outcome, extend_outcome, cut_outcome};
+ghost use Rattle.kernel_code.specs.Meaning.{Ended, Stuck, Outcome, set_array, one_turn, sort_outcome, sort_sum_outcome, key_columns, set_columns, with_array, changed, grown, word_count, value, word_at, length_of, run_list, set_outcome, put_outcome, add_outcome, push_outcome, extend_outcome, cut_outcome};
 ghost use Rattle.kernel_code.specs.Kernels.{within};
+ghost use Rattle.kernel_code.specs.Rows.{row_of};
 ghost use Rattle.kernel_code.specs.Store.{count_of, state_of, outcome_of, empty_state, restarted, setting, has_ended, kept_at, made, IsWritable};
 
 use crate::arrays::{
@@ -11,6 +12,7 @@ use crate::arrays::{
 use crate::operators::{apply_to_operands, least_operand, width_of_operand};
 use crate::rows::{coordinates_of, positions_of, rows_of_list, sort_rows};
 use crate::runs::run_statements;
+use crate::sums::{PlacedRow, number_of_keys, sum_rows, values_of, words_at};
 use crate::syntax::{Arr, KExpr, KStmt, LoopKind, Turns};
 use std::alloc::{AllocError, Global};
 use std::mem;
@@ -38,7 +40,8 @@ pub enum Ending {
     /// The code has run to its end.
     Ended,
     /// An index isn't below its array's length, a variable has no value, an array doesn't exist or mayn't
-    /// be written, a width has no word, or rows have columns of different lengths.
+    /// be written, a width has no word, rows have columns of different lengths, or a workspace has no
+    /// number of keys.
     Stuck,
     /// An array would have grown past its limit, to this length.
     Over { array: Arr, count: u64 },
@@ -100,7 +103,6 @@ impl Machine {
     /// is as before and the words are dropped.
     pub fn add_array(&mut self, a: Arr, words: Vec<u64>) -> Result<(), AllocError>
         ensures ok { OnOk result (state_of self.new ≡ set_array (state_of self.old) a words.items) }
-        ensures same { OnOk result (self.new.turns ≡ self.old.turns) }
         ensures err { OnErr result (state_of self.new ≡ state_of self.old) }
     {
         match place_of(self.arrays.as_slice(), a) {
@@ -130,8 +132,7 @@ impl Machine {
 
     /// Runs code from its start, with no variable set, until `budget` turns are made in all. `workspaces`
     /// has the number of keys of each workspace. The arrays are those of the machine, and stay its own.
-    /// Refused for want of memory, the machine holds whatever the run has made of it. A `SortSum` isn't run
-    /// yet: it answers want of memory.
+    /// Refused for want of memory, the machine holds whatever the run has made of it.
     pub fn run(
         &mut self,
         code: &[KStmt],
@@ -391,7 +392,57 @@ impl Machine {
         Ok(Ending::Ended)
     }
 
-    /// Not run yet: it answers want of memory whatever the workspace holds.
+    /// The words of an array, and no words where it doesn't exist.
+    fn words_of(&self, a: Arr) -> &[u64]
+        ensures { result.now ≡ unwrap_or ((state_of self.now).arrays a) [] }
+    {
+        match self.array(a) {
+            Some(words) => words,
+            None => &[],
+        }
+    }
+
+    /// The key columns of a workspace, if each has so many words.
+    fn key_columns(
+        &self,
+        workspace: u64,
+        keys: u64,
+        count: usize,
+    ) -> Result<Option<Vec<&[u64]>>, AllocError>
+        ensures { IfOk result (λ columns. option_map (λ cs. map (λ c. c.now) cs.items) columns ≡ key_columns (state_of self.now) workspace count keys) }
+    {
+        let mut columns = Vec::new(self.alloc);
+        for k in 0..keys {
+            let Some(column) = self.array(Arr::Key(workspace, k)) else {
+                return Ok(None);
+            };
+            if column.len() != count {
+                return Ok(None);
+            }
+            columns.push(column)?;
+        }
+        Ok(Some(columns))
+    }
+
+    /// Replaces each key column by its words at the places of rows.
+    fn pick_columns(
+        &mut self,
+        workspace: u64,
+        keys: u64,
+        rows: &[PlacedRow],
+    ) -> Result<(), AllocError>
+        ensures is { OnOk result ((columns : List (List ℕ)) (count : ℕ) → key_columns (state_of self.old) workspace count keys ≡ Some columns → state_of self.new ≡ set_columns (state_of self.old) workspace (map (row_of columns) rows.now) keys) }
+        ensures turns { OnOk result (self.new.turns ≡ self.old.turns) }
+    {
+        for k in 0..keys {
+            let name = Arr::Key(workspace, k);
+            let column = words_at(self.alloc, self.words_of(name), rows)?;
+            self.add_array(name, column)?;
+        }
+        Ok(())
+    }
+
+    /// Sorts the rows of a workspace by their keys, and adds the values of those with equal keys.
     pub(crate) fn sort_sum(
         &mut self,
         workspace: u64,
@@ -400,6 +451,20 @@ impl Machine {
         ensures is { IfOk result (λ ending. outcome_of ending (state_of self.new) ≡ sort_sum_outcome ring (state_of self.old) workspace (slice_get workspaces.now workspace) ((state_of self.old).arrays (Arr.Sums workspace))) }
         ensures turns { OnOk result (self.new.turns ≡ self.old.turns) }
     {
-        Err(AllocError)
+        let Some(keys) = number_of_keys(workspaces, workspace) else {
+            return Ok(Ending::Stuck);
+        };
+        let Some(values) = self.array(Arr::Sums(workspace)) else {
+            return Ok(Ending::Stuck);
+        };
+        let Some(columns) = self.key_columns(workspace, keys, values.len())? else {
+            return Ok(Ending::Stuck);
+        };
+        let rows = sum_rows(self.alloc, columns.as_slice(), values)?;
+        drop(columns);
+        let sums = values_of(self.alloc, rows.as_slice())?;
+        self.pick_columns(workspace, keys, rows.as_slice())?;
+        self.add_array(Arr::Sums(workspace), sums)?;
+        Ok(Ending::Ended)
     }
 }

@@ -164,6 +164,85 @@ fn faults_are_stuck(rt: HostRuntime) -> Result<(), Fail> {
     Ok(())
 }
 
+const COLUMNS: [Arr; 3] = [Arr::Key(0, 0), Arr::Key(0, 1), Arr::Sums(0)];
+
+fn workspace(alloc: Global, columns: [&[u64]; 3]) -> Result<Machine, AllocError> {
+    let mut machine = Machine::new(alloc);
+    for i in 0..3 {
+        machine.add_array(COLUMNS[i], Vec::from_slice(alloc, columns[i])?)?;
+    }
+    Ok(machine)
+}
+
+/// Whether the rows of a workspace with so many keys become these.
+fn sums_to(
+    alloc: Global,
+    keys: u64,
+    columns: [&[u64]; 3],
+    wanted: [&[u64]; 3],
+) -> Result<bool, AllocError> {
+    let mut machine = workspace(alloc, columns)?;
+    let code = one_statement(alloc, KStmt::SortSum(0))?;
+    let ending = machine.run(code.as_slice(), &[keys], 9)?;
+    let mut same = ending == Ending::Ended;
+    for i in 0..3 {
+        same = same && machine.array(COLUMNS[i]) == Some(wanted[i]);
+    }
+    Ok(same)
+}
+
+#[test]
+fn rows_are_sorted_and_summed(rt: HostRuntime) -> Result<(), Fail> {
+    let alloc = rt.alloc();
+    let rows: [&[u64]; 3] = [&[2, 1, 2], &[1, 3, 1], &[5, 7, 4]];
+    let none: [&[u64]; 3] = [&[], &[], &[]];
+    let one: [&[u64]; 3] = [&[2], &[1], &[5]];
+    assert!(rt;
+        sums_to(alloc, 2, rows, [&[1, 2], &[3, 1], &[7, 9]])?,
+        "two keys"
+    );
+    assert!(rt;
+        sums_to(alloc, 1, rows, [&[1, 2], &[1, 3, 1], &[7, 9]])?,
+        "one key"
+    );
+    assert!(rt;
+        sums_to(alloc, 0, rows, [&[2, 1, 2], &[1, 3, 1], &[16]])?,
+        "no keys"
+    );
+    assert!(rt; sums_to(alloc, 2, none, none)?, "no rows");
+    assert!(rt; sums_to(alloc, 2, one, one)?, "one row");
+    Ok(())
+}
+
+#[test]
+fn rows_without_columns_are_stuck(rt: HostRuntime) -> Result<(), Fail> {
+    let alloc = rt.alloc();
+    let code = one_statement(alloc, KStmt::SortSum(0))?;
+    let mut machine = workspace(alloc, [&[2, 1, 2], &[1, 3], &[5, 7, 4]])?;
+    assert_eq!(rt;
+        machine.run(code.as_slice(), &[2], 9)?,
+        Ending::Stuck,
+        "a short column"
+    );
+    assert_eq!(rt;
+        machine.run(code.as_slice(), &[3], 9)?,
+        Ending::Stuck,
+        "no column"
+    );
+    assert_eq!(rt;
+        machine.run(code.as_slice(), &[], 9)?,
+        Ending::Stuck,
+        "no number of keys"
+    );
+    let mut machine = Machine::new(alloc);
+    assert_eq!(rt;
+        machine.run(code.as_slice(), &[0], 9)?,
+        Ending::Stuck,
+        "no values"
+    );
+    Ok(())
+}
+
 /// The value that a variable is given by an expression.
 fn value(alloc: Global, e: KExpr) -> Result<Option<u64>, AllocError> {
     let mut machine = start(alloc)?;

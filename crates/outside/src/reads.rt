@@ -116,6 +116,7 @@ pub fn read_through<F: Folder, E: Eater>(
     ensures cause { OnReadFault result (IsFaultOf F.read_faults F.faulted name.now files.old files.new ⊎ (F.holds files.old name.now ≡ NoFile)) }
     ensures under { OnReadFault result (F.taken files.new ≤ budget) }
     ensures over { OnFileBytes result (budget < F.taken files.new) }
+    ensures there { OnFileBytes result (F.holds files.old name.now ≢ NoFile) }
 
     ensures no_fault { UnlessReadFault result (F.read_faults files.new ≡ F.read_faults files.old) }
     ensures none_faulted { UnlessReadFault result (F.faulted files.new ≡ F.faulted files.old) }

@@ -5,6 +5,7 @@ use Rattle.kernel_code.specs.declared.rows.ListRow.{ListRow}
 use Rattle.kernel_code.specs.Rows.{list_rows, sorted_rows}
 use Rattle.kernel_code.specs.Meaning.{State, set_array}
 use Rattle.kernel_code.specs.Store.{state_of}
+use Rattle.kernel_code.proofs.StoreLemmas.{same_turns}
 use Rattle.kernel_code.proofs.SortLemmas.{sort_done}
 use Rattle.kernel_code.proofs.machine.Machine.sort.Goals as goal
 
@@ -25,3 +26,8 @@ returns-clause-is c =
     ∙ ap (λ (t : State). set_array t (ListPositions g) y) c.in_ok-add_array.ensures.ok
     ∙ ap (λ xs. set_array (set_array s (ListCoordinates g) xs) (ListPositions g) y) first
     ∙ ap (set_array (set_array s (ListCoordinates g) (map (λ (r : ListRow). r.coordinate) (sorted_rows (list_rows cs ps)))) (ListPositions g)) second)
+
+pub returns-clause-turns : goal.returns-clause-turns
+returns-clause-turns c =
+    same_turns c.add_array-2.new.self.turns c.add_array.new.self.turns (ap (λ (t : State). t.turns) c.in_ok-add_array-2.ensures.ok)
+    ∙ same_turns c.add_array.new.self.turns c.args.self.now.turns (ap (λ (t : State). t.turns) c.in_ok-add_array.ensures.ok)

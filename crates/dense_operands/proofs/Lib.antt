@@ -1,0 +1,4 @@
+pub mod DenseLemmas
+pub mod LevelLemmas
+pub mod ReachLemmas
+pub mod SizeLemmas

@@ -1,0 +1,55 @@
+ghost use Rattle.std.specs.Prelude.{◌≡◌, ◌≤◌, All, IfOk, MatchOption, length};
+ghost use Rattle.limits.specs.Limits.{greatest_position_count};
+ghost use Rattle.numbers.specs.Ring.{ring};
+ghost use Rattle.tns_io.specs.Positions.{product, IsBelow, position};
+ghost use Rattle.dense_operands.specs.Levels.{FitLevels, IsDense};
+
+use limits::greatest_positions;
+use numbers::{add, zero};
+use std::alloc::{AllocError, Global};
+use tensor_map::Entries;
+
+/// The number of positions of a dense tensor's last level, and none exactly where some level has more positions than
+/// may be, though a later level may have none. The sizes are those of mode 0 and on.
+pub fn positions_of(sizes: &[u64]) -> Option<u64>
+    ensures { MatchOption result (FitLevels sizes.now → ⊥)
+        (λ positions. FitLevels sizes.now × (positions ≡ product sizes.now)) }
+{
+    let mut positions = 1u64;
+    for size in sizes {
+        positions = positions.checked_mul(*size)?;
+        if positions > greatest_positions() {
+            return None;
+        }
+    }
+    Some(positions)
+}
+
+/// The values of a tensor at all its positions, which go through the coordinates in row-major order: at each, the sum
+/// modulo 2^64 of the values of the entries there. Refused only for want of memory.
+pub fn values_of(alloc: Global, entries: &Entries, sizes: &[u64]) -> Result<Vec<u64>, AllocError>
+    requires fit { FitLevels sizes.now }
+    requires below { All (λ entry. IsBelow sizes.now entry.coords) entries.now.list }
+    ensures { IfOk result (λ values. IsDense ring sizes.now entries.now.list values.items) }
+{
+    let positions = positions_of(sizes).unwrap();
+    let mut values = vec![in alloc; zero(); positions as usize]?;
+    for i in 0..entries.len() {
+        let position = position_of(entries.coords(i), sizes) as usize;
+        values[position] = add(values[position], entries.value(i));
+    }
+    Ok(values)
+}
+
+/// The position of coordinates in a dense tensor of these sizes.
+fn position_of(coords: &[u64], sizes: &[u64]) -> u64
+    requires below { IsBelow sizes.now coords.now }
+    requires few { product sizes.now ≤ greatest_position_count }
+    ensures { result ≡ position sizes.now coords.now }
+{
+    let mut position = 0;
+    for (mode, size) in sizes.iter().enumerate() {
+        position = position * *size + coords[mode];
+    }
+    position
+}

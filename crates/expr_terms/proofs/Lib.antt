@@ -1,0 +1,4 @@
+pub mod Made
+pub mod SetPoint
+pub mod TermSums
+pub mod ValueIn

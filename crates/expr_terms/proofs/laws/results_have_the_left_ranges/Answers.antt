@@ -1,0 +1,5 @@
+use Rattle.expr_terms.specs.RangeLaws.{size_of_result}
+use Rattle.expr_terms.proofs.laws.results_have_the_left_ranges.Goals as goal
+
+pub returns : goal.returns
+returns c = size_of_result

@@ -1,0 +1,5 @@
+use Rattle.expr_terms.specs.PointLaws.{sum_over_swap, sum_over_order}
+use Rattle.expr_terms.proofs.laws.sums_change_places.Goals as goal
+
+pub returns : goal.returns
+returns c = record { two = sum_over_swap; all = sum_over_order }

@@ -1,0 +1,15 @@
+pub mod Equations
+pub mod Groups
+pub mod Operands
+pub mod PointLaws
+pub mod Points
+pub mod ProductLaws
+pub mod Products
+pub mod RangeLaws
+pub mod Ranges
+pub mod Result
+pub mod Signs
+pub mod TermLaws
+pub mod Terms
+pub mod Value
+pub mod ValueLaws

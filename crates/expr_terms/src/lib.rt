@@ -1,0 +1,18 @@
+//! What a statement means: its terms, the ranges of its variables, and its value at each point of the left side,
+//! as `specs/` define them. `value_at` computes the value plainly and slowly, straight from the definition.
+#![tactic(auto)]
+
+mod laws;
+mod lookups;
+mod ranges;
+mod value;
+
+pub use laws::{
+    products_are_one_sum, ranges_without_words, results_have_the_left_ranges, sums_change_places,
+    terms_add_up, values_are_words, values_depend_on_little,
+};
+pub use ranges::{Bound, RangeFault};
+pub use value::value_at;
+
+#[cfg(test)]
+mod tests;
