@@ -1,0 +1,139 @@
+ghost use Rattle.std.specs.Prelude.{◌≡◌, ◌+◌, ◌<◌, ◌^◌, [], ◌∷◌, ◌++◌, length, IfOk};
+ghost use Rattle.range_loops.specs.Code.{position_below, position_code, access_code, product_after, product_code, loop_code, loops_code, body_code};
+
+use index_notation::{Access, Statement};
+use kernel_code::{Arr, KExpr, KStmt, Kernel, LoopKind, Op, binary, one_statement};
+use std::alloc::{AllocError, Global};
+use trees::{Boxed, Items};
+
+/// An array's word at an index.
+fn word_at(alloc: Global, array: Arr, index: KExpr) -> Result<KExpr, AllocError>
+    ensures { IfOk result (λ e. e ≡ KExpr.At array index) }
+{
+    Ok(KExpr::At(array, Boxed::new(alloc, index)?))
+}
+
+/// The position of a coordinate below a position of the level above.
+fn position_under(
+    alloc: Global,
+    tensor: u64,
+    level: u64,
+    above: KExpr,
+    var: u64,
+) -> Result<KExpr, AllocError>
+    ensures { IfOk result (λ e. e ≡ KExpr.Bin Op.Add (KExpr.Bin Op.Mul above (KExpr.At (Arr.Dimension tensor level) (KExpr.Num 0))) (KExpr.Var var)) }
+{
+    let size = word_at(alloc, Arr::Dimension(tensor, level), KExpr::Num(0))?;
+    let begin = binary(alloc, Op::Mul, above, size)?;
+    let position = binary(alloc, Op::Add, begin, KExpr::Var(var))?;
+    Ok(position)
+}
+
+/// The position of coordinates, the first of which gives the position `above`, by the levels from 2 on.
+fn position_of_rest(
+    alloc: Global,
+    tensor: u64,
+    above: KExpr,
+    vars: &[usize],
+) -> Result<KExpr, AllocError>
+    ensures { IfOk result (λ e. e ≡ position_below tensor 2 above vars.now) }
+{
+    let mut position = above;
+    for (n, var) in vars.iter().enumerate() {
+        position = position_under(alloc, tensor, n as u64 + 2, position, *var as u64)?;
+    }
+    Ok(position)
+}
+
+/// The position of an access's coordinates among the values of its dense tensor.
+fn position_of(alloc: Global, access: &Access) -> Result<KExpr, AllocError>
+    ensures { IfOk result (λ e. e ≡ position_code access.now.tensor access.now.vars) }
+{
+    match access.vars.as_slice() {
+        [] => Ok(KExpr::Num(0)),
+        [first, rest @ ..] => position_of_rest(
+            alloc,
+            access.tensor as u64,
+            KExpr::Var(*first as u64),
+            rest,
+        ),
+    }
+}
+
+/// The value of an access.
+fn value_of(alloc: Global, access: &Access) -> Result<KExpr, AllocError>
+    ensures { IfOk result (λ e. e ≡ access_code access.now) }
+{
+    let position = position_of(alloc, access)?;
+    let value = word_at(alloc, Arr::Values(access.tensor as u64), position)?;
+    Ok(value)
+}
+
+/// A product, times the values of more accesses.
+fn product_of_rest(alloc: Global, product: KExpr, accesses: &[Access]) -> Result<KExpr, AllocError>
+    ensures { IfOk result (λ e. e ≡ product_after product accesses.now) }
+{
+    let mut product = product;
+    for access in accesses {
+        let value = value_of(alloc, access)?;
+        product = binary(alloc, Op::Mul, product, value)?;
+    }
+    Ok(product)
+}
+
+/// The product of the accesses' values.
+fn product_of(alloc: Global, accesses: &[Access]) -> Result<KExpr, AllocError>
+    ensures { IfOk result (λ e. e ≡ product_code accesses.now) }
+{
+    match accesses {
+        [] => Ok(KExpr::Num(1)),
+        [first, rest @ ..] => {
+            let value = value_of(alloc, first)?;
+            product_of_rest(alloc, value, rest)
+        }
+    }
+}
+
+/// A loop of a variable over its whole range.
+fn loop_over(alloc: Global, var: u64, body: Items<KStmt>) -> Result<Items<KStmt>, AllocError>
+    ensures { IfOk result (λ code. code ≡ loop_code var body) }
+{
+    let next = binary(alloc, Op::Add, KExpr::Var(var), KExpr::Num(1))?;
+    let mut body = body;
+    body.push(KStmt::Set(var, next))?;
+    let range = word_at(alloc, Arr::Range, KExpr::Num(var))?;
+    let test = binary(alloc, Op::Less, KExpr::Var(var), range)?;
+    let mut code = one_statement(alloc, KStmt::Set(var, KExpr::Num(0)))?;
+    code.push(KStmt::While(LoopKind::Merge, test, body))?;
+    Ok(code)
+}
+
+/// Loops of the first `count` variables over their whole ranges, one in another.
+fn loops_over(alloc: Global, count: u64, body: Items<KStmt>) -> Result<Items<KStmt>, AllocError>
+    ensures { IfOk result (λ code. code ≡ loops_code 0 count body) }
+{
+    let mut code = body;
+    let mut var = count;
+    while var > 0 {
+        var -= 1;
+        code = loop_over(alloc, var, code)?;
+    }
+    Ok(code)
+}
+
+/// A kernel for a statement whose right side is a product of accesses and whose formats are all dense:
+/// loops over the whole ranges of all variables, in standing order, which add each product at its place.
+pub fn compile(alloc: Global, statement: &Statement) -> Result<Kernel, AllocError>
+    ensures body { IfOk result (λ kernel. kernel.body ≡ loops_code 0 (length statement.now.vars) (body_code statement.now.left statement.now.accesses)) }
+    ensures workspaces { IfOk result (λ kernel. kernel.workspaces ≡ []) }
+{
+    let place = position_of(alloc, &statement.left)?;
+    let product = product_of(alloc, statement.accesses.as_slice())?;
+    let body = one_statement(alloc, KStmt::AddTo(Arr::Values(0), place, product))?;
+    let body = loops_over(alloc, statement.vars.len() as u64, body)?;
+    Ok(Kernel {
+        workspaces: Items::new(alloc),
+        lists: 0,
+        body,
+    })
+}
