@@ -4,6 +4,9 @@ use Rattle.outside.specs.Count.{Rose}
 use Rattle.outside.specs.Folder.{appended}
 use Rattle.taco_top.specs.Answer.{Answer, Done, NotBuilt, Usage, ReadFault, WriteFault, Memory, status_of_answer, line_of}
 use Rattle.taco_top.specs.Puts.{PutsFront, PutsLine, SinkState}
+use Rattle.std.specs.Prelude.{String}
+use Rattle.std.specs.declared.alloc.Global.{Global}
+use Rattle.taco_top.specs.Built.{IsResultText, NotBuiltAt, IsOperandPath}
 use Rattle.taco_top.specs.Reads.{FolderState, IsReadFault}
 
 -- a sink is as before
@@ -13,31 +16,33 @@ pub record SinkStays (old new : SinkState) : Type 0 where
   pub faults_are : new.faults ≡ old.faults
   pub wants_are : new.wants ≡ old.wants
 
--- some text was appended whole, and nothing is kept back
-pub record PutsText (old new : SinkState) : Type 0 where
+-- the result's text was appended whole, and nothing is kept back
+pub record PutsResult (words : List (String Global)) (files : FolderState) (old new : SinkState) : Type 0 where
   pub text : List ℕ
+  pub text_is : IsResultText files.holds words text
   pub written_is : new.written ≡ appended old.written text
   pub finished : new.unfinished ≡ false
 
--- a part of some text, at its front, was appended
-pub record PutsPart (old new : SinkState) : Type 0 where
+-- a part of the result's text, at its front, was appended
+pub record PutsPart (words : List (String Global)) (files : FolderState) (old new : SinkState) : Type 0 where
   pub text : List ℕ
+  pub text_is : IsResultText files.holds words text
   pub puts : PutsFront old.written new.written text
 
 -- why an answer comes, and what stands on the output for results after it
-abbrev pub Cause : FolderState → FolderState → SinkState → SinkState → Answer → Type 0
-Cause files files' out out' Done = PutsText out out'
-Cause files files' out out' NotBuilt = SinkStays out out'
-Cause files files' out out' Usage = SinkStays out out'
-Cause files files' out out' (ReadFault path) = SinkStays out out' × IsReadFault files files' path
-Cause files files' out out' WriteFault = PutsPart out out' × Rose out.faults out'.faults
-Cause files files' out out' Memory = SinkStays out out' ⊎ (PutsPart out out' × Rose out.wants out'.wants)
+abbrev pub Cause : List (String Global) → FolderState → FolderState → SinkState → SinkState → Answer → Type 0
+Cause words files files' out out' Done = PutsResult words files out out'
+Cause words files files' out out' NotBuilt = SinkStays out out' × NotBuiltAt files.holds words
+Cause words files files' out out' Usage = SinkStays out out'
+Cause words files files' out out' (ReadFault path) = SinkStays out out' × (IsOperandPath files.holds words path × IsReadFault files files' path)
+Cause words files files' out out' WriteFault = PutsPart words files out out' × Rose out.faults out'.faults
+Cause words files files' out out' Memory = SinkStays out out' ⊎ (PutsPart words files out out' × Rose out.wants out'.wants)
 
 -- a call with this status gave this answer: it has its cause, and the output for refusals grew by its line
-pub record Ends (files files' : FolderState) (out out' err err' : SinkState) (status : ℕ) : Type 0 where
+pub record Ends (words : List (String Global)) (files files' : FolderState) (out out' err err' : SinkState) (status : ℕ) : Type 0 where
   pub answer : Answer
   pub status_is : status ≡ status_of_answer answer
-  pub cause : Cause files files' out out' answer
+  pub cause : Cause words files files' out out' answer
   pub line : PutsLine err err' (line_of answer)
 
 -- why an answer comes where the result's text is written, and what stands then

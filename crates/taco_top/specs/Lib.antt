@@ -1,6 +1,9 @@
-pub mod Fault
-pub mod Text
+pub mod SmallCoords
+pub mod Stands
+pub mod WordLaws
+pub mod Built
 pub mod Puts
 pub mod Answer
 pub mod Reads
 pub mod Ends
+pub mod EndLaws

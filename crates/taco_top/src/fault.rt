@@ -1,6 +1,5 @@
 ghost use Rattle.std.specs.Prelude.{◌≡◌};
-ghost use Rattle.taco_top.specs.Fault.{fault_of};
-ghost use Rattle.taco_top.specs.declared.fault.Unread.TheVariants.{Memory};
+ghost use Rattle.taco_top.specs.declared.fault.Fault.TheVariants.{Memory};
 
 use std::alloc::{AllocError, AllocFailed};
 use thiserror::Error;
@@ -25,39 +24,19 @@ pub enum Fault<'a> {
     Memory,
 }
 
-/// Why a part of the input isn't taken.
-#[derive(Debug, Drop)]
-pub enum Unread {
-    /// It isn't of the form that is built so far.
-    NotBuilt,
-    /// Want of memory.
-    Memory,
-}
+/// Want of memory in any part ends the command.
+impl<'a> From<AllocError> for Fault<'a> {
+    ghost from_gives = { λ _ fault. fault ≡ Memory };
 
-impl From<AllocError> for Unread {
-    ghost from_gives = { λ _ unread. unread ≡ Memory };
-
-    fn from(_error: AllocError) -> Unread {
-        Unread::Memory
+    fn from(_error: AllocError) -> Fault<'a> {
+        Fault::Memory
     }
 }
 
-impl<T: Drop> From<AllocFailed<T>> for Unread {
-    ghost from_gives = { λ _ unread. unread ≡ Memory };
+impl<'a, T: Drop> From<AllocFailed<T>> for Fault<'a> {
+    ghost from_gives = { λ _ fault. fault ≡ Memory };
 
-    fn from(_error: AllocFailed<T>) -> Unread {
-        Unread::Memory
-    }
-}
-
-/// What a part of the input that isn't taken means for the whole command.
-impl<'a> From<Unread> for Fault<'a> {
-    ghost from_gives = { λ unread fault. fault ≡ fault_of unread };
-
-    fn from(unread: Unread) -> Fault<'a> {
-        match unread {
-            Unread::NotBuilt => Fault::NotBuilt,
-            Unread::Memory => Fault::Memory,
-        }
+    fn from(_error: AllocFailed<T>) -> Fault<'a> {
+        Fault::Memory
     }
 }

@@ -1,10 +1,11 @@
-ghost use Rattle.std.specs.Prelude.{◌≤◌};
+ghost use Rattle.std.specs.Prelude.{◌≤◌, IfOk};
 ghost use Rattle.taco_top.specs.Answer.{answer_of};
-ghost use Rattle.taco_top.specs.Reads.{OnlyReads, ReadCause, folder_state};
+ghost use Rattle.taco_top.specs.Built.{IsOperand};
+ghost use Rattle.taco_top.specs.Reads.{OnlyReads, FileCause, folder_state};
 ghost use Rattle.limits.specs.Limits.{greatest_order};
 
 use crate::fault::Fault;
-use crate::lines::read_entries;
+use narrow_files::read_entries;
 use outside::{Folder, ReadStop, read_through};
 use std::alloc::Global;
 use tensor_map::Entries;
@@ -19,7 +20,8 @@ pub fn read_file<'a, F: Folder>(
 ) -> Result<Entries, Fault<'a>>
     requires { order ≤ greatest_order }
     ensures only_reads { OnlyReads F.holds F.writing F.unfinished F.read_faults F.write_faults F.wants files.old files.new }
-    ensures cause { ReadCause (folder_state F.holds F.read_faults F.faulted files.old) (folder_state F.holds F.read_faults F.faulted files.new) (answer_of result) }
+    ensures operand { IfOk result (IsOperand order (F.holds files.old path.now)) }
+    ensures cause { FileCause order path.now (folder_state F.holds F.read_faults F.faulted files.old) (folder_state F.holds F.read_faults F.faulted files.new) (answer_of result) }
 {
     let mut text = Vec::new(alloc);
     match read_through(files, path, limits::greatest_bytes_of_file(), &mut text) {
@@ -28,5 +30,8 @@ pub fn read_file<'a, F: Folder>(
         Err(ReadStop::FileBytes) => return Err(Fault::NotBuilt),
         Err(ReadStop::Memory(_)) => return Err(Fault::Memory),
     }
-    Ok(read_entries(alloc, text.as_slice(), order)?)
+    match read_entries(alloc, text.as_slice(), order)? {
+        Some(entries) => Ok(entries),
+        None => Err(Fault::NotBuilt),
+    }
 }

@@ -3,21 +3,13 @@
 //! crate above makes the real ones.
 #![tactic(auto)]
 
-mod compiler;
 mod fault;
 mod files;
-mod lines;
-mod machine;
-mod names;
-mod operands;
-mod printing;
+mod laws;
 mod put;
-mod ranges;
-mod text;
-mod tokens;
 mod top;
-mod words;
 
+pub use laws::whole_input_is_computed;
 pub use top::taco;
 
 #[cfg(test)]

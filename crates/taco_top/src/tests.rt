@@ -20,7 +20,7 @@ fn words(alloc: Global, rest: &[&str]) -> Result<Vec<String>, AllocError> {
 }
 
 // A folder with the two files of the first run.
-fn two_files(alloc: Global) -> Result<MemFolder, Fail> {
+fn two_files(alloc: Global) -> Result<MemFolder, AllocError> {
     let mut files = MemFolder::new(alloc);
     files.add_file("a.tns", b"1 1 2\n2 3 -1\n")?;
     files.add_file("x.tns", b"1 5\n3 7\n")?;
@@ -223,4 +223,24 @@ fn a_failing_err_changes_no_status(rt: HostRuntime) -> Result<(), Fail> {
         assert_eq!(rt; err.written(), written.as_bytes());
     }
     Ok(())
+}
+
+// The status of the first run, and what it wrote. The words and files are made first.
+fn first_run(alloc: Global) -> Result<(u8, Vec<u8>), AllocError> {
+    let words = words(alloc, &["run", PRODUCT, "A=a.tns", "x=x.tns"])?;
+    let mut files = two_files(alloc)?;
+    let mut out = MemSink::new(alloc);
+    let mut err = MemSink::new(alloc);
+    let status = taco(alloc, words.as_slice(), &mut files, &mut out, &mut err);
+    let mut written = Vec::new(alloc);
+    written.extend_from_slice(out.written())?;
+    Ok((status, written))
+}
+
+#[test]
+fn right_file_or_no_memory(rt: HostRuntime) {
+    if let Ok((status, written)) = first_run(rt.alloc()) {
+        assert!(rt; status == 0 || status == 5);
+        assert!(rt; status == 5 || written.as_slice() == b"1 10\n2 -7\n".as_slice());
+    }
 }

@@ -1,30 +1,33 @@
-ghost use Rattle.std.specs.Prelude.{◌≡◌, ◌≤◌, ◌↔◌, length, false, All, IsTrue, OnOk, OnErr, codes, string_bytes};
+ghost use Rattle.std.specs.Prelude.{◌≡◌, ◌≤◌, ◌<◌, ◌+◌, ◌↔◌, ℕ, List, length, map, false, All, IsTrue, IfOk, MatchOption, OnOk, OnErr, codes, string_bytes};
 ghost use Rattle.outside.specs.Folder.{appended};
 ghost use Rattle.outside.specs.Refusal.{IsNotAbsent, CountsFailed, CountsMemory};
 ghost use Rattle.taco_top.specs.Answer.{Usage, IsRun, answer_of, answer_of_fault, status_of_answer};
+ghost use Rattle.taco_top.specs.Built.{AreRead, IsBuiltLine, IsFilesText, IsResultText, IsTextOf, IsValuesText};
 ghost use Rattle.taco_top.specs.Puts.{PutsFront, sink_state};
-ghost use Rattle.taco_top.specs.Reads.{OnlyReads, ReadCause, folder_state};
+ghost use Rattle.taco_top.specs.Reads.{OnlyReads, FilesCause, LineCause, OperandsCause, ReadCause, folder_state};
 ghost use Rattle.taco_top.specs.Ends.{Cause, WriteCause, Ends};
+ghost use Rattle.taco_top.specs.SmallCoords.{first_order};
+ghost use Rattle.index_notation.specs.Text.{IsBuiltText};
+ghost use Rattle.index_notation.specs.declared.syntax.Statement.{Statement};
 ghost use Rattle.limits.specs.Limits.{greatest_order};
-ghost use Rattle.taco_top.specs.Text.{KeepsLimits};
+ghost use Rattle.range_loops.specs.Computes.{AllFit, IsComputable, operand_ranges};
 
-use crate::compiler::compile;
-use crate::fault::{Fault, Unread};
+use crate::fault::Fault;
 use crate::files::read_file;
-use crate::machine::run;
-use crate::printing::text_of;
 use crate::put::{put_all, put_fault};
-use crate::text::read_text;
-use crate::words::read_words;
 use index_notation::{Access, Statement};
+use narrow_files::text_of;
+use narrow_text::{read_text, read_words};
 use outside::{Folder, Refusal, Sink};
-use std::alloc::Global;
+use range_loops::compute;
+use std::alloc::{AllocError, Global};
 use tensor_map::Entries;
 
 /// The number of variables of a tensor's accesses.
 fn order_of(accesses: &[Access], tensor: usize) -> usize
     requires { All (λ access. length access.vars ≤ greatest_order) accesses.now }
-    ensures { result ≤ greatest_order }
+    ensures is { result ≡ first_order accesses.now tensor }
+    ensures small { result ≤ greatest_order }
 {
     for access in accesses {
         if access.tensor == tensor {
@@ -38,34 +41,87 @@ fn order_of(accesses: &[Access], tensor: usize) -> usize
 fn read_operands<'a, F: Folder>(
     alloc: Global,
     files: &mut F,
-    statement: &Statement,
+    accesses: &[Access],
     paths: &[&'a str],
 ) -> Result<Vec<Entries>, Fault<'a>>
-    requires { KeepsLimits statement.now }
+    requires { All (λ access. length access.vars ≤ greatest_order) accesses.now }
     ensures only_reads { OnlyReads F.holds F.writing F.unfinished F.read_faults F.write_faults F.wants files.old files.new }
-    ensures cause { ReadCause (folder_state F.holds F.read_faults F.faulted files.old) (folder_state F.holds F.read_faults F.faulted files.new) (answer_of result) }
+    ensures operands { IfOk result (λ operands. AreRead (F.holds files.old) accesses.now 1 operands.items (map (λ path. path.now) paths.now) × (length operands.items ≡ length paths.now)) }
+    ensures cause { OperandsCause accesses.now (map (λ path. path.now) paths.now) (folder_state F.holds F.read_faults F.faulted files.old) (folder_state F.holds F.read_faults F.faulted files.new) (answer_of result) }
 {
     let mut operands = Vec::new(alloc);
     for (n, path) in paths.iter().enumerate() {
-        let order = order_of(statement.accesses.as_slice(), n + 1);
+        let order = order_of(accesses, n + 1);
         match read_file(alloc, files, *path, order) {
-            Ok(entries) => {
-                if operands.push(entries).is_err() {
-                    return Err(Fault::Memory);
-                }
-            }
+            Ok(entries) => operands.push(entries)?,
             Err(fault) => return Err(fault),
         }
     }
     Ok(operands)
 }
 
-/// The text of the result of a statement on its operands: a kernel is made, and run.
-fn compute(alloc: Global, statement: &Statement, operands: &[Entries]) -> Result<Vec<u8>, Unread> {
-    let kernel = compile(alloc, statement)?;
-    let result = run(alloc, statement, &kernel, operands)?;
-    let text = text_of(alloc, result.values.as_slice(), result.sizes.as_slice())?;
-    Ok(text)
+/// The text of the result of a statement on its operands, or none where a level would have more positions
+/// than may be.
+fn values_text(
+    alloc: Global,
+    statement: &Statement,
+    operands: &[Entries],
+) -> Result<Option<Vec<u8>>, AllocError>
+    requires { IsComputable statement.now operands.now }
+    ensures { IfOk result (λ text. MatchOption text (AllFit statement.now operands.now (operand_ranges statement.now operands.now) → ⊥)
+        (λ text. AllFit statement.now operands.now (operand_ranges statement.now operands.now) × IsValuesText statement.now operands.now text.items)) }
+{
+    match compute(alloc, statement, operands)? {
+        Some(dense) => Ok(Some(text_of(alloc, dense.values.as_slice(), dense.sizes.as_slice())?)),
+        None => Ok(None),
+    }
+}
+
+/// The text of the statement's values over the files of these paths.
+fn files_text<'a, F: Folder>(
+    alloc: Global,
+    files: &mut F,
+    statement: &Statement,
+    paths: &[&'a str],
+) -> Result<Vec<u8>, Fault<'a>>
+    requires built { (text : List ℕ) × IsBuiltText text statement.now }
+    requires count { length statement.now.tensors ≡ length paths.now + 1 }
+    ensures only_reads { OnlyReads F.holds F.writing F.unfinished F.read_faults F.write_faults F.wants files.old files.new }
+    ensures text { IfOk result (λ text. IsFilesText (F.holds files.old) statement.now (map (λ path. path.now) paths.now) text.items) }
+    ensures cause { FilesCause statement.now (map (λ path. path.now) paths.now) (folder_state F.holds F.read_faults F.faulted files.old) (folder_state F.holds F.read_faults F.faulted files.new) (answer_of result) }
+{
+    match read_operands(alloc, files, statement.accesses.as_slice(), paths) {
+        Ok(operands) => match values_text(alloc, statement, operands.as_slice())? {
+            Some(text) => Ok(text),
+            None => Err(Fault::NotBuilt),
+        },
+        Err(fault) => Err(fault),
+    }
+}
+
+/// The statement of the command line.
+fn read_statement(alloc: Global, words: &[String]) -> Result<Option<Statement>, AllocError>
+    requires { IsRun words.now }
+    ensures { IfOk result (λ s. MatchOption s ((s : Statement) → IsTextOf words.now s → ⊥) (IsTextOf words.now)) }
+{
+    read_text(alloc, words[2].as_bytes())
+}
+
+/// The statement and the operands' paths of the command line.
+fn read_line<'a>(alloc: Global, words: &'a [String]) -> Result<(Statement, Vec<&'a str>), Fault<'a>>
+    requires { IsRun words.now }
+    ensures line { IfOk result (λ line. IsBuiltLine words.now line.0 (map (λ path. path.now) line.1.items)) }
+    ensures cause { LineCause words.now (answer_of result) }
+{
+    match read_statement(alloc, words)? {
+        Some(statement) => {
+            match read_words(alloc, statement.tensors.as_slice(), words.split_at(3).1)? {
+                Some(paths) => Ok((statement, paths)),
+                None => Err(Fault::NotBuilt),
+            }
+        }
+        None => Err(Fault::NotBuilt),
+    }
 }
 
 /// The text of the result.
@@ -76,12 +132,11 @@ fn result_of<'a, F: Folder>(
 ) -> Result<Vec<u8>, Fault<'a>>
     requires { IsRun words.now }
     ensures only_reads { OnlyReads F.holds F.writing F.unfinished F.read_faults F.write_faults F.wants files.old files.new }
-    ensures cause { ReadCause (folder_state F.holds F.read_faults F.faulted files.old) (folder_state F.holds F.read_faults F.faulted files.new) (answer_of result) }
+    ensures text { IfOk result (λ text. IsResultText (F.holds files.old) words.now text.items) }
+    ensures cause { ReadCause words.now (folder_state F.holds F.read_faults F.faulted files.old) (folder_state F.holds F.read_faults F.faulted files.new) (answer_of result) }
 {
-    let statement = read_text(alloc, words[2].as_bytes())?;
-    let paths = read_words(alloc, statement.tensors.as_slice(), &words[3..])?;
-    match read_operands(alloc, files, &statement, paths.as_slice()) {
-        Ok(operands) => Ok(compute(alloc, &statement, operands.as_slice())?),
+    match read_line(alloc, words) {
+        Ok((statement, paths)) => files_text(alloc, files, &statement, paths.as_slice()),
         Err(fault) => Err(fault),
     }
 }
@@ -138,7 +193,7 @@ fn run_words<'a, F: Folder, O: Sink>(
 ) -> Result<(), Fault<'a>>
     ensures only_reads { OnlyReads F.holds F.writing F.unfinished F.read_faults F.write_faults F.wants files.old files.new }
     ensures usage { (answer_of result ≡ Usage) ↔ ¬ IsRun words.now }
-    ensures cause { Cause (folder_state F.holds F.read_faults F.faulted files.old) (folder_state F.holds F.read_faults F.faulted files.new) (sink_state O.written O.unfinished O.faults O.wants out.old) (sink_state O.written O.unfinished O.faults O.wants out.new) (answer_of result) }
+    ensures cause { Cause words.now (folder_state F.holds F.read_faults F.faulted files.old) (folder_state F.holds F.read_faults F.faulted files.new) (sink_state O.written O.unfinished O.faults O.wants out.old) (sink_state O.written O.unfinished O.faults O.wants out.new) (answer_of result) }
 {
     if !is_run(words) {
         return Err(Fault::Usage);
@@ -179,7 +234,7 @@ pub fn taco<F: Folder, O: Sink, E: Sink>(
     ensures only_reads { OnlyReads F.holds F.writing F.unfinished F.read_faults F.write_faults F.wants files.old files.new }
 
     // The status has its cause, the result's stream holds what the status says, and `err` grew by its line.
-    ensures answers { Ends (folder_state F.holds F.read_faults F.faulted files.old) (folder_state F.holds F.read_faults F.faulted files.new)
+    ensures answers { Ends words.now (folder_state F.holds F.read_faults F.faulted files.old) (folder_state F.holds F.read_faults F.faulted files.new)
         (sink_state O.written O.unfinished O.faults O.wants out.old) (sink_state O.written O.unfinished O.faults O.wants out.new)
         (sink_state E.written E.unfinished E.faults E.wants err.old) (sink_state E.written E.unfinished E.faults E.wants err.new) result }
 {

@@ -1,4 +1,3 @@
-use Rattle.std.proofs.Common.{drop}
 use Rattle.std.proofs.Common.{subst, sym}
 use Rattle.taco_top.specs.Puts.{PutsSoFar, puts_nothing, puts_more}
 use Rattle.taco_top.proofs.put.put_all.Goals as goal

@@ -1,5 +1,4 @@
-use Rattle.std.proofs.Common.{◌≡◌, ◌++◌, length, List, ℕ}
-use Rattle.outside.specs.Folder.{appended}
+use Rattle.std.proofs.Common.{length}
 use Rattle.taco_top.specs.Puts.{PutsSoFar}
 use Rattle.taco_top.proofs.put.put_all.Given as goal
 

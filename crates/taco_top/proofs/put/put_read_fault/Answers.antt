@@ -1,4 +1,4 @@
-use Rattle.std.proofs.Common.{◌++◌, ◌≡◌, subst, sym, List, ℕ}
+use Rattle.std.proofs.Common.{◌++◌, ◌≡◌, subst, List, ℕ}
 use Rattle.std.specs.Prelude.{codes, OnOk, OnErr}
 use Rattle.outside.specs.Folder.{appended}
 use Rattle.taco_top.specs.Puts.{PutsLess, less_of_first, less_of_second, both_whole, on_ok_then, on_err_then}
