@@ -2,10 +2,12 @@
 //! sizes of its tensors' modes, and the values of a tensor at all its positions.
 #![tactic(auto)]
 
+mod checks;
 mod levels;
 mod ranges;
 mod sizes;
 
+pub use checks::are_operands;
 pub use levels::{positions_of, values_of};
 pub use ranges::ranges_of;
 pub use sizes::sizes_of;

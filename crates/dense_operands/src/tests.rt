@@ -1,8 +1,7 @@
-ghost use Rattle.std.specs.Prelude.{◌≡◌, [], ◌∷◌, All, IfOk, length};
+ghost use Rattle.std.specs.Prelude.{[], ◌∷◌, All, IfOk};
 ghost use Rattle.tns_io.specs.Positions.{IsBelow};
-ghost use Rattle.dense_operands.specs.Operands.{HaveSmallCoords};
 
-use crate::{positions_of, ranges_of, sizes_of, values_of};
+use crate::{are_operands, positions_of, ranges_of, sizes_of, values_of};
 use index_notation::{Access, Expr, Name, Statement};
 use std::alloc::{AllocError, Global};
 use std::test::Fail;
@@ -26,9 +25,7 @@ fn positions_of_some_sizes(rt: HostRuntime) {
     }
 }
 
-fn names(alloc: Global) -> Result<Items<Name>, AllocError>
-    ensures { IfOk result (λ names. length names ≡ 2) }
-{
+fn names(alloc: Global) -> Result<Items<Name>, AllocError> {
     let first = Name {
         bytes: Items::new(alloc),
     };
@@ -38,22 +35,28 @@ fn names(alloc: Global) -> Result<Items<Name>, AllocError>
     Ok(Items::from_vec(vec![in alloc; first, second]?))
 }
 
-fn access(alloc: Global, tensor: usize, vars: &[usize]) -> Result<Access, AllocError>
-    ensures tensor { IfOk result (λ access. access.tensor ≡ tensor) }
-    ensures vars { IfOk result (λ access. access.vars ≡ vars.now) }
-{
+fn access(alloc: Global, tensor: usize, vars: &[usize]) -> Result<Access, AllocError> {
     Ok(Access {
         tensor,
         vars: Items::from_slice(alloc, vars)?,
     })
 }
 
+// y(i) = A(i,j), with another right side
+fn statement(alloc: Global, tensor: usize, vars: &[usize]) -> Result<Statement, AllocError> {
+    Ok(Statement {
+        tensors: names(alloc)?,
+        vars: names(alloc)?,
+        left: access(alloc, 0, &[0])?,
+        accesses: Items::from_vec(vec![in alloc; access(alloc, tensor, vars)?]?),
+        expr: Expr::Access(0),
+    })
+}
+
 // A has 5 and 2 at (0, 1) and 7 at (2, 0)
-#[tactic(auto, unfolding(limits::specs::Limits::greatest_order, limits::specs::Limits::greatest_position_count))]
+#[tactic(auto, unfolding(limits::specs::Limits::greatest_order))]
 fn matrix(alloc: Global) -> Result<Entries, AllocError>
-    ensures order { IfOk result (λ entries. entries.order ≡ 2) }
-    ensures small { IfOk result HaveSmallCoords }
-    ensures below { IfOk result (λ entries. All (λ entry. IsBelow (3 ∷ 4 ∷ []) entry.coords) entries.list) }
+    ensures { IfOk result (λ entries. All (λ entry. IsBelow (3 ∷ 4 ∷ []) entry.coords) entries.list) }
 {
     let mut entries = Entries::new(alloc, 2)?;
     entries.push(&[0, 1], 5)?;
@@ -76,22 +79,39 @@ fn values_of_a_matrix(rt: HostRuntime) -> Result<(), Fail> {
     Ok(())
 }
 
-// y(i) = A(i,j)
 #[test]
-#[tactic(auto, unfolding(limits::specs::Limits::greatest_order, limits::specs::Limits::greatest_variables))]
 fn ranges_of_a_matrix(rt: HostRuntime) -> Result<(), Fail> {
     let alloc = rt.alloc();
-    let statement = Statement {
-        tensors: names(alloc)?,
-        vars: names(alloc)?,
-        left: access(alloc, 0, &[0])?,
-        accesses: Items::from_vec(vec![in alloc; access(alloc, 1, &[0, 1])?]?),
-        expr: Expr::Access(0),
-    };
+    let statement = statement(alloc, 1, &[0, 1])?;
     let operands = vec![in alloc; matrix(alloc)?]?;
+    assert!(rt; are_operands(&statement, operands.as_slice()));
     let ranges = ranges_of(alloc, &statement, operands.as_slice())?;
     assert_eq!(rt; ranges.as_slice(), [3, 2].as_slice());
     let sizes = sizes_of(alloc, &statement, ranges.as_slice(), 1, 2)?;
     assert_eq!(rt; sizes.as_slice(), [3, 2].as_slice());
+    Ok(())
+}
+
+#[test]
+#[tactic(auto, unfolding(limits::specs::Limits::greatest_order))]
+fn operands_that_fit(rt: HostRuntime) -> Result<(), Fail> {
+    let alloc = rt.alloc();
+    // The access, the second coordinate of the operand's entry, and whether the operand fits.
+    let table: [(usize, &[usize], u64, bool); 6] = [
+        (1, &[0, 1], 2_147_483_646, true),
+        (1, &[0, 1], 2_147_483_647, false),
+        (1, &[0], 0, false),
+        (1, &[0, 2], 0, false),
+        (0, &[0, 1], 0, false),
+        (2, &[0, 1], 0, false),
+    ];
+    for (tensor, vars, coordinate, fits) in table {
+        let statement = statement(alloc, tensor, vars)?;
+        let mut entries = Entries::new(alloc, 2)?;
+        entries.push(&[1, coordinate], 3)?;
+        let operands = vec![in alloc; entries]?;
+        let told = are_operands(&statement, operands.as_slice());
+        assert_eq!(rt; told, fits, "{tensor} {vars:?} {coordinate}");
+    }
     Ok(())
 }

@@ -8,6 +8,7 @@ use denote.Hole.Carrier.{hidden}
 use Rattle.numbers.specs.Arithmetic.{Arithmetic, Laws}
 use Rattle.numbers.specs.Sums.{total_of}
 use Rattle.index_notation.specs.Statement.{Each, numbers_from, IsNumbered, IsWellNamed}
+use Rattle.index_notation.specs.Numbering.{product_of}
 use Rattle.index_notation.specs.declared.syntax.Access.{Access}
 use Rattle.index_notation.specs.declared.syntax.Statement.{Statement}
 use Rattle.index_notation.specs.declared.syntax.Expr.{Expr}
@@ -16,7 +17,7 @@ use Rattle.expr_terms.specs.Points.{point_of, sum_over}
 use Rattle.expr_terms.specs.PointLaws.{unequal, sum_over_same, sum_over_fits}
 use Rattle.expr_terms.specs.Value.{access_value, access_value_or_zero, value_of}
 use Rattle.expr_terms.specs.ValueLaws.{AreWords, access_or_zero_fits}
-use Rattle.expr_terms.specs.Products.{product_of, product_from, product_of_values, stands_at, IsProduct}
+use Rattle.expr_terms.specs.Products.{product_from, product_of_values, stands_at, IsProduct}
 use Rattle.expr_terms.specs.Terms.{terms, plain_term, contains, is_at_access, stands_in, is_own, own_variables, term_sum, statement_value}
 
 pub product_more : (a : Arithmetic) (x : ℕ) (ys : List ℕ) (y : ℕ) → product_from a x (ys ++ y ∷ []) ≡ a.times (product_from a x ys) y

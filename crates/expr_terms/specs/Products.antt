@@ -1,17 +1,11 @@
 -- A right side that is the product of all its accesses.
-use Rattle.std.specs.Prelude.{◌≡◌, ℕ, zero, suc, ◌<◌, Bool, true, List, [], ◌∷◌, length}
+use Rattle.std.specs.Prelude.{◌≡◌, ℕ, ◌<◌, Bool, true, List, [], ◌∷◌, length}
 use Rattle.std.specs.List.{list_any}
 use Rattle.numbers.specs.Arithmetic.{Arithmetic}
 use Rattle.index_notation.specs.declared.syntax.Access.{Access}
-use Rattle.index_notation.specs.declared.syntax.Expr.{Expr, Num, Access as AccessOf, Mul}
 use Rattle.index_notation.specs.declared.syntax.Statement.{Statement}
+use Rattle.index_notation.specs.Numbering.{product_of}
 use Rattle.expr_terms.specs.Terms.{contains}
-
--- the product of the accesses 0 to n - 1, grouped to the left
-abbrev pub product_of : ℕ → Expr
-product_of zero = Num 1
-product_of (suc zero) = AccessOf 0
-product_of (suc (suc n)) = Mul (product_of (suc n)) (AccessOf (suc n))
 
 -- the product of some values, grouped to the left, and one where there is none
 abbrev pub product_from : Arithmetic → ℕ → List ℕ → ℕ

@@ -3,12 +3,13 @@ ghost use Rattle.std.specs.Prelude.{◌≡◌, ℕ, ◌-◌, ◌<◌, ◌^◌, B
 ghost use Rattle.numbers.specs.Arithmetic.{Arithmetic, Laws, MinusLaws};
 ghost use Rattle.numbers.specs.Sums.{total_of};
 ghost use Rattle.index_notation.specs.Statement.{Each, IsDistinct, IsNumbered, IsWellNamed, numbers_from};
+ghost use Rattle.index_notation.specs.Numbering.{product_of};
 ghost use Rattle.index_notation.specs.declared.syntax.Access.{Access as AnAccess};
 ghost use Rattle.expr_terms.specs.Points.{point_of, sum_over};
 ghost use Rattle.expr_terms.specs.Value.{access_value, value_of, minus};
 ghost use Rattle.expr_terms.specs.ValueLaws.{AgreeAt, AreWords, HasWords};
 ghost use Rattle.expr_terms.specs.Terms.{Term, terms, plain_term, negated_term, contains, stands_in, own_variables, term_value, term_sum, statement_value};
-ghost use Rattle.expr_terms.specs.Products.{product_of, product_of_values, stands_at, IsProduct};
+ghost use Rattle.expr_terms.specs.Products.{product_of_values, stands_at, IsProduct};
 ghost use Rattle.expr_terms.specs.Ranges.{Bound, AtLeast, reach, narrow_ranges, ranges_of, mode_size};
 ghost use Rattle.tensor_map.specs.declared.entries.Entry.{Entry as AnEntry};
 

@@ -4,6 +4,7 @@
 
 mod laws;
 mod lookups;
+mod products;
 mod ranges;
 mod value;
 
@@ -11,6 +12,7 @@ pub use laws::{
     products_are_one_sum, ranges_without_words, results_have_the_left_ranges, sums_change_places,
     terms_add_up, values_are_words, values_depend_on_little,
 };
+pub use products::is_product;
 pub use ranges::{Bound, RangeFault};
 pub use value::value_at;
 

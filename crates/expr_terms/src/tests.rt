@@ -1,9 +1,5 @@
-ghost use Rattle.std.specs.Prelude.{IsTrue, ◌<◌, ◌≤◌, length};
-ghost use Rattle.index_notation.specs.Statement.{Each, IsAccess, AccessesUnder, IsNumbered};
-
-use crate::value_at;
+use crate::{is_product, value_at};
 use index_notation::{Access, Expr, Name, Statement};
-use limits::{greatest_order_of_tensor, greatest_variables_of_statement};
 use std::alloc::{AllocError, Global};
 use std::process::Abort;
 use std::test::Fail;
@@ -34,13 +30,14 @@ struct Row {
     ranges: &'static [u64],
     coords: &'static [u64],
     value: u64,
+    is_product: bool,
 }
 
 const ONE_AND_TWO: &[Line] = &[(&[0], 1), (&[1], 2)];
 
 const MATRIX: &[Line] = &[(&[0, 1], 4), (&[1, 0], 2), (&[1, 2], 5), (&[1, 2], 1)];
 
-const ROWS: [Row; 8] = [
+const ROWS: [Row; 9] = [
     Row {
         name: "a = b(i) + 5",
         vars: 1,
@@ -51,6 +48,7 @@ const ROWS: [Row; 8] = [
         ranges: &[2],
         coords: &[],
         value: 8,
+        is_product: false,
     },
     Row {
         name: "a = 2 * (b(i) + 5)",
@@ -68,6 +66,7 @@ const ROWS: [Row; 8] = [
         ranges: &[2],
         coords: &[],
         value: 26,
+        is_product: false,
     },
     Row {
         name: "a = 2 - 3 * -4",
@@ -86,6 +85,7 @@ const ROWS: [Row; 8] = [
         ranges: &[],
         coords: &[],
         value: 14,
+        is_product: false,
     },
     Row {
         name: "a = -(b(i) - 5)",
@@ -97,6 +97,7 @@ const ROWS: [Row; 8] = [
         ranges: &[2],
         coords: &[],
         value: 2,
+        is_product: false,
     },
     Row {
         name: "y(i) = A(i,j) * x(j), first row",
@@ -108,6 +109,7 @@ const ROWS: [Row; 8] = [
         ranges: &[2, 3],
         coords: &[0],
         value: 28,
+        is_product: true,
     },
     Row {
         name: "y(i) = A(i,j) * x(j), second row",
@@ -119,6 +121,7 @@ const ROWS: [Row; 8] = [
         ranges: &[2, 3],
         coords: &[1],
         value: 66,
+        is_product: true,
     },
     Row {
         name: "y(i) = b(i) - c(j)",
@@ -130,6 +133,7 @@ const ROWS: [Row; 8] = [
         ranges: &[2, 3],
         coords: &[1],
         value: 5,
+        is_product: false,
     },
     Row {
         name: "y(i) = 3, past what is listed",
@@ -141,6 +145,19 @@ const ROWS: [Row; 8] = [
         ranges: &[7],
         coords: &[6],
         value: 3,
+        is_product: false,
+    },
+    Row {
+        name: "y(i) = x(j)",
+        vars: 2,
+        left: &[0],
+        accesses: &[&[1]],
+        steps: &[Step::Access(0)],
+        operands: &[ONE_AND_TWO],
+        ranges: &[3, 2],
+        coords: &[2],
+        value: 3,
+        is_product: false,
     },
 ];
 
@@ -215,54 +232,6 @@ fn entries_of(
     Ok(entries)
 }
 
-fn are_below(numbers: &[usize], bound: usize) -> bool
-    ensures { IsTrue result → Each (λ v. v < bound) numbers.now }
-{
-    let Some((first, others)) = numbers.split_first() else {
-        return true;
-    };
-    *first < bound && are_below(others, bound)
-}
-
-fn is_access(access: &Access, tensors: usize, vars: usize) -> bool
-    ensures { IsTrue result → IsAccess tensors vars access.now }
-{
-    access.tensor < tensors
-        && access.vars.len() as u64 <= greatest_order_of_tensor()
-        && are_below(access.vars.as_slice(), vars)
-}
-
-fn are_accesses(accesses: &[Access], tensors: usize, vars: usize) -> bool
-    ensures { IsTrue result → Each (IsAccess tensors vars) accesses.now }
-{
-    let Some((first, others)) = accesses.split_first() else {
-        return true;
-    };
-    is_access(first, tensors, vars) && are_accesses(others, tensors, vars)
-}
-
-fn is_under(expr: &Expr, count: usize) -> bool
-    ensures { IsTrue result → AccessesUnder count expr.now }
-{
-    match expr {
-        Expr::Num(_) => true,
-        Expr::Access(n) => *n < count,
-        Expr::Add(first, second) => is_under(first.get(), count) && is_under(second.get(), count),
-        Expr::Sub(first, second) => is_under(first.get(), count) && is_under(second.get(), count),
-        Expr::Mul(first, second) => is_under(first.get(), count) && is_under(second.get(), count),
-        Expr::Neg(inner) => is_under(inner.get(), count),
-    }
-}
-
-fn is_numbered(s: &Statement) -> bool
-    ensures { IsTrue result → IsNumbered s.now }
-{
-    is_access(&s.left, s.tensors.len(), s.vars.len())
-        && are_accesses(s.accesses.as_slice(), s.tensors.len(), s.vars.len())
-        && is_under(&s.expr, s.accesses.len())
-        && s.vars.len() as u64 <= greatest_variables_of_statement()
-}
-
 #[test]
 fn laws_hold(_rt: HostRuntime) {
     crate::sums_change_places();
@@ -287,7 +256,8 @@ fn values_are_those_computed_by_hand(rt: HostRuntime) -> Result<(), Fail> {
                 .map_or(0, |access| access.vars.len());
             operands.push(entries_of(&rt, alloc, order, lines)?)?;
         }
-        assert!(rt; is_numbered(&statement));
+        assert_eq!(rt; is_product(&statement), row.is_product, "{}", row.name);
+        assert!(rt; statement.is_numbered());
         let value = value_at(
             alloc,
             &statement,

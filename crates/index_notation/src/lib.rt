@@ -4,6 +4,7 @@
 //! between texts and statements: the tokens of a text, the sentence that they are, and its numbering.
 #![tactic(auto)]
 
+mod checks;
 mod laws;
 mod sentence;
 mod syntax;

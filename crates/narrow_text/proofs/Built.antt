@@ -1,21 +1,20 @@
 -- A text is built exactly where its sentence is short and its statement passes the checks.
-use Rattle.std.specs.Prelude.{◌≡◌, ◌≢◌, ◌↔◌, IsTrue, true, false, ℕ, zero, suc, ◌+◌, ◌<◌, ◌≤◌, List, [], ◌∷◌, length, map, All, EachIndex, slice_index, get_or, refl}
+use Rattle.std.specs.Prelude.{◌≡◌, ◌↔◌, IsTrue, true, false, ℕ, ◌<◌, ◌≤◌, List, [], ◌∷◌, length, map, All, refl}
 use Rattle.std.proofs.Common.{sym, ◌∙◌, ap, subst, arith}
 use Rattle.std.proofs.lemmas.List.{length-map}
 use Rattle.std.proofs.lemmas.List.Elements.{All-cons, All-head, All-tail, All-nil}
 use Rattle.limits.specs.Limits.{greatest_order, greatest_accesses, greatest_text_bytes}
 use Rattle.index_notation.specs.declared.syntax.Name.{Name}
-use Rattle.index_notation.specs.declared.syntax.Access.{Access}
 use Rattle.index_notation.specs.declared.syntax.Statement.{Statement}
 use Rattle.index_notation.specs.declared.sentence.Token.{Token}
 use Rattle.index_notation.specs.declared.sentence.WrittenAccess.{WrittenAccess}
 use Rattle.index_notation.specs.declared.sentence.Sentence.{Sentence}
-use Rattle.index_notation.specs.Statement.{Each, IsDistinct, numbers_from, IsAccess, IsNumbered, HaveOneOrder, IsWellNamed}
+use Rattle.index_notation.specs.Statement.{Each, IsAccess, IsNumbered}
 use Rattle.index_notation.specs.Tokens.{IsTokens}
 use Rattle.index_notation.specs.TokenLaws.{tokens_once}
 use Rattle.index_notation.specs.Sentence.{sentence_tokens}
 use Rattle.index_notation.specs.Numbering.{place_of, numbered, product_of, statement_of}
-use Rattle.index_notation.specs.NumberingLaws.{same_self, place_here, statement_is_numbered}
+use Rattle.index_notation.specs.NumberingLaws.{statement_is_numbered}
 use Rattle.index_notation.specs.Text.{StandsOnTheRight, IsBuiltText}
 use Rattle.index_notation.specs.TextLaws.{text_is_statement_of}
 use Rattle.narrow_text.specs.Checks.{IsShort, StandsIn, Passes}
@@ -28,44 +27,6 @@ all_of_each : {A : Type 0} (P : A → Type 0) (xs : List A) → Each P xs → Al
 all_of_each P [] h = All-nil P
 all_of_each P (x ∷ xs) h = All-cons P x xs h.0 (all_of_each P xs h.1)
 
-each_as : {A : Type 0} (P Q : A → Type 0) → ((x : A) → P x → Q x) → (xs : List A) → Each P xs → Each Q xs
-each_as P Q f [] h = tt
-each_as P Q f (x ∷ xs) h = (f x h.0, each_as P Q f xs h.1)
-
--- numbers one after another
-above : (low n count : ℕ) → low < n → Each (λ y. low ≢ y) (numbers_from n count)
-above low n zero h = tt
-above low n (suc count) h = ((λ e. omega arith), above low (n + 1) count (omega arith))
-
-numbers_are_distinct : (n count : ℕ) → IsDistinct (numbers_from n count)
-numbers_are_distinct n zero = tt
-numbers_are_distinct n (suc count) = (above n (n + 1) count (omega arith), numbers_are_distinct (n + 1) count)
-
-numbers_at : (xs : List ℕ) (n : ℕ) → ((k : ℕ) → k < length xs → get_or xs k 0 ≡ n + k) → xs ≡ numbers_from n (length xs)
-numbers_at [] n h = refl
-numbers_at (x ∷ xs) n h =
-    let first : x ≡ n = h 0 (omega arith) ∙ (omega arith) in
-    let others : xs ≡ numbers_from (n + 1) (length xs) = numbers_at xs (n + 1) (λ k lt. h (suc k) (omega arith) ∙ omega arith) in
-    cc
-
-at_numbers : (n count k : ℕ) → k < count → get_or (numbers_from n count) k 0 ≡ n + k
-at_numbers n zero k h = absurd (omega arith)
-at_numbers n (suc count) zero h = omega arith
-at_numbers n (suc count) (suc k) h = at_numbers (n + 1) count k (omega arith) ∙ omega arith
-
-standing_of : (xs : List ℕ) → EachIndex xs (λ k. slice_index xs k ≡ k) → xs ≡ numbers_from 0 (length xs)
-standing_of xs h = numbers_at xs 0 (λ k lt. h k lt ∙ omega arith)
-
-of_standing : (xs : List ℕ) → xs ≡ numbers_from 0 (length xs) → EachIndex xs (λ k. slice_index xs k ≡ k)
-of_standing xs e k lt = ap (λ (row : List ℕ). get_or row k 0) e ∙ at_numbers 0 (length xs) k lt ∙ omega arith
-
--- the result has one order with what isn't read
-apart : (left : Access) → left.tensor ≡ 0 → (a : Access) → a.tensor ≢ 0 → HaveOneOrder left a
-apart left e a h same = absurd (h (sym same ∙ e))
-
-result_first : (w : Sentence) → (statement_of w).left.tensor ≡ 0
-result_first w = place_here w.left.name w.left.name _ (same_self w.left.name)
-
 stands_on : (s : Statement) → All (StandsIn s.accesses) s.left.vars → Each (StandsOnTheRight s) s.left.vars
 unfolding StandsIn
 stands_on s h = each_of_all (StandsOnTheRight s) s.left.vars h
@@ -74,26 +35,10 @@ stands_in : (s : Statement) → Each (StandsOnTheRight s) s.left.vars → All (S
 unfolding StandsIn
 stands_in s h = all_of_each (StandsOnTheRight s) s.left.vars h
 
-well_named_of : (s : Statement) → s.left.tensor ≡ 0 → Passes s → IsWellNamed s
-well_named_of s first p =
-    let unread = each_of_all (λ (a : Access). a.tensor ≢ 0) s.accesses p.unread in
-    let standing = standing_of s.left.vars p.standing in
-    record {
-      result = first;
-      unread = unread;
-      orders = (each_as (λ (a : Access). a.tensor ≢ 0) (HaveOneOrder s.left) (apart s.left first) s.accesses unread, p.orders);
-      left_once = subst IsDistinct (sym standing) (numbers_are_distinct 0 (length s.left.vars));
-      right_once = each_of_all (λ (a : Access). IsDistinct a.vars) s.accesses p.right_once;
-      standing = standing;
-    }
-
 passes_of : (text : List ℕ) (s : Statement) → IsBuiltText text s → Passes s
 passes_of text s h = record {
   variables = h.numbers_stand.variables;
-  unread = all_of_each (λ (a : Access). a.tensor ≢ 0) s.accesses h.well_named.unread;
-  orders = h.well_named.orders.1;
-  right_once = all_of_each (λ (a : Access). IsDistinct a.vars) s.accesses h.well_named.right_once;
-  standing = of_standing s.left.vars h.well_named.standing;
+  named = h.well_named;
   left_on_the_right = stands_in s h.left_on_the_right;
 }
 
@@ -129,7 +74,7 @@ built_of text w few tokens short p =
       some_access = omega arith;
       product = ap product_of (sym count);
       numbers_stand = statement_is_numbered w short.left short_right p.variables;
-      well_named = well_named_of s (result_first w) p;
+      well_named = p.named;
       left_on_the_right = stands_on s p.left_on_the_right;
     }
 

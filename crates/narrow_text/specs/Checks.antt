@@ -1,10 +1,10 @@
 -- What a sentence, and then its statement, is tested for.
-use Rattle.std.specs.Prelude.{◌≡◌, ◌≢◌, ℕ, ◌≤◌, ◌∷◌, List, length, All, Any, Contains, EachIndex, slice_index}
+use Rattle.std.specs.Prelude.{ℕ, ◌≤◌, ◌∷◌, List, length, All, Any, Contains}
 use Rattle.limits.specs.Limits.{greatest_order, greatest_variables, greatest_accesses}
 use Rattle.index_notation.specs.declared.syntax.Access.{Access}
 use Rattle.index_notation.specs.declared.syntax.Statement.{Statement}
 use Rattle.index_notation.specs.declared.sentence.Sentence.{Sentence}
-use Rattle.index_notation.specs.Statement.{IsDistinct, HaveOrders}
+use Rattle.index_notation.specs.Statement.{IsWellNamed}
 
 -- no more accesses, and variables of one access, than may stand in a statement
 pub record IsShort (sentence : Sentence) : Type 0 where
@@ -19,8 +19,5 @@ StandsIn accesses var = Any (λ access. Contains access.vars var) accesses
 
 pub record Passes (s : Statement) : Type 0 where
   pub variables : length s.vars ≤ greatest_variables
-  pub unread : All (λ access. access.tensor ≢ 0) s.accesses
-  pub orders : HaveOrders s.accesses
-  pub right_once : All (λ access. IsDistinct access.vars) s.accesses
-  pub standing : EachIndex s.left.vars (λ k. slice_index s.left.vars k ≡ k)
+  pub named : IsWellNamed s
   pub left_on_the_right : All (StandsIn s.accesses) s.left.vars

@@ -1,5 +1,4 @@
-ghost use Rattle.std.specs.Prelude.{◌≡◌, ◌≢◌, ◌↔◌, All, EachIndex, slice_index, IsTrue};
-ghost use Rattle.index_notation.specs.Statement.{IsDistinct, HaveOneOrder, HaveOrders};
+ghost use Rattle.std.specs.Prelude.{◌↔◌, All, IsTrue};
 ghost use Rattle.narrow_text.specs.Checks.{IsShort, StandsIn, Passes};
 
 use index_notation::{Access, Sentence, Statement};
@@ -19,49 +18,6 @@ pub fn is_short(sentence: &Sentence) -> bool
             .all(|access| access.vars.len() as u64 <= order)
 }
 
-/// Whether no variable stands twice.
-fn is_distinct(vars: &[usize]) -> bool
-    ensures { IsTrue result ↔ IsDistinct vars.now }
-{
-    let mut rest = vars;
-    while let Some((var, behind)) = rest.split_first() {
-        if behind.contains(var) {
-            return false;
-        }
-        rest = behind;
-    }
-    true
-}
-
-/// Whether an access has as many variables as each of the others of its tensor.
-fn has_one_order(access: &Access, others: &[Access]) -> bool
-    ensures { IsTrue result ↔ All (HaveOneOrder access.now) others.now }
-{
-    let order = access.vars.len();
-    others.iter().all(|other| other.tensor != access.tensor || other.vars.len() == order)
-}
-
-/// Whether the accesses of each tensor have one number of variables.
-fn have_orders(accesses: &[Access]) -> bool
-    ensures { IsTrue result ↔ HaveOrders accesses.now }
-{
-    let mut rest = accesses;
-    while let Some((access, behind)) = rest.split_first() {
-        if !has_one_order(access, behind) {
-            return false;
-        }
-        rest = behind;
-    }
-    true
-}
-
-/// Whether the variables are numbered 0, 1 and so on, which is where none of the left side's stands twice.
-fn is_standing(vars: &[usize]) -> bool
-    ensures { IsTrue result ↔ EachIndex vars.now (λ k. slice_index vars.now k ≡ k) }
-{
-    vars.iter().enumerate().all(|(i, var)| *var == i)
-}
-
 /// Whether a variable stands in one of these accesses.
 #[tactic(auto, unfolding(crate::specs::Checks::StandsIn))]
 fn stands_in(accesses: &[Access], var: usize) -> bool
@@ -70,22 +26,6 @@ fn stands_in(accesses: &[Access], var: usize) -> bool
     accesses
         .iter()
         .any(|access| access.vars.as_slice().contains(&var))
-}
-
-/// Whether the result isn't read.
-fn is_unread(accesses: &[Access]) -> bool
-    ensures { IsTrue result ↔ All (λ access. access.tensor ≢ 0) accesses.now }
-{
-    accesses.iter().all(|access| access.tensor != 0)
-}
-
-/// Whether no access has a variable twice.
-fn are_distinct(accesses: &[Access]) -> bool
-    ensures { IsTrue result ↔ All (λ access. IsDistinct access.vars) accesses.now }
-{
-    accesses
-        .iter()
-        .all(|access| is_distinct(access.vars.as_slice()))
 }
 
 /// Whether each of these variables stands in one of these accesses.
@@ -103,9 +43,6 @@ pub fn passes(statement: &Statement) -> bool
     let accesses = statement.accesses.as_slice();
     let left = statement.left.vars.as_slice();
     statement.vars.len() as u64 <= limits::greatest_variables_of_statement()
-        && is_unread(accesses)
-        && have_orders(accesses)
-        && are_distinct(accesses)
-        && is_standing(left)
+        && statement.is_well_named()
         && stand_in(accesses, left)
 }

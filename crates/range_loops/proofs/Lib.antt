@@ -6,3 +6,4 @@ pub mod MachineStates
 pub mod RangesAre
 pub mod OperandLemmas
 pub mod Ready
+pub mod Reading

@@ -3,9 +3,14 @@
 //! the compiler of sparse formats.
 #![tactic(auto)]
 
+mod checks;
 mod compiler;
 mod loading;
 mod loops;
 mod sizing;
 
+pub use checks::is_computable;
 pub use loops::{Dense, compute};
+
+#[cfg(test)]
+mod tests;

@@ -5,17 +5,16 @@ use Rattle.std.proofs.Common.{sym, ◌∙◌, ap, subst, true≢false, inl, inr,
 use Rattle.std.proofs.lemmas.List.Folds.{list_any_at, list_any-from_Any}
 use Rattle.index_notation.specs.declared.syntax.Name.{Name}
 use Rattle.index_notation.specs.declared.syntax.Access.{Access}
-use Rattle.index_notation.specs.declared.syntax.Expr.{Access as AccessOf, Mul}
 use Rattle.index_notation.specs.declared.syntax.Statement.{Statement}
 use Rattle.index_notation.specs.declared.sentence.WrittenAccess.{WrittenAccess}
 use Rattle.index_notation.specs.declared.sentence.Sentence.{Sentence}
 use Rattle.index_notation.specs.Statement.{Each}
 use Rattle.index_notation.specs.Text.{IsBuiltText, StandsOnTheRight}
-use Rattle.index_notation.specs.Numbering.{is_same, place_of, without, distinct, name_of, accesses_of, variables_of, numbered, product_of, statement_of}
+use Rattle.index_notation.specs.Numbering.{is_same, place_of, without, distinct, name_of, accesses_of, variables_of, numbered, statement_of}
 use Rattle.index_notation.specs.NumberingLaws.{Stands, yes, no, tested, same_names, same_self, place_here, place_later, stands_here, stands_later, stands_behind, without_drops, without_keeps}
 use Rattle.narrow_text.specs.Words.{HaveWords, IsBuiltWords}
 use Rattle.expr_terms.specs.Terms.{contains}
-use Rattle.expr_terms.specs.Products.{product_of as product_of_accesses, stands_at, IsProduct}
+use Rattle.expr_terms.specs.Products.{stands_at, IsProduct}
 use Rattle.range_loops.specs.Computes.{IsRead}
 
 -- no name of a row stands behind itself
@@ -137,12 +136,6 @@ contains_is ns v h = list_any_at (λ n. nat_eq n v) ns h.0 v h.1 (ap (λ n. nat_
 any_stands : (accesses : List Access) (v : ℕ) → Any (λ access. Contains access.vars v) accesses → stands_at accesses v ≡ true
 any_stands accesses v h = list_any-from_Any (λ access. contains access.vars v) accesses (h.0, h.1, h.2, h.3, contains_is h.1.vars v h.4)
 
--- both products of so many accesses are one
-same_products : (n : ℕ) → 0 < n → product_of n ≡ product_of_accesses n
-same_products zero h = absurd (omega arith)
-same_products (suc zero) h = refl
-same_products (suc (suc n)) h = ap (λ e. Mul e (AccessOf (suc n))) (same_products (suc n) (omega arith))
-
 -- each variable of a sentence's statement stands on the right, if those of the left side do
 sentence_stands : (w : Sentence) → Each (StandsOnTheRight (statement_of w)) (statement_of w).left.vars → (v : ℕ) → v < length (statement_of w).vars → stands_at (statement_of w).accesses v ≡ true
 sentence_stands w left v l =
@@ -158,7 +151,7 @@ sentence_stands w left v l =
 -- the statement of a text that is built is a product, in which each variable stands
 pub built_is_product : (text : List ℕ) (s : Statement) → IsBuiltText text s → IsProduct s
 built_is_product text s built = record {
-  expr = built.product ∙ same_products (length s.accesses) built.some_access;
+  expr = built.product;
   some = built.some_access;
   each = subst (λ s. Each (StandsOnTheRight s) s.left.vars → (v : ℕ) → v < length s.vars → stands_at s.accesses v ≡ true) (sym built.text_is.is) (sentence_stands built.text_is.sentence) built.left_on_the_right;
 }

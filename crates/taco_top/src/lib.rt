@@ -14,3 +14,5 @@ pub use top::taco;
 
 #[cfg(test)]
 mod tests;
+#[cfg(test)]
+mod value_tests;

@@ -1,5 +1,5 @@
 use Rattle.std.specs.Prelude.{length}
-use Rattle.expr_terms.proofs.tests.+are_below.Given as goal
+use Rattle.index_notation.proofs.checks.+are_below.Given as goal
 
 abbrev pub decreases-are_below : goal.decreases-are_below
 decreases-are_below l = length l.numbers.now

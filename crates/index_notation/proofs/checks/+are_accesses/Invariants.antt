@@ -1,5 +1,5 @@
 use Rattle.std.specs.Prelude.{length}
-use Rattle.expr_terms.proofs.tests.+are_accesses.Given as goal
+use Rattle.index_notation.proofs.checks.+are_accesses.Given as goal
 
 abbrev pub decreases-are_accesses : goal.decreases-are_accesses
 decreases-are_accesses l = length l.accesses.now
