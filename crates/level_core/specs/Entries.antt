@@ -1,0 +1,70 @@
+-- The entries below a parent of a level: its coordinates, each with the span of positions that are its children.
+use Rattle.std.specs.Prelude.{◌≡◌, ◌≢◌, ◌⊎◌, ℕ, ◌+◌, ◌≤◌, ◌<◌, nat_le, nat_lt, ◌==◌, ◌&&◌, if◌then◌else◌, List, [], ◌∷◌, Option, Some, None}
+pub use Rattle.level_core.specs.declared.span.Span.{Span}
+pub use Rattle.level_core.specs.declared.span.Entry.{Entry}
+
+abbrev pub span : ℕ → ℕ → Span
+span lo hi = record { lo = lo; hi = hi }
+
+-- one position
+abbrev pub one : ℕ → Span
+one p = span p (p + 1)
+
+-- the position is in the span
+abbrev pub IsIn : ℕ → Span → Type 0
+IsIn pos s = (s.lo ≤ pos) × (pos < s.hi)
+
+-- the child spans stand in order from pos to hi, none empty and none over another
+abbrev pub Placed : ℕ → ℕ → List Entry → Type 0
+Placed pos hi [] = pos ≤ hi
+Placed pos hi (e ∷ es) = (pos ≤ e.child.lo) × (e.child.lo < e.child.hi) × Placed e.child.hi hi es
+
+-- from pos to hi the child spans follow one another with nothing between them
+abbrev pub Tiles : ℕ → ℕ → List Entry → Type 0
+Tiles pos hi [] = pos ≡ hi
+Tiles pos hi (e ∷ es) = (e.child.lo ≡ pos) × (pos < e.child.hi) × Tiles e.child.hi hi es
+
+-- the coordinates rise, from at least `least` on
+abbrev pub Rising : ℕ → List Entry → Type 0
+Rising least [] = Unit {0}
+Rising least (e ∷ es) = (least ≤ e.coord) × Rising (e.coord + 1) es
+
+-- each coordinate is below n
+abbrev pub AllBelow : ℕ → List Entry → Type 0
+AllBelow n [] = Unit {0}
+AllBelow n (e ∷ es) = (e.coord < n) × AllBelow n es
+
+-- no entry has the coordinate
+abbrev pub Lacks : ℕ → List Entry → Type 0
+Lacks x [] = Unit {0}
+Lacks x (e ∷ es) = (e.coord ≢ x) × Lacks x es
+
+-- no coordinate stands twice
+abbrev pub Distinct : List Entry → Type 0
+Distinct [] = Unit {0}
+Distinct (e ∷ es) = Lacks e.coord es × Distinct es
+
+-- each coordinate has one child position
+abbrev pub Single : List Entry → Type 0
+Single [] = Unit {0}
+Single (e ∷ es) = (e.child.hi ≡ e.child.lo + 1) × Single es
+
+-- the entry stands in the list, and its first position is pos
+abbrev pub StandsAt : ℕ → Entry → List Entry → Type 0
+StandsAt pos e [] = ⊥
+StandsAt pos e (f ∷ es) = ((f.child.lo ≡ pos) × (f ≡ e)) ⊎ StandsAt pos e es
+
+-- the coordinate that has the position as a child, if there is one
+abbrev pub coord_at : List Entry → ℕ → Option ℕ
+coord_at [] pos = None
+coord_at (e ∷ es) pos = if nat_le e.child.lo pos && nat_lt pos e.child.hi then Some e.coord else coord_at es pos
+
+-- the first child position of the coordinate, if it is there
+abbrev pub position_of : List Entry → ℕ → Option ℕ
+position_of [] x = None
+position_of (e ∷ es) x = if e.coord == x then Some e.child.lo else position_of es x
+
+-- the second list has the coordinate x with the child position slot, and else what the first has
+pub record Gains (x slot : ℕ) (es fs : List Entry) : Type 0 where
+  pub has : position_of fs x ≡ Some slot
+  pub others : (y : ℕ) → y ≢ x → position_of fs y ≡ position_of es y

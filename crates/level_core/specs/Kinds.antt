@@ -1,0 +1,47 @@
+-- The kinds of levels: their properties and capabilities, and what the properties say of entries.
+use Rattle.std.specs.Prelude.{◌≡◌, ℕ, ◌+◌, ◌-◌, ◌≤◌, ◌<◌, true, false, List, length, Some}
+use Rattle.limits.specs.Limits.{greatest_position_count}
+pub use Rattle.level_core.specs.declared.letter.Letter.{Letter}
+pub use Rattle.level_core.specs.declared.letter.Letter.TheVariants.{Dense, Compressed, CompressedGroups, Singleton, SingletonGroups, Hashed}
+pub use Rattle.level_core.specs.declared.letter.Properties.{Properties}
+pub use Rattle.level_core.specs.declared.letter.Capabilities.{Capabilities}
+use Rattle.level_core.specs.Entries.{Span, Entry, Placed, Tiles, Rising, AllBelow, Lacks, Distinct, Single, position_of}
+
+abbrev pub properties : Letter → Properties
+properties Dense = record { full = true; ordered = true; unique = true; branchless = false; compact = true }
+properties Compressed = record { full = false; ordered = true; unique = true; branchless = false; compact = true }
+properties CompressedGroups = record { full = false; ordered = true; unique = false; branchless = false; compact = true }
+properties Singleton = record { full = false; ordered = true; unique = true; branchless = true; compact = true }
+properties SingletonGroups = record { full = false; ordered = true; unique = false; branchless = true; compact = true }
+properties Hashed = record { full = false; ordered = false; unique = true; branchless = false; compact = false }
+
+abbrev pub capabilities : Letter → Capabilities
+capabilities Dense = record { coordinate_iteration = true; position_iteration = false; locate = true; insert = true; append = false }
+capabilities Compressed = record { coordinate_iteration = false; position_iteration = true; locate = false; insert = false; append = true }
+capabilities CompressedGroups = record { coordinate_iteration = false; position_iteration = true; locate = false; insert = false; append = true }
+capabilities Singleton = record { coordinate_iteration = false; position_iteration = true; locate = false; insert = false; append = true }
+capabilities SingletonGroups = record { coordinate_iteration = false; position_iteration = true; locate = false; insert = false; append = true }
+capabilities Hashed = record { coordinate_iteration = false; position_iteration = true; locate = true; insert = true; append = false }
+
+-- what the properties say of the entries below a parent, whose positions are those of the segment, where n is the range
+pub record HaveProperties (p : Properties) (n : ℕ) (parent segment : Span) (es : List Entry) : Type 0 where
+  pub full : p.full ≡ true → (x : ℕ) → x < n → (pos : ℕ) × position_of es x ≡ Some pos
+  pub ordered : p.ordered ≡ true → Rising 0 es
+  pub unique : p.unique ≡ true → Single es
+  pub branchless : p.branchless ≡ true → parent.hi ≡ parent.lo + 1 → length es ≡ 1
+  pub compact : p.compact ≡ true → Tiles segment.lo segment.hi es
+
+-- what is true of the entries below each allowed parent of a level of every kind: the range and all positions are
+-- within the limit, the coordinates are below the range and none stands twice, and the children of each stand in the segment
+pub record AreEntries (p : Properties) (n : ℕ) (parent segment : Span) (es : List Entry) : Type 0 where
+  pub within : n ≤ greatest_position_count
+  pub positions : segment.hi ≤ greatest_position_count
+  pub below : AllBelow n es
+  pub distinct : Distinct es
+  pub placed : Placed segment.lo segment.hi es
+  pub properties : HaveProperties p n parent segment es
+
+-- a coordinate below the range n may be inserted: where a level isn't full, one that isn't there yet, while a position is free
+pub record MayInsert (letter : Letter) (n : ℕ) (segment : Span) (es : List Entry) (x : ℕ) : Type 0 where
+  pub below : x < n
+  pub free : (properties letter).full ≡ false → Lacks x es × (length es < segment.hi - segment.lo)

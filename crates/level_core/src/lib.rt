@@ -1,0 +1,26 @@
+//! The level interface: a level of a tensor's storage maps each position of the level above to positions of
+//! its own, and these to coordinates. `specs/Entries.antt` says what stands below a parent, `specs/Kinds.antt`
+//! what the kinds of levels promise of it, `specs/Logs.antt` what appending leaves and `specs/Fragments.antt`
+//! what the code of a kind does. Everything above the levels is proved over the traits of `level` and
+//! `writing` alone; `walk` is the plain program over them.
+#![tactic(auto)]
+
+mod fragments;
+mod laws;
+mod letter;
+mod level;
+mod span;
+mod stage;
+#[cfg(test)]
+mod tests;
+mod walking;
+mod writing;
+
+pub use fragments::{argument, leave_one, leave_two, word_at};
+pub use laws::edges_tell_segments;
+pub use letter::{Capabilities, Letter, Properties, caps_of, props_of};
+pub use level::{Level, LevelKind};
+pub use span::{Entry, Span};
+pub use stage::Stage;
+pub use walking::walk;
+pub use writing::{Append, Insert};
