@@ -1,0 +1,4 @@
+pub mod Codes
+pub mod Skips
+pub mod Spans
+pub mod Words
