@@ -1,0 +1,55 @@
+ghost use Rattle.std.specs.Prelude.{◌≡◌, ◌≤◌, [], IfOk};
+ghost use Rattle.limits.specs.Limits.{greatest_position_count};
+
+use coordinate_lists::Indices;
+use level_core::Stage;
+use std::alloc::{AllocError, Global};
+use std::marker::Model;
+
+/// A compressed level: a parent has the positions from where the last parent's end to where its own end, and
+/// each position has a coordinate. Where the level is unique (letter `s`) the coordinates of a parent rise
+/// strictly; else (`u`) they never fall, and equal ones in a row are a group.
+#[derive(Drop)]
+pub struct CompressedLevel {
+    pub(crate) size: u64,
+    pub(crate) unique: bool,
+    pub(crate) stage: Stage,
+    /// One more than there are parents. Until the level is finished, the number of positions of each parent
+    /// behind a zero; then where each parent's positions begin, and the end of the last.
+    pub(crate) ends: Indices,
+    pub(crate) coords: Indices,
+    /// The least parent that may be given positions.
+    pub(crate) next: u64,
+}
+
+impl Model for CompressedLevel {
+    ghost use Rattle.compressed_level.specs.Compressed.{CompressedLevel as Level, KeepsRules, IsStored, log_in};
+
+    ghost Value = { Level };
+
+    ghost view = { λ l. record { size = l.size; unique = l.unique; log = log_in l.stage l.ends.items l.coords.items l.next; spare = l.coords.spare } };
+
+    ghost invariant = { λ l. KeepsRules (record { size = l.size; unique = l.unique; log = log_in l.stage l.ends.items l.coords.items l.next; spare = l.coords.spare }) × IsStored l.stage l.ends.items };
+}
+
+impl CompressedLevel {
+    ghost use Rattle.compressed_level.specs.Compressed.{fresh};
+
+    /// A level without parents, for coordinates below `n`. Refused for want of memory alone.
+    pub fn new(alloc: Global, n: u64, unique: bool) -> Result<CompressedLevel, AllocError>
+        requires { n ≤ greatest_position_count }
+        ensures { IfOk result (λ l. l ≡ fresh n unique) }
+    {
+        let mut ends = Indices::new(alloc);
+        ends.reserve(1)?;
+        ends.push(0);
+        Ok(CompressedLevel {
+            size: n,
+            unique,
+            stage: Stage::Fresh,
+            ends,
+            coords: Indices::new(alloc),
+            next: 0,
+        })
+    }
+}

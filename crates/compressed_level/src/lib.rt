@@ -1,0 +1,14 @@
+//! Compressed levels: the coordinates of each parent stand one after another in a list, and a second list
+//! tells where they end. `specs/Compressed.antt` has the rules.
+#![tactic(auto)]
+
+mod appending;
+mod code;
+mod compressed;
+mod kind;
+mod reading;
+mod sums;
+#[cfg(test)]
+mod tests;
+
+pub use compressed::CompressedLevel;
