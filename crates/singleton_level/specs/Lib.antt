@@ -1,0 +1,4 @@
+pub mod CodeLaws
+pub mod LevelLaws
+pub mod RuleLaws
+pub mod Singleton

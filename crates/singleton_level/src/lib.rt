@@ -1,0 +1,12 @@
+//! Singleton levels: each position of the level above has one coordinate, at the same position, and they stand in a list.
+//! `specs/Singleton.antt` has the rules.
+#![tactic(auto)]
+
+mod appending;
+mod kind;
+mod reading;
+mod singleton;
+#[cfg(test)]
+mod tests;
+
+pub use singleton::SingletonLevel;
