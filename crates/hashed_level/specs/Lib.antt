@@ -1,0 +1,12 @@
+pub mod ArrayNames
+pub mod Code
+pub mod CodeLaws
+pub mod Hashed
+pub mod HashedLaws
+pub mod Slots
+pub mod OrderLaws
+pub mod RowLaws
+pub mod SearchCode
+pub mod SearchLaws
+pub mod SlotLaws
+pub mod Widths

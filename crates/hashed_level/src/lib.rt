@@ -1,0 +1,17 @@
+//! Hashed levels: each parent has a block of slots, and a coordinate stands in the first free one from where it
+//! is sought. `specs/Slots.antt` says what a block is and how a coordinate is sought there, and
+//! `specs/Hashed.antt` what a level of such blocks holds.
+#![tactic(auto)]
+
+mod code;
+mod fragments;
+mod hashed;
+mod laws;
+mod reading;
+mod slots;
+#[cfg(test)]
+mod tests;
+mod widths;
+
+pub use hashed::HashedLevel;
+pub use laws::increasing_inserts_keep_order;

@@ -1,0 +1,38 @@
+use crate::hashed::HashedLevel;
+use level_core::{Insert, Level, Span};
+use std::alloc::AllocError;
+
+impl Level for HashedLevel {
+    fn tell_rules(&self) {
+        self.know_rules();
+    }
+
+    fn segment(&self, parent: Span) -> Span {
+        self.block_of(parent.lo)
+    }
+
+    fn coord(&self, pos: u64) -> Option<u64> {
+        self.coordinate_at(pos)
+    }
+
+    fn child(&self, pos: u64, _segment: Span) -> Span {
+        Span {
+            lo: pos,
+            hi: pos + 1,
+        }
+    }
+
+    fn locate(&self, parent: u64, x: u64) -> Option<u64> {
+        self.position_below(parent, x)
+    }
+}
+
+impl Insert for HashedLevel {
+    fn prepare(&mut self, parents: u64, most: u64) -> Result<(), AllocError> {
+        self.make_blocks(parents, most)
+    }
+
+    fn insert_coord(&mut self, parent: u64, x: u64) -> u64 {
+        self.put_below(parent, x)
+    }
+}
