@@ -1,4 +1,5 @@
 pub mod Equations
+pub mod GroupLaws
 pub mod Groups
 pub mod Operands
 pub mod PointLaws

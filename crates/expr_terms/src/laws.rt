@@ -9,6 +9,7 @@ ghost use Rattle.expr_terms.specs.Points.{point_of, sum_over};
 ghost use Rattle.expr_terms.specs.Value.{access_value, value_of, minus};
 ghost use Rattle.expr_terms.specs.ValueLaws.{AgreeAt, AreWords, HasWords};
 ghost use Rattle.expr_terms.specs.Terms.{Term, terms, plain_term, negated_term, contains, stands_in, own_variables, term_value, term_sum, statement_value};
+ghost use Rattle.expr_terms.specs.Groups.{groups, group_sum};
 ghost use Rattle.expr_terms.specs.Products.{product_of_values, stands_at, IsProduct};
 ghost use Rattle.expr_terms.specs.Ranges.{Bound, AtLeast, reach, narrow_ranges, ranges_of, mode_size};
 ghost use Rattle.tensor_map.specs.declared.entries.Entry.{Entry as AnEntry};
@@ -51,6 +52,13 @@ pub fn terms_add_up()
     ensures negated { (a : Arithmetic) → Laws a → MinusLaws a → (values : ℕ → List ℕ → ℕ) → AreWords values
         → (accesses : List AnAccess) (p : ℕ → ℕ) (t : Term) → HasWords t.expr
         → term_value a values accesses p (negated_term t) ≡ minus a (term_value a values accesses p t) }
+{}
+
+/// The value of a statement is the total of what its groups add: terms with equal own variables are summed over them
+/// at once.
+pub fn groups_add_up()
+    ensures { (a : Arithmetic) → Laws a → (s : Statement) (values : ℕ → List ℕ → ℕ) (ranges : ℕ → ℕ) (coords : List ℕ)
+        → total_of a (map (group_sum a s values ranges (point_of s.left.vars coords)) (groups s)) ≡ statement_value a s values ranges coords }
 {}
 
 /// A product of accesses in which each variable stands is one term, whose own variables are the numbers after the

@@ -9,8 +9,8 @@ mod ranges;
 mod value;
 
 pub use laws::{
-    products_are_one_sum, ranges_without_words, results_have_the_left_ranges, sums_change_places,
-    terms_add_up, values_are_words, values_depend_on_little,
+    groups_add_up, products_are_one_sum, ranges_without_words, results_have_the_left_ranges,
+    sums_change_places, terms_add_up, values_are_words, values_depend_on_little,
 };
 pub use products::is_product;
 pub use ranges::{Bound, RangeFault};

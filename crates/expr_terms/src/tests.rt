@@ -238,6 +238,7 @@ fn laws_hold(_rt: HostRuntime) {
     crate::values_depend_on_little();
     crate::values_are_words();
     crate::terms_add_up();
+    crate::groups_add_up();
     crate::products_are_one_sum();
     crate::ranges_without_words();
     crate::results_have_the_left_ranges();
