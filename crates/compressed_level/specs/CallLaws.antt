@@ -1,5 +1,5 @@
 -- What the calls that change a compressed level leave in its fields.
-use Rattle.std.specs.Prelude.{◌≡◌, ◌≢◌, ℕ, zero, suc, ◌+◌, ◌-◌, ◌≤◌, ◌<◌, ◌^◌, Bool, List, [], ◌∷◌, ◌++◌, length, take, replicate, slice_get, slice_set, Option, Some, refl}
+use Rattle.std.specs.Prelude.{◌≡◌, ℕ, zero, suc, ◌+◌, ◌-◌, ◌≤◌, ◌<◌, ◌^◌, Bool, List, [], ◌∷◌, ◌++◌, length, replicate, slice_get, slice_set, Some}
 use Rattle.std.proofs.Common.{◌∙◌, sym, ap, subst, arith}
 use Rattle.limits.specs.Limits.{greatest_position_count, positions_are_small}
 use Rattle.level_core.specs.declared.span.Span.{Span}
@@ -7,11 +7,10 @@ use Rattle.level_core.specs.declared.span.Entry.{Entry}
 use Rattle.level_core.specs.declared.stage.Stage.{Stage}
 use Rattle.level_core.specs.declared.stage.Stage.TheVariants.{Unfinished, Finished}
 use Rattle.level_core.specs.Entries.{IsIn, StandsAt, coord_at}
-use Rattle.level_core.specs.Logs.{Log, total, with_parents, with_coord, with_edges, finished, MayReserve, MayAppend, MayGive, MayAppendEdges, MayFinish, entries_between}
+use Rattle.level_core.specs.Logs.{total, with_parents, with_coord, with_edges, finished, MayReserve, MayAppend, MayAppendEdges, MayFinish, entries_between}
 use Rattle.level_core.specs.GroupLaws.{stands_where}
-use Rattle.coordinate_lists.specs.Spans.{Within, IsGroupIn}
-use Rattle.compressed_level.specs.Compressed.{CompressedLevel, letter_of, counts_in, ends_of, IsStored, log_in, running, KeepsRules, IsAllowed, segment_of, entries_of}
-use Rattle.compressed_level.specs.RuleLaws.{logged, keeps_parents, keeps_coord, keeps_edges, keeps_finished, log_of_parents, stored_parents, log_of_edges, stored_edges, log_of_finished, stored_finished, ends_are, unfinished_ends, never_branchless, edges_are}
+use Rattle.compressed_level.specs.Compressed.{CompressedLevel, letter_of, counts_in, IsStored, log_in, running, KeepsRules, IsAllowed, segment_of, entries_of}
+use Rattle.compressed_level.specs.RuleLaws.{logged, keeps_parents, keeps_coord, keeps_edges, keeps_finished, log_of_parents, stored_parents, log_of_edges, stored_edges, log_of_finished, stored_finished, never_branchless}
 use Rattle.compressed_level.specs.LevelLaws.{end_is, coord_is, within_coords, group_in}
 
 -- the level of some fields

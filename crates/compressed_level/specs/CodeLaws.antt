@@ -1,31 +1,31 @@
 -- What the code of compressed levels does.
-use Rattle.std.specs.Prelude.{◌≡◌, ◌≢◌, ℕ, zero, suc, ◌+◌, ◌-◌, ◌≤◌, ◌<◌, ◌^◌, ◌==◌, ◌&&◌, nat_lt, Bool, true, false, if◌then◌else◌, List, [], ◌∷◌, ◌++◌, length, take, replicate, slice_get, slice_set, Option, Some, refl}
+use Rattle.std.specs.Prelude.{◌≡◌, ◌≢◌, ℕ, ◌+◌, ◌-◌, ◌≤◌, ◌<◌, ◌^◌, nat_lt, Bool, true, false, if◌then◌else◌, List, [], ◌∷◌, ◌++◌, length, take, replicate, slice_get, slice_set, Option, Some, refl}
 use Rattle.std.proofs.Common.{◌∙◌, sym, ap, subst, arith}
 use Rattle.std.proofs.lemmas.Bool.Decides.{nat_tests}
 use Rattle.std.proofs.lemmas.List.{append-nil, length-append}
 use Rattle.limits.specs.Limits.{greatest_position_count, positions_are_small}
 use Rattle.kernel_code.specs.declared.syntax.Arr.{Arr}
-use Rattle.kernel_code.specs.declared.syntax.Arr.TheVariants.{Range, Values, Dimension, Ends, Coordinates, Width, Key, Sums, ListCoordinates, ListPositions}
+use Rattle.kernel_code.specs.declared.syntax.Arr.TheVariants.{Ends, Coordinates}
 use Rattle.kernel_code.specs.declared.syntax.Op.TheVariants.{Add, Sub, Less}
 use Rattle.kernel_code.specs.declared.syntax.KExpr.{KExpr, Num, Len, At, Bin}
 use Rattle.kernel_code.specs.declared.syntax.KStmt.{KStmt, Extend}
-use Rattle.kernel_code.specs.Arrays.{same_arr, may_have}
-use Rattle.kernel_code.specs.Meaning.{Setting, State, value, length_of, set_array, word_count, word_count_small}
-use Rattle.kernel_code.specs.Does.{Does, Never, does_nothing, does_put, does_extend, does_if_yes, does_if_no, does_weaker}
-use Rattle.kernel_code.specs.Keeps.{Below, EveryArray, mentions_at, no_turns, leaves_none, leaves_array, other_array, this_array}
+use Rattle.kernel_code.specs.Arrays.{same_arr, may_have, word_count}
+use Rattle.kernel_code.specs.ArrayNames.{same_arr_self}
+use Rattle.kernel_code.specs.Meaning.{Setting, State, value, length_of, set_array}
+use Rattle.kernel_code.specs.Does.{Never, does_nothing, does_put, does_extend, does_if_yes, does_if_no, does_weaker}
+use Rattle.kernel_code.specs.Keeps.{EveryArray, mentions_at, no_turns, leaves_none, leaves_array, other_array, this_array}
 use Rattle.level_core.specs.declared.span.Span.{Span}
 use Rattle.level_core.specs.declared.span.Entry.{Entry}
-use Rattle.level_core.specs.declared.stage.Stage.{Stage}
 use Rattle.level_core.specs.declared.stage.Stage.TheVariants.{Unfinished, Finished}
-use Rattle.level_core.specs.Logs.{Log, total, with_parents, with_coord, with_edges, MayReserve, MayAppend, MayAppendEdges}
-use Rattle.level_core.specs.Fragments.{AreBelow, ValuesAre, IsOf, IsOutside, Reads, Writes, SpanLeft, PassesLimit, child_turns, turns_of}
-use Rattle.level_core.specs.FragmentLaws.{argument_is, word_is, sum_is, difference_is, less_yes, less_no, two_code, span_set}
+use Rattle.level_core.specs.Logs.{Log, total, with_parents, with_coord, with_edges, CodeMayReserve, MayAppend, MayAppendEdges}
+use Rattle.level_core.specs.Fragments.{AreBelow, ValuesAre, IsOutside, Reads, Writes, SpanLeft, PassesLimit, child_turns, turns_of}
+use Rattle.level_core.specs.FragmentLaws.{outside_apart, argument_is, word_is, sum_is, difference_is, less_yes, less_no, two_code, span_set}
 use Rattle.coordinate_lists.specs.Codes.{Appended}
 use Rattle.kernel_code.specs.declared.syntax.LoopKind.TheVariants.{Skip}
 use Rattle.compressed_level.specs.Compressed.{CompressedLevel, letter_of, ends_of, KeepsRules, IsAllowed, segment_of, Holds}
 use Rattle.compressed_level.specs.Code.{reserve_code, edges_code}
 use Rattle.compressed_level.specs.LevelLaws.{end_is}
-use Rattle.compressed_level.specs.RuleLaws.{logged, keeps_parents, keeps_coord, keeps_edges, ends_are, unfinished_ends, ungiven_is, edges_are, never_branchless}
+use Rattle.compressed_level.specs.RuleLaws.{logged, keeps_parents, keeps_coord, keeps_edges, ends_are, unfinished_ends, ungiven_is, edges_are, never_branchless, set_behind}
 
 -- where a parent's positions begin and end is left
 pub segment_law : (c : Setting) (l : CompressedLevel) (tensor level free : ℕ) (parent : Span) (args : List KExpr) (a b : KExpr) (s : State) → slice_get args 0 ≡ Some a → slice_get args 1 ≡ Some b → AreBelow free args
@@ -40,39 +40,13 @@ segment_law c l tensor level free parent args a b s first second below ok held v
     (word_is (Ends tensor level) b (ends_of l.log.stage l.log.counts) parent.hi (total (take parent.hi l.log.counts)) s held.ends y.0 (end_is l parent parent.hi ok (omega arith)))
     (mentions_at (λ y. y < free) EveryArray (Ends tensor level) b tt y.1)
 
-number_same : (n : ℕ) → (n == n) ≡ true
-number_same n = grind (arith, nat_tests)
-
-ends_same : (level : ℕ) → same_arr (Ends 0 level) (Ends 0 level) ≡ true
-ends_same level = number_same level
-
 outside_ends : (level : ℕ) (a : Arr) → IsOutside 0 level a → same_arr (Ends 0 level) a ≡ false
-outside_ends level Range h = refl
-outside_ends level (Values n) h = refl
-outside_ends level (Dimension n k) h = refl
-outside_ends level (Ends n k) h = apart (0 == n) (level == k) refl refl
-  where
-    apart : (p q : Bool) → (0 == n) ≡ p → (level == k) ≡ q → (p && q) ≡ false
-    apart true true e f = absurd (h (same_zero e, same_level f))
-      where
-        same_zero : (0 == n) ≡ true → n ≡ 0
-        same_zero e = grind (arith, nat_tests, e)
-
-        same_level : (level == k) ≡ true → k ≡ level
-        same_level f = grind (arith, nat_tests, f)
-    apart true false e f = refl
-    apart false q e f = refl
-outside_ends level (Coordinates n k) h = refl
-outside_ends level (Width n k) h = refl
-outside_ends level (Key n k) h = refl
-outside_ends level (Sums n) h = refl
-outside_ends level (ListCoordinates n) h = refl
-outside_ends level (ListPositions n) h = refl
+outside_ends level a out = outside_apart 0 level (Ends 0 level) a (refl, refl) out
 
 -- the level that a state with other segment ends holds
 holds_ends : (l m : CompressedLevel) (level : ℕ) (s : State) (xs : List ℕ) → Holds l 0 level s.arrays → xs ≡ ends_of m.log.stage m.log.counts → m.log.coords ≡ l.log.coords → Holds m 0 level (set_array s (Ends 0 level) xs).arrays
 holds_ends l m level s xs h e coords = record {
-  ends = this_array s (Ends 0 level) (Ends 0 level) xs (ends_same level) ∙ ap Some e;
+  ends = this_array s (Ends 0 level) (Ends 0 level) xs (same_arr_self (Ends 0 level)) ∙ ap Some e;
   coords = other_array s (Ends 0 level) (Coordinates 0 level) xs refl ∙ h.coords ∙ ap Some (sym coords);
 }
 
@@ -80,9 +54,9 @@ holds_ends l m level s xs h e coords = record {
 abbrev pub reserved : CompressedLevel → ℕ → CompressedLevel
 reserved l parents = logged l (with_parents (letter_of l.unique) parents l.log)
 
--- what reserving leaves
-abbrev pub Reserves : CompressedLevel → ℕ → ℕ → State → Type 0
-Reserves l parents level t = (m : CompressedLevel) × KeepsRules m × (letter_of m.unique ≡ letter_of l.unique) × (m.size ≡ l.size) × (m.log ≡ with_parents (letter_of l.unique) parents l.log) × Holds m 0 level t.arrays
+-- what reserving leaves, where the parents are within the limit
+abbrev pub Reserves : CompressedLevel → ℕ → ℕ → ℕ → State → Type 0
+Reserves l parents tensor level t = (m : CompressedLevel) × KeepsRules m × (letter_of m.unique ≡ letter_of l.unique) × (m.size ≡ l.size) × (m.log ≡ with_parents (letter_of l.unique) parents l.log) × (parents ≤ greatest_position_count) × Holds m tensor level t.arrays
 
 reserved_counts : (l : CompressedLevel) (parents more : ℕ) → more ≡ parents - length l.log.counts → l.log.stage ≢ Finished → ends_of l.log.stage l.log.counts ++ replicate more 0 ≡ ends_of Unfinished (reserved l parents).log.counts
 reserved_counts l parents more h f =
@@ -92,68 +66,76 @@ reserved_counts l parents more h f =
 ends_length : (l : CompressedLevel) → l.log.stage ≢ Finished → length (ends_of l.log.stage l.log.counts) ≡ length l.log.counts + 1
 ends_length l f = ap length (ends_are l.log.stage l.log.counts f) ∙ omega arith
 
-may_have_ends : (level n : ℕ) → n ≤ greatest_position_count + 1 → may_have (Ends 0 level) n ≡ true
-may_have_ends level n h = grind (arith, nat_tests)
+-- the state that keeps the level with room for more parents
+reserves : (l : CompressedLevel) (level parents more : ℕ) (s : State) (xs : List ℕ) → xs ≡ ends_of l.log.stage l.log.counts ++ replicate more 0 → more ≡ parents - length l.log.counts → parents ≤ greatest_position_count → l.log.stage ≢ Finished → KeepsRules l
+    → (arrays : Arr → Option (List ℕ)) → arrays (Ends 0 level) ≡ Some xs → arrays (Coordinates 0 level) ≡ Some l.log.coords
+    → (m : CompressedLevel) × KeepsRules m × (letter_of m.unique ≡ letter_of l.unique) × (m.size ≡ l.size) × (m.log ≡ with_parents (letter_of l.unique) parents l.log) × (parents ≤ greatest_position_count) × Holds m 0 level arrays
+reserves l level parents more s xs are count within reservable k arrays ends coords = (
+  reserved l parents,
+  keeps_parents l parents k (record { within = within; reservable = reservable }),
+  refl,
+  refl,
+  refl,
+  within,
+  record { ends = ends ∙ ap Some (are ∙ reserved_counts l parents more count reservable); coords = coords },
+)
+
+ends_within : (level n : ℕ) → may_have (Ends 0 level) n ≡ true → n ≤ greatest_position_count + 1
+ends_within level n h = grind (arith, nat_tests, h)
+
+ends_beyond : (level n : ℕ) → may_have (Ends 0 level) n ≡ false → greatest_position_count + 1 < n
+ends_beyond level n h = grind (arith, nat_tests, h)
+
+-- zeros behind the segment ends, or the refusal of more parents than the limit
+more_ends : (c : Setting) (l : CompressedLevel) (level free parents : ℕ) (e : KExpr) (s : State) → KeepsRules l → l.log.stage ≢ Finished → Holds l 0 level s.arrays → length l.log.counts ≤ parents → value e s ≡ Some (parents - length l.log.counts)
+    → Writes c (Extend (Ends 0 level) e (Num 0) ∷ []) free 0 level no_turns s (Reserves l parents 0 level) (PassesLimit 0 level parents)
+more_ends c l level free parents e s k reservable held fewer more_is =
+    let more : ℕ = parents - length l.log.counts in
+    let xs : List ℕ = ends_of l.log.stage l.log.counts in
+    let long = ends_length l reservable in
+    let size : length xs + more ≡ parents + 1 = omega (arith, long, fewer) in
+    does_extend c (Ends 0 level) e (Num 0) [] s more 0 xs _ (PassesLimit 0 level parents) more_is refl refl held.ends
+    (λ may. let some = ends_within level (length xs + more) may in does_nothing c (set_array s (Ends 0 level) (xs ++ replicate more 0)) _ (PassesLimit 0 level parents) (
+      leaves_array _ (IsOutside 0 level) free no_turns s s (Ends 0 level) (xs ++ replicate more 0) (outside_ends level) (leaves_none _ (IsOutside 0 level) free no_turns s),
+      reserves l level parents more s (xs ++ replicate more 0) refl refl (omega (arith, some, size)) reservable k (set_array s (Ends 0 level) (xs ++ replicate more 0)).arrays (this_array s (Ends 0 level) (Ends 0 level) (xs ++ replicate more 0) (same_arr_self (Ends 0 level))) (other_array s (Ends 0 level) (Coordinates 0 level) (xs ++ replicate more 0) refl ∙ held.coords),
+    ))
+    (λ no. let many = ends_beyond level (length xs + more) no in
+    record { array = (refl, refl); told = ap word_count (ap (λ n. n - 1) size ∙ omega arith); above = omega (arith, many, size) })
 
 pub reserve_law : (c : Setting) (l : CompressedLevel) (level free n parents : ℕ) (args : List KExpr) (p : KExpr) (s : State) → slice_get args 1 ≡ Some p → AreBelow free args
-    → KeepsRules l → MayReserve parents l.log → Holds l 0 level s.arrays → ValuesAre args s (n ∷ parents ∷ [])
-    → Writes c (reserve_code level p) free 0 level no_turns s (Reserves l parents level) Never
-reserve_law c l level free n parents args p s second below k m held values = by_test (nat_lt (length l.log.counts) parents) refl
+    → KeepsRules l → CodeMayReserve (letter_of l.unique) parents l.log → Holds l 0 level s.arrays → ValuesAre args s (n ∷ parents ∷ [])
+    → Writes c (reserve_code level p) free 0 level no_turns s (Reserves l parents 0 level) (PassesLimit 0 level parents)
+reserve_law c l level free n parents args p s second below k m held values = by_test (nat_lt parents (length l.log.counts + 1)) refl
   where
+    word : parents < 2 ^ 64
+    word = m.word
+
     at : value p s ≡ Some parents
     at = (argument_is args p free 1 parents (n ∷ parents ∷ []) s second refl below values).0
 
-    wanted : value (Bin Add p (Num 1)) s ≡ Some (parents + 1)
-    wanted = let within = m.within in let small = positions_are_small in sum_is p (Num 1) parents 1 s at refl (omega (arith, within, small))
+    few : length l.log.counts ≤ greatest_position_count
+    few = k.parents
 
     long : value (Len (Ends 0 level)) s ≡ Some (length l.log.counts + 1)
     long = ap length_of held.ends ∙ ap Some (ends_length l m.reservable)
 
-    by_test : (b : Bool) → nat_lt (length l.log.counts) parents ≡ b → Writes c (reserve_code level p) free 0 level no_turns s (Reserves l parents level) Never
+    there : value (Bin Sub (Len (Ends 0 level)) (Num 1)) s ≡ Some (length l.log.counts)
+    there = difference_is (Len (Ends 0 level)) (Num 1) (length l.log.counts + 1) 1 s long refl (omega (arith, few, positions_are_small)) (omega arith) ∙ ap Some (omega arith)
+
+    by_test : (b : Bool) → nat_lt parents (length l.log.counts + 1) ≡ b → Writes c (reserve_code level p) free 0 level no_turns s (Reserves l parents 0 level) (PassesLimit 0 level parents)
     by_test true is =
-        let fewer : length l.log.counts < parents = grind (arith, nat_tests, is) in
-        let within = m.within in
-        let small = positions_are_small in
-        let before = k.parents in
-        let more : ℕ = parents + 1 - (length l.log.counts + 1) in
-        let same : more ≡ parents - length l.log.counts = omega arith in
-        let xs : List ℕ = ends_of l.log.stage l.log.counts in
-        let size : length xs + more ≡ parents + 1 = omega (arith, ends_length l m.reservable, fewer) in
-        let counted : word_count (length xs + more) ≡ parents + 1 = word_count_small (length xs + more) (omega (arith, size, within, small)) ∙ size in
-        does_if_yes c (Bin Less (Len (Ends 0 level)) (Bin Add p (Num 1))) _ [] [] s 0 _ _ Never
-        (less_yes (Len (Ends 0 level)) (Bin Add p (Num 1)) (length l.log.counts + 1) (parents + 1) s long wanted (omega (arith, fewer)))
-        (does_extend c (Ends 0 level) (Bin Sub (Bin Add p (Num 1)) (Len (Ends 0 level))) (Num 0) [] s more 0 xs _ Never
-        (difference_is (Bin Add p (Num 1)) (Len (Ends 0 level)) (parents + 1) (length l.log.counts + 1) s wanted long (omega (arith, within, small)) (omega (arith, fewer)))
-        refl refl held.ends
-        (λ may. does_nothing c (set_array s (Ends 0 level) (xs ++ replicate more 0)) _ Never (
-          leaves_array _ (IsOutside 0 level) free no_turns s s (Ends 0 level) (xs ++ replicate more 0) (outside_ends level) (leaves_none _ (IsOutside 0 level) free no_turns s),
-          (reserved l parents, keeps_parents l parents k m, refl, refl, refl, holds_ends l (reserved l parents) level s (xs ++ replicate more 0) held (reserved_counts l parents more same m.reservable) refl),
-        ))
-        (λ no. absurd (never_over (may_have (Ends 0 level) (word_count (length xs + more))) no (ap (may_have (Ends 0 level)) counted ∙ may_have_ends level (parents + 1) (omega (arith, within))))))
-        (λ t h. does_nothing c t _ Never h)
-      where
-        never_over : (b : Bool) → b ≡ false → b ≡ true → ⊥
-        never_over b h g = cc
-    by_test false is =
         let enough : parents ≤ length l.log.counts = grind (arith, nat_tests, is) in
-        let none : 0 ≡ parents - length l.log.counts = omega (arith, enough) in
-        does_if_no c (Bin Less (Len (Ends 0 level)) (Bin Add p (Num 1))) _ [] [] s _ _ Never
-        (less_no (Len (Ends 0 level)) (Bin Add p (Num 1)) (length l.log.counts + 1) (parents + 1) s long wanted (omega (arith, enough)))
-        (does_nothing c s _ Never (
-          leaves_none _ (IsOutside 0 level) free no_turns s,
-          (
-            reserved l parents,
-            keeps_parents l parents k m,
-            refl,
-            refl,
-            refl,
-            record {
-              ends = held.ends ∙ ap Some (sym (append-nil (ends_of l.log.stage l.log.counts)) ∙ reserved_counts l parents 0 none m.reservable);
-              coords = held.coords;
-            },
-          ),
-        ))
-        (λ t h. does_nothing c t _ Never h)
+        let same : ends_of l.log.stage l.log.counts ≡ ends_of l.log.stage l.log.counts ++ replicate 0 0 = sym (append-nil (ends_of l.log.stage l.log.counts)) in
+        does_if_yes c (Bin Less p (Len (Ends 0 level))) [] _ [] s 0 _ _ (PassesLimit 0 level parents)
+        (less_yes p (Len (Ends 0 level)) parents (length l.log.counts + 1) s at long (omega (arith, enough)))
+        (does_nothing c s _ (PassesLimit 0 level parents) (leaves_none _ (IsOutside 0 level) free no_turns s, reserves l level parents 0 s (ends_of l.log.stage l.log.counts) same (omega (arith, enough)) (omega (arith, enough, few)) m.reservable k s.arrays held.ends held.coords))
+        (λ t h. does_nothing c t _ (PassesLimit 0 level parents) h)
+    by_test false is =
+        let fewer : length l.log.counts < parents = grind (arith, nat_tests, is) in
+        does_if_no c (Bin Less p (Len (Ends 0 level))) [] _ [] s _ _ (PassesLimit 0 level parents)
+        (less_no p (Len (Ends 0 level)) parents (length l.log.counts + 1) s at long (omega (arith, fewer)))
+        (more_ends c l level free parents (Bin Sub p (Bin Sub (Len (Ends 0 level)) (Num 1))) s k m.reservable held (omega (arith, fewer)) (difference_is p (Bin Sub (Len (Ends 0 level)) (Num 1)) parents (length l.log.counts) s at there word (omega (arith, fewer))))
+        (λ t h. does_nothing c t _ (PassesLimit 0 level parents) h)
 
 -- what giving a parent its positions leaves
 abbrev pub Gives : CompressedLevel → ℕ → ℕ → ℕ → ℕ → State → Type 0
@@ -161,9 +143,6 @@ Gives l parent begin end level t = (m : CompressedLevel) × KeepsRules m × (let
 
 abbrev given : CompressedLevel → ℕ → ℕ → ℕ → CompressedLevel
 given l parent begin end = logged l (with_edges (letter_of l.unique) parent begin end l.log)
-
-set_behind : (xs : List ℕ) (parent v : ℕ) → slice_set (0 ∷ xs) (parent + 1) v ≡ 0 ∷ slice_set xs parent v
-set_behind xs parent v = let same : parent + 1 ≡ suc parent = omega arith in ap (λ i. slice_set (0 ∷ xs) i v) same
 
 given_ends : (l : CompressedLevel) (parent begin end : ℕ) → l.log.stage ≡ Unfinished → slice_set (ends_of l.log.stage l.log.counts) (parent + 1) (end - begin) ≡ ends_of (given l parent begin end).log.stage (given l parent begin end).log.counts
 given_ends l parent begin end u =
@@ -210,8 +189,8 @@ pub segment_fragment : (now : CompressedLevel) (args : List KExpr) (tensor level
 segment_fragment now args tensor level free code a b first second below is = subst (SegmentLaw now args tensor level free) (sym is) (λ c l like parent ok s held values. segment_law c l tensor level free parent args a b s first second below ok held values)
 
 abbrev pub ReserveLaw : CompressedLevel → List KExpr → ℕ → ℕ → ℕ → List KStmt → Type 0
-ReserveLaw now args level free tensor code = (c : Setting) (l : CompressedLevel) → letter_of l.unique ≡ letter_of now.unique → KeepsRules l → (n parents : ℕ) → MayReserve parents l.log → (s : State) → Holds l tensor level s.arrays → ValuesAre args s (n ∷ parents ∷ [])
-    → Writes c code free tensor level no_turns s (λ t. (m : CompressedLevel) × KeepsRules m × (letter_of m.unique ≡ letter_of l.unique) × (m.size ≡ l.size) × (m.log ≡ with_parents (letter_of l.unique) parents l.log) × Holds m tensor level t.arrays) Never
+ReserveLaw now args level free tensor code = (c : Setting) (l : CompressedLevel) → letter_of l.unique ≡ letter_of now.unique → KeepsRules l → (n parents : ℕ) → CodeMayReserve (letter_of l.unique) parents l.log → (s : State) → Holds l tensor level s.arrays → ValuesAre args s (n ∷ parents ∷ [])
+    → Writes c code free tensor level no_turns s (Reserves l parents tensor level) (PassesLimit tensor level parents)
 
 pub reserve_fragment : (now : CompressedLevel) (args : List KExpr) (level free tensor : ℕ) (code : List KStmt) (p : KExpr) → tensor ≡ 0 → slice_get args 1 ≡ Some p → AreBelow free args → code ≡ reserve_code level p → ReserveLaw now args level free tensor code
 reserve_fragment now args level free tensor code p zero_is second below is =

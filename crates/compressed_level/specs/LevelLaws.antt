@@ -1,20 +1,20 @@
 -- What stands below an allowed parent of a compressed level.
-use Rattle.std.specs.Prelude.{◌≡◌, ◌≢◌, ℕ, suc, ◌+◌, ◌≤◌, ◌<◌, Bool, true, false, List, [], ◌∷◌, length, take, drop, slice_get, Option, Some, refl}
+use Rattle.std.specs.Prelude.{◌≡◌, ◌≢◌, ℕ, suc, ◌≤◌, ◌<◌, Bool, true, false, List, length, take, slice_get, Option, Some, refl}
 use Rattle.std.proofs.Common.{◌∙◌, sym, ap, subst, arith}
 use Rattle.kernel_code.specs.declared.syntax.Arr.{Arr}
 use Rattle.kernel_code.specs.declared.syntax.Arr.TheVariants.{Ends, Coordinates}
 use Rattle.level_core.specs.declared.span.Span.{Span}
 use Rattle.level_core.specs.declared.span.Entry.{Entry}
 use Rattle.level_core.specs.declared.stage.Stage.{Stage}
-use Rattle.level_core.specs.declared.stage.Stage.TheVariants.{Fresh, Unfinished, Finished}
+use Rattle.level_core.specs.declared.stage.Stage.TheVariants.{Unfinished, Finished}
 use Rattle.level_core.specs.Entries.{span, one, IsIn, StandsAt, coord_at}
 use Rattle.level_core.specs.Kinds.{properties, AreEntries}
-use Rattle.level_core.specs.Logs.{Log, total, Rises, slice, segment_in, entries_between, finished}
+use Rattle.level_core.specs.Logs.{total, Rises, slice}
 use Rattle.level_core.specs.Fragments.{IsOf}
 use Rattle.coordinate_lists.specs.Spans.{Within, entries_coord, entries_are, IsGroupIn, entry_is_group}
-use Rattle.compressed_level.specs.Compressed.{CompressedLevel, letter_of, counts_in, ends_of, IsStored, log_in, running, KeepsRules, IsAllowed, segment_of, entries_of, Holds}
+use Rattle.compressed_level.specs.Compressed.{CompressedLevel, letter_of, ends_of, KeepsRules, IsAllowed, segment_of, entries_of, Holds}
 use Rattle.compressed_level.specs.PartLaws.{part_rises, totals_rise, totals_within, end_at}
-use Rattle.compressed_level.specs.RuleLaws.{unique_is, never_branchless, logged}
+use Rattle.compressed_level.specs.RuleLaws.{unique_is}
 
 pub holds_there : (l : CompressedLevel) (tensor level : ℕ) (a b : Arr → Option (List ℕ)) → ((x : Arr) → IsOf tensor level x → b x ≡ a x) → Holds l tensor level a → Holds l tensor level b
 holds_there l tensor level a b f h = record { ends = f (Ends tensor level) (refl, refl) ∙ h.ends; coords = f (Coordinates tensor level) (refl, refl) ∙ h.coords }

@@ -1,9 +1,8 @@
 -- What appending keeps: the rules of compressed levels, and how their segment ends are stored.
-use Rattle.std.specs.Prelude.{◌≡◌, ◌≢◌, ℕ, zero, suc, ◌+◌, ◌-◌, ◌≤◌, ◌<◌, Bool, true, false, if◌then◌else◌, List, [], ◌∷◌, ◌++◌, length, take, drop, replicate, slice_get, slice_set, Option, Some, refl}
+use Rattle.std.specs.Prelude.{◌≡◌, ◌≢◌, ℕ, suc, ◌+◌, ◌-◌, ◌≤◌, ◌<◌, Bool, true, false, List, [], ◌∷◌, ◌++◌, length, drop, replicate, slice_set, refl}
 use Rattle.std.proofs.Common.{◌∙◌, sym, ap, subst, arith}
 use Rattle.std.proofs.lemmas.List.{length-append, length-replicate, length-set}
 use Rattle.limits.specs.Limits.{greatest_position_count}
-use Rattle.level_core.specs.declared.letter.Letter.{Letter}
 use Rattle.level_core.specs.declared.stage.Stage.{Stage}
 use Rattle.level_core.specs.declared.stage.Stage.TheVariants.{Fresh, Unfinished, Finished}
 use Rattle.level_core.specs.Kinds.{properties, capabilities}
@@ -154,7 +153,7 @@ stored_parents stage ends more s h =
     let behind = stored_is stage ends s h in
     subst (λ xs. IsStored Unfinished (xs ++ replicate more 0)) (sym behind) refl
 
-set_behind : (xs : List ℕ) (parent v : ℕ) → slice_set (0 ∷ xs) (parent + 1) v ≡ 0 ∷ slice_set xs parent v
+pub set_behind : (xs : List ℕ) (parent v : ℕ) → slice_set (0 ∷ xs) (parent + 1) v ≡ 0 ∷ slice_set xs parent v
 set_behind xs parent v = let same : parent + 1 ≡ suc parent = omega arith in ap (λ i. slice_set (0 ∷ xs) i v) same
 
 pub log_of_edges : (unique : Bool) (ends coords : List ℕ) (next parent begin end : ℕ) → IsStored Unfinished ends

@@ -1,5 +1,6 @@
 ghost use Rattle.std.specs.Prelude.{◌≡◌, ◌<◌, [], ◌∷◌, length, slice_get, Some, IfOk};
 ghost use Rattle.kernel_code.specs.declared.syntax.KExpr.{KExpr};
+ghost use Rattle.kernel_code.specs.declared.syntax.Arr.{Arr};
 ghost use Rattle.compressed_level.specs.Code.{reserve_code, edges_code};
 
 use kernel_code::{Arr, KExpr, KStmt, Op, binary, one_statement};
@@ -7,14 +8,16 @@ use level_core::argument;
 use std::alloc::{AllocError, Global};
 use trees::Items;
 
-/// The number of segment ends of so many parents.
-fn ends_of_parents(alloc: Global, args: &[KExpr]) -> Result<KExpr, AllocError>
-    requires { 1 < length args.now }
-    ensures { IfOk result (λ e. (p : KExpr) × (slice_get args.now 1 ≡ Some p) × (e ≡ KExpr.Bin Op.Add p (KExpr.Num 1))) }
+/// The number of parents that have segment ends.
+fn parents_with_ends(alloc: Global, level: u64) -> Result<KExpr, AllocError>
+    ensures { IfOk result (λ e. e ≡ KExpr.Bin Op.Sub (KExpr.Len (Arr.Ends 0 level)) (KExpr.Num 1)) }
 {
-    let parents = argument(alloc, args, 1)?;
-    let ends = binary(alloc, Op::Add, parents, KExpr::Num(1))?;
-    Ok(ends)
+    binary(
+        alloc,
+        Op::Sub,
+        KExpr::Len(Arr::Ends(0, level)),
+        KExpr::Num(1),
+    )
 }
 
 /// Code that makes the array of segment ends long enough for so many parents.
@@ -27,12 +30,13 @@ pub(crate) fn reserving(
     ensures { IfOk result (λ code. (p : KExpr) × (slice_get args.now 1 ≡ Some p) × (code ≡ reserve_code level p)) }
 {
     let ends = Arr::Ends(0, level);
-    let wanted = ends_of_parents(alloc, args)?;
-    let again = ends_of_parents(alloc, args)?;
-    let test = binary(alloc, Op::Less, KExpr::Len(ends), wanted)?;
-    let more = binary(alloc, Op::Sub, again, KExpr::Len(ends))?;
+    let parents = argument(alloc, args, 1)?;
+    let again = argument(alloc, args, 1)?;
+    let test = binary(alloc, Op::Less, parents, KExpr::Len(ends))?;
+    let there = parents_with_ends(alloc, level)?;
+    let more = binary(alloc, Op::Sub, again, there)?;
     let extend = one_statement(alloc, KStmt::Extend(ends, more, KExpr::Num(0)))?;
-    let code = one_statement(alloc, KStmt::If(test, extend, Items::new(alloc)))?;
+    let code = one_statement(alloc, KStmt::If(test, Items::new(alloc), extend))?;
     Ok(code)
 }
 

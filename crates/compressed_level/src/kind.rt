@@ -27,6 +27,8 @@ impl LevelKind for CompressedLevel {
 
     ghost log = { λ l. l.log };
 
+    ghost positions_for = { λ l parents most. 0 };
+
     ghost may_prepare = { λ l parents most. ⊥ };
 
     ghost prepared = { λ l parents most m. ⊥ };
@@ -156,7 +158,7 @@ impl LevelKind for CompressedLevel {
 
     ghost logs = { logs_are };
 
-    ghost prepares = { λ l m parents most may is. absurd is };
+    ghost prepares = { λ l m parents most may within is. absurd may };
 
     ghost inserts = { λ l m parent x slot allowed may is. absurd is };
 }

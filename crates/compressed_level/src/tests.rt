@@ -300,3 +300,34 @@ fn code_appends_what_the_calls_append(rt: HostRuntime) -> Result<(), Fail> {
     );
     Ok(())
 }
+
+/// How the code of `reserve` ends for so many parents, where the ends of some are stored.
+fn reserving_ends(
+    alloc: Global,
+    level: &CompressedLevel,
+    ends: &[u64],
+    parents: u64,
+) -> Result<Ending, AllocError> {
+    let mut machine = machine_with(alloc, ends.to_vec(alloc)?, Vec::new(alloc))?;
+    let args = [KExpr::Num(0), KExpr::Num(parents)];
+    let code = level.frag_reserve(alloc, 0, 1, &args, FREE)?;
+    run(&mut machine, code)
+}
+
+/// A level may have 2147483647 parents.
+#[test]
+fn code_refuses_more_parents_than_the_limit(rt: HostRuntime) -> Result<(), Fail> {
+    let alloc = rt.alloc();
+    let level = CompressedLevel::new(alloc, 0, true)?;
+    let array = Arr::Ends(0, 1);
+    for count in [2_147_483_648, u64::MAX] {
+        let over = Ending::Over { array, count };
+        assert_eq!(rt; reserving_ends(alloc, &level, &[0], count)?, over);
+        assert_eq!(rt; reserving_ends(alloc, &level, &[0, 0, 0], count)?, over);
+    }
+    assert_eq!(rt;
+        reserving_ends(alloc, &level, &[0, 0, 0], 1)?,
+        Ending::Ended
+    );
+    Ok(())
+}

@@ -1,16 +1,17 @@
 -- What the code of compressed and singleton levels reads and appends.
-use Rattle.std.specs.Prelude.{◌≡◌, ℕ, ◌+◌, ◌-◌, ◌≤◌, ◌<◌, ◌^◌, ◌==◌, ◌&&◌, nat_le, Bool, true, false, List, [], ◌∷◌, ◌++◌, length, Some, slice_get, slice_index_or, refl}
+use Rattle.std.specs.Prelude.{◌≡◌, ℕ, ◌+◌, ◌-◌, ◌≤◌, ◌<◌, ◌^◌, nat_le, true, false, List, [], ◌∷◌, ◌++◌, length, Some, slice_get, slice_index_or, refl}
 use Rattle.std.proofs.Common.{◌∙◌, sym, ap, subst, arith}
 use Rattle.std.proofs.lemmas.Option.{slice_get-get_or}
 use Rattle.std.proofs.lemmas.Bool.Decides.{nat_tests}
 use Rattle.limits.specs.Limits.{greatest_position_count, positions_are_small}
 use Rattle.kernel_code.specs.declared.syntax.Arr.{Arr}
-use Rattle.kernel_code.specs.declared.syntax.Arr.TheVariants.{Range, Values, Dimension, Ends, Coordinates, Width, Key, Sums, ListCoordinates, ListPositions}
+use Rattle.kernel_code.specs.declared.syntax.Arr.TheVariants.{Coordinates}
 use Rattle.kernel_code.specs.declared.syntax.LoopKind.TheVariants.{Skip}
 use Rattle.kernel_code.specs.declared.syntax.Op.TheVariants.{Add}
 use Rattle.kernel_code.specs.declared.syntax.KExpr.{KExpr, Num, At, Bin}
 use Rattle.kernel_code.specs.declared.syntax.KStmt.{Push}
 use Rattle.kernel_code.specs.Arrays.{same_arr}
+use Rattle.kernel_code.specs.ArrayNames.{same_arr_self}
 use Rattle.kernel_code.specs.Meaning.{Setting, State, value, set_array}
 use Rattle.kernel_code.specs.Does.{does_push, does_nothing}
 use Rattle.kernel_code.specs.Keeps.{EveryArray, mentions_at, mentions_bin, this_array, other_array, no_turns}
@@ -18,8 +19,8 @@ use Rattle.level_core.specs.declared.span.Span.{Span}
 use Rattle.level_core.specs.declared.span.Entry.{Entry}
 use Rattle.level_core.specs.Entries.{IsIn, StandsAt, coord_at}
 use Rattle.level_core.specs.Logs.{Rises, slice, entries_between}
-use Rattle.level_core.specs.Fragments.{AreBelow, ValuesAre, IsOutside, Reads, Writes, PassesLimit, SpanLeft, OptionLeft, turns_of}
-use Rattle.level_core.specs.FragmentLaws.{argument_is, word_is, sum_is, two_code, some_set, span_set}
+use Rattle.level_core.specs.Fragments.{AreBelow, ValuesAre, Reads, Writes, PassesLimit, SpanLeft, OptionLeft, turns_of}
+use Rattle.level_core.specs.FragmentLaws.{outside_apart, argument_is, word_is, sum_is, two_code, some_set, span_set}
 use Rattle.coordinate_lists.specs.Spans.{entries_coord, entry_is_group, entry_is_one}
 use Rattle.coordinate_lists.specs.Skips.{skip_code, skip_law}
 
@@ -59,30 +60,6 @@ pub record Appended (level x : ℕ) (coords : List ℕ) (s t : State) : Type 0 w
   pub within : length coords + 1 ≤ greatest_position_count
   pub others : (a : Arr) → same_arr (Coordinates 0 level) a ≡ false → t.arrays a ≡ s.arrays a
 
-same_or_apart : (level n k : ℕ) → ((n ≡ 0) × (k ≡ level) → ⊥) → ((0 == n) && (level == k)) ≡ false
-same_or_apart level n k h = by_tests (0 == n) (level == k) refl refl
-  where
-    by_tests : (a b : Bool) → (0 == n) ≡ a → (level == k) ≡ b → ((0 == n) && (level == k)) ≡ false
-    by_tests true true p q = absurd (h (grind (arith, nat_tests, p), grind (arith, nat_tests, q)))
-    by_tests true false p q = ap (λ t. t && (level == k)) p ∙ q
-    by_tests false b p q = ap (λ t. t && (level == k)) p
-
--- an array of another level is another array
-outside_apart : (level : ℕ) (a : Arr) → IsOutside 0 level a → same_arr (Coordinates 0 level) a ≡ false
-outside_apart level Range h = refl
-outside_apart level (Values n) h = refl
-outside_apart level (Dimension n k) h = refl
-outside_apart level (Ends n k) h = refl
-outside_apart level (Coordinates n k) h = same_or_apart level n k h
-outside_apart level (Width n k) h = refl
-outside_apart level (Key n k) h = refl
-outside_apart level (Sums n) h = refl
-outside_apart level (ListCoordinates n) h = refl
-outside_apart level (ListPositions n) h = refl
-
-this_level : (level : ℕ) → same_arr (Coordinates 0 level) (Coordinates 0 level) ≡ true
-this_level level = let same : (level == level) ≡ true = grind (arith, nat_tests) in same
-
 within_test : (n m : ℕ) → nat_le n m ≡ true → n ≤ m
 within_test n m h = grind (arith, nat_tests, h)
 
@@ -100,11 +77,11 @@ append_law c coords level free x args e s first values held =
     let t = set_array s (Coordinates 0 level) (coords ++ x ∷ []) in
     does_push c (Coordinates 0 level) e [] s x coords _ (PassesLimit 0 level (length coords + 1)) (first_value args e x s first values) refl held
     (λ may. does_nothing c t _ (PassesLimit 0 level (length coords + 1)) (
-      record { below = λ y l z. refl; arrays = λ a out. other_array s (Coordinates 0 level) a (coords ++ x ∷ []) (outside_apart level a out); turns = λ k. omega arith },
+      record { below = λ y l z. refl; arrays = λ a out. other_array s (Coordinates 0 level) a (coords ++ x ∷ []) (outside_apart 0 level (Coordinates 0 level) a (refl, refl) out); turns = λ k. omega arith },
       record {
-        array = this_array s (Coordinates 0 level) (Coordinates 0 level) (coords ++ x ∷ []) (this_level level);
+        array = this_array s (Coordinates 0 level) (Coordinates 0 level) (coords ++ x ∷ []) (same_arr_self (Coordinates 0 level));
         within = within_test (length coords + 1) greatest_position_count may;
         others = λ a apart. other_array s (Coordinates 0 level) a (coords ++ x ∷ []) apart;
       },
     ))
-    (λ over. record { array = (refl, refl); grown = refl; above = past_test (length coords + 1) greatest_position_count over })
+    (λ over. record { array = (refl, refl); told = refl; above = past_test (length coords + 1) greatest_position_count over })

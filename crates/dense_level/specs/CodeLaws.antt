@@ -12,7 +12,9 @@ use Rattle.kernel_code.specs.Keeps.{Below, NoVariable, EveryArray, no_turns, men
 use Rattle.level_core.specs.declared.span.Span.{Span}
 use Rattle.level_core.specs.declared.span.Entry.{Entry}
 use Rattle.level_core.specs.Entries.{one, StandsAt, position_of}
-use Rattle.level_core.specs.Fragments.{AreBelow, ValuesAre, IsOutside, Reads, Writes, SpanLeft, OptionLeft, NumberLeft}
+use Rattle.level_core.specs.declared.letter.Letter.TheVariants.{Dense}
+use Rattle.level_core.specs.Kinds.{CodeMayPrepare}
+use Rattle.level_core.specs.Fragments.{AreBelow, ValuesAre, IsOutside, Reads, Writes, PassesLimitWithin, SpanLeft, OptionLeft, NumberLeft}
 use Rattle.level_core.specs.FragmentLaws.{argument_is, word_is, product_is, sum_is, less_yes, less_no, one_code, two_code, number_set, span_set, some_set, none_set}
 use Rattle.dense_level.specs.Dense.{Held, IsAllowed, dense_segment, dense_entries}
 use Rattle.dense_level.specs.DenseLaws.{dense_position, dense_lacks, dense_child, small_start, small_end, small_place}
@@ -81,10 +83,10 @@ insert_law c n tensor level free args e f p x s first second below ok less held 
     ))
     (λ a count z. z)
 
--- the level is as before
-abbrev pub SameLeft : ℕ → ℕ → ℕ → State → Type 0
-SameLeft n tensor level t = (m : ℕ) × (m ≤ greatest_position_count) × (m ≡ n) × Held m tensor level t.arrays
+-- the level is as before, where the positions of the parents are within the limit
+abbrev pub SameLeft : ℕ → ℕ → ℕ → ℕ → State → Type 0
+SameLeft n positions tensor level t = (m : ℕ) × (m ≤ greatest_position_count) × (m ≡ n) × (positions ≤ greatest_position_count) × Held m tensor level t.arrays
 
 -- nothing is to be made
-pub prepare_law : (c : Setting) (n tensor level free : ℕ) (s : State) → n ≤ greatest_position_count → Held n tensor level s.arrays → Writes c [] free tensor level no_turns s (SameLeft n tensor level) Never
-prepare_law c n tensor level free s small held = does_nothing c s _ Never (leaves_none NoVariable (IsOutside tensor level) free no_turns s, (n, small, refl, held))
+pub prepare_law : (c : Setting) (n positions tensor level free : ℕ) (s : State) → n ≤ greatest_position_count → CodeMayPrepare Dense positions → Held n tensor level s.arrays → Writes c [] free tensor level no_turns s (SameLeft n positions tensor level) (PassesLimitWithin tensor level positions)
+prepare_law c n positions tensor level free s small may held = does_nothing c s _ (PassesLimitWithin tensor level positions) (leaves_none NoVariable (IsOutside tensor level) free no_turns s, (n, small, refl, may refl, held))

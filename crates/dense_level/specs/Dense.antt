@@ -35,8 +35,11 @@ dense_entries n parent = dense_from n 0 (parent.lo * n)
 abbrev pub nothing_appended : Log
 nothing_appended = record { stage = Finished; coords = []; counts = []; next = 0 }
 
--- the positions of so many parents, and so many coordinates, are within the limit
+-- each parent has the whole range
+abbrev pub dense_positions : ℕ → ℕ → ℕ → ℕ
+dense_positions n parents most = parents * n
+
+-- the range and so many coordinates are within the limit
 pub record MayPrepare (n parents most : ℕ) : Type 0 where
   pub size : n ≤ greatest_position_count
-  pub positions : parents * n ≤ greatest_position_count
   pub coordinates : most ≤ greatest_position_count

@@ -14,7 +14,7 @@ use Rattle.level_core.specs.Entries.{one, IsIn, Tiles, Rising, AllBelow, Single,
 use Rattle.level_core.specs.EntryLaws.{tiles_placed, rising_distinct, coord_here, coord_past}
 use Rattle.level_core.specs.Logs.{IsLog}
 use Rattle.level_core.specs.Kinds.{properties, AreEntries, MayInsert}
-use Rattle.dense_level.specs.Dense.{Held, IsAllowed, MayPrepare, dense_segment, dense_from, dense_entries, nothing_appended}
+use Rattle.dense_level.specs.Dense.{Held, IsAllowed, MayPrepare, dense_positions, dense_segment, dense_from, dense_entries, nothing_appended}
 
 pub held_there : (n tensor level : ℕ) (a b : Arr → Option (List ℕ)) → ((x : Arr) → IsOf tensor level x → b x ≡ a x) → Held n tensor level a → Held n tensor level b
 held_there n tensor level a b same h = same (Dimension tensor level) (refl, refl) ∙ h
@@ -144,14 +144,13 @@ pub dense_logs : (n : ℕ) → n ≤ greatest_position_count → (properties Den
 dense_logs n small branches = record { ahead = tt; given = omega arith }
 
 -- each of the prepared parents may be asked
-pub prepared_allowed : (n parents most p : ℕ) → MayPrepare n parents most → p < parents → IsAllowed n (one p)
-prepared_allowed n parents most p may h =
+pub prepared_allowed : (n parents most p : ℕ) → MayPrepare n parents most → dense_positions n parents most ≤ greatest_position_count → p < parents → IsAllowed n (one p)
+prepared_allowed n parents most p may within h =
     let more : (p + 1) * n ≤ parents * n = mul-le-mul_right n (omega (arith, h)) in
-    let within = may.positions in
     record { size = may.size; one_parent = refl; positions = omega (arith, more, within) }
 
-pub dense_prepares : (n m parents most : ℕ) → MayPrepare n parents most → m ≡ n → (Dense ≡ Dense) × (m ≡ n) × ((p : ℕ) → p < parents → IsAllowed m (one p) × ((properties Dense).full ≡ false → (dense_entries m (one p) ≡ []) × (2 * most ≤ (dense_segment m (one p)).hi - (dense_segment m (one p)).lo)))
-dense_prepares n m parents most may same = (refl, same, λ p h. (subst (λ k. IsAllowed k (one p)) (sym same) (prepared_allowed n parents most p may h), λ no. absurd (true_is_false no)))
+pub dense_prepares : (n m parents most : ℕ) → MayPrepare n parents most → dense_positions n parents most ≤ greatest_position_count → m ≡ n → (Dense ≡ Dense) × (m ≡ n) × ((p : ℕ) → p < parents → IsAllowed m (one p) × ((properties Dense).full ≡ false → (dense_entries m (one p) ≡ []) × (2 * most ≤ (dense_segment m (one p)).hi - (dense_segment m (one p)).lo)))
+dense_prepares n m parents most may within same = (refl, same, λ p h. (subst (λ k. IsAllowed k (one p)) (sym same) (prepared_allowed n parents most p may within h), λ no. absurd (true_is_false no)))
   where
     true_is_false : true ≡ false → ⊥
     true_is_false h = cc

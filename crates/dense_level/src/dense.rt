@@ -2,7 +2,7 @@ ghost use Rattle.std.specs.Prelude.{◌≡◌, ◌≤◌, ◌<◌, ◌+◌, ◌*
 ghost use Rattle.level_core.specs.Entries.{one};
 ghost use Rattle.limits.specs.Limits.{greatest_position_count};
 ghost use Rattle.level_core.specs.declared.letter.Letter.TheVariants.{Dense};
-ghost use Rattle.dense_level.specs.Dense.{Held, IsAllowed, MayPrepare, dense_segment, dense_entries, nothing_appended};
+ghost use Rattle.dense_level.specs.Dense.{Held, IsAllowed, MayPrepare, dense_positions, dense_segment, dense_entries, nothing_appended};
 ghost use Rattle.dense_level.specs.DenseLaws.{held_there, dense_are_entries, dense_logs, dense_prepares, dense_inserts};
 
 use crate::code::{leave_place, place_of_coordinate, times_size_of_level};
@@ -66,6 +66,8 @@ impl LevelKind for DenseLevel {
     ghost entries = { dense_entries };
 
     ghost log = { λ l. nothing_appended };
+
+    ghost positions_for = { dense_positions };
 
     ghost may_prepare = { MayPrepare };
 

@@ -1,30 +1,32 @@
 -- What the fragments of hashed levels do.
-use Rattle.std.specs.Prelude.{◌≡◌, ℕ, ◌+◌, ◌*◌, ◌≤◌, ◌<◌, nat_le, true, false, List, [], ◌∷◌, ◌++◌, length, replicate, Some, None, slice_get, slice_index, refl}
-use Rattle.std.proofs.Common.{◌∙◌, sym, ap, subst, arith, inl, inr}
+use Rattle.std.specs.Prelude.{◌≡◌, ◌⊎◌, ℕ, ◌+◌, ◌*◌, ◌^◌, ◌≤◌, ◌<◌, min, true, false, List, [], ◌∷◌, ◌++◌, length, replicate, Some, None, slice_get, slice_index, refl}
+use Rattle.std.proofs.Common.{◌∙◌, sym, ap, subst, arith, inl, inr, lit<}
+use Rattle.std.proofs.Math.Nat.{mul-le-mul_left, mul-le-mul_right}
 use Rattle.std.proofs.lemmas.Bool.Decides.{nat_tests, eqb_tells}
 use Rattle.limits.specs.Limits.{greatest_position_count, positions_are_small}
+use Rattle.kernel_code.specs.declared.syntax.Arr.{Arr}
 use Rattle.kernel_code.specs.declared.syntax.Arr.TheVariants.{Coordinates, Width as WidthArray}
 use Rattle.kernel_code.specs.declared.syntax.Op.TheVariants.{Add, Mul}
-use Rattle.kernel_code.specs.declared.syntax.KExpr.{KExpr, Num, Var, At, Bin, Width}
+use Rattle.kernel_code.specs.declared.syntax.KExpr.{KExpr, Num, Var, At, Bin, Min, Width}
 use Rattle.kernel_code.specs.declared.syntax.KStmt.{Set, Extend}
-use Rattle.kernel_code.specs.Arrays.{may_write, may_have}
-use Rattle.kernel_code.specs.Meaning.{Setting, State, value, width_of, word_count, word_count_small, set_var, set_array}
-use Rattle.kernel_code.specs.Equations.{value_width}
+use Rattle.kernel_code.specs.Arrays.{may_write, may_have, word_count}
+use Rattle.kernel_code.specs.ArrayNames.{same_arr_self}
+use Rattle.kernel_code.specs.Meaning.{Setting, State, value, width_of, apply_each, set_var, set_array}
+use Rattle.kernel_code.specs.Equations.{value_min, value_width}
 use Rattle.kernel_code.specs.Does.{Does, Never, does_nothing, does_set, does_extend, does_if_yes, does_if_no}
-use Rattle.kernel_code.specs.Keeps.{Below, NoVariable, EveryArray, no_turns, mentions_at, mentions_bin, this_var, other_var, this_array, leaves_none, leaves_set, leaves_array}
+use Rattle.kernel_code.specs.Keeps.{Below, Leaves, NoVariable, EveryArray, no_turns, mentions_at, mentions_bin, this_var, other_var, this_array, other_array, leaves_none, leaves_set, leaves_array}
 use Rattle.level_core.specs.declared.span.Span.{Span}
 use Rattle.level_core.specs.declared.span.Entry.{Entry}
 use Rattle.level_core.specs.declared.letter.Letter.TheVariants.{Hashed as HashedLetter}
 use Rattle.level_core.specs.Kinds.{MayInsert}
 use Rattle.level_core.specs.Entries.{one, IsIn, StandsAt, coord_at}
-use Rattle.level_core.specs.Fragments.{AreBelow, ValuesAre, IsOutside, Reads, Writes, SpanLeft, OptionLeft}
-use Rattle.level_core.specs.FragmentLaws.{argument_is, below_kept, product_is, sum_is, one_code, two_code, span_set, some_set, none_set}
+use Rattle.level_core.specs.Fragments.{AreBelow, ValuesAre, IsOutside, Reads, Writes, PassesLimitWithin, SpanLeft, OptionLeft}
+use Rattle.level_core.specs.FragmentLaws.{outside_apart, argument_is, below_kept, product_is, sum_is, one_code, two_code, span_set, some_set, none_set}
 use Rattle.hashed_level.specs.Slots.{empty_slot}
 use Rattle.hashed_level.specs.SlotLaws.{coord_none, coord_some}
-use Rattle.hashed_level.specs.Widths.{slot_width, width_is_slot_width}
-use Rattle.hashed_level.specs.Hashed.{Hashed, block_width, base_of, width_words, Held, Keeps, IsAllowed, hashed_segment, hashed_entries, MayPrepare, prepared}
+use Rattle.kernel_code.specs.Widths.{slot_width, slot_width_wide, slot_width_small, width_is_slot_width}
+use Rattle.hashed_level.specs.Hashed.{Hashed, block_width, base_of, width_words, Held, Keeps, IsAllowed, hashed_segment, hashed_entries, hashed_positions, MayPrepare, prepared}
 use Rattle.hashed_level.specs.HashedLaws.{block_small, hashed_child, hashed_coord, prepared_keeps}
-use Rattle.hashed_level.specs.ArrayNames.{same_name, same_width, outside_coordinates, outside_width}
 use Rattle.hashed_level.specs.Code.{width_word, base_word, filled_test, locate_code, insert_code, coord_code, prepare_code}
 use Rattle.hashed_level.specs.SearchCode.{width_is, base_is, slot_read, differ_yes, differ_no, locate_does, insert_does, Located, Inserted}
 
@@ -83,58 +85,121 @@ nothing_there (x ∷ xs) h = absurd (omega (arith, h))
 no_slots : (l : Hashed) → Keeps l → l.width ≡ None → l.slots ≡ []
 no_slots l rules fresh = let none = rules.fresh fresh in let count = rules.count in nothing_there l.slots (count ∙ ap (λ k. k * block_width l) none ∙ grind arith)
 
--- the parents are made
+-- the parents are made, and their slots are within the limit
 abbrev pub Made : Hashed → ℕ → ℕ → ℕ → ℕ → State → Type 0
-Made l tensor level parents most t = (m : Hashed) × Keeps m × (m ≡ prepared l parents most) × Held m tensor level t.arrays
+Made l tensor level parents most t = (m : Hashed) × Keeps m × (m ≡ prepared l parents most) × (hashed_positions l parents most ≤ greatest_position_count) × Held m tensor level t.arrays
 
-room_for : (tensor level n : ℕ) (xs : List ℕ) → xs ≡ [] → n ≤ greatest_position_count → may_have (Coordinates tensor level) (word_count (length xs + n)) ≡ true
-room_for tensor level n xs none few =
-    let small = positions_are_small in
-    let same : length xs + n ≡ n = ap (λ ys. length ys + n) none ∙ omega arith in
-    let is : nat_le n greatest_position_count ≡ true = grind (arith, nat_tests) in
-    ap (λ k. nat_le (word_count k) greatest_position_count) same ∙ ap (λ k. nat_le k greatest_position_count) (word_count_small n (omega (arith, few, small))) ∙ is
+-- the slots that are asked for: of no more parents than one above the limit
+abbrev pub asked_slots : ℕ → ℕ → ℕ
+asked_slots parents most = min parents (greatest_position_count + 1) * slot_width most
+
+limit_is_half : greatest_position_count < 2 ^ 31
+unfolding greatest_position_count
+limit_is_half = lit< tt
+
+-- they are words
+asked_word : (parents most : ℕ) → most ≤ greatest_position_count → asked_slots parents most < 2 ^ 64
+asked_word parents most few =
+    let half = limit_is_half in
+    let wide : slot_width most ≤ 2 * 2 ^ 31 = slot_width_small most 31 (omega (arith, few, half)) in
+    let fewer : min parents (greatest_position_count + 1) ≤ 2 ^ 31 = omega (arith, half) in
+    let product : asked_slots parents most ≤ 2 ^ 31 * slot_width most = mul-le-mul_right (slot_width most) fewer in
+    omega (arith, product, wide)
+
+fewer_slots : (parents most : ℕ) → asked_slots parents most ≤ parents * slot_width most
+fewer_slots parents most = mul-le-mul_right (slot_width most) (omega arith)
+
+within_or_beyond : (n limit : ℕ) → (min n (limit + 1) ≡ n) ⊎ (min n (limit + 1) ≡ limit + 1)
+within_or_beyond n limit = grind (arith, nat_tests)
+
+-- where they are within the limit, they are those of all parents
+asked_all : (parents most : ℕ) → asked_slots parents most ≤ greatest_position_count → asked_slots parents most ≡ parents * slot_width most
+asked_all parents most within = elim (within_or_beyond parents greatest_position_count) [
+  | inl all ↦ ap (λ k. k * slot_width most) all
+  | inr beyond ↦ (
+      let wide = slot_width_wide most in
+      let many : (greatest_position_count + 1) * 1 ≤ (greatest_position_count + 1) * slot_width most = mul-le-mul_left (greatest_position_count + 1) (omega (arith, wide)) in
+      let is : asked_slots parents most ≡ (greatest_position_count + 1) * slot_width most = ap (λ k. k * slot_width most) beyond in
+      absurd (omega (arith, within, is, many)))
+]
+
+slots_within : (tensor level n : ℕ) → may_have (Coordinates tensor level) n ≡ true → n ≤ greatest_position_count
+slots_within tensor level n h = grind (arith, nat_tests, h)
+
+slots_beyond : (tensor level n : ℕ) → may_have (Coordinates tensor level) n ≡ false → greatest_position_count < n
+slots_beyond tensor level n h = grind (arith, nat_tests, h)
 
 true_is_false : (b : _) → b ≡ true → b ≡ false → ⊥
 true_is_false b h g = cc
 
-pub prepare_law : (c : Setting) (l : Hashed) (tensor level free : ℕ) (args : List KExpr) (g e : KExpr) (parents most : ℕ) (s : State) → tensor ≡ 0 → slice_get args 0 ≡ Some g → slice_get args 1 ≡ Some e → AreBelow free args → MayPrepare l parents most → Held l tensor level s.arrays → ValuesAre args s (parents ∷ most ∷ []) → Writes c (prepare_code tensor level g e free) free tensor level no_turns s (Made l tensor level parents most) Never
-prepare_law c l tensor level free args g e parents most s result first second below may held values =
+-- the width is stored behind the slots
+stored : (c : Setting) (l : Hashed) (tensor level free parents most : ℕ) (s u : State) (R : Arr → ℕ → Type 0) → tensor ≡ 0 → MayPrepare l parents most → hashed_positions l parents most ≤ greatest_position_count
+    → Leaves NoVariable (IsOutside tensor level) free no_turns s u → u.vars free ≡ Some (slot_width most) → u.arrays (WidthArray tensor level) ≡ Some [] → u.arrays (Coordinates tensor level) ≡ Some (replicate (parents * slot_width most) empty_slot)
+    → Does c (Extend (WidthArray tensor level) (Num 1) (Var free) ∷ []) u (λ t. Leaves NoVariable (IsOutside tensor level) free no_turns s t × Made l tensor level parents most t) R
+stored c l tensor level free parents most s u R result may within left wide none slots =
     let w = slot_width most in
-    let n = parents * w in
-    let small = positions_are_small in
-    let few = may.coordinates in
-    let many = may.slots in
-    let parent = argument_is args g free 0 parents (parents ∷ most ∷ []) s first refl below values in
-    let each = argument_is args e free 1 most (parents ∷ most ∷ []) s second refl below values in
-    let none = no_slots l may.rules may.fresh in
-    let coordinates_written : may_write (Coordinates tensor level) ≡ true = grind (arith, nat_tests) in
     let width_written : may_write (WidthArray tensor level) ≡ true = grind (arith, nat_tests) in
-    let room = room_for tensor level n l.slots none (omega (arith, many)) in
-    let s1 = set_var s free w in
-    let s2 = set_var s1 (free + 1) parents in
-    let t = set_array s2 (Coordinates tensor level) (l.slots ++ replicate n empty_slot) in
-    let u = set_array t (WidthArray tensor level) ([] ++ replicate 1 w) in
-    let wide : value (Width e) s ≡ Some w = value_width e s ∙ ap width_of each.0 ∙ width_is_slot_width most (omega (arith, few, small)) in
-    let kept : value g s1 ≡ Some parents = below_kept free g s s1 parent.1 (λ y h. other_var s free y w (λ is. omega (arith, h, is))) (λ a. refl) ∙ parent.0 in
-    let left = leaves_set NoVariable (IsOutside tensor level) free no_turns s s1 (free + 1) parents (λ y h is. omega (arith, h, is)) (leaves_set NoVariable (IsOutside tensor level) free no_turns s s free w (λ y h is. omega (arith, h, is)) (leaves_none NoVariable (IsOutside tensor level) free no_turns s)) in
-    let width_there : s2.vars free ≡ Some w = other_var s1 (free + 1) free parents (λ is. omega (arith, is)) ∙ this_var s free w in
-    let product = product_is (Var (free + 1)) (Var free) parents w s2 (this_var s1 (free + 1) parents) width_there (omega (arith, many, small)) in
-    does_set c free (Width e) (Set (free + 1) g ∷ Extend (Coordinates tensor level) (Bin Mul (Var (free + 1)) (Var free)) (Num empty_slot) ∷ Extend (WidthArray tensor level) (Num 1) (Var free) ∷ []) s w _ Never wide
-    (does_set c (free + 1) g (Extend (Coordinates tensor level) (Bin Mul (Var (free + 1)) (Var free)) (Num empty_slot) ∷ Extend (WidthArray tensor level) (Num 1) (Var free) ∷ []) s1 parents _ Never kept
-    (does_extend c (Coordinates tensor level) (Bin Mul (Var (free + 1)) (Var free)) (Num empty_slot) (Extend (WidthArray tensor level) (Num 1) (Var free) ∷ []) s2 n empty_slot l.slots _ Never product refl coordinates_written held.slots
-    (λ _. does_extend c (WidthArray tensor level) (Num 1) (Var free) [] t 1 w [] _ Never refl width_there width_written (held.width ∙ ap (λ o. Some (width_words o)) may.fresh)
-    (λ _. does_nothing c u _ Never (
-      leaves_array NoVariable (IsOutside tensor level) free no_turns s t (WidthArray tensor level) ([] ++ replicate 1 w) (outside_width tensor level)
-          (leaves_array NoVariable (IsOutside tensor level) free no_turns s s2 (Coordinates tensor level) (l.slots ++ replicate n empty_slot) (outside_coordinates tensor level) left),
+    let t = set_array u (WidthArray tensor level) ([] ++ replicate 1 w) in
+    does_extend c (WidthArray tensor level) (Num 1) (Var free) [] u 1 w [] _ R refl wide width_written none
+    (λ _. does_nothing c t _ R (
+      leaves_array NoVariable (IsOutside tensor level) free no_turns s u (WidthArray tensor level) ([] ++ replicate 1 w) (λ b out. outside_apart tensor level (WidthArray tensor level) b (refl, refl) out) left,
       (
         prepared l parents most,
-        prepared_keeps l parents most may,
+        prepared_keeps l parents most may within,
         refl,
+        within,
         record {
-          width = this_array t (WidthArray tensor level) (WidthArray tensor level) ([] ++ replicate 1 w) (same_width tensor level);
-          slots = this_array s2 (Coordinates tensor level) (Coordinates tensor level) (l.slots ++ replicate n empty_slot) (same_name tensor level) ∙ ap (λ xs. Some (xs ++ replicate n empty_slot)) none;
+          width = this_array u (WidthArray tensor level) (WidthArray tensor level) ([] ++ replicate 1 w) (same_arr_self (WidthArray tensor level));
+          slots = other_array u (WidthArray tensor level) (Coordinates tensor level) ([] ++ replicate 1 w) refl ∙ slots;
         },
       ),
     ))
-    (λ over. absurd (true_is_false true refl over)))
-    (λ over. true_is_false (may_have (Coordinates tensor level) (word_count (length l.slots + n))) room over)))
+    (λ over. absurd (true_is_false true refl over))
+
+-- the slots are made, or refused where those of all parents pass the limit
+made_slots : (c : Setting) (l : Hashed) (tensor level free parents most : ℕ) (s u : State) → tensor ≡ 0 → MayPrepare l parents most → Held l tensor level u.arrays
+    → Leaves NoVariable (IsOutside tensor level) free no_turns s u → u.vars free ≡ Some (slot_width most) → u.vars (free + 1) ≡ Some (min parents (greatest_position_count + 1))
+    → Does c (Extend (Coordinates tensor level) (Bin Mul (Var (free + 1)) (Var free)) (Num empty_slot) ∷ Extend (WidthArray tensor level) (Num 1) (Var free) ∷ []) u (λ t. Leaves NoVariable (IsOutside tensor level) free no_turns s t × Made l tensor level parents most t) (PassesLimitWithin tensor level (hashed_positions l parents most))
+made_slots c l tensor level free parents most s u result may held left wide fewer =
+    let w = slot_width most in
+    let n = asked_slots parents most in
+    let R = PassesLimitWithin tensor level (hashed_positions l parents most) in
+    let none = no_slots l may.rules may.fresh in
+    let size : length l.slots + n ≡ n = ap (λ ys. length ys + n) none ∙ omega arith in
+    let coordinates_written : may_write (Coordinates tensor level) ≡ true = grind (arith, nat_tests) in
+    let xs : List ℕ = l.slots ++ replicate n empty_slot in
+    let t = set_array u (Coordinates tensor level) xs in
+    let product = product_is (Var (free + 1)) (Var free) (min parents (greatest_position_count + 1)) w u fewer wide (asked_word parents most may.coordinates) in
+    does_extend c (Coordinates tensor level) (Bin Mul (Var (free + 1)) (Var free)) (Num empty_slot) (Extend (WidthArray tensor level) (Num 1) (Var free) ∷ []) u n empty_slot l.slots _ R product refl coordinates_written held.slots
+    (λ some.
+    let few : n ≤ greatest_position_count = let long = slots_within tensor level (length l.slots + n) some in omega (arith, long, size) in
+    let all : n ≡ parents * w = asked_all parents most few in
+    stored c l tensor level free parents most s t R result may (omega (arith, few, all))
+    (leaves_array NoVariable (IsOutside tensor level) free no_turns s u (Coordinates tensor level) xs (λ b out. outside_apart tensor level (Coordinates tensor level) b (refl, refl) out) left)
+    wide
+    (other_array u (Coordinates tensor level) (WidthArray tensor level) xs refl ∙ held.width ∙ ap (λ o. Some (width_words o)) may.fresh)
+    (this_array u (Coordinates tensor level) (Coordinates tensor level) xs (same_arr_self (Coordinates tensor level)) ∙ ap (λ ys. Some (ys ++ replicate n empty_slot)) none ∙ ap (λ k. Some (replicate k empty_slot)) all))
+    (λ over.
+    let long = slots_beyond tensor level (length l.slots + n) over in
+    (n, record { array = (refl, refl); told = ap word_count size; above = omega (arith, long, size) }, fewer_slots parents most))
+
+pub prepare_law : (c : Setting) (l : Hashed) (tensor level free : ℕ) (args : List KExpr) (g e : KExpr) (parents most : ℕ) (s : State) → tensor ≡ 0 → slice_get args 0 ≡ Some g → slice_get args 1 ≡ Some e → AreBelow free args → MayPrepare l parents most → Held l tensor level s.arrays → ValuesAre args s (parents ∷ most ∷ []) → Writes c (prepare_code tensor level g e free) free tensor level no_turns s (Made l tensor level parents most) (PassesLimitWithin tensor level (hashed_positions l parents most))
+prepare_law c l tensor level free args g e parents most s result first second below may held values =
+    let w = slot_width most in
+    let R = PassesLimitWithin tensor level (hashed_positions l parents most) in
+    let bound = greatest_position_count + 1 in
+    let fewer = min parents bound in
+    let rest = Extend (Coordinates tensor level) (Bin Mul (Var (free + 1)) (Var free)) (Num empty_slot) ∷ Extend (WidthArray tensor level) (Num 1) (Var free) ∷ [] in
+    let small = positions_are_small in
+    let few = may.coordinates in
+    let parent = argument_is args g free 0 parents (parents ∷ most ∷ []) s first refl below values in
+    let each = argument_is args e free 1 most (parents ∷ most ∷ []) s second refl below values in
+    let s1 = set_var s free w in
+    let s2 = set_var s1 (free + 1) fewer in
+    let wide : value (Width e) s ≡ Some w = value_width e s ∙ ap width_of each.0 ∙ width_is_slot_width most (omega (arith, few, small)) in
+    let kept : value g s1 ≡ Some parents = below_kept free g s s1 parent.1 (λ y h. other_var s free y w (λ is. omega (arith, h, is))) (λ a. refl) ∙ parent.0 in
+    let least : value (Min g (Num bound)) s1 ≡ Some fewer = value_min g (Num bound) s1 ∙ ap (λ o. apply_each min o (Some bound)) kept in
+    let left = leaves_set NoVariable (IsOutside tensor level) free no_turns s s1 (free + 1) fewer (λ y h is. omega (arith, h, is)) (leaves_set NoVariable (IsOutside tensor level) free no_turns s s free w (λ y h is. omega (arith, h, is)) (leaves_none NoVariable (IsOutside tensor level) free no_turns s)) in
+    does_set c free (Width e) (Set (free + 1) (Min g (Num bound)) ∷ rest) s w _ R wide
+    (does_set c (free + 1) (Min g (Num bound)) rest s1 fewer _ R least
+    (made_slots c l tensor level free parents most s s2 result may held left (other_var s1 (free + 1) free fewer (λ is. omega (arith, is)) ∙ this_var s free w) (this_var s1 (free + 1) fewer)))

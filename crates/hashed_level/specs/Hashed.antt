@@ -9,7 +9,7 @@ use Rattle.level_core.specs.declared.stage.Stage.TheVariants.{Finished}
 use Rattle.level_core.specs.Entries.{span}
 use Rattle.level_core.specs.Logs.{Log}
 use Rattle.hashed_level.specs.Slots.{empty_slot, filled, KeepsBlock, FirstEmpty}
-use Rattle.hashed_level.specs.Widths.{slot_width}
+use Rattle.kernel_code.specs.Widths.{slot_width}
 
 -- the range, the words of the slots, the width of a block once parents are prepared, and the number of parents
 pub record Hashed : Type 0 where
@@ -69,12 +69,15 @@ hashed_entries l parent = filled (slice_index l.slots) (block_width l) (base_of 
 abbrev pub nothing_appended : Log
 nothing_appended = record { stage = Finished; coords = []; counts = []; next = 0 }
 
--- parents are prepared once, and their slots are within the limit
+-- the slots of so many parents
+abbrev pub hashed_positions : Hashed → ℕ → ℕ → ℕ
+hashed_positions l parents most = parents * slot_width most
+
+-- parents are prepared once, and the coordinates of each are within the limit
 pub record MayPrepare (l : Hashed) (parents most : ℕ) : Type 0 where
   pub rules : Keeps l
   pub fresh : l.width ≡ None
   pub coordinates : most ≤ greatest_position_count
-  pub slots : parents * slot_width most ≤ greatest_position_count
 
 -- so many parents without entries
 abbrev pub prepared : Hashed → ℕ → ℕ → Hashed

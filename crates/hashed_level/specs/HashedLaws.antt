@@ -17,8 +17,8 @@ use Rattle.level_core.specs.Kinds.{properties, AreEntries, MayInsert}
 use Rattle.hashed_level.specs.Slots.{empty_slot, positions_below_empty, coord_of, KeepsBlock, FirstEmpty, Stops, Passes}
 use Rattle.hashed_level.specs.SlotLaws.{Free, Puts, filled_below, filled_child, filled_coord, filled_distinct, filled_longer, filled_free, filled_nothing, filled_placed, filled_same, filled_single, filled_without}
 use Rattle.hashed_level.specs.SearchLaws.{place_inside, block_once, free_stops, put_keeps, put_gains, block_same, block_empty, absent_first}
-use Rattle.hashed_level.specs.Widths.{slot_width, slot_width_power, slot_width_wide, slot_width_enough}
-use Rattle.hashed_level.specs.Hashed.{Hashed, block_width, base_of, Keeps, Held, IsAllowed, hashed_segment, hashed_entries, nothing_appended, MayPrepare, prepared, with_coordinate, IsInserted}
+use Rattle.kernel_code.specs.Widths.{slot_width, slot_width_power, slot_width_wide, slot_width_enough}
+use Rattle.hashed_level.specs.Hashed.{Hashed, block_width, base_of, Keeps, Held, IsAllowed, hashed_segment, hashed_entries, nothing_appended, hashed_positions, MayPrepare, prepared, with_coordinate, IsInserted}
 
 pub held_there : (l : Hashed) (tensor level : ℕ) (a b : Arr → Option (List ℕ)) → ((x : Arr) → IsOf tensor level x → b x ≡ a x) → Held l tensor level a → Held l tensor level b
 held_there l tensor level a b same h = record { width = same (Width tensor level) (refl, refl) ∙ h.width; slots = same (Coordinates tensor level) (refl, refl) ∙ h.slots }
@@ -75,15 +75,14 @@ prepared_slot parents w p q h g =
     let end = block_end w p in
     omega (arith, more, end, g)
 
-pub prepared_keeps : (l : Hashed) (parents most : ℕ) → MayPrepare l parents most → Keeps (prepared l parents most)
-prepared_keeps l parents most may =
+pub prepared_keeps : (l : Hashed) (parents most : ℕ) → MayPrepare l parents most → hashed_positions l parents most ≤ greatest_position_count → Keeps (prepared l parents most)
+prepared_keeps l parents most may few =
     let w = slot_width most in
-    let slots = may.slots in
     let many : length (replicate (parents * w) empty_slot) ≡ parents * w = length-replicate (parents * w) empty_slot in
     record {
       size = may.rules.size;
       count = many;
-      within = omega (arith, many, slots);
+      within = omega (arith, many, few);
       power = slot_width_power most;
       wide = slot_width_wide most;
       fresh = λ h. absurd (some_is_none w h);
@@ -93,12 +92,12 @@ prepared_keeps l parents most may =
     some_is_none : (w : ℕ) → Some w ≡ None → ⊥
     some_is_none w h = cc
 
-pub hashed_prepares : (l m : Hashed) (parents most : ℕ) → MayPrepare l parents most → m ≡ prepared l parents most → (HashedLetter ≡ HashedLetter) × (m.size ≡ l.size) × ((p : ℕ) → p < parents → IsAllowed m (one p) × ((properties HashedLetter).full ≡ false → (hashed_entries m (one p) ≡ []) × (2 * most ≤ (hashed_segment m (one p)).hi - (hashed_segment m (one p)).lo)))
-hashed_prepares l m parents most may same = (
+pub hashed_prepares : (l m : Hashed) (parents most : ℕ) → MayPrepare l parents most → hashed_positions l parents most ≤ greatest_position_count → m ≡ prepared l parents most → (HashedLetter ≡ HashedLetter) × (m.size ≡ l.size) × ((p : ℕ) → p < parents → IsAllowed m (one p) × ((properties HashedLetter).full ≡ false → (hashed_entries m (one p) ≡ []) × (2 * most ≤ (hashed_segment m (one p)).hi - (hashed_segment m (one p)).lo)))
+hashed_prepares l m parents most may within same = (
   refl,
   ap (λ k. k.size) same,
   λ p h. subst (λ k. IsAllowed k (one p) × ((properties HashedLetter).full ≡ false → (hashed_entries k (one p) ≡ []) × (2 * most ≤ (hashed_segment k (one p)).hi - (hashed_segment k (one p)).lo))) (sym same) (
-    record { rules = prepared_keeps l parents most may; one_parent = refl; prepared = h },
+    record { rules = prepared_keeps l parents most may within; one_parent = refl; prepared = h },
     λ _. (
       filled_nothing (slice_index (replicate (parents * slot_width most) empty_slot)) (slot_width most) (p * slot_width most) (λ q g i. all_empty (parents * slot_width most) q (prepared_slot parents (slot_width most) p q h i)),
       let small = positions_are_small in let few = may.coordinates in let enough = slot_width_enough most (omega (arith, small, few)) in omega (arith, enough),
@@ -200,8 +199,8 @@ hashed_inserts l m p x slot ok may is =
 pub block_word : (l : Hashed) (p : ℕ) → Keeps l → p < l.parents → base_of l p + block_width l < 2 ^ 64
 block_word l p rules h = let inside = block_small l p rules h in let small = positions_are_small in omega (arith, inside, small)
 
-pub slots_word : (l : Hashed) (parents most : ℕ) → MayPrepare l parents most → parents * slot_width most < 2 ^ 64
-slots_word l parents most may = let slots = may.slots in let small = positions_are_small in omega (arith, slots, small)
+pub slots_word : (l : Hashed) (parents most : ℕ) → hashed_positions l parents most ≤ greatest_position_count → parents * slot_width most < 2 ^ 64
+slots_word l parents most within = let small = positions_are_small in omega (arith, within, small)
 
 -- a search for a coordinate that may be inserted doesn't pass all slots
 pub never_passes : (l : Hashed) (p x : ℕ) (slots : List ℕ) (w base : ℕ) → slots ≡ l.slots → w ≡ block_width l → base ≡ base_of l p → MayInsert HashedLetter l.size (hashed_segment l (one p)) (hashed_entries l (one p)) x → Passes (slice_index slots) w base x w → ⊥

@@ -1,4 +1,3 @@
-pub mod ArrayNames
 pub mod Code
 pub mod CodeLaws
 pub mod Hashed
@@ -9,4 +8,3 @@ pub mod RowLaws
 pub mod SearchCode
 pub mod SearchLaws
 pub mod SlotLaws
-pub mod Widths

@@ -7,14 +7,15 @@ use Rattle.level_core.specs.declared.span.Entry.{Entry}
 use Rattle.level_core.specs.declared.letter.Letter.TheVariants.{Hashed as HashedLetter}
 use Rattle.level_core.specs.Entries.{one, Lacks, position_of}
 use Rattle.level_core.specs.Kinds.{MayInsert}
-use Rattle.hashed_level.specs.Widths.{slot_width_two}
-use Rattle.hashed_level.specs.Hashed.{Hashed, hashed, Keeps, IsAllowed, hashed_segment, hashed_entries, MayPrepare, prepared, IsInserted}
+use Rattle.kernel_code.specs.Widths.{slot_width_two}
+use Rattle.hashed_level.specs.Hashed.{Hashed, hashed, Keeps, IsAllowed, hashed_segment, hashed_entries, hashed_positions, MayPrepare, prepared, IsInserted}
 use Rattle.hashed_level.specs.HashedLaws.{hashed_prepares, hashed_inserts, inserted_longer}
 
 pub may_prepare : (l : Hashed) → Keeps l → l ≡ hashed 12 [] None 0 → 12 ≤ greatest_position_count → MayPrepare l 1 2
-may_prepare l rules is large =
-    let four = slot_width_two in
-    record { rules = rules; fresh = ap (λ k. k.width) is; coordinates = omega (arith, large); slots = omega (arith, large, four) }
+may_prepare l rules is large = record { rules = rules; fresh = ap (λ k. k.width) is; coordinates = omega (arith, large) }
+
+pub may_hold : (l : Hashed) → 12 ≤ greatest_position_count → hashed_positions l 1 2 ≤ greatest_position_count
+may_hold l large = let four = slot_width_two in omega (arith, large, four)
 
 -- at most so many coordinates stand in at least four slots
 pub record Roomy (l : Hashed) (count : ℕ) : Type 0 where
@@ -23,9 +24,9 @@ pub record Roomy (l : Hashed) (count : ℕ) : Type 0 where
   pub few : length (hashed_entries l (one 0)) ≤ count
   pub wide : 4 ≤ (hashed_segment l (one 0)).hi - (hashed_segment l (one 0)).lo
 
-pub after_prepare : (l m : Hashed) → MayPrepare l 1 2 → l ≡ hashed 12 [] None 0 → m ≡ prepared l 1 2 → Roomy m 0 × (hashed_entries m (one 0) ≡ [])
-after_prepare l m may is made =
-    let law = hashed_prepares l m 1 2 may made in
+pub after_prepare : (l m : Hashed) → MayPrepare l 1 2 → hashed_positions l 1 2 ≤ greatest_position_count → l ≡ hashed 12 [] None 0 → m ≡ prepared l 1 2 → Roomy m 0 × (hashed_entries m (one 0) ≡ [])
+after_prepare l m may within is made =
+    let law = hashed_prepares l m 1 2 may within made in
     let parent = law.2 0 (lit< tt) in
     let rest = parent.1 refl in
     (record { allowed = parent.0; size = law.1 ∙ ap (λ k. k.size) is; few = let none = ap length rest.0 in omega (arith, none); wide = let wide = rest.1 in omega (arith, wide) }, rest.0)

@@ -16,8 +16,9 @@ use Rattle.kernel_code.specs.Equations.{value_bin}
 use Rattle.kernel_code.specs.Does.{Does, Never, Turn, Ends, Goes, does_set, does_while, does_nothing, does_append, does_if_yes, does_if_no, does_put}
 use Rattle.kernel_code.specs.Keeps.{Below, Leaves, NoVariable, EveryArray, turn_of, this_var, other_var, leaves_none, leaves_set, leaves_turn, leaves_then, leaves_wider, leaves_array, this_array}
 use Rattle.level_core.specs.Entries.{one, position_of}
+use Rattle.kernel_code.specs.ArrayNames.{same_arr_self}
 use Rattle.level_core.specs.Fragments.{turns_of, OptionLeft, NumberLeft, IsOutside}
-use Rattle.level_core.specs.FragmentLaws.{below_kept, word_is, binary_is, product_is, sum_is, difference_is, less_yes, less_no, one_code}
+use Rattle.level_core.specs.FragmentLaws.{outside_apart, below_kept, word_is, binary_is, product_is, sum_is, difference_is, less_yes, less_no, one_code}
 use Rattle.hashed_level.specs.Slots.{empty_slot, place, Stops, Passes, FirstEmpty}
 use Rattle.hashed_level.specs.SearchLaws.{place_next, place_first, place_inside, passes_more, not_there, found_filled, nowhere}
 use Rattle.hashed_level.specs.Hashed.{Hashed, block_width, base_of, width_words, width_or_two, Held, IsAllowed, Keeps, hashed_segment, hashed_entries, with_coordinate, IsInserted}
@@ -26,7 +27,6 @@ use Rattle.hashed_level.specs.Code.{width_word, base_word, wrapped_word, slot_wo
 use Rattle.kernel_code.specs.Arrays.{may_write}
 use Rattle.level_core.specs.declared.letter.Letter.TheVariants.{Hashed as HashedLetter}
 use Rattle.level_core.specs.Kinds.{MayInsert}
-use Rattle.hashed_level.specs.ArrayNames.{outside_coordinates, same_name}
 
 words_of : (o : Option ℕ) → (o ≡ None → ⊥) → width_words o ≡ width_or_two o ∷ []
 words_of None n = absurd (n refl)
@@ -348,14 +348,14 @@ module _ (c : Setting) (l : Hashed) (tensor level free p x : ℕ) (e : KExpr) (s
       (does_set c free (slot_word free) [] t1 h.slot Inserted Never (slot_found t h t1 refl refl)
       (does_nothing c u Inserted Never (
         leaves_set NoVariable (IsOutside tensor level) free most s t1 free h.slot (λ y g is. omega (arith, g, is))
-            (leaves_array NoVariable (IsOutside tensor level) free most s t (Coordinates tensor level) xs (outside_coordinates tensor level)
+            (leaves_array NoVariable (IsOutside tensor level) free most s t (Coordinates tensor level) xs (λ b out. outside_apart tensor level (Coordinates tensor level) b (refl, refl) out)
             (leaves_wider NoVariable NoVariable EveryArray (IsOutside tensor level) free most most s t (λ y m. m) (λ a m. tt) (λ k. omega arith) (wider t h.leaves))),
         (
           with_coordinate l x h.slot,
           h.slot,
           inserted_keeps l p x h.slot ok may first,
           record { first = first; level = refl },
-          record { width = stored.width; slots = this_array t (Coordinates tensor level) (Coordinates tensor level) xs (same_name tensor level) },
+          record { width = stored.width; slots = this_array t (Coordinates tensor level) (Coordinates tensor level) xs (same_arr_self (Coordinates tensor level)) },
           this_var t1 free h.slot,
         ),
       )))

@@ -4,6 +4,7 @@ ghost use Rattle.hashed_level.specs.Code.{width_word, base_word, wrapped_word, s
 use crate::slots::empty_slot;
 use kernel_code::{Arr, KExpr, KStmt, LoopKind, Op, binary, copy_expr, one_statement};
 use level_core::{leave_one, leave_two, word_at};
+use limits::greatest_positions;
 use std::alloc::{AllocError, Global};
 use trees::{Boxed, Items};
 
@@ -199,6 +200,7 @@ pub(crate) fn leave_coordinate(
 }
 
 /// Code that makes so many parents of at most so many coordinates each.
+#[tactic(auto, using(limits::specs::Limits::positions_are_small))]
 pub(crate) fn make_parents(
     alloc: Global,
     tensor: u64,
@@ -211,10 +213,12 @@ pub(crate) fn make_parents(
     ensures { IfOk result (λ code. code ≡ prepare_code tensor level parents most free) }
 {
     let width = KExpr::Width(Boxed::new(alloc, most)?);
+    let bound = KExpr::Num(greatest_positions() + 1);
+    let fewer = KExpr::Min(Boxed::new(alloc, parents)?, Boxed::new(alloc, bound)?);
     let count = binary(alloc, Op::Mul, KExpr::Var(free + 1), KExpr::Var(free))?;
     let empty = empty_slot();
     let mut code = one_statement(alloc, KStmt::Set(free, width))?;
-    code.push(KStmt::Set(free + 1, parents))?;
+    code.push(KStmt::Set(free + 1, fewer))?;
     let slots = Arr::Coordinates(tensor, level);
     code.push(KStmt::Extend(slots, count, KExpr::Num(empty)))?;
     let widths = Arr::Width(tensor, level);

@@ -1,6 +1,6 @@
 ghost use Rattle.std.specs.Prelude.{◌≡◌};
 ghost use Rattle.level_core.specs.declared.letter.Letter.TheVariants.{Hashed as HashedLetter};
-ghost use Rattle.hashed_level.specs.Hashed.{Keeps, Held, IsAllowed, hashed_segment, hashed_entries, nothing_appended, MayPrepare, prepared, IsInserted};
+ghost use Rattle.hashed_level.specs.Hashed.{Keeps, Held, IsAllowed, hashed_segment, hashed_entries, nothing_appended, hashed_positions, MayPrepare, prepared, IsInserted};
 ghost use Rattle.hashed_level.specs.HashedLaws.{held_there, hashed_are_entries, hashed_logs, hashed_prepares, hashed_inserts};
 
 use crate::code::{base_of_block, leave_coordinate, leave_position, make_parents, put_coordinate};
@@ -26,6 +26,8 @@ impl LevelKind for HashedLevel {
     ghost entries = { hashed_entries };
 
     ghost log = { λ l. nothing_appended };
+
+    ghost positions_for = { hashed_positions };
 
     ghost may_prepare = { MayPrepare };
 

@@ -4,7 +4,7 @@ ghost use Rattle.level_core.specs.declared.letter.Letter.TheVariants.{Hashed as 
 ghost use Rattle.level_core.specs.Entries.{one, span, position_of};
 ghost use Rattle.level_core.specs.Kinds.{MayInsert};
 ghost use Rattle.hashed_level.specs.Slots.{coord_of, FirstEmpty};
-ghost use Rattle.hashed_level.specs.Hashed.{hashed, Keeps, IsAllowed, block_width, base_of, hashed_segment, hashed_entries, MayPrepare, prepared, IsInserted};
+ghost use Rattle.hashed_level.specs.Hashed.{hashed, Keeps, IsAllowed, block_width, base_of, hashed_segment, hashed_entries, hashed_positions, MayPrepare, prepared, IsInserted};
 
 use crate::slots::{coordinate_of, empty_slots, slot_of, sought};
 use crate::widths::width_for;
@@ -99,7 +99,8 @@ impl HashedLevel {
 
     /// Makes so many parents without entries. Refused for want of memory, the level is as before.
     pub(crate) fn make_blocks(&mut self, parents: u64, most: u64) -> Result<(), AllocError>
-        requires { MayPrepare self.old parents most }
+        requires may { MayPrepare self.old parents most }
+        requires within { hashed_positions self.old parents most ≤ greatest_position_count }
         ensures ok { OnOk result (self.new ≡ prepared self.old parents most) }
         ensures err { OnErr result (self.new ≡ self.old) }
     {

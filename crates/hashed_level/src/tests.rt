@@ -154,3 +154,41 @@ fn fragments_change_what_calls_change(rt: HostRuntime) -> Result<(), Fail> {
     assert_eq!(rt; left.first, Some(0));
     Ok(())
 }
+
+/// How the code of `prepare` ends.
+fn preparing_ends(
+    alloc: Global,
+    level: &HashedLevel,
+    parents: u64,
+    most: u64,
+) -> Result<Ending, AllocError> {
+    let mut machine = Machine::new(alloc);
+    machine.add_array(Arr::Width(0, 1), Vec::new(alloc))?;
+    machine.add_array(Arr::Coordinates(0, 1), Vec::new(alloc))?;
+    let args = [KExpr::Num(parents), KExpr::Num(most)];
+    let code = level.frag_prepare(alloc, 0, 1, &args, FREE)?;
+    machine.run(code.as_slice(), &[], 0)
+}
+
+/// So many parents, the greatest number of coordinates below one, and the count of slots that is refused.
+const REFUSED: [(u64, u64, u64); 4] = [
+    (1_073_741_824, 1, 2_147_483_648),
+    (2_147_483_647, 1, 4_294_967_294),
+    (2, 2_147_483_647, 8_589_934_592),
+    (u64::MAX, 2, 8_589_934_592),
+];
+
+/// A level may have 2147483647 slots.
+#[test]
+fn code_refuses_more_slots_than_the_limit(rt: HostRuntime) -> Result<(), Fail> {
+    let alloc = rt.alloc();
+    assert!(rt; 12 <= greatest_positions());
+    let level = HashedLevel::new(alloc, 12)?;
+    let array = Arr::Coordinates(0, 1);
+    for row in REFUSED.iter() {
+        let (parents, most, count) = *row;
+        let over = Ending::Over { array, count };
+        assert_eq!(rt; preparing_ends(alloc, &level, parents, most)?, over);
+    }
+    Ok(())
+}

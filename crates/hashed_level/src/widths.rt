@@ -1,5 +1,5 @@
 ghost use Rattle.std.specs.Prelude.{◌≡◌, ◌≤◌, ◌^◌};
-ghost use Rattle.hashed_level.specs.Widths.{slot_width};
+ghost use Rattle.kernel_code.specs.Widths.{slot_width};
 
 /// The smallest power of two that is at least 2 and at least twice a number.
 pub(crate) fn width_for(most: u64) -> u64

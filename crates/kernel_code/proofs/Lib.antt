@@ -3,4 +3,3 @@ pub mod RunLemmas
 pub mod SortLemmas
 pub mod StoreLemmas
 pub mod SumLemmas
-pub mod WidthLemmas

@@ -9,10 +9,11 @@ use Rattle.kernel_code.specs.declared.syntax.LoopKind.TheVariants.{Merge, Skip, 
 use Rattle.kernel_code.specs.declared.syntax.Turns.{Turns}
 use Rattle.kernel_code.specs.declared.arrays.Words.{Words}
 use Rattle.kernel_code.specs.declared.machine.Machine.{Machine}
-use Rattle.kernel_code.specs.Arrays.{same_arr, may_have}
+use Rattle.kernel_code.specs.Arrays.{same_arr, may_have, told_count}
 use Rattle.kernel_code.specs.Meaning.{Outcome, Ended, Stuck, Over, set_array, with_array, if_written, changed, grown}
 use Rattle.kernel_code.specs.Store.{array_of, state_of, count_of, kept_at, IsPlaceOf, IsWritable}
-use Rattle.kernel_code.proofs.ArrayLemmas.{array_of_place, array_of_set, same_arr_is}
+use Rattle.kernel_code.specs.ArrayNames.{same_arr_is}
+use Rattle.kernel_code.proofs.ArrayLemmas.{array_of_place, array_of_set}
 
 test_below : (m n : ℕ) → m < n → nat_lt m n ≡ true
 test_below m n h = grind (arith, nat_tests)
@@ -65,13 +66,13 @@ grown_at m a i w new count more s b n e =
     ap Ended (state_of_replaced m a i w new s n)
     ∙ ap (λ xs. Ended (set_array (state_of m) a xs)) e
     ∙ sym (with_array_at m a i w (λ xs. grown (state_of m) a (count xs) xs more) s
-    ∙ ap (λ b. if b then Ended (set_array (state_of m) a (w.words.items ++ more)) else Over (state_of m).turns a (count w.words.items)) b)
+    ∙ ap (λ b. if b then Ended (set_array (state_of m) a (w.words.items ++ more)) else Over (state_of m).turns a (told_count a (count w.words.items))) b)
 
 pub not_grown_at : (m : Machine) (a : Arr) (i : ℕ) (w : Words) (count : List ℕ → ℕ) (more : List ℕ) → Stands m a i w → may_have a (count w.words.items) ≡ false
-    → Over (state_of m).turns a (count w.words.items) ≡ with_array (state_of m) a (λ xs. grown (state_of m) a (count xs) xs more)
+    → Over (state_of m).turns a (told_count a (count w.words.items)) ≡ with_array (state_of m) a (λ xs. grown (state_of m) a (count xs) xs more)
 not_grown_at m a i w count more s b =
     sym (with_array_at m a i w (λ xs. grown (state_of m) a (count xs) xs more) s
-    ∙ ap (λ b. if b then Ended (set_array (state_of m) a (w.words.items ++ more)) else Over (state_of m).turns a (count w.words.items)) b)
+    ∙ ap (λ b. if b then Ended (set_array (state_of m) a (w.words.items ++ more)) else Over (state_of m).turns a (told_count a (count w.words.items))) b)
 
 pub set_at : (m : Machine) (a : Arr) (i : ℕ) (w new : Words) (f : List ℕ → List ℕ) → Stands m a i w → new.name ≡ w.name → new.words.items ≡ f w.words.items
     → Ended (state_of (replaced m i new)) ≡ with_array (state_of m) a (λ xs. Ended (set_array (state_of m) a (f xs)))

@@ -1,5 +1,7 @@
 -- The arrays that a kernel works on: which of them are one, which it may write, how long they may grow.
-use Rattle.std.specs.Prelude.{ℕ, ◌+◌, Bool, true, false, ◌==◌, ◌&&◌, nat_le, Option, Some, None}
+use Rattle.std.specs.Prelude.{◌≡◌, ℕ, ◌+◌, ◌-◌, ◌^◌, ◌<◌, min, Bool, true, false, ◌==◌, ◌&&◌, nat_le, Option, Some, None}
+use Rattle.std.proofs.Common.{arith}
+use Rattle.std.proofs.lemmas.Bool.Decides.{nat_tests}
 use Rattle.numbers.specs.Arithmetic.{Arithmetic}
 use Rattle.numbers.specs.Ring.{word_sum}
 use Rattle.limits.specs.Limits.{greatest_position_count, greatest_workspace_pairs}
@@ -53,6 +55,27 @@ within_limit (Some limit) n = nat_le n limit
 -- whether an array may have so many words
 abbrev pub may_have : Arr → ℕ → Bool
 may_have a n = within_limit (greatest_length a) n
+
+-- a number as a word: the last word where it would be more
+unfoldable pub word_count : ℕ → ℕ
+word_count n = min n (2 ^ 64 - 1)
+
+pub word_count_small : (n : ℕ) → n < 2 ^ 64 → word_count n ≡ n
+unfolding word_count
+word_count_small n h = grind (arith, nat_tests)
+
+-- the count that is told of an array of so many words: of positions, which are one fewer than the segment ends
+abbrev pub told_count : Arr → ℕ → ℕ
+told_count (Ends n l) length = word_count (length - 1)
+told_count (Values n) length = word_count length
+told_count (Coordinates n l) length = word_count length
+told_count (Width n l) length = word_count length
+told_count (Dimension n l) length = word_count length
+told_count Range length = word_count length
+told_count (Key w key) length = word_count length
+told_count (Sums w) length = word_count length
+told_count (ListCoordinates g) length = word_count length
+told_count (ListPositions g) length = word_count length
 
 -- whether an array holds values, which are added by the record of arithmetic; other words are added as words
 abbrev pub holds_values : Arr → Bool

@@ -7,8 +7,8 @@ use Rattle.kernel_code.specs.declared.syntax.Arr.TheVariants.{Sums, ListCoordina
 use Rattle.kernel_code.specs.declared.syntax.LoopKind.{LoopKind}
 use Rattle.kernel_code.specs.declared.syntax.KExpr.{KExpr}
 use Rattle.kernel_code.specs.declared.syntax.KStmt.{KStmt, Set, Put, AddTo, Push, Extend, Cut, Sort, SortSum, If, While}
-use Rattle.kernel_code.specs.Arrays.{may_write, may_have, sum_in}
-use Rattle.kernel_code.specs.Meaning.{Setting, State, Outcome, Ended, Stuck, Over, More, value, then_run, if_written, with_array, set_var, set_array, one_turn, changed, grown, word_count, choice, run, run_list, run_turns, sort_outcome, sort_sum_outcome, set_outcome, put_outcome, add_outcome, push_outcome, extend_outcome, cut_outcome}
+use Rattle.kernel_code.specs.Arrays.{may_write, may_have, told_count, sum_in}
+use Rattle.kernel_code.specs.Meaning.{Setting, State, Outcome, Ended, Stuck, Over, More, value, then_run, if_written, with_array, set_var, set_array, one_turn, changed, grown, choice, run, run_list, run_turns, sort_outcome, sort_sum_outcome, set_outcome, put_outcome, add_outcome, push_outcome, extend_outcome, cut_outcome}
 use Rattle.kernel_code.specs.Equations.{run_if, run_while}
 
 -- P of the state that a run ends in, R of the growth that it is refused; never stuck, never out of turns
@@ -104,10 +104,10 @@ pub changed_is : (s : State) (a : Arr) (i : ℕ) (f : ℕ → ℕ) (xs : List �
 changed_is s a i f xs h = let is : nat_lt i (length xs) ≡ true = grind (arith, nat_tests) in ap (λ b. if b then Ended (set_array s a (slice_set xs i (f (slice_index xs i)))) else Stuck s.turns) is
 
 pub grown_is : (s : State) (a : Arr) (count : ℕ) (xs more : List ℕ) → may_have a count ≡ true → grown s a count xs more ≡ Ended (set_array s a (xs ++ more))
-grown_is s a count xs more h = ap (λ b. if b then Ended (set_array s a (xs ++ more)) else Over s.turns a count) h
+grown_is s a count xs more h = ap (λ b. if b then Ended (set_array s a (xs ++ more)) else Over s.turns a (told_count a count)) h
 
-pub grown_over : (s : State) (a : Arr) (count : ℕ) (xs more : List ℕ) → may_have a count ≡ false → grown s a count xs more ≡ Over s.turns a count
-grown_over s a count xs more h = ap (λ b. if b then Ended (set_array s a (xs ++ more)) else Over s.turns a count) h
+pub grown_over : (s : State) (a : Arr) (count : ℕ) (xs more : List ℕ) → may_have a count ≡ false → grown s a count xs more ≡ Over s.turns a (told_count a count)
+grown_over s a count xs more h = ap (λ b. if b then Ended (set_array s a (xs ++ more)) else Over s.turns a (told_count a count)) h
 
 pub does_set : (c : Setting) (x : ℕ) (e : KExpr) (rest : List KStmt) (s : State) (v : ℕ) (P : State → Type 0) (R : Arr → ℕ → Type 0) → value e s ≡ Some v → Does c rest (set_var s x v) P R → Does c (Set x e ∷ rest) s P R
 does_set c x e rest s v P R h d = does_ended c (Set x e) rest s (set_var s x v) P R (λ m. ap (set_outcome s x) h) d
@@ -126,25 +126,25 @@ does_add_to c a i e rest s j v xs P R hi he w ha l d =
 
 -- a growth that is allowed goes on, and one that isn't is refused
 grows : (c : Setting) (k : KStmt) (rest : List KStmt) (s : State) (a : Arr) (count : ℕ) (xs more : List ℕ) (P : State → Type 0) (R : Arr → ℕ → Type 0) (b : Bool) → may_have a count ≡ b → ((m : ℕ) → run c m k s ≡ grown s a count xs more)
-    → (may_have a count ≡ true → Does c rest (set_array s a (xs ++ more)) P R) → (may_have a count ≡ false → R a count) → Does c (k ∷ rest) s P R
+    → (may_have a count ≡ true → Does c rest (set_array s a (xs ++ more)) P R) → (may_have a count ≡ false → R a (told_count a count)) → Does c (k ∷ rest) s P R
 grows c k rest s a count xs more P R true is h go over = does_ended c k rest s (set_array s a (xs ++ more)) P R (λ m. h m ∙ grown_is s a count xs more is) (go is)
-grows c k rest s a count xs more P R false is h go over = does_over c k rest s s.turns a count P R (λ m. h m ∙ grown_over s a count xs more is) (over is)
+grows c k rest s a count xs more P R false is h go over = does_over c k rest s s.turns a (told_count a count) P R (λ m. h m ∙ grown_over s a count xs more is) (over is)
 
 pub does_push : (c : Setting) (a : Arr) (e : KExpr) (rest : List KStmt) (s : State) (v : ℕ) (xs : List ℕ) (P : State → Type 0) (R : Arr → ℕ → Type 0) → value e s ≡ Some v → may_write a ≡ true → s.arrays a ≡ Some xs
     → (may_have a (length xs + 1) ≡ true → Does c rest (set_array s a (xs ++ v ∷ [])) P R)
-    → (may_have a (length xs + 1) ≡ false → R a (length xs + 1))
+    → (may_have a (length xs + 1) ≡ false → R a (told_count a (length xs + 1)))
     → Does c (Push a e ∷ rest) s P R
 does_push c a e rest s v xs P R he w ha go over =
     grows c (Push a e) rest s a (length xs + 1) xs (v ∷ []) P R (may_have a (length xs + 1)) refl
     (λ m. ap (push_outcome s a) he ∙ with_array_is s a xs (λ xs. grown s a (length xs + 1) xs (v ∷ [])) w ha) go over
 
 pub does_extend : (c : Setting) (a : Arr) (n e : KExpr) (rest : List KStmt) (s : State) (k v : ℕ) (xs : List ℕ) (P : State → Type 0) (R : Arr → ℕ → Type 0) → value n s ≡ Some k → value e s ≡ Some v → may_write a ≡ true → s.arrays a ≡ Some xs
-    → (may_have a (word_count (length xs + k)) ≡ true → Does c rest (set_array s a (xs ++ replicate k v)) P R)
-    → (may_have a (word_count (length xs + k)) ≡ false → R a (word_count (length xs + k)))
+    → (may_have a (length xs + k) ≡ true → Does c rest (set_array s a (xs ++ replicate k v)) P R)
+    → (may_have a (length xs + k) ≡ false → R a (told_count a (length xs + k)))
     → Does c (Extend a n e ∷ rest) s P R
 does_extend c a n e rest s k v xs P R hn he w ha go over =
-    grows c (Extend a n e) rest s a (word_count (length xs + k)) xs (replicate k v) P R (may_have a (word_count (length xs + k))) refl
-    (λ m. ap (λ o. extend_outcome s a o (value e s)) hn ∙ ap (extend_outcome s a (Some k)) he ∙ with_array_is s a xs (λ xs. grown s a (word_count (length xs + k)) xs (replicate k v)) w ha) go over
+    grows c (Extend a n e) rest s a (length xs + k) xs (replicate k v) P R (may_have a (length xs + k)) refl
+    (λ m. ap (λ o. extend_outcome s a o (value e s)) hn ∙ ap (extend_outcome s a (Some k)) he ∙ with_array_is s a xs (λ xs. grown s a (length xs + k) xs (replicate k v)) w ha) go over
 
 pub does_cut : (c : Setting) (a : Arr) (e : KExpr) (rest : List KStmt) (s : State) (n : ℕ) (xs : List ℕ) (P : State → Type 0) (R : Arr → ℕ → Type 0) → value e s ≡ Some n → may_write a ≡ true → s.arrays a ≡ Some xs → Does c rest (set_array s a (take n xs)) P R → Does c (Cut a e ∷ rest) s P R
 does_cut c a e rest s n xs P R he w ha d =

@@ -1,5 +1,5 @@
 -- What a kernel does: where its run starts, and how it ends within so many turns in all.
-use Rattle.std.specs.Prelude.{ℕ, ◌+◌, ◌-◌, Bool, nat_lt, nat_le, if◌then◌else◌, List, [], length, Option, Some, None, slice_index}
+use Rattle.std.specs.Prelude.{ℕ, ◌+◌, Bool, nat_lt, nat_le, if◌then◌else◌, List, [], length, Option, Some, None, slice_index}
 use Rattle.numbers.specs.Arithmetic.{Arithmetic}
 use Rattle.kernel_code.specs.declared.syntax.Arr.{Arr}
 use Rattle.kernel_code.specs.declared.syntax.Arr.TheVariants.{Range, Values, Dimension, Ends, Coordinates, Width, Key, Sums, ListCoordinates, ListPositions}
@@ -54,19 +54,6 @@ place_of order (Sums w) = Workspace
 place_of order (ListCoordinates g) = Workspace
 place_of order (ListPositions g) = Workspace
 
--- the count that is told of it: of positions, which are one fewer than the segment ends
-abbrev pub told_count : Arr → ℕ → ℕ
-told_count (Ends n l) count = count - 1
-told_count (Values n) count = count
-told_count (Coordinates n l) count = count
-told_count (Width n l) count = count
-told_count (Dimension n l) count = count
-told_count Range count = count
-told_count (Key w key) count = count
-told_count (Sums w) count = count
-told_count (ListCoordinates g) count = count
-told_count (ListPositions g) count = count
-
 -- how a kernel's run ends
 pub data KernelOutcome : Type 0 where
   Finished : (arrays : Arr → Option (List ℕ)) (turns : LoopKind → ℕ) → KernelOutcome
@@ -77,7 +64,7 @@ pub data KernelOutcome : Type 0 where
 abbrev pub told : ℕ → Outcome → KernelOutcome
 told order (Ended s) = Finished s.arrays s.turns
 told order (Stuck t) = GotStuck
-told order (Over t a count) = TooLong (place_of order a) (told_count a count)
+told order (Over t a count) = TooLong (place_of order a) count
 told order More = NotFinished
 
 -- a kernel whose result has this order, on these arrays, for at most n turns in all

@@ -9,3 +9,5 @@ pub mod Does
 pub mod Keeps
 pub mod More
 pub mod Laws
+pub mod Widths
+pub mod ArrayNames

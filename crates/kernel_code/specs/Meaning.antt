@@ -1,7 +1,5 @@
 -- What an expression's value is, and what a statement does.
-use Rattle.std.specs.Prelude.{◌≡◌, ℕ, zero, suc, ◌+◌, ◌-◌, ◌*◌, ◌^◌, ◌<◌, min, Bool, true, false, not, nat_lt, nat_le, ◌==◌, ◌&&◌, ◌||◌, if◌then◌else◌, List, [], ◌∷◌, ◌++◌, length, map, take, replicate, Option, Some, None, slice_get, slice_index, slice_set, bit_and}
-use Rattle.std.proofs.Common.{arith}
-use Rattle.std.proofs.lemmas.Bool.Decides.{nat_tests}
+use Rattle.std.specs.Prelude.{ℕ, zero, suc, ◌+◌, ◌*◌, ◌^◌, min, Bool, true, false, not, nat_lt, nat_le, ◌==◌, ◌&&◌, ◌||◌, if◌then◌else◌, List, [], ◌∷◌, ◌++◌, length, map, take, replicate, Option, Some, None, slice_get, slice_index, slice_set, bit_and}
 use Rattle.numbers.specs.Arithmetic.{Arithmetic}
 use Rattle.numbers.specs.Ring.{word_sum, word_difference, word_product}
 use Rattle.kernel_code.specs.declared.syntax.Arr.{Arr}
@@ -12,7 +10,7 @@ use Rattle.kernel_code.specs.declared.syntax.Op.{Op}
 use Rattle.kernel_code.specs.declared.syntax.Op.TheVariants as op
 use Rattle.kernel_code.specs.declared.syntax.KExpr.{KExpr, Num, Var, At', Len, Bin', Min', Width', Row_of-KExpr, end_of-KExpr, more_of-KExpr}
 use Rattle.kernel_code.specs.declared.syntax.KStmt.{KStmt, Set, Put, AddTo, Push, Extend, Cut, Sort, SortSum, If', While', Row_of-KStmt, end_of-KStmt, more_of-KStmt}
-use Rattle.kernel_code.specs.Arrays.{same_arr, may_write, may_have, sum_in}
+use Rattle.kernel_code.specs.Arrays.{same_arr, may_write, may_have, told_count, sum_in}
 use Rattle.kernel_code.specs.Rows.{sorted_rows, list_rows, Row, summed_rows, rows_from, column_of}
 
 -- how values are added, and the number of keys of each workspace
@@ -26,7 +24,7 @@ pub record State : Type 0 where
   pub arrays : Arr → Option (List ℕ)
   pub turns : LoopKind → ℕ
 
--- how a run ends, each with the turns made: Over names the array and the length that the refused growth would have given; More where a loop had no turn left
+-- how a run ends, each with the turns made: Over names the array and the count that is told of the length that the refused growth would have given; More where a loop had no turn left
 pub data Outcome : Type 0 where
   Ended : (s : State) → Outcome
   Stuck : (turns : LoopKind → ℕ) → Outcome
@@ -151,21 +149,13 @@ add_outcome arithmetic s a i v = with_value s i (λ i. with_value s v (λ v. wit
 
 -- the words of an array and more, unless it may not have so many
 abbrev pub grown : State → Arr → ℕ → List ℕ → List ℕ → Outcome
-grown s a count xs more = if may_have a count then Ended (set_array s a (xs ++ more)) else Over s.turns a count
+grown s a count xs more = if may_have a count then Ended (set_array s a (xs ++ more)) else Over s.turns a (told_count a count)
 
 abbrev pub push_outcome : State → Arr → Option ℕ → Outcome
 push_outcome s a v = with_value s v (λ v. with_array s a (λ xs. grown s a (length xs + 1) xs (v ∷ [])))
 
--- a length as a word: one that is none is the last word, which is above every limit
-unfoldable pub word_count : ℕ → ℕ
-word_count n = min n (2 ^ 64 - 1)
-
-pub word_count_small : (n : ℕ) → n < 2 ^ 64 → word_count n ≡ n
-unfolding word_count
-word_count_small n h = grind (arith, nat_tests)
-
 abbrev pub extend_outcome : State → Arr → Option ℕ → Option ℕ → Outcome
-extend_outcome s a n v = with_value s n (λ n. with_value s v (λ v. with_array s a (λ xs. grown s a (word_count (length xs + n)) xs (replicate n v))))
+extend_outcome s a n v = with_value s n (λ n. with_value s v (λ v. with_array s a (λ xs. grown s a (length xs + n) xs (replicate n v))))
 
 abbrev pub cut_outcome : State → Arr → Option ℕ → Outcome
 cut_outcome s a n = with_value s n (λ n. with_array s a (λ xs. Ended (set_array s a (take n xs))))

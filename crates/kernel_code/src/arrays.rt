@@ -1,6 +1,5 @@
 ghost use Rattle.std.specs.Prelude.{◌≡◌, ℕ, ◌+◌, ◌++◌, replicate, ◌<◌, ◌≤◌, Bool, true, false, length, MatchOption, IfOk, OnOk, OnErr, Some, None, slice_index_or, option_map};
-ghost use Rattle.kernel_code.specs.Arrays.{same_arr, may_write, may_have, sum_in};
-ghost use Rattle.kernel_code.specs.Meaning.{word_count};
+ghost use Rattle.kernel_code.specs.Arrays.{same_arr, may_write, may_have, told_count, sum_in};
 ghost use Rattle.numbers.specs.Ring.{ring};
 ghost use Rattle.kernel_code.specs.Store.{array_of, IsPlaceOf};
 
@@ -78,12 +77,32 @@ pub(crate) fn place_of(arrays: &[Words], a: Arr) -> Option<usize>
     None
 }
 
-/// The sum of two words as a length: the last word where it would be more.
-#[tactic(auto, unfolding(crate::specs::Meaning::word_count))]
-pub(crate) fn sum_as_word(x: u64, y: u64) -> u64
-    ensures { result ≡ word_count (x + y) }
+/// Whether an array of so many words may have so many more.
+pub(crate) fn may_grow(a: Arr, length: u64, more: u64) -> bool
+    ensures { result ≡ may_have a (length + more) }
 {
-    x.saturating_add(y)
+    may_be_long(a, length.saturating_add(more))
+}
+
+/// The count that is told where an array of so many words is refused so many more: of words, or of positions, which are
+/// one fewer than the segment ends. It is the last word where it would be more.
+#[tactic(auto, unfolding(crate::specs::Arrays::word_count))]
+pub(crate) fn count_told(a: Arr, length: u64, more: u64) -> u64
+    ensures { result ≡ told_count a (length + more) }
+{
+    match a {
+        Arr::Ends(_, _) if length == 0 => more.saturating_sub(1),
+        Arr::Ends(_, _) => (length - 1).saturating_add(more),
+        Arr::Range
+        | Arr::Values(_)
+        | Arr::Dimension(_, _)
+        | Arr::Coordinates(_, _)
+        | Arr::Width(_, _)
+        | Arr::Key(_, _)
+        | Arr::Sums(_)
+        | Arr::ListCoordinates(_)
+        | Arr::ListPositions(_) => length.saturating_add(more),
+    }
 }
 
 /// Appends n copies of a word. Refused for want of memory, the words are open.

@@ -1,13 +1,13 @@
 ghost use Rattle.std.specs.Prelude.{◌≡◌, ℕ, ◌+◌, ◌^◌, ◌<◌, List, length, MatchOption, IfOk, OnOk, OnErr, ◌++◌, ◌∷◌, [], Some, None, take, replicate, slice_get, option_map, unwrap_or, map};
 ghost use Rattle.numbers.specs.Ring.{ring};
 ghost use Rattle.kernel_code.specs.Arrays.{sum_in};
-ghost use Rattle.kernel_code.specs.Meaning.{Ended, Stuck, Outcome, set_array, one_turn, sort_outcome, sort_sum_outcome, key_columns, set_columns, with_array, changed, grown, word_count, value, word_at, length_of, run_list, set_outcome, put_outcome, add_outcome, push_outcome, extend_outcome, cut_outcome};
+ghost use Rattle.kernel_code.specs.Meaning.{Ended, Stuck, Outcome, set_array, one_turn, sort_outcome, sort_sum_outcome, key_columns, set_columns, with_array, changed, grown, value, word_at, length_of, run_list, set_outcome, put_outcome, add_outcome, push_outcome, extend_outcome, cut_outcome};
 ghost use Rattle.kernel_code.specs.Kernels.{within};
 ghost use Rattle.kernel_code.specs.Rows.{row_of};
 ghost use Rattle.kernel_code.specs.Store.{count_of, state_of, outcome_of, empty_state, restarted, setting, has_ended, kept_at, made, IsWritable};
 
 use crate::arrays::{
-    Words, append_copies, may_be_long, may_be_written, place_of, sum_as_word, sum_of_words,
+    Words, append_copies, count_told, may_be_written, may_grow, place_of, sum_of_words,
 };
 use crate::operators::{apply_to_operands, least_operand, width_of_operand};
 use crate::rows::{coordinates_of, positions_of, rows_of_list, sort_rows};
@@ -43,7 +43,8 @@ pub enum Ending {
     /// be written, a width has no word, rows have columns of different lengths, or a workspace has no
     /// number of keys.
     Stuck,
-    /// An array would have grown past its limit, to this length.
+    /// An array would have grown past its limit, to this count: of words, or of positions, which are one fewer
+    /// than the segment ends. A count stays at the last word.
     Over { array: Arr, count: u64 },
     /// A loop would have gone on with no turn left.
     More,
@@ -255,8 +256,9 @@ impl Machine {
             return Ok(Ending::Stuck);
         };
         let words = &mut self.arrays[place].words;
-        let count = words.len() as u64 + 1;
-        if !may_be_long(a, count) {
+        let length = words.len() as u64;
+        if !may_grow(a, length, 1) {
+            let count = count_told(a, length, 1);
             return Ok(Ending::Over { array: a, count });
         }
         words.push(value)?;
@@ -264,15 +266,16 @@ impl Machine {
     }
 
     fn extend_words(&mut self, a: Arr, n: u64, value: u64) -> Result<Ending, AllocError>
-        ensures is { IfOk result (λ ending. outcome_of ending (state_of self.new) ≡ with_array (state_of self.old) a (λ xs. grown (state_of self.old) a (word_count (length xs + n)) xs (replicate n value))) }
+        ensures is { IfOk result (λ ending. outcome_of ending (state_of self.new) ≡ with_array (state_of self.old) a (λ xs. grown (state_of self.old) a (length xs + n) xs (replicate n value))) }
         ensures turns { OnOk result (self.new.turns ≡ self.old.turns) }
     {
         let Some(place) = self.writable(a) else {
             return Ok(Ending::Stuck);
         };
         let words = &mut self.arrays[place].words;
-        let count = sum_as_word(words.len() as u64, n);
-        if !may_be_long(a, count) {
+        let length = words.len() as u64;
+        if !may_grow(a, length, n) {
+            let count = count_told(a, length, n);
             return Ok(Ending::Over { array: a, count });
         }
         append_copies(words, n, value)?;

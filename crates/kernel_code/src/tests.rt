@@ -166,6 +166,36 @@ fn faults_are_stuck(rt: HostRuntime) -> Result<(), Fail> {
 
 const COLUMNS: [Arr; 3] = [Arr::Key(0, 0), Arr::Key(0, 1), Arr::Sums(0)];
 
+/// The ending of a growth by so many words of an array that has these.
+fn grown(alloc: Global, a: Arr, words: &[u64], more: u64) -> Result<Ending, AllocError> {
+    let mut machine = Machine::new(alloc);
+    machine.add_array(a, words.to_vec(alloc)?)?;
+    let code = one_statement(alloc, KStmt::Extend(a, KExpr::Num(more), KExpr::Num(0)))?;
+    machine.run(code.as_slice(), &[], 0)
+}
+
+/// A level may have 2147483647 positions, and one segment end more.
+#[test]
+fn refused_growths_tell_positions(rt: HostRuntime) -> Result<(), Fail> {
+    let alloc = rt.alloc();
+    let coordinates = Arr::Coordinates(0, 1);
+    let ends = Arr::Ends(0, 1);
+    let rows: [(Arr, &[u64], u64, u64); 6] = [
+        (coordinates, &[], 2_147_483_648, 2_147_483_648),
+        (coordinates, &[7], 2_147_483_647, 2_147_483_648),
+        (coordinates, &[7], u64::MAX, u64::MAX),
+        (ends, &[], 2_147_483_649, 2_147_483_648),
+        (ends, &[0], u64::MAX, u64::MAX),
+        (ends, &[], u64::MAX, u64::MAX - 1),
+    ];
+    for row in rows.iter() {
+        let (array, words, more, count) = *row;
+        let wanted = Ending::Over { array, count };
+        assert_eq!(rt; grown(alloc, array, words, more)?, wanted);
+    }
+    Ok(())
+}
+
 fn workspace(alloc: Global, columns: [&[u64]; 3]) -> Result<Machine, AllocError> {
     let mut machine = Machine::new(alloc);
     for i in 0..3 {

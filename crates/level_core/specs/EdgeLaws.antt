@@ -1,7 +1,7 @@
 -- What giving parents their positions leaves: each parent's positions are what was given to it, and stay so.
-use Rattle.std.specs.Prelude.{◌≡◌, ℕ, zero, suc, ◌+◌, ◌-◌, ◌≤◌, ◌<◌, Bool, true, false, if◌then◌else◌, List, [], ◌∷◌, length, take, slice_set, refl}
+use Rattle.std.specs.Prelude.{◌≡◌, ℕ, zero, suc, ◌+◌, ◌-◌, ◌≤◌, ◌<◌, false, if◌then◌else◌, List, [], ◌∷◌, length, take, slice_set, refl}
 use Rattle.std.proofs.Common.{◌∙◌, sym, ap, subst, arith}
-use Rattle.level_core.specs.Entries.{Span, span, one}
+use Rattle.level_core.specs.Entries.{span, one}
 use Rattle.level_core.specs.Kinds.{Letter, properties}
 use Rattle.level_core.specs.Logs.{Log, total, NoneFrom, IsLog, with_edges, segment_in, MayGive}
 

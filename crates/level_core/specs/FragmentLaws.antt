@@ -1,5 +1,5 @@
 -- What fragments are made of: values of their arguments, words read, and answers left in one variable or two.
-use Rattle.std.specs.Prelude.{◌≡◌, ℕ, zero, suc, ◌+◌, ◌-◌, ◌*◌, ◌%◌, ◌^◌, ◌≤◌, ◌<◌, nat_lt, true, false, List, [], ◌∷◌, Some, None, slice_get, refl}
+use Rattle.std.specs.Prelude.{◌≡◌, ℕ, zero, suc, ◌+◌, ◌-◌, ◌*◌, ◌%◌, ◌^◌, ◌≤◌, ◌<◌, nat_lt, Bool, true, false, List, [], ◌∷◌, Some, None, slice_get, refl}
 use Rattle.std.proofs.Common.{◌∙◌, ap, subst, arith}
 use Rattle.std.proofs.Math.Nat.{mod-eq_of_lt}
 use Rattle.std.proofs.lemmas.Bool.Decides.{nat_tests}
@@ -8,12 +8,22 @@ use Rattle.kernel_code.specs.declared.syntax.Op.{Op}
 use Rattle.kernel_code.specs.declared.syntax.Op.TheVariants.{Add, Sub, Mul, Less}
 use Rattle.kernel_code.specs.declared.syntax.KExpr.{Num, At, Bin}
 use Rattle.kernel_code.specs.declared.syntax.KStmt.{Set}
+use Rattle.kernel_code.specs.Arrays.{same_arr}
+use Rattle.kernel_code.specs.ArrayNames.{same_arr_is}
 use Rattle.kernel_code.specs.Meaning.{word_at, word_of, apply_both, set_var}
 use Rattle.kernel_code.specs.Does.{does_set, does_nothing, does_weaker}
 use Rattle.kernel_code.specs.Equations.{value_at, value_bin}
 use Rattle.kernel_code.specs.Keeps.{this_var, other_var, value_kept, leaves_wider}
 use Rattle.level_core.specs.Entries.{Span}
-use Rattle.level_core.specs.Fragments.{Setting, State, Arr, LoopKind, KExpr, KStmt, value, Below, AreBelow, ValuesAre, Reads, NoVariable, EveryArray, no_turns, Never, SpanLeft, OptionLeft, NumberLeft}
+use Rattle.level_core.specs.Fragments.{Setting, State, Arr, LoopKind, KExpr, KStmt, value, Below, AreBelow, ValuesAre, IsOf, IsOutside, Reads, NoVariable, EveryArray, no_turns, Never, SpanLeft, OptionLeft, NumberLeft}
+
+-- an array of the level isn't one outside it
+pub outside_apart : (tensor level : ℕ) (a b : Arr) → IsOf tensor level a → IsOutside tensor level b → same_arr a b ≡ false
+outside_apart tensor level a b of out = by_test (same_arr a b) refl
+  where
+    by_test : (t : Bool) → same_arr a b ≡ t → t ≡ false
+    by_test true is = absurd (out (subst (IsOf tensor level) (same_arr_is a b is) of))
+    by_test false is = refl
 
 -- an argument has its value, over variables below free
 pub argument_is : (args : List KExpr) (e : KExpr) (free n v : ℕ) (vs : List ℕ) (s : State) → slice_get args n ≡ Some e → slice_get vs n ≡ Some v → AreBelow free args → ValuesAre args s vs → (value e s ≡ Some v) × Below free e

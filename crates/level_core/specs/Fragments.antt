@@ -1,6 +1,7 @@
 -- What the laws of fragments say, of any kind of level.
 use Rattle.std.specs.Prelude.{◌≡◌, ℕ, ◌+◌, ◌-◌, ◌≤◌, ◌<◌, ◌^◌, if◌then◌else◌, List, [], ◌∷◌, length, Option, Some, None}
 use Rattle.limits.specs.Limits.{greatest_position_count}
+use Rattle.kernel_code.specs.Arrays.{word_count}
 pub use Rattle.kernel_code.specs.Meaning.{Setting, State, value, same_kind}
 pub use Rattle.kernel_code.specs.Does.{Does, Never}
 pub use Rattle.kernel_code.specs.Keeps.{Below, Leaves, NoVariable, EveryArray, no_turns}
@@ -72,11 +73,15 @@ Reads c code free most s Answer = Runs c code free EveryArray most s Answer Neve
 abbrev pub Writes : Setting → List KStmt → ℕ → ℕ → ℕ → (LoopKind → ℕ) → State → (State → Type 0) → (Arr → ℕ → Type 0) → Type 0
 Writes c code free tensor level most s Answer Refused = Runs c code free (IsOutside tensor level) most s Answer Refused
 
--- a growth of one of the level's arrays to so many words, which pass the limit on positions
-pub record PassesLimit (tensor level length : ℕ) (a : Arr) (count : ℕ) : Type 0 where
+-- a growth of one of the level's arrays to so many positions, which pass the limit, and are told as a word
+pub record PassesLimit (tensor level positions : ℕ) (a : Arr) (count : ℕ) : Type 0 where
   pub array : IsOf tensor level a
-  pub grown : count ≡ length
-  pub above : greatest_position_count < count
+  pub told : count ≡ word_count positions
+  pub above : greatest_position_count < positions
+
+-- the same, of no more positions than so many
+abbrev pub PassesLimitWithin : ℕ → ℕ → ℕ → Arr → ℕ → Type 0
+PassesLimitWithin tensor level positions a count = (n : ℕ) × PassesLimit tensor level n a count × (n ≤ positions)
 
 -- a number left in a variable
 abbrev pub NumberLeft : ℕ → ℕ → State → Type 0

@@ -41,6 +41,10 @@ pub record AreEntries (p : Properties) (n : ℕ) (parent segment : Span) (es : L
   pub placed : Placed segment.lo segment.hi es
   pub properties : HaveProperties p n parent segment es
 
+-- so many positions may be asked of code: more than the limit are refused where they are stored, and a full level stores none
+abbrev pub CodeMayPrepare : Letter → ℕ → Type 0
+CodeMayPrepare letter positions = (properties letter).full ≡ true → positions ≤ greatest_position_count
+
 -- a coordinate below the range n may be inserted: where a level isn't full, one that isn't there yet, while a position is free
 pub record MayInsert (letter : Letter) (n : ℕ) (segment : Span) (es : List Entry) (x : ℕ) : Type 0 where
   pub below : x < n

@@ -1,6 +1,6 @@
 -- What is appended to a level before it is finished: coordinates in the order of positions, and how many of them stand
 -- below each parent.
-use Rattle.std.specs.Prelude.{◌≡◌, ◌≢◌, ℕ, zero, suc, ◌+◌, ◌-◌, ◌≤◌, ◌<◌, ◌==◌, Bool, true, false, if◌then◌else◌, List, [], ◌∷◌, ◌++◌, length, take, drop, replicate, slice_set}
+use Rattle.std.specs.Prelude.{◌≡◌, ◌≢◌, ℕ, zero, suc, ◌+◌, ◌-◌, ◌≤◌, ◌<◌, ◌^◌, ◌==◌, Bool, true, false, if◌then◌else◌, List, [], ◌∷◌, ◌++◌, length, take, drop, replicate, slice_set}
 use Rattle.limits.specs.Limits.{greatest_position_count}
 pub use Rattle.level_core.specs.declared.stage.Stage.{Stage}
 pub use Rattle.level_core.specs.declared.stage.Stage.TheVariants.{Fresh, Unfinished, Finished}
@@ -85,6 +85,12 @@ finished log = record log { stage = Finished }
 -- parents within the limit on positions may be reserved until the level is finished
 pub record MayReserve (parents : ℕ) (log : Log) : Type 0 where
   pub within : parents ≤ greatest_position_count
+  pub reservable : log.stage ≢ Finished
+
+-- the code of it may be run for more parents too, which it refuses where it stores their ends: a branchless level stores none
+pub record CodeMayReserve (letter : Letter) (parents : ℕ) (log : Log) : Type 0 where
+  pub word : parents < 2 ^ 64
+  pub within : (properties letter).branchless ≡ true → parents ≤ greatest_position_count
   pub reservable : log.stage ≢ Finished
 
 -- a coordinate below the range n that may come next: what no parent has been given yet goes on rising with it, unless the level is branchless

@@ -1,9 +1,9 @@
 ghost use Rattle.std.specs.Prelude.{◌≡◌, ◌≢◌, ◌≤◌, ◌<◌, ◌+◌, ◌-◌, ◌*◌, ℕ, List, [], ◌∷◌, Option, length, IfOk, IsTrue, true, false};
 ghost use Rattle.limits.specs.Limits.{greatest_position_count};
 ghost use Rattle.level_core.specs.Entries.{Span, Entry, IsIn, StandsAt, coord_at, position_of, Gains, one};
-ghost use Rattle.level_core.specs.Kinds.{Letter, properties, capabilities, AreEntries, MayInsert};
-ghost use Rattle.level_core.specs.Logs.{Log, IsLog, with_parents, with_coord, with_edges, MayReserve, MayAppend, MayAppendEdges};
-ghost use Rattle.level_core.specs.Fragments.{Setting, State, Arr, AreArguments, ValuesAre, IsOf, Reads, Writes, Never, PassesLimit, SpanLeft, OptionLeft, NumberLeft, no_turns, child_turns, probe_turns};
+ghost use Rattle.level_core.specs.Kinds.{Letter, properties, capabilities, AreEntries, MayInsert, CodeMayPrepare};
+ghost use Rattle.level_core.specs.Logs.{Log, IsLog, with_parents, with_coord, with_edges, CodeMayReserve, MayAppend, MayAppendEdges};
+ghost use Rattle.level_core.specs.Fragments.{Setting, State, Arr, AreArguments, ValuesAre, IsOf, Reads, Writes, Never, PassesLimit, PassesLimitWithin, SpanLeft, OptionLeft, NumberLeft, no_turns, child_turns, probe_turns};
 
 use crate::letter::{Capabilities, Letter, Properties, caps_of, props_of};
 use crate::span::{Entry, Span};
@@ -15,7 +15,9 @@ use trees::Items;
 /// level numbered `level` (from 1) of a tensor: its arguments `args` are expressions over variables below
 /// `free`, and it leaves its answer in the variables from `free` on and sets none below: a span in two, an
 /// option as 1 and the number, or as 0. A kind has the fragments of the calls that its capabilities name: what
-/// another fragment answers isn't said. Fragments are refused for want of memory alone.
+/// another fragment answers isn't said. Fragments are refused for want of memory alone. Their code does what the
+/// call does, also without the call's conditions on lengths of arrays: it is refused a growth exactly where the
+/// positions of an array would pass the limit.
 pub trait LevelKind {
     /// The kind's letter.
     ghost kind: { Self → Letter };
@@ -41,7 +43,10 @@ pub trait LevelKind {
     /// What was appended.
     ghost log: { Self → Log };
 
-    /// So many parents of at most so many coordinates each may be prepared.
+    /// The number of positions of so many parents of at most so many coordinates each.
+    ghost positions_for: { Self → ℕ → ℕ → ℕ };
+
+    /// So many parents of at most so many coordinates each may be prepared, where their positions are within the limit.
     ghost may_prepare: { Self → ℕ → ℕ → Type 0 };
 
     /// The second level is the first with so many parents of at most so many coordinates each prepared.
@@ -127,7 +132,7 @@ pub trait LevelKind {
     ) -> Result<Items<KStmt>, AllocError>
         requires arguments { AreArguments 2 free args.now }
         requires result { tensor ≡ 0 }
-        ensures { (capabilities (kind self.now)).append ≡ true → IfOk result (λ code. (c : Setting) (l : Self) → kind l ≡ kind self.now → keeps l → (n parents : ℕ) → MayReserve parents (log l) → (s : State) → holds l tensor level s.arrays → ValuesAre args.now s (n ∷ parents ∷ []) → Writes c code free tensor level no_turns s (λ t. (m : Self) × keeps m × (kind m ≡ kind l) × (size m ≡ size l) × (log m ≡ with_parents (kind l) parents (log l)) × holds m tensor level t.arrays) Never) };
+        ensures { (capabilities (kind self.now)).append ≡ true → IfOk result (λ code. (c : Setting) (l : Self) → kind l ≡ kind self.now → keeps l → (n parents : ℕ) → CodeMayReserve (kind l) parents (log l) → (s : State) → holds l tensor level s.arrays → ValuesAre args.now s (n ∷ parents ∷ []) → Writes c code free tensor level no_turns s (λ t. (m : Self) × keeps m × (kind m ≡ kind l) × (size m ≡ size l) × (log m ≡ with_parents (kind l) parents (log l)) × (parents ≤ greatest_position_count) × holds m tensor level t.arrays) (PassesLimit tensor level parents)) };
 
     /// Code for `append_coord`, of a coordinate.
     fn frag_append(
@@ -166,7 +171,7 @@ pub trait LevelKind {
     ) -> Result<Items<KStmt>, AllocError>
         requires arguments { AreArguments 2 free args.now }
         requires result { tensor ≡ 0 }
-        ensures { (capabilities (kind self.now)).insert ≡ true → IfOk result (λ code. (c : Setting) (l : Self) → kind l ≡ kind self.now → keeps l → (parents most : ℕ) → may_prepare l parents most → (s : State) → holds l tensor level s.arrays → ValuesAre args.now s (parents ∷ most ∷ []) → Writes c code free tensor level no_turns s (λ t. (m : Self) × keeps m × prepared l parents most m × holds m tensor level t.arrays) Never) };
+        ensures { (capabilities (kind self.now)).insert ≡ true → IfOk result (λ code. (c : Setting) (l : Self) → kind l ≡ kind self.now → keeps l → (parents most : ℕ) → may_prepare l parents most → CodeMayPrepare (kind l) (positions_for l parents most) → (s : State) → holds l tensor level s.arrays → ValuesAre args.now s (parents ∷ most ∷ []) → Writes c code free tensor level no_turns s (λ t. (m : Self) × keeps m × prepared l parents most m × (positions_for l parents most ≤ greatest_position_count) × holds m tensor level t.arrays) (PassesLimitWithin tensor level (positions_for l parents most))) };
 
     /// Code for `insert_coord`, of a parent and a coordinate.
     fn frag_insert(
@@ -192,7 +197,7 @@ pub trait LevelKind {
 
     /// Prepared parents may be asked and inserted into: where a level isn't full they have no entries yet, and twice
     /// as many positions as coordinates at most.
-    ghost prepares: { (l m : Self) (parents most : ℕ) → may_prepare l parents most → prepared l parents most m → (kind m ≡ kind l) × (size m ≡ size l) × ((p : ℕ) → p < parents → allowed m (one p) × ((properties (kind m)).full ≡ false → (entries m (one p) ≡ []) × (2 * most ≤ (segment_of m (one p)).hi - (segment_of m (one p)).lo))) };
+    ghost prepares: { (l m : Self) (parents most : ℕ) → may_prepare l parents most → positions_for l parents most ≤ greatest_position_count → prepared l parents most m → (kind m ≡ kind l) × (size m ≡ size l) × ((p : ℕ) → p < parents → allowed m (one p) × ((properties (kind m)).full ≡ false → (entries m (one p) ≡ []) × (2 * most ≤ (segment_of m (one p)).hi - (segment_of m (one p)).lo))) };
 
     /// An inserted coordinate stands below its parent at its position, and all other entries are as before.
     ghost inserts: { (l m : Self) (parent x slot : ℕ) → allowed l (one parent) → MayInsert (kind l) (size l) (segment_of l (one parent)) (entries l (one parent)) x → inserted l parent x slot m → (kind m ≡ kind l) × (size m ≡ size l) × IsIn slot (segment_of l (one parent)) × Gains x slot (entries l (one parent)) (entries m (one parent)) × ((p : ℕ) → allowed l (one p) → allowed m (one p) × (segment_of m (one p) ≡ segment_of l (one p)) × (p ≢ parent → entries m (one p) ≡ entries l (one p))) };

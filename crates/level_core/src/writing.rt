@@ -57,7 +57,8 @@ pub trait Append: Level {
 pub trait Insert: Level {
     /// Makes room for so many parents of at most `most` coordinates each. Refused for want of memory, the level is as before.
     fn prepare(&mut self, parents: u64, most: u64) -> Result<(), AllocError>
-        requires { Self.may_prepare self.old parents most }
+        requires may { Self.may_prepare self.old parents most }
+        requires within { Self.positions_for self.old parents most ≤ greatest_position_count }
         ensures ok { OnOk result (Self.prepared self.old parents most self.new) }
         ensures err { OnErr result (self.new ≡ self.old) };
 

@@ -9,12 +9,12 @@ use Rattle.kernel_code.specs.Does.{Never, does_weaker, does_nothing}
 use Rattle.kernel_code.specs.Keeps.{NoVariable, no_turns, leaves_none}
 use Rattle.level_core.specs.declared.span.Span.{Span}
 use Rattle.level_core.specs.declared.span.Entry.{Entry}
-use Rattle.level_core.specs.Logs.{with_parents, with_coord, with_edges, MayAppend}
+use Rattle.level_core.specs.Logs.{with_parents, with_coord, with_edges, CodeMayReserve, MayAppend}
 use Rattle.level_core.specs.Fragments.{AreBelow, ValuesAre, IsOutside, Reads, Writes, PassesLimit, SpanLeft, turns_of, child_turns}
 use Rattle.level_core.specs.FragmentLaws.{argument_is, span_set, two_code}
 use Rattle.coordinate_lists.specs.Codes.{Appended}
 use Rattle.singleton_level.specs.Singleton.{SingletonLevel, letter_of, log_of, KeepsRules, Holds}
-use Rattle.singleton_level.specs.RuleLaws.{reserved, reserved_keeps, reserved_logs, appended_keeps, edges_log}
+use Rattle.singleton_level.specs.RuleLaws.{branchless, reserved, reserved_keeps, reserved_logs, appended_keeps, edges_log}
 
 pub segment_law : (c : Setting) (free : ℕ) (args : List KExpr) (lo hi : KExpr) (parent : Span) (s : State) → slice_get args 0 ≡ Some lo → slice_get args 1 ≡ Some hi → AreBelow free args → ValuesAre args s (parent.lo ∷ parent.hi ∷ [])
     → Reads c (two_code free lo hi) free no_turns s (SpanLeft free parent)
@@ -27,13 +27,13 @@ pub child_turns_are : (unique : Bool) (e : Entry) → child_turns (letter_of uni
 child_turns_are true e = refl
 child_turns_are false e = refl
 
--- what reserving leaves
+-- what reserving leaves, where the parents are within the limit
 abbrev pub Reserves : SingletonLevel → ℕ → ℕ → ℕ → State → Type 0
-Reserves l parents tensor level t = (m : SingletonLevel) × KeepsRules m × (letter_of m.unique ≡ letter_of l.unique) × (m.size ≡ l.size) × (log_of m ≡ with_parents (letter_of l.unique) parents (log_of l)) × Holds m tensor level t.arrays
+Reserves l parents tensor level t = (m : SingletonLevel) × KeepsRules m × (letter_of m.unique ≡ letter_of l.unique) × (m.size ≡ l.size) × (log_of m ≡ with_parents (letter_of l.unique) parents (log_of l)) × (parents ≤ greatest_position_count) × Holds m tensor level t.arrays
 
 -- no code, since the number of parents stands in no array
-pub reserve_law : (c : Setting) (l : SingletonLevel) (tensor level free parents : ℕ) (s : State) → KeepsRules l → Holds l tensor level s.arrays → Writes c [] free tensor level no_turns s (Reserves l parents tensor level) Never
-reserve_law c l tensor level free parents s k held = does_nothing c s _ Never (leaves_none NoVariable (IsOutside tensor level) free no_turns s, (reserved parents l, reserved_keeps l parents l.spare k, refl, refl, reserved_logs l parents, held))
+pub reserve_law : (c : Setting) (l : SingletonLevel) (tensor level free parents : ℕ) (s : State) → KeepsRules l → CodeMayReserve (letter_of l.unique) parents (log_of l) → Holds l tensor level s.arrays → Writes c [] free tensor level no_turns s (Reserves l parents tensor level) (PassesLimit tensor level parents)
+reserve_law c l tensor level free parents s k may held = does_nothing c s _ (PassesLimit tensor level parents) (leaves_none NoVariable (IsOutside tensor level) free no_turns s, (reserved parents l, reserved_keeps l parents l.spare k, refl, refl, reserved_logs l parents, may.within (branchless l.unique), held))
 
 -- what appending leaves
 abbrev pub Appends : SingletonLevel → ℕ → ℕ → ℕ → State → Type 0

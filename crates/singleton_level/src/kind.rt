@@ -26,6 +26,8 @@ impl LevelKind for SingletonLevel {
 
     ghost log = { log_of };
 
+    ghost positions_for = { λ l parents most. 0 };
+
     ghost may_prepare = { λ l parents most. ⊥ };
 
     ghost prepared = { λ l parents most m. ⊥ };
@@ -151,7 +153,7 @@ impl LevelKind for SingletonLevel {
 
     ghost logs = { logs_are };
 
-    ghost prepares = { λ l m parents most may is. absurd is };
+    ghost prepares = { λ l m parents most may within is. absurd may };
 
     ghost inserts = { λ l m parent x slot allowed may is. absurd is };
 }

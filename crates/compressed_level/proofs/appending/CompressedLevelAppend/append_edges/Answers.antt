@@ -1,6 +1,6 @@
 use Rattle.std.proofs.Common.{◌+◌, sym, subst, arith}
 use Rattle.compressed_level.specs.Compressed.{KeepsRules, IsStored}
-use Rattle.compressed_level.specs.CallLaws.{giving, edges_keep, edges_logged, stored}
+use Rattle.compressed_level.specs.CallLaws.{giving, edges_keep, stored}
 use Rattle.compressed_level.proofs.appending.CompressedLevelAppend.append_edges.Goals as goal
 
 pub overflow_add-parent : goal.overflow_add-parent

@@ -1,6 +1,6 @@
-use Rattle.std.proofs.Common.{◌≡◌, ◌∙◌, sym, ap, subst, arith, refl, length}
+use Rattle.std.proofs.Common.{◌≡◌, ◌∙◌, sym, ap, arith, refl, length}
 use Rattle.level_core.specs.declared.stage.Stage.TheVariants.{Finished}
-use Rattle.level_core.specs.Logs.{Log, segment_in, finished}
+use Rattle.level_core.specs.Logs.{segment_in, finished}
 use Rattle.compressed_level.specs.Compressed.{log_in}
 use Rattle.compressed_level.specs.LevelLaws.{allowed_finished}
 use Rattle.compressed_level.specs.CallLaws.{stored, finishing, finish_keeps, finish_logged}

@@ -1,4 +1,4 @@
-use Rattle.std.proofs.Common.{◌≡◌, ◌-◌, ◌++◌, ◌∙◌, sym, ap, subst, arith, length, replicate}
+use Rattle.std.proofs.Common.{◌≡◌, ◌-◌, ◌++◌, ◌∙◌, sym, ap, subst, length, replicate}
 use Rattle.level_core.specs.declared.stage.Stage.TheVariants.{Unfinished}
 use Rattle.compressed_level.specs.Compressed.{KeepsRules, IsStored}
 use Rattle.compressed_level.specs.CallLaws.{stored, parents_keep}

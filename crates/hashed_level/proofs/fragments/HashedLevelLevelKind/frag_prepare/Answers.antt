@@ -1,13 +1,13 @@
 use Rattle.std.proofs.Common.{◌≡◌, sym, subst}
-use Rattle.kernel_code.specs.Does.{Never}
 use Rattle.kernel_code.specs.Keeps.{no_turns}
-use Rattle.level_core.specs.Fragments.{Writes}
+use Rattle.level_core.specs.Fragments.{Writes, PassesLimitWithin}
+use Rattle.hashed_level.specs.Hashed.{hashed_positions}
 use Rattle.hashed_level.specs.Code.{prepare_code}
 use Rattle.hashed_level.specs.CodeLaws.{Made, prepare_law}
 use Rattle.hashed_level.proofs.fragments.HashedLevelLevelKind.frag_prepare.Goals as goal
 
 pub returns : goal.returns
-returns c = λ can setting l same keeps parents most may s held values.
+returns c = λ can setting l same keeps parents most may enough s held values.
     let is : c.in_ok-code.code ≡ prepare_code c.args.tensor c.args.level c.in_ok-parents.parents c.in_ok-most.most c.args.free = c.in_ok-code.ensures in
-    subst (λ code. Writes setting code c.args.free c.args.tensor c.args.level no_turns s (Made l c.args.tensor c.args.level parents most) Never) (sym is)
+    subst (λ code. Writes setting code c.args.free c.args.tensor c.args.level no_turns s (Made l c.args.tensor c.args.level parents most) (PassesLimitWithin c.args.tensor c.args.level (hashed_positions l parents most))) (sym is)
     (prepare_law setting l c.args.tensor c.args.level c.args.free c.args.args.now c.in_ok-parents.parents c.in_ok-most.most parents most s c.requires.result c.in_ok-parents.ensures c.in_ok-most.ensures c.requires.arguments.below may held values)

@@ -76,6 +76,13 @@ pub width_is_slot_width : (x : ℕ) → x ≤ 2 ^ 62 → width x ≡ Some (slot_
 unfolding width slot_width
 width_is_slot_width x h = ap (λ t. if t then Some (2 * 2 ^ least_exponent x 62) else None) (test_le x (2 ^ 62) h)
 
+pub width_is : (x p : ℕ) → x ≤ 2 ^ 62 → IsPowerOfTwo p → x ≤ p → p / 2 < max 1 x → Some (2 * p) ≡ width x
+width_is x p h power above below = ap Some (slot_width_is x p h power above below) ∙ sym (width_is_slot_width x h)
+
+pub width_none : (x : ℕ) → 2 ^ 62 < x → None ≡ width x
+unfolding width
+width_none x h = sym (ap (λ t. if t then Some (2 * 2 ^ least_exponent x 62) else None) (test_gt x (2 ^ 62) h))
+
 pub slot_width_power : (x : ℕ) → (k : ℕ) × (slot_width x ≡ 2 ^ k)
 unfolding slot_width
 slot_width_power x = (suc (least_exponent x 62), omega (arith, two-pow-succ (least_exponent x 62)))
@@ -99,3 +106,30 @@ slot_width_enough x h = omega (arith, exponent_enough x 62 h)
 -- two coordinates have four slots
 pub slot_width_two : slot_width 2 ≡ 4
 slot_width_two = sym (slot_width_is 2 2 (lit≤ tt) (1, refl) (omega arith) (lit< tt))
+
+within_or_beyond : (k n : ℕ) → (k ≤ n) ⊎ (suc n ≤ k)
+within_or_beyond k n = grind arith
+
+least_exponent_least : (x k n : ℕ) → x ≤ 2 ^ k → least_exponent x n ≤ k
+least_exponent_least x k zero h = omega arith
+least_exponent_least x k (suc n) h = elim (within_or_beyond k n) [
+  | inl le ↦ by_test le (least_exponent_least x k n h) (nat_le x (2 ^ least_exponent x n)) refl
+  | inr more ↦ let few = least_exponent_small x (suc n) in omega (arith, few, more)
+]
+  where
+    by_test : k ≤ n → least_exponent x n ≤ k → (b : Bool) → nat_le x (2 ^ least_exponent x n) ≡ b → (if b then least_exponent x n else suc n) ≤ k
+    by_test le few true is = few
+    by_test le few false is =
+        let wide : 2 ^ k ≤ 2 ^ n = pow-le-pow_right (lit< tt) le in
+        let enough = exponent_enough x n (omega (arith, h, wide)) in
+        absurd (true_is_false (sym (test_le x (2 ^ least_exponent x n) enough) ∙ is))
+      where
+        true_is_false : true ≡ false → ⊥
+        true_is_false h = cc
+
+-- no width is more than twice a power of two that is enough
+pub slot_width_small : (x k : ℕ) → x ≤ 2 ^ k → slot_width x ≤ 2 * 2 ^ k
+unfolding slot_width
+slot_width_small x k h =
+    let few : 2 ^ least_exponent x 62 ≤ 2 ^ k = pow-le-pow_right (lit< tt) (least_exponent_least x k 62 h) in
+    omega (arith, few)
