@@ -68,9 +68,8 @@ ends_length l f = ap length (ends_are l.log.stage l.log.counts f) ∙ omega arit
 
 -- the state that keeps the level with room for more parents
 reserves : (l : CompressedLevel) (level parents more : ℕ) (s : State) (xs : List ℕ) → xs ≡ ends_of l.log.stage l.log.counts ++ replicate more 0 → more ≡ parents - length l.log.counts → parents ≤ greatest_position_count → l.log.stage ≢ Finished → KeepsRules l
-    → (arrays : Arr → Option (List ℕ)) → arrays (Ends 0 level) ≡ Some xs → arrays (Coordinates 0 level) ≡ Some l.log.coords
-    → (m : CompressedLevel) × KeepsRules m × (letter_of m.unique ≡ letter_of l.unique) × (m.size ≡ l.size) × (m.log ≡ with_parents (letter_of l.unique) parents l.log) × (parents ≤ greatest_position_count) × Holds m 0 level arrays
-reserves l level parents more s xs are count within reservable k arrays ends coords = (
+    → s.arrays (Ends 0 level) ≡ Some xs → s.arrays (Coordinates 0 level) ≡ Some l.log.coords → Reserves l parents 0 level s
+reserves l level parents more s xs are count within reservable k ends coords = (
   reserved l parents,
   keeps_parents l parents k (record { within = within; reservable = reservable }),
   refl,
@@ -97,7 +96,7 @@ more_ends c l level free parents e s k reservable held fewer more_is =
     does_extend c (Ends 0 level) e (Num 0) [] s more 0 xs _ (PassesLimit 0 level parents) more_is refl refl held.ends
     (λ may. let some = ends_within level (length xs + more) may in does_nothing c (set_array s (Ends 0 level) (xs ++ replicate more 0)) _ (PassesLimit 0 level parents) (
       leaves_array _ (IsOutside 0 level) free no_turns s s (Ends 0 level) (xs ++ replicate more 0) (outside_ends level) (leaves_none _ (IsOutside 0 level) free no_turns s),
-      reserves l level parents more s (xs ++ replicate more 0) refl refl (omega (arith, some, size)) reservable k (set_array s (Ends 0 level) (xs ++ replicate more 0)).arrays (this_array s (Ends 0 level) (Ends 0 level) (xs ++ replicate more 0) (same_arr_self (Ends 0 level))) (other_array s (Ends 0 level) (Coordinates 0 level) (xs ++ replicate more 0) refl ∙ held.coords),
+      reserves l level parents more (set_array s (Ends 0 level) (xs ++ replicate more 0)) (xs ++ replicate more 0) refl refl (omega (arith, some, size)) reservable k (this_array s (Ends 0 level) (Ends 0 level) (xs ++ replicate more 0) (same_arr_self (Ends 0 level))) (other_array s (Ends 0 level) (Coordinates 0 level) (xs ++ replicate more 0) refl ∙ held.coords),
     ))
     (λ no. let many = ends_beyond level (length xs + more) no in
     record { array = (refl, refl); told = ap word_count (ap (λ n. n - 1) size ∙ omega arith); above = omega (arith, many, size) })
@@ -128,7 +127,7 @@ reserve_law c l level free n parents args p s second below k m held values = by_
         let same : ends_of l.log.stage l.log.counts ≡ ends_of l.log.stage l.log.counts ++ replicate 0 0 = sym (append-nil (ends_of l.log.stage l.log.counts)) in
         does_if_yes c (Bin Less p (Len (Ends 0 level))) [] _ [] s 0 _ _ (PassesLimit 0 level parents)
         (less_yes p (Len (Ends 0 level)) parents (length l.log.counts + 1) s at long (omega (arith, enough)))
-        (does_nothing c s _ (PassesLimit 0 level parents) (leaves_none _ (IsOutside 0 level) free no_turns s, reserves l level parents 0 s (ends_of l.log.stage l.log.counts) same (omega (arith, enough)) (omega (arith, enough, few)) m.reservable k s.arrays held.ends held.coords))
+        (does_nothing c s _ (PassesLimit 0 level parents) (leaves_none _ (IsOutside 0 level) free no_turns s, reserves l level parents 0 s (ends_of l.log.stage l.log.counts) same (omega (arith, enough)) (omega (arith, enough, few)) m.reservable k held.ends held.coords))
         (λ t h. does_nothing c t _ (PassesLimit 0 level parents) h)
     by_test false is =
         let fewer : length l.log.counts < parents = grind (arith, nat_tests, is) in

@@ -7,6 +7,7 @@ use std::alloc::{AllocError, Global};
 use trees::Items;
 
 impl LevelKind for CompressedLevel {
+    ghost use Rattle.level_core.specs.ParentLaws.{segments_in_row};
     ghost use Rattle.compressed_level.specs.Compressed.{letter_of, KeepsRules, Holds, IsAllowed, segment_of, entries_of};
     ghost use Rattle.compressed_level.specs.LevelLaws.{holds_there, are_entries};
     ghost use Rattle.compressed_level.specs.RuleLaws.{logs_are};
@@ -155,6 +156,8 @@ impl LevelKind for CompressedLevel {
     ghost holds_there = { holds_there };
 
     ghost are_entries = { are_entries };
+
+    ghost in_row = { λ l. segments_in_row l.log.counts (IsAllowed l) };
 
     ghost logs = { logs_are };
 

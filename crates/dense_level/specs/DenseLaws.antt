@@ -1,7 +1,7 @@
 -- Laws of dense levels.
 use Rattle.std.specs.Prelude.{◌≡◌, ◌≢◌, ℕ, zero, suc, ◌+◌, ◌-◌, ◌*◌, ◌%◌, ◌^◌, ◌≤◌, ◌<◌, ◌==◌, Bool, true, false, if◌then◌else◌, List, [], Option, Some, None, refl}
 use Rattle.std.proofs.Common.{◌∙◌, sym, ap, subst, arith, inl, inr}
-use Rattle.std.proofs.Math.Nat.{mul-le-mul_right, mod-eq_of_lt, add-mul-mod_self_right}
+use Rattle.std.proofs.Math.Nat.{zero-mul, mul-le-mul_right, mod-eq_of_lt, add-mul-mod_self_right}
 use Rattle.std.proofs.lemmas.Bool.Decides.{nat_tests}
 use Rattle.limits.specs.Limits.{greatest_position_count, positions_are_small}
 use Rattle.kernel_code.specs.declared.syntax.Arr.{Arr}
@@ -10,7 +10,7 @@ use Rattle.level_core.specs.Fragments.{IsOf}
 use Rattle.level_core.specs.declared.span.Span.{Span}
 use Rattle.level_core.specs.declared.span.Entry.{Entry}
 use Rattle.level_core.specs.declared.letter.Letter.TheVariants.{Dense}
-use Rattle.level_core.specs.Entries.{one, IsIn, Tiles, Rising, AllBelow, Single, StandsAt, Gains, coord_at, position_of}
+use Rattle.level_core.specs.Entries.{one, AreInRow, IsIn, Tiles, Rising, AllBelow, Single, StandsAt, Gains, coord_at, position_of}
 use Rattle.level_core.specs.EntryLaws.{tiles_placed, rising_distinct, coord_here, coord_past}
 use Rattle.level_core.specs.Logs.{IsLog}
 use Rattle.level_core.specs.Kinds.{properties, AreEntries, MayInsert}
@@ -140,6 +140,10 @@ dense_are_entries n parent ok =
     false_is_true : false ≡ true → ⊥
     false_is_true h = cc
 
+-- where a parent's positions end the next one's begin
+pub dense_in_row : (n : ℕ) → AreInRow (IsAllowed n) (dense_segment n)
+dense_in_row n = record { first = λ p ok zero. ap (λ k. k * n) zero ∙ zero-mul n; next = λ p q ok more meet. ap (λ k. k * n) meet }
+
 pub dense_logs : (n : ℕ) → n ≤ greatest_position_count → (properties Dense).branchless ≡ false → IsLog nothing_appended
 dense_logs n small branches = record { ahead = tt; given = omega arith }
 
@@ -149,8 +153,8 @@ prepared_allowed n parents most p may within h =
     let more : (p + 1) * n ≤ parents * n = mul-le-mul_right n (omega (arith, h)) in
     record { size = may.size; one_parent = refl; positions = omega (arith, more, within) }
 
-pub dense_prepares : (n m parents most : ℕ) → MayPrepare n parents most → dense_positions n parents most ≤ greatest_position_count → m ≡ n → (Dense ≡ Dense) × (m ≡ n) × ((p : ℕ) → p < parents → IsAllowed m (one p) × ((properties Dense).full ≡ false → (dense_entries m (one p) ≡ []) × (2 * most ≤ (dense_segment m (one p)).hi - (dense_segment m (one p)).lo)))
-dense_prepares n m parents most may within same = (refl, same, λ p h. (subst (λ k. IsAllowed k (one p)) (sym same) (prepared_allowed n parents most p may within h), λ no. absurd (true_is_false no)))
+pub dense_prepares : (n m parents most : ℕ) → MayPrepare n parents most → dense_positions n parents most ≤ greatest_position_count → m ≡ n → (Dense ≡ Dense) × (m ≡ n) × ((p : ℕ) → p < parents → IsAllowed m (one p) × (p + 1 ≡ parents → (dense_segment m (one p)).hi ≡ dense_positions n parents most) × ((properties Dense).full ≡ false → (dense_entries m (one p) ≡ []) × (2 * most ≤ (dense_segment m (one p)).hi - (dense_segment m (one p)).lo)))
+dense_prepares n m parents most may within same = (refl, same, λ p h. (subst (λ k. IsAllowed k (one p)) (sym same) (prepared_allowed n parents most p may within h), λ last. ap (λ k. (p + 1) * k) same ∙ ap (λ k. k * n) last, λ no. absurd (true_is_false no)))
   where
     true_is_false : true ≡ false → ⊥
     true_is_false h = cc

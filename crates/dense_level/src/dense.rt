@@ -3,7 +3,7 @@ ghost use Rattle.level_core.specs.Entries.{one};
 ghost use Rattle.limits.specs.Limits.{greatest_position_count};
 ghost use Rattle.level_core.specs.declared.letter.Letter.TheVariants.{Dense};
 ghost use Rattle.dense_level.specs.Dense.{Held, IsAllowed, MayPrepare, dense_positions, dense_segment, dense_entries, nothing_appended};
-ghost use Rattle.dense_level.specs.DenseLaws.{held_there, dense_are_entries, dense_logs, dense_prepares, dense_inserts};
+ghost use Rattle.dense_level.specs.DenseLaws.{held_there, dense_are_entries, dense_in_row, dense_logs, dense_prepares, dense_inserts};
 
 use crate::code::{leave_place, place_of_coordinate, times_size_of_level};
 use kernel_code::{KExpr, KStmt, Op, binary, copy_expr};
@@ -78,6 +78,8 @@ impl LevelKind for DenseLevel {
     ghost holds_there = { held_there };
 
     ghost are_entries = { dense_are_entries };
+
+    ghost in_row = { dense_in_row };
 
     ghost logs = { dense_logs };
 

@@ -1,7 +1,7 @@
 -- Laws of hashed levels.
 use Rattle.std.specs.Prelude.{◌≡◌, ◌≢◌, ◌⊎◌, ℕ, ◌+◌, ◌-◌, ◌*◌, ◌^◌, ◌≤◌, ◌<◌, true, false, List, [], Option, Some, None, length, replicate, slice_index, slice_set, refl}
 use Rattle.std.proofs.Common.{◌∙◌, sym, ap, subst, arith, inl, inr}
-use Rattle.std.proofs.Math.Nat.{mul-le-mul_right}
+use Rattle.std.proofs.Math.Nat.{zero-mul, mul-le-mul_right}
 use Rattle.std.proofs.lemmas.List.{get_or-set_same, get_or-set_other, get_or-replicate, length-set, length-replicate}
 use Rattle.std.proofs.lemmas.Bool.Decides.{eqb_tells}
 use Rattle.limits.specs.Limits.{greatest_position_count, positions_are_small}
@@ -11,7 +11,7 @@ use Rattle.level_core.specs.declared.span.Span.{Span}
 use Rattle.level_core.specs.declared.span.Entry.{Entry}
 use Rattle.level_core.specs.declared.letter.Letter.TheVariants.{Hashed as HashedLetter}
 use Rattle.level_core.specs.Fragments.{IsOf}
-use Rattle.level_core.specs.Entries.{Gains, IsIn, StandsAt, coord_at, one}
+use Rattle.level_core.specs.Entries.{AreInRow, Gains, IsIn, StandsAt, coord_at, one}
 use Rattle.level_core.specs.Logs.{IsLog}
 use Rattle.level_core.specs.Kinds.{properties, AreEntries, MayInsert}
 use Rattle.hashed_level.specs.Slots.{empty_slot, positions_below_empty, coord_of, KeepsBlock, FirstEmpty, Stops, Passes}
@@ -26,6 +26,14 @@ held_there l tensor level a b same h = record { width = same (Width tensor level
 -- a block of a parent ends where the next one's begins
 block_end : (w p : ℕ) → (p + 1) * w ≡ p * w + w
 block_end w p = grind arith
+
+pub hashed_in_row : (l : Hashed) → AreInRow (IsAllowed l) (hashed_segment l)
+hashed_in_row l =
+    let w = block_width l in
+    record {
+      first = λ p ok zero. ap (λ k. k * w) zero ∙ zero-mul w;
+      next = λ p q ok more meet. sym (block_end w p.lo) ∙ ap (λ k. k * w) (sym ok.one_parent ∙ meet);
+    }
 
 -- the block of a prepared parent is within the slots
 pub block_within : (l : Hashed) (p : ℕ) → Keeps l → p < l.parents → base_of l p + block_width l ≤ length l.slots
@@ -92,12 +100,13 @@ prepared_keeps l parents most may few =
     some_is_none : (w : ℕ) → Some w ≡ None → ⊥
     some_is_none w h = cc
 
-pub hashed_prepares : (l m : Hashed) (parents most : ℕ) → MayPrepare l parents most → hashed_positions l parents most ≤ greatest_position_count → m ≡ prepared l parents most → (HashedLetter ≡ HashedLetter) × (m.size ≡ l.size) × ((p : ℕ) → p < parents → IsAllowed m (one p) × ((properties HashedLetter).full ≡ false → (hashed_entries m (one p) ≡ []) × (2 * most ≤ (hashed_segment m (one p)).hi - (hashed_segment m (one p)).lo)))
+pub hashed_prepares : (l m : Hashed) (parents most : ℕ) → MayPrepare l parents most → hashed_positions l parents most ≤ greatest_position_count → m ≡ prepared l parents most → (HashedLetter ≡ HashedLetter) × (m.size ≡ l.size) × ((p : ℕ) → p < parents → IsAllowed m (one p) × (p + 1 ≡ parents → (hashed_segment m (one p)).hi ≡ hashed_positions l parents most) × ((properties HashedLetter).full ≡ false → (hashed_entries m (one p) ≡ []) × (2 * most ≤ (hashed_segment m (one p)).hi - (hashed_segment m (one p)).lo)))
 hashed_prepares l m parents most may within same = (
   refl,
   ap (λ k. k.size) same,
-  λ p h. subst (λ k. IsAllowed k (one p) × ((properties HashedLetter).full ≡ false → (hashed_entries k (one p) ≡ []) × (2 * most ≤ (hashed_segment k (one p)).hi - (hashed_segment k (one p)).lo))) (sym same) (
+  λ p h. subst (λ k. IsAllowed k (one p) × (p + 1 ≡ parents → (hashed_segment k (one p)).hi ≡ hashed_positions l parents most) × ((properties HashedLetter).full ≡ false → (hashed_entries k (one p) ≡ []) × (2 * most ≤ (hashed_segment k (one p)).hi - (hashed_segment k (one p)).lo))) (sym same) (
     record { rules = prepared_keeps l parents most may within; one_parent = refl; prepared = h },
+    λ last. sym (block_end (slot_width most) p) ∙ ap (λ k. k * slot_width most) last,
     λ _. (
       filled_nothing (slice_index (replicate (parents * slot_width most) empty_slot)) (slot_width most) (p * slot_width most) (λ q g i. all_empty (parents * slot_width most) q (prepared_slot parents (slot_width most) p q h i)),
       let small = positions_are_small in let few = may.coordinates in let enough = slot_width_enough most (omega (arith, small, few)) in omega (arith, enough),

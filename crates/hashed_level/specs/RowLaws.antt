@@ -28,7 +28,7 @@ pub after_prepare : (l m : Hashed) → MayPrepare l 1 2 → hashed_positions l 1
 after_prepare l m may within is made =
     let law = hashed_prepares l m 1 2 may within made in
     let parent = law.2 0 (lit< tt) in
-    let rest = parent.1 refl in
+    let rest = parent.2 refl in
     (record { allowed = parent.0; size = law.1 ∙ ap (λ k. k.size) is; few = let none = ap length rest.0 in omega (arith, none); wide = let wide = rest.1 in omega (arith, wide) }, rest.0)
 
 none_lacks : (x : ℕ) (es : List Entry) → position_of es x ≡ None → Lacks x es

@@ -1,7 +1,7 @@
 ghost use Rattle.std.specs.Prelude.{◌≡◌};
 ghost use Rattle.level_core.specs.declared.letter.Letter.TheVariants.{Hashed as HashedLetter};
 ghost use Rattle.hashed_level.specs.Hashed.{Keeps, Held, IsAllowed, hashed_segment, hashed_entries, nothing_appended, hashed_positions, MayPrepare, prepared, IsInserted};
-ghost use Rattle.hashed_level.specs.HashedLaws.{held_there, hashed_are_entries, hashed_logs, hashed_prepares, hashed_inserts};
+ghost use Rattle.hashed_level.specs.HashedLaws.{held_there, hashed_are_entries, hashed_in_row, hashed_logs, hashed_prepares, hashed_inserts};
 
 use crate::code::{base_of_block, leave_coordinate, leave_position, make_parents, put_coordinate};
 use crate::hashed::HashedLevel;
@@ -38,6 +38,8 @@ impl LevelKind for HashedLevel {
     ghost holds_there = { held_there };
 
     ghost are_entries = { hashed_are_entries };
+
+    ghost in_row = { hashed_in_row };
 
     ghost logs = { hashed_logs };
 

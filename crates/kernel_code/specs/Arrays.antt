@@ -1,7 +1,5 @@
 -- The arrays that a kernel works on: which of them are one, which it may write, how long they may grow.
 use Rattle.std.specs.Prelude.{◌≡◌, ℕ, ◌+◌, ◌-◌, ◌^◌, ◌<◌, min, Bool, true, false, ◌==◌, ◌&&◌, nat_le, Option, Some, None}
-use Rattle.std.proofs.Common.{arith}
-use Rattle.std.proofs.lemmas.Bool.Decides.{nat_tests}
 use Rattle.numbers.specs.Arithmetic.{Arithmetic}
 use Rattle.numbers.specs.Ring.{word_sum}
 use Rattle.limits.specs.Limits.{greatest_position_count, greatest_workspace_pairs}
@@ -59,10 +57,6 @@ may_have a n = within_limit (greatest_length a) n
 -- a number as a word: the last word where it would be more
 unfoldable pub word_count : ℕ → ℕ
 word_count n = min n (2 ^ 64 - 1)
-
-pub word_count_small : (n : ℕ) → n < 2 ^ 64 → word_count n ≡ n
-unfolding word_count
-word_count_small n h = grind (arith, nat_tests)
 
 -- the count that is told of an array of so many words: of positions, which are one fewer than the segment ends
 abbrev pub told_count : Arr → ℕ → ℕ

@@ -24,6 +24,17 @@ abbrev pub Tiles : ℕ → ℕ → List Entry → Type 0
 Tiles pos hi [] = pos ≡ hi
 Tiles pos hi (e ∷ es) = (e.child.lo ≡ pos) × (pos < e.child.hi) × Tiles e.child.hi hi es
 
+-- parents in a row have segments in a row: the first parent's starts at 0, and where one's ends the next one's starts
+pub record AreInRow (allowed : Span → Type 0) (segment_of : Span → Span) : Type 0 where
+  pub first : (p : Span) → allowed p → p.lo ≡ 0 → (segment_of p).lo ≡ 0
+  pub next : (p q : Span) → allowed p → allowed q → p.hi ≡ q.lo → (segment_of p).hi ≡ (segment_of q).lo
+
+-- so many parents share out so many positions: each position is below exactly one of them
+pub record ShareOut (segment_of : Span → Span) (parents positions : ℕ) : Type 0 where
+  pub within : (p : ℕ) → p < parents → (segment_of (one p)).hi ≤ positions
+  pub found : (pos : ℕ) → pos < positions → (p : ℕ) × (p < parents) × IsIn pos (segment_of (one p))
+  pub alone : (pos p q : ℕ) → p < parents → q < parents → IsIn pos (segment_of (one p)) → IsIn pos (segment_of (one q)) → p ≡ q
+
 -- the coordinates rise, from at least `least` on
 abbrev pub Rising : ℕ → List Entry → Type 0
 Rising least [] = Unit {0}

@@ -6,3 +6,4 @@ pub mod Fragments
 pub mod GroupLaws
 pub mod Kinds
 pub mod Logs
+pub mod ParentLaws

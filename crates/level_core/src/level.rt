@@ -1,6 +1,6 @@
 ghost use Rattle.std.specs.Prelude.{◌≡◌, ◌≢◌, ◌≤◌, ◌<◌, ◌+◌, ◌-◌, ◌*◌, ℕ, List, [], ◌∷◌, Option, length, IfOk, IsTrue, true, false};
 ghost use Rattle.limits.specs.Limits.{greatest_position_count};
-ghost use Rattle.level_core.specs.Entries.{Span, Entry, IsIn, StandsAt, coord_at, position_of, Gains, one};
+ghost use Rattle.level_core.specs.Entries.{Span, Entry, IsIn, AreInRow, StandsAt, coord_at, position_of, Gains, one};
 ghost use Rattle.level_core.specs.Kinds.{Letter, properties, capabilities, AreEntries, MayInsert, CodeMayPrepare};
 ghost use Rattle.level_core.specs.Logs.{Log, IsLog, with_parents, with_coord, with_edges, CodeMayReserve, MayAppend, MayAppendEdges};
 ghost use Rattle.level_core.specs.Fragments.{Setting, State, Arr, AreArguments, ValuesAre, IsOf, Reads, Writes, Never, PassesLimit, PassesLimitWithin, SpanLeft, OptionLeft, NumberLeft, no_turns, child_turns, probe_turns};
@@ -192,12 +192,16 @@ pub trait LevelKind {
     /// The entries below an allowed parent are such as the kind promises.
     ghost are_entries: { (l : Self) (parent : Span) → allowed l parent → AreEntries (properties (kind l)) (size l) parent (segment_of l parent) (entries l parent) };
 
+    /// Parents one after another have positions one after another, from 0 on. So no position is below two parents, and the
+    /// positions below the first parents are as many as the end of the last one's segment says.
+    ghost in_row: { (l : Self) → AreInRow (allowed l) (segment_of l) };
+
     /// Parents are given positions one after another, unless the level is branchless.
     ghost logs: { (l : Self) → keeps l → (properties (kind l)).branchless ≡ false → IsLog (log l) };
 
-    /// Prepared parents may be asked and inserted into: where a level isn't full they have no entries yet, and twice
-    /// as many positions as coordinates at most.
-    ghost prepares: { (l m : Self) (parents most : ℕ) → may_prepare l parents most → positions_for l parents most ≤ greatest_position_count → prepared l parents most m → (kind m ≡ kind l) × (size m ≡ size l) × ((p : ℕ) → p < parents → allowed m (one p) × ((properties (kind m)).full ≡ false → (entries m (one p) ≡ []) × (2 * most ≤ (segment_of m (one p)).hi - (segment_of m (one p)).lo))) };
+    /// Prepared parents may be asked and inserted into, and their positions are as many as `positions_for` says: where a
+    /// level isn't full they have no entries yet, and at least twice as many positions as coordinates.
+    ghost prepares: { (l m : Self) (parents most : ℕ) → may_prepare l parents most → positions_for l parents most ≤ greatest_position_count → prepared l parents most m → (kind m ≡ kind l) × (size m ≡ size l) × ((p : ℕ) → p < parents → allowed m (one p) × (p + 1 ≡ parents → (segment_of m (one p)).hi ≡ positions_for l parents most) × ((properties (kind m)).full ≡ false → (entries m (one p) ≡ []) × (2 * most ≤ (segment_of m (one p)).hi - (segment_of m (one p)).lo))) };
 
     /// An inserted coordinate stands below its parent at its position, and all other entries are as before.
     ghost inserts: { (l m : Self) (parent x slot : ℕ) → allowed l (one parent) → MayInsert (kind l) (size l) (segment_of l (one parent)) (entries l (one parent)) x → inserted l parent x slot m → (kind m ≡ kind l) × (size m ≡ size l) × IsIn slot (segment_of l (one parent)) × Gains x slot (entries l (one parent)) (entries m (one parent)) × ((p : ℕ) → allowed l (one p) → allowed m (one p) × (segment_of m (one p) ≡ segment_of l (one p)) × (p ≢ parent → entries m (one p) ≡ entries l (one p))) };

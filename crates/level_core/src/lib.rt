@@ -9,6 +9,7 @@ mod fragments;
 mod laws;
 mod letter;
 mod level;
+mod positions;
 mod span;
 mod stage;
 #[cfg(test)]
@@ -20,6 +21,7 @@ pub use fragments::{argument, leave_one, leave_two, word_at};
 pub use laws::edges_tell_segments;
 pub use letter::{Capabilities, Letter, Properties, caps_of, props_of};
 pub use level::{Level, LevelKind};
+pub use positions::positions_below;
 pub use span::{Entry, Span};
 pub use stage::Stage;
 pub use walking::walk;

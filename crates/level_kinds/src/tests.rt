@@ -10,7 +10,7 @@ use compressed_level::CompressedLevel;
 use dense_level::DenseLevel;
 use hashed_level::HashedLevel;
 use kernel_code::{Arr, Machine};
-use level_core::{Append, Entry, Insert, Level, Span};
+use level_core::{Append, Entry, Insert, Level, Span, positions_below};
 use limits::greatest_positions;
 use singleton_level::SingletonLevel;
 use std::alloc::{AllocError, Global};
@@ -192,5 +192,34 @@ fn hashed_levels(rt: HostRuntime) -> Result<(), Fail> {
     assert!(rt; agrees_below(alloc, &level, &mut machine, 0, &entries)?);
     assert!(rt; locates(alloc, &level, &mut machine, 0, &entries)?);
     assert!(rt; lacks(alloc, &level, &mut machine, 0, 11)?);
+    Ok(())
+}
+
+#[test]
+fn positions_of_dense_levels(rt: HostRuntime) -> Result<(), Fail> {
+    assert!(rt; 9 <= greatest_positions());
+    let level = DenseLevel::new(rt.alloc(), 3)?;
+    assert_eq!(rt; positions_below(&level, 0), 0);
+    assert_eq!(rt; positions_below(&level, 3), 9);
+    Ok(())
+}
+
+#[test]
+fn positions_of_compressed_levels(rt: HostRuntime) -> Result<(), Fail> {
+    assert!(rt; 9 <= greatest_positions());
+    let level = compressed(rt.alloc())?;
+    assert_eq!(rt; positions_below(&level, 1), 2);
+    assert_eq!(rt; positions_below(&level, 2), 2);
+    assert_eq!(rt; positions_below(&level, 3), 3);
+    Ok(())
+}
+
+#[test]
+fn positions_of_hashed_levels(rt: HostRuntime) -> Result<(), Fail> {
+    assert!(rt; 12 <= greatest_positions());
+    let mut level = HashedLevel::new(rt.alloc(), 12)?;
+    level.tell_rules();
+    level.prepare(3, 2)?;
+    assert_eq!(rt; positions_below(&level, 3), 12);
     Ok(())
 }

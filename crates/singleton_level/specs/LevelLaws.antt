@@ -5,13 +5,13 @@ use Rattle.kernel_code.specs.declared.syntax.Arr.{Arr}
 use Rattle.kernel_code.specs.declared.syntax.Arr.TheVariants.{Coordinates}
 use Rattle.level_core.specs.declared.span.Span.{Span}
 use Rattle.level_core.specs.declared.span.Entry.{Entry}
-use Rattle.level_core.specs.Entries.{span, IsIn, StandsAt, coord_at}
+use Rattle.level_core.specs.Entries.{span, AreInRow, IsIn, StandsAt, coord_at}
 use Rattle.level_core.specs.Kinds.{properties, AreEntries}
 use Rattle.level_core.specs.Logs.{Rises, slice, entries_between}
 use Rattle.level_core.specs.GroupLaws.{stands_where}
 use Rattle.level_core.specs.Fragments.{IsOf}
 use Rattle.coordinate_lists.specs.Spans.{entries_are, entries_coord, entry_is_group}
-use Rattle.singleton_level.specs.Singleton.{SingletonLevel, letter_of, IsAllowed, entries_of, Holds}
+use Rattle.singleton_level.specs.Singleton.{SingletonLevel, letter_of, IsAllowed, segment_of, entries_of, Holds}
 use Rattle.singleton_level.specs.RuleLaws.{unique_is, never_full}
 
 pub holds_there : (l : SingletonLevel) (tensor level : ℕ) (a b : Arr → Option (List ℕ)) → ((x : Arr) → IsOf tensor level x → b x ≡ a x) → Holds l tensor level a → Holds l tensor level b
@@ -21,6 +21,10 @@ pub are_entries : (l : SingletonLevel) (parent : Span) → IsAllowed l parent �
 are_entries l parent ok =
     entries_are (properties (letter_of l.unique)) l.size l.coords parent parent (never_full l.unique) (λ _. refl) ok.keeps.small ok.keeps.few
     ok.within ok.keeps.below (subst (λ b. Rises b 0 (slice l.coords parent)) (sym (unique_is l.unique)) ok.rise)
+
+-- a parent's positions are the parent itself
+pub in_row : (l : SingletonLevel) → AreInRow (IsAllowed l) (segment_of l)
+in_row l = record { first = λ p ok zero. zero; next = λ p q ok more meet. meet }
 
 pub rises_where_unique : (l : SingletonLevel) (parent : Span) → IsAllowed l parent → l.unique ≡ true → Rises true 0 (slice l.coords parent)
 rises_where_unique l parent ok u = subst (λ b. Rises b 0 (slice l.coords parent)) u ok.rise

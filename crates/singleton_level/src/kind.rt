@@ -7,7 +7,7 @@ use trees::Items;
 
 impl LevelKind for SingletonLevel {
     ghost use Rattle.singleton_level.specs.Singleton.{letter_of, log_of, KeepsRules, Holds, IsAllowed, segment_of, entries_of};
-    ghost use Rattle.singleton_level.specs.LevelLaws.{holds_there, are_entries};
+    ghost use Rattle.singleton_level.specs.LevelLaws.{holds_there, are_entries, in_row};
     ghost use Rattle.singleton_level.specs.RuleLaws.{logs_are};
 
     ghost kind = { λ l. letter_of l.unique };
@@ -150,6 +150,8 @@ impl LevelKind for SingletonLevel {
     ghost holds_there = { holds_there };
 
     ghost are_entries = { are_entries };
+
+    ghost in_row = { in_row };
 
     ghost logs = { logs_are };
 
