@@ -1,0 +1,60 @@
+-- Storage formats of tensors: the kind of each level and the mode that it stores.
+use Rattle.std.specs.Prelude.{◌≡◌, ◌≢◌, ℕ, zero, suc, ◌+◌, ◌≤◌, ◌<◌, Bool, true, false, not, List, [], ◌∷◌, length, map, All, AllPairs}
+use Rattle.limits.specs.Limits.{greatest_order}
+use Rattle.smallvec.specs.SmallVec.{SmallVec}
+pub use Rattle.level_core.specs.declared.letter.Letter.{Letter}
+use Rattle.level_core.specs.declared.letter.Letter.TheVariants.{Hashed}
+use Rattle.level_core.specs.Kinds.{properties, capabilities}
+pub use Rattle.format_spec.specs.declared.format.FormatLevel.{FormatLevel}
+
+abbrev pub letters_of : List FormatLevel → List Letter
+letters_of levels = map (λ level. level.letter) levels
+
+abbrev pub modes_of : List FormatLevel → List ℕ
+modes_of levels = map (λ level. level.mode) levels
+
+-- the modes of a tensor of order n in some order: as many numbers as modes, each below n, and none twice
+pub record IsOrder (n : ℕ) (modes : List ℕ) : Type 0 where
+  pub count : length modes ≡ n
+  pub below : All (λ mode. mode < n) modes
+  pub once : AllPairs (λ mode later. mode ≢ later) modes
+
+-- a level with groups has a singleton level directly below it, and a singleton level one with groups directly above it
+abbrev pub Chained : Bool → List Letter → Type 0
+Chained groups [] = groups ≡ false
+Chained groups (letter ∷ letters) = ((properties letter).branchless ≡ groups) × Chained (not (properties letter).unique) letters
+
+-- each level below a hashed one can be inserted into
+abbrev pub InsertedBelowHashed : List Letter → Type 0
+InsertedBelowHashed letters = AllPairs (λ letter below. letter ≡ Hashed → (capabilities below).insert ≡ true) letters
+
+-- what a check of the rule finds of a level
+abbrev pub IsHashed : FormatLevel → Type 0
+IsHashed level = level.letter ≡ Hashed
+
+abbrev pub IsOther : FormatLevel → Type 0
+IsOther level = level.letter ≢ Hashed
+
+abbrev pub Inserts : FormatLevel → Type 0
+Inserts level = (capabilities level.letter).insert ≡ true
+
+-- the levels of a format: each mode is stored once, and the kinds can stand below one another
+pub record IsFormat (levels : List FormatLevel) : Type 0 where
+  pub short : length levels ≤ greatest_order
+  pub order : IsOrder (length levels) (modes_of levels)
+  pub chained : Chained false (letters_of levels)
+  pub inserted : InsertedBelowHashed (letters_of levels)
+
+-- the levels stand in the value itself
+pub record IsStored (levels : SmallVec FormatLevel) : Type 0 where
+  pub format : IsFormat levels.items
+  pub inline : levels.capacity ≡ 6
+
+-- so many numbers in a row
+abbrev pub counting : ℕ → ℕ → List ℕ
+counting from zero = []
+counting from (suc count) = from ∷ counting (from + 1) count
+
+-- the modes in their own order
+abbrev pub standing : ℕ → List ℕ
+standing n = counting 0 n

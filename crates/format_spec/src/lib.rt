@@ -1,0 +1,18 @@
+//! Storage formats of tensors: which kind of level stores which mode, level by level. `specs/Formats.antt` says which
+//! formats there are and `specs/Words.antt` how a word of the command line names one.
+#![tactic(auto)]
+
+mod fault;
+mod format;
+mod laws;
+mod modes;
+mod reading;
+mod rules;
+
+pub use fault::FormatFault;
+pub use format::{Format, FormatLevel};
+pub use laws::one_answer_a_word;
+pub use reading::parse_format;
+
+#[cfg(test)]
+mod tests;
