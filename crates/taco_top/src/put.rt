@@ -1,29 +1,12 @@
 ghost use Rattle.std.specs.Prelude.{◌≡◌, ◌++◌, OnOk, OnErr};
 ghost use Rattle.outside.specs.Folder.{appended};
 ghost use Rattle.outside.specs.Refusal.{IsNotAbsent, CountsFailed, CountsMemory};
-ghost use Rattle.taco_top.specs.Puts.{PutsLess};
+ghost use Rattle.text_lines.specs.Puts.{PutsLess};
 ghost use Rattle.taco_top.specs.Answer.{Answer, ReadFault, NamesNothing, answer_of_fault, line_of};
 
 use crate::fault::Fault;
 use outside::{Refusal, Sink};
-
-/// Appends all of these bytes. After a refusal a part of them at their front was appended.
-pub fn put_all<S: Sink>(sink: &mut S, bytes: &[u8]) -> Result<(), Refusal>
-    ensures whole { OnOk result (S.written sink.new ≡ appended (S.written sink.old) bytes.now) }
-    ensures part { OnErr result (PutsLess (S.written sink.old) (S.written sink.new) bytes.now) }
-    ensures present { IsNotAbsent result }
-    ensures counted { CountsFailed result (S.faults sink.old) (S.faults sink.new) }
-    ensures wanted { CountsMemory result (S.wants sink.old) (S.wants sink.new) }
-{
-    let mut rest = bytes;
-    while !rest.is_empty() {
-        match sink.write(rest) {
-            Ok(n) => rest = rest.split_at(n).1,
-            Err(refusal) => return Err(refusal),
-        }
-    }
-    Ok(())
-}
+use text_lines::put_all;
 
 // Appends one text and then another.
 fn put_both<S: Sink>(sink: &mut S, first: &[u8], second: &[u8]) -> Result<(), Refusal>

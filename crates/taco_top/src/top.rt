@@ -14,7 +14,7 @@ ghost use Rattle.range_loops.specs.Computes.{AllFit, IsComputable, operand_range
 
 use crate::fault::Fault;
 use crate::files::read_file;
-use crate::put::{put_all, put_fault};
+use crate::put::put_fault;
 use index_notation::{Access, Statement};
 use narrow_files::text_of;
 use narrow_text::{read_text, read_words};
@@ -22,6 +22,7 @@ use outside::{Folder, Refusal, Sink};
 use range_loops::compute;
 use std::alloc::{AllocError, Global};
 use tensor_map::Entries;
+use text_lines::put_all;
 
 /// The number of variables of a tensor's accesses.
 fn order_of(accesses: &[Access], tensor: usize) -> usize

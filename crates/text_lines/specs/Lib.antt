@@ -4,6 +4,7 @@ pub mod LineLaws
 pub mod Numbers
 pub mod NumberLaws
 pub mod Parts
+pub mod Puts
 pub mod Tokens
 pub mod PrintedLaws
 pub mod TokenLaws

@@ -7,6 +7,7 @@ mod cuts;
 mod index;
 mod laws;
 mod num_fault;
+mod puts;
 
 pub use cuts::{cut_line, cut_token, is_blank};
 pub use index::read_index;
@@ -15,6 +16,7 @@ pub use laws::{
     printed_numbers_are_tokens, tokens_are_whole_numbers_or_not,
 };
 pub use num_fault::NumFault;
+pub use puts::{put_all, put_i64, put_u64};
 
 #[cfg(test)]
 mod tests;

@@ -1,8 +1,10 @@
 use crate::{
     NumFault, cut_line, cut_token, is_blank, joined_lines_are_cut_back, joined_tokens_are_cut_back,
-    printed_numbers_are_read_back, printed_numbers_are_tokens, read_index,
-    tokens_are_whole_numbers_or_not,
+    printed_numbers_are_read_back, printed_numbers_are_tokens, put_all, put_i64, put_u64,
+    read_index, tokens_are_whole_numbers_or_not,
 };
+use outside::MemSink;
+use std::test::Fail;
 
 const TEXTS: [(&[u8], &[&[u8]]); 8] = [
     (b"", &[]),
@@ -77,4 +79,31 @@ fn tokens_are_numbers(rt: HostRuntime) {
     printed_numbers_are_read_back();
     printed_numbers_are_tokens();
     tokens_are_whole_numbers_or_not();
+}
+
+#[test]
+fn numbers_are_put(rt: HostRuntime) -> Result<(), Fail> {
+    let mut sink = MemSink::new(rt.alloc());
+    sink.cut_into(&[1, 3])?;
+    assert!(rt; put_u64(&mut sink, 18_446_744_073_709_551_615).is_ok());
+    assert!(rt; put_all(&mut sink, b" ").is_ok());
+    assert!(rt; put_i64(&mut sink, -9_223_372_036_854_775_808).is_ok());
+    assert!(rt; put_all(&mut sink, b"").is_ok());
+    assert!(rt; put_i64(&mut sink, 0).is_ok());
+    assert_eq!(rt;
+        sink.written(),
+        b"18446744073709551615 -92233720368547758080".as_slice()
+    );
+    Ok(())
+}
+
+#[test]
+fn a_refused_text_stands_in_part(rt: HostRuntime) -> Result<(), Fail> {
+    let mut sink = MemSink::new(rt.alloc());
+    sink.cut_into(&[2])?;
+    sink.fail_at(3)?;
+    assert!(rt; put_i64(&mut sink, -1_234_567).is_err());
+    assert_eq!(rt; sink.written(), b"-123".as_slice());
+    assert_eq!(rt; sink.faults(), 1);
+    Ok(())
 }

@@ -1,6 +1,6 @@
 use Rattle.std.proofs.Common.{subst, sym}
-use Rattle.taco_top.specs.Puts.{PutsSoFar, puts_nothing, puts_more}
-use Rattle.taco_top.proofs.put.put_all.Goals as goal
+use Rattle.text_lines.specs.Puts.{PutsSoFar, puts_nothing, puts_more}
+use Rattle.text_lines.proofs.puts.put_all.Goals as goal
 
 pub loop-rest-init : goal.loop-rest-init
 loop-rest-init g c = puts_nothing g.S.Sink.written g.S.Sink.faults g.S.Sink.wants c.args.sink.now c.args.bytes.now

@@ -1,6 +1,6 @@
 use Rattle.std.proofs.Common.{length}
-use Rattle.taco_top.specs.Puts.{PutsSoFar}
-use Rattle.taco_top.proofs.put.put_all.Given as goal
+use Rattle.text_lines.specs.Puts.{PutsSoFar}
+use Rattle.text_lines.proofs.puts.put_all.Given as goal
 
 -- what was put so far and what is left are the whole, and no count has moved
 abbrev pub invariant-loop-rest : goal.invariant-loop-rest
