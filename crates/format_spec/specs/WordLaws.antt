@@ -1,12 +1,13 @@
 -- Letters and an order have one answer.
 use Rattle.std.specs.Prelude.{◌≡◌, ◌⊎◌, ℕ, ◌+◌, ◌≤◌, ◌<◌, ◌==◌, if◌then◌else◌, false, List, [], ◌∷◌, length, map, Option, Some, None, Result, Ok, Err, refl}
 use Rattle.std.proofs.Common.{◌∙◌, sym, ap, subst, arith, inl, inr}
+use Rattle.std.proofs.lemmas.List.{length-map}
 use Rattle.std.proofs.lemmas.Bool.{cases_order}
 use Rattle.level_core.specs.declared.letter.Letter.{Letter}
 use Rattle.level_core.specs.declared.letter.Letter.TheVariants.{Dense, Compressed, CompressedGroups, Singleton, SingletonGroups, Hashed}
 use Rattle.format_spec.specs.declared.fault.FormatFault.{FormatFault}
 use Rattle.format_spec.specs.declared.fault.FormatFault.TheVariants.{BadLetter, BadLength, BadOrder, BadChain, BelowHashed}
-use Rattle.format_spec.specs.Formats.{FormatLevel, letters_of, modes_of, Chained, InsertedBelowHashed}
+use Rattle.format_spec.specs.Formats.{FormatLevel, IsFormat, letters_of, modes_of, Chained, InsertedBelowHashed}
 use Rattle.format_spec.specs.Words.{letter_byte, more_modes, mode_text, AreLetters, HasOrder, Answers}
 
 -- the kind of a letter, or any where there is none
@@ -132,3 +133,11 @@ one_answer letters order n (Err fault) (Err other) x y = ap Err (by_order (cases
     by_order (inl same) = sym (ranked_back fault) ∙ ap ranked same ∙ ranked_back other
     by_order (inr (inl before)) = absurd (not_before letters order n (rank other) fault x before (good_before letters order n other y (omega (arith, before))))
     by_order (inr (inr after)) = absurd (not_before letters order n (rank fault) other y after (good_before letters order n fault x (omega (arith, after))))
+
+-- the text of a format stands for the format
+pub read_back : (levels : List FormatLevel) → IsFormat levels → Answers (map letter_byte (letters_of levels)) (Some (mode_text (modes_of levels))) (length levels) (Ok levels)
+read_back levels format = (
+  record { letters_are = refl; count = length-map levels (λ level. level.letter); modes_are = (format.order, refl) },
+  format.chained,
+  format.inserted,
+)

@@ -1,5 +1,5 @@
 -- The format that letters and an order stand for, and why there is none.
-use Rattle.std.specs.Prelude.{◌≡◌, ◌≢◌, ℕ, ◌+◌, false, List, [], ◌∷◌, length, map, Option, Some, None, Result, Ok, Err}
+use Rattle.std.specs.Prelude.{◌≡◌, ◌≢◌, ℕ, ◌+◌, false, List, [], ◌∷◌, ◌++◌, length, map, Option, Some, None, Result, Ok, Err}
 use Rattle.level_core.specs.declared.letter.Letter.{Letter}
 use Rattle.level_core.specs.declared.letter.Letter.TheVariants.{Dense, Compressed, CompressedGroups, Singleton, SingletonGroups, Hashed}
 pub use Rattle.format_spec.specs.declared.fault.FormatFault.{FormatFault}
@@ -24,6 +24,10 @@ more_modes (mode ∷ modes) = 44 ∷ (48 + mode) ∷ more_modes modes
 abbrev pub mode_text : List ℕ → List ℕ
 mode_text [] = []
 mode_text (mode ∷ modes) = (48 + mode) ∷ more_modes modes
+
+-- the text of a format: its letters, a colon, and its modes
+abbrev pub format_text : List FormatLevel → List ℕ
+format_text levels = map letter_byte (letters_of levels) ++ 58 ∷ mode_text (modes_of levels)
 
 -- the letters are those of the kinds
 abbrev pub AreLetters : List ℕ → List Letter → Type 0

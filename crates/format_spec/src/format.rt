@@ -1,7 +1,7 @@
 ghost use Rattle.std.specs.Prelude.{◌≡◌, ◌≤◌, ◌<◌, ◌-◌, ◌↔◌, ℕ, length, All, IsTrue, Some, slice_get, replicate};
 ghost use Rattle.limits.specs.Limits.{greatest_order};
 ghost use Rattle.level_core.specs.declared.letter.Letter.TheVariants.{Dense};
-ghost use Rattle.format_spec.specs.Formats.{letters_of, modes_of, standing, IsStored};
+ghost use Rattle.format_spec.specs.Formats.{letters_of, modes_of, standing, IsFormat, IsStored};
 
 use level_core::Letter;
 use smallvec::SmallVec;
@@ -18,6 +18,8 @@ pub struct FormatLevel {
 }
 
 impl Default for FormatLevel {
+    ghost is_default = { λ level. level ≡ record { letter = Dense; mode = 0 } };
+
     /// A dense level of mode 0.
     fn default() -> FormatLevel {
         FormatLevel {
@@ -80,6 +82,19 @@ impl Format {
             .as_slice()
             .iter()
             .all(|level| level.letter == Letter::Dense)
+    }
+
+    /// Where lists that go with the format may take memory.
+    pub(crate) fn allocator(&self) -> Global {
+        *self.levels.allocator()
+    }
+
+    /// The levels, from the top.
+    pub fn levels(&self) -> &[FormatLevel]
+        ensures value { result.now ≡ self.now }
+        ensures format { IsFormat self.now }
+    {
+        self.levels.as_slice()
     }
 
     /// The number of levels, which is that of the tensor's modes.

@@ -8,10 +8,11 @@ mod laws;
 mod modes;
 mod reading;
 mod rules;
+mod text;
 
 pub use fault::FormatFault;
 pub use format::{Format, FormatLevel};
-pub use laws::one_answer_a_word;
+pub use laws::{formats_are_read_back, one_answer_a_word};
 pub use reading::parse_format;
 
 #[cfg(test)]

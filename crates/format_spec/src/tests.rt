@@ -1,10 +1,12 @@
 ghost use Rattle.std.specs.Prelude.{◌≤◌};
 ghost use Rattle.limits.specs.Limits.{greatest_order};
 
-use crate::{Format, FormatFault, parse_format};
+use crate::{Format, FormatFault, formats_are_read_back, one_answer_a_word, parse_format};
 use level_core::Letter;
 use limits::greatest_order_of_tensor;
+use outside::MemSink;
 use std::alloc::Global;
+use std::test::Fail;
 
 /// Whether a format has these levels.
 fn has_levels(format: &Format, levels: &[(Letter, usize)]) -> bool {
@@ -156,4 +158,27 @@ fn dense_formats(rt: HostRuntime) {
         panic!(rt; "a format");
     };
     assert!(rt; !rows.is_all_dense());
+}
+
+#[test]
+fn formats_have_texts(rt: HostRuntime) -> Result<(), Fail> {
+    one_answer_a_word();
+    formats_are_read_back();
+    let texts = [
+        ("", "", 0, ":"),
+        ("ds", "1,0", 2, "ds:1,0"),
+        ("ucqh", "3,0,2,1", 4, "ucqh:3,0,2,1"),
+        ("hhhhhh", "5,4,3,2,1,0", 6, "hhhhhh:5,4,3,2,1,0"),
+    ];
+    for (letters, order_text, order, text) in texts {
+        assert!(rt; order as u64 <= greatest_order_of_tensor());
+        let Ok(format) = parse_format(rt.alloc(), letters, Some(order_text), order) else {
+            panic!(rt; "a format");
+        };
+        let mut sink = MemSink::new(rt.alloc());
+        sink.cut_into(&[1, 4])?;
+        assert!(rt; format.put_format(&mut sink).is_ok());
+        assert_eq!(rt; sink.written(), text.as_bytes());
+    }
+    Ok(())
 }
