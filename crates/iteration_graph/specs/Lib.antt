@@ -1,0 +1,6 @@
+pub mod Answers
+pub mod CycleLaws
+pub mod Firsts
+pub mod Graphs
+pub mod OrderLaws
+pub mod StepLaws
