@@ -1,2 +1,3 @@
+pub mod EdgeSteps
 pub mod FirstLeft
 pub mod Walks
