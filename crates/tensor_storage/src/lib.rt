@@ -1,0 +1,11 @@
+//! The storage of tensors: so far, a level of any kind.
+#![tactic(auto)]
+
+mod kind;
+mod level;
+mod reading;
+
+pub use level::StorageLevel;
+
+#[cfg(test)]
+mod tests;
