@@ -1,5 +1,6 @@
 -- Storage formats of tensors: the kind of each level and the mode that it stores.
-use Rattle.std.specs.Prelude.{◌≡◌, ◌≢◌, ℕ, zero, suc, ◌+◌, ◌≤◌, ◌<◌, Bool, true, false, not, List, [], ◌∷◌, length, map, All, AllPairs}
+use Rattle.std.specs.Prelude.{◌≡◌, ◌≢◌, ℕ, ◌≤◌, ◌<◌, Bool, true, false, not, List, [], ◌∷◌, length, map, All, AllPairs}
+use Rattle.std.specs.List.{range_with_len}
 use Rattle.limits.specs.Limits.{greatest_order}
 use Rattle.smallvec.specs.SmallVec.{SmallVec}
 pub use Rattle.level_core.specs.declared.letter.Letter.{Letter}
@@ -50,11 +51,6 @@ pub record IsStored (levels : SmallVec FormatLevel) : Type 0 where
   pub format : IsFormat levels.items
   pub inline : levels.capacity ≡ 6
 
--- so many numbers in a row
-abbrev pub counting : ℕ → ℕ → List ℕ
-counting from zero = []
-counting from (suc count) = from ∷ counting (from + 1) count
-
 -- the modes in their own order
 abbrev pub standing : ℕ → List ℕ
-standing n = counting 0 n
+standing n = range_with_len 0 n

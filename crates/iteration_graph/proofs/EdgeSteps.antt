@@ -4,13 +4,14 @@ use Rattle.std.specs.List.{list_all}
 use Rattle.std.proofs.Common.{◌∙◌, sym, ap, arith}
 use Rattle.std.proofs.lemmas.List.{length-map}
 use Rattle.std.proofs.lemmas.List.Sums.{AllPass-from_list_all, list_all-from_AllPass}
+use Rattle.level_core.specs.Kinds.{properties}
 use Rattle.level_core.specs.declared.letter.Letter.{Letter}
 use Rattle.level_core.specs.declared.letter.Letter.TheVariants.{Dense, Compressed, CompressedGroups, Singleton, SingletonGroups, Hashed}
 use Rattle.format_spec.specs.declared.format.FormatLevel.{FormatLevel}
 use Rattle.format_spec.specs.Formats.{modes_of}
-use Rattle.iteration_graph.specs.Edges.{neighbours, is_dense, by_level, access_edges}
+use Rattle.iteration_graph.specs.Edges.{neighbours, by_level, access_edges}
 
-dense_is : (letter : Letter) → is_dense letter ≡ true → letter ≡ Dense
+dense_is : (letter : Letter) → (properties letter).full ≡ true → letter ≡ Dense
 dense_is Dense h = refl
 dense_is Compressed h = cc
 dense_is CompressedGroups h = cc
@@ -51,11 +52,11 @@ next_edge levels vars level upper lower first last above below =
 
 -- all are dense, or not all
 pub dense_gives_none : (levels : List FormatLevel) (vars : List ℕ) → All (λ level. level.letter ≡ Dense) levels → access_edges levels vars ≡ []
-dense_gives_none levels vars all = ap (λ t. if t then [] else neighbours (by_level levels vars)) (list_all-from_AllPass (λ level. is_dense level.letter) levels (λ k d h. ap is_dense (all k d h)))
+dense_gives_none levels vars all = ap (λ t. if t then [] else neighbours (by_level levels vars)) (list_all-from_AllPass (λ level. (properties level.letter).full) levels (λ k d h. ap (λ letter. (properties letter).full) (all k d h)))
 
 pub sparse_gives_all : (levels : List FormatLevel) (vars : List ℕ) → (All (λ level. level.letter ≡ Dense) levels → ⊥) → access_edges levels vars ≡ neighbours (by_level levels vars)
-sparse_gives_all levels vars some = by_test (list_all (λ level. is_dense level.letter) levels) refl
+sparse_gives_all levels vars some = by_test (list_all (λ level. (properties level.letter).full) levels) refl
   where
-    by_test : (t : Bool) → list_all (λ level. is_dense level.letter) levels ≡ t → access_edges levels vars ≡ neighbours (by_level levels vars)
-    by_test true is = absurd (some (λ k d h. dense_is (slice_index_or levels k d).letter (AllPass-from_list_all (λ level. is_dense level.letter) levels is k d h)))
+    by_test : (t : Bool) → list_all (λ level. (properties level.letter).full) levels ≡ t → access_edges levels vars ≡ neighbours (by_level levels vars)
+    by_test true is = absurd (some (λ k d h. dense_is (slice_index_or levels k d).letter (AllPass-from_list_all (λ level. (properties level.letter).full) levels is k d h)))
     by_test false is = ap (λ t. if t then [] else neighbours (by_level levels vars)) is
