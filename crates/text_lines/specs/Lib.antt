@@ -1,3 +1,4 @@
+pub mod DecimalLaws
 pub mod Digits
 pub mod Lines
 pub mod LineLaws

@@ -36,7 +36,7 @@ fn without_return(line: &[u8]) -> &[u8]
 }
 
 /// The bytes but for the first, if there is one.
-fn behind_first(bytes: &[u8]) -> &[u8]
+pub(crate) fn behind_first(bytes: &[u8]) -> &[u8]
     ensures { result.now ≡ drop 1 bytes.now }
 {
     match bytes {

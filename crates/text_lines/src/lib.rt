@@ -8,6 +8,7 @@ mod index;
 mod laws;
 mod num_fault;
 mod puts;
+mod whole;
 
 pub use cuts::{cut_line, cut_token, is_blank};
 pub use index::read_index;
@@ -17,6 +18,7 @@ pub use laws::{
 };
 pub use num_fault::NumFault;
 pub use puts::{put_all, put_i64, put_u64};
+pub use whole::read_whole;
 
 #[cfg(test)]
 mod tests;

@@ -1,7 +1,7 @@
 use crate::{
     NumFault, cut_line, cut_token, is_blank, joined_lines_are_cut_back, joined_tokens_are_cut_back,
     printed_numbers_are_read_back, printed_numbers_are_tokens, put_all, put_i64, put_u64,
-    read_index, tokens_are_whole_numbers_or_not,
+    read_index, read_whole, tokens_are_whole_numbers_or_not,
 };
 use outside::MemSink;
 use std::test::Fail;
@@ -106,4 +106,49 @@ fn a_refused_text_stands_in_part(rt: HostRuntime) -> Result<(), Fail> {
     assert_eq!(rt; sink.written(), b"-123".as_slice());
     assert_eq!(rt; sink.faults(), 1);
     Ok(())
+}
+
+#[test]
+fn tokens_are_whole_numbers(rt: HostRuntime) {
+    let whole: [(&[u8], i64); 9] = [
+        (b"0", 0),
+        (b"1.0", 1),
+        (b"3.", 3),
+        (b"+7", 7),
+        (b"-0", 0),
+        (b"-007.000", -7),
+        (b"0000000000000000000000012", 12),
+        (b"9223372036854775807", 9_223_372_036_854_775_807),
+        (b"-9223372036854775808.", -9_223_372_036_854_775_808),
+    ];
+    for (token, number) in whole {
+        assert_eq!(rt; read_whole(token), Ok(number));
+    }
+}
+
+#[test]
+fn tokens_are_no_whole_numbers(rt: HostRuntime) {
+    let others: [(&[u8], NumFault); 18] = [
+        (b"1.5", NumFault::NotWhole),
+        (b"1.05", NumFault::NotWhole),
+        (b"1e3", NumFault::NotWhole),
+        (b".0", NumFault::NotWhole),
+        (b"3.e5", NumFault::NotWhole),
+        (b"-2.50E+1", NumFault::NotWhole),
+        (b"9223372036854775808", NumFault::NumRange),
+        (b"-9223372036854775809", NumFault::NumRange),
+        (b"+18446744073709551616.0", NumFault::NumRange),
+        (b"", NumFault::NotNumber),
+        (b"-", NumFault::NotNumber),
+        (b".", NumFault::NotNumber),
+        (b"1e", NumFault::NotNumber),
+        (b"1e+", NumFault::NotNumber),
+        (b"--1", NumFault::NotNumber),
+        (b"1.5.2", NumFault::NotNumber),
+        (b"1.0x", NumFault::NotNumber),
+        (b"0x1", NumFault::NotNumber),
+    ];
+    for (token, fault) in others {
+        assert_eq!(rt; read_whole(token), Err(fault));
+    }
 }
