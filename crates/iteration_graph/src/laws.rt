@@ -10,10 +10,11 @@ pub fn edges_lead_forward()
     ensures one { (n : ℕ) (edges : List (ℕ × ℕ)) (order other : List ℕ) → IsLoopOrder n edges order → IsLoopOrder n edges other → order ≡ other }
 {}
 
-/// In the cycle that is named an edge leads from each variable to the next, and from the last to the first. A graph that has
-/// one has no loop order.
+/// In the cycle that is named an edge leads from each variable to the next, and from the last to the first. There is one,
+/// and a graph that has it has no loop order.
 pub fn edges_lead_round_a_cycle()
     ensures next { (n : ℕ) (edges : List (ℕ × ℕ)) (cycle : List ℕ) (i d : ℕ) → NamesCycle n edges cycle → i + 1 < length cycle → has_edge edges (slice_index_or cycle i d) (slice_index_or cycle (i + 1) d) ≡ true }
     ensures closes { (n : ℕ) (edges : List (ℕ × ℕ)) (cycle : List ℕ) (d : ℕ) → NamesCycle n edges cycle → has_edge edges (slice_index_or cycle (length cycle - 1) d) (slice_index_or cycle 0 d) ≡ true }
+    ensures one { (n : ℕ) (edges : List (ℕ × ℕ)) (cycle other : List ℕ) → NamesCycle n edges cycle → NamesCycle n edges other → cycle ≡ other }
     ensures no_order { (n : ℕ) (edges : List (ℕ × ℕ)) (cycle order : List ℕ) → NamesCycle n edges cycle → IsLoopOrder n edges order → ⊥ }
 {}
