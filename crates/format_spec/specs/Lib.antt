@@ -1,3 +1,4 @@
 pub mod Formats
+pub mod Pigeonholes
 pub mod WordLaws
 pub mod Words

@@ -12,7 +12,7 @@ mod text;
 
 pub use fault::FormatFault;
 pub use format::{Format, FormatLevel};
-pub use laws::{formats_are_read_back, one_answer_a_word};
+pub use laws::{each_mode_is_stored, formats_are_read_back, one_answer_a_word};
 pub use reading::parse_format;
 
 #[cfg(test)]

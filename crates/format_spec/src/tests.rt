@@ -1,7 +1,10 @@
 ghost use Rattle.std.specs.Prelude.{◌≤◌};
 ghost use Rattle.limits.specs.Limits.{greatest_order};
 
-use crate::{Format, FormatFault, formats_are_read_back, one_answer_a_word, parse_format};
+use crate::{
+    Format, FormatFault, each_mode_is_stored, formats_are_read_back, one_answer_a_word,
+    parse_format,
+};
 use level_core::Letter;
 use limits::greatest_order_of_tensor;
 use outside::MemSink;
@@ -164,6 +167,7 @@ fn dense_formats(rt: HostRuntime) {
 fn formats_have_texts(rt: HostRuntime) -> Result<(), Fail> {
     one_answer_a_word();
     formats_are_read_back();
+    each_mode_is_stored();
     let texts = [
         ("", "", 0, ":"),
         ("ds", "1,0", 2, "ds:1,0"),
