@@ -3,7 +3,7 @@ ghost use Rattle.hashed_level.specs.OrderLaws.{IncreasingInserts, OthersStay, St
 
 /// Where coordinates are inserted below a parent in increasing order, the slots where one is sought before its own hold
 /// smaller ones.
-#[tactic(auto, using(crate::specs::OrderLaws::prepared_keeps_order))]
+#[tactic(auto, using(crate::proofs::OrderLaws::prepared_keeps_order))]
 pub fn increasing_inserts_keep_order()
     ensures starts { StartsInOrder }
     ensures keeps { IncreasingInserts }

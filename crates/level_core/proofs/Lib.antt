@@ -1,1 +1,6 @@
+pub mod EdgeLaws
+pub mod EntryLaws
+pub mod FragmentLaws
+pub mod GroupLaws
+pub mod ParentLaws
 mod Walks

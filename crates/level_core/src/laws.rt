@@ -3,7 +3,7 @@ ghost use Rattle.level_core.specs.EdgeLaws.{EdgesTell, EdgesKeep, NoneGiven};
 
 /// Where parents are given positions one after another, each has the positions from its begin to its end from then on,
 /// and one that is given none has none.
-#[tactic(auto, using(crate::specs::EdgeLaws::edges_tell, crate::specs::EdgeLaws::edges_keep, crate::specs::EdgeLaws::none_given))]
+#[tactic(auto, using(crate::proofs::EdgeLaws::edges_tell, crate::proofs::EdgeLaws::edges_keep, crate::proofs::EdgeLaws::none_given))]
 pub fn edges_tell_segments()
     ensures tell { EdgesTell }
     ensures keep { EdgesKeep }

@@ -1,4 +1,4 @@
-use Rattle.hashed_level.specs.OrderLaws.{insert_keeps_order, insert_keeps_others}
+use Rattle.hashed_level.proofs.OrderLaws.{insert_keeps_order, insert_keeps_others}
 use Rattle.hashed_level.proofs.laws.increasing_inserts_keep_order.Goals as goal
 
 pub returns-clause-keeps : goal.returns-clause-keeps

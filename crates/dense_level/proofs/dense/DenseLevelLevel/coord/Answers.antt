@@ -1,5 +1,5 @@
 use Rattle.std.proofs.Common.{◌∙◌, ◌%◌, Some, sym, ap}
-use Rattle.dense_level.specs.DenseLaws.{dense_coord, dense_remainder}
+use Rattle.dense_level.proofs.DenseLaws.{dense_coord, dense_remainder}
 use Rattle.dense_level.proofs.dense.DenseLevelLevel.coord.Goals as goal
 
 pub returns : goal.returns

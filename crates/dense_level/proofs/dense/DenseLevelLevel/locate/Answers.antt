@@ -1,6 +1,7 @@
 use Rattle.std.proofs.Common.{◌∙◌, ◌<◌, ◌≤◌, Some, sym, ap, subst}
 use Rattle.level_core.specs.Entries.{one}
-use Rattle.dense_level.specs.DenseLaws.{dense_position, dense_lacks}
+use Rattle.dense_level.specs.DenseLaws.{dense_position}
+use Rattle.dense_level.proofs.DenseLaws.{dense_lacks}
 use Rattle.dense_level.proofs.dense.DenseLevelLevel.locate.Goals as goal
 
 pub returns-then-x-self : goal.returns-then-x-self

@@ -1,5 +1,5 @@
 use Rattle.std.proofs.Common.{◌*◌, ◌^◌, ◌<◌, sym, subst, arith}
-use Rattle.dense_level.specs.DenseLaws.{small_start, small_end}
+use Rattle.dense_level.proofs.DenseLaws.{small_start, small_end}
 use Rattle.dense_level.proofs.dense.DenseLevelLevel.segment.Goals as goal
 
 pub overflow_mul-result : goal.overflow_mul-result

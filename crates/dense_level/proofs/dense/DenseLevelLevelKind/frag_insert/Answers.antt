@@ -4,7 +4,8 @@ use Rattle.kernel_code.specs.Keeps.{no_turns}
 use Rattle.level_core.specs.Fragments.{Writes}
 use Rattle.level_core.specs.FragmentLaws.{one_code}
 use Rattle.dense_level.specs.Code.{place_word}
-use Rattle.dense_level.specs.CodeLaws.{insert_law, PlaceLeft}
+use Rattle.dense_level.specs.CodeLaws.{PlaceLeft}
+use Rattle.dense_level.proofs.CodeLaws.{insert_law}
 use Rattle.dense_level.proofs.dense.DenseLevelLevelKind.frag_insert.Goals as goal
 
 pub returns : goal.returns

@@ -4,7 +4,7 @@ use Rattle.dense_level.specs.Dense.{dense_entries}
 use Rattle.kernel_code.specs.Keeps.{no_turns}
 use Rattle.level_core.specs.Fragments.{Reads, OptionLeft}
 use Rattle.dense_level.specs.Code.{located_code}
-use Rattle.dense_level.specs.CodeLaws.{locate_law}
+use Rattle.dense_level.proofs.CodeLaws.{locate_law}
 use Rattle.dense_level.proofs.dense.DenseLevelLevelKind.frag_locate.Goals as goal
 
 pub returns : goal.returns

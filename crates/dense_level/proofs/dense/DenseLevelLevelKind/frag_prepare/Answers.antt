@@ -2,7 +2,8 @@ use Rattle.std.proofs.Common.{sym, subst}
 use Rattle.kernel_code.specs.Keeps.{no_turns}
 use Rattle.level_core.specs.Fragments.{Writes, PassesLimitWithin}
 use Rattle.dense_level.specs.Dense.{dense_positions}
-use Rattle.dense_level.specs.CodeLaws.{SameLeft, prepare_law}
+use Rattle.dense_level.specs.CodeLaws.{SameLeft}
+use Rattle.dense_level.proofs.CodeLaws.{prepare_law}
 use Rattle.dense_level.proofs.dense.DenseLevelLevelKind.frag_prepare.Goals as goal
 
 pub returns : goal.returns

@@ -4,7 +4,7 @@ use Rattle.kernel_code.specs.Keeps.{no_turns}
 use Rattle.level_core.specs.Fragments.{Reads, SpanLeft}
 use Rattle.level_core.specs.FragmentLaws.{two_code}
 use Rattle.dense_level.specs.Code.{times_size}
-use Rattle.dense_level.specs.CodeLaws.{segment_law}
+use Rattle.dense_level.proofs.CodeLaws.{segment_law}
 use Rattle.dense_level.proofs.dense.DenseLevelLevelKind.frag_segment.Goals as goal
 
 pub returns : goal.returns

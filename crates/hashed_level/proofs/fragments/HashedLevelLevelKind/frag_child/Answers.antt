@@ -5,7 +5,7 @@ use Rattle.kernel_code.specs.declared.syntax.KExpr.{Num, Bin}
 use Rattle.level_core.specs.Fragments.{Reads, SpanLeft}
 use Rattle.level_core.specs.FragmentLaws.{two_code}
 use Rattle.hashed_level.specs.Hashed.{hashed_segment}
-use Rattle.hashed_level.specs.CodeLaws.{child_law}
+use Rattle.hashed_level.proofs.CodeLaws.{child_law}
 use Rattle.hashed_level.proofs.fragments.HashedLevelLevelKind.frag_child.Goals as goal
 
 pub returns : goal.returns

@@ -4,7 +4,7 @@ use Rattle.level_core.specs.Entries.{coord_at}
 use Rattle.level_core.specs.Fragments.{Reads, OptionLeft}
 use Rattle.hashed_level.specs.Hashed.{hashed_entries}
 use Rattle.hashed_level.specs.Code.{coord_code}
-use Rattle.hashed_level.specs.CodeLaws.{coord_law}
+use Rattle.hashed_level.proofs.CodeLaws.{coord_law}
 use Rattle.hashed_level.proofs.fragments.HashedLevelLevelKind.frag_coord.Goals as goal
 
 pub returns : goal.returns

@@ -1,9 +1,9 @@
 use Rattle.std.proofs.Common.{◌≡◌, [], ◌∷◌, sym, subst, refl}
 use Rattle.kernel_code.specs.Does.{Does, Never}
-use Rattle.level_core.specs.FragmentLaws.{argument_is}
+use Rattle.level_core.proofs.FragmentLaws.{argument_is}
 use Rattle.hashed_level.specs.Code.{insert_code}
-use Rattle.hashed_level.specs.SearchCode.{Inserted}
-use Rattle.hashed_level.specs.CodeLaws.{insert_law}
+use Rattle.hashed_level.proofs.SearchCode.{Inserted}
+use Rattle.hashed_level.proofs.CodeLaws.{insert_law}
 use Rattle.hashed_level.proofs.fragments.HashedLevelLevelKind.frag_insert.Goals as goal
 
 pub returns : goal.returns

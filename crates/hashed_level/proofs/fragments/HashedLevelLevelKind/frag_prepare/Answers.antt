@@ -3,7 +3,8 @@ use Rattle.kernel_code.specs.Keeps.{no_turns}
 use Rattle.level_core.specs.Fragments.{Writes, PassesLimitWithin}
 use Rattle.hashed_level.specs.Hashed.{hashed_positions}
 use Rattle.hashed_level.specs.Code.{prepare_code}
-use Rattle.hashed_level.specs.CodeLaws.{Made, prepare_law}
+use Rattle.hashed_level.specs.CodeLaws.{Made}
+use Rattle.hashed_level.proofs.CodeLaws.{prepare_law}
 use Rattle.hashed_level.proofs.fragments.HashedLevelLevelKind.frag_prepare.Goals as goal
 
 pub returns : goal.returns

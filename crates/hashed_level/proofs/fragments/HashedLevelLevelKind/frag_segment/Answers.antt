@@ -4,7 +4,7 @@ use Rattle.level_core.specs.Fragments.{Reads, SpanLeft}
 use Rattle.level_core.specs.FragmentLaws.{two_code}
 use Rattle.hashed_level.specs.Hashed.{hashed_segment}
 use Rattle.hashed_level.specs.Code.{base_word}
-use Rattle.hashed_level.specs.CodeLaws.{segment_law}
+use Rattle.hashed_level.proofs.CodeLaws.{segment_law}
 use Rattle.hashed_level.proofs.fragments.HashedLevelLevelKind.frag_segment.Goals as goal
 
 pub returns : goal.returns

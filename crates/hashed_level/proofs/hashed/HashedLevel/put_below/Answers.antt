@@ -1,6 +1,6 @@
 use Rattle.std.proofs.Common.{◌∙◌, sym, ap, subst}
 use Rattle.hashed_level.specs.Hashed.{Keeps, hashed, with_coordinate}
-use Rattle.hashed_level.specs.HashedLaws.{inserted_keeps}
+use Rattle.hashed_level.proofs.HashedLaws.{inserted_keeps}
 use Rattle.hashed_level.proofs.hashed.HashedLevel.put_below.Goals as goal
 
 pub invariant_of-self : goal.invariant_of-self

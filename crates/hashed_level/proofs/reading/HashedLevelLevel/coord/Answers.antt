@@ -1,5 +1,5 @@
 use Rattle.std.proofs.Common.{◌∙◌, sym}
-use Rattle.hashed_level.specs.HashedLaws.{hashed_coord}
+use Rattle.hashed_level.proofs.HashedLaws.{hashed_coord}
 use Rattle.hashed_level.proofs.reading.HashedLevelLevel.coord.Goals as goal
 
 pub returns : goal.returns
