@@ -15,6 +15,3 @@ pub use laws::{
 pub use products::is_product;
 pub use ranges::{Bound, RangeFault};
 pub use value::value_at;
-
-#[cfg(test)]
-mod tests;
