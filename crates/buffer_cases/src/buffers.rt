@@ -1,7 +1,7 @@
-//! Each public call once, want of memory, and blocks that are given back.
+// Each public call of segments and twins once, want of memory, and blocks that are given back.
 ghost use Rattle.std.specs.Prelude.{◌≡◌, ◌+◌, ◌<◌, [], ◌∷◌, ◌++◌, length, reverse, slice_index, IfOk, OnErr};
 
-use crate::{Segment, Twin};
+use seg_buffer::{Segment, Twin};
 use std::alloc::{AllocError, Global};
 use std::test::Fail;
 
@@ -56,7 +56,7 @@ fn a_twin_is_two_lists(rt: HostRuntime) -> Result<(), Fail> {
     Ok(())
 }
 
-/// Values that take no bytes, and sizes that no block can have.
+// Values that take no bytes, and sizes that no block can have.
 #[test]
 fn sizes_at_both_ends(rt: HostRuntime) -> Result<(), Fail> {
     let mut units = Segment::with_room(rt.alloc(), 2)?;
@@ -75,8 +75,8 @@ fn sizes_at_both_ends(rt: HostRuntime) -> Result<(), Fail> {
     Ok(())
 }
 
-/// The right answer, or want of memory, with all as it was before. `bench/segment-refusals` makes each of its
-/// allocations fail in turn.
+// The right answer, or want of memory, with all as it was before. `bench/segment-refusals` makes each of its
+// allocations fail in turn.
 #[test]
 fn answers_or_wants_memory(rt: HostRuntime) -> Result<(), Fail> {
     let mut segment = Segment::new(rt.alloc());
@@ -101,8 +101,8 @@ fn answers_or_wants_memory(rt: HostRuntime) -> Result<(), Fail> {
     Ok(())
 }
 
-/// No clause can say that each block is given back. Here one that is forgotten, turn after turn, passes the address
-/// space of 2^47 bytes: each of the six blocks has 2^32 bytes at least.
+// No clause can say that each block is given back. Here one that is forgotten, turn after turn, passes the address
+// space of 2^47 bytes: each of the six blocks has 2^32 bytes at least.
 #[test]
 fn blocks_are_given_back(rt: HostRuntime) -> Result<(), Fail> {
     let room = 1 << 29;
