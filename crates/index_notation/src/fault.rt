@@ -43,3 +43,14 @@ pub enum NotationFault {
     /// Want of memory.
     Memory(AllocError),
 }
+
+impl From<AllocError> for NotationFault {
+    ghost use Rattle.std.specs.Prelude.{◌≡◌};
+    ghost use Rattle.index_notation.specs.declared.fault.NotationFault.TheVariants as notation;
+
+    ghost from_gives = { λ error fault. fault ≡ notation.Memory error };
+
+    fn from(error: AllocError) -> NotationFault {
+        NotationFault::Memory(error)
+    }
+}
