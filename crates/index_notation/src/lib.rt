@@ -5,10 +5,14 @@
 #![tactic(auto)]
 
 mod checks;
+mod fault;
 mod laws;
 mod sentence;
+mod symbol;
 mod syntax;
 
+pub use fault::{Counted, NotationFault, SymbolFault};
 pub use laws::{one_statement_a_text, one_token_list_a_text};
 pub use sentence::{Mark, Sentence, Token, WrittenAccess};
+pub use symbol::{PlacedSymbol, Symbol};
 pub use syntax::{Access, Expr, Name, Statement, copy_access, copy_expr, copy_name};
