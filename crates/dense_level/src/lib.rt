@@ -5,6 +5,9 @@
 
 mod code;
 mod dense;
+mod inserting;
+mod kind;
+mod reading;
 #[cfg(test)]
 mod tests;
 

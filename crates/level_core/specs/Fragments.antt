@@ -65,9 +65,13 @@ probe_turns letter segment = if (properties letter).ordered then no_turns else t
 abbrev pub Runs : Setting → List KStmt → ℕ → (Arr → Type 0) → (LoopKind → ℕ) → State → (State → Type 0) → (Arr → ℕ → Type 0) → Type 0
 Runs c code free kept most s Answer Refused = Does c code s (λ s'. Leaves NoVariable kept free most s s' × Answer s') Refused
 
+-- code that is refused nothing
+abbrev pub Unrefused : Arr → ℕ → Type 0
+Unrefused a count = ⊥
+
 -- code that changes no array and is refused nothing
 abbrev pub Reads : Setting → List KStmt → ℕ → (LoopKind → ℕ) → State → (State → Type 0) → Type 0
-Reads c code free most s Answer = Runs c code free EveryArray most s Answer Never
+Reads c code free most s Answer = Runs c code free EveryArray most s Answer Unrefused
 
 -- code that changes no array but those of one level of a tensor
 abbrev pub Writes : Setting → List KStmt → ℕ → ℕ → ℕ → (LoopKind → ℕ) → State → (State → Type 0) → (Arr → ℕ → Type 0) → Type 0

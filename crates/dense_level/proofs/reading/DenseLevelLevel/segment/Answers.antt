@@ -1,6 +1,6 @@
 use Rattle.std.proofs.Common.{◌*◌, ◌^◌, ◌<◌, sym, subst, arith}
-use Rattle.dense_level.specs.DenseLaws.{small_start, small_end}
-use Rattle.dense_level.proofs.dense.DenseLevelLevel.segment.Goals as goal
+use Rattle.dense_level.specs.Laws.{small_start, small_end}
+use Rattle.dense_level.proofs.reading.DenseLevelLevel.segment.Goals as goal
 
 pub overflow_mul-result : goal.overflow_mul-result
 overflow_mul-result c =
