@@ -23,6 +23,34 @@ coord_none x h = let is : (x == empty_slot) ≡ true = grind (arith, nat_tests) 
 pub coord_some : (x : ℕ) → x ≢ empty_slot → coord_of x ≡ Some x
 coord_some x h = let is : (x == empty_slot) ≡ false = grind (arith, nat_tests) in ap (λ b. if b then None else Some x) is
 
+-- a slot without a coordinate is empty
+pub none_is_empty : (y : ℕ) → coord_of y ≡ None → y ≡ empty_slot
+none_is_empty y h = by_test (y == empty_slot) refl h
+  where
+    some_none : (z : ℕ) → Some z ≡ None → ⊥
+    some_none z e = cc
+
+    by_test : (b : Bool) → (y == empty_slot) ≡ b → (if b then None else Some y) ≡ None → y ≡ empty_slot
+    by_test true is h = grind (arith, nat_tests, is)
+    by_test false is h = absurd (some_none y h)
+
+-- a slot's coordinate tells its word
+pub same_words : (x y : ℕ) → coord_of x ≡ coord_of y → x ≡ y
+same_words x y h = by_tests (x == empty_slot) (y == empty_slot) refl refl h
+  where
+    some_none : (z : ℕ) → Some z ≡ None → ⊥
+    some_none z e = cc
+
+    some_same : (y z : ℕ) → Some y ≡ Some z → y ≡ z
+    some_same y z e = cc
+
+    by_tests : (a b : Bool) → (x == empty_slot) ≡ a → (y == empty_slot) ≡ b → (if a then None else Some x) ≡ (if b then None else Some y) → x ≡ y
+    by_tests true true is at h = grind (arith, nat_tests, is, at)
+    by_tests true false is at h = absurd (some_none y (sym h))
+    by_tests false true is at h = absurd (some_none x h)
+    by_tests false false is at h = some_same x y h
+
+
 position_here : (e : Entry) (es : List Entry) (x : ℕ) → e.coord ≡ x → position_of (e ∷ es) x ≡ Some e.child.lo
 position_here e es x h = let is : (e.coord == x) ≡ true = grind (arith, nat_tests) in ap (λ b. if b then Some e.child.lo else position_of es x) is
 

@@ -1,8 +1,3 @@
-ghost use Rattle.std.specs.Prelude.{◌≡◌};
-ghost use Rattle.level_core.specs.declared.letter.Letter.TheVariants.{Hashed as HashedLetter};
-ghost use Rattle.hashed_level.specs.Hashed.{Keeps, Held, IsAllowed, hashed_segment, hashed_entries, nothing_appended, hashed_positions, MayPrepare, prepared, IsInserted};
-ghost use Rattle.hashed_level.specs.HashedLaws.{held_there, hashed_are_entries, hashed_in_row, hashed_logs, hashed_prepares, hashed_inserts};
-
 use crate::code::{base_of_block, leave_coordinate, leave_position, make_parents, put_coordinate};
 use crate::hashed::HashedLevel;
 use kernel_code::{KExpr, KStmt, Op, binary, copy_expr};
@@ -11,41 +6,12 @@ use std::alloc::{AllocError, Global};
 use trees::Items;
 
 impl LevelKind for HashedLevel {
-    ghost kind = { λ l. HashedLetter };
+    ghost use Rattle.hashed_level.specs.Hashed as hashed;
+    ghost use Rattle.hashed_level.specs.Laws.{laws as hashed_laws};
 
-    ghost keeps = { Keeps };
+    ghost meaning = { hashed.meaning };
 
-    ghost size = { λ l. l.size };
-
-    ghost holds = { Held };
-
-    ghost allowed = { IsAllowed };
-
-    ghost segment_of = { hashed_segment };
-
-    ghost entries = { hashed_entries };
-
-    ghost log = { λ l. nothing_appended };
-
-    ghost positions_for = { hashed_positions };
-
-    ghost may_prepare = { MayPrepare };
-
-    ghost prepared = { λ l parents most m. m ≡ prepared l parents most };
-
-    ghost inserted = { IsInserted };
-
-    ghost holds_there = { held_there };
-
-    ghost are_entries = { hashed_are_entries };
-
-    ghost in_row = { hashed_in_row };
-
-    ghost logs = { hashed_logs };
-
-    ghost prepares = { hashed_prepares };
-
-    ghost inserts = { hashed_inserts };
+    ghost laws = { hashed_laws };
 
     fn letter(&self) -> Letter {
         Letter::Hashed
