@@ -7,7 +7,7 @@ use std::alloc::{AllocError, Global};
 use trees::Items;
 
 impl LevelKind for CompressedLevel {
-    ghost use Rattle.level_core.specs.ParentLaws.{segments_in_row};
+    ghost use Rattle.level_core.proofs.ParentLaws.{segments_in_row};
     ghost use Rattle.compressed_level.specs.Compressed.{letter_of, KeepsRules, Holds, IsAllowed, segment_of, entries_of};
     ghost use Rattle.compressed_level.specs.LevelLaws.{holds_there, are_entries};
     ghost use Rattle.compressed_level.specs.RuleLaws.{logs_are};

@@ -1,4 +1,3 @@
 pub mod Codes
 pub mod Skips
 pub mod Spans
-pub mod Words

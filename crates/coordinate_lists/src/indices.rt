@@ -90,7 +90,7 @@ impl Indices {
     }
 
     /// Appends an item. `reserve` makes the room for it.
-    #[tactic(auto, using(crate::specs::Words::positions_fit_32_bits))]
+    #[tactic(auto, using(crate::proofs::Words::positions_fit_32_bits))]
     pub fn push(&mut self, x: u64)
         requires room { 0 < self.old.spare }
         requires within { x ≤ greatest_position_count }
@@ -113,7 +113,7 @@ impl Indices {
     }
 
     /// Puts `x` in the place of the item at `i`, counted from 0.
-    #[tactic(auto, using(crate::specs::Words::positions_fit_32_bits))]
+    #[tactic(auto, using(crate::proofs::Words::positions_fit_32_bits))]
     pub fn set(&mut self, i: u64, x: u64)
         requires place { i < length self.old.items }
         requires within { x ≤ greatest_position_count }

@@ -2,13 +2,15 @@
 use Rattle.std.specs.Prelude.{◌≡◌, ℕ, ◌+◌, ◌*◌, ◌^◌, ◌≤◌, ◌<◌, nat_lt, Bool, true, false, List, [], ◌∷◌, Some, slice_get, refl}
 use Rattle.std.proofs.Common.{◌∙◌, sym, ap, subst, arith}
 use Rattle.std.proofs.lemmas.Bool.Decides.{nat_tests}
-use Rattle.limits.specs.Limits.{greatest_position_count, positions_are_small}
+use Rattle.limits.specs.Limits.{greatest_position_count}
+use Rattle.limits.proofs.Limits.{positions_are_small}
 use Rattle.kernel_code.specs.declared.syntax.Arr.TheVariants.{Dimension}
 use Rattle.kernel_code.specs.declared.syntax.Op.TheVariants.{Add, Mul, Less}
 use Rattle.kernel_code.specs.declared.syntax.KExpr.{KExpr, Num, Bin}
 use Rattle.kernel_code.specs.Meaning.{Setting, State, value}
-use Rattle.kernel_code.specs.Does.{does_nothing, does_weaker, does_if_yes, does_if_no}
-use Rattle.kernel_code.specs.Keeps.{Below, NoVariable, EveryArray, no_turns, mentions_at, mentions_bin, leaves_none, leaves_wider}
+use Rattle.kernel_code.proofs.Does.{does_nothing, does_weaker, does_if_yes, does_if_no}
+use Rattle.kernel_code.specs.Keeps.{Below, NoVariable, EveryArray, no_turns}
+use Rattle.kernel_code.proofs.Keeps.{mentions_at, mentions_bin, leaves_none, leaves_wider}
 use Rattle.level_core.specs.declared.span.Span.{Span}
 use Rattle.level_core.specs.declared.span.Entry.{Entry}
 use Rattle.level_core.specs.Entries.{one, StandsAt, position_of}
@@ -16,9 +18,11 @@ use Rattle.level_core.specs.declared.letter.Letter.TheVariants.{Dense}
 use Rattle.level_core.specs.Kinds.{CodeMayPrepare, positions_for}
 use Rattle.level_core.specs.Codes.{HoldsPrepared, HoldsInserted}
 use Rattle.level_core.specs.Fragments.{AreBelow, ValuesAre, IsOutside, Reads, Writes, PassesLimitWithin, SpanLeft, OptionLeft, Unrefused}
-use Rattle.level_core.specs.FragmentLaws.{argument_is, word_is, product_is, sum_is, less_yes, less_no, one_code, two_code, number_set, span_set, some_set, none_set}
+use Rattle.level_core.proofs.FragmentLaws.{argument_is, word_is, product_is, sum_is, less_yes, less_no, number_set, span_set, some_set, none_set}
+use Rattle.level_core.specs.FragmentLaws.{one_code, two_code}
 use Rattle.dense_level.specs.Dense.{KeepsRules, Holds, IsAllowed, segment_of, entries_of, meaning}
-use Rattle.dense_level.specs.Laws.{position_is, position_none, child_is, small_start, small_end, small_place}
+use Rattle.dense_level.specs.Laws.{position_is}
+use Rattle.dense_level.proofs.Laws.{position_none, child_is, small_start, small_end, small_place}
 use Rattle.dense_level.specs.Code.{size_word, times_size, place_word, located_code}
 
 size_is : (n tensor level : ℕ) (s : State) → Holds n tensor level s.arrays → value (size_word tensor level) s ≡ Some n

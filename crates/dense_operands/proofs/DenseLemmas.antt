@@ -5,11 +5,12 @@ use Rattle.std.proofs.lemmas.List.{length-replicate, get_or-replicate}
 use Rattle.std.proofs.Math.Seq.{take-suc}
 use Rattle.numbers.specs.Arithmetic.{Arithmetic, Laws}
 use Rattle.tensor_map.specs.declared.entries.Entry.{Entry}
-use Rattle.numbers.specs.Sums.{total_fits}
+use Rattle.numbers.proofs.Sums.{total_fits}
 use Rattle.tensor_map.specs.Entries.{values_at, value_at}
-use Rattle.tensor_map.specs.Laws.{tested, same, other, value_here, value_elsewhere, value_append}
+use Rattle.tensor_map.specs.Laws.{same, other}
+use Rattle.tensor_map.proofs.Lemmas.{tested, value_here, value_elsewhere, value_append}
 use Rattle.tns_io.specs.Positions.{product, IsBelow, position}
-use Rattle.tns_io.specs.PositionLaws.{position_below, position_injective}
+use Rattle.tns_io.proofs.PositionLaws.{position_below, position_injective}
 use Rattle.dense_operands.specs.Levels.{IsDense}
 
 module _ (a : Arithmetic) (laws : Laws a) where

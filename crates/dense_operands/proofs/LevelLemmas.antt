@@ -2,11 +2,12 @@
 use Rattle.std.proofs.Common.{◌≡◌, ℕ, zero, suc, ◌+◌, ◌*◌, ◌<◌, ◌≤◌, ◌^◌, List, [], ◌∷◌, length, drop, get_or, ◌⊎◌, refl, ap, subst, sym, ◌∙◌, inl, inr, arith, add-one}
 use Rattle.std.proofs.Math.Nat.{mul_assoc, one-mul, mul-one, le-mul_of_pos_right}
 use Rattle.std.proofs.Math.Seq.{drop-cons, drop-length}
-use Rattle.limits.specs.Limits.{greatest_position_count, some_positions, positions_are_small}
+use Rattle.limits.specs.Limits.{greatest_position_count}
+use Rattle.limits.proofs.Limits.{some_positions, positions_are_small}
 use Rattle.tns_io.specs.Positions.{product, IsBelow, position}
-use Rattle.tns_io.specs.PositionLaws.{position_below}
+use Rattle.tns_io.proofs.PositionLaws.{position_below}
 use Rattle.dense_operands.specs.Levels.{level_positions, FitLevels}
-use Rattle.dense_operands.specs.LevelLaws.{last_level}
+use Rattle.dense_operands.proofs.LevelLaws.{last_level}
 
 -- a level has a position for each position of the level before and each coordinate of its mode
 pub level_next : (sizes : List ℕ) (k : ℕ) → k < length sizes → level_positions sizes (suc k) ≡ level_positions sizes k * get_or sizes k 0

@@ -11,7 +11,7 @@ use Rattle.tensor_map.specs.Entries.{Entries, IsGreatest}
 use Rattle.expr_terms.specs.Operands.{entries_of, list_or_none}
 use Rattle.dense_operands.specs.Operands.{HasSmallCoords, HasOrder, operand_of}
 use Rattle.dense_operands.specs.Reaches.{greatest_reach}
-use Rattle.dense_operands.specs.ReachLaws.{reach_append, reach_first, coordinate_small}
+use Rattle.dense_operands.proofs.ReachLaws.{reach_append, reach_first, coordinate_small}
 
 module _ (entries : ℕ → List Entry) where
   -- the ranges so far, and what the access's other modes add, are the ranges before and what all its modes add

@@ -3,7 +3,8 @@ use Rattle.std.specs.Prelude.{◌≡◌, ℕ, zero, suc, ◌<◌, List, Option, 
 use Rattle.limits.specs.Limits.{greatest_position_count}
 use Rattle.tensor_map.specs.declared.entries.Entry.{Entry}
 use Rattle.tensor_map.specs.Entries.{Entries}
-use Rattle.index_notation.specs.Statement.{Each, IsNumbered}
+use Rattle.index_notation.specs.Statement.{IsNumbered}
+use Rattle.lists.specs.Each.{Each}
 use Rattle.index_notation.specs.declared.syntax.Access.{Access}
 use Rattle.index_notation.specs.declared.syntax.Statement.{Statement}
 

@@ -1,7 +1,7 @@
 //! Whether operands fit a statement.
 ghost use Rattle.std.specs.Prelude.{◌<◌, ◌↔◌, All, IsTrue};
 ghost use Rattle.limits.specs.Limits.{greatest_position_count};
-ghost use Rattle.index_notation.specs.Statement.{Each};
+ghost use Rattle.lists.specs.Each.{Each};
 ghost use Rattle.dense_operands.specs.Operands.{AreOperands, ReadsOperand, HaveSmallCoords};
 
 use index_notation::{Access, Statement};

@@ -1,5 +1,5 @@
 ghost use Rattle.std.specs.Prelude.{◌≡◌, ℕ, ◌<◌, max, length, All, IfOk, slice_index};
-ghost use Rattle.index_notation.specs.Statement.{Each};
+ghost use Rattle.lists.specs.Each.{Each};
 ghost use Rattle.expr_terms.specs.Operands.{entries_of};
 ghost use Rattle.expr_terms.specs.Ranges.{reach, narrow_ranges, places_from};
 ghost use Rattle.dense_operands.specs.Operands.{AreOperands, ReadsOperand, HaveSmallCoords};

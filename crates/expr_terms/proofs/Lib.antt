@@ -1,4 +1,11 @@
+pub mod Equations
+pub mod GroupLaws
 pub mod Made
+pub mod PointLaws
+pub mod ProductLaws
+pub mod RangeLaws
 pub mod SetPoint
+pub mod TermLaws
 pub mod TermSums
 pub mod ValueIn
+pub mod ValueLaws

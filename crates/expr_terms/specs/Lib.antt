@@ -1,10 +1,7 @@
-pub mod Equations
-pub mod GroupLaws
 pub mod Groups
 pub mod Operands
 pub mod PointLaws
 pub mod Points
-pub mod ProductLaws
 pub mod Products
 pub mod RangeLaws
 pub mod Ranges

@@ -2,7 +2,8 @@
 ghost use Rattle.std.specs.Prelude.{◌≡◌, ℕ, ◌-◌, ◌<◌, ◌^◌, Bool, true, false, not, List, ◌∷◌, [], map, length, Ok, None, slice_index};
 ghost use Rattle.numbers.specs.Arithmetic.{Arithmetic, Laws, MinusLaws};
 ghost use Rattle.numbers.specs.Sums.{total_of};
-ghost use Rattle.index_notation.specs.Statement.{Each, IsDistinct, IsNumbered, IsWellNamed, numbers_from};
+ghost use Rattle.index_notation.specs.Statement.{IsDistinct, IsNumbered, IsWellNamed, numbers_from};
+ghost use Rattle.lists.specs.Each.{Each};
 ghost use Rattle.index_notation.specs.Numbering.{product_of};
 ghost use Rattle.index_notation.specs.declared.syntax.Access.{Access as AnAccess};
 ghost use Rattle.expr_terms.specs.Points.{point_of, sum_over};

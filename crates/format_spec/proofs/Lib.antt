@@ -6,3 +6,5 @@ pub mod Letters
 pub mod ModeTexts
 pub mod OrderSteps
 pub mod Parses
+pub mod Pigeonholes
+pub mod WordLaws

@@ -1,4 +1,2 @@
 pub mod Formats
-pub mod Pigeonholes
-pub mod WordLaws
 pub mod Words

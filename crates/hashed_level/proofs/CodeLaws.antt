@@ -3,18 +3,21 @@ use Rattle.std.specs.Prelude.{◌≡◌, ◌⊎◌, ℕ, ◌+◌, ◌*◌, ◌^�
 use Rattle.std.proofs.Common.{◌∙◌, sym, ap, subst, arith, inl, inr, lit<}
 use Rattle.std.proofs.Math.Nat.{mul-le-mul_left, mul-le-mul_right}
 use Rattle.std.proofs.lemmas.Bool.Decides.{nat_tests, eqb_tells}
-use Rattle.limits.specs.Limits.{greatest_position_count, positions_are_small}
+use Rattle.limits.specs.Limits.{greatest_position_count}
+use Rattle.limits.proofs.Limits.{positions_are_small}
 use Rattle.kernel_code.specs.declared.syntax.Arr.{Arr}
 use Rattle.kernel_code.specs.declared.syntax.Arr.TheVariants.{Coordinates, Width as WidthArray}
 use Rattle.kernel_code.specs.declared.syntax.Op.TheVariants.{Add, Mul}
 use Rattle.kernel_code.specs.declared.syntax.KExpr.{KExpr, Num, Var, At, Bin, Min, Width}
 use Rattle.kernel_code.specs.declared.syntax.KStmt.{Set, Extend}
 use Rattle.kernel_code.specs.Arrays.{may_write, may_have, word_count}
-use Rattle.kernel_code.specs.ArrayNames.{same_arr_self}
+use Rattle.kernel_code.proofs.ArrayNames.{same_arr_self}
 use Rattle.kernel_code.specs.Meaning.{Setting, State, value, width_of, apply_each, set_var, set_array}
-use Rattle.kernel_code.specs.Equations.{value_min, value_width}
-use Rattle.kernel_code.specs.Does.{Does, Never, does_nothing, does_set, does_extend, does_if_yes, does_if_no}
-use Rattle.kernel_code.specs.Keeps.{Below, Leaves, NoVariable, EveryArray, no_turns, mentions_at, mentions_bin, this_var, other_var, this_array, other_array, leaves_none, leaves_set, leaves_array}
+use Rattle.kernel_code.proofs.Equations.{value_min, value_width}
+use Rattle.kernel_code.specs.Does.{Does, Never}
+use Rattle.kernel_code.proofs.Does.{does_nothing, does_set, does_extend, does_if_yes, does_if_no}
+use Rattle.kernel_code.specs.Keeps.{Below, Leaves, NoVariable, EveryArray, no_turns}
+use Rattle.kernel_code.proofs.Keeps.{mentions_at, mentions_bin, this_var, other_var, this_array, other_array, leaves_none, leaves_set, leaves_array}
 use Rattle.level_core.specs.declared.span.Span.{Span}
 use Rattle.level_core.specs.declared.span.Entry.{Entry}
 use Rattle.level_core.specs.declared.letter.Letter.TheVariants.{Hashed as HashedLetter}
@@ -22,12 +25,15 @@ use Rattle.level_core.specs.Kinds.{positions_for, MayPrepare, MayInsert}
 use Rattle.level_core.specs.Codes.{HoldsPrepared}
 use Rattle.level_core.specs.Entries.{one, IsIn, StandsAt, coord_at}
 use Rattle.level_core.specs.Fragments.{AreBelow, ValuesAre, IsOutside, Reads, Writes, Unrefused, PassesLimitWithin, SpanLeft, OptionLeft}
-use Rattle.level_core.specs.FragmentLaws.{outside_apart, argument_is, below_kept, product_is, sum_is, one_code, two_code, span_set, some_set, none_set}
+use Rattle.level_core.proofs.FragmentLaws.{outside_apart, argument_is, below_kept, product_is, sum_is, span_set, some_set, none_set}
+use Rattle.level_core.specs.FragmentLaws.{one_code, two_code}
 use Rattle.hashed_level.specs.Slots.{empty_slot}
 use Rattle.hashed_level.specs.SlotLaws.{coord_none, coord_some}
-use Rattle.kernel_code.specs.Widths.{slot_width, slot_width_wide, slot_width_small, width_is_slot_width}
+use Rattle.kernel_code.specs.Widths.{slot_width}
+use Rattle.kernel_code.proofs.Widths.{slot_width_wide, slot_width_small, width_is_slot_width}
 use Rattle.hashed_level.specs.Hashed.{Hashed, block_width, base_of, width_words, Holds, KeepsRules, IsAllowed, segment_of, entries_of, with_blocks, meaning}
-use Rattle.hashed_level.specs.Laws.{block_small, child_is, coord_is, prepared_keeps}
+use Rattle.hashed_level.specs.Laws.{block_small, prepared_keeps}
+use Rattle.hashed_level.proofs.Laws.{child_is, coord_is}
 use Rattle.hashed_level.specs.Code.{width_word, base_word, filled_test, locate_code, insert_code, coord_code, prepare_code}
 use Rattle.hashed_level.proofs.SearchCode.{width_is, base_is, slot_read, differ_yes, differ_no, locate_runs, insert_runs, Located, Stored}
 

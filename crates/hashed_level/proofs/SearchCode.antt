@@ -4,7 +4,7 @@ use Rattle.std.proofs.Common.{◌∙◌, sym, ap, subst, arith, inl, inr}
 use Rattle.std.proofs.lemmas.Nat.{and_mask, mod_below}
 use Rattle.std.proofs.lemmas.Option.{slice_get-get_or}
 use Rattle.std.proofs.lemmas.Bool.Decides.{nat_tests, eqb_tells}
-use Rattle.limits.specs.Limits.{positions_are_small}
+use Rattle.limits.proofs.Limits.{positions_are_small}
 use Rattle.kernel_code.specs.declared.syntax.Arr.TheVariants.{Coordinates, Width as WidthArray}
 use Rattle.kernel_code.specs.declared.syntax.LoopKind.{LoopKind}
 use Rattle.kernel_code.specs.declared.syntax.LoopKind.TheVariants.{Probe}
@@ -12,17 +12,22 @@ use Rattle.kernel_code.specs.declared.syntax.Op.TheVariants.{Add, Sub, BitAnd, N
 use Rattle.kernel_code.specs.declared.syntax.KExpr.{KExpr, Num, Var, At, Bin}
 use Rattle.kernel_code.specs.declared.syntax.KStmt.{Set, While, Put, If}
 use Rattle.kernel_code.specs.Meaning.{Setting, State, value, apply_both, word_of, set_var, one_turn, same_kind, set_array}
-use Rattle.kernel_code.specs.Equations.{value_bin}
-use Rattle.kernel_code.specs.Does.{Does, Never, Turn, Ends, Goes, does_set, does_while, does_nothing, does_append, does_if_yes, does_if_no, does_put}
-use Rattle.kernel_code.specs.Keeps.{Below, Leaves, NoVariable, EveryArray, turn_of, this_var, other_var, leaves_none, leaves_set, leaves_turn, leaves_then, leaves_wider, leaves_array, this_array}
+use Rattle.kernel_code.proofs.Equations.{value_bin}
+use Rattle.kernel_code.specs.Does.{Does, Never, Turn, Ends, Goes}
+use Rattle.kernel_code.proofs.Does.{does_set, does_while, does_nothing, does_append, does_if_yes, does_if_no, does_put}
+use Rattle.kernel_code.specs.Keeps.{Below, Leaves, NoVariable, EveryArray, turn_of}
+use Rattle.kernel_code.proofs.Keeps.{this_var, other_var, leaves_none, leaves_set, leaves_turn, leaves_then, leaves_wider, leaves_array, this_array}
 use Rattle.level_core.specs.Entries.{one, position_of}
-use Rattle.kernel_code.specs.ArrayNames.{same_arr_self}
+use Rattle.kernel_code.proofs.ArrayNames.{same_arr_self}
 use Rattle.level_core.specs.Fragments.{turns_of, OptionLeft, IsOutside}
-use Rattle.level_core.specs.FragmentLaws.{outside_apart, below_kept, word_is, binary_is, product_is, sum_is, difference_is, less_yes, less_no, one_code}
+use Rattle.level_core.proofs.FragmentLaws.{outside_apart, below_kept, word_is, binary_is, product_is, sum_is, difference_is, less_yes, less_no}
+use Rattle.level_core.specs.FragmentLaws.{one_code}
 use Rattle.hashed_level.specs.Slots.{empty_slot, place, Stops, Passes, FirstEmpty}
-use Rattle.hashed_level.specs.SearchLaws.{place_next, place_first, place_inside, passes_more, not_there, found_filled, nowhere}
+use Rattle.hashed_level.specs.SearchLaws.{place_inside}
+use Rattle.hashed_level.proofs.SearchLaws.{place_next, place_first, passes_more, not_there, found_filled, nowhere}
 use Rattle.hashed_level.specs.Hashed.{Hashed, block_width, base_of, width_words, width_or_two, Holds, IsAllowed, KeepsRules, segment_of, entries_of, with_coordinate, meaning}
-use Rattle.hashed_level.specs.Laws.{block_within, block_small, inserted_keeps, stops_first, never_passes}
+use Rattle.hashed_level.specs.Laws.{block_within, block_small, inserted_keeps}
+use Rattle.hashed_level.proofs.Laws.{stops_first, never_passes}
 use Rattle.hashed_level.specs.Code.{width_word, base_word, wrapped_word, slot_word, filled_test, other_test, more_test, search_test, search_step, search_code, found_test, found_code, locate_code, insert_code}
 use Rattle.kernel_code.specs.Arrays.{may_write}
 use Rattle.level_core.specs.declared.letter.Letter.TheVariants.{Hashed as HashedLetter}

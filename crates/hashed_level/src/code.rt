@@ -200,7 +200,7 @@ pub(crate) fn leave_coordinate(
 }
 
 /// Code that makes so many parents of at most so many coordinates each.
-#[tactic(auto, using(limits::specs::Limits::positions_are_small))]
+#[tactic(auto, using(limits::proofs::Limits::positions_are_small))]
 pub(crate) fn make_parents(
     alloc: Global,
     tensor: u64,

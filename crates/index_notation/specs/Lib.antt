@@ -1,9 +1,8 @@
-pub mod Statement
-pub mod Tokens
-pub mod TokenLaws
-pub mod Sentence
-pub mod SentenceLaws
 pub mod Numbering
 pub mod NumberingLaws
+pub mod Sentence
+pub mod SentenceLaws
+pub mod Statement
 pub mod Text
-pub mod TextLaws
+pub mod TokenLaws
+pub mod Tokens

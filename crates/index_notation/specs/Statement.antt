@@ -1,16 +1,10 @@
 -- When a statement is well formed: two facts, each of which the calls that take a statement name.
-use Rattle.std.specs.Prelude.{◌≡◌, ◌≢◌, ℕ, zero, suc, ◌+◌, ◌<◌, ◌≤◌, List, [], ◌∷◌, length, refl}
-use denote.Hole.Carrier.{hidden}
+use Rattle.std.specs.Prelude.{◌≡◌, ◌≢◌, ℕ, zero, suc, ◌+◌, ◌<◌, ◌≤◌, List, [], ◌∷◌, length}
 use Rattle.limits.specs.Limits.{greatest_order, greatest_variables}
 use Rattle.index_notation.specs.declared.syntax.Access.{Access}
-use Rattle.index_notation.specs.declared.syntax.Expr.{Expr, Num, Access as AccessOf, Add', Sub', Mul', Neg', Add, Sub, Mul, Neg, Row_of-Expr, end_of-Expr, more_of-Expr}
-use Rattle.index_notation.specs.declared.syntax.Expr.TheBlock.{hidden-the_row-Expr-0}
+use Rattle.index_notation.specs.declared.syntax.Expr.{Expr, Num, Access as AccessOf, Add', Sub', Mul', Neg', Row_of-Expr, end_of-Expr, more_of-Expr}
 use Rattle.index_notation.specs.declared.syntax.Statement.{Statement}
-
--- P of each element
-abbrev pub Each : {A : Type 0} → (A → Type 0) → List A → Type 0
-Each P [] = Unit {0}
-Each P (x ∷ xs) = P x × Each P xs
+use Rattle.lists.specs.Each.{Each}
 
 -- no two elements are equal
 abbrev pub IsDistinct : List ℕ → Type 0
@@ -68,20 +62,3 @@ pub record IsWellNamed (s : Statement) : Type 0 where
   pub left_once : IsDistinct s.left.vars
   pub right_once : Each (λ a. IsDistinct a.vars) s.accesses
   pub standing : s.left.vars ≡ numbers_from 0 (length s.left.vars)
-
--- what stands in an expression that is made of its parts
-pub accesses_under_add : (n : ℕ) (a b : Expr) → AccessesUnder n (Add a b) ≡ (AccessesUnder n a × AccessesUnder n b)
-unfolding hidden-the_row-Expr-0 hidden
-accesses_under_add n a b = refl
-
-pub accesses_under_sub : (n : ℕ) (a b : Expr) → AccessesUnder n (Sub a b) ≡ (AccessesUnder n a × AccessesUnder n b)
-unfolding hidden-the_row-Expr-0 hidden
-accesses_under_sub n a b = refl
-
-pub accesses_under_mul : (n : ℕ) (a b : Expr) → AccessesUnder n (Mul a b) ≡ (AccessesUnder n a × AccessesUnder n b)
-unfolding hidden-the_row-Expr-0 hidden
-accesses_under_mul n a b = refl
-
-pub accesses_under_neg : (n : ℕ) (a : Expr) → AccessesUnder n (Neg a) ≡ AccessesUnder n a
-unfolding hidden-the_row-Expr-0 hidden
-accesses_under_neg n a = refl

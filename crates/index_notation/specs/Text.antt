@@ -3,7 +3,8 @@ use Rattle.std.specs.Prelude.{◌≡◌, ℕ, ◌<◌, ◌≤◌, List, length, 
 use Rattle.limits.specs.Limits.{greatest_text_bytes, greatest_accesses}
 use Rattle.index_notation.specs.declared.syntax.Statement.{Statement}
 use Rattle.index_notation.specs.declared.sentence.Sentence.{Sentence}
-use Rattle.index_notation.specs.Statement.{Each, IsNumbered, IsWellNamed}
+use Rattle.index_notation.specs.Statement.{IsNumbered, IsWellNamed}
+use Rattle.lists.specs.Each.{Each}
 use Rattle.index_notation.specs.Tokens.{IsTokens}
 use Rattle.index_notation.specs.Sentence.{sentence_tokens}
 use Rattle.index_notation.specs.Numbering.{product_of, statement_of}

@@ -5,10 +5,7 @@ use Rattle.index_notation.specs.declared.sentence.Mark.{Mark}
 use Rattle.index_notation.specs.declared.sentence.Mark.TheVariants.{Equals, Plus, Minus, Times, Open, Close, Comma}
 use Rattle.index_notation.specs.declared.sentence.Token.{Token}
 use Rattle.index_notation.specs.declared.sentence.Token.TheVariants.{Name as NameToken, Number as NumberToken, Mark as MarkToken}
-
--- a space or a tab
-abbrev pub is_blank : ℕ → Bool
-is_blank byte = (byte == 32) || (byte == 9)
+use Rattle.lists.specs.Blanks.{is_blank}
 
 -- a letter, a digit or an underscore, with which a name goes on
 abbrev pub goes_on : ℕ → Bool

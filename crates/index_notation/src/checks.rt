@@ -1,6 +1,7 @@
 //! Whether a statement is well formed.
 ghost use Rattle.std.specs.Prelude.{◌≡◌, ◌≢◌, ◌+◌, ◌<◌, ◌^◌, IsTrue, length};
-ghost use Rattle.index_notation.specs.Statement.{Each, IsAccess, AccessesUnder, IsDistinct, HaveOneOrder, HaveOrders, numbers_from};
+ghost use Rattle.index_notation.specs.Statement.{IsAccess, AccessesUnder, IsDistinct, HaveOneOrder, HaveOrders, numbers_from};
+ghost use Rattle.lists.specs.Each.{Each};
 ghost use Rattle.index_notation.specs.Numbering.{product_of};
 ghost use Rattle.index_notation.specs.declared.syntax.Expr.TheVariants.{Access as AccessOf};
 

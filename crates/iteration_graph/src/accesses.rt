@@ -1,5 +1,5 @@
 ghost use Rattle.std.specs.Prelude.{◌≡◌, ◌++◌, length, IfOk, OnOk};
-ghost use Rattle.index_notation.specs.Statement.{Each};
+ghost use Rattle.lists.specs.Each.{Each};
 ghost use Rattle.iteration_graph.specs.Edges.{access_edges, statement_edges, HasFormat};
 
 use format_spec::Format;

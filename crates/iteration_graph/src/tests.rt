@@ -1,6 +1,6 @@
 ghost use Rattle.std.specs.Prelude.{◌≡◌, ◌↔◌, length, IsTrue, IfOk};
 ghost use Rattle.limits.specs.Limits.{greatest_order};
-ghost use Rattle.index_notation.specs.Statement.{Each};
+ghost use Rattle.lists.specs.Each.{Each};
 ghost use Rattle.iteration_graph.specs.Edges.{HasFormat};
 
 use crate::{OrderFault, edges, edges_lead_forward, edges_lead_round_a_cycle, order};

@@ -4,7 +4,7 @@ use Rattle.std.proofs.Common.{◌∙◌, sym, ap, arith, drop, inl, inr}
 use Rattle.kernel_code.specs.declared.syntax.Arr.{Arr}
 use Rattle.kernel_code.specs.declared.arrays.Words.{Words}
 use Rattle.kernel_code.specs.Arrays.{same_arr}
-use Rattle.kernel_code.specs.ArrayNames.{same_arr_is, same_arr_self}
+use Rattle.kernel_code.proofs.ArrayNames.{same_arr_is, same_arr_self}
 use Rattle.kernel_code.specs.Store.{array_of, IsPlaceOf}
 
 -- an array that isn't the first one is passed over

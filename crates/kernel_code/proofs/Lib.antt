@@ -1,5 +1,13 @@
 pub mod ArrayLemmas
+pub mod ArrayNames
+pub mod Does
+pub mod Equations
+pub mod Keeps
+pub mod Lemmas
+pub mod More
 pub mod RunLemmas
 pub mod SortLemmas
 pub mod StoreLemmas
 pub mod SumLemmas
+pub mod TurnsLemmas
+pub mod Widths

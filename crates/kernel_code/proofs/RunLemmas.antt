@@ -8,9 +8,10 @@ use Rattle.kernel_code.specs.declared.syntax.KStmt.{KStmt, If}
 use Rattle.kernel_code.specs.declared.machine.Ending.{Ending}
 use Rattle.kernel_code.specs.declared.machine.Ending.TheVariants as ending
 use Rattle.kernel_code.specs.Meaning.{Setting, State, Outcome, Ended, Stuck, Over, More, value, one_turn, then_run, choice, run, run_list, run_turns}
-use Rattle.kernel_code.specs.Equations.{run_if}
+use Rattle.kernel_code.proofs.Equations.{run_if}
 use Rattle.kernel_code.specs.Kernels.{all_turns, within}
-use Rattle.kernel_code.specs.Turns.{AtLeast, at_least_turns, at_least_list, one_turn_more, within_then, within_beyond, within_ended, at_least_after_turn}
+use Rattle.kernel_code.specs.Turns.{AtLeast}
+use Rattle.kernel_code.proofs.TurnsLemmas.{at_least_turns, at_least_list, one_turn_more, within_then, within_beyond, within_ended, at_least_after_turn}
 use Rattle.kernel_code.specs.Store.{outcome_of, has_ended}
 
 -- a run that has ended was within the bound

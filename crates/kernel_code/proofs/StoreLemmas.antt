@@ -12,7 +12,7 @@ use Rattle.kernel_code.specs.declared.machine.Machine.{Machine}
 use Rattle.kernel_code.specs.Arrays.{same_arr, may_have, told_count}
 use Rattle.kernel_code.specs.Meaning.{Outcome, Ended, Stuck, Over, set_array, with_array, if_written, changed, grown}
 use Rattle.kernel_code.specs.Store.{array_of, state_of, count_of, kept_at, IsPlaceOf, IsWritable}
-use Rattle.kernel_code.specs.ArrayNames.{same_arr_is}
+use Rattle.kernel_code.proofs.ArrayNames.{same_arr_is}
 use Rattle.kernel_code.proofs.ArrayLemmas.{array_of_place, array_of_set}
 
 test_below : (m n : ℕ) → m < n → nat_lt m n ≡ true

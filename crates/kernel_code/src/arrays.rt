@@ -35,7 +35,7 @@ pub(crate) fn may_be_written(a: Arr) -> bool
 }
 
 /// Whether an array may have so many words.
-#[tactic(auto, using(limits::specs::Limits::positions_are_small))]
+#[tactic(auto, using(limits::proofs::Limits::positions_are_small))]
 pub(crate) fn may_be_long(a: Arr, count: u64) -> bool
     ensures { result ≡ may_have a count }
 {

@@ -2,13 +2,13 @@ ghost use Rattle.kernel_code.specs.Laws.{DependsOnMentioned, RunsInOrder, Choose
 ghost use Rattle.kernel_code.specs.More.{GoesOn};
 
 /// An expression depends on the variables and arrays that it mentions alone.
-#[tactic(auto, using(crate::specs::Laws::depends_on_mentioned))]
+#[tactic(auto, using(crate::proofs::Lemmas::depends_on_mentioned))]
 pub fn expressions_depend_on_what_they_mention()
     ensures { DependsOnMentioned }
 {}
 
 /// Code runs in order, a choice does one of its bodies, and a loop goes turn by turn.
-#[tactic(auto, using(crate::specs::Laws::runs_in_order, crate::specs::Laws::chooses_by_test, crate::specs::Laws::loops_by_turns))]
+#[tactic(auto, using(crate::proofs::Lemmas::runs_in_order, crate::proofs::Lemmas::chooses_by_test, crate::proofs::Lemmas::loops_by_turns))]
 pub fn code_is_made_of_parts()
     ensures order { RunsInOrder }
     ensures choice { ChoosesByTest }
@@ -16,13 +16,13 @@ pub fn code_is_made_of_parts()
 {}
 
 /// A run leaves at least the turns that it starts with.
-#[tactic(auto, using(crate::specs::Laws::turns_never_fall))]
+#[tactic(auto, using(crate::proofs::Lemmas::turns_never_fall))]
 pub fn turns_are_only_added()
     ensures { TurnsNeverFall }
 {}
 
 /// A kernel that finishes, is stuck or is refused a growth within n turns does the same within more.
-#[tactic(auto, using(crate::specs::More::goes_on))]
+#[tactic(auto, using(crate::proofs::More::goes_on))]
 pub fn more_turns_do_the_same()
     ensures { GoesOn }
 {}

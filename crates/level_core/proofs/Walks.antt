@@ -3,7 +3,7 @@ use Rattle.std.specs.Prelude.{◌≡◌, ℕ, ◌+◌, ◌≤◌, ◌<◌, List,
 use Rattle.std.proofs.Common.{◌∙◌, sym, ap, subst, arith}
 use Rattle.std.proofs.lemmas.List.{append-nil, append_assoc}
 use Rattle.level_core.specs.Entries.{Span, Entry, Placed, StandsAt, coord_at}
-use Rattle.level_core.specs.EntryLaws.{placed_within, placed_wider, placed_then, coord_after, begins, none_here, stands_after}
+use Rattle.level_core.proofs.EntryLaws.{placed_within, placed_wider, placed_then, coord_after, begins, none_here, stands_after}
 
 -- up to a position the entries are done, and the others stand from there to the end
 pub record Walking (lo pos hi : ℕ) (done all : List Entry) : Type 0 where

@@ -9,4 +9,5 @@ pub mod Kinds
 pub mod Laws
 pub mod Logs
 pub mod Meaning
+pub mod Orders
 pub mod ParentLaws

@@ -1,5 +1,6 @@
 //! Every stated limit of the program, once, by name. A definition cites the name, code calls the
-//! function, and a proof uses the facts that `specs/Limits.antt` states: none computes with the numeral.
+//! function, and a proof uses the facts that `proofs/Limits.antt` states: none computes with the numeral.
+//! The numeral stands in `specs/Limits.antt`, and the constant here is proved to be that number.
 #![tactic(auto)]
 
 ghost use Rattle.std.specs.Prelude.{◌≡◌};
@@ -179,34 +180,4 @@ pub fn greatest_size_of_workload() -> u64
     ensures { result ≡ greatest_workload }
 {
     GREATEST_WORKLOAD
-}
-
-#[cfg(test)]
-mod tests {
-    use super::*;
-
-    #[test]
-    fn limits_are_the_stated_ones(rt: HostRuntime) {
-        let stated: [(u64, u64); 16] = [
-            (greatest_positions(), 2_147_483_647),
-            (greatest_range_in_word(), 2_147_483_647),
-            (greatest_coordinate_in_file(), 2_147_483_647),
-            (greatest_size_of_matrix(), 2_147_483_647),
-            (greatest_entries_of_matrix(), 1_099_511_627_776),
-            (greatest_pairs_of_workspace(), 2_147_483_647),
-            (greatest_order_of_tensor(), 6),
-            (greatest_variables_of_statement(), 6),
-            (greatest_accesses_of_statement(), 6),
-            (greatest_operands_of_statement(), 16),
-            (greatest_nesting_of_expression(), 32),
-            (greatest_literal_of_expression(), 9_223_372_036_854_775_807),
-            (greatest_bytes_of_text(), 4_096),
-            (greatest_bytes_of_line(), 65_536),
-            (greatest_bytes_of_file(), 1_099_511_627_776),
-            (greatest_size_of_workload(), 1_000_000),
-        ];
-        for (limit, number) in stated {
-            assert_eq!(rt; limit, number);
-        }
-    }
 }

@@ -6,7 +6,8 @@ use Rattle.std.proofs.lemmas.Bool.Decides.{Decides-eqb}
 use Rattle.index_notation.specs.declared.syntax.Name.{Name}
 use Rattle.index_notation.specs.declared.sentence.WrittenAccess.{WrittenAccess}
 use Rattle.index_notation.specs.Numbering.{is_same, place_of, without, distinct, name_of, variables_of}
-use Rattle.index_notation.specs.NumberingLaws.{Stands, yes, no, tested, same_names, place_here, place_later, stands_here, stands_later, stands_behind, without_drops, without_keeps}
+use Rattle.index_notation.specs.NumberingLaws.{Stands, yes, no}
+use Rattle.index_notation.proofs.NumberingLaws.{tested, same_names, place_here, place_later, stands_here, stands_later, stands_behind, without_drops, without_keeps}
 use Rattle.narrow_text.specs.Added.{with_name, with_names}
 
 -- names but for those that were found

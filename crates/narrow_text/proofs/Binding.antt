@@ -7,7 +7,7 @@ use Rattle.std.proofs.lemmas.List.{append-nil, take-append-drop, length-drop, ta
 use Rattle.std.proofs.lemmas.Bool.Decides.{nat_tests, Decides-eqb}
 use Rattle.index_notation.specs.declared.syntax.Name.{Name}
 use Rattle.index_notation.specs.Tokens.{goes_on, EachPasses, StopsAt}
-use Rattle.index_notation.specs.TokenLaws.{longest_once}
+use Rattle.index_notation.proofs.TokenLaws.{longest_once}
 use Rattle.narrow_text.specs.Words.{EndsInTns, IsBinding, HasWord, HaveWords, IsBuiltWords}
 
 -- not `=`

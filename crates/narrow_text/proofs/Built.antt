@@ -9,14 +9,15 @@ use Rattle.index_notation.specs.declared.syntax.Statement.{Statement}
 use Rattle.index_notation.specs.declared.sentence.Token.{Token}
 use Rattle.index_notation.specs.declared.sentence.WrittenAccess.{WrittenAccess}
 use Rattle.index_notation.specs.declared.sentence.Sentence.{Sentence}
-use Rattle.index_notation.specs.Statement.{Each, IsAccess, IsNumbered}
+use Rattle.index_notation.specs.Statement.{IsAccess, IsNumbered}
+use Rattle.lists.specs.Each.{Each}
 use Rattle.index_notation.specs.Tokens.{IsTokens}
-use Rattle.index_notation.specs.TokenLaws.{tokens_once}
+use Rattle.index_notation.proofs.TokenLaws.{tokens_once}
 use Rattle.index_notation.specs.Sentence.{sentence_tokens}
 use Rattle.index_notation.specs.Numbering.{place_of, numbered, product_of, statement_of}
-use Rattle.index_notation.specs.NumberingLaws.{statement_is_numbered}
+use Rattle.index_notation.proofs.NumberingLaws.{statement_is_numbered}
 use Rattle.index_notation.specs.Text.{StandsOnTheRight, IsBuiltText}
-use Rattle.index_notation.specs.TextLaws.{text_is_statement_of}
+use Rattle.index_notation.proofs.TextLaws.{text_is_statement_of}
 use Rattle.narrow_text.specs.Checks.{IsShort, StandsIn, Passes}
 
 each_of_all : {A : Type 0} (P : A → Type 0) (xs : List A) → All P xs → Each P xs

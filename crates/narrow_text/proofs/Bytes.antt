@@ -2,7 +2,8 @@
 use Rattle.std.specs.Prelude.{◌≡◌, ℕ, ◌+◌, ◌<◌, Bool, true, false, cond, List, [], ◌∷◌, ◌++◌, length, get_or, take, drop, refl}
 use Rattle.std.proofs.Common.{sym, ◌∙◌, ap, subst}
 use Rattle.std.proofs.lemmas.List.{take_more, drop_more}
-use Rattle.index_notation.specs.Tokens.{is_blank, behind_blanks, EachPasses, StopsAt}
+use Rattle.index_notation.specs.Tokens.{behind_blanks, EachPasses, StopsAt}
+use Rattle.lists.specs.Blanks.{is_blank}
 
 passes_append : (test : ℕ → Bool) (xs : List ℕ) (x : ℕ) → EachPasses test xs → test x ≡ true → EachPasses test (xs ++ x ∷ [])
 passes_append test [] x h e = (e, tt)

@@ -12,7 +12,8 @@ use Rattle.index_notation.specs.declared.sentence.Token.TheVariants.{Name as Nam
 use Rattle.index_notation.specs.declared.sentence.WrittenAccess.{WrittenAccess}
 use Rattle.index_notation.specs.declared.sentence.Sentence.{Sentence}
 use Rattle.index_notation.specs.Sentence.{access_tokens, more_factors, sentence_tokens}
-use Rattle.index_notation.specs.SentenceLaws.{front_variables, front_access, front_is_access, access_is_front, factors_open_not, some_pair}
+use Rattle.index_notation.specs.SentenceLaws.{front_variables, front_access}
+use Rattle.index_notation.proofs.SentenceLaws.{front_is_access, access_is_front, factors_open_not, some_pair}
 use Rattle.narrow_text.proofs.Progress.{Reads, Takes, reads_more}
 
 -- variables that were read, before a reading of the rest

@@ -5,8 +5,9 @@ use Rattle.std.proofs.lemmas.List.{append-nil, length-drop}
 use Rattle.std.specs.List.{between}
 use Rattle.std.proofs.lemmas.Slice.{between_to_end}
 use Rattle.index_notation.specs.declared.sentence.Token.{Token}
-use Rattle.index_notation.specs.Tokens.{is_blank, behind_blanks, IsNext, IsTokens}
-use Rattle.index_notation.specs.TokenLaws.{next_once, token_full}
+use Rattle.index_notation.specs.Tokens.{behind_blanks, IsNext, IsTokens}
+use Rattle.lists.specs.Blanks.{is_blank}
+use Rattle.index_notation.proofs.TokenLaws.{next_once, token_full}
 use Rattle.narrow_text.proofs.Bytes.{behind_twice, no_blank_first}
 use Rattle.narrow_text.proofs.Progress.{Reads, Takes, reads_more}
 

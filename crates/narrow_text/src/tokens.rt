@@ -1,6 +1,7 @@
 ghost use Rattle.std.specs.Prelude.{◌≡◌, ◌<◌, ◌≤◌, ◌∷◌, ℕ, false, List, length, take, drop, MatchOption, IfOk};
 ghost use Rattle.std.specs.Char.{is_ascii_digit};
-ghost use Rattle.index_notation.specs.Tokens.{is_blank, goes_on, behind_blanks, EachPasses, StopsAt, IsNext, IsTokens};
+ghost use Rattle.index_notation.specs.Tokens.{goes_on, behind_blanks, EachPasses, StopsAt, IsNext, IsTokens};
+ghost use Rattle.lists.specs.Blanks.{is_blank};
 ghost use Rattle.index_notation.specs.TokenLaws.{mark_at};
 ghost use Rattle.index_notation.specs.declared.sentence.Token.{Token};
 

@@ -1,5 +1,5 @@
 -- How values are added and multiplied, whatever the values are.
-use Rattle.std.specs.Prelude.{◌≡◌, ℕ, ◌<◌, ◌^◌}
+use Rattle.std.specs.Prelude.{◌≡◌, ℕ, ◌<◌, ◌^◌, Bool, true, false, Option, Some, None}
 
 -- zero, one, the number by which a negated term is multiplied, sums and products
 pub record Arithmetic : Type 0 where
@@ -28,3 +28,8 @@ pub record Laws (a : Arithmetic) : Type 0 where
 pub record MinusLaws (a : Arithmetic) : Type 0 where
   pub minus_one_fits : a.minus_one < 2 ^ 64
   pub cancels : a.plus a.one a.minus_one ≡ a.zero
+
+-- the number minus one, where there is a minus
+abbrev pub IfMinus : Bool → ℕ → Option ℕ
+IfMinus true m = Some m
+IfMinus false m = None

@@ -1,12 +1,16 @@
 //! Words: 64-bit numbers, how values are added and multiplied, and the laws of that. Crates above add
-//! and multiply values by these calls and reason by the laws of `specs/Arithmetic.antt` alone, never
-//! by a remainder or the number 2^64.
+//! and multiply values by the calls of a `Semiring` and reason by the laws of `specs/Arithmetic.antt`
+//! alone, never by a remainder or the number 2^64. `Ring` is the instance that the program runs at.
 #![tactic(auto)]
 
 ghost use Rattle.std.specs.Prelude.{◌≡◌, ℕ, ◌<◌, ◌^◌};
 ghost use Rattle.numbers.specs.Arithmetic.{Laws, MinusLaws};
 ghost use Rattle.numbers.specs.Ring.{ring, word_sum, word_difference, word_product};
 ghost use Rattle.numbers.specs.Signed.{signed_of, word_of_signed};
+
+mod semiring;
+
+pub use semiring::{Ring, Semiring, keeps_laws};
 
 /// The word that a sum of values starts from.
 #[tactic(auto, unfolding(crate::specs::Ring::ring))]
@@ -33,7 +37,7 @@ pub fn add(a: u64, b: u64) -> u64
 }
 
 /// The difference of two values, modulo 2^64: the first plus minus one times the second.
-#[tactic(auto, unfolding(crate::specs::Ring::word_difference), using(crate::specs::Ring::difference_is_plus))]
+#[tactic(auto, unfolding(crate::specs::Ring::word_difference), using(crate::proofs::WordLaws::difference_is_plus))]
 pub fn sub(a: u64, b: u64) -> u64
     ensures { result ≡ ring.plus a (ring.times ring.minus_one b) }
 {
@@ -69,47 +73,9 @@ pub fn ring_keeps_laws()
 {}
 
 /// What a machine computes of two words is what the ring says.
-#[tactic(auto, using(crate::specs::Ring::sum_is_plus, crate::specs::Ring::difference_is_plus, crate::specs::Ring::product_is_times))]
+#[tactic(auto, using(crate::proofs::WordLaws::sum_is_plus, crate::proofs::WordLaws::difference_is_plus, crate::proofs::WordLaws::product_is_times))]
 pub fn machine_words_are_the_ring()
     ensures sums { (x y : ℕ) → word_sum x y ≡ ring.plus x y }
     ensures differences { (x y : ℕ) → y < 2 ^ 64 → word_difference x y ≡ ring.plus x (ring.times ring.minus_one y) }
     ensures products { (x y : ℕ) → word_product x y ≡ ring.times x y }
 {}
-
-#[cfg(test)]
-mod tests {
-    use super::*;
-
-    #[test]
-    fn words_wrap(rt: HostRuntime) {
-        let last = u64::MAX;
-        let rows = [
-            (add(last, 1), 0),
-            (add(3, 4), 7),
-            (sub(0, 1), last),
-            (sub(9, 4), 5),
-            (mul(last, last), 1),
-            (mul(3, 4), 12),
-            (add(zero(), one()), 1),
-        ];
-        for (value, wanted) in rows {
-            assert_eq!(rt; value, wanted);
-        }
-    }
-
-    #[test]
-    fn words_have_signs(rt: HostRuntime) {
-        let rows = [
-            (0, 0),
-            (9_223_372_036_854_775_807, i64::MAX),
-            (9_223_372_036_854_775_808, i64::MIN),
-            (18_446_744_073_709_551_615, -1),
-        ];
-        for (value, number) in rows {
-            assert_eq!(rt; signed(value), number);
-            assert_eq!(rt; unsigned(number), value);
-        }
-        ring_keeps_laws();
-        machine_words_are_the_ring();
-    }
-}

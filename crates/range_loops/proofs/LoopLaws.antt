@@ -14,8 +14,9 @@ use Rattle.kernel_code.specs.declared.syntax.KExpr.{KExpr, Num, Var, At, Bin}
 use Rattle.kernel_code.specs.declared.syntax.KStmt.{KStmt, Set, AddTo, While}
 use Rattle.kernel_code.specs.Meaning.{Setting, State, value, set_var, set_array, one_turn, word_of, apply_both, apply}
 use Rattle.kernel_code.specs.Store.{setting}
-use Rattle.kernel_code.specs.Does.{Does, Never, Turn, Ends, Goes, does_nothing, does_append, does_set, does_add_to, does_while, does_weaker}
-use Rattle.index_notation.specs.Statement.{Each}
+use Rattle.kernel_code.specs.Does.{Does, Never, Turn, Ends, Goes}
+use Rattle.kernel_code.proofs.Does.{does_nothing, does_append, does_set, does_add_to, does_while, does_weaker}
+use Rattle.lists.specs.Each.{Each}
 use Rattle.index_notation.specs.declared.syntax.Access.{Access}
 use Rattle.range_loops.specs.Code.{position_code, product_code, loop_code, loops_code, body_code}
 use Rattle.tns_io.specs.Positions.{product, IsBelow, position}

@@ -9,9 +9,10 @@ use Rattle.kernel_code.specs.declared.syntax.Arr.TheVariants.{Range, Values, Dim
 use Rattle.kernel_code.specs.declared.syntax.KStmt.{KStmt}
 use Rattle.kernel_code.specs.Arrays.{same_arr}
 use Rattle.kernel_code.specs.Meaning.{Setting, State, Outcome, Ended, Stuck, Over, More, set_array, run_list}
-use Rattle.kernel_code.specs.Keeps.{this_array, other_array}
+use Rattle.kernel_code.proofs.Keeps.{this_array, other_array}
 use Rattle.kernel_code.specs.Kernels.{within, all_turns}
-use Rattle.kernel_code.specs.More.{list_more, Settled}
+use Rattle.kernel_code.specs.More.{Settled}
+use Rattle.kernel_code.proofs.More.{list_more}
 use Rattle.numbers.specs.Ring.{ring}
 use Rattle.tensor_map.specs.declared.entries.Entry.{Entry}
 use Rattle.tensor_map.specs.Entries.{Entries}

@@ -11,8 +11,8 @@ use Rattle.expr_terms.specs.Ranges.{narrow_ranges}
 use Rattle.tns_io.specs.Positions.{IsBelow}
 use Rattle.dense_operands.specs.Operands.{HasOrder, ReadsOperand, operand_of}
 use Rattle.dense_operands.specs.Sizes.{mode_sizes}
-use Rattle.dense_operands.specs.ReachLaws.{each_get}
-use Rattle.dense_operands.specs.SizeLaws.{entries_below_sizes}
+use Rattle.lists.proofs.Each.{each_get}
+use Rattle.dense_operands.proofs.SizeLaws.{entries_below_sizes}
 use Rattle.std.proofs.lemmas.Bool.Decides.{nat_tests}
 use Rattle.kernel_code.specs.Meaning.{State}
 use Rattle.range_loops.specs.Runs.{IsLoaded, KeepsOthers}

@@ -5,7 +5,8 @@ use Rattle.std.proofs.lemmas.Bool.Decides.{nat_tests}
 use Rattle.std.proofs.lemmas.Bool.{ne_eqb}
 use Rattle.std.proofs.lemmas.List.{get_or_past}
 use Rattle.tensor_map.specs.declared.entries.Entry.{Entry}
-use Rattle.index_notation.specs.Statement.{Each, IsAccess, IsNumbered}
+use Rattle.index_notation.specs.Statement.{IsAccess, IsNumbered}
+use Rattle.lists.specs.Each.{Each}
 use Rattle.index_notation.specs.declared.syntax.Access.{Access}
 use Rattle.index_notation.specs.declared.syntax.Statement.{Statement}
 use Rattle.expr_terms.specs.Ranges.{Place, places_from, places_in, greatest_of, reach, narrow_ranges}

@@ -3,29 +3,33 @@ use Rattle.std.specs.Prelude.{◌≡◌, ◌≢◌, ℕ, zero, suc, ◌+◌, ◌
 use Rattle.std.proofs.Common.{◌∙◌, sym, ap, subst, arith}
 use Rattle.std.proofs.lemmas.Option.{slice_get_within}
 use Rattle.std.proofs.lemmas.List.{get_or-replicate, length-replicate}
-use Rattle.limits.specs.Limits.{greatest_position_count, positions_are_small}
-use Rattle.numbers.specs.Ring.{ring, ring_laws}
-use Rattle.numbers.specs.Sums.{total_fits}
+use Rattle.limits.specs.Limits.{greatest_position_count}
+use Rattle.limits.proofs.Limits.{positions_are_small}
+use Rattle.numbers.specs.Ring.{ring}
+use Rattle.numbers.specs.RingLaws.{ring_laws}
+use Rattle.numbers.proofs.Sums.{total_fits}
 use Rattle.tensor_map.specs.Entries.{Entries, values_at}
 use Rattle.kernel_code.specs.declared.syntax.Arr.TheVariants.{Values}
 use Rattle.kernel_code.specs.declared.syntax.KStmt.{KStmt}
 use Rattle.kernel_code.specs.Meaning.{Setting, State, Outcome, Ended, Stuck, Over, More, run_list}
 use Rattle.kernel_code.specs.Store.{setting, restarted}
 use Rattle.kernel_code.specs.Does.{Does, Never, OnOutcome}
-use Rattle.index_notation.specs.Statement.{Each, IsAccess, IsNumbered, IsWellNamed}
+use Rattle.index_notation.specs.Statement.{IsAccess, IsNumbered, IsWellNamed}
+use Rattle.lists.specs.Each.{Each}
 use Rattle.index_notation.specs.declared.syntax.Access.{Access}
 use Rattle.index_notation.specs.declared.syntax.Statement.{Statement}
 use Rattle.expr_terms.specs.Operands.{entries_of, operand_values, list_or_none}
 use Rattle.expr_terms.specs.Ranges.{narrow_ranges}
 use Rattle.expr_terms.specs.ValueLaws.{AreWords}
 use Rattle.tns_io.specs.Positions.{product, IsBelow, position}
-use Rattle.tns_io.specs.PositionLaws.{position_below}
+use Rattle.tns_io.proofs.PositionLaws.{position_below}
 use Rattle.dense_operands.specs.Levels.{FitLevels, IsDense}
-use Rattle.dense_operands.specs.LevelLaws.{fit_product}
+use Rattle.dense_operands.proofs.LevelLaws.{fit_product}
 use Rattle.dense_operands.specs.Operands.{HasOrder, ReadsOperand, operand_of}
-use Rattle.dense_operands.specs.ReachLaws.{each_get, range_within}
+use Rattle.dense_operands.proofs.ReachLaws.{range_within}
+use Rattle.lists.proofs.Each.{each_get}
 use Rattle.dense_operands.specs.Sizes.{mode_sizes}
-use Rattle.dense_operands.specs.SizeLaws.{point_below_sizes, sizes_of_result}
+use Rattle.dense_operands.proofs.SizeLaws.{point_below_sizes, sizes_of_result}
 use Rattle.range_loops.specs.Code.{loops_code, body_code}
 use Rattle.range_loops.specs.Runs.{RunsInto, IsLoaded, SizesFrom}
 use Rattle.range_loops.specs.Computes.{IsComputable, IsMachineOf, OperandsFit, order_or_zero, order_of, level_sizes, operand_sizes, operand_ranges, AllFit, IsResult}
@@ -33,6 +37,7 @@ use Rattle.range_loops.proofs.LoopLaws.{Stands, Placed, AllStand, AllPlaced, InR
 use Rattle.expr_terms.specs.Terms.{statement_value}
 use Rattle.range_loops.proofs.RangesAre.{ranges_are}
 use Rattle.range_loops.proofs.Result.{Reads, loops_value}
+use Rattle.lists.proofs.Each.{each_from}
 
 -- code that is refused nothing runs into a state
 pub record Ending (c : Setting) (code : List KStmt) (s : State) (P : State → Type 0) : Type 0 where
@@ -48,11 +53,6 @@ ending_of c code s P n More reached kept = absurd kept
 
 pub does_end : (c : Setting) (code : List KStmt) (s : State) (P : State → Type 0) → Does c code s P Never → Ending c code s P
 does_end c code s P d = ending_of c code s P d.enough d.outcome d.reached d.kept
-
--- what holds at each place holds of each
-each_from : {A : Type 0} (P : A → Type 0) (xs : List A) → ((n : ℕ) (x : A) → slice_get xs n ≡ Some x → P x) → Each P xs
-each_from P [] h = tt
-each_from P (x ∷ xs) h = (h 0 x refl, each_from P xs (λ n y e. h (suc n) y e))
 
 abbrev pub words_or_none : Option (List ℕ) → List ℕ
 words_or_none None = []

@@ -3,7 +3,9 @@ use Rattle.std.specs.Prelude.{◌≡◌, ◌≢◌, ℕ, zero, suc, ◌+◌, ◌
 use Rattle.std.proofs.Common.{◌∙◌, sym, ap, subst, arith}
 use Rattle.std.proofs.lemmas.List.{length-map}
 use Rattle.std.proofs.lemmas.Bool.Decides.{nat_tests}
-use Rattle.numbers.specs.Ring.{ring, ring_laws, zero_plus, zero_fits}
+use Rattle.numbers.specs.Ring.{ring}
+use Rattle.numbers.proofs.WordLaws.{zero_plus, zero_fits}
+use Rattle.numbers.specs.RingLaws.{ring_laws}
 use Rattle.index_notation.specs.Statement.{numbers_from, IsNumbered, IsWellNamed}
 use Rattle.index_notation.specs.declared.syntax.Access.{Access}
 use Rattle.index_notation.specs.declared.syntax.Statement.{Statement}
@@ -11,12 +13,12 @@ use Rattle.expr_terms.specs.Points.{with_coordinate, point_of, sum_over}
 use Rattle.expr_terms.specs.Value.{access_value}
 use Rattle.expr_terms.specs.Terms.{statement_value}
 use Rattle.expr_terms.specs.Products.{product_of_values, product_from, IsProduct}
-use Rattle.expr_terms.specs.ProductLaws.{statement_value_of_product, left_within}
+use Rattle.expr_terms.proofs.ProductLaws.{statement_value_of_product, left_within}
 use Rattle.expr_terms.specs.ValueLaws.{AreWords}
-use Rattle.expr_terms.specs.TermLaws.{statement_value_fits}
+use Rattle.expr_terms.proofs.TermLaws.{statement_value_fits}
 use Rattle.tns_io.specs.Positions.{product, IsBelow, position}
 use Rattle.range_loops.proofs.Values.{read_at, read_product, read_product_after}
-use Rattle.tns_io.specs.PositionLaws.{position_injective, below_long}
+use Rattle.tns_io.proofs.PositionLaws.{position_injective, below_long}
 use Rattle.range_loops.proofs.LoopLaws.{InRange, Fits, AllPlaced, AllStand, after, step_of, elsewhere, there}
 use Rattle.range_loops.proofs.Totals.{after_value, collapse, filled, numbers_append, sum_over_same, each_over, where_equal}
 

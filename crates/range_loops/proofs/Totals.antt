@@ -4,9 +4,12 @@ use Rattle.std.proofs.Common.{◌∙◌, sym, ap, subst, arith}
 use Rattle.std.proofs.lemmas.Bool.Decides.{nat_tests}
 use Rattle.std.proofs.lemmas.Bool.{ne_eqb}
 use Rattle.std.proofs.lemmas.List.{get_or-set_same, get_or-set_other, length-set}
-use Rattle.numbers.specs.Ring.{ring, ring_laws, plus_fits, plus_zero, zero_fits}
+use Rattle.numbers.specs.Ring.{ring}
+use Rattle.numbers.proofs.WordLaws.{plus_fits, plus_zero, zero_fits}
+use Rattle.numbers.specs.RingLaws.{ring_laws}
 use Rattle.numbers.specs.Arithmetic.{Arithmetic, Laws}
-use Rattle.numbers.specs.Sums.{sum_below, sum_fits, sum_same, sum_zeros, plus_swap, zero_before}
+use Rattle.numbers.specs.Sums.{sum_below}
+use Rattle.numbers.proofs.Sums.{sum_fits, sum_same, sum_zeros, plus_swap, zero_before}
 use Rattle.index_notation.specs.Statement.{numbers_from}
 use Rattle.expr_terms.specs.Points.{with_coordinate, sum_over}
 use Rattle.range_loops.proofs.LoopLaws.{add_at, repeated, after, InRange, elsewhere, there, repeated_length, after_length, in_range_next}

@@ -3,36 +3,28 @@ use Rattle.std.specs.Prelude.{◌≡◌, ℕ, zero, suc, ◌+◌, ◌*◌, ◌-�
 use Rattle.std.proofs.Common.{◌∙◌, sym, ap, subst, arith}
 use Rattle.std.proofs.Math.Nat.{mod-eq_of_lt, mul_assoc, add-mul, mul-le-mul_left}
 use Rattle.std.proofs.lemmas.Option.{slice_get-get_or}
-use Rattle.numbers.specs.Ring.{ring, word_sum, word_product, product_is_times}
+use Rattle.numbers.specs.Ring.{ring, word_sum, word_product}
+use Rattle.numbers.proofs.WordLaws.{product_is_times, word_sum_is, word_product_is}
 use Rattle.kernel_code.specs.declared.syntax.Arr.{Arr}
 use Rattle.kernel_code.specs.declared.syntax.Arr.TheVariants.{Range, Values, Dimension}
 use Rattle.kernel_code.specs.declared.syntax.Op.{Op}
 use Rattle.kernel_code.specs.declared.syntax.Op.TheVariants.{Add, Mul, Less}
 use Rattle.kernel_code.specs.declared.syntax.KExpr.{KExpr, Num, Var, At, Bin}
 use Rattle.kernel_code.specs.Meaning.{State, value, word_at, apply_both, apply}
-use Rattle.kernel_code.specs.Equations.{value_at, value_bin}
+use Rattle.kernel_code.proofs.Equations.{value_at, value_bin}
 use Rattle.index_notation.specs.declared.syntax.Access.{Access}
 use Rattle.range_loops.specs.Code.{position_below, position_code, access_code, product_after, product_code}
 use Rattle.tns_io.specs.Positions.{product, IsBelow, position}
 use Rattle.range_loops.specs.Runs.{SizesFrom}
 
--- words that don't wrap
-sum_small : (x y : ℕ) → x + y < 2 ^ 64 → word_sum x y ≡ x + y
-unfolding word_sum
-sum_small x y h = mod-eq_of_lt h
-
-product_small : (x y : ℕ) → x * y < 2 ^ 64 → word_product x y ≡ x * y
-unfolding word_product
-product_small x y h = mod-eq_of_lt h
-
 pub bin_is : (o : Op) (e f : KExpr) (s : State) (x y : ℕ) → value e s ≡ Some x → value f s ≡ Some y → value (Bin o e f) s ≡ apply_both o (Some x) (Some y)
 bin_is o e f s x y h g = value_bin o e f s ∙ ap (λ v. apply_both o v (value f s)) h ∙ ap (apply_both o (Some x)) g
 
 pub sum_is : (e f : KExpr) (s : State) (x y : ℕ) → value e s ≡ Some x → value f s ≡ Some y → x + y < 2 ^ 64 → value (Bin Add e f) s ≡ Some (x + y)
-sum_is e f s x y h g l = bin_is Add e f s x y h g ∙ ap Some (sum_small x y l)
+sum_is e f s x y h g l = bin_is Add e f s x y h g ∙ ap Some (word_sum_is x y l)
 
 pub product_is : (e f : KExpr) (s : State) (x y : ℕ) → value e s ≡ Some x → value f s ≡ Some y → x * y < 2 ^ 64 → value (Bin Mul e f) s ≡ Some (x * y)
-product_is e f s x y h g l = bin_is Mul e f s x y h g ∙ ap Some (product_small x y l)
+product_is e f s x y h g l = bin_is Mul e f s x y h g ∙ ap Some (word_product_is x y l)
 
 pub times_is : (e f : KExpr) (s : State) (x y : ℕ) → value e s ≡ Some x → value f s ≡ Some y → value (Bin Mul e f) s ≡ Some (ring.times x y)
 times_is e f s x y h g = bin_is Mul e f s x y h g ∙ ap Some (product_is_times x y)

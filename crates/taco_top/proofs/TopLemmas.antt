@@ -14,8 +14,9 @@ use Rattle.narrow_files.specs.Narrow.{built_entries}
 use Rattle.range_loops.specs.Computes.{IsComputable}
 use Rattle.tensor_map.specs.Entries.{Entries}
 use Rattle.taco_top.specs.Built.{IsToldText, IsOperand, IsUnbuilt, AreRead, IsBuiltLine, IsTextOf}
-use Rattle.dense_operands.specs.ReachLaws.{each_get}
-use Rattle.taco_top.specs.SmallCoords.{first_order, built_are_small, read_operands_fit, all_from}
+use Rattle.lists.proofs.Each.{each_get, all_from}
+use Rattle.taco_top.specs.SmallCoords.{first_order}
+use Rattle.taco_top.proofs.SmallCoords.{built_are_small, read_operands_fit}
 use Rattle.std.specs.List.{flat_map}
 use Rattle.std.proofs.Common.{length-append}
 use Rattle.numbers.specs.Arithmetic.{Arithmetic}
@@ -34,7 +35,7 @@ use Rattle.taco_top.specs.Answer.{answer_of_fault}
 use Rattle.taco_top.specs.Ends.{Cause, SinkStays}
 use Rattle.taco_top.specs.Puts.{SinkState}
 use Rattle.taco_top.specs.Reads.{FolderState, ReadCause}
-use Rattle.taco_top.specs.Stands.{built_is_product, built_reads, words_count}
+use Rattle.taco_top.proofs.Stands.{built_is_product, built_reads, words_count}
 
 -- a file with too many bytes isn't built
 pub too_long_unbuilt : (order : ℕ) (told : Told) → IsLonger (told_bytes told) greatest_file_bytes → told ≢ NoFile → IsUnbuilt order told

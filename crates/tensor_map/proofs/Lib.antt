@@ -1,4 +1,7 @@
 pub mod Greatest
-pub mod Summed
+pub mod Lemmas
 pub mod Neighbours
+pub mod OrderLaws
+pub mod Permutations
 pub mod Sorting
+pub mod Summed

@@ -13,9 +13,10 @@ use Rattle.std.proofs.lemmas.List.Elements.{All-cons, All-tail}
 use Rattle.numbers.specs.Arithmetic.{Arithmetic, Laws}
 use Rattle.numbers.specs.Sums.{total_of}
 use Rattle.tensor_map.specs.Order.{IsBefore}
-use Rattle.tensor_map.specs.OrderLaws.{compared_as}
+use Rattle.tensor_map.proofs.OrderLaws.{compared_as}
 use Rattle.tensor_map.specs.Entries.{Entry, IsEntry, is_at, values_at, value_at, Listed, StrictlyIncreasing}
-use Rattle.tensor_map.specs.Laws.{same, other, tested}
+use Rattle.tensor_map.specs.Laws.{same, other}
+use Rattle.tensor_map.proofs.Lemmas.{tested}
 use Rattle.tensor_map.specs.Summed.{joined, summed_from, summed}
 use Rattle.tensor_map.proofs.Summed.{IsNotAfterAll, NeverFalls, summed_same, summed_other, value_summed, listed_summed, increasing_summed}
 

@@ -4,9 +4,10 @@ use Rattle.std.specs.Cmp.Lexicographic.{pointwise}
 use Rattle.std.proofs.Common.{ap, subst, sym, ◌∙◌, inl, inr}
 use Rattle.numbers.specs.Arithmetic.{Arithmetic, Laws}
 use Rattle.tensor_map.specs.Order.{IsBefore, IsBeforeAll}
-use Rattle.tensor_map.specs.OrderLaws.{before_trans}
+use Rattle.tensor_map.proofs.OrderLaws.{before_trans}
 use Rattle.tensor_map.specs.Entries.{Entry, coords_of, value_at, Listed, StrictlyIncreasing}
-use Rattle.tensor_map.specs.Laws.{same, other, tested, value_here, value_elsewhere, value_cons}
+use Rattle.tensor_map.specs.Laws.{same, other}
+use Rattle.tensor_map.proofs.Lemmas.{tested, value_here, value_elsewhere, value_cons}
 use Rattle.tensor_map.specs.Summed.{joined, summed_from, summed}
 
 -- the next entry has the same coordinates, or others

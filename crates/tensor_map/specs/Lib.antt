@@ -2,10 +2,9 @@ pub mod Coords
 pub mod Entries
 pub mod Laws
 pub mod Order
-pub mod OrderLaws
 pub mod Permutations
-pub mod Summed
 pub use Rattle.numbers.specs.Arithmetic
 pub use Rattle.numbers.specs.Ring
 pub use Rattle.numbers.specs.Signed
 pub use Rattle.numbers.specs.Sums
+pub mod Summed

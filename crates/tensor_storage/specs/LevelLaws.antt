@@ -6,7 +6,7 @@ use Rattle.level_core.specs.declared.span.Span.{Span}
 use Rattle.level_core.specs.Entries.{IsIn, Gains, AreInRow, one}
 use Rattle.level_core.specs.Kinds.{properties, AreEntries, MayInsert}
 use Rattle.level_core.specs.Logs.{IsLog}
-use Rattle.level_core.specs.ParentLaws.{segments_in_row}
+use Rattle.level_core.proofs.ParentLaws.{segments_in_row}
 use Rattle.level_core.specs.Fragments.{IsOf}
 use Rattle.dense_level.specs.DenseLaws.{dense_are_entries, dense_in_row, dense_logs, dense_prepares, dense_inserts}
 use Rattle.dense_level.specs.DenseLaws.{held_there as dense_held_there}

@@ -1,11 +1,10 @@
 pub mod DecimalLaws
 pub mod Digits
-pub mod Lines
 pub mod LineLaws
+pub mod Lines
 pub mod Numbers
-pub mod NumberLaws
 pub mod Parts
-pub mod Puts
-pub mod Tokens
 pub mod PrintedLaws
+pub mod Puts
 pub mod TokenLaws
+pub mod Tokens

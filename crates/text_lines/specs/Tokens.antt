@@ -1,10 +1,7 @@
 -- The tokens of a line: the longest runs of bytes that aren't blanks.
 use Rattle.std.specs.Prelude.{ℕ, Bool, ◌==◌, ◌||◌, nat_lt, List, length, filter}
 use Rattle.std.specs.List.{slice_split}
-
--- a space or a tab
-abbrev pub is_blank : ℕ → Bool
-is_blank byte = (byte == 32) || (byte == 9)
+use Rattle.lists.specs.Blanks.{is_blank}
 
 abbrev pub has_bytes : List ℕ → Bool
 has_bytes part = nat_lt 0 (length part)

@@ -3,7 +3,8 @@ ghost use Rattle.std.specs.List.{position};
 ghost use Rattle.std.specs.Str.Lines.{strip_carriage_return};
 ghost use Rattle.text_lines.specs.Lines.{is_line_feed, lines};
 ghost use Rattle.text_lines.specs.TokenLaws.{is_filled};
-ghost use Rattle.text_lines.specs.Tokens.{is_blank as blank, tokens};
+ghost use Rattle.text_lines.specs.Tokens.{tokens};
+ghost use Rattle.lists.specs.Blanks.{is_blank as blank};
 
 /// The first line of a text without its end, and what stands behind that end; nothing where the text is empty.
 pub fn cut_line(text: &[u8]) -> Option<(&[u8], &[u8])>

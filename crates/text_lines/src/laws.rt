@@ -9,27 +9,27 @@ ghost use Rattle.text_lines.specs.TokenLaws.{IsToken, joined_tokens};
 ghost use Rattle.text_lines.specs.Tokens.{tokens};
 
 /// Lines that were joined, each followed by a line feed, are cut back.
-#[tactic(auto, using(crate::specs::LineLaws::lines_joined))]
+#[tactic(auto, using(crate::proofs::LineLaws::lines_joined))]
 pub fn joined_lines_are_cut_back()
     ensures { (parts : List (List ℕ)) → All IsLine parts → lines (joined_lines parts) ≡ parts }
 {}
 
 /// Tokens that were joined, with a space between two, are cut back.
-#[tactic(auto, using(crate::specs::TokenLaws::tokens_joined))]
+#[tactic(auto, using(crate::proofs::TokenLaws::tokens_joined))]
 pub fn joined_tokens_are_cut_back()
     ensures { (parts : List (List ℕ)) (last : List ℕ) → All IsToken parts → IsToken last
         → tokens (joined_tokens parts ++ last) ≡ parts ++ last ∷ [] }
 {}
 
 /// The decimal text of a number stands for the number, and so does that of a signed number of 64 bits.
-#[tactic(auto, using(crate::specs::NumberLaws::number_of_decimal, crate::specs::NumberLaws::whole_of_signed_decimal))]
+#[tactic(auto, using(crate::proofs::NumberLaws::number_of_decimal, crate::proofs::NumberLaws::whole_of_signed_decimal))]
 pub fn printed_numbers_are_read_back()
     ensures unsigned { (n : ℕ) → n < 2 ^ 64 → number_of (decimal n) ≡ Some n }
     ensures signed { (z : ℤ) → IsTrue (fits_word z) → whole_of (signed_decimal z) ≡ Some z }
 {}
 
 /// Each such text is one token, and short.
-#[tactic(auto, using(crate::specs::PrintedLaws::decimal_is_token, crate::specs::PrintedLaws::decimal_short, crate::specs::PrintedLaws::signed_decimal_is_token, crate::specs::PrintedLaws::signed_short))]
+#[tactic(auto, using(crate::proofs::PrintedLaws::decimal_is_token, crate::proofs::PrintedLaws::decimal_short, crate::proofs::PrintedLaws::signed_decimal_is_token, crate::proofs::PrintedLaws::signed_short))]
 pub fn printed_numbers_are_tokens()
     ensures unsigned { (n : ℕ) → n < 2 ^ 64 → IsToken (decimal n) }
     ensures unsigned_short { (n : ℕ) → n < 2 ^ 64 → length (decimal n) ≤ 20 }

@@ -11,7 +11,7 @@ ghost use Rattle.tns_io.specs.Text.{IsTnsText};
 ghost use Rattle.tns_io.specs.WrittenLaws.{StandsFor};
 
 /// Coordinates below the sizes and positions below their product are the same thing, in the same order.
-#[tactic(auto, using(crate::specs::PositionLaws::position_below, crate::specs::PositionLaws::position_injective, crate::specs::PositionLaws::coords_below, crate::specs::PositionLaws::position_of_coords, crate::specs::PositionLaws::coords_of_position, crate::specs::PositionLaws::coords_increase))]
+#[tactic(auto, using(crate::proofs::PositionLaws::position_below, crate::proofs::PositionLaws::position_injective, crate::proofs::PositionLaws::coords_below, crate::proofs::PositionLaws::position_of_coords, crate::proofs::PositionLaws::coords_of_position, crate::proofs::PositionLaws::coords_increase))]
 pub fn positions_number_coordinates()
     ensures below { (sizes coords : List ℕ) → IsBelow sizes coords → position sizes coords < product sizes }
     ensures injective { (sizes xs ys : List ℕ) → IsBelow sizes xs → IsBelow sizes ys → position sizes xs ≡ position sizes ys → xs ≡ ys }
@@ -29,7 +29,7 @@ pub fn tensors_have_one_text()
 
 /// A written text, read for its order, stands for the tensor that was written: where the ranges are such as a file
 /// may have and the values are words.
-#[tactic(auto, using(crate::specs::WrittenLaws::written_stands))]
+#[tactic(auto, using(crate::proofs::WrittenLaws::written_stands))]
 pub fn written_texts_stand_for_their_tensor()
     ensures { (a : Arithmetic) → Laws a → (ranges : List ℕ) (value : List ℕ → ℕ) (text : List ℕ) → IsTnsText a ranges value text
         → length ranges ≤ greatest_order → All (λ range. range ≤ greatest_file_coordinate) ranges

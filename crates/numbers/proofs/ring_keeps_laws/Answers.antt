@@ -1,4 +1,4 @@
-use Rattle.numbers.specs.Ring.{ring_laws, ring_minus_laws}
+use Rattle.numbers.specs.RingLaws.{ring_laws, ring_minus_laws}
 use Rattle.numbers.proofs.ring_keeps_laws.Goals as goal
 
 pub returns : goal.returns

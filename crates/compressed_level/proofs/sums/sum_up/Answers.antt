@@ -1,6 +1,7 @@
 use Rattle.std.proofs.Common.{◌+◌, ◌∙◌, sym, subst, arith}
-use Rattle.limits.specs.Limits.{positions_are_small}
-use Rattle.compressed_level.specs.SumLaws.{Summing, sums_length, sums_within, sums_go}
+use Rattle.limits.proofs.Limits.{positions_are_small}
+use Rattle.compressed_level.specs.SumLaws.{Summing}
+use Rattle.compressed_level.proofs.SumLaws.{sums_length, sums_within, sums_go}
 use Rattle.compressed_level.proofs.sums.sum_up.Goals as goal
 
 pub get-sum-requires : goal.get-sum-requires

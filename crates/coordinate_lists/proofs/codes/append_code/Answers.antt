@@ -1,7 +1,8 @@
 use Rattle.std.proofs.Common.{◌+◌, length, sym, subst}
 use Rattle.kernel_code.specs.Keeps.{no_turns}
 use Rattle.level_core.specs.Fragments.{Writes, PassesLimit}
-use Rattle.coordinate_lists.specs.Codes.{Appended, append_law}
+use Rattle.coordinate_lists.specs.Codes.{Appended}
+use Rattle.coordinate_lists.proofs.CodesLemmas.{append_law}
 use Rattle.coordinate_lists.proofs.codes.append_code.Goals as goal
 
 pub returns : goal.returns

@@ -6,7 +6,7 @@ use Rattle.level_core.specs.Entries.{coord_at}
 use Rattle.level_core.specs.Logs.{entries_between}
 use Rattle.level_core.specs.Fragments.{Reads, OptionLeft}
 use Rattle.level_core.specs.FragmentLaws.{two_code}
-use Rattle.coordinate_lists.specs.Codes.{coord_law}
+use Rattle.coordinate_lists.proofs.CodesLemmas.{coord_law}
 use Rattle.coordinate_lists.proofs.codes.coord_code.Goals as goal
 
 pub returns : goal.returns

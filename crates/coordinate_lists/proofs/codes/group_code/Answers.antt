@@ -1,7 +1,7 @@
 use Rattle.std.proofs.Common.{◌-◌, sym, subst}
 use Rattle.kernel_code.specs.declared.syntax.LoopKind.TheVariants.{Skip}
 use Rattle.level_core.specs.Fragments.{Reads, SpanLeft, turns_of}
-use Rattle.coordinate_lists.specs.Codes.{group_law}
+use Rattle.coordinate_lists.proofs.CodesLemmas.{group_law}
 use Rattle.coordinate_lists.proofs.codes.group_code.Goals as goal
 
 pub returns : goal.returns

@@ -4,7 +4,7 @@ use Rattle.kernel_code.specs.declared.syntax.KExpr.{Num, Bin}
 use Rattle.kernel_code.specs.Keeps.{no_turns}
 use Rattle.level_core.specs.Fragments.{Reads, SpanLeft}
 use Rattle.level_core.specs.FragmentLaws.{two_code}
-use Rattle.coordinate_lists.specs.Codes.{position_law}
+use Rattle.coordinate_lists.proofs.CodesLemmas.{position_law}
 use Rattle.coordinate_lists.proofs.codes.position_code.Goals as goal
 
 pub returns : goal.returns

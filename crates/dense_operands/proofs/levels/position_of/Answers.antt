@@ -1,5 +1,5 @@
 use Rattle.std.proofs.Common.{◌<◌, ◌+◌, ◌*◌, ◌^◌, ◌≡◌, length, get_or, arith}
-use Rattle.tns_io.specs.PositionLaws.{below_long}
+use Rattle.tns_io.proofs.PositionLaws.{below_long}
 use Rattle.dense_operands.proofs.LevelLemmas.{next_fits}
 use Rattle.dense_operands.proofs.levels.position_of.Goals as goal
 

@@ -1,5 +1,5 @@
 use Rattle.std.proofs.Common.{arith}
-use Rattle.limits.specs.Limits.{positions_are_small}
+use Rattle.limits.proofs.Limits.{positions_are_small}
 use Rattle.dense_operands.specs.Levels.{FitLevels}
 use Rattle.dense_operands.proofs.LevelLemmas.{fit_none, fit_more, too_many}
 use Rattle.dense_operands.proofs.levels.positions_of.Goals as goal

@@ -1,10 +1,11 @@
 use Rattle.std.proofs.Common.{◌<◌, ◌≡◌, [], length, get_or, sym, ap, subst, ◌∙◌, arith}
 use Rattle.std.specs.Prelude.{replicate}
 use Rattle.std.proofs.lemmas.List.{get_or_default}
-use Rattle.numbers.specs.Ring.{ring, ring_laws}
+use Rattle.numbers.specs.Ring.{ring}
+use Rattle.numbers.specs.RingLaws.{ring_laws}
 use Rattle.tensor_map.specs.declared.entries.Entry.{Entry}
 use Rattle.tns_io.specs.Positions.{product, IsBelow, position}
-use Rattle.tns_io.specs.PositionLaws.{position_below}
+use Rattle.tns_io.proofs.PositionLaws.{position_below}
 use Rattle.dense_operands.proofs.DenseLemmas.{dense_none, dense_more}
 use Rattle.dense_operands.proofs.levels.values_of.Goals as goal
 

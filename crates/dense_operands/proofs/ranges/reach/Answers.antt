@@ -1,6 +1,7 @@
 use Rattle.std.proofs.Common.{◌<◌, sym, arith}
-use Rattle.limits.specs.Limits.{greatest_position_count, positions_are_small}
-use Rattle.expr_terms.specs.RangeLaws.{reach_of_greatest}
+use Rattle.limits.specs.Limits.{greatest_position_count}
+use Rattle.limits.proofs.Limits.{positions_are_small}
+use Rattle.expr_terms.proofs.RangeLaws.{reach_of_greatest}
 use Rattle.dense_operands.proofs.ReachLemmas.{greatest_small}
 use Rattle.dense_operands.proofs.ranges.reach.Goals as goal
 

@@ -1,4 +1,4 @@
-use Rattle.expr_terms.specs.GroupLaws.{groups_add_up}
+use Rattle.expr_terms.proofs.GroupLaws.{groups_add_up}
 use Rattle.expr_terms.proofs.laws.groups_add_up.Goals as goal
 
 pub returns : goal.returns

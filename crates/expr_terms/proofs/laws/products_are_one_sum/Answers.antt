@@ -1,4 +1,4 @@
-use Rattle.expr_terms.specs.ProductLaws.{own_variables_of_product, statement_value_of_product}
+use Rattle.expr_terms.proofs.ProductLaws.{own_variables_of_product, statement_value_of_product}
 use Rattle.expr_terms.proofs.laws.products_are_one_sum.Goals as goal
 
 pub returns : goal.returns

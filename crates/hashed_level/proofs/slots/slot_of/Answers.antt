@@ -1,7 +1,7 @@
 use Rattle.std.specs.Prelude.{slice_index}
 use Rattle.std.proofs.Common.{sym}
-use Rattle.hashed_level.specs.SlotLaws.{is_empty_yes, is_empty_no}
-use Rattle.hashed_level.specs.SearchLaws.{nowhere, not_there, found_filled}
+use Rattle.hashed_level.proofs.SlotLaws.{is_empty_yes, is_empty_no}
+use Rattle.hashed_level.proofs.SearchLaws.{nowhere, not_there, found_filled}
 use Rattle.hashed_level.proofs.slots.slot_of.Goals as goal
 
 pub returns-in-None : goal.returns-in-None

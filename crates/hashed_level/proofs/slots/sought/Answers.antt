@@ -1,6 +1,6 @@
 use Rattle.std.specs.Prelude.{◌+◌, ◌%◌, slice_index, refl}
 use Rattle.std.proofs.Common.{◌∙◌, ap, arith}
-use Rattle.hashed_level.specs.SearchLaws.{place_next, passes_more}
+use Rattle.hashed_level.proofs.SearchLaws.{place_next, passes_more}
 use Rattle.hashed_level.proofs.slots.sought.Goals as goal
 
 pub loop-steps-preserved : goal.loop-steps-preserved

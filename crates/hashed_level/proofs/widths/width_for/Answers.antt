@@ -1,4 +1,4 @@
-use Rattle.kernel_code.specs.Widths.{slot_width_is}
+use Rattle.kernel_code.proofs.Widths.{slot_width_is}
 use Rattle.hashed_level.proofs.widths.width_for.Goals as goal
 
 pub returns : goal.returns

@@ -1,4 +1,4 @@
-use Rattle.index_notation.specs.TextLaws.{text_once}
+use Rattle.index_notation.proofs.TextLaws.{text_once}
 use Rattle.index_notation.proofs.laws.one_statement_a_text.Goals as goal
 
 pub returns : goal.returns

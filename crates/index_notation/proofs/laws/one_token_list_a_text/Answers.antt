@@ -1,4 +1,4 @@
-use Rattle.index_notation.specs.TokenLaws.{tokens_once}
+use Rattle.index_notation.proofs.TokenLaws.{tokens_once}
 use Rattle.index_notation.proofs.laws.one_token_list_a_text.Goals as goal
 
 pub returns : goal.returns

@@ -1,6 +1,6 @@
 use Rattle.std.proofs.Common.{◌∙◌, sym}
 use Rattle.iteration_graph.specs.Graphs.{waits_for}
-use Rattle.iteration_graph.specs.Firsts.{first_later}
+use Rattle.iteration_graph.proofs.Firsts.{first_later}
 use Rattle.iteration_graph.proofs.first.awaited.Goals as goal
 
 pub loop-other-preserved : goal.loop-other-preserved

@@ -1,7 +1,7 @@
 use Rattle.std.specs.Prelude.{not}
 use Rattle.std.proofs.Common.{◌∙◌, sym, ap}
 use Rattle.iteration_graph.specs.Graphs.{is_among}
-use Rattle.iteration_graph.specs.Firsts.{first_later}
+use Rattle.iteration_graph.proofs.Firsts.{first_later}
 use Rattle.iteration_graph.proofs.first.first_left.Goals as goal
 
 pub loop-variable-preserved : goal.loop-variable-preserved

@@ -1,6 +1,6 @@
 use Rattle.std.proofs.Common.{◌∙◌, sym}
 use Rattle.iteration_graph.specs.Graphs.{is_free}
-use Rattle.iteration_graph.specs.Firsts.{first_later}
+use Rattle.iteration_graph.proofs.Firsts.{first_later}
 use Rattle.iteration_graph.proofs.first.next_to_place.Goals as goal
 
 pub loop-variable-preserved : goal.loop-variable-preserved

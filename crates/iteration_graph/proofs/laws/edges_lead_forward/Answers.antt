@@ -1,4 +1,4 @@
-use Rattle.iteration_graph.specs.OrderLaws.{each_below, each_once, each_forward, one_order}
+use Rattle.iteration_graph.proofs.OrderLaws.{each_below, each_once, each_forward, one_order}
 use Rattle.iteration_graph.proofs.laws.edges_lead_forward.Goals as goal
 
 pub returns-clause-below : goal.returns-clause-below

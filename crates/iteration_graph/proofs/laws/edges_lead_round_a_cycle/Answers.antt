@@ -1,5 +1,5 @@
-use Rattle.iteration_graph.specs.OrderLaws.{cycle_edges, cycle_closes, no_order}
-use Rattle.iteration_graph.specs.OneCycle.{one_cycle}
+use Rattle.iteration_graph.proofs.OrderLaws.{cycle_edges, cycle_closes, no_order}
+use Rattle.iteration_graph.proofs.OneCycle.{one_cycle}
 use Rattle.iteration_graph.proofs.laws.edges_lead_round_a_cycle.Goals as goal
 
 pub returns-clause-next : goal.returns-clause-next

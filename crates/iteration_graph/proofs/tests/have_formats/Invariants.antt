@@ -1,5 +1,5 @@
 use Rattle.std.specs.Prelude.{◌↔◌, drop}
-use Rattle.index_notation.specs.Statement.{Each}
+use Rattle.lists.specs.Each.{Each}
 use Rattle.iteration_graph.specs.Edges.{HasFormat}
 use Rattle.iteration_graph.proofs.tests.have_formats.Given as goal
 

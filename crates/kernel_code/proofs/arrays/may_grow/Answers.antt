@@ -1,6 +1,6 @@
 use Rattle.std.proofs.Common.{◌∙◌, ◌+◌, ap}
 use Rattle.kernel_code.specs.Arrays.{may_have, word_count}
-use Rattle.kernel_code.specs.ArrayNames.{may_have_word}
+use Rattle.kernel_code.proofs.ArrayNames.{may_have_word}
 use Rattle.kernel_code.proofs.arrays.may_grow.Goals as goal
 
 pub returns : goal.returns

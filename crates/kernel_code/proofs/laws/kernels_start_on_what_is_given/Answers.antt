@@ -1,4 +1,4 @@
-use Rattle.kernel_code.specs.Laws.{starts_as_given}
+use Rattle.kernel_code.proofs.Lemmas.{starts_as_given}
 use Rattle.kernel_code.proofs.laws.kernels_start_on_what_is_given.Goals as goal
 
 pub returns : goal.returns

@@ -1,5 +1,5 @@
 use Rattle.std.proofs.Common.{arith}
-use Rattle.kernel_code.specs.Widths.{width_is, width_none}
+use Rattle.kernel_code.proofs.Widths.{width_is, width_none}
 use Rattle.kernel_code.proofs.operators.width_of_word.Goals as goal
 
 pub returns-then-x : goal.returns-then-x

@@ -3,9 +3,9 @@ use Rattle.std.proofs.Common.{true, false}
 use Rattle.std.proofs.Math.Seq.{drop-cons}
 use Rattle.kernel_code.specs.Meaning.{Ended, one_turn, value, run, run_list, run_turns}
 use Rattle.kernel_code.specs.Kernels.{within}
-use Rattle.kernel_code.specs.Turns.{at_least_list}
+use Rattle.kernel_code.proofs.TurnsLemmas.{at_least_list}
 use Rattle.kernel_code.specs.Store.{state_of, outcome_of, has_ended, setting}
-use Rattle.kernel_code.specs.Equations.{run_while}
+use Rattle.kernel_code.proofs.Equations.{run_while}
 use Rattle.kernel_code.proofs.RunLemmas.{ended_within, not_ended, is_ended, first_then, loop_ended, loop_more, turn_then, if_no, if_yes}
 use Rattle.kernel_code.proofs.runs.+run.Goals as goal
 

@@ -1,8 +1,9 @@
 use Rattle.std.specs.Prelude.{◌≡◌, ℕ, ◌+◌, ◌-◌, ◌<◌}
 use Rattle.std.proofs.Common.{ap, sym, subst, arith}
 use Rattle.level_core.specs.Entries.{one, ShareOut}
-use Rattle.level_core.specs.EntryLaws.{placed_within}
-use Rattle.level_core.specs.ParentLaws.{Askable, share_out}
+use Rattle.level_core.proofs.EntryLaws.{placed_within}
+use Rattle.level_core.specs.ParentLaws.{Askable}
+use Rattle.level_core.proofs.ParentLaws.{share_out}
 use Rattle.level_core.proofs.positions.positions_below.Goals as goal
 
 pub returns-clause-share : goal.returns-clause-share

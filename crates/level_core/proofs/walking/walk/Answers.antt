@@ -1,6 +1,6 @@
 use Rattle.std.proofs.Common.{◌∙◌, sym, subst, arith}
 use Rattle.level_core.specs.Entries.{IsIn}
-use Rattle.level_core.specs.EntryLaws.{placed_within}
+use Rattle.level_core.proofs.EntryLaws.{placed_within}
 use Rattle.level_core.proofs.Walks.{Steps, Stepped, walk_stepped, walk_past, walk_steps, walk_ends}
 use Rattle.level_core.proofs.walking.walk.Given as given
 use Rattle.level_core.proofs.walking.walk.Goals as goal

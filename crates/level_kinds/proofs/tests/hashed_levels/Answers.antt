@@ -2,7 +2,7 @@ use Rattle.std.specs.Prelude.{◌≤◌}
 use Rattle.std.proofs.Common.{ap, subst, lit<, arith}
 use Rattle.limits.specs.Limits.{greatest_position_count}
 use Rattle.level_core.specs.Entries.{position_of}
-use Rattle.hashed_level.specs.RowLaws.{may_prepare, may_hold, after_prepare, may_insert, after_insert, still_none}
+use Rattle.hashed_level.proofs.RowLaws.{may_prepare, may_hold, after_prepare, may_insert, after_insert, still_none}
 use Rattle.level_kinds.proofs.tests.hashed_levels.Goals as goal
 
 pub prepare-requires-clause-may : goal.prepare-requires-clause-may

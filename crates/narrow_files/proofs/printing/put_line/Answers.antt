@@ -4,7 +4,7 @@ use Rattle.std.proofs.lemmas.Int.{to_z-of_z}
 use Rattle.std.specs.Fmt.{signed_decimal}
 use Rattle.tns_io.specs.Positions.{coords_at}
 use Rattle.tns_io.specs.Text.{coords_text}
-use Rattle.narrow_files.specs.PlaceLaws.{size_step, coordinate_put, value_put}
+use Rattle.narrow_files.proofs.PlaceLaws.{size_step, coordinate_put, value_put}
 use Rattle.narrow_files.proofs.printing.put_line.Goals as goal
 
 pub loop-size-preserved : goal.loop-size-preserved

@@ -1,6 +1,7 @@
 use Rattle.std.proofs.Common.{◌≡◌, ◌<◌, arith, ap, ◌∙◌}
 use Rattle.tns_io.specs.Positions.{product}
-use Rattle.narrow_files.specs.PlaceLaws.{value_in, text_to, places_text, text_skip, text_put}
+use Rattle.narrow_files.specs.PlaceLaws.{value_in, text_to}
+use Rattle.narrow_files.proofs.PlaceLaws.{places_text, text_skip, text_put}
 use Rattle.narrow_files.proofs.printing.text_of.Goals as goal
 use Rattle.narrow_files.proofs.printing.text_of.Goals.{then-value-ne0+in_ok-put_line, else-value-ne0}
 

@@ -1,6 +1,6 @@
 use Rattle.std.proofs.Common.{arith}
 use Rattle.text_lines.specs.Tokens.{tokens}
-use Rattle.narrow_files.specs.NarrowLaws.{coordinates_step}
+use Rattle.narrow_files.proofs.NarrowLaws.{coordinates_step}
 use Rattle.narrow_files.proofs.reading.read_coordinates.Goals as goal
 
 pub loop-coordinate-preserved : goal.loop-coordinate-preserved

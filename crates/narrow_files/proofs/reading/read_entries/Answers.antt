@@ -3,7 +3,7 @@ use Rattle.std.specs.Prelude.{Option, Some}
 use Rattle.std.proofs.lemmas.List.{take_at}
 use Rattle.tensor_map.specs.declared.entries.Entry.{Entry}
 use Rattle.narrow_files.specs.Narrow.{built_entry, both, built_from, built_entries}
-use Rattle.narrow_files.specs.NarrowLaws.{entries_more}
+use Rattle.narrow_files.proofs.NarrowLaws.{entries_more}
 use Rattle.narrow_files.specs.Readings.{entries_behind}
 use Rattle.narrow_files.proofs.reading.read_entries.Goals as goal
 

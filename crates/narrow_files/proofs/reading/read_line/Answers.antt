@@ -1,7 +1,7 @@
 use Rattle.std.proofs.Common.{ℕ, ◌≤◌, length, arith, ap, sym, ◌∙◌}
 use Rattle.std.specs.Option.{option_map}
 use Rattle.limits.specs.Limits.{greatest_line_bytes}
-use Rattle.narrow_files.specs.NarrowLaws.{line_built, entry_or_none}
+use Rattle.narrow_files.proofs.NarrowLaws.{line_built, entry_or_none}
 use Rattle.narrow_files.specs.Readings.{entry_by}
 use Rattle.narrow_files.proofs.reading.read_line.Goals as goal
 

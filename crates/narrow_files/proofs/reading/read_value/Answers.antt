@@ -1,7 +1,8 @@
 use Rattle.std.proofs.Common.{ap, sym, ◌∙◌}
 use Rattle.std.specs.Option.{option_map}
 use Rattle.std.specs.Result.{result_ok}
-use Rattle.narrow_files.specs.NarrowLaws.{negated, plain_value, minus_value}
+use Rattle.narrow_files.specs.NarrowLaws.{negated}
+use Rattle.narrow_files.proofs.NarrowLaws.{plain_value, minus_value}
 use Rattle.narrow_files.specs.Readings.{narrow_value}
 use Rattle.narrow_files.proofs.reading.read_value.Goals as goal
 

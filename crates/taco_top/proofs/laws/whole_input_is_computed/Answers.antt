@@ -1,4 +1,4 @@
-use Rattle.taco_top.specs.EndLaws.{whole_ends, results_once, line_once}
+use Rattle.taco_top.proofs.EndLaws.{whole_ends, results_once, line_once}
 use Rattle.taco_top.proofs.laws.whole_input_is_computed.Goals as goal
 
 pub returns-clause-ends : goal.returns-clause-ends

@@ -1,4 +1,4 @@
-use Rattle.text_lines.specs.Puts.{less_of_second, both_whole, on_ok_then, on_err_then}
+use Rattle.text_lines.proofs.PutsLemmas.{less_of_second, both_whole, on_ok_then, on_err_then}
 use Rattle.taco_top.proofs.put.put_both.Goals as goal
 
 pub returns-in-Ok-clause-whole : goal.returns-in-Ok-clause-whole

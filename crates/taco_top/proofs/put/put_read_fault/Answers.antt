@@ -1,7 +1,8 @@
 use Rattle.std.proofs.Common.{◌++◌, ◌≡◌, subst, List, ℕ}
 use Rattle.std.specs.Prelude.{codes, OnOk, OnErr}
 use Rattle.outside.specs.Folder.{appended}
-use Rattle.text_lines.specs.Puts.{PutsLess, less_of_first, less_of_second, both_whole, on_ok_then, on_err_then}
+use Rattle.text_lines.specs.Puts.{PutsLess}
+use Rattle.text_lines.proofs.PutsLemmas.{less_of_first, less_of_second, both_whole, on_ok_then, on_err_then}
 use Rattle.taco_top.proofs.put.put_read_fault.Goals as goal
 
 pub returns-in-Ok-clause-whole : goal.returns-in-Ok-clause-whole

@@ -4,7 +4,8 @@ use Rattle.std.specs.Prelude.{[], ◌+◌}
 use Rattle.std.proofs.Common.{Bor, get_or, slice_get}
 use Rattle.std.proofs.lemmas.Option.{slice_get-get_or}
 use Rattle.taco_top.specs.Answer.{answer_of_fault}
-use Rattle.taco_top.specs.Reads.{folder_state, only_reads_trans, cause_of_file}
+use Rattle.taco_top.specs.Reads.{folder_state}
+use Rattle.taco_top.proofs.Reads.{only_reads_trans, cause_of_file}
 use Rattle.taco_top.specs.Built.{AreRead}
 use Rattle.taco_top.specs.SmallCoords.{first_order}
 use Rattle.taco_top.proofs.TopLemmas.{operands_more, mapped_at}

@@ -3,7 +3,8 @@ use Rattle.std.proofs.Common.{◌∙◌, sym, ap}
 use Rattle.std.proofs.lemmas.List.{length-map}
 use Rattle.taco_top.specs.Built.{IsBuiltLine}
 use Rattle.taco_top.specs.Answer.{answer_of, answer_of_fault}
-use Rattle.taco_top.specs.Reads.{folder_state, cause_of_files, cause_of_line}
+use Rattle.taco_top.specs.Reads.{folder_state}
+use Rattle.taco_top.proofs.Reads.{cause_of_files, cause_of_line}
 use Rattle.taco_top.proofs.TopLemmas.{line_count, result_is}
 use Rattle.taco_top.proofs.top.result_of.Goals as goal
 

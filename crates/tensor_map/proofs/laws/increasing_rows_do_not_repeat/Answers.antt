@@ -1,4 +1,4 @@
-use Rattle.tensor_map.specs.Laws.{apart_at, value_of_entry}
+use Rattle.tensor_map.proofs.Lemmas.{apart_at, value_of_entry}
 use Rattle.tensor_map.proofs.laws.increasing_rows_do_not_repeat.Goals as goal
 
 pub returns : goal.returns

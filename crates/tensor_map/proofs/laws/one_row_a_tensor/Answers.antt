@@ -1,5 +1,5 @@
 use Rattle.std.proofs.Common.{sym}
-use Rattle.tensor_map.specs.Laws.{all_nonzero, listed_nonzero, one_row}
+use Rattle.tensor_map.proofs.Lemmas.{all_nonzero, listed_nonzero, one_row}
 use Rattle.tensor_map.proofs.laws.one_row_a_tensor.Goals as goal
 
 pub returns : goal.returns

@@ -1,4 +1,4 @@
-use Rattle.tensor_map.specs.Permutations.{value_permutation, listed_permutation}
+use Rattle.tensor_map.proofs.Permutations.{value_permutation, listed_permutation}
 use Rattle.tensor_map.proofs.laws.order_is_free.Goals as goal
 
 pub returns : goal.returns

@@ -1,4 +1,4 @@
-use Rattle.tensor_map.specs.Laws.{value_append, listed_append}
+use Rattle.tensor_map.proofs.Lemmas.{value_append, listed_append}
 use Rattle.tensor_map.proofs.laws.rows_add.Goals as goal
 
 pub returns : goal.returns

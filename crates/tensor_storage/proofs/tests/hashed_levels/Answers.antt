@@ -1,7 +1,7 @@
 use Rattle.std.specs.Prelude.{◌≤◌, ◌*◌}
 use Rattle.std.proofs.Common.{sym, subst}
 use Rattle.limits.specs.Limits.{greatest_position_count}
-use Rattle.kernel_code.specs.Widths.{slot_width_two}
+use Rattle.kernel_code.proofs.Widths.{slot_width_two}
 use Rattle.tensor_storage.proofs.tests.hashed_levels.Goals as goal
 
 pub prepare-requires-clause-within : goal.prepare-requires-clause-within

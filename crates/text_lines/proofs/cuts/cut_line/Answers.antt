@@ -1,7 +1,7 @@
 use Rattle.std.proofs.Common.{◌≡◌, ◌∷◌, ◌<◌, false, nat_eq, length, arith, sym, ◌∙◌}
 use Rattle.std.proofs.lemmas.Bool.{eqb-false}
 use Rattle.text_lines.specs.Lines.{lines}
-use Rattle.text_lines.specs.LineLaws.{line_cut}
+use Rattle.text_lines.proofs.LineLaws.{line_cut}
 use Rattle.text_lines.proofs.cuts.cut_line.Goals as goal
 
 pub returns-clause-first : goal.returns-clause-first

@@ -1,6 +1,7 @@
 use Rattle.std.proofs.lemmas.List.{take_rest}
-use Rattle.text_lines.specs.Parts.{place_missed}
-use Rattle.text_lines.specs.TokenLaws.{is_filled, token_cut, tokens_none}
+use Rattle.text_lines.proofs.Parts.{place_missed}
+use Rattle.text_lines.specs.TokenLaws.{is_filled}
+use Rattle.text_lines.proofs.TokenLaws.{token_cut, tokens_none}
 use Rattle.text_lines.proofs.cuts.cut_token.Goals as goal
 
 pub returns-in-None : goal.returns-in-None

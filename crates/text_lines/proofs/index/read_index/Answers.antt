@@ -5,7 +5,7 @@ use Rattle.std.proofs.lemmas.List.{take_all}
 use Rattle.std.proofs.lemmas.Int.Digits.{digits_more, digits_value_more}
 use Rattle.text_lines.specs.Digits.{IsKept}
 use Rattle.text_lines.specs.Numbers.{index_within}
-use Rattle.text_lines.specs.NumberLaws.{no_number_at, number_of_numeral, value_of_digit}
+use Rattle.text_lines.proofs.NumberLaws.{no_number_at, number_of_numeral, value_of_digit}
 use Rattle.text_lines.proofs.index.read_index.Goals as goal
 
 pub returns-then-not-is_ascii_digit : goal.returns-then-not-is_ascii_digit

@@ -1,5 +1,6 @@
 use Rattle.std.proofs.Common.{subst, sym}
-use Rattle.text_lines.specs.Puts.{PutsSoFar, puts_nothing, puts_more}
+use Rattle.text_lines.specs.Puts.{PutsSoFar}
+use Rattle.text_lines.proofs.PutsLemmas.{puts_nothing, puts_more}
 use Rattle.text_lines.proofs.puts.put_all.Goals as goal
 
 pub loop-rest-init : goal.loop-rest-init

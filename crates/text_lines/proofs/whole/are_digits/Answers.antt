@@ -1,7 +1,8 @@
 use Rattle.std.proofs.Common.{rules}
 use Rattle.std.proofs.lemmas.Iterator.{cases_from_all, YieldsList-from_slice}
 use borrow.Author.Tests.{tests}
-use Rattle.text_lines.specs.DecimalLaws.{IsDigit, IsNoDigit, digits_told}
+use Rattle.text_lines.specs.DecimalLaws.{IsDigit, IsNoDigit}
+use Rattle.text_lines.proofs.DecimalLaws.{digits_told}
 use Rattle.text_lines.proofs.whole.are_digits.Goals as goal
 
 pub returns : goal.returns

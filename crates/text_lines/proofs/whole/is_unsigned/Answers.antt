@@ -1,6 +1,6 @@
 use Rattle.std.specs.Prelude.{◌≡◌, ◌&&◌, true}
 use Rattle.std.proofs.Common.{◌∙◌, sym, ap}
-use Rattle.text_lines.specs.DecimalLaws.{unsigned_is}
+use Rattle.text_lines.proofs.DecimalLaws.{unsigned_is}
 use Rattle.text_lines.specs.Numbers.{is_mantissa}
 use Rattle.text_lines.proofs.whole.is_unsigned.Goals as goal
 

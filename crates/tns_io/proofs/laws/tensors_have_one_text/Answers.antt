@@ -1,4 +1,4 @@
-use Rattle.tns_io.specs.TextLaws.{one_text}
+use Rattle.tns_io.proofs.TextLaws.{one_text}
 use Rattle.tns_io.proofs.laws.tensors_have_one_text.Goals as goal
 
 pub returns : goal.returns

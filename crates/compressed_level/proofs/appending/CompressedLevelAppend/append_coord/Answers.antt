@@ -1,4 +1,4 @@
-use Rattle.compressed_level.specs.CallLaws.{push_keeps}
+use Rattle.compressed_level.proofs.CallLaws.{push_keeps}
 use Rattle.compressed_level.proofs.appending.CompressedLevelAppend.append_coord.Goals as goal
 
 pub invariant_of-self : goal.invariant_of-self

@@ -1,6 +1,7 @@
 use Rattle.std.proofs.Common.{◌+◌, sym, subst, arith}
 use Rattle.compressed_level.specs.Compressed.{KeepsRules, IsStored}
-use Rattle.compressed_level.specs.CallLaws.{giving, edges_keep, stored}
+use Rattle.compressed_level.specs.CallLaws.{stored}
+use Rattle.compressed_level.proofs.CallLaws.{giving, edges_keep}
 use Rattle.compressed_level.proofs.appending.CompressedLevelAppend.append_edges.Goals as goal
 
 pub overflow_add-parent : goal.overflow_add-parent

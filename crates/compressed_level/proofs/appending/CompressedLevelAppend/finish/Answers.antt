@@ -2,8 +2,9 @@ use Rattle.std.proofs.Common.{◌≡◌, ◌∙◌, sym, ap, arith, refl, length
 use Rattle.level_core.specs.declared.stage.Stage.TheVariants.{Finished}
 use Rattle.level_core.specs.Logs.{segment_in, finished}
 use Rattle.compressed_level.specs.Compressed.{log_in}
-use Rattle.compressed_level.specs.LevelLaws.{allowed_finished}
-use Rattle.compressed_level.specs.CallLaws.{stored, finishing, finish_keeps, finish_logged}
+use Rattle.compressed_level.proofs.LevelLaws.{allowed_finished}
+use Rattle.compressed_level.specs.CallLaws.{stored}
+use Rattle.compressed_level.proofs.CallLaws.{finishing, finish_keeps, finish_logged}
 use Rattle.compressed_level.proofs.appending.CompressedLevelAppend.finish.Goals as goal
 
 pub invariant_of-self : goal.invariant_of-self

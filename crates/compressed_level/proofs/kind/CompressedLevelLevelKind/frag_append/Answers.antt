@@ -1,4 +1,4 @@
-use Rattle.compressed_level.specs.CodeLaws.{append_fragment}
+use Rattle.compressed_level.proofs.CodeLaws.{append_fragment}
 use Rattle.compressed_level.proofs.kind.CompressedLevelLevelKind.frag_append.Goals as goal
 
 pub returns : goal.returns

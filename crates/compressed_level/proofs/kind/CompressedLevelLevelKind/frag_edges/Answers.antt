@@ -1,4 +1,4 @@
-use Rattle.compressed_level.specs.CodeLaws.{edges_fragment}
+use Rattle.compressed_level.proofs.CodeLaws.{edges_fragment}
 use Rattle.compressed_level.proofs.kind.CompressedLevelLevelKind.frag_edges.Goals as goal
 
 pub returns : goal.returns

@@ -1,4 +1,4 @@
-use Rattle.compressed_level.specs.RuleLaws.{never_inserted}
+use Rattle.compressed_level.proofs.RuleLaws.{never_inserted}
 use Rattle.compressed_level.proofs.kind.CompressedLevelLevelKind.frag_insert.Goals as goal
 
 pub returns : goal.returns

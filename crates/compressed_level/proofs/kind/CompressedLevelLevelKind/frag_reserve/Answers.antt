@@ -1,4 +1,4 @@
-use Rattle.compressed_level.specs.CodeLaws.{reserve_fragment}
+use Rattle.compressed_level.proofs.CodeLaws.{reserve_fragment}
 use Rattle.compressed_level.proofs.kind.CompressedLevelLevelKind.frag_reserve.Goals as goal
 
 pub returns : goal.returns

@@ -1,4 +1,4 @@
-use Rattle.compressed_level.specs.CodeLaws.{segment_fragment}
+use Rattle.compressed_level.proofs.CodeLaws.{segment_fragment}
 use Rattle.compressed_level.proofs.kind.CompressedLevelLevelKind.frag_segment.Goals as goal
 
 pub returns : goal.returns

@@ -1,5 +1,5 @@
 use Rattle.std.proofs.Common.{ap}
-use Rattle.compressed_level.specs.CallLaws.{child_first, child_read}
+use Rattle.compressed_level.proofs.CallLaws.{child_first, child_read}
 use Rattle.compressed_level.proofs.reading.CompressedLevelLevel.child.Goals as goal
 
 pub group_end-requires-clause-first : goal.group_end-requires-clause-first

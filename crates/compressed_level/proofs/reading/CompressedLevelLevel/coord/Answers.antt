@@ -1,5 +1,5 @@
 use Rattle.std.proofs.Common.{ap}
-use Rattle.compressed_level.specs.CallLaws.{coord_inside, coord_read}
+use Rattle.compressed_level.proofs.CallLaws.{coord_inside, coord_read}
 use Rattle.compressed_level.proofs.reading.CompressedLevelLevel.coord.Goals as goal
 
 pub get-requires : goal.get-requires

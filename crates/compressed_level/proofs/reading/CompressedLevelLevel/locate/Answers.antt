@@ -1,4 +1,4 @@
-use Rattle.compressed_level.specs.RuleLaws.{never_located}
+use Rattle.compressed_level.proofs.RuleLaws.{never_located}
 use Rattle.compressed_level.proofs.reading.CompressedLevelLevel.locate.Goals as goal
 
 pub returns : goal.returns

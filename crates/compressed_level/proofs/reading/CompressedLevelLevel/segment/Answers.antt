@@ -1,5 +1,5 @@
 use Rattle.compressed_level.specs.Compressed.{segment_of}
-use Rattle.compressed_level.specs.CallLaws.{reading, segment_read}
+use Rattle.compressed_level.proofs.CallLaws.{reading, segment_read}
 use Rattle.compressed_level.proofs.reading.CompressedLevelLevel.segment.Goals as goal
 
 pub get-requires : goal.get-requires

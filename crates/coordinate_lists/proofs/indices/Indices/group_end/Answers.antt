@@ -1,5 +1,5 @@
 use Rattle.std.proofs.Common.{◌≡◌, ◌∙◌, ℕ, Some, sym, arith}
-use Rattle.coordinate_lists.specs.Spans.{group_ends}
+use Rattle.coordinate_lists.proofs.Spans.{group_ends}
 use Rattle.coordinate_lists.proofs.indices.Indices.group_end.Goals as goal
 
 some_apart : (x y : ℕ) → (x ≡ y → ⊥) → Some x ≡ Some y → ⊥

@@ -1,5 +1,5 @@
 use Rattle.std.proofs.Common.{◌∙◌, ◌%◌, Some, sym, ap}
-use Rattle.dense_level.specs.Laws.{coord_is, remainder_is}
+use Rattle.dense_level.proofs.Laws.{coord_is, remainder_is}
 use Rattle.dense_level.proofs.reading.DenseLevelLevel.coord.Goals as goal
 
 pub returns : goal.returns

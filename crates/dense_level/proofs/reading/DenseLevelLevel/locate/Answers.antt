@@ -1,6 +1,7 @@
 use Rattle.std.proofs.Common.{◌∙◌, ◌<◌, ◌≤◌, Some, sym, ap, subst}
 use Rattle.level_core.specs.Entries.{one}
-use Rattle.dense_level.specs.Laws.{position_is, position_none}
+use Rattle.dense_level.specs.Laws.{position_is}
+use Rattle.dense_level.proofs.Laws.{position_none}
 use Rattle.dense_level.proofs.reading.DenseLevelLevel.locate.Goals as goal
 
 pub returns-then-x-self : goal.returns-then-x-self

@@ -1,5 +1,5 @@
 use Rattle.std.proofs.Common.{◌*◌, ◌^◌, ◌<◌, sym, subst, arith}
-use Rattle.dense_level.specs.Laws.{small_start, small_end}
+use Rattle.dense_level.proofs.Laws.{small_start, small_end}
 use Rattle.dense_level.proofs.reading.DenseLevelLevel.segment.Goals as goal
 
 pub overflow_mul-result : goal.overflow_mul-result

@@ -1,10 +1,11 @@
 use Rattle.std.specs.Prelude.{replicate, Some}
 use Rattle.std.proofs.Common.{◌∙◌, ◌*◌, ◌^◌, ◌<◌, sym, ap, subst, arith}
-use Rattle.limits.specs.Limits.{positions_are_small}
+use Rattle.limits.proofs.Limits.{positions_are_small}
 use Rattle.hashed_level.specs.Slots.{empty_slot}
 use Rattle.kernel_code.specs.Widths.{slot_width}
 use Rattle.hashed_level.specs.Hashed.{KeepsRules, hashed}
-use Rattle.hashed_level.specs.Laws.{prepared_keeps, slots_word}
+use Rattle.hashed_level.specs.Laws.{prepared_keeps}
+use Rattle.hashed_level.proofs.Laws.{slots_word}
 use Rattle.hashed_level.proofs.hashed.HashedLevel.make_blocks.Goals as goal
 
 pub width_for-width-requires : goal.width_for-width-requires

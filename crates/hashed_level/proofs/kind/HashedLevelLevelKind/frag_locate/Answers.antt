@@ -1,6 +1,6 @@
 use Rattle.std.proofs.Common.{◌≡◌, [], ◌∷◌, sym, subst, refl}
 use Rattle.kernel_code.specs.Does.{Does, Never}
-use Rattle.level_core.specs.FragmentLaws.{argument_is}
+use Rattle.level_core.proofs.FragmentLaws.{argument_is}
 use Rattle.hashed_level.specs.Code.{locate_code}
 use Rattle.hashed_level.proofs.SearchCode.{Located}
 use Rattle.hashed_level.proofs.CodeLaws.{locate_does}

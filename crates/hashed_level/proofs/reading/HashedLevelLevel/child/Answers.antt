@@ -1,6 +1,6 @@
 use Rattle.std.proofs.Common.{sym, arith}
-use Rattle.limits.specs.Limits.{positions_are_small}
-use Rattle.hashed_level.specs.Laws.{child_is}
+use Rattle.limits.proofs.Limits.{positions_are_small}
+use Rattle.hashed_level.proofs.Laws.{child_is}
 use Rattle.hashed_level.proofs.reading.HashedLevelLevel.child.Goals as goal
 
 pub overflow_add-result : goal.overflow_add-result

@@ -1,5 +1,5 @@
 use Rattle.std.proofs.Common.{◌∙◌, sym}
-use Rattle.hashed_level.specs.Laws.{coord_is}
+use Rattle.hashed_level.proofs.Laws.{coord_is}
 use Rattle.hashed_level.proofs.reading.HashedLevelLevel.coord.Goals as goal
 
 pub returns : goal.returns

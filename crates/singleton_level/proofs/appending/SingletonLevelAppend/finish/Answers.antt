@@ -1,5 +1,5 @@
 use Rattle.singleton_level.specs.Singleton.{stored}
-use Rattle.singleton_level.specs.RuleLaws.{finish_keeps, finish_allows, finish_segments}
+use Rattle.singleton_level.proofs.RuleLaws.{finish_keeps, finish_allows, finish_segments}
 use Rattle.singleton_level.proofs.appending.SingletonLevelAppend.finish.Goals as goal
 
 pub invariant_of-self : goal.invariant_of-self

@@ -1,5 +1,5 @@
 use Rattle.singleton_level.specs.Singleton.{stored}
-use Rattle.singleton_level.specs.RuleLaws.{reserve_logs}
+use Rattle.singleton_level.proofs.RuleLaws.{reserve_logs}
 use Rattle.singleton_level.proofs.appending.SingletonLevelAppend.reserve.Goals as goal
 
 pub returns-clause-log : goal.returns-clause-log

@@ -2,7 +2,8 @@ use Rattle.std.proofs.Common.{◌+◌, sym, subst, length}
 use Rattle.kernel_code.specs.Keeps.{no_turns}
 use Rattle.level_core.specs.Fragments.{Writes, PassesLimit}
 use Rattle.singleton_level.specs.Singleton.{Holds}
-use Rattle.singleton_level.specs.CodeLaws.{Appends, append_law}
+use Rattle.singleton_level.specs.CodeLaws.{Appends}
+use Rattle.singleton_level.proofs.CodeLaws.{append_law}
 use Rattle.singleton_level.proofs.kind.SingletonLevelLevelKind.frag_append.Goals as goal
 
 pub returns : goal.returns

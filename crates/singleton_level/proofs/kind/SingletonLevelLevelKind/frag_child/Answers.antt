@@ -2,9 +2,9 @@ use Rattle.std.proofs.Common.{◌≡◌, ◌-◌, ◌∙◌, sym, ap, subst, if�
 use Rattle.kernel_code.specs.declared.syntax.LoopKind.TheVariants.{Skip}
 use Rattle.kernel_code.specs.Keeps.{no_turns}
 use Rattle.level_core.specs.Fragments.{Reads, SpanLeft, turns_of}
-use Rattle.singleton_level.specs.LevelLaws.{rises_where_unique}
-use Rattle.singleton_level.specs.RuleLaws.{letter_tells}
-use Rattle.singleton_level.specs.CodeLaws.{child_turns_are}
+use Rattle.singleton_level.proofs.LevelLaws.{rises_where_unique}
+use Rattle.singleton_level.proofs.RuleLaws.{letter_tells}
+use Rattle.singleton_level.proofs.CodeLaws.{child_turns_are}
 use Rattle.singleton_level.proofs.kind.SingletonLevelLevelKind.frag_child.Goals as goal
 
 pub returns : goal.returns

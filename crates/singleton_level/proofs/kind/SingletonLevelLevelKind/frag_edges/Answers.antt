@@ -2,7 +2,8 @@ use Rattle.std.proofs.Common.{sym, subst}
 use Rattle.kernel_code.specs.Keeps.{no_turns}
 use Rattle.kernel_code.specs.Does.{Never}
 use Rattle.level_core.specs.Fragments.{Writes}
-use Rattle.singleton_level.specs.CodeLaws.{Gives, edges_law}
+use Rattle.singleton_level.specs.CodeLaws.{Gives}
+use Rattle.singleton_level.proofs.CodeLaws.{edges_law}
 use Rattle.singleton_level.proofs.kind.SingletonLevelLevelKind.frag_edges.Goals as goal
 
 pub returns : goal.returns

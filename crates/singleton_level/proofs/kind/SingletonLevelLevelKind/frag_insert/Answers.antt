@@ -1,4 +1,4 @@
-use Rattle.singleton_level.specs.RuleLaws.{never_inserted}
+use Rattle.singleton_level.proofs.RuleLaws.{never_inserted}
 use Rattle.singleton_level.proofs.kind.SingletonLevelLevelKind.frag_insert.Goals as goal
 
 pub returns : goal.returns

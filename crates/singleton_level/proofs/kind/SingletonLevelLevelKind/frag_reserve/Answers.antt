@@ -1,7 +1,8 @@
 use Rattle.std.proofs.Common.{sym, subst}
 use Rattle.kernel_code.specs.Keeps.{no_turns}
 use Rattle.level_core.specs.Fragments.{Writes, PassesLimit}
-use Rattle.singleton_level.specs.CodeLaws.{Reserves, reserve_law}
+use Rattle.singleton_level.specs.CodeLaws.{Reserves}
+use Rattle.singleton_level.proofs.CodeLaws.{reserve_law}
 use Rattle.singleton_level.proofs.kind.SingletonLevelLevelKind.frag_reserve.Goals as goal
 
 pub returns : goal.returns

@@ -1,7 +1,7 @@
 use Rattle.std.proofs.Common.{sym, subst}
 use Rattle.kernel_code.specs.Keeps.{no_turns}
 use Rattle.level_core.specs.Fragments.{Reads, SpanLeft}
-use Rattle.singleton_level.specs.CodeLaws.{segment_law}
+use Rattle.singleton_level.proofs.CodeLaws.{segment_law}
 use Rattle.singleton_level.proofs.kind.SingletonLevelLevelKind.frag_segment.Goals as goal
 
 pub returns : goal.returns

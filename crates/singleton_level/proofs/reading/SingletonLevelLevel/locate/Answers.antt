@@ -1,4 +1,4 @@
-use Rattle.singleton_level.specs.RuleLaws.{never_located}
+use Rattle.singleton_level.proofs.RuleLaws.{never_located}
 use Rattle.singleton_level.proofs.reading.SingletonLevelLevel.locate.Goals as goal
 
 pub returns : goal.returns

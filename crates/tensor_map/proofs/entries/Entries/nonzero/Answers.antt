@@ -1,9 +1,10 @@
 use Rattle.std.proofs.Common.{◌≡◌, ◌∙◌, sym, ap, subst, rules, filter}
 use Rattle.std.specs.Prelude.{All}
 use Rattle.std.proofs.lemmas.List.Elements.{filter_from_retain, All-filter}
-use Rattle.numbers.specs.Ring.{ring, ring_laws}
+use Rattle.numbers.specs.Ring.{ring}
+use Rattle.numbers.specs.RingLaws.{ring_laws}
 use Rattle.tensor_map.specs.Entries.{is_nonzero, IsEntry, NoneIsZero, value_at, StrictlyIncreasing}
-use Rattle.tensor_map.specs.Laws.{value_nonzero, increasing_filter, none_zero_filter}
+use Rattle.tensor_map.proofs.Lemmas.{value_nonzero, increasing_filter, none_zero_filter}
 use Rattle.tensor_map.proofs.entries.Entries.nonzero.Goals as goal
 
 kept : (c : goal.After-retain) → c.retain.new.self.items ≡ filter (is_nonzero ring) c.self.inside.list.items

@@ -1,6 +1,7 @@
 use Rattle.std.proofs.Common.{◌≡◌, ◌∙◌, ap, rules, arith, length}
 use Rattle.std.proofs.lemmas.List.Sorted.{answers_always}
-use Rattle.numbers.specs.Ring.{ring, ring_laws}
+use Rattle.numbers.specs.Ring.{ring}
+use Rattle.numbers.specs.RingLaws.{ring_laws}
 use Rattle.tensor_map.specs.Summed.{summed}
 use Rattle.tensor_map.proofs.Sorting.{SortsAndAdds, sorts_and_adds, front_written, is_before, is_before_orders}
 use Rattle.tensor_map.proofs.entries.Entries.sort_sum.Goals as goal

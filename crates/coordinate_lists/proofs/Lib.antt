@@ -1,0 +1,4 @@
+pub mod CodesLemmas
+pub mod Skips
+pub mod Spans
+pub mod Words

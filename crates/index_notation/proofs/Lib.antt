@@ -1,0 +1,5 @@
+pub mod NumberingLaws
+pub mod SentenceLaws
+pub mod StatementLaws
+pub mod TextLaws
+pub mod TokenLaws

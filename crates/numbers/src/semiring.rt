@@ -1,0 +1,87 @@
+// How values are added and multiplied: the trait that all computing with values goes through.
+ghost use Rattle.std.specs.Prelude.{◌≡◌, ℕ, Option, Some, None, Bool, true};
+ghost use Rattle.numbers.specs.Arithmetic.{Arithmetic, Laws, MinusLaws, IfMinus};
+ghost use Rattle.numbers.specs.Ring.{ring};
+ghost use Rattle.numbers.specs.RingLaws.{ring_laws, ring_minus_laws};
+
+/// Words with a sum and a product that keep the laws of a commutative semiring. Its calls are of the type: no
+/// value of it is needed.
+pub trait Semiring {
+    /// What the calls compute.
+    ghost arithmetic: { Arithmetic };
+
+    /// Whether there is a minus: a number that makes zero with one.
+    ghost has_minus: { Bool };
+
+    /// The semiring's name, as a kernel's text and a command line have it.
+    const NAME: &'static str;
+
+    /// The word that a sum starts from.
+    fn zero() -> u64
+        ensures { result ≡ arithmetic.zero };
+
+    /// The word that a product starts from.
+    fn one() -> u64
+        ensures { result ≡ arithmetic.one };
+
+    /// The word by which a negated term is multiplied. There is none exactly where there is no minus.
+    fn minus_one() -> Option<u64>
+        ensures { result ≡ IfMinus has_minus arithmetic.minus_one };
+
+    /// The sum of two values.
+    fn plus(a: u64, b: u64) -> u64
+        ensures { result ≡ arithmetic.plus a b };
+
+    /// The product of two values.
+    fn times(a: u64, b: u64) -> u64
+        ensures { result ≡ arithmetic.times a b };
+
+    /// Sums and products keep the laws.
+    ghost laws: { Laws arithmetic };
+
+    /// Where there is a minus, one and minus one cancel.
+    ghost minus_laws: { has_minus ≡ true → MinusLaws arithmetic };
+}
+
+/// Whole numbers modulo 2^64.
+#[derive(Drop)]
+pub struct Ring;
+
+impl Semiring for Ring {
+    ghost arithmetic = { ring };
+
+    ghost has_minus = { true };
+
+    const NAME: &'static str = "ring";
+
+    fn zero() -> u64 {
+        crate::zero()
+    }
+
+    fn one() -> u64 {
+        crate::one()
+    }
+
+    #[tactic(auto, unfolding(crate::specs::Ring::ring))]
+    fn minus_one() -> Option<u64> {
+        Some(u64::MAX)
+    }
+
+    fn plus(a: u64, b: u64) -> u64 {
+        crate::add(a, b)
+    }
+
+    fn times(a: u64, b: u64) -> u64 {
+        crate::mul(a, b)
+    }
+
+    ghost laws = { ring_laws };
+
+    ghost minus_laws = { λ _. ring_minus_laws };
+}
+
+/// The laws hold of every semiring.
+pub fn keeps_laws<S: Semiring>()
+    ensures laws { Laws S.arithmetic }
+    ensures minus { S.has_minus ≡ true → MinusLaws S.arithmetic }
+{}

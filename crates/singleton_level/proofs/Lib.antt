@@ -1,0 +1,3 @@
+pub mod CodeLaws
+pub mod LevelLaws
+pub mod RuleLaws
