@@ -1,5 +1,5 @@
 -- The arrays that a kernel works on: which of them are one, which it may write, how long they may grow.
-use Rattle.std.specs.Prelude.{◌≡◌, ℕ, ◌+◌, ◌-◌, ◌^◌, ◌<◌, min, Bool, true, false, ◌==◌, ◌&&◌, nat_le, Option, Some, None}
+use Rattle.std.specs.Prelude.{ℕ, ◌+◌, ◌-◌, ◌^◌, min, Bool, true, false, ◌==◌, ◌&&◌, nat_le, Option, Some, None}
 use Rattle.numbers.specs.Arithmetic.{Arithmetic}
 use Rattle.numbers.specs.Ring.{word_sum}
 use Rattle.limits.specs.Limits.{greatest_position_count, greatest_workspace_pairs}

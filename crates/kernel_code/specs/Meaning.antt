@@ -8,8 +8,10 @@ use Rattle.kernel_code.specs.declared.syntax.LoopKind.{LoopKind}
 use Rattle.kernel_code.specs.declared.syntax.LoopKind.TheVariants as kind
 use Rattle.kernel_code.specs.declared.syntax.Op.{Op}
 use Rattle.kernel_code.specs.declared.syntax.Op.TheVariants as op
+use Rattle.kernel_code.specs.declared.syntax.ValueOp.{ValueOp}
+use Rattle.kernel_code.specs.declared.syntax.ValueOp.TheVariants as value_op
 use Rattle.kernel_code.specs.declared.syntax.KExpr.{KExpr, Num, Var, At', Len, Bin', Min', Width', Row_of-KExpr, end_of-KExpr, more_of-KExpr}
-use Rattle.kernel_code.specs.declared.syntax.KStmt.{KStmt, Set, Put, AddTo, Push, Extend, Cut, Sort, SortSum, If', While', Row_of-KStmt, end_of-KStmt, more_of-KStmt}
+use Rattle.kernel_code.specs.declared.syntax.KStmt.{KStmt, Set, Combine, Put, AddTo, Push, Extend, Cut, Sort, SortSum, If', While', Row_of-KStmt, end_of-KStmt, more_of-KStmt}
 use Rattle.kernel_code.specs.Arrays.{same_arr, may_write, may_have, told_count, sum_in}
 use Rattle.kernel_code.specs.Rows.{sorted_rows, list_rows, Row, summed_rows, rows_from, column_of}
 
@@ -68,6 +70,11 @@ abbrev pub apply_each : (ℕ → ℕ → ℕ) → Option ℕ → Option ℕ → 
 apply_each f None y = None
 apply_each f (Some x) None = None
 apply_each f (Some x) (Some y) = Some (f x y)
+
+-- the sum or the product of two values
+abbrev pub combined : Arithmetic → ValueOp → ℕ → ℕ → ℕ
+combined arithmetic value_op.Plus x y = arithmetic.plus x y
+combined arithmetic value_op.Times x y = arithmetic.times x y
 
 -- of operands that may be stuck: the second counts only where the first leaves the answer open
 abbrev pub apply_both : Op → Option ℕ → Option ℕ → Option ℕ
@@ -212,6 +219,7 @@ abbrev mutual
   -- a statement, each loop entry for at most n turns
   pub run : Setting → ℕ → KStmt → State → Outcome
   run c n (Set x e) s = set_outcome s x (value e s)
+  run c n (Combine x o e f) s = set_outcome s x (apply_each (combined c.arithmetic o) (value e s) (value f s))
   run c n (Put a i e) s = put_outcome s a (value i s) (value e s)
   run c n (AddTo a i e) s = add_outcome c.arithmetic s a (value i s) (value e s)
   run c n (Push a e) s = push_outcome s a (value e s)

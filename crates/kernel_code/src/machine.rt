@@ -1,5 +1,4 @@
 ghost use Rattle.std.specs.Prelude.{◌≡◌, ℕ, ◌+◌, ◌^◌, ◌<◌, List, length, MatchOption, IfOk, OnOk, OnErr, ◌++◌, ◌∷◌, [], Some, None, take, replicate, slice_get, option_map, unwrap_or, map};
-ghost use Rattle.numbers.specs.Ring.{ring};
 ghost use Rattle.kernel_code.specs.Arrays.{sum_in};
 ghost use Rattle.kernel_code.specs.Meaning.{Ended, Stuck, Outcome, set_array, one_turn, sort_outcome, sort_sum_outcome, key_columns, set_columns, with_array, changed, grown, value, word_at, length_of, run_list, set_outcome, put_outcome, add_outcome, push_outcome, extend_outcome, cut_outcome};
 ghost use Rattle.kernel_code.specs.Kernels.{within};
@@ -14,6 +13,7 @@ use crate::rows::{coordinates_of, positions_of, rows_of_list, sort_rows};
 use crate::runs::run_statements;
 use crate::sums::{PlacedRow, number_of_keys, sum_rows, values_of, words_at};
 use crate::syntax::{Arr, KExpr, KStmt, LoopKind, Turns};
+use numbers::Semiring;
 use std::alloc::{AllocError, Global};
 use std::mem;
 
@@ -131,20 +131,20 @@ impl Machine {
         self.turns
     }
 
-    /// Runs code from its start, with no variable set, until `budget` turns are made in all. `workspaces`
-    /// has the number of keys of each workspace. The arrays are those of the machine, and stay its own.
+    /// Runs code from its start, with no variable set, until `budget` turns are made in all. Values are
+    /// added and multiplied as `S` says, and `workspaces` has the number of keys of each workspace. The arrays are those of the machine, and stay its own.
     /// Refused for want of memory, the machine holds whatever the run has made of it.
-    pub fn run(
+    pub fn run<S: Semiring>(
         &mut self,
         code: &[KStmt],
         workspaces: &[u64],
         budget: u64,
     ) -> Result<Ending, AllocError>
-        ensures { IfOk result (λ ending. outcome_of ending (state_of self.new) ≡ within budget (run_list (setting workspaces.now) budget code.now (restarted (state_of self.old)))) }
+        ensures { IfOk result (λ ending. outcome_of ending (state_of self.new) ≡ within budget (run_list (setting S.arithmetic workspaces.now) budget code.now (restarted (state_of self.old)))) }
     {
         self.variables.clear();
         self.turns = NO_TURNS;
-        run_statements(self, code, workspaces, budget)
+        run_statements::<S>(self, code, workspaces, budget)
     }
 
     /// Gives the variables up to x a place.
@@ -232,8 +232,8 @@ impl Machine {
         Ending::Ended
     }
 
-    fn add_word(&mut self, a: Arr, i: u64, value: u64) -> Ending
-        ensures is { outcome_of result (state_of self.new) ≡ with_array (state_of self.old) a (changed (state_of self.old) a i (λ old. sum_in ring a old value)) }
+    fn add_word<S: Semiring>(&mut self, a: Arr, i: u64, value: u64) -> Ending
+        ensures is { outcome_of result (state_of self.new) ≡ with_array (state_of self.old) a (changed (state_of self.old) a i (λ old. sum_in S.arithmetic a old value)) }
         ensures turns { self.new.turns ≡ self.old.turns }
     {
         let Some(place) = self.writable(a) else {
@@ -243,7 +243,7 @@ impl Machine {
         if i >= words.len() as u64 {
             return Ending::Stuck;
         }
-        let sum = sum_of_words(a, words[i as usize], value);
+        let sum = sum_of_words::<S>(a, words[i as usize], value);
         words[i as usize] = sum;
         Ending::Ended
     }
@@ -303,12 +303,12 @@ impl Machine {
         }
     }
 
-    pub(crate) fn add(&mut self, a: Arr, i: Option<u64>, value: Option<u64>) -> Ending
-        ensures is { outcome_of result (state_of self.new) ≡ add_outcome ring (state_of self.old) a i value }
+    pub(crate) fn add<S: Semiring>(&mut self, a: Arr, i: Option<u64>, value: Option<u64>) -> Ending
+        ensures is { outcome_of result (state_of self.new) ≡ add_outcome S.arithmetic (state_of self.old) a i value }
         ensures turns { self.new.turns ≡ self.old.turns }
     {
         match (i, value) {
-            (Some(i), Some(value)) => self.add_word(a, i, value),
+            (Some(i), Some(value)) => self.add_word::<S>(a, i, value),
             _ => Ending::Stuck,
         }
     }
@@ -446,12 +446,12 @@ impl Machine {
     }
 
     /// Sorts the rows of a workspace by their keys, and adds the values of those with equal keys.
-    pub(crate) fn sort_sum(
+    pub(crate) fn sort_sum<S: Semiring>(
         &mut self,
         workspace: u64,
         workspaces: &[u64],
     ) -> Result<Ending, AllocError>
-        ensures is { IfOk result (λ ending. outcome_of ending (state_of self.new) ≡ sort_sum_outcome ring (state_of self.old) workspace (slice_get workspaces.now workspace) ((state_of self.old).arrays (Arr.Sums workspace))) }
+        ensures is { IfOk result (λ ending. outcome_of ending (state_of self.new) ≡ sort_sum_outcome S.arithmetic (state_of self.old) workspace (slice_get workspaces.now workspace) ((state_of self.old).arrays (Arr.Sums workspace))) }
         ensures turns { OnOk result (self.new.turns ≡ self.old.turns) }
     {
         let Some(keys) = number_of_keys(workspaces, workspace) else {
@@ -463,7 +463,7 @@ impl Machine {
         let Some(columns) = self.key_columns(workspace, keys, values.len())? else {
             return Ok(Ending::Stuck);
         };
-        let rows = sum_rows(self.alloc, columns.as_slice(), values)?;
+        let rows = sum_rows::<S>(self.alloc, columns.as_slice(), values)?;
         drop(columns);
         let sums = values_of(self.alloc, rows.as_slice())?;
         self.pick_columns(workspace, keys, rows.as_slice())?;
