@@ -1,6 +1,6 @@
-use crate::code::{leave_place, place_of_coordinate, times_size_of_level};
+use crate::code::{locate_code, place_word, times_size};
 use crate::dense::DenseLevel;
-use kernel_code::{KExpr, KStmt, Op, binary, copy_expr};
+use kernel_code::{KExpr, KStmt, position_and_next};
 use level_core::{Letter, LevelKind, argument, leave_one, leave_two};
 use std::alloc::{AllocError, Global};
 use trees::Items;
@@ -27,8 +27,8 @@ impl LevelKind for DenseLevel {
     ) -> Result<Items<KStmt>, AllocError> {
         let lo = argument(alloc, args, 0)?;
         let hi = argument(alloc, args, 1)?;
-        let first = times_size_of_level(alloc, tensor, level, lo)?;
-        let end = times_size_of_level(alloc, tensor, level, hi)?;
+        let first = times_size(alloc, tensor, level, lo)?;
+        let end = times_size(alloc, tensor, level, hi)?;
         let code = leave_two(alloc, free, first, end)?;
         Ok(code)
     }
@@ -53,9 +53,7 @@ impl LevelKind for DenseLevel {
         free: u64,
     ) -> Result<Items<KStmt>, AllocError> {
         let pos = argument(alloc, args, 0)?;
-        let again = copy_expr(alloc, &pos)?;
-        let next = binary(alloc, Op::Add, again, KExpr::Num(1))?;
-        let code = leave_two(alloc, free, pos, next)?;
+        let code = position_and_next(alloc, free, pos)?;
         Ok(code)
     }
 
@@ -69,7 +67,7 @@ impl LevelKind for DenseLevel {
     ) -> Result<Items<KStmt>, AllocError> {
         let parent = argument(alloc, args, 0)?;
         let x = argument(alloc, args, 1)?;
-        let code = leave_place(alloc, tensor, level, parent, x, free)?;
+        let code = locate_code(alloc, tensor, level, parent, x, free)?;
         Ok(code)
     }
 
@@ -127,7 +125,7 @@ impl LevelKind for DenseLevel {
     ) -> Result<Items<KStmt>, AllocError> {
         let parent = argument(alloc, args, 0)?;
         let x = argument(alloc, args, 1)?;
-        let place = place_of_coordinate(alloc, tensor, level, parent, x)?;
+        let place = place_word(alloc, tensor, level, parent, x)?;
         let code = leave_one(alloc, free, place)?;
         Ok(code)
     }

@@ -8,7 +8,5 @@ mod dense;
 mod inserting;
 mod kind;
 mod reading;
-#[cfg(test)]
-mod tests;
 
 pub use dense::DenseLevel;

@@ -14,8 +14,9 @@ use Rattle.kernel_code.specs.Arrays.{may_write, may_have, word_count}
 use Rattle.kernel_code.proofs.ArrayNames.{same_arr_self}
 use Rattle.kernel_code.specs.Meaning.{Setting, State, value, width_of, apply_each, set_var, set_array}
 use Rattle.kernel_code.proofs.Equations.{value_min, value_width}
-use Rattle.kernel_code.specs.Does.{Does, Never}
+use Rattle.kernel_code.specs.Does.{Refusal, Does, Never}
 use Rattle.kernel_code.proofs.Does.{does_nothing, does_set, does_extend, does_if_yes, does_if_no}
+use Rattle.kernel_code.specs.Pieces.{position_and_next}
 use Rattle.kernel_code.specs.Keeps.{Below, Leaves, NoVariable, EveryArray, no_turns}
 use Rattle.kernel_code.proofs.Keeps.{mentions_at, mentions_bin, this_var, other_var, this_array, other_array, leaves_none, leaves_set, leaves_array}
 use Rattle.level_core.specs.declared.span.Span.{Span}
@@ -24,8 +25,9 @@ use Rattle.level_core.specs.declared.letter.Letter.TheVariants.{Hashed as Hashed
 use Rattle.level_core.specs.Kinds.{positions_for, MayPrepare, MayInsert}
 use Rattle.level_core.specs.Codes.{HoldsPrepared}
 use Rattle.level_core.specs.Entries.{one, IsIn, StandsAt, coord_at}
-use Rattle.level_core.specs.Fragments.{AreBelow, ValuesAre, IsOutside, Reads, Writes, Unrefused, PassesLimitWithin, SpanLeft, OptionLeft}
-use Rattle.level_core.proofs.FragmentLaws.{outside_apart, argument_is, below_kept, product_is, sum_is, span_set, some_set, none_set}
+use Rattle.level_core.specs.Fragments.{AreBelow, ValuesAre, IsOutside, Reads, Grows, RefusedWithin, PassesLimitWithin, SpanLeft, OptionLeft}
+use Rattle.level_core.proofs.FragmentLaws.{position_set, outside_apart, argument_is, below_kept, span_set, some_set, none_set}
+use Rattle.kernel_code.proofs.Words.{product_is, sum_is}
 use Rattle.level_core.specs.FragmentLaws.{one_code, two_code}
 use Rattle.hashed_level.specs.Slots.{empty_slot}
 use Rattle.hashed_level.specs.SlotLaws.{coord_none, coord_some}
@@ -66,13 +68,12 @@ coord_does c l tensor level free args pos parent q s first below ok inside held 
           (does_if_yes c (filled_test tensor level pos) (two_code free (Num 1) word) (one_code free (Num 0)) [] s 0 _ _ Never (differ_yes word (Num empty_slot) x empty_slot s read refl k.1) (some_set c free x word s read (mentions_at (λ y. y < free) EveryArray (Coordinates tensor level) pos tt at.1)) (λ t h. does_nothing c t _ Never h))
     ]
 
-pub child_does : (c : Setting) (l : Hashed) (free : ℕ) (args : List KExpr) (pos : KExpr) (parent : Span) (e : Entry) (vs : List ℕ) (s : State) → slice_get args 0 ≡ Some pos → AreBelow free args → IsAllowed l parent → StandsAt e.child.lo e (entries_of l parent) → ValuesAre args s (e.child.lo ∷ vs) → Reads c (two_code free pos (Bin Add pos (Num 1))) free no_turns s (SpanLeft free e.child)
+pub child_does : (c : Setting) (l : Hashed) (free : ℕ) (args : List KExpr) (pos : KExpr) (parent : Span) (e : Entry) (vs : List ℕ) (s : State) → slice_get args 0 ≡ Some pos → AreBelow free args → IsAllowed l parent → StandsAt e.child.lo e (entries_of l parent) → ValuesAre args s (e.child.lo ∷ vs) → Reads c (position_and_next free pos) free no_turns s (SpanLeft free e.child)
 child_does c l free args pos parent e vs s first below ok stands values =
     let at = argument_is args pos free 0 e.child.lo (e.child.lo ∷ vs) s first refl below values in
     let child = child_is l e.child.lo parent e ok stands in
     let small = positions_are_small in
-    let next : value (Bin Add pos (Num 1)) s ≡ Some (e.child.lo + 1) = sum_is pos (Num 1) e.child.lo 1 s at.0 refl (omega (arith, child.1, small)) in
-    span_set c free e.child pos (Bin Add pos (Num 1)) s at.0 (next ∙ ap (λ k. Some k.hi) (sym child.0)) (mentions_bin (λ y. y < free) EveryArray Add pos (Num 1) at.1 tt)
+    subst (λ span. Reads c (position_and_next free pos) free no_turns s (SpanLeft free span)) (sym child.0) (position_set c free e.child.lo pos s at.0 (omega (arith, child.1, small)) at.1)
 
 pub locate_does : (c : Setting) (l : Hashed) (tensor level free : ℕ) (args : List KExpr) (g e : KExpr) (p x : ℕ) (s : State) → slice_get args 0 ≡ Some g → slice_get args 1 ≡ Some e → AreBelow free args → (ok : IsAllowed l (one p)) → (held : Holds l tensor level s.arrays) → (values : ValuesAre args s (p ∷ x ∷ [])) → (xv : value e s ≡ Some x) → (xb : Below free e) → Does c (locate_code tensor level g e free) s (Located c l tensor level free p x e s ok held xv xb) Never
 locate_does c l tensor level free args g e p x s first second below ok held values xv xb =
@@ -140,7 +141,7 @@ true_is_false : (b : _) → b ≡ true → b ≡ false → ⊥
 true_is_false b h g = cc
 
 -- the width is stored behind the slots
-stored : (c : Setting) (l : Hashed) (tensor level free parents most : ℕ) (s u : State) (R : Arr → ℕ → Type 0) → tensor ≡ 0 → KeepsRules l → MayPrepare HashedLetter l.width most → positions_for HashedLetter l.size parents most ≤ greatest_position_count
+stored : (c : Setting) (l : Hashed) (tensor level free parents most : ℕ) (s u : State) (R : Refusal) → tensor ≡ 0 → KeepsRules l → MayPrepare HashedLetter l.width most → positions_for HashedLetter l.size parents most ≤ greatest_position_count
     → Leaves NoVariable (IsOutside tensor level) free no_turns s u → u.vars free ≡ Some (slot_width most) → u.arrays (WidthArray tensor level) ≡ Some [] → u.arrays (Coordinates tensor level) ≡ Some (replicate (parents * slot_width most) empty_slot)
     → Does c (Extend (WidthArray tensor level) (Num 1) (Var free) ∷ []) u (λ t. Leaves NoVariable (IsOutside tensor level) free no_turns s t × Made l tensor level parents most t) R
 stored c l tensor level free parents most s u R result rules may within left wide none slots =
@@ -168,11 +169,11 @@ stored c l tensor level free parents most s u R result rules may within left wid
 -- the slots are made, or refused where those of all parents pass the limit
 made_slots : (c : Setting) (l : Hashed) (tensor level free parents most : ℕ) (s u : State) → tensor ≡ 0 → KeepsRules l → MayPrepare HashedLetter l.width most → Holds l tensor level u.arrays
     → Leaves NoVariable (IsOutside tensor level) free no_turns s u → u.vars free ≡ Some (slot_width most) → u.vars (free + 1) ≡ Some (min parents (greatest_position_count + 1))
-    → Does c (Extend (Coordinates tensor level) (Bin Mul (Var (free + 1)) (Var free)) (Num empty_slot) ∷ Extend (WidthArray tensor level) (Num 1) (Var free) ∷ []) u (λ t. Leaves NoVariable (IsOutside tensor level) free no_turns s t × Made l tensor level parents most t) (PassesLimitWithin tensor level (positions_for HashedLetter l.size parents most))
+    → Does c (Extend (Coordinates tensor level) (Bin Mul (Var (free + 1)) (Var free)) (Num empty_slot) ∷ Extend (WidthArray tensor level) (Num 1) (Var free) ∷ []) u (λ t. Leaves NoVariable (IsOutside tensor level) free no_turns s t × Made l tensor level parents most t) (RefusedWithin no_turns s (PassesLimitWithin tensor level (positions_for HashedLetter l.size parents most)))
 made_slots c l tensor level free parents most s u result rules may held left wide fewer =
     let w = slot_width most in
     let n = asked_slots parents most in
-    let R = PassesLimitWithin tensor level (positions_for HashedLetter l.size parents most) in
+    let R = RefusedWithin no_turns s (PassesLimitWithin tensor level (positions_for HashedLetter l.size parents most)) in
     let none = no_slots l rules may.unprepared in
     let size : length l.slots + n ≡ n = ap (λ ys. length ys + n) none ∙ omega arith in
     let coordinates_written : may_write (Coordinates tensor level) ≡ true = grind (arith, nat_tests) in
@@ -190,12 +191,12 @@ made_slots c l tensor level free parents most s u result rules may held left wid
     (this_array u (Coordinates tensor level) (Coordinates tensor level) xs (same_arr_self (Coordinates tensor level)) ∙ ap (λ ys. Some (ys ++ replicate n empty_slot)) none ∙ ap (λ k. Some (replicate k empty_slot)) all))
     (λ over.
     let long = slots_beyond tensor level (length l.slots + n) over in
-    (n, record { array = (refl, refl); told = ap word_count size; above = omega (arith, long, size) }, fewer_slots parents most))
+    (left.turns, (n, record { array = (refl, refl); told = ap word_count size; above = omega (arith, long, size) }, fewer_slots parents most)))
 
-pub prepare_does : (c : Setting) (l : Hashed) (tensor level free : ℕ) (args : List KExpr) (g e : KExpr) (parents most : ℕ) (s : State) → tensor ≡ 0 → slice_get args 0 ≡ Some g → slice_get args 1 ≡ Some e → AreBelow free args → KeepsRules l → MayPrepare HashedLetter l.width most → Holds l tensor level s.arrays → ValuesAre args s (parents ∷ most ∷ []) → Writes c (prepare_code tensor level g e free) free tensor level no_turns s (Made l tensor level parents most) (PassesLimitWithin tensor level (positions_for HashedLetter l.size parents most))
+pub prepare_does : (c : Setting) (l : Hashed) (tensor level free : ℕ) (args : List KExpr) (g e : KExpr) (parents most : ℕ) (s : State) → tensor ≡ 0 → slice_get args 0 ≡ Some g → slice_get args 1 ≡ Some e → AreBelow free args → KeepsRules l → MayPrepare HashedLetter l.width most → Holds l tensor level s.arrays → ValuesAre args s (parents ∷ most ∷ []) → Grows c (prepare_code tensor level g e free) free tensor level no_turns s (Made l tensor level parents most) (PassesLimitWithin tensor level (positions_for HashedLetter l.size parents most))
 prepare_does c l tensor level free args g e parents most s result first second below rules may held values =
     let w = slot_width most in
-    let R = PassesLimitWithin tensor level (positions_for HashedLetter l.size parents most) in
+    let R = RefusedWithin no_turns s (PassesLimitWithin tensor level (positions_for HashedLetter l.size parents most)) in
     let bound = greatest_position_count + 1 in
     let fewer = min parents bound in
     let rest = Extend (Coordinates tensor level) (Bin Mul (Var (free + 1)) (Var free)) (Num empty_slot) ∷ Extend (WidthArray tensor level) (Num 1) (Var free) ∷ [] in

@@ -20,7 +20,8 @@ use Rattle.kernel_code.proofs.Keeps.{this_var, other_var, leaves_none, leaves_se
 use Rattle.level_core.specs.Entries.{one, position_of}
 use Rattle.kernel_code.proofs.ArrayNames.{same_arr_self}
 use Rattle.level_core.specs.Fragments.{turns_of, OptionLeft, IsOutside}
-use Rattle.level_core.proofs.FragmentLaws.{outside_apart, below_kept, word_is, binary_is, product_is, sum_is, difference_is, less_yes, less_no}
+use Rattle.level_core.proofs.FragmentLaws.{outside_apart, below_kept}
+use Rattle.kernel_code.proofs.Words.{word_is, binary_is, product_is, sum_is, difference_is, less_yes, less_no}
 use Rattle.level_core.specs.FragmentLaws.{one_code}
 use Rattle.hashed_level.specs.Slots.{empty_slot, place, Stops, Passes, FirstEmpty}
 use Rattle.hashed_level.specs.SearchLaws.{place_inside}

@@ -1,6 +1,6 @@
-use crate::code::{base_of_block, leave_coordinate, leave_position, make_parents, put_coordinate};
+use crate::code::{base_word, coord_code, insert_code, locate_code, prepare_code};
 use crate::hashed::HashedLevel;
-use kernel_code::{KExpr, KStmt, Op, binary, copy_expr};
+use kernel_code::{KExpr, KStmt, position_and_next};
 use level_core::{Letter, LevelKind, argument, leave_two};
 use std::alloc::{AllocError, Global};
 use trees::Items;
@@ -27,8 +27,8 @@ impl LevelKind for HashedLevel {
     ) -> Result<Items<KStmt>, AllocError> {
         let lo = argument(alloc, args, 0)?;
         let hi = argument(alloc, args, 1)?;
-        let first = base_of_block(alloc, tensor, level, lo)?;
-        let end = base_of_block(alloc, tensor, level, hi)?;
+        let first = base_word(alloc, tensor, level, lo)?;
+        let end = base_word(alloc, tensor, level, hi)?;
         let code = leave_two(alloc, free, first, end)?;
         Ok(code)
     }
@@ -42,7 +42,7 @@ impl LevelKind for HashedLevel {
         free: u64,
     ) -> Result<Items<KStmt>, AllocError> {
         let pos = argument(alloc, args, 0)?;
-        let code = leave_coordinate(alloc, tensor, level, pos, free)?;
+        let code = coord_code(alloc, tensor, level, pos, free)?;
         Ok(code)
     }
 
@@ -55,9 +55,7 @@ impl LevelKind for HashedLevel {
         free: u64,
     ) -> Result<Items<KStmt>, AllocError> {
         let pos = argument(alloc, args, 0)?;
-        let again = copy_expr(alloc, &pos)?;
-        let next = binary(alloc, Op::Add, again, KExpr::Num(1))?;
-        let code = leave_two(alloc, free, pos, next)?;
+        let code = position_and_next(alloc, free, pos)?;
         Ok(code)
     }
 
@@ -71,7 +69,7 @@ impl LevelKind for HashedLevel {
     ) -> Result<Items<KStmt>, AllocError> {
         let parent = argument(alloc, args, 0)?;
         let x = argument(alloc, args, 1)?;
-        let code = leave_position(alloc, tensor, level, parent, x, free)?;
+        let code = locate_code(alloc, tensor, level, parent, x, free)?;
         Ok(code)
     }
 
@@ -118,7 +116,7 @@ impl LevelKind for HashedLevel {
     ) -> Result<Items<KStmt>, AllocError> {
         let parents = argument(alloc, args, 0)?;
         let most = argument(alloc, args, 1)?;
-        let code = make_parents(alloc, tensor, level, parents, most, free)?;
+        let code = prepare_code(alloc, tensor, level, parents, most, free)?;
         Ok(code)
     }
 
@@ -132,7 +130,7 @@ impl LevelKind for HashedLevel {
     ) -> Result<Items<KStmt>, AllocError> {
         let parent = argument(alloc, args, 0)?;
         let x = argument(alloc, args, 1)?;
-        let code = put_coordinate(alloc, tensor, level, parent, x, free)?;
+        let code = insert_code(alloc, tensor, level, parent, x, free)?;
         Ok(code)
     }
 }

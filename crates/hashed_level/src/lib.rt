@@ -9,8 +9,6 @@ mod inserting;
 mod kind;
 mod reading;
 mod slots;
-#[cfg(test)]
-mod tests;
 mod widths;
 
 pub use hashed::HashedLevel;

@@ -5,7 +5,7 @@ use Rattle.limits.specs.Limits.{greatest_position_count}
 use Rattle.level_core.specs.Entries.{Span, Entry, IsIn, StandsAt, one, coord_at, position_of}
 use Rattle.level_core.specs.Kinds.{Letter, capabilities, positions_for, MayPrepare, CodeMayPrepare, MayInsert}
 use Rattle.level_core.specs.Logs.{Log, with_parents, with_coord, with_edges, CodeMayReserve, MayAppend, MayAppendEdges}
-use Rattle.level_core.specs.Fragments.{Setting, State, KExpr, KStmt, ValuesAre, Reads, Writes, Unrefused, PassesLimit, PassesLimitWithin, SpanLeft, OptionLeft, NumberLeft, no_turns, child_turns, probe_turns}
+use Rattle.level_core.specs.Fragments.{Setting, State, KExpr, KStmt, ValuesAre, Reads, Writes, Grows, PassesLimit, PassesLimitWithin, SpanLeft, OptionLeft, NumberLeft, no_turns, child_turns, probe_turns}
 use Rattle.level_core.specs.Meaning.{Meaning}
 
 abbrev pub SegmentCode : {L : Type 0} → Meaning L → Letter → ℕ → ℕ → List KExpr → ℕ → List KStmt → Type 0
@@ -48,7 +48,7 @@ ReserveCode {L} means letter tensor level args free code =
     (capabilities letter).append ≡ true
     → (c : Setting) (l : L) → means.kind l ≡ letter → means.keeps l → (n parents : ℕ) → CodeMayReserve (means.kind l) parents (means.log l)
     → (s : State) → means.holds l tensor level s.arrays → ValuesAre args s (n ∷ parents ∷ [])
-    → Writes c code free tensor level no_turns s
+    → Grows c code free tensor level no_turns s
       (λ t. HoldsLog means l (with_parents (means.kind l) parents (means.log l)) tensor level t × (parents ≤ greatest_position_count)) (PassesLimit tensor level parents)
 
 abbrev pub AppendCode : {L : Type 0} → Meaning L → Letter → ℕ → ℕ → List KExpr → ℕ → List KStmt → Type 0
@@ -56,7 +56,7 @@ AppendCode {L} means letter tensor level args free code =
     (capabilities letter).append ≡ true
     → (c : Setting) (l : L) → means.kind l ≡ letter → means.keeps l → (x : ℕ) → MayAppend (means.kind l) (means.size l) x (means.log l)
     → (s : State) → means.holds l tensor level s.arrays → ValuesAre args s (x ∷ [])
-    → Writes c code free tensor level no_turns s
+    → Grows c code free tensor level no_turns s
       (λ t. HoldsLog means l (with_coord x (means.log l)) tensor level t × (length (means.log l).coords + 1 ≤ greatest_position_count))
       (PassesLimit tensor level (length (means.log l).coords + 1))
 
@@ -65,7 +65,7 @@ EdgesCode {L} means letter tensor level args free code =
     (capabilities letter).append ≡ true
     → (c : Setting) (l : L) → means.kind l ≡ letter → means.keeps l → (parent begin end : ℕ) → MayAppendEdges (means.kind l) parent begin end (means.log l)
     → (s : State) → means.holds l tensor level s.arrays → ValuesAre args s (parent ∷ begin ∷ end ∷ [])
-    → Writes c code free tensor level no_turns s (HoldsLog means l (with_edges (means.kind l) parent begin end (means.log l)) tensor level) Unrefused
+    → Writes c code free tensor level no_turns s (HoldsLog means l (with_edges (means.kind l) parent begin end (means.log l)) tensor level)
 
 -- the arrays hold the level with so many parents prepared
 pub record HoldsPrepared {L : Type 0} (means : Meaning L) (l : L) (parents most tensor level : ℕ) (s : State) : Type 0 where
@@ -79,7 +79,7 @@ PrepareCode {L} means letter tensor level args free code =
     (c : Setting) (l : L) → means.kind l ≡ letter → means.keeps l
     → (parents most : ℕ) → MayPrepare (means.kind l) (means.width l) most → CodeMayPrepare (means.kind l) (positions_for (means.kind l) (means.size l) parents most)
     → (s : State) → means.holds l tensor level s.arrays → ValuesAre args s (parents ∷ most ∷ [])
-    → Writes c code free tensor level no_turns s
+    → Grows c code free tensor level no_turns s
       (λ t. HoldsPrepared means l parents most tensor level t × (positions_for (means.kind l) (means.size l) parents most ≤ greatest_position_count))
       (PassesLimitWithin tensor level (positions_for (means.kind l) (means.size l) parents most))
 
@@ -97,4 +97,4 @@ InsertCode {L} means letter tensor level args free code =
     (c : Setting) (l : L) → means.kind l ≡ letter → means.keeps l → (parent x : ℕ) → means.allowed l (one parent)
     → MayInsert (means.kind l) (means.size l) (means.segment_of l (one parent)) (means.entries l (one parent)) x
     → (s : State) → means.holds l tensor level s.arrays → ValuesAre args s (parent ∷ x ∷ [])
-    → Writes c code free tensor level (probe_turns (means.kind l) (means.segment_of l (one parent))) s (HoldsInserted means l parent x tensor level free) Unrefused
+    → Writes c code free tensor level (probe_turns (means.kind l) (means.segment_of l (one parent))) s (HoldsInserted means l parent x tensor level free)

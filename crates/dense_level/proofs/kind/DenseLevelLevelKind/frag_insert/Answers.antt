@@ -1,6 +1,6 @@
 use Rattle.std.proofs.Common.{◌≡◌, sym, subst}
 use Rattle.kernel_code.specs.Keeps.{no_turns}
-use Rattle.level_core.specs.Fragments.{Writes, Unrefused}
+use Rattle.level_core.specs.Fragments.{Writes}
 use Rattle.level_core.specs.FragmentLaws.{one_code}
 use Rattle.level_core.specs.Codes.{HoldsInserted}
 use Rattle.dense_level.specs.Code.{place_word}
