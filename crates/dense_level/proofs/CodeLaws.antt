@@ -18,7 +18,7 @@ use Rattle.level_core.specs.Entries.{one, StandsAt, position_of}
 use Rattle.level_core.specs.declared.letter.Letter.TheVariants.{Dense}
 use Rattle.level_core.specs.Kinds.{CodeMayPrepare, positions_for}
 use Rattle.level_core.specs.Codes.{HoldsPrepared, HoldsInserted}
-use Rattle.level_core.specs.Fragments.{AreBelow, ValuesAre, IsOutside, Reads, Writes, PassesLimitWithin, SpanLeft, OptionLeft}
+use Rattle.level_core.specs.Fragments.{Never, AreBelow, ValuesAre, IsOutside, Reads, Writes, Grows, PassesLimitWithin, SpanLeft, OptionLeft}
 use Rattle.level_core.proofs.FragmentLaws.{position_set, argument_is, number_set, span_set, some_set, none_set}
 use Rattle.kernel_code.proofs.Words.{word_is, product_is, sum_is, less_yes, less_no}
 use Rattle.level_core.specs.FragmentLaws.{one_code, two_code}

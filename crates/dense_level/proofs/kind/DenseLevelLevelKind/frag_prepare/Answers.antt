@@ -3,7 +3,7 @@ use Rattle.limits.specs.Limits.{greatest_position_count}
 use Rattle.kernel_code.specs.Keeps.{no_turns}
 use Rattle.level_core.specs.declared.letter.Letter.TheVariants.{Dense}
 use Rattle.level_core.specs.Kinds.{positions_for}
-use Rattle.level_core.specs.Fragments.{Writes, PassesLimitWithin}
+use Rattle.level_core.specs.Fragments.{Grows, PassesLimitWithin}
 use Rattle.level_core.specs.Codes.{HoldsPrepared}
 use Rattle.dense_level.specs.Dense.{meaning}
 use Rattle.dense_level.proofs.CodeLaws.{prepare_does}
