@@ -2,7 +2,7 @@ pub mod Equations
 pub mod GroupLaws
 pub mod Heights
 pub mod Made
-pub mod Minus
+pub mod Meanings
 pub mod PointLaws
 pub mod ProductLaws
 pub mod RangeLaws
