@@ -7,5 +7,3 @@ mod reading;
 
 pub use level::StorageLevel;
 
-#[cfg(test)]
-mod tests;
