@@ -72,6 +72,13 @@ log_of (OfCompressed l) = compressed.meaning.log l
 log_of (OfSingleton l) = singleton.meaning.log l
 log_of (OfHashed l) = hashed.meaning.log l
 
+-- how many coordinates can be appended before memory is wanted again
+abbrev pub spare_of : StorageLevel → ℕ
+spare_of (OfDense n) = 0
+spare_of (OfCompressed l) = l.spare
+spare_of (OfSingleton l) = l.spare
+spare_of (OfHashed l) = 0
+
 abbrev pub Prepared : StorageLevel → ℕ → ℕ → StorageLevel → Type 0
 Prepared (OfDense n) parents most (OfDense m) = dense.meaning.prepared n parents most m
 Prepared (OfHashed l) parents most (OfHashed m) = hashed.meaning.prepared l parents most m

@@ -1,6 +1,8 @@
 //! The storage of tensors: so far, a level of any kind.
 #![tactic(auto)]
 
+mod appending;
+mod inserting;
 mod kind;
 mod level;
 mod reading;
