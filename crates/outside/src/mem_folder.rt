@@ -40,7 +40,8 @@ impl MemFolder {
     /// Puts a file there, in place of one of the same name. Refused, all files are as before.
     pub fn add_file(&mut self, name: &str, bytes: &[u8]) -> Result<(), AllocError>
         ensures added { OnOk result ((⟦<MemFolder as Folder>⟧.state self.new).holds name.now ≡ Bytes bytes.now) }
-        ensures others { OnOk result (KeepsOthers name.now (⟦<MemFolder as Folder>⟧.state self.old) (⟦<MemFolder as Folder>⟧.state self.new)) }
+        ensures others { OnOk result (KeepsOthers name.now
+            (⟦<MemFolder as Folder>⟧.state self.old) (⟦<MemFolder as Folder>⟧.state self.new)) }
         ensures refused { OnErr result ((⟦<MemFolder as Folder>⟧.state self.new).holds ≡ (⟦<MemFolder as Folder>⟧.state self.old).holds) }
         ensures stays { KeepsAllButFiles (⟦<MemFolder as Folder>⟧.state self.old) (⟦<MemFolder as Folder>⟧.state self.new) }
     {
@@ -64,7 +65,8 @@ impl MemFolder {
 
     /// The bytes of the file of this name, if there is one.
     pub fn bytes(&self, name: &str) -> Option<&[u8]>
-        ensures { MatchOption result ((⟦<MemFolder as Folder>⟧.state self.now).holds name.now ≡ NoFile) (λ bytes. (⟦<MemFolder as Folder>⟧.state self.now).holds name.now ≡ Bytes bytes.now) }
+        ensures { MatchOption result ((⟦<MemFolder as Folder>⟧.state self.now).holds name.now ≡ NoFile)
+            (λ bytes. (⟦<MemFolder as Folder>⟧.state self.now).holds name.now ≡ Bytes bytes.now) }
     {
         self.files.bytes(name)
     }

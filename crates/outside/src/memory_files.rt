@@ -1,5 +1,6 @@
 // A folder in memory that never fails.
-ghost use Rattle.std.specs.Prelude.{◌≡◌, ℕ, ◌<◌, ◌≤◌, false, List, [], length, min, take, drop, None, Some, OnOk, OnErr, MatchOption, MatchBool};
+ghost use Rattle.std.specs.Prelude.{◌≡◌, ℕ, ◌<◌, ◌≤◌, false, List, [], length, min, take, drop};
+ghost use Rattle.std.specs.Prelude.{None, Some, OnOk, OnErr, MatchOption, MatchBool};
 ghost use Rattle.std.specs.Option.{option_copied};
 ghost use Rattle.outside.specs.Told.{NoFile, Bytes};
 ghost use Rattle.outside.specs.MemoryFile.{told, name_of, rest_of, IsFirstOfName, Changes};
@@ -72,7 +73,8 @@ impl MemoryFiles {
 
     // The bytes of the file of this name.
     pub(crate) fn bytes(&self, name: &str) -> Option<&[u8]>
-        ensures { MatchOption result (told self.now.files.items name.now ≡ NoFile) (λ bytes. told self.now.files.items name.now ≡ Bytes bytes.now) }
+        ensures { MatchOption result (told self.now.files.items name.now ≡ NoFile)
+            (λ bytes. told self.now.files.items name.now ≡ Bytes bytes.now) }
     {
         match position(self.files.as_slice(), name) {
             Some(i) => Some(self.files[i].bytes.as_slice()),
@@ -104,7 +106,8 @@ impl MemoryFiles {
 
     // A fault of `start_read`, if there is such a file: it is the last one that a fault was about, and none is read.
     pub(crate) fn fail_start(&mut self, name: &str) -> bool
-        ensures { MatchBool result (FailsToStart self.old self.new name.now) ((told self.old.files.items name.now ≡ NoFile) × (self.new ≡ self.old)) }
+        ensures { MatchBool result (FailsToStart self.old self.new name.now)
+            ((told self.old.files.items name.now ≡ NoFile) × (self.new ≡ self.old)) }
     {
         let Some(i) = position(self.files.as_slice(), name) else {
             return false
