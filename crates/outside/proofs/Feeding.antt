@@ -133,13 +133,17 @@ feeds_whole {r} {s} {t} {name = name} p q within at_end = record {
   keeps_writing = writing_kept p.keeps_writing q.keeps_writing;
 }
 
+length_taken : (m : ℕ) (buffer : List ℕ) → m ≤ length buffer → length (take m buffer) ≡ m
+length_taken m buffer within = grind (arith, common_steps)
+
 -- what was fed of a file that was opened
-front_fed : {r s t u : FolderState} {name eaten eaten' : List ℕ} {n : ℕ} → Opens r s name → Feeds s t eaten eaten' n → u.given ≡ t.given → FeedsFront r u name eaten eaten'
-front_fed {r} {s} {t} {u} {name} p q e = record {
+front_fed : {r s t u : FolderState} {name eaten eaten' : List ℕ} {n : ℕ} → Opens r s name → Feeds s t eaten eaten' n → u.taken ≡ t.taken → u.given ≡ t.given → FeedsFront r u name eaten eaten'
+front_fed {r} {s} {t} {u} {name} p q taken e = record {
   fed = q.fed;
   more = [];
   rest = t.rest;
   eaten_is = q.eaten_is;
+  taken_is = omega (arith, taken, q.taken_is, p.taken_is, q.count_is, length-append q.fed []);
   given_is = e ∙ q.given_is ∙ ap (λ w. extended w q.fed) p.given_is ∙ extended-opened r.given name q.fed ∙ ap (λ w. r.given ++ (name, w) ∷ []) (sym (append-nil q.fed));
   told_is = sym p.rest_is ∙ q.rest_is ∙ ap (λ w. before_rest w t.rest) (sym (append-nil q.fed));
 }
@@ -155,6 +159,7 @@ front_before {r} {s} {t} {u} {name} buffer m p q last = record {
   more = take m buffer;
   rest = u.rest;
   eaten_is = q.eaten_is;
+  taken_is = omega (arith, last.taken_is, q.taken_is, p.taken_is, q.count_is, length-append q.fed (take m buffer), length_taken m buffer last.within);
   given_is = last.given_is ∙ ap (λ w. extended w (take m buffer)) (q.given_is ∙ ap (λ w. extended w q.fed) p.given_is)
       ∙ extended-append (opened r.given name) q.fed (take m buffer) ∙ extended-opened r.given name (q.fed ++ take m buffer);
   told_is = told_before buffer m p q last;
@@ -169,16 +174,15 @@ stops_reading eaten refused r s t name budget old new ReadFault p h =
         rose = subst (λ k. Rose k t.read_faults) (h.feeds.read_faults_are ∙ p.read_faults_are) h.fails.rises.rose;
         faulted_is = h.fails.faulted_is ∙ h.feeds.reading_is ∙ p.reading_is;
       });
-      feeds = inr (front_fed p h.feeds h.fails.given_is);
+      feeds = inr (front_fed p h.feeds h.fails.taken_is h.fails.given_is);
       under = omega (arith, h.fails.taken_is, h.feeds.taken_is, p.taken_is, h.within);
       grows = omega (arith, h.fails.rises.grows, h.feeds.read_faults_are, p.read_faults_are);
       wants_are = h.fails.wants_are ∙ h.feeds.wants_are ∙ p.wants_are;
       keeps_writing = writing_kept (writing_kept p.keeps_writing h.feeds.keeps_writing) h.fails.keeps_writing;
     }
 stops_reading eaten refused r s t name budget old new FileBytes p h =
-    let piece : length (take h.m h.buffer) ≡ h.m = (let within : h.m ≤ length h.buffer = h.reads.within in grind (arith, common_steps)) in
     let long : budget < length (h.feeds.fed ++ take h.m h.buffer) =
-    omega (arith, h.over, h.feeds.count_is, piece, length-append h.feeds.fed (take h.m h.buffer)) in
+    omega (arith, h.over, h.feeds.count_is, length_taken h.m h.buffer h.reads.within, length-append h.feeds.fed (take h.m h.buffer)) in
     record {
       over = omega (arith, h.reads.taken_is, h.feeds.taken_is, p.taken_is, h.over);
       longer = longer_by (told_bytes (r.holds name)) t.rest (h.feeds.fed ++ take h.m h.buffer) budget (told_before h.buffer h.m p h.feeds h.reads) long;
@@ -195,7 +199,7 @@ stops_reading eaten refused r s t name budget old new (Memory e) p (inl h) = rec
       rose = subst (λ k. Rose k t.wants) (h.feeds.wants_are ∙ p.wants_are) h.wants.rises.rose;
       grows = omega (arith, h.wants.rises.grows, h.feeds.wants_are, p.wants_are);
     };
-    feeds = inr (front_fed p h.feeds h.wants.keeps_reading.given_is);
+    feeds = inr (front_fed p h.feeds h.wants.keeps_reading.taken_is h.wants.keeps_reading.given_is);
   });
   read_faults_are = h.wants.keeps_reading.read_faults_are ∙ h.feeds.read_faults_are ∙ p.read_faults_are;
   faulted_is = h.wants.keeps_reading.faulted_is ∙ h.feeds.faulted_is ∙ p.faulted_is;

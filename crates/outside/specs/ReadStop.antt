@@ -45,6 +45,7 @@ pub record FeedsFront (old new : FolderState) (name eaten eaten' : List ℕ) : T
   pub more : List ℕ
   pub rest : Option (List ℕ)
   pub eaten_is : eaten' ≡ eaten ++ fed
+  pub taken_is : new.taken ≡ length (fed ++ more)
   pub given_is : new.given ≡ old.given ++ (name, fed ++ more) ∷ []
   pub told_is : told_bytes (old.holds name) ≡ before_rest (fed ++ more) rest
 
@@ -79,8 +80,8 @@ pub record FolderWants (old new : FolderState) (name eaten eaten' : List ℕ) : 
   pub feeds : FeedsNone old new eaten eaten' ⊎ FeedsFront old new name eaten eaten'
 
 -- the eater refused a piece, and nothing was fed after that
-pub record EaterRefuses {E : Type 0} (eaten : E → List ℕ) (refused : E → List ℕ → E → Type 0) (old new : FolderState) (name : List ℕ)
-    (eater eater' : E) : Type 0 where
+pub record EaterRefuses {E : Type 0} (eaten : E → List ℕ) (refused : E → List ℕ → E → Type 0)
+    (old new : FolderState) (name : List ℕ) (eater eater' : E) : Type 0 where
   pub before : E
   pub piece : List ℕ
   pub feeds : FeedsFront old new name (eaten eater) (eaten before)
@@ -88,16 +89,16 @@ pub record EaterRefuses {E : Type 0} (eaten : E → List ℕ) (refused : E → L
   pub wants_are : new.wants ≡ old.wants
 
 -- the folder or the eater wanted memory
-pub record StopsForMemory {E : Type 0} (eaten : E → List ℕ) (refused : E → List ℕ → E → Type 0) (old new : FolderState) (name : List ℕ)
-    (eater eater' : E) : Type 0 where
+pub record StopsForMemory {E : Type 0} (eaten : E → List ℕ) (refused : E → List ℕ → E → Type 0)
+    (old new : FolderState) (name : List ℕ) (eater eater' : E) : Type 0 where
   pub cause : FolderWants old new name (eaten eater) (eaten eater') ⊎ EaterRefuses eaten refused old new name eater eater'
   pub read_faults_are : new.read_faults ≡ old.read_faults
   pub faulted_is : new.faulted ≡ old.faulted
   pub keeps_writing : KeepsWriting old new
 
 -- why the reading of a file stopped before its end, and what was fed until then
-abbrev pub StopsReading : {E : Type 0} (eaten : E → List ℕ) (refused : E → List ℕ → E → Type 0) (old new : FolderState) (name : List ℕ)
-    (budget : ℕ) (eater eater' : E) → ReadStop → Type 0
+abbrev pub StopsReading : {E : Type 0} (eaten : E → List ℕ) (refused : E → List ℕ → E → Type 0)
+    (old new : FolderState) (name : List ℕ) (budget : ℕ) (eater eater' : E) → ReadStop → Type 0
 StopsReading eaten refused old new name budget eater eater' ReadFault = StopsAtFault old new name budget (eaten eater) (eaten eater')
 StopsReading eaten refused old new name budget eater eater' FileBytes = StopsAtBudget old new name budget (eaten eater) (eaten eater')
 StopsReading eaten refused old new name budget eater eater' (Memory e) = StopsForMemory eaten refused old new name eater eater'
@@ -142,8 +143,8 @@ pub record ReadWants (old new : FolderState) (eaten eaten' : List ℕ) : Type 0 
   pub wants : WantsMemory mid new
 
 -- n bytes were fed, and then the eater refused the m bytes of the next piece
-pub record PieceIsRefused {E : Type 0} (eaten : E → List ℕ) (refused : E → List ℕ → E → Type 0) (old new : FolderState)
-    (eater eater' : E) : Type 0 where
+pub record PieceIsRefused {E : Type 0} (eaten : E → List ℕ) (refused : E → List ℕ → E → Type 0)
+    (old new : FolderState) (eater eater' : E) : Type 0 where
   pub mid : FolderState
   pub before : E
   pub n : ℕ
@@ -154,8 +155,8 @@ pub record PieceIsRefused {E : Type 0} (eaten : E → List ℕ) (refused : E →
   pub refuses : refused before (take m buffer) eater'
 
 -- how the reading of an open file stops before its end
-abbrev pub Stops : {E : Type 0} (eaten : E → List ℕ) (refused : E → List ℕ → E → Type 0) (old new : FolderState) (budget : ℕ)
-    (eater eater' : E) → ReadStop → Type 0
+abbrev pub Stops : {E : Type 0} (eaten : E → List ℕ) (refused : E → List ℕ → E → Type 0)
+    (old new : FolderState) (budget : ℕ) (eater eater' : E) → ReadStop → Type 0
 Stops eaten refused old new budget eater eater' ReadFault = ReadFails old new budget (eaten eater) (eaten eater')
 Stops eaten refused old new budget eater eater' FileBytes = PieceIsOver old new budget (eaten eater) (eaten eater')
 Stops eaten refused old new budget eater eater' (Memory e) =

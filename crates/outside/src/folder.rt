@@ -1,7 +1,7 @@
 // Where files are read and written.
 ghost use Rattle.std.specs.Prelude.{◌<◌, length, IfOk, IfErr, OnOk, IsSome};
-ghost use Rattle.outside.specs.Folder.{FolderState, Opens, RefusesToOpen, Reads, RefusesToRead, StartsFile, WritesTo, FinishesFile};
-ghost use Rattle.outside.specs.Folder.{RefusesToWrite};
+ghost use Rattle.outside.specs.Folder.{FolderState, Opens, RefusesToOpen, Reads, RefusesToRead};
+ghost use Rattle.outside.specs.Folder.{StartsFile, WritesTo, FinishesFile, RefusesToWrite};
 
 use crate::refusal::Refusal;
 

@@ -40,8 +40,8 @@ impl MemFolder {
     /// Puts a file there, in place of one of the same name. Refused, all files are as before.
     pub fn add_file(&mut self, name: &str, bytes: &[u8]) -> Result<(), AllocError>
         ensures added { OnOk result ((⟦<MemFolder as Folder>⟧.state self.new).holds name.now ≡ Bytes bytes.now) }
-        ensures others { OnOk result
-            (KeepsOthers name.now (⟦<MemFolder as Folder>⟧.state self.old) (⟦<MemFolder as Folder>⟧.state self.new)) }
+        ensures others { OnOk result (KeepsOthers name.now
+            (⟦<MemFolder as Folder>⟧.state self.old) (⟦<MemFolder as Folder>⟧.state self.new)) }
         ensures refused { OnErr result ((⟦<MemFolder as Folder>⟧.state self.new).holds ≡ (⟦<MemFolder as Folder>⟧.state self.old).holds) }
         ensures stays { KeepsAllButFiles (⟦<MemFolder as Folder>⟧.state self.old) (⟦<MemFolder as Folder>⟧.state self.new) }
     {

@@ -1,6 +1,6 @@
 // A folder in memory that never fails.
-ghost use Rattle.std.specs.Prelude.{◌≡◌, ℕ, ◌<◌, ◌≤◌, false, List, [], length, min, take, drop, None, Some, OnOk, OnErr, MatchOption};
-ghost use Rattle.std.specs.Prelude.{MatchBool};
+ghost use Rattle.std.specs.Prelude.{◌≡◌, ℕ, ◌<◌, ◌≤◌, false, List, [], length, min, take, drop};
+ghost use Rattle.std.specs.Prelude.{None, Some, OnOk, OnErr, MatchOption, MatchBool};
 ghost use Rattle.std.specs.Option.{option_copied};
 ghost use Rattle.outside.specs.Told.{NoFile, Bytes};
 ghost use Rattle.outside.specs.MemoryFile.{told, name_of, rest_of, IsFirstOfName, Changes};

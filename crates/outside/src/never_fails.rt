@@ -35,8 +35,8 @@ impl NeverFails {
     /// Puts a file there, in place of one of the same name. Refused, all files are as before.
     pub fn add_file(&mut self, name: &str, bytes: &[u8]) -> Result<(), AllocError>
         ensures added { OnOk result ((⟦<NeverFails as Folder>⟧.state self.new).holds name.now ≡ Bytes bytes.now) }
-        ensures others { OnOk result
-            (KeepsOthers name.now (⟦<NeverFails as Folder>⟧.state self.old) (⟦<NeverFails as Folder>⟧.state self.new)) }
+        ensures others { OnOk result (KeepsOthers name.now
+            (⟦<NeverFails as Folder>⟧.state self.old) (⟦<NeverFails as Folder>⟧.state self.new)) }
         ensures refused { OnErr result ((⟦<NeverFails as Folder>⟧.state self.new).holds ≡ (⟦<NeverFails as Folder>⟧.state self.old).holds) }
         ensures stays { KeepsAllButFiles (⟦<NeverFails as Folder>⟧.state self.old) (⟦<NeverFails as Folder>⟧.state self.new) }
         ensures sink { ⟦<NeverFails as Sink>⟧.state self.new ≡ ⟦<NeverFails as Sink>⟧.state self.old }

@@ -70,10 +70,10 @@ pub fn read_through<F: Folder, E: Eater>(
     budget: u64,
     eater: &mut E,
 ) -> Result<u64, ReadStop>
-    ensures whole { IfOk result
-        (FeedsWhole (F.state files.old) (F.state files.new) name.now budget (E.eaten eater.old) (E.eaten eater.new)) }
-    ensures stops { IfErr result
-        (StopsReading E.eaten E.refused (F.state files.old) (F.state files.new) name.now budget eater.old eater.new) }
+    ensures whole { IfOk result (FeedsWhole (F.state files.old) (F.state files.new) name.now budget
+        (E.eaten eater.old) (E.eaten eater.new)) }
+    ensures stops { IfErr result (StopsReading E.eaten E.refused (F.state files.old) (F.state files.new) name.now budget
+        eater.old eater.new) }
 {
     files.start_read(name)?;
     read_rest(files, budget, eater)

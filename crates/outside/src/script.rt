@@ -1,6 +1,6 @@
 // Which calls of an object in memory fail, and into which pieces it cuts.
-ghost use Rattle.std.specs.Prelude.{◌≡◌, ◌<◌, ◌≤◌, ◌↔◌, ◌+◌, ◌-◌, ◌^◌, ◌∷◌, ◌++◌, [], IsTrue, Contains, OnOk, min, max, slice_index};
-ghost use Rattle.std.specs.Prelude.{vec_len};
+ghost use Rattle.std.specs.Prelude.{◌≡◌, ◌<◌, ◌≤◌, ◌↔◌, ◌+◌, ◌-◌, ◌^◌, ◌∷◌, ◌++◌, []};
+ghost use Rattle.std.specs.Prelude.{IsTrue, Contains, OnOk, min, max, slice_index, vec_len};
 
 use std::alloc::{AllocError, Global};
 
