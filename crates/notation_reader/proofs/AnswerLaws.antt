@@ -35,7 +35,7 @@ places (x ∷ a) (y ∷ b) t u r q e =
     let others : a ++ (t ∷ r) ≡ b ++ (u ∷ q) = cc in
     subst (λ (z : PlacedSymbol). Places (x ∷ a) (z ∷ b) t u) first (one_on x a b t u (places a b t u r q others))
 
-none_at : (e a : List Symbol) (t : Symbol) (r : List Symbol) → HaveNoFault e (a ++ (t ∷ r)) → HasNoFault (e ++ a) t
+pub none_at : (e a : List Symbol) (t : Symbol) (r : List Symbol) → HaveNoFault e (a ++ (t ∷ r)) → HasNoFault (e ++ a) t
 none_at e [] t r h = subst (λ (x : List Symbol). HasNoFault x t) (sym (append_none e)) h.0
 none_at e (x ∷ a) t r h = subst (λ (z : List Symbol). HasNoFault z t) (append_assoc e (x ∷ []) a) (none_at (e ++ (x ∷ [])) a t r h.1)
 

@@ -29,7 +29,7 @@ use Rattle.notation_reader.proofs.Doing.{Does, IsUncounted}
 use Rattle.notation_reader.proofs.ShownLaws.{does}
 use Rattle.notation_reader.specs.Counting.{OrderIs, IsCounted, with_variable, with_access, with_number, variable_fault, access_fault, number_fault, level_fault, CountsAs, CountsSymbol}
 
-variables_more : (ms : List Written) (m : Written) → variables_in (ms ++ (m ∷ [])) ≡ variables_in ms ++ variable_at m.role m.symbol
+pub variables_more : (ms : List Written) (m : Written) → variables_in (ms ++ (m ∷ [])) ≡ variables_in ms ++ variable_at m.role m.symbol
 variables_more [] m = append_none (variable_at m.role m.symbol)
 variables_more (n ∷ ms) m = ap (λ (ns : List Name). variable_at n.role n.symbol ++ ns) (variables_more ms m) ∙ sym (append_assoc (variable_at n.role n.symbol) (variables_in ms) (variable_at m.role m.symbol))
 

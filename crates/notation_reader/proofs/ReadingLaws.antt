@@ -222,9 +222,9 @@ run_parts (t ∷ ts) us s last e =
     let p = run_parts ts us f.0 last f.2 in
     (p.0, stepped s t (Some f.0) ts f.1 ∙ p.1, p.2)
 
-pub signs_append : (ms ns : List Written) → symbols (ms ++ ns) ≡ symbols ms ++ symbols ns
-signs_append [] ns = refl
-signs_append (m ∷ ms) ns = ap (λ (ts : List Symbol). m.symbol ∷ ts) (signs_append ms ns)
+pub symbols_join : (ms ns : List Written) → symbols (ms ++ ns) ≡ symbols ms ++ symbols ns
+symbols_join [] ns = refl
+symbols_join (m ∷ ms) ns = ap (λ (ts : List Symbol). m.symbol ∷ ts) (symbols_join ms ns)
 
 -- fronts of one list with the same symbols are one
 same_front : (ms ns r q : List Written) → ms ++ r ≡ ns ++ q → symbols ms ≡ symbols ns → ms ≡ ns
@@ -245,7 +245,7 @@ StandsBehind ms s = (run Start (symbols ms) ≡ Some s) × (before s ≡ ms)
 -- where some sentence begins so, a reader comes there
 pub begun_stands : (ms : List Written) → Begins ms → (s : State) × StandsBehind ms s
 begun_stands ms h =
-    let all : run Start (symbols ms ++ symbols h.rest) ≡ Some (Ended h.tree) = ap (run Start) (sym (signs_append ms h.rest) ∙ ap symbols h.is) ∙ sentence_read h.tree in
+    let all : run Start (symbols ms ++ symbols h.rest) ≡ Some (Ended h.tree) = ap (run Start) (sym (symbols_join ms h.rest) ∙ ap symbols h.is) ∙ sentence_read h.tree in
     let p = run_parts (symbols ms) (symbols h.rest) Start (Ended h.tree) all in
     let to = way (symbols ms) Start p.0 p.1 in
     let from = way (symbols h.rest) p.0 (Ended h.tree) p.2 in

@@ -37,7 +37,7 @@ use Rattle.notation_reader.proofs.AccessLaws.{says}
 use Rattle.notation_reader.proofs.AnswerLaws.{symbols_append}
 use Rattle.notation_reader.proofs.BuildLaws.{builds}
 
-not_above : (b : Bool) (f : SymbolFault) (o : Option SymbolFault) → cond b (Some f) o ≡ None → (b ≡ false) × (o ≡ None)
+pub not_above : (b : Bool) (f : SymbolFault) (o : Option SymbolFault) → cond b (Some f) o ≡ None → (b ≡ false) × (o ≡ None)
 not_above false f o e = (refl, e)
 not_above true f o e = absurd (let no = e in cc)
 
