@@ -1,11 +1,11 @@
 -- Signs have one answer: a tree within the limits, or the place and the fault of the first faulty symbol.
-use Rattle.std.specs.Prelude.{◌≡◌, ℕ, zero, suc, Option, Some, None, List, [], ◌∷◌, ◌++◌, length, refl}
-use Rattle.std.proofs.Common.{sym, ◌∙◌, ap, subst, arith, append_assoc}
+use Rattle.std.specs.Prelude.{◌≡◌, ℕ, Option, Some, List, [], ◌∷◌, ◌++◌, refl}
+use Rattle.std.proofs.Common.{sym, ◌∙◌, ap, subst, append_assoc}
 use Rattle.index_notation.specs.declared.symbol.PlacedSymbol.{PlacedSymbol}
 use Rattle.index_notation.specs.declared.symbol.Symbol.{Symbol}
 use Rattle.index_notation.specs.declared.fault.SymbolFault.{SymbolFault}
-use Rattle.index_notation.specs.Grammar.{Tree, Written, sentence_of, symbols, Begins}
-use Rattle.notation_reader.proofs.ReadingLaws.{one_reading, one_tree, append_none}
+use Rattle.index_notation.specs.Grammar.{Tree}
+use Rattle.notation_reader.proofs.ReadingLaws.{one_reading, append_none}
 use Rattle.notation_reader.proofs.FaultLaws.{last_once}
 use Rattle.index_notation.specs.Faults.{limit_passed, PastLimit, BeginsNone, FaultAt, no_sentence, past_limit, HasNoFault, HaveNoFault, symbols_of, IsFirstFault, IsTreeOf}
 

@@ -1,5 +1,5 @@
 -- The statement of a tree within the limits has numbers that stand in its lists.
-use Rattle.std.specs.Prelude.{◌≡◌, ℕ, zero, suc, ◌+◌, ◌<◌, ◌≤◌, nat_lt, Option, Some, None, List, [], ◌∷◌, ◌++◌, length, map, refl}
+use Rattle.std.specs.Prelude.{◌≡◌, ℕ, suc, ◌+◌, ◌≤◌, nat_lt, Option, Some, None, List, [], ◌∷◌, ◌++◌, length, map, refl}
 use Rattle.std.proofs.Common.{sym, ◌∙◌, ap, subst, arith, append_assoc, length-append}
 use Rattle.std.proofs.lemmas.Bool.{ltb-false}
 use Rattle.std.proofs.lemmas.List.{length-map}
@@ -7,21 +7,18 @@ use Rattle.limits.specs.Limits.{greatest_order, greatest_variables}
 use Rattle.lists.specs.Each.{Each}
 use Rattle.lists.proofs.Each.{each_append}
 use Rattle.index_notation.specs.declared.syntax.Name.{Name}
-use Rattle.index_notation.specs.declared.syntax.Expr.{Expr}
 use Rattle.index_notation.specs.declared.syntax.Statement.{Statement}
 use Rattle.index_notation.specs.declared.sentence.Mark.TheVariants.{Close}
-use Rattle.index_notation.specs.declared.sentence.Token.TheVariants.{Name as NameToken}
 use Rattle.index_notation.specs.declared.sentence.WrittenAccess.{WrittenAccess}
 use Rattle.index_notation.specs.declared.symbol.Symbol.{Symbol}
 use Rattle.index_notation.specs.declared.fault.SymbolFault.{SymbolFault}
 use Rattle.index_notation.specs.declared.fault.SymbolFault.TheVariants.{TooMany}
 use Rattle.index_notation.specs.declared.fault.Counted.TheVariants.{Order, Variables}
 use Rattle.index_notation.specs.Grammar.{Factor, Digits, Read, Bracketed, Negated, Product, Lone, Multiplied, Sum, Alone, Added, Taken, Tree}
-use Rattle.index_notation.specs.Grammar.{Role, NamesLeft, NamesRight, IsVariable, IsNumber, Opens, Plain, Written, written, plain, the_end}
+use Rattle.index_notation.specs.Grammar.{Role, NamesLeft, NamesRight, IsVariable, IsNumber, Opens, Plain, Written, plain, the_end}
 use Rattle.index_notation.specs.Grammar.{more_variables, in_brackets, access_of, factor_of, product_of, sum_of, left_of, sentence_of, symbols}
 use Rattle.index_notation.specs.Faults.{variable_at, variables_in, above, limit_passed, past_limit, HaveNoFault}
 use Rattle.index_notation.specs.Numbering.{distinct, name_of, variables_of, numbered}
-use Rattle.index_notation.specs.NumberingLaws.{Stands}
 use Rattle.index_notation.specs.Statement.{AccessesUnder, IsNumbered}
 use Rattle.index_notation.specs.TreeStatement.{accesses_of_factor, accesses_of_product, accesses_of_sum, accesses_of_tree}
 use Rattle.index_notation.specs.TreeStatement.{reads_in_factor, reads_in_product, reads_in_sum, factor_expr, product_expr, sum_expr, statement_of_tree}
