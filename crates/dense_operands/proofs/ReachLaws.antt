@@ -8,7 +8,6 @@ use Rattle.limits.specs.Limits.{greatest_position_count}
 use Rattle.limits.proofs.Limits.{some_positions}
 use Rattle.tensor_map.specs.declared.entries.Entry.{Entry}
 use Rattle.tensor_map.specs.Entries.{Entries}
-use Rattle.lists.specs.Each.{Each}
 use Rattle.index_notation.specs.declared.syntax.Access.{Access}
 use Rattle.index_notation.specs.declared.syntax.Statement.{Statement}
 use Rattle.expr_terms.specs.Operands.{entries_of, list_or_none}
@@ -16,7 +15,6 @@ use Rattle.expr_terms.specs.Ranges.{greatest_of, Place, places_from, places_in, 
 use Rattle.expr_terms.proofs.RangeLaws.{greatest_append, reach_above}
 use Rattle.dense_operands.specs.Operands.{HasSmallCoords, HaveSmallCoords}
 use Rattle.dense_operands.specs.Reaches.{greatest_reach}
-use Rattle.lists.proofs.Each.{each_get}
 
 module _ (entries : ℕ → List Entry) where
   -- over the places of one access, and then those of others

@@ -1,11 +1,10 @@
 ghost use Rattle.std.specs.Prelude.{◌≡◌, ◌≤◌, All, IfOk, MatchOption, length};
 ghost use Rattle.limits.specs.Limits.{greatest_position_count};
-ghost use Rattle.numbers.specs.Ring.{ring};
 ghost use Rattle.tns_io.specs.Positions.{product, IsBelow, position};
 ghost use Rattle.dense_operands.specs.Levels.{FitLevels, IsDense};
 
 use limits::greatest_positions;
-use numbers::{add, zero};
+use numbers::Semiring;
 use std::alloc::{AllocError, Global};
 use tensor_map::Entries;
 
@@ -26,17 +25,21 @@ pub fn positions_of(sizes: &[u64]) -> Option<u64>
 }
 
 /// The values of a tensor at all its positions, which go through the coordinates in row-major order: at each, the sum
-/// modulo 2^64 of the values of the entries there. Refused only for want of memory.
-pub fn values_of(alloc: Global, entries: &Entries, sizes: &[u64]) -> Result<Vec<u64>, AllocError>
+/// of the values of the entries there, as `S` says. Refused only for want of memory.
+pub fn values_of<S: Semiring>(
+    alloc: Global,
+    entries: &Entries,
+    sizes: &[u64],
+) -> Result<Vec<u64>, AllocError>
     requires fit { FitLevels sizes.now }
     requires below { All (λ entry. IsBelow sizes.now entry.coords) entries.now.list }
-    ensures { IfOk result (λ values. IsDense ring sizes.now entries.now.list values.items) }
+    ensures { IfOk result (λ values. IsDense S.arithmetic sizes.now entries.now.list values.items) }
 {
     let positions = positions_of(sizes).unwrap();
-    let mut values = vec![in alloc; zero(); positions as usize]?;
+    let mut values = vec![in alloc; S::zero(); positions as usize]?;
     for i in 0..entries.len() {
         let position = position_of(entries.coords(i), sizes) as usize;
-        values[position] = add(values[position], entries.value(i));
+        values[position] = S::plus(values[position], entries.value(i));
     }
     Ok(values)
 }

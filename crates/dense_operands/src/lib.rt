@@ -11,6 +11,3 @@ pub use checks::are_operands;
 pub use levels::{positions_of, values_of};
 pub use ranges::ranges_of;
 pub use sizes::sizes_of;
-
-#[cfg(test)]
-mod tests;

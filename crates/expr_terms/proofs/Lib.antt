@@ -1,6 +1,8 @@
 pub mod Equations
 pub mod GroupLaws
+pub mod Heights
 pub mod Made
+pub mod Meanings
 pub mod PointLaws
 pub mod ProductLaws
 pub mod RangeLaws

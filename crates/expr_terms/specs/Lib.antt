@@ -1,4 +1,5 @@
 pub mod Groups
+pub mod Minus
 pub mod Operands
 pub mod PointLaws
 pub mod Points

@@ -4,6 +4,7 @@
 
 mod laws;
 mod lookups;
+mod minus;
 mod products;
 mod ranges;
 mod value;
@@ -12,9 +13,7 @@ pub use laws::{
     groups_add_up, products_are_one_sum, ranges_without_words, results_have_the_left_ranges,
     sums_change_places, terms_add_up, values_are_words, values_depend_on_little,
 };
+pub use minus::has_meaning;
 pub use products::is_product;
 pub use ranges::{Bound, RangeFault};
 pub use value::value_at;
-
-#[cfg(test)]
-mod tests;

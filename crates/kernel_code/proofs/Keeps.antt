@@ -1,7 +1,6 @@
 -- Lemmas about what specs/Keeps.antt defines.
-use Rattle.std.specs.Prelude.{◌≡◌, ◌≢◌, ℕ, min, ◌+◌, ◌≤◌, ◌<◌, ◌==◌, Bool, true, false, if◌then◌else◌, List, Some, refl}
+use Rattle.std.specs.Prelude.{◌≡◌, ◌≢◌, ℕ, min, ◌+◌, ◌≤◌, ◌<◌, Bool, true, false, if◌then◌else◌, List, Some, refl}
 use Rattle.std.proofs.Common.{◌∙◌, ap, arith}
-use Rattle.std.proofs.lemmas.Bool.Decides.{nat_tests}
 use denote.Hole.Carrier.{hidden}
 use Rattle.kernel_code.specs.declared.syntax.Arr.{Arr}
 use Rattle.kernel_code.specs.declared.syntax.LoopKind.{LoopKind}

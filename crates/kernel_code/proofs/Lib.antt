@@ -9,5 +9,7 @@ pub mod RunLemmas
 pub mod SortLemmas
 pub mod StoreLemmas
 pub mod SumLemmas
+pub mod ToldLemmas
 pub mod TurnsLemmas
 pub mod Widths
+pub mod Words

@@ -1,9 +1,8 @@
 -- Lemmas about what specs/More.antt defines.
 use Rattle.std.specs.Prelude.{◌≡◌, ℕ, zero, suc, ◌≤◌, Bool, true, false, nat_le, if◌then◌else◌, List, [], ◌∷◌, Option, Some, None, refl}
 use Rattle.std.proofs.Common.{◌∙◌, ap, arith}
-use Rattle.std.proofs.lemmas.Bool.Decides.{nat_tests}
 use Rattle.kernel_code.specs.declared.syntax.LoopKind.{LoopKind}
-use Rattle.kernel_code.specs.declared.syntax.KStmt.{KStmt, Set, Put, AddTo, Push, Extend, Cut, Sort, SortSum, If', While', Row_of-KStmt, end_of-KStmt, more_of-KStmt}
+use Rattle.kernel_code.specs.declared.syntax.KStmt.{KStmt, Set, Combine, Put, AddTo, Push, Extend, Cut, Sort, SortSum, If', While', Row_of-KStmt, end_of-KStmt, more_of-KStmt}
 use Rattle.kernel_code.specs.Meaning.{Setting, State, Outcome, Ended, Stuck, Over, More, value, one_turn, then_run, choice, run_turns, run, run_row, run_list}
 use Rattle.kernel_code.specs.Kernels.{all_turns, within, start_state, told, NotFinished}
 use Rattle.kernel_code.specs.More.{Settled, GoesOn}
@@ -32,6 +31,7 @@ turns_more (suc n) (suc m) k test body more l h s d =
 mutual
   pub run_more : (c : Setting) (n m : ℕ) (s : KStmt) (st : State) → n ≤ m → Settled (run c n s st) → run c m s st ≡ run c n s st
   run_more c n m (Set x e) st l d = refl
+  run_more c n m (Combine x o e f) st l d = refl
   run_more c n m (Put a i e) st l d = refl
   run_more c n m (AddTo a i e) st l d = refl
   run_more c n m (Push a e) st l d = refl

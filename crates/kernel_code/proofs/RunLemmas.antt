@@ -1,5 +1,5 @@
 -- Runs of lists of statements and of loops, piece by piece, where at most n turns are told of.
-use Rattle.std.specs.Prelude.{◌≡◌, ℕ, zero, suc, ◌≤◌, ◌<◌, Bool, true, false, nat_le, if◌then◌else◌, List, ◌∷◌, Option, Some, refl}
+use Rattle.std.specs.Prelude.{◌≡◌, ℕ, zero, suc, ◌≤◌, ◌<◌, Bool, true, false, nat_le, if◌then◌else◌, List, ◌∷◌, Option, None, Some, refl}
 use Rattle.std.proofs.Common.{◌∙◌, sym, ap, arith}
 use Rattle.std.proofs.lemmas.Bool.Decides.{nat_tests}
 use Rattle.kernel_code.specs.declared.syntax.LoopKind.{LoopKind}
@@ -11,7 +11,7 @@ use Rattle.kernel_code.specs.Meaning.{Setting, State, Outcome, Ended, Stuck, Ove
 use Rattle.kernel_code.proofs.Equations.{run_if}
 use Rattle.kernel_code.specs.Kernels.{all_turns, within}
 use Rattle.kernel_code.specs.Turns.{AtLeast}
-use Rattle.kernel_code.proofs.TurnsLemmas.{at_least_turns, at_least_list, one_turn_more, within_then, within_beyond, within_ended, at_least_after_turn}
+use Rattle.kernel_code.proofs.TurnsLemmas.{at_least_turns, at_least_list, one_turn_more, within_then, within_beyond, within_ended, within_stuck, at_least_after_turn}
 use Rattle.kernel_code.specs.Store.{outcome_of, has_ended}
 
 -- a run that has ended was within the bound
@@ -76,6 +76,14 @@ turns_go j k test body s v h p = ap (λ v. choice s v (then_run (body (one_turn 
 -- a loop ends
 pub loop_ended : (n j : ℕ) (k : LoopKind) (test : State → Option ℕ) (body : State → Outcome) (s : State) → test s ≡ Some 0 → all_turns s.turns ≤ n → Ended s ≡ within n (run_turns j k test body s)
 loop_ended n j k test body s h l = sym (ap (within n) (turns_end j k test body s h) ∙ within_ended n s l)
+
+turns_stuck : (j : ℕ) (k : LoopKind) (test : State → Option ℕ) (body : State → Outcome) (s : State) → test s ≡ None → run_turns j k test body s ≡ Stuck s.turns
+turns_stuck zero k test body s h = ap (λ v. choice s v More (Ended s)) h
+turns_stuck (suc j) k test body s h = ap (λ v. choice s v (then_run (body (one_turn s k)) (run_turns j k test body)) (Ended s)) h
+
+-- a loop whose test has no value
+pub loop_stuck : (n j : ℕ) (k : LoopKind) (test : State → Option ℕ) (body : State → Outcome) (s : State) → test s ≡ None → all_turns s.turns ≤ n → Stuck s.turns ≡ within n (run_turns j k test body s)
+loop_stuck n j k test body s h l = sym (ap (within n) (turns_stuck j k test body s h) ∙ within_stuck n s.turns l)
 
 -- a loop would make a turn too many
 pub loop_more : (n j : ℕ) (k : LoopKind) (test : State → Option ℕ) (body : State → Outcome) (s : State) (v : ℕ) → ((s : State) → AtLeast (all_turns s.turns) (body s)) → test s ≡ Some v → 0 < v → n ≤ all_turns s.turns → 0 < j → More ≡ within n (run_turns j k test body s)

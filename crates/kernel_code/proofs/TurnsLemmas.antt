@@ -7,10 +7,10 @@ use Rattle.kernel_code.specs.declared.syntax.Arr.{Arr}
 use Rattle.kernel_code.specs.declared.syntax.Arr.TheVariants.{Sums, ListCoordinates, ListPositions}
 use Rattle.kernel_code.specs.declared.syntax.LoopKind.{LoopKind}
 use Rattle.kernel_code.specs.declared.syntax.LoopKind.TheVariants.{Merge, Skip, Gather, Drain, Probe}
-use Rattle.kernel_code.specs.declared.syntax.KStmt.{KStmt, Set, Put, AddTo, Push, Extend, Cut, Sort, SortSum, If', While', Row_of-KStmt, end_of-KStmt, more_of-KStmt}
+use Rattle.kernel_code.specs.declared.syntax.KStmt.{KStmt, Set, Combine, Put, AddTo, Push, Extend, Cut, Sort, SortSum, If', While', Row_of-KStmt, end_of-KStmt, more_of-KStmt}
 use Rattle.kernel_code.specs.Arrays.{may_write, may_have, sum_in}
 use Rattle.kernel_code.specs.Rows.{Row}
-use Rattle.kernel_code.specs.Meaning.{Setting, State, Outcome, Ended, Stuck, Over, More, value, one_turn, then_run, with_value, if_written, with_array, changed, grown, sort_outcome, sort_sum_outcome, summed, key_columns, set_columns, choice, run_turns, run, run_row, run_list}
+use Rattle.kernel_code.specs.Meaning.{Setting, State, Outcome, Ended, Stuck, Over, More, value, apply_each, combined, one_turn, then_run, with_value, if_written, with_array, changed, grown, sort_outcome, sort_sum_outcome, summed, key_columns, set_columns, choice, run_turns, run, run_row, run_list}
 use Rattle.kernel_code.specs.Kernels.{all_turns, within}
 use Rattle.kernel_code.specs.Turns.{AtLeast}
 use Rattle.lists.proofs.Tests.{test_within, test_beyond}
@@ -103,6 +103,7 @@ mutual
   -- a statement leaves at least the turns that it starts with
   pub at_least_run : (c : Setting) (n : ℕ) (s : KStmt) (st : State) → AtLeast (all_turns st.turns) (run c n s st)
   at_least_run c n (Set x e) st = at_least_value st (value e st) _ (λ v. le_self (all_turns st.turns))
+  at_least_run c n (Combine x o e f) st = at_least_value st (apply_each (combined c.arithmetic o) (value e st) (value f st)) _ (λ v. le_self (all_turns st.turns))
   at_least_run c n (Put a i e) st = at_least_value st (value i st) _ (λ i. at_least_value st (value e st) _ (λ v. at_least_array st a _ (at_least_changed st a i (λ old. v))))
   at_least_run c n (AddTo a i e) st = at_least_value st (value i st) _ (λ i. at_least_value st (value e st) _ (λ v. at_least_array st a _ (at_least_changed st a i (λ old. sum_in c.arithmetic a old v))))
   at_least_run c n (Push a e) st = at_least_value st (value e st) _ (λ v. at_least_array st a _ (λ xs. at_least_grown st a _ xs _))

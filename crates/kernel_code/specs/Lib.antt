@@ -5,6 +5,7 @@ pub mod Kernels
 pub mod Laws
 pub mod Meaning
 pub mod More
+pub mod Pieces
 pub mod Rows
 pub mod Store
 pub mod Turns

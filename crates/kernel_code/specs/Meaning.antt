@@ -1,5 +1,7 @@
 -- What an expression's value is, and what a statement does.
-use Rattle.std.specs.Prelude.{ℕ, zero, suc, ◌+◌, ◌*◌, ◌^◌, min, Bool, true, false, not, nat_lt, nat_le, ◌==◌, ◌&&◌, ◌||◌, if◌then◌else◌, List, [], ◌∷◌, ◌++◌, length, map, take, replicate, Option, Some, None, slice_get, slice_index, slice_set, bit_and}
+use Rattle.std.specs.Prelude.{ℕ, zero, suc, ◌+◌, ◌*◌, ◌^◌, min, Bool, true, false, not, nat_lt, nat_le, ◌==◌, ◌&&◌, ◌||◌, if◌then◌else◌}
+use Rattle.std.specs.Prelude.{List, [], ◌∷◌, ◌++◌, length, map, take, replicate, Option, Some, None, slice_get, slice_index, slice_set}
+use Rattle.std.specs.Prelude.{bit_and}
 use Rattle.numbers.specs.Arithmetic.{Arithmetic}
 use Rattle.numbers.specs.Ring.{word_sum, word_difference, word_product}
 use Rattle.kernel_code.specs.declared.syntax.Arr.{Arr}
@@ -8,8 +10,12 @@ use Rattle.kernel_code.specs.declared.syntax.LoopKind.{LoopKind}
 use Rattle.kernel_code.specs.declared.syntax.LoopKind.TheVariants as kind
 use Rattle.kernel_code.specs.declared.syntax.Op.{Op}
 use Rattle.kernel_code.specs.declared.syntax.Op.TheVariants as op
-use Rattle.kernel_code.specs.declared.syntax.KExpr.{KExpr, Num, Var, At', Len, Bin', Min', Width', Row_of-KExpr, end_of-KExpr, more_of-KExpr}
-use Rattle.kernel_code.specs.declared.syntax.KStmt.{KStmt, Set, Put, AddTo, Push, Extend, Cut, Sort, SortSum, If', While', Row_of-KStmt, end_of-KStmt, more_of-KStmt}
+use Rattle.kernel_code.specs.declared.syntax.ValueOp.{ValueOp}
+use Rattle.kernel_code.specs.declared.syntax.ValueOp.TheVariants as value_op
+use Rattle.kernel_code.specs.declared.syntax.KExpr.{KExpr, Num, Var, At', Len, Bin', Min', Width', Row_of-KExpr, end_of-KExpr}
+use Rattle.kernel_code.specs.declared.syntax.KExpr.{more_of-KExpr}
+use Rattle.kernel_code.specs.declared.syntax.KStmt.{KStmt, Set, Combine, Put, AddTo, Push, Extend, Cut, Sort, SortSum, If', While'}
+use Rattle.kernel_code.specs.declared.syntax.KStmt.{Row_of-KStmt, end_of-KStmt, more_of-KStmt}
 use Rattle.kernel_code.specs.Arrays.{same_arr, may_write, may_have, told_count, sum_in}
 use Rattle.kernel_code.specs.Rows.{sorted_rows, list_rows, Row, summed_rows, rows_from, column_of}
 
@@ -24,7 +30,8 @@ pub record State : Type 0 where
   pub arrays : Arr → Option (List ℕ)
   pub turns : LoopKind → ℕ
 
--- how a run ends, each with the turns made: Over names the array and the count that is told of the length that the refused growth would have given; More where a loop had no turn left
+-- how a run ends, each with the turns made: Over names the array and the count that is told of the length that the refused
+-- growth would have given; More where a loop had no turn left
 pub data Outcome : Type 0 where
   Ended : (s : State) → Outcome
   Stuck : (turns : LoopKind → ℕ) → Outcome
@@ -68,6 +75,11 @@ abbrev pub apply_each : (ℕ → ℕ → ℕ) → Option ℕ → Option ℕ → 
 apply_each f None y = None
 apply_each f (Some x) None = None
 apply_each f (Some x) (Some y) = Some (f x y)
+
+-- the sum or the product of two values
+abbrev pub combined : Arithmetic → ValueOp → ℕ → ℕ → ℕ
+combined arithmetic value_op.Plus x y = arithmetic.plus x y
+combined arithmetic value_op.Times x y = arithmetic.times x y
 
 -- of operands that may be stuck: the second counts only where the first leaves the answer open
 abbrev pub apply_both : Op → Option ℕ → Option ℕ → Option ℕ
@@ -145,7 +157,8 @@ abbrev pub put_outcome : State → Arr → Option ℕ → Option ℕ → Outcome
 put_outcome s a i v = with_value s i (λ i. with_value s v (λ v. with_array s a (changed s a i (λ old. v))))
 
 abbrev pub add_outcome : Arithmetic → State → Arr → Option ℕ → Option ℕ → Outcome
-add_outcome arithmetic s a i v = with_value s i (λ i. with_value s v (λ v. with_array s a (changed s a i (λ old. sum_in arithmetic a old v))))
+add_outcome arithmetic s a i v =
+    with_value s i (λ i. with_value s v (λ v. with_array s a (changed s a i (λ old. sum_in arithmetic a old v))))
 
 -- the words of an array and more, unless it may not have so many
 abbrev pub grown : State → Arr → ℕ → List ℕ → List ℕ → Outcome
@@ -212,6 +225,7 @@ abbrev mutual
   -- a statement, each loop entry for at most n turns
   pub run : Setting → ℕ → KStmt → State → Outcome
   run c n (Set x e) s = set_outcome s x (value e s)
+  run c n (Combine x o e f) s = set_outcome s x (apply_each (combined c.arithmetic o) (value e s) (value f s))
   run c n (Put a i e) s = put_outcome s a (value i s) (value e s)
   run c n (AddTo a i e) s = add_outcome c.arithmetic s a (value i s) (value e s)
   run c n (Push a e) s = push_outcome s a (value e s)

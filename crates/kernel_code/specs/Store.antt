@@ -1,5 +1,6 @@
 -- What the machine keeps, as the state that it stands for.
-use Rattle.std.specs.Prelude.{◌≡◌, ℕ, ◌<◌, Bool, true, false, if◌then◌else◌, List, [], ◌∷◌, length, Option, Some, None, slice_get, slice_index_or}
+use Rattle.std.specs.Prelude.{◌≡◌, ℕ, ◌<◌, Bool, true, false, if◌then◌else◌, List, [], ◌∷◌, length, Option, Some, None, slice_get}
+use Rattle.std.specs.Prelude.{slice_index_or}
 use Rattle.kernel_code.specs.declared.syntax.Arr.{Arr}
 use Rattle.kernel_code.specs.declared.syntax.LoopKind.{LoopKind}
 use Rattle.kernel_code.specs.declared.syntax.LoopKind.TheVariants.{Merge, Skip, Gather, Drain, Probe}
@@ -8,7 +9,7 @@ use Rattle.kernel_code.specs.declared.arrays.Words.{Words}
 use Rattle.kernel_code.specs.declared.machine.Machine.{Machine}
 use Rattle.kernel_code.specs.declared.machine.Ending.{Ending}
 use Rattle.kernel_code.specs.declared.machine.Ending.TheVariants as ending
-use Rattle.numbers.specs.Ring.{ring}
+use Rattle.numbers.specs.Arithmetic.{Arithmetic}
 use Rattle.kernel_code.specs.Kernels.{all_turns}
 use Rattle.kernel_code.specs.Arrays.{same_arr, may_write}
 use Rattle.kernel_code.specs.Meaning.{Setting, State, Outcome, Ended, Stuck, Over, More}
@@ -59,9 +60,9 @@ IsWritable m a i = IsPlaceOf m.arrays.items a i × (may_write a ≡ true)
 abbrev pub made : Machine → ℕ
 made m = all_turns (count_of m.turns)
 
--- values are words modulo 2^64
-abbrev pub setting : List ℕ → Setting
-setting workspaces = record { arithmetic = ring; workspaces = workspaces }
+-- how values are added, and the number of keys of each workspace
+abbrev pub setting : Arithmetic → List ℕ → Setting
+setting arithmetic workspaces = record { arithmetic = arithmetic; workspaces = workspaces }
 
 -- no variable has a value and no turn is made; the arrays are as they are
 abbrev pub restarted : State → State

@@ -1,10 +1,11 @@
-ghost use Rattle.std.specs.Prelude.{◌≡◌, ℕ, ◌+◌, ◌++◌, replicate, ◌<◌, ◌≤◌, Bool, true, false, length, MatchOption, IfOk, OnOk, OnErr, Some, None, slice_index_or, option_map};
+ghost use Rattle.std.specs.Prelude.{◌≡◌, ℕ, ◌+◌, ◌++◌, replicate, ◌<◌, ◌≤◌, Bool, true, false, length, MatchOption, IfOk, OnOk, OnErr};
+ghost use Rattle.std.specs.Prelude.{Some, None, slice_index_or, option_map};
 ghost use Rattle.kernel_code.specs.Arrays.{same_arr, may_write, may_have, told_count, sum_in};
-ghost use Rattle.numbers.specs.Ring.{ring};
 ghost use Rattle.kernel_code.specs.Store.{array_of, IsPlaceOf};
 
 use crate::syntax::Arr;
 use limits::{greatest_pairs_of_workspace, greatest_positions};
+use numbers::Semiring;
 use std::alloc::AllocError;
 
 /// An array with its name.
@@ -49,11 +50,11 @@ pub(crate) fn may_be_long(a: Arr, count: u64) -> bool
 
 /// The sum of two words of an array: of values, or of plain words.
 #[tactic(auto, unfolding(numbers::specs::Ring::word_sum))]
-pub(crate) fn sum_of_words(a: Arr, x: u64, y: u64) -> u64
-    ensures { result ≡ sum_in ring a x y }
+pub(crate) fn sum_of_words<S: Semiring>(a: Arr, x: u64, y: u64) -> u64
+    ensures { result ≡ sum_in S.arithmetic a x y }
 {
     match a {
-        Arr::Values(_) | Arr::Sums(_) => numbers::add(x, y),
+        Arr::Values(_) | Arr::Sums(_) => S::plus(x, y),
         Arr::Range
         | Arr::Dimension(_, _)
         | Arr::Ends(_, _)

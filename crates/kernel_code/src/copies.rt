@@ -49,6 +49,10 @@ pub fn copy_statement(alloc: Global, s: &KStmt) -> Result<KStmt, AllocError>
 {
     match s {
         KStmt::Set(x, e) => Ok(KStmt::Set(*x, copy_expr(alloc, e)?)),
+        KStmt::Combine(x, op, e, f) => {
+            let e = copy_expr(alloc, e)?;
+            Ok(KStmt::Combine(*x, *op, e, copy_expr(alloc, f)?))
+        }
         KStmt::Put(a, i, e) => {
             let i = copy_expr(alloc, i)?;
             Ok(KStmt::Put(*a, i, copy_expr(alloc, e)?))

@@ -15,14 +15,12 @@ mod rows;
 mod runs;
 mod sums;
 mod syntax;
-#[cfg(test)]
-mod tests;
 
-pub use builders::{binary, one_statement};
+pub use builders::{binary, one_statement, position_and_next, word_at};
 pub use copies::{copy_expr, copy_statement, copy_statements};
 pub use laws::{
     code_is_made_of_parts, expressions_depend_on_what_they_mention, kernels_start_on_what_is_given,
     more_turns_do_the_same, turns_are_only_added,
 };
 pub use machine::{Ending, Machine};
-pub use syntax::{Arr, KExpr, KStmt, Kernel, LoopKind, Op, Place, Turns};
+pub use syntax::{Arr, KExpr, KStmt, Kernel, LoopKind, Op, Place, Turns, ValueOp};

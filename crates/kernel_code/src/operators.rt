@@ -1,7 +1,8 @@
 ghost use Rattle.std.specs.Prelude.{◌≡◌, Some, min};
-ghost use Rattle.kernel_code.specs.Meaning.{apply, apply_each, apply_both, width, width_of};
+ghost use Rattle.kernel_code.specs.Meaning.{apply, apply_each, apply_both, combined, width, width_of};
 
-use crate::syntax::Op;
+use crate::syntax::{Op, ValueOp};
+use numbers::Semiring;
 
 /// The smallest power of two that is at least 2 and at least twice a word; none above 2^62.
 fn width_of_word(x: u64) -> Option<u64>
@@ -70,5 +71,28 @@ pub(crate) fn least_operand(x: Option<u64>, y: Option<u64>) -> Option<u64>
     match (x, y) {
         (Some(x), Some(y)) => Some(x.min(y)),
         _ => None,
+    }
+}
+
+/// The sum or the product of two values that may be stuck.
+pub(crate) fn combine_operands<S: Semiring>(
+    op: ValueOp,
+    x: Option<u64>,
+    y: Option<u64>,
+) -> Option<u64>
+    ensures { result ≡ apply_each (combined S.arithmetic op) x y }
+{
+    match (x, y) {
+        (Some(x), Some(y)) => Some(combine_words::<S>(op, x, y)),
+        _ => None,
+    }
+}
+
+fn combine_words<S: Semiring>(op: ValueOp, x: u64, y: u64) -> u64
+    ensures { result ≡ combined S.arithmetic op x y }
+{
+    match op {
+        ValueOp::Plus => S::plus(x, y),
+        ValueOp::Times => S::times(x, y),
     }
 }

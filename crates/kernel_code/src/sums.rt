@@ -1,7 +1,8 @@
 ghost use Rattle.std.specs.Prelude.{◌≡◌, List, ℕ, map, reverse, IfOk, OnOk, slice_get, slice_index};
-ghost use Rattle.numbers.specs.Ring.{ring};
-ghost use Rattle.kernel_code.specs.Rows.{compare_keys, keys_at, row_of, row_before, sorted_by, join_row, joined_rows, summed_rows, rows_from};
+ghost use Rattle.kernel_code.specs.Rows.{compare_keys, keys_at, row_of, row_before, sorted_by, join_row, joined_rows, summed_rows};
+ghost use Rattle.kernel_code.specs.Rows.{rows_from};
 
+use numbers::Semiring;
 use std::alloc::{AllocError, Global};
 use std::cmp::Ordering;
 
@@ -56,19 +57,22 @@ fn placed_rows(alloc: Global, values: &[u64]) -> Result<Vec<PlacedRow>, AllocErr
 /// Sorts rows by their keys; those with equal ones stay in order. Refused for want of memory, the rows
 /// are as before.
 fn sort_places(columns: &[&[u64]], rows: &mut Vec<PlacedRow>) -> Result<(), AllocError>
-    ensures { OnOk result (map (row_of (map (λ c. c.now) columns.now)) rows.new.items ≡ sorted_by row_before (map (row_of (map (λ c. c.now) columns.now)) rows.old.items)) }
+    ensures { OnOk result (map (row_of (map (λ c. c.now) columns.now)) rows.new.items
+        ≡ sorted_by row_before (map (row_of (map (λ c. c.now) columns.now)) rows.old.items)) }
 {
     rows.sort_by(|p, q| compare_places(columns, p.place, q.place))?;
     Ok(())
 }
 
 /// Puts a row ahead of sums that stand last first. Refused for want of memory, the sums are open.
-fn join_place(
+fn join_place<S: Semiring>(
     columns: &[&[u64]],
     row: PlacedRow,
     sums: &mut Vec<PlacedRow>,
 ) -> Result<(), AllocError>
-    ensures { OnOk result (reverse (map (row_of (map (λ c. c.now) columns.now)) sums.new.items) ≡ join_row ring (row_of (map (λ c. c.now) columns.now) row) (reverse (map (row_of (map (λ c. c.now) columns.now)) sums.old.items))) }
+    ensures { OnOk result (reverse (map (row_of (map (λ c. c.now) columns.now)) sums.new.items)
+        ≡ join_row S.arithmetic (row_of (map (λ c. c.now) columns.now) row)
+        (reverse (map (row_of (map (λ c. c.now) columns.now)) sums.old.items))) }
 {
     let Some(next) = sums.pop() else {
         sums.push(row)?;
@@ -77,7 +81,7 @@ fn join_place(
     if compare_places(columns, row.place, next.place).is_eq() {
         sums.push(PlacedRow {
             place: next.place,
-            value: numbers::add(row.value, next.value),
+            value: S::plus(row.value, next.value),
         })?;
         return Ok(());
     }
@@ -87,33 +91,35 @@ fn join_place(
 }
 
 /// Adds the values of neighbours with equal keys.
-fn join_places(
+fn join_places<S: Semiring>(
     alloc: Global,
     columns: &[&[u64]],
     rows: Vec<PlacedRow>,
 ) -> Result<Vec<PlacedRow>, AllocError>
-    ensures { IfOk result (λ sums. map (row_of (map (λ c. c.now) columns.now)) sums.items ≡ joined_rows ring (map (row_of (map (λ c. c.now) columns.now)) rows.items)) }
+    ensures { IfOk result (λ sums. map (row_of (map (λ c. c.now) columns.now)) sums.items
+        ≡ joined_rows S.arithmetic (map (row_of (map (λ c. c.now) columns.now)) rows.items)) }
 {
     let mut rest = rows;
     let mut sums = Vec::new(alloc);
     while let Some(row) = rest.pop() {
-        join_place(columns, row, &mut sums)?;
+        join_place::<S>(columns, row, &mut sums)?;
     }
     sums.reverse();
     Ok(sums)
 }
 
 /// The rows of columns and values sorted by their keys, each key list once with the sum of its values.
-pub(crate) fn sum_rows(
+pub(crate) fn sum_rows<S: Semiring>(
     alloc: Global,
     columns: &[&[u64]],
     values: &[u64],
 ) -> Result<Vec<PlacedRow>, AllocError>
-    ensures { IfOk result (λ sums. map (row_of (map (λ c. c.now) columns.now)) sums.items ≡ summed_rows ring (rows_from (map (λ c. c.now) columns.now) 0 values.now)) }
+    ensures { IfOk result (λ sums. map (row_of (map (λ c. c.now) columns.now)) sums.items
+        ≡ summed_rows S.arithmetic (rows_from (map (λ c. c.now) columns.now) 0 values.now)) }
 {
     let mut rows = placed_rows(alloc, values)?;
     sort_places(columns, &mut rows)?;
-    join_places(alloc, columns, rows)
+    join_places::<S>(alloc, columns, rows)
 }
 
 /// The words of a column at the places of rows.

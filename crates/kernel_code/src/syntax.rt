@@ -58,6 +58,13 @@ pub enum Op {
     Or,
 }
 
+/// An operator of two values: their sum or their product, by the arithmetic of the values.
+#[derive(Clone, Copy, Debug, PartialEq, Eq, Drop)]
+pub enum ValueOp {
+    Plus,
+    Times,
+}
+
 /// An expression, whose value is a word.
 #[derive(Debug, Drop)]
 pub enum KExpr {
@@ -83,6 +90,8 @@ pub enum KExpr {
 pub enum KStmt {
     /// Gives a variable a value.
     Set(u64, KExpr),
+    /// Gives a variable the sum or the product of two values.
+    Combine(u64, ValueOp, KExpr, KExpr),
     /// Stores at an index, given first, a word.
     Put(Arr, KExpr, KExpr),
     /// Adds, at an index, a word.

@@ -4,7 +4,10 @@
 #![tactic(auto)]
 
 ghost use Rattle.std.specs.Prelude.{◌≡◌};
-ghost use Rattle.limits.specs.Limits.{greatest_position_count, greatest_range_word, greatest_file_coordinate, greatest_matrix_size, greatest_matrix_entries, greatest_workspace_pairs, greatest_order, greatest_variables, greatest_accesses, greatest_operands, greatest_nesting, greatest_literal, greatest_text_bytes, greatest_line_bytes, greatest_file_bytes, greatest_workload};
+ghost use Rattle.limits.specs.Limits.{greatest_position_count, greatest_range_word, greatest_file_coordinate, greatest_matrix_size};
+ghost use Rattle.limits.specs.Limits.{greatest_matrix_entries, greatest_workspace_pairs, greatest_order, greatest_variables};
+ghost use Rattle.limits.specs.Limits.{greatest_accesses, greatest_operands, greatest_nesting, greatest_literal, greatest_text_bytes};
+ghost use Rattle.limits.specs.Limits.{greatest_line_bytes, greatest_file_bytes, greatest_workload};
 
 /// The greatest number of positions of one level of a tensor's storage, and the greatest range of a mode.
 pub const GREATEST_POSITION_COUNT: u64 = 2_147_483_647;

@@ -14,7 +14,8 @@ times_assoc_mod : (x y z m : ℕ) → ((x * y) % m * z) % m ≡ (x * ((y * z) % 
 times_assoc_mod x y z m = mul-mod_first (x * y) z m ∙ ap (λ n. n % m) (mul_assoc x y z) ∙ sym (mul-mod_second x (y * z) m)
 
 distributes_mod : (x y z m : ℕ) → (x * ((y + z) % m)) % m ≡ ((x * y) % m + (x * z) % m) % m
-distributes_mod x y z m = mul-mod_second x (y + z) m ∙ ap (λ n. n % m) (mul-add x y z) ∙ sym (mod-add-mod (x * y) m ((x * z) % m) ∙ add-mod-mod (x * y) (x * z) m)
+distributes_mod x y z m =
+    mul-mod_second x (y + z) m ∙ ap (λ n. n % m) (mul-add x y z) ∙ sym (mod-add-mod (x * y) m ((x * z) % m) ∙ add-mod-mod (x * y) (x * z) m)
 
 -- words keep the laws
 pub ring_laws : Laws ring

@@ -1,28 +1,27 @@
 -- What the loops do: each product is added at its place, in order of the points.
-use Rattle.std.specs.Prelude.{◌≡◌, ◌≢◌, ℕ, zero, suc, ◌+◌, ◌*◌, ◌-◌, ◌^◌, ◌<◌, ◌≤◌, ◌⊎◌, nat_eq, nat_lt, true, false, Bool, if◌then◌else◌, List, [], ◌∷◌, ◌++◌, length, map, Option, Some, None, slice_get, slice_index, slice_set, refl}
-use Rattle.std.proofs.Common.{◌∙◌, sym, ap, subst, arith, inl, inr}
+use Rattle.std.specs.Prelude.{◌≡◌, ◌≢◌, ℕ, zero, suc, ◌+◌, ◌^◌, ◌<◌, ◌≤◌, nat_eq, nat_lt, true, false, Bool, if◌then◌else◌, List, [], ◌∷◌, ◌++◌, length, map, Option, Some, slice_index, slice_set, refl}
+use Rattle.std.proofs.Common.{◌∙◌, sym, ap, subst, arith}
 use Rattle.std.proofs.lemmas.Bool.Decides.{nat_tests}
 use Rattle.std.proofs.lemmas.Bool.{ne_eqb}
 use Rattle.std.proofs.lemmas.List.{length-set}
-use Rattle.numbers.specs.Ring.{ring}
-use Rattle.kernel_code.specs.declared.syntax.Arr.{Arr}
+use Rattle.numbers.specs.Arithmetic.{Arithmetic}
 use Rattle.kernel_code.specs.declared.syntax.Arr.TheVariants.{Range, Values, Dimension}
-use Rattle.kernel_code.specs.declared.syntax.LoopKind.{LoopKind}
 use Rattle.kernel_code.specs.declared.syntax.LoopKind.TheVariants.{Merge}
 use Rattle.kernel_code.specs.declared.syntax.Op.TheVariants.{Add, Less}
-use Rattle.kernel_code.specs.declared.syntax.KExpr.{KExpr, Num, Var, At, Bin}
+use Rattle.kernel_code.specs.declared.syntax.KExpr.{Num, Var, At, Bin}
 use Rattle.kernel_code.specs.declared.syntax.KStmt.{KStmt, Set, AddTo, While}
-use Rattle.kernel_code.specs.Meaning.{Setting, State, value, set_var, set_array, one_turn, word_of, apply_both, apply}
-use Rattle.kernel_code.specs.Store.{setting}
-use Rattle.kernel_code.specs.Does.{Does, Never, Turn, Ends, Goes}
-use Rattle.kernel_code.proofs.Does.{does_nothing, does_append, does_set, does_add_to, does_while, does_weaker}
+use Rattle.kernel_code.specs.Meaning.{Setting, State, value, set_var, set_array, one_turn, word_of}
+use Rattle.kernel_code.specs.Does.{Does, Never, Goes}
+use Rattle.kernel_code.proofs.Does.{does_nothing, does_append, does_set, does_combine, does_add_to, does_while, does_weaker}
 use Rattle.lists.specs.Each.{Each}
 use Rattle.index_notation.specs.declared.syntax.Access.{Access}
-use Rattle.range_loops.specs.Code.{position_code, product_code, loop_code, loops_code, body_code}
-use Rattle.tns_io.specs.Positions.{product, IsBelow, position}
+use Rattle.range_loops.specs.Code.{position_code, access_code, product_after, product_code, loop_code, loops_code, body_code}
+use Rattle.tns_io.specs.Positions.{IsBelow, position}
 use Rattle.expr_terms.specs.Points.{with_coordinate}
 use Rattle.range_loops.specs.Runs.{SizesFrom}
-use Rattle.range_loops.proofs.Values.{bin_is, sum_is, word_is, HaveCoordinates, Readable, AllReadable, read_at, read_product, position_is, product_code_is}
+use Rattle.range_loops.proofs.Values.{element_is, HaveCoordinates, Readable, read_at, read_product, read_product_after, position_is, access_is}
+use Rattle.kernel_code.proofs.Words.{sum_is, less_is}
+use Rattle.kernel_code.specs.declared.syntax.ValueOp.TheVariants.{Times}
 
 -- the arrays that stay, and the result's values
 pub record Loaded (ranges : List ℕ) (sizes values : ℕ → List ℕ) (tensors : ℕ) (xs : List ℕ) (s : State) : Type 0 where
@@ -84,24 +83,20 @@ AllStand tensors vars accesses = Each (Stands tensors vars) accesses
 abbrev pub AllPlaced : (ℕ → List ℕ) → (ℕ → List ℕ) → (ℕ → ℕ) → List Access → Type 0
 AllPlaced sizes values point accesses = Each (Placed sizes values point) accesses
 
-readable : (ranges : List ℕ) (sizes values : ℕ → List ℕ) (tensors vars : ℕ) (xs : List ℕ) (point : ℕ → ℕ) (s : State) (others_too : List Access)
-    → AllStand tensors vars others_too → AllPlaced sizes values point others_too → Set_below vars point s → Loaded ranges sizes values tensors xs s → AllReadable sizes values point s others_too
-readable ranges sizes values tensors vars xs point s [] st pl h l = tt
-readable ranges sizes values tensors vars xs point s (a ∷ others) st pl h l = (
-  record {
-    sizes_are = l.sizes_are a.tensor st.0.tensor;
-    have = have_coordinates vars point s a.vars st.0.vars_stand h;
-    below = pl.0.below;
-    values_are = l.values_are a.tensor st.0.operand st.0.tensor;
-    within = pl.0.within;
-    small = pl.0.small;
-  },
-  readable ranges sizes values tensors vars xs point s others st.1 pl.1 h l,
-)
+readable : (ranges : List ℕ) (sizes values : ℕ → List ℕ) (tensors vars : ℕ) (xs : List ℕ) (point : ℕ → ℕ) (s : State) (a : Access)
+    → Stands tensors vars a → Placed sizes values point a → Set_below vars point s → Loaded ranges sizes values tensors xs s → Readable sizes values point s a
+readable ranges sizes values tensors vars xs point s a st pl h l = record {
+  sizes_are = l.sizes_are a.tensor st.tensor;
+  have = have_coordinates vars point s a.vars st.vars_stand h;
+  below = pl.below;
+  values_are = l.values_are a.tensor st.operand st.tensor;
+  within = pl.within;
+  small = pl.small;
+}
 
 -- a value added at a place
-abbrev pub add_at : List ℕ → ℕ → ℕ → List ℕ
-add_at xs i v = slice_set xs i (ring.plus (slice_index xs i) v)
+abbrev pub add_at : Arithmetic → List ℕ → ℕ → ℕ → List ℕ
+add_at arithmetic xs i v = slice_set xs i (arithmetic.plus (slice_index xs i) v)
 
 -- f at each number below n, one after another
 abbrev pub repeated : ℕ → (ℕ → List ℕ → List ℕ) → List ℕ → List ℕ
@@ -114,8 +109,8 @@ after range step v zero point xs = step point xs
 after range step v (suc k) point xs = repeated (range v) (λ x. after range step (v + 1) k (with_coordinate point v x)) xs
 
 -- the product added at its place
-abbrev pub step_of : (ℕ → List ℕ) → (ℕ → List ℕ) → Access → List Access → (ℕ → ℕ) → List ℕ → List ℕ
-step_of sizes values left accesses point xs = add_at xs (position (sizes left.tensor) (map point left.vars)) (read_product sizes values point accesses)
+abbrev pub step_of : Arithmetic → (ℕ → List ℕ) → (ℕ → List ℕ) → Access → List Access → (ℕ → ℕ) → List ℕ → List ℕ
+step_of arithmetic sizes values left accesses point xs = add_at arithmetic xs (position (sizes left.tensor) (map point left.vars)) (read_product arithmetic sizes values point accesses)
 
 abbrev pub InRange : List ℕ → ℕ → (ℕ → ℕ) → Type 0
 InRange ranges v point = (w : ℕ) → w < v → point w < slice_index ranges w
@@ -138,23 +133,64 @@ pub record Leaves (ranges : List ℕ) (sizes values : ℕ → List ℕ) (tensors
   pub set_below : Set_below v point s
   pub loaded : Loaded ranges sizes values tensors xs s
 
-body_does : (c : Setting) (ranges : List ℕ) (sizes values : ℕ → List ℕ) (tensors vars size : ℕ) (left : Access) (accesses : List Access) → c.arithmetic ≡ ring
+same_number : (v : ℕ) → nat_eq v v ≡ true
+same_number v = grind (arith, nat_tests)
+
+other_variable : (s : State) (v x w : ℕ) → v ≢ w → (set_var s v x).vars w ≡ s.vars w
+other_variable s v x w h = ap (λ b. if b then Some x else s.vars w) (ne_eqb v w h)
+
+this_variable : (s : State) (v x : ℕ) → (set_var s v x).vars v ≡ Some x
+this_variable s v x = ap (λ b. if b then Some x else s.vars v) (same_number v)
+
+set_below_set : (v x : ℕ) (point : ℕ → ℕ) (s : State) → Set_below v point s → Set_below v point (set_var s v x)
+set_below_set v x point s h w l = other_variable s v x w (λ e. absurd (omega (arith, e))) ∙ h w l
+
+-- a variable after those of the loops is set
+leaves_set : (ranges : List ℕ) (sizes values : ℕ → List ℕ) (tensors v : ℕ) (point : ℕ → ℕ) (xs : List ℕ) (s : State) (x : ℕ) → Leaves ranges sizes values tensors v point xs s → Leaves ranges sizes values tensors v point xs (set_var s v x)
+leaves_set ranges sizes values tensors v point xs s x h = record { set_below = set_below_set v x point s h.set_below; loaded = loaded_same ranges sizes values tensors xs s (set_var s v x) refl h.loaded }
+
+-- the product so far times what more accesses read, and then the rest of the code
+module _ (c : Setting) (ranges : List ℕ) (sizes values : ℕ → List ℕ) (tensors vars : ℕ) (point : ℕ → ℕ) (xs : List ℕ) (rest : List KStmt) (Q : State → Type 0) where
+  product_after_does : (others : List Access) → AllStand tensors vars others → AllPlaced sizes values point others → (x : ℕ) (s : State) → Leaves ranges sizes values tensors vars point xs s → s.vars vars ≡ Some x
+      → ((t : State) → Leaves ranges sizes values tensors vars point xs t → t.vars vars ≡ Some (read_product_after c.arithmetic x sizes values point others) → Does c rest t Q Never)
+      → Does c (product_after vars others ++ rest) s Q Never
+  product_after_does [] st pl x s h held next = next s h held
+  product_after_does (a ∷ others) st pl x s h held next =
+      let y = read_at sizes values point a in
+      let z : ℕ = c.arithmetic.times x y in
+      does_combine c vars Times (Var vars) (access_code a) (product_after vars others ++ rest) s x y Q Never held
+      (access_is sizes values point s a (readable ranges sizes values tensors vars xs point s a st.0 pl.0 h.set_below h.loaded))
+      (product_after_does others st.1 pl.1 z (set_var s vars z) (leaves_set ranges sizes values tensors vars point xs s z h) (this_variable s vars z) next)
+
+  product_does : (accesses : List Access) → AllStand tensors vars accesses → AllPlaced sizes values point accesses → (s : State) → Leaves ranges sizes values tensors vars point xs s
+      → ((t : State) → Leaves ranges sizes values tensors vars point xs t → t.vars vars ≡ Some (read_product c.arithmetic sizes values point accesses) → Does c rest t Q Never)
+      → Does c (product_code c.arithmetic.one vars accesses ++ rest) s Q Never
+  product_does [] st pl s h next =
+      let one : ℕ = c.arithmetic.one in
+      does_set c vars (Num one) rest s one Q Never refl (next (set_var s vars one) (leaves_set ranges sizes values tensors vars point xs s one h) (this_variable s vars one))
+  product_does (a ∷ others) st pl s h next =
+      let x = read_at sizes values point a in
+      does_set c vars (access_code a) (product_after vars others ++ rest) s x Q Never
+      (access_is sizes values point s a (readable ranges sizes values tensors vars xs point s a st.0 pl.0 h.set_below h.loaded))
+      (product_after_does others st.1 pl.1 x (set_var s vars x) (leaves_set ranges sizes values tensors vars point xs s x h) (this_variable s vars x) next)
+
+body_does : (c : Setting) (ranges : List ℕ) (sizes values : ℕ → List ℕ) (tensors vars size : ℕ) (left : Access) (accesses : List Access)
     → Fits ranges sizes values tensors vars size left accesses → (point : ℕ → ℕ) → InRange ranges vars point → (xs : List ℕ) → length xs ≡ size → (s : State)
     → Leaves ranges sizes values tensors vars point xs s
-    → Does c (body_code left accesses) s (Leaves ranges sizes values tensors vars point (step_of sizes values left accesses point xs)) Never
-body_does c ranges sizes values tensors vars size left accesses ring_is fits point inside xs long s h =
+    → Does c (body_code c.arithmetic.one vars left accesses) s (Leaves ranges sizes values tensors vars point (step_of c.arithmetic sizes values left accesses point xs)) Never
+body_does c ranges sizes values tensors vars size left accesses fits point inside xs long s h =
     let place = position (sizes left.tensor) (map point left.vars) in
-    let product = read_product sizes values point accesses in
+    let product = read_product c.arithmetic sizes values point accesses in
+    let after_step = step_of c.arithmetic sizes values left accesses point xs in
+    let Done = Leaves ranges sizes values tensors vars point after_step in
     let within : place < length xs = omega (arith, fits.within point inside, long) in
     let small : place < 2 ^ 64 = omega (arith, fits.within point inside, fits.small) in
-    does_add_to c (Values 0) (position_code left.tensor left.vars) (product_code accesses) [] s place product xs
-    (Leaves ranges sizes values tensors vars point (step_of sizes values left accesses point xs)) Never
-    (position_is s left.tensor left.vars (sizes left.tensor) (map point left.vars) (h.loaded.sizes_are left.tensor fits.tensor) (have_coordinates vars point s left.vars fits.left_stands h.set_below) (fits.below point inside) small)
-    (product_code_is sizes values point s accesses (readable ranges sizes values tensors vars xs point s accesses fits.stand (fits.placed point inside) h.set_below h.loaded))
-    refl h.loaded.result within
-    (subst (λ arithmetic. Does c [] (set_array s (Values 0) (slice_set xs place (arithmetic.plus (slice_index xs place) product))) (Leaves ranges sizes values tensors vars point (step_of sizes values left accesses point xs)) Never) (sym ring_is)
-    (does_nothing c (set_array s (Values 0) (step_of sizes values left accesses point xs)) (Leaves ranges sizes values tensors vars point (step_of sizes values left accesses point xs)) Never
-    (record { set_below = h.set_below; loaded = loaded_result ranges sizes values tensors xs (step_of sizes values left accesses point xs) s h.loaded })))
+    product_does c ranges sizes values tensors vars point xs (AddTo (Values 0) (position_code left.tensor left.vars) (Var vars) ∷ []) Done accesses fits.stand (fits.placed point inside) s h
+    (λ t g held. does_add_to c (Values 0) (position_code left.tensor left.vars) (Var vars) [] t place product xs Done Never
+    (position_is t left.tensor left.vars (sizes left.tensor) (map point left.vars) (g.loaded.sizes_are left.tensor fits.tensor) (have_coordinates vars point t left.vars fits.left_stands g.set_below) (fits.below point inside) small)
+    held refl g.loaded.result within
+    (does_nothing c (set_array t (Values 0) after_step) Done Never
+    (record { set_below = g.set_below; loaded = loaded_result ranges sizes values tensors xs after_step t g.loaded })))
 
 -- lengths stay
 pub repeated_length : (n size : ℕ) (f : ℕ → List ℕ → List ℕ) (xs : List ℕ) → ((x : ℕ) (ys : List ℕ) → length ys ≡ size → length (f x ys) ≡ size) → length xs ≡ size → length (repeated n f xs) ≡ size
@@ -167,11 +203,8 @@ after_length range step size keeps v zero point xs h = keeps point xs h
 after_length range step size keeps v (suc k) point xs h =
     repeated_length (range v) size (λ x. after range step (v + 1) k (with_coordinate point v x)) xs (λ x ys l. after_length range step size keeps (v + 1) k (with_coordinate point v x) ys l) h
 
-pub step_length : (sizes values : ℕ → List ℕ) (left : Access) (accesses : List Access) (size : ℕ) (point : ℕ → ℕ) (ys : List ℕ) → length ys ≡ size → length (step_of sizes values left accesses point ys) ≡ size
-step_length sizes values left accesses size point ys h = length-set ys _ _ ∙ h
-
-same_number : (v : ℕ) → nat_eq v v ≡ true
-same_number v = grind (arith, nat_tests)
+pub step_length : (arithmetic : Arithmetic) (sizes values : ℕ → List ℕ) (left : Access) (accesses : List Access) (size : ℕ) (point : ℕ → ℕ) (ys : List ℕ) → length ys ≡ size → length (step_of arithmetic sizes values left accesses point ys) ≡ size
+step_length arithmetic sizes values left accesses size point ys h = length-set ys _ _ ∙ h
 
 -- the point with a coordinate of v, at another variable and at v
 pub elsewhere : (point : ℕ → ℕ) (v x w : ℕ) → v ≢ w → with_coordinate point v x w ≡ point w
@@ -188,7 +221,7 @@ record LoopState (ranges : List ℕ) (sizes values : ℕ → List ℕ) (tensors 
   leaves : Leaves ranges sizes values tensors v point (repeated x f xs) s
 
 test_is : (ranges : List ℕ) (s : State) (v x : ℕ) → v < length ranges → s.arrays Range ≡ Some ranges → s.vars v ≡ Some x → value (Bin Less (Var v) (At Range (Num v))) s ≡ Some (word_of (nat_lt x (slice_index ranges v)))
-test_is ranges s v x l r h = bin_is Less (Var v) (At Range (Num v)) s x (slice_index ranges v) h (word_is Range (Num v) s ranges v r refl l)
+test_is ranges s v x l r h = less_is (Var v) (At Range (Num v)) x (slice_index ranges v) s h (element_is Range (Num v) s ranges v r refl l)
 
 test_yes : (ranges : List ℕ) (s : State) (v x : ℕ) → v < length ranges → s.arrays Range ≡ Some ranges → s.vars v ≡ Some x → x < slice_index ranges v → value (Bin Less (Var v) (At Range (Num v))) s ≡ Some 1
 test_yes ranges s v x l r h less = let is : nat_lt x (slice_index ranges v) ≡ true = grind (arith, nat_tests) in test_is ranges s v x l r h ∙ ap (λ b. Some (word_of b)) is
@@ -217,15 +250,6 @@ in_range_next ranges v x point h less w l = which (nat_lt w v) refl
         subst (λ y. y < slice_index ranges w) (sym (elsewhere point v x w (λ e. absurd (omega (arith, e))))) (h w lower)
     which false is = let more : v ≤ w = grind (arith, nat_tests, is) in let same : v ≡ w = omega arith in
         subst (λ y. with_coordinate point v x y < slice_index ranges y) same (subst (λ y. y < slice_index ranges v) (sym (there point v x)) less)
-
-other_variable : (s : State) (v x w : ℕ) → v ≢ w → (set_var s v x).vars w ≡ s.vars w
-other_variable s v x w h = ap (λ b. if b then Some x else s.vars w) (ne_eqb v w h)
-
-this_variable : (s : State) (v x : ℕ) → (set_var s v x).vars v ≡ Some x
-this_variable s v x = ap (λ b. if b then Some x else s.vars v) (same_number v)
-
-set_below_set : (v x : ℕ) (point : ℕ → ℕ) (s : State) → Set_below v point s → Set_below v point (set_var s v x)
-set_below_set v x point s h w l = other_variable s v x w (λ e. absurd (omega (arith, e))) ∙ h w l
 
 some_apart : (v : Option ℕ) → v ≡ Some 1 → v ≡ Some 0 → ⊥
 some_apart v e f = cc
@@ -271,23 +295,23 @@ one_loop c ranges sizes values tensors v size point f xs inner within word keeps
     (does_append c inner advance turned (Leaves ranges sizes values tensors (v + 1) (with_coordinate point v i.x) (f i.x (repeated i.x f xs))) (Inv n) Never
     (again i.x less (repeated i.x f xs) (repeated_length i.x size f xs keeps long) turned start)
     (λ t g. let now : t.vars v ≡ Some i.x = g.set_below v (omega arith) ∙ ap Some (there point v i.x) in
-    does_set c v (Bin Add (Var v) (Num 1)) [] t (i.x + 1) (Inv n) Never (sum_is (Var v) (Num 1) t i.x 1 now refl (omega arith))
+    does_set c v (Bin Add (Var v) (Num 1)) [] t (i.x + 1) (Inv n) Never (sum_is (Var v) (Num 1) i.x 1 t now refl (omega arith))
     (does_nothing c (set_var t v (i.x + 1)) (Inv n) Never (next_state ranges sizes values tensors v point f xs n t i.x i.left_is g)))))
     (slice_index ranges v) (set_var s v 0)
     (record { x = 0; left_is = omega arith; here = this_variable s v 0; leaves = record { set_below = set_below_set v 0 point s h.set_below; loaded = loaded_same ranges sizes values tensors xs s (set_var s v 0) refl h.loaded } })
     (λ st g. does_nothing c st Done Never g))
 
-module _ (c : Setting) (ranges : List ℕ) (sizes values : ℕ → List ℕ) (tensors vars size : ℕ) (left : Access) (accesses : List Access) (ring_is : c.arithmetic ≡ ring)
+module _ (c : Setting) (ranges : List ℕ) (sizes values : ℕ → List ℕ) (tensors vars size : ℕ) (left : Access) (accesses : List Access)
     (fits : Fits ranges sizes values tensors vars size left accesses) where
   pub loops_do : (k v : ℕ) → v + k ≡ vars → (point : ℕ → ℕ) → InRange ranges v point → (xs : List ℕ) → length xs ≡ size → (s : State) → Leaves ranges sizes values tensors v point xs s
-      → Does c (loops_code v k (body_code left accesses)) s (Leaves ranges sizes values tensors v point (after (slice_index ranges) (step_of sizes values left accesses) v k point xs)) Never
+      → Does c (loops_code v k (body_code c.arithmetic.one vars left accesses)) s (Leaves ranges sizes values tensors v point (after (slice_index ranges) (step_of c.arithmetic sizes values left accesses) v k point xs)) Never
   loops_do zero v all point inside xs long s h =
-      does_weaker c (body_code left accesses) s (Leaves ranges sizes values tensors vars point (step_of sizes values left accesses point xs)) (Leaves ranges sizes values tensors v point (step_of sizes values left accesses point xs)) Never Never
-      (body_does c ranges sizes values tensors vars size left accesses ring_is fits point (λ w l. inside w (omega arith)) xs long s (record { set_below = λ w l. h.set_below w (omega arith); loaded = h.loaded }))
-      (λ t g. record { set_below = λ w l. g.set_below w (omega arith); loaded = g.loaded }) (λ a n g. g)
+      does_weaker c (body_code c.arithmetic.one vars left accesses) s (Leaves ranges sizes values tensors vars point (step_of c.arithmetic sizes values left accesses point xs)) (Leaves ranges sizes values tensors v point (step_of c.arithmetic sizes values left accesses point xs)) Never Never
+      (body_does c ranges sizes values tensors vars size left accesses fits point (λ w l. inside w (omega arith)) xs long s (record { set_below = λ w l. h.set_below w (omega arith); loaded = h.loaded }))
+      (λ t g. record { set_below = λ w l. g.set_below w (omega arith); loaded = g.loaded }) (λ u a n g. g)
   loops_do (suc k) v all point inside xs long s h =
-      one_loop c ranges sizes values tensors v size point (λ x. after (slice_index ranges) (step_of sizes values left accesses) (v + 1) k (with_coordinate point v x)) xs (loops_code (v + 1) k (body_code left accesses))
+      one_loop c ranges sizes values tensors v size point (λ x. after (slice_index ranges) (step_of c.arithmetic sizes values left accesses) (v + 1) k (with_coordinate point v x)) xs (loops_code (v + 1) k (body_code c.arithmetic.one vars left accesses))
       (omega (arith, fits.long)) (fits.words v (omega arith))
-      (λ x ys l. after_length (slice_index ranges) (step_of sizes values left accesses) size (step_length sizes values left accesses size) (v + 1) k (with_coordinate point v x) ys l) long
+      (λ x ys l. after_length (slice_index ranges) (step_of c.arithmetic sizes values left accesses) size (step_length c.arithmetic sizes values left accesses size) (v + 1) k (with_coordinate point v x) ys l) long
       (λ x less ys l t g. loops_do k (v + 1) (omega arith) (with_coordinate point v x) (in_range_next ranges v x point inside less) ys l t g)
       s h

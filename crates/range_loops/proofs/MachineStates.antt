@@ -1,5 +1,5 @@
 -- What loading arrays into a machine leaves, and how a run that ends is told.
-use Rattle.std.specs.Prelude.{◌≡◌, ◌≢◌, ℕ, ◌+◌, ◌≤◌, ◌<◌, max, true, false, Bool, ◌==◌, ◌&&◌, nat_le, if◌then◌else◌, List, [], ◌∷◌, length, replicate, slice_index, Some, Result, Ok, Err, OnOk, refl}
+use Rattle.std.specs.Prelude.{◌≡◌, ◌≢◌, ℕ, ◌+◌, ◌≤◌, max, true, false, Bool, ◌==◌, ◌&&◌, nat_le, if◌then◌else◌, List, [], ◌∷◌, length, replicate, slice_index, Some, Result, Ok, Err, OnOk, refl}
 use Rattle.std.proofs.Common.{◌∙◌, sym, ap, subst, arith, get_or, drop}
 use Rattle.std.proofs.lemmas.Bool.Decides.{nat_tests}
 use Rattle.std.proofs.lemmas.Bool.{ne_eqb}
@@ -13,7 +13,7 @@ use Rattle.kernel_code.proofs.Keeps.{this_array, other_array}
 use Rattle.kernel_code.specs.Kernels.{within, all_turns}
 use Rattle.kernel_code.specs.More.{Settled}
 use Rattle.kernel_code.proofs.More.{list_more}
-use Rattle.numbers.specs.Ring.{ring}
+use Rattle.numbers.specs.Arithmetic.{Arithmetic}
 use Rattle.tensor_map.specs.declared.entries.Entry.{Entry}
 use Rattle.tensor_map.specs.Entries.{Entries}
 use Rattle.index_notation.specs.declared.syntax.Statement.{Statement}
@@ -108,8 +108,8 @@ sizes_stay s t tensor other level [] apart keeps h = tt
 sizes_stay s t tensor other level (n ∷ ns) apart keeps h =
     (keeps (Dimension other level) (λ k. apart_level tensor other k level apart) refl ∙ h.0, sizes_stay s t tensor other (level + 1) ns apart keeps h.1)
 
-pub loaded_stays : (s t : State) (tensor other : ℕ) (sizes : List ℕ) (entries : List Entry) → tensor ≢ other → KeepsOthers tensor s t → IsLoaded s other sizes entries → IsLoaded t other sizes entries
-loaded_stays s t tensor other sizes entries apart keeps h = record {
+pub loaded_stays : (arithmetic : Arithmetic) (s t : State) (tensor other : ℕ) (sizes : List ℕ) (entries : List Entry) → tensor ≢ other → KeepsOthers tensor s t → IsLoaded arithmetic s other sizes entries → IsLoaded arithmetic t other sizes entries
+loaded_stays arithmetic s t tensor other sizes entries apart keeps h = record {
   sizes_are = sizes_stay s t tensor other 1 sizes apart keeps h.sizes_are;
   values = h.values;
   values_are = keeps (Values other) (λ k. refl) (ne_eqb tensor other apart) ∙ h.values_are;
@@ -120,18 +120,18 @@ sizes_with_range : (s : State) (ranges : List ℕ) (tensor level : ℕ) (sizes :
 sizes_with_range s ranges tensor level [] h = tt
 sizes_with_range s ranges tensor level (n ∷ ns) h = (h.0, sizes_with_range s ranges tensor (level + 1) ns h.1)
 
-loaded_with_range : (s : State) (ranges : List ℕ) (tensor : ℕ) (sizes : List ℕ) (entries : List Entry) → IsLoaded s tensor sizes entries → IsLoaded (set_array s Range ranges) tensor sizes entries
-loaded_with_range s ranges tensor sizes entries h = record { sizes_are = sizes_with_range s ranges tensor 1 sizes h.sizes_are; values = h.values; values_are = h.values_are; dense = h.dense }
+loaded_with_range : (arithmetic : Arithmetic) (s : State) (ranges : List ℕ) (tensor : ℕ) (sizes : List ℕ) (entries : List Entry) → IsLoaded arithmetic s tensor sizes entries → IsLoaded arithmetic (set_array s Range ranges) tensor sizes entries
+loaded_with_range arithmetic s ranges tensor sizes entries h = record { sizes_are = sizes_with_range s ranges tensor 1 sizes h.sizes_are; values = h.values; values_are = h.values_are; dense = h.dense }
 
 -- all arrays are there once the operands, the result and the ranges are loaded
-pub machine_of : (before mid after : State) (statement : Statement) (operands : List Entries) (ranges sizes zeros : List ℕ)
-    → AreLoaded before statement operands (slice_index ranges) (length operands) → KeepsOthers 0 before mid → SizesFrom mid 0 1 sizes → mid.arrays (Values 0) ≡ Some zeros
-    → zeros ≡ replicate (product sizes) ring.zero → after ≡ set_array mid Range ranges → IsMachineOf after statement operands ranges sizes
-machine_of before mid after statement operands ranges sizes zeros loaded keeps result_sizes result is e =
-    subst (λ state. IsMachineOf state statement operands ranges sizes) (sym e) (record {
+pub machine_of : (arithmetic : Arithmetic) (before mid after : State) (statement : Statement) (operands : List Entries) (ranges sizes zeros : List ℕ)
+    → AreLoaded arithmetic before statement operands (slice_index ranges) (length operands) → KeepsOthers 0 before mid → SizesFrom mid 0 1 sizes → mid.arrays (Values 0) ≡ Some zeros
+    → zeros ≡ replicate (product sizes) arithmetic.zero → after ≡ set_array mid Range ranges → IsMachineOf arithmetic after statement operands ranges sizes
+machine_of arithmetic before mid after statement operands ranges sizes zeros loaded keeps result_sizes result is e =
+    subst (λ state. IsMachineOf arithmetic state statement operands ranges sizes) (sym e) (record {
       range = refl;
-      loaded = λ n l. loaded_with_range mid ranges (n + 1) (operand_sizes statement operands (slice_index ranges) n) (entries_of operands (n + 1))
-          (loaded_stays before mid 0 (n + 1) (operand_sizes statement operands (slice_index ranges) n) (entries_of operands (n + 1)) (λ z. absurd (omega (arith, z))) keeps (loaded n l));
+      loaded = λ n l. loaded_with_range arithmetic mid ranges (n + 1) (operand_sizes statement operands (slice_index ranges) n) (entries_of operands (n + 1))
+          (loaded_stays arithmetic before mid 0 (n + 1) (operand_sizes statement operands (slice_index ranges) n) (entries_of operands (n + 1)) (λ z. absurd (omega (arith, z))) keeps (loaded n l));
       result_sizes = sizes_with_range mid ranges 0 1 sizes result_sizes;
       result = result ∙ ap Some is;
     })

@@ -1,7 +1,8 @@
 -- The entries of an operand are below its sizes.
-use Rattle.std.specs.Prelude.{◌≡◌, ℕ, zero, suc, ◌+◌, ◌<◌, ◌≤◌, nat_lt, true, false, Bool, List, length, All, Option, Some, slice_get, refl}
+use Rattle.std.specs.Prelude.{◌≡◌, ℕ, suc, ◌+◌, ◌<◌, ◌≤◌, nat_lt, true, false, Bool, List, length, All, Option, Some, slice_get, refl}
 use Rattle.std.proofs.Common.{◌∙◌, sym, ap, subst, arith}
 use Rattle.std.proofs.lemmas.Option.{slice_get_within}
+use Rattle.numbers.specs.Arithmetic.{Arithmetic}
 use Rattle.tensor_map.specs.declared.entries.Entry.{Entry}
 use Rattle.tensor_map.specs.Entries.{Entries, IsEntry, AreEntries}
 use Rattle.index_notation.specs.declared.syntax.Access.{Access}
@@ -42,19 +43,19 @@ operand_below s operands ranges computable are n entries there all =
     (subst (λ t. All (λ entry. IsBelow (mode_sizes s ranges t (length access.vars)) entry.coords) (entries_of operands access.tensor)) r.tensor_is below))
 
 -- one more operand is loaded
-pub loaded_next : (old new : State) (s : Statement) (operands : List Entries) (ranges : ℕ → ℕ) (k : ℕ) (entries : Entries) → slice_get operands k ≡ Some entries
-    → AreLoaded old s operands ranges k → IsLoaded new (k + 1) (mode_sizes s ranges (k + 1) entries.order) entries.list → KeepsOthers (k + 1) old new
-    → AreLoaded new s operands ranges (k + 1)
-loaded_next old new s operands ranges k entries there before here keeps = λ n l. which n l (nat_lt n k) refl
+pub loaded_next : (arithmetic : Arithmetic) (old new : State) (s : Statement) (operands : List Entries) (ranges : ℕ → ℕ) (k : ℕ) (entries : Entries) → slice_get operands k ≡ Some entries
+    → AreLoaded arithmetic old s operands ranges k → IsLoaded arithmetic new (k + 1) (mode_sizes s ranges (k + 1) entries.order) entries.list → KeepsOthers (k + 1) old new
+    → AreLoaded arithmetic new s operands ranges (k + 1)
+loaded_next arithmetic old new s operands ranges k entries there before here keeps = λ n l. which n l (nat_lt n k) refl
   where
-    which : (n : ℕ) → n < k + 1 → (b : Bool) → nat_lt n k ≡ b → IsLoaded new (n + 1) (operand_sizes s operands ranges n) (entries_of operands (n + 1))
+    which : (n : ℕ) → n < k + 1 → (b : Bool) → nat_lt n k ≡ b → IsLoaded arithmetic new (n + 1) (operand_sizes s operands ranges n) (entries_of operands (n + 1))
     which n l true is = let less : n < k = grind (arith, nat_tests, is) in
-        loaded_stays old new (k + 1) (n + 1) (operand_sizes s operands ranges n) (entries_of operands (n + 1)) (λ e. absurd (omega (arith, e))) keeps (before n less)
+        loaded_stays arithmetic old new (k + 1) (n + 1) (operand_sizes s operands ranges n) (entries_of operands (n + 1)) (λ e. absurd (omega (arith, e))) keeps (before n less)
     which n l false is = let more : k ≤ n = grind (arith, nat_tests, is) in
         let same : k ≡ n = omega arith in
         let next : k + 1 ≡ suc k = omega arith in
         let list : entries_of operands (k + 1) ≡ entries.list = ap (entries_of operands) next ∙ ap list_or_none there in
         let order : order_or_zero (slice_get operands k) ≡ entries.order = ap order_or_zero there in
-        subst (λ m. IsLoaded new (m + 1) (operand_sizes s operands ranges m) (entries_of operands (m + 1))) same
-        (subst (λ (es : List Entry). IsLoaded new (k + 1) (operand_sizes s operands ranges k) es) (sym list)
-        (subst (λ o. IsLoaded new (k + 1) (mode_sizes s ranges (k + 1) o) entries.list) (sym order) here))
+        subst (λ m. IsLoaded arithmetic new (m + 1) (operand_sizes s operands ranges m) (entries_of operands (m + 1))) same
+        (subst (λ (es : List Entry). IsLoaded arithmetic new (k + 1) (operand_sizes s operands ranges k) es) (sym list)
+        (subst (λ o. IsLoaded arithmetic new (k + 1) (mode_sizes s ranges (k + 1) o) entries.list) (sym order) here))

@@ -1,12 +1,11 @@
 -- A loaded machine is ready for the loops.
-use Rattle.std.specs.Prelude.{◌≡◌, ◌≢◌, ℕ, zero, suc, ◌+◌, ◌*◌, ◌^◌, ◌<◌, ◌≤◌, ◌↔◌, Bool, false, IsTrue, List, [], ◌∷◌, length, map, replicate, Option, None, Some, slice_get, slice_index, refl}
+use Rattle.std.specs.Prelude.{◌≡◌, ℕ, zero, suc, ◌+◌, ◌^◌, ◌<◌, ◌≤◌, ◌↔◌, Bool, false, IsTrue, List, [], ◌∷◌, length, map, replicate, Option, None, Some, slice_get, slice_index, refl}
 use Rattle.std.proofs.Common.{◌∙◌, sym, ap, subst, arith}
 use Rattle.std.proofs.lemmas.Option.{slice_get_within}
 use Rattle.std.proofs.lemmas.List.{get_or-replicate, length-replicate}
 use Rattle.limits.specs.Limits.{greatest_position_count}
 use Rattle.limits.proofs.Limits.{positions_are_small}
-use Rattle.numbers.specs.Ring.{ring}
-use Rattle.numbers.specs.RingLaws.{ring_laws}
+use Rattle.numbers.specs.Arithmetic.{Arithmetic, Laws}
 use Rattle.numbers.proofs.Sums.{total_fits}
 use Rattle.tensor_map.specs.Entries.{Entries, values_at}
 use Rattle.kernel_code.specs.declared.syntax.Arr.TheVariants.{Values}
@@ -14,16 +13,16 @@ use Rattle.kernel_code.specs.declared.syntax.KStmt.{KStmt}
 use Rattle.kernel_code.specs.Meaning.{Setting, State, Outcome, Ended, Stuck, Over, More, run_list}
 use Rattle.kernel_code.specs.Store.{setting, restarted}
 use Rattle.kernel_code.specs.Does.{Does, Never, OnOutcome}
-use Rattle.index_notation.specs.Statement.{IsAccess, IsNumbered, IsWellNamed}
+use Rattle.index_notation.specs.Statement.{IsAccess, IsNumbered}
 use Rattle.lists.specs.Each.{Each}
 use Rattle.index_notation.specs.declared.syntax.Access.{Access}
 use Rattle.index_notation.specs.declared.syntax.Statement.{Statement}
-use Rattle.expr_terms.specs.Operands.{entries_of, operand_values, list_or_none}
+use Rattle.expr_terms.specs.Operands.{entries_of, operand_values}
 use Rattle.expr_terms.specs.Ranges.{narrow_ranges}
 use Rattle.expr_terms.specs.ValueLaws.{AreWords}
 use Rattle.tns_io.specs.Positions.{product, IsBelow, position}
 use Rattle.tns_io.proofs.PositionLaws.{position_below}
-use Rattle.dense_operands.specs.Levels.{FitLevels, IsDense}
+use Rattle.dense_operands.specs.Levels.{FitLevels}
 use Rattle.dense_operands.proofs.LevelLaws.{fit_product}
 use Rattle.dense_operands.specs.Operands.{HasOrder, ReadsOperand, operand_of}
 use Rattle.dense_operands.proofs.ReachLaws.{range_within}
@@ -32,8 +31,8 @@ use Rattle.dense_operands.specs.Sizes.{mode_sizes}
 use Rattle.dense_operands.proofs.SizeLaws.{point_below_sizes, sizes_of_result}
 use Rattle.range_loops.specs.Code.{loops_code, body_code}
 use Rattle.range_loops.specs.Runs.{RunsInto, IsLoaded, SizesFrom}
-use Rattle.range_loops.specs.Computes.{IsComputable, IsMachineOf, OperandsFit, order_or_zero, order_of, level_sizes, operand_sizes, operand_ranges, AllFit, IsResult}
-use Rattle.range_loops.proofs.LoopLaws.{Stands, Placed, AllStand, AllPlaced, InRange, Fits, Loaded, Leaves, after, step_of, loops_do, after_length, step_length}
+use Rattle.range_loops.specs.Computes.{IsComputable, IsMachineOf, OperandsFit, order_or_zero, order_of, level_sizes, operand_ranges, AllFit, IsResult}
+use Rattle.range_loops.proofs.LoopLaws.{Stands, Placed, InRange, Fits, Loaded, Leaves, after, step_of, loops_do, after_length, step_length}
 use Rattle.expr_terms.specs.Terms.{statement_value}
 use Rattle.range_loops.proofs.RangesAre.{ranges_are}
 use Rattle.range_loops.proofs.Result.{Reads, loops_value}
@@ -85,18 +84,18 @@ operand_at operands access (suc n) e h = let found = there_is (length access.var
 operand_read : (s : Statement) (operands : List Entries) → IsComputable s operands → (k : ℕ) (access : Access) → slice_get s.accesses k ≡ Some access → Operand operands access
 operand_read s operands computable k access stands = operand_at operands access access.tensor refl (each_get (ReadsOperand operands) s.accesses k access computable.operands_fit.reads stands)
 
-module _ (s : Statement) (operands : List Entries) (ranges sizes : List ℕ) (state : State) (computable : IsComputable s operands) (long : length ranges ≡ length s.vars)
+module _ (arithmetic : Arithmetic) (laws : Laws arithmetic) (s : Statement) (operands : List Entries) (ranges sizes : List ℕ) (state : State) (computable : IsComputable s operands) (long : length ranges ≡ length s.vars)
     (each : (v : ℕ) → v < length s.vars → slice_index ranges v ≡ narrow_ranges s (entries_of operands) v)
     (sizes_are : sizes ≡ mode_sizes s (slice_index ranges) 0 (length s.left.vars)) (fit : FitLevels sizes)
-    (operands_fit : OperandsFit s operands (slice_index ranges) (length operands)) (machine : IsMachineOf state s operands ranges sizes) where
+    (operands_fit : OperandsFit s operands (slice_index ranges) (length operands)) (machine : IsMachineOf arithmetic state s operands ranges sizes) where
   -- the sizes of an access's tensor, by its own variables
   sizes_read : (k : ℕ) (access : Access) → slice_get s.accesses k ≡ Some access → sizes_in s operands ranges access.tensor ≡ mode_sizes s (slice_index ranges) access.tensor (length access.vars)
   sizes_read k access stands = let o = operand_read s operands computable k access stands in
       ap (mode_sizes s (slice_index ranges) access.tensor) (ap (order_of s operands) o.tensor_is ∙ ap order_or_zero o.there ∙ sym o.order_is)
 
-  operand_loaded : (n : ℕ) → n < length operands → IsLoaded state (suc n) (sizes_in s operands ranges (suc n)) (entries_of operands (suc n))
+  operand_loaded : (n : ℕ) → n < length operands → IsLoaded arithmetic state (suc n) (sizes_in s operands ranges (suc n)) (entries_of operands (suc n))
   operand_loaded n l = let next : n + 1 ≡ suc n = omega arith in
-      subst (λ t. IsLoaded state t (mode_sizes s (slice_index ranges) t (order_or_zero (slice_get operands n))) (entries_of operands t)) next (machine.loaded n l)
+      subst (λ t. IsLoaded arithmetic state t (mode_sizes s (slice_index ranges) t (order_or_zero (slice_get operands n))) (entries_of operands t)) next (machine.loaded n l)
 
   values_loaded : (n : ℕ) (l : n < length operands) → values_in state (suc n) ≡ (operand_loaded n l).values
   values_loaded n l = ap words_or_none (operand_loaded n l).values_are
@@ -169,28 +168,28 @@ module _ (s : Statement) (operands : List Entries) (ranges sizes : List ℕ) (st
   values_are zero p l = absurd (omega arith)
   values_are (suc n) p l = (operand_loaded n (omega arith)).values_are ∙ ap Some (sym (values_loaded n (omega arith)))
 
-  pub loaded : Loaded ranges (sizes_in s operands ranges) (values_in state) (suc (length operands)) (replicate (product sizes) ring.zero) (restarted state)
+  pub loaded : Loaded ranges (sizes_in s operands ranges) (values_in state) (suc (length operands)) (replicate (product sizes) arithmetic.zero) (restarted state)
   loaded = record { range = machine.range; sizes_are = λ t l. restart t 1 (sizes_in s operands ranges t) (sizes_loaded t l); values_are = values_are; result = machine.result }
     where
       restart : (t level : ℕ) (ns : List ℕ) → SizesFrom state t level ns → SizesFrom (restarted state) t level ns
       restart t level [] h = tt
       restart t level (n ∷ ns) h = (h.0, restart t (level + 1) ns h.1)
 
-  reads : Reads (sizes_in s operands ranges) (values_in state) (suc (length operands)) (operand_values ring operands)
+  reads : Reads (sizes_in s operands ranges) (values_in state) (suc (length operands)) (operand_values arithmetic operands)
   reads zero p l cs below = absurd (omega arith)
   reads (suc n) p l cs below =
       ap (λ xs. slice_index xs (position (sizes_in s operands ranges (suc n)) cs)) (values_loaded n (omega arith)) ∙ (operand_loaded n (omega arith)).dense.each cs below
 
-  values_are_words : AreWords (operand_values ring operands)
-  values_are_words t cs = total_fits ring ring_laws (values_at (entries_of operands t) cs)
+  values_are_words : AreWords (operand_values arithmetic operands)
+  values_are_words t cs = total_fits arithmetic laws (values_at (entries_of operands t) cs)
 
   -- the loops end, and what they leave
-  pub ended : Ending (setting []) (loops_code 0 (length s.vars) (body_code s.left s.accesses)) (restarted state)
+  pub ended : Ending (setting arithmetic []) (loops_code 0 (length s.vars) (body_code arithmetic.one (length s.vars) s.left s.accesses)) (restarted state)
       (Leaves ranges (sizes_in s operands ranges) (values_in state) (suc (length operands)) 0 (λ w. 0)
-      (after (slice_index ranges) (step_of (sizes_in s operands ranges) (values_in state) s.left s.accesses) 0 (length s.vars) (λ w. 0) (replicate (product sizes) ring.zero)))
-  ended = does_end (setting []) (loops_code 0 (length s.vars) (body_code s.left s.accesses)) (restarted state) _
-      (loops_do (setting []) ranges (sizes_in s operands ranges) (values_in state) (suc (length operands)) (length s.vars) (product sizes) s.left s.accesses refl fits
-      (length s.vars) 0 (omega arith) (λ w. 0) (λ w l. absurd (omega arith)) (replicate (product sizes) ring.zero) (length-replicate (product sizes) ring.zero) (restarted state)
+      (after (slice_index ranges) (step_of arithmetic (sizes_in s operands ranges) (values_in state) s.left s.accesses) 0 (length s.vars) (λ w. 0) (replicate (product sizes) arithmetic.zero)))
+  ended = does_end (setting arithmetic []) (loops_code 0 (length s.vars) (body_code arithmetic.one (length s.vars) s.left s.accesses)) (restarted state) _
+      (loops_do (setting arithmetic []) ranges (sizes_in s operands ranges) (values_in state) (suc (length operands)) (length s.vars) (product sizes) s.left s.accesses fits
+      (length s.vars) 0 (omega arith) (λ w. 0) (λ w l. absurd (omega arith)) (replicate (product sizes) arithmetic.zero) (length-replicate (product sizes) arithmetic.zero) (restarted state)
       (record { set_below = λ w l. absurd (omega arith); loaded = loaded }))
 
   range_path : slice_index ranges ≡ operand_ranges s operands
@@ -199,27 +198,27 @@ module _ (s : Statement) (operands : List Entries) (ranges sizes : List ℕ) (st
   sizes_path : sizes ≡ map (operand_ranges s operands) s.left.vars
   sizes_path = sizes_are ∙ sizes_of_result s computable.named (slice_index ranges) ∙ ap (λ r. map r s.left.vars) range_path
 
-  left_length : length (after (slice_index ranges) (step_of (sizes_in s operands ranges) (values_in state) s.left s.accesses) 0 (length s.vars) (λ w. 0) (replicate (product sizes) ring.zero)) ≡ product sizes
-  left_length = after_length (slice_index ranges) (step_of (sizes_in s operands ranges) (values_in state) s.left s.accesses) (product sizes) (step_length (sizes_in s operands ranges) (values_in state) s.left s.accesses (product sizes))
-      0 (length s.vars) (λ w. 0) (replicate (product sizes) ring.zero) (length-replicate (product sizes) ring.zero)
+  left_length : length (after (slice_index ranges) (step_of arithmetic (sizes_in s operands ranges) (values_in state) s.left s.accesses) 0 (length s.vars) (λ w. 0) (replicate (product sizes) arithmetic.zero)) ≡ product sizes
+  left_length = after_length (slice_index ranges) (step_of arithmetic (sizes_in s operands ranges) (values_in state) s.left s.accesses) (product sizes) (step_length arithmetic (sizes_in s operands ranges) (values_in state) s.left s.accesses (product sizes))
+      0 (length s.vars) (λ w. 0) (replicate (product sizes) arithmetic.zero) (length-replicate (product sizes) arithmetic.zero)
 
   left_each : (coords : List ℕ) → IsBelow sizes coords
-      → slice_index (after (slice_index ranges) (step_of (sizes_in s operands ranges) (values_in state) s.left s.accesses) 0 (length s.vars) (λ w. 0) (replicate (product sizes) ring.zero)) (position sizes coords)
-      ≡ statement_value ring s (operand_values ring operands) (operand_ranges s operands) coords
+      → slice_index (after (slice_index ranges) (step_of arithmetic (sizes_in s operands ranges) (values_in state) s.left s.accesses) 0 (length s.vars) (λ w. 0) (replicate (product sizes) arithmetic.zero)) (position sizes coords)
+      ≡ statement_value arithmetic s (operand_values arithmetic operands) (operand_ranges s operands) coords
   left_each coords below =
       let there : IsBelow (sizes_in s operands ranges s.left.tensor) coords = subst (λ ns. IsBelow ns coords) (sym left_sizes) below in
-      let zeros = replicate (product sizes) ring.zero in
-      let empty = get_or-replicate (product sizes) (position (sizes_in s operands ranges s.left.tensor) coords) ring.zero 0
+      let zeros = replicate (product sizes) arithmetic.zero in
+      let empty = get_or-replicate (product sizes) (position (sizes_in s operands ranges s.left.tensor) coords) arithmetic.zero 0
       (subst (λ ns. position (sizes_in s operands ranges s.left.tensor) coords < product ns) left_sizes (position_below (sizes_in s operands ranges s.left.tensor) coords there)) in
-      ap (λ ns. slice_index (after (slice_index ranges) (step_of (sizes_in s operands ranges) (values_in state) s.left s.accesses) 0 (length s.vars) (λ w. 0) zeros) (position ns coords)) (sym left_sizes)
-      ∙ loops_value s computable.operands_fit.numbered computable.named computable.product ranges (sizes_in s operands ranges) (values_in state) (suc (length operands)) (product sizes) fits
-      (left_sizes ∙ sizes_are ∙ sizes_of_result s computable.named (slice_index ranges)) (operand_values ring operands) values_are_words reads zeros (length-replicate (product sizes) ring.zero) coords there empty
-      ∙ ap (λ r. statement_value ring s (operand_values ring operands) r coords) range_path
+      ap (λ ns. slice_index (after (slice_index ranges) (step_of arithmetic (sizes_in s operands ranges) (values_in state) s.left s.accesses) 0 (length s.vars) (λ w. 0) zeros) (position ns coords)) (sym left_sizes)
+      ∙ loops_value arithmetic laws s computable.operands_fit.numbered computable.named computable.product ranges (sizes_in s operands ranges) (values_in state) (suc (length operands)) (product sizes) fits
+      (left_sizes ∙ sizes_are ∙ sizes_of_result s computable.named (slice_index ranges)) (operand_values arithmetic operands) values_are_words reads zeros (length-replicate (product sizes) arithmetic.zero) coords there empty
+      ∙ ap (λ r. statement_value arithmetic s (operand_values arithmetic operands) r coords) range_path
 
   pub result_of : (final : State) (values : List ℕ) → final.arrays (Values 0) ≡ Some values
       → Leaves ranges (sizes_in s operands ranges) (values_in state) (suc (length operands)) 0 (λ w. 0)
-      (after (slice_index ranges) (step_of (sizes_in s operands ranges) (values_in state) s.left s.accesses) 0 (length s.vars) (λ w. 0) (replicate (product sizes) ring.zero)) final
-      → IsResult s operands sizes values
+      (after (slice_index ranges) (step_of arithmetic (sizes_in s operands ranges) (values_in state) s.left s.accesses) 0 (length s.vars) (λ w. 0) (replicate (product sizes) arithmetic.zero)) final
+      → IsResult arithmetic s operands sizes values
   result_of final values there leaves =
       let same = one_list _ _ (sym there ∙ leaves.loaded.result) in
       record {

@@ -1,11 +1,10 @@
 -- The loops leave the statement's values.
-use Rattle.std.specs.Prelude.{◌≡◌, ◌≢◌, ℕ, zero, suc, ◌+◌, ◌*◌, ◌-◌, ◌^◌, ◌<◌, ◌≤◌, nat_lt, true, false, Bool, List, [], ◌∷◌, ◌++◌, length, map, slice_index, refl}
+use Rattle.std.specs.Prelude.{◌≡◌, ◌≢◌, ℕ, zero, suc, ◌+◌, ◌-◌, ◌^◌, ◌<◌, ◌≤◌, nat_lt, true, false, Bool, List, [], ◌∷◌, ◌++◌, length, map, slice_index, refl}
 use Rattle.std.proofs.Common.{◌∙◌, sym, ap, subst, arith}
 use Rattle.std.proofs.lemmas.List.{length-map}
 use Rattle.std.proofs.lemmas.Bool.Decides.{nat_tests}
-use Rattle.numbers.specs.Ring.{ring}
-use Rattle.numbers.proofs.WordLaws.{zero_plus, zero_fits}
-use Rattle.numbers.specs.RingLaws.{ring_laws}
+use Rattle.numbers.specs.Arithmetic.{Arithmetic, Laws}
+use Rattle.numbers.proofs.Sums.{zero_before}
 use Rattle.index_notation.specs.Statement.{numbers_from, IsNumbered, IsWellNamed}
 use Rattle.index_notation.specs.declared.syntax.Access.{Access}
 use Rattle.index_notation.specs.declared.syntax.Statement.{Statement}
@@ -16,10 +15,10 @@ use Rattle.expr_terms.specs.Products.{product_of_values, product_from, IsProduct
 use Rattle.expr_terms.proofs.ProductLaws.{statement_value_of_product, left_within}
 use Rattle.expr_terms.specs.ValueLaws.{AreWords}
 use Rattle.expr_terms.proofs.TermLaws.{statement_value_fits}
-use Rattle.tns_io.specs.Positions.{product, IsBelow, position}
+use Rattle.tns_io.specs.Positions.{IsBelow, position}
 use Rattle.range_loops.proofs.Values.{read_at, read_product, read_product_after}
-use Rattle.tns_io.proofs.PositionLaws.{position_injective, below_long}
-use Rattle.range_loops.proofs.LoopLaws.{InRange, Fits, AllPlaced, AllStand, after, step_of, elsewhere, there}
+use Rattle.tns_io.proofs.PositionLaws.{position_injective}
+use Rattle.range_loops.proofs.LoopLaws.{Fits, AllPlaced, AllStand, after, step_of, elsewhere, there}
 use Rattle.range_loops.proofs.Totals.{after_value, collapse, filled, numbers_append, sum_over_same, each_over, where_equal}
 
 zero_more : (w : ℕ) → 0 + w ≡ w
@@ -108,74 +107,76 @@ filled_is (suc k) v (c ∷ cs) target point l h z w m =
 abbrev pub Reads : (ℕ → List ℕ) → (ℕ → List ℕ) → ℕ → (ℕ → List ℕ → ℕ) → Type 0
 Reads sizes values tensors tensor_values = (t : ℕ) → 0 < t → t < tensors → (cs : List ℕ) → IsBelow (sizes t) cs → slice_index (values t) (position (sizes t) cs) ≡ tensor_values t cs
 
-read_after : (sizes values : ℕ → List ℕ) (tensors vars : ℕ) (tensor_values : ℕ → List ℕ → ℕ) → Reads sizes values tensors tensor_values → (q : ℕ → ℕ) (x : ℕ) (accesses : List Access)
-    → AllStand tensors vars accesses → AllPlaced sizes values q accesses
-    → read_product_after x sizes values q accesses ≡ product_from ring x (map (access_value tensor_values q) accesses)
-read_after sizes values tensors vars tensor_values reads q x [] st pl = refl
-read_after sizes values tensors vars tensor_values reads q x (a ∷ others) st pl =
-    let here : read_at sizes values q a ≡ access_value tensor_values q a = reads a.tensor st.0.operand st.0.tensor (map q a.vars) pl.0.below in
-    ap (λ y. read_product_after (ring.times x y) sizes values q others) here
-    ∙ read_after sizes values tensors vars tensor_values reads q (ring.times x (access_value tensor_values q a)) others st.1 pl.1
+-- over any arithmetic of values
+module _ (arithmetic : Arithmetic) (laws : Laws arithmetic) where
+  read_after : (sizes values : ℕ → List ℕ) (tensors vars : ℕ) (tensor_values : ℕ → List ℕ → ℕ) → Reads sizes values tensors tensor_values → (q : ℕ → ℕ) (x : ℕ) (accesses : List Access)
+      → AllStand tensors vars accesses → AllPlaced sizes values q accesses
+      → read_product_after arithmetic x sizes values q accesses ≡ product_from arithmetic x (map (access_value tensor_values q) accesses)
+  read_after sizes values tensors vars tensor_values reads q x [] st pl = refl
+  read_after sizes values tensors vars tensor_values reads q x (a ∷ others) st pl =
+      let here : read_at sizes values q a ≡ access_value tensor_values q a = reads a.tensor st.0.operand st.0.tensor (map q a.vars) pl.0.below in
+      ap (λ y. read_product_after arithmetic (arithmetic.times x y) sizes values q others) here
+      ∙ read_after sizes values tensors vars tensor_values reads q (arithmetic.times x (access_value tensor_values q a)) others st.1 pl.1
 
-read_is : (sizes values : ℕ → List ℕ) (tensors vars : ℕ) (tensor_values : ℕ → List ℕ → ℕ) → Reads sizes values tensors tensor_values → (q : ℕ → ℕ) (accesses : List Access)
-    → AllStand tensors vars accesses → AllPlaced sizes values q accesses → 0 < length accesses
-    → read_product sizes values q accesses ≡ product_of_values ring (map (access_value tensor_values q) accesses)
-read_is sizes values tensors vars tensor_values reads q [] st pl some = absurd (omega arith)
-read_is sizes values tensors vars tensor_values reads q (a ∷ others) st pl some =
-    let here : read_at sizes values q a ≡ access_value tensor_values q a = reads a.tensor st.0.operand st.0.tensor (map q a.vars) pl.0.below in
-    ap (λ y. read_product_after y sizes values q others) here
-    ∙ read_after sizes values tensors vars tensor_values reads q (access_value tensor_values q a) others st.1 pl.1
+  read_is : (sizes values : ℕ → List ℕ) (tensors vars : ℕ) (tensor_values : ℕ → List ℕ → ℕ) → Reads sizes values tensors tensor_values → (q : ℕ → ℕ) (accesses : List Access)
+      → AllStand tensors vars accesses → AllPlaced sizes values q accesses → 0 < length accesses
+      → read_product arithmetic sizes values q accesses ≡ product_of_values arithmetic (map (access_value tensor_values q) accesses)
+  read_is sizes values tensors vars tensor_values reads q [] st pl some = absurd (omega arith)
+  read_is sizes values tensors vars tensor_values reads q (a ∷ others) st pl some =
+      let here : read_at sizes values q a ≡ access_value tensor_values q a = reads a.tensor st.0.operand st.0.tensor (map q a.vars) pl.0.below in
+      ap (λ y. read_product_after arithmetic y sizes values q others) here
+      ∙ read_after sizes values tensors vars tensor_values reads q (access_value tensor_values q a) others st.1 pl.1
 
-product_word : (xs : List ℕ) (x : ℕ) → x < 2 ^ 64 → product_from ring x xs < 2 ^ 64
-product_word [] x w = w
-product_word (y ∷ ys) x w = product_word ys (ring.times x y) (ring_laws.times_fits x y)
+  product_word : (xs : List ℕ) (x : ℕ) → x < 2 ^ 64 → product_from arithmetic x xs < 2 ^ 64
+  product_word [] x w = w
+  product_word (y ∷ ys) x w = product_word ys (arithmetic.times x y) (laws.times_fits x y)
 
-product_words : (values : ℕ → List ℕ → ℕ) → AreWords values → (q : ℕ → ℕ) (accesses : List Access) → product_of_values ring (map (access_value values q) accesses) < 2 ^ 64
-product_words values words q [] = ring_laws.one_fits
-product_words values words q (a ∷ others) = product_word (map (access_value values q) others) (access_value values q a) (words a.tensor (map q a.vars))
+  product_words : (values : ℕ → List ℕ → ℕ) → AreWords values → (q : ℕ → ℕ) (accesses : List Access) → product_of_values arithmetic (map (access_value values q) accesses) < 2 ^ 64
+  product_words values words q [] = laws.one_fits
+  product_words values words q (a ∷ others) = product_word (map (access_value values q) others) (access_value values q a) (words a.tensor (map q a.vars))
 
--- the loops leave the statement's value at the place of each coordinate list
-pub loops_value : (s : Statement) → IsNumbered s → IsWellNamed s → IsProduct s
-    → (ranges : List ℕ) (sizes values : ℕ → List ℕ) (tensors size : ℕ) → Fits ranges sizes values tensors (length s.vars) size s.left s.accesses
-    → sizes s.left.tensor ≡ map (slice_index ranges) s.left.vars
-    → (tensor_values : ℕ → List ℕ → ℕ) → AreWords tensor_values → Reads sizes values tensors tensor_values
-    → (xs : List ℕ) → length xs ≡ size → (coords : List ℕ) → IsBelow (sizes s.left.tensor) coords → slice_index xs (position (sizes s.left.tensor) coords) ≡ ring.zero
-    → slice_index (after (slice_index ranges) (step_of sizes values s.left s.accesses) 0 (length s.vars) (λ w. 0) xs) (position (sizes s.left.tensor) coords)
-    ≡ statement_value ring s tensor_values (slice_index ranges) coords
-loops_value s numbered named is_product ranges sizes values tensors size fits result_sizes tensor_values words reads xs long coords below empty =
-    let range = slice_index ranges in
-    let vars = length s.vars in
-    let lefts = length s.left.vars in
-    let owns = vars - lefts in
-    let within : lefts ≤ vars = left_within s numbered named in
-    let all : lefts + owns ≡ vars = omega arith in
-    let start = λ (w : ℕ). zero in
-    let target = slice_index coords in
-    let i = position (sizes s.left.tensor) coords in
-    let place = λ (q : ℕ → ℕ). position (sizes s.left.tensor) (map q s.left.vars) in
-    let read = λ (q : ℕ → ℕ). read_product sizes values q s.accesses in
-    let told = λ (q : ℕ → ℕ). product_of_values ring (map (access_value tensor_values q) s.accesses) in
-    let long_coords : length coords ≡ lefts = below_length (sizes s.left.tensor) coords below ∙ ap length result_sizes ∙ length-map s.left.vars range in
-    let numbered_sizes : sizes s.left.tensor ≡ map range (numbers_from 0 lefts) = result_sizes ∙ ap (map range) named.standing in
-    let inside = λ (w : ℕ) (l : w < lefts). subst (λ v. target w < range v) (zero_more w) (below_numbers range 0 lefts coords (subst (λ ns. IsBelow ns coords) numbered_sizes below) w l) in
-    let at_target = λ (q : ℕ → ℕ) (h : (w : ℕ) → w < lefts → q w ≡ target w). ap (map q) named.standing ∙ mapped_numbers 0 lefts q coords long_coords (λ w l. ap q (zero_more w) ∙ h w l) in
-    let differ = λ (q : ℕ → ℕ) (reach : (w : ℕ) → w < lefts + owns → q w < range w) (v : ℕ) (l : v < lefts) (ne : q v ≢ target v) (e : place q ≡ i).
-    ne (sym (ap q (zero_more v)) ∙ sym (index_numbers q 0 lefts v l)
-    ∙ ap (λ vs. slice_index (map q vs) v) (sym named.standing)
-    ∙ ap (λ cs. slice_index cs v) (position_injective (sizes s.left.tensor) (map q s.left.vars) coords (fits.below q (λ w m. reach w (omega arith))) below e)) in
-    let numbers_are : numbers_from 0 vars ≡ numbers_from 0 lefts ++ numbers_from lefts owns = sym (numbers_append 0 lefts owns lefts (zero_more lefts) ∙ ap (numbers_from 0) all) in
-    let summed : sum_over ring range (numbers_from 0 vars) (λ q. where_equal (place q) i (read q)) start ≡ sum_over ring range (numbers_from lefts owns) told (filled 0 lefts target start) =
-    sum_over_same range (numbers_from 0 vars) (λ q. where_equal (place q) i (read q)) (λ q. where_equal (place q) i (told q)) start
-    (each_over range (λ q. where_equal (place q) i (read q) ≡ where_equal (place q) i (told q)) vars 0 start (λ q kept reach.
-    ap (where_equal (place q) i) (read_is sizes values tensors vars tensor_values reads q s.accesses fits.stand (fits.placed q (λ w l. reach w (omega arith) (omega arith))) is_product.some)))
-    ∙ ap (λ ns. sum_over ring range ns (λ q. where_equal (place q) i (told q)) start) numbers_are
-    ∙ collapse range lefts owns place told i target inside (λ q. product_words tensor_values words q s.accesses) (λ q h. ap (position (sizes s.left.tensor)) (at_target q h)) differ
-    lefts 0 (zero_more lefts) start (λ w l. absurd (omega arith)) in
-    let point_is : filled 0 lefts target start ≡ point_of s.left.vars coords =
-    (λ j w. filled_is lefts 0 coords target start long_coords (λ y l. ap target (zero_more y)) (λ y l. refl) w (omega arith) j) ∙ ap (λ vs. point_of vs coords) (sym named.standing) in
-    let whole = summed ∙ ap (sum_over ring range (numbers_from lefts owns) told) point_is ∙ sym (statement_value_of_product ring ring_laws s numbered named is_product tensor_values words range coords) in
-    let fits_word : statement_value ring s tensor_values range coords < 2 ^ 64 = statement_value_fits ring ring_laws s tensor_values range coords in
-    after_value ranges size vars i place read fits.within vars 0 (zero_more vars) start (λ w l. absurd (omega arith)) xs long (subst (λ y. y < 2 ^ 64) (sym empty) zero_fits)
-    ∙ ap (λ y. ring.plus y (sum_over ring range (numbers_from 0 vars) (λ q. where_equal (place q) i (read q)) start)) empty
-    ∙ ap (ring.plus ring.zero) whole
-    ∙ zero_plus (statement_value ring s tensor_values range coords) fits_word
+  -- the loops leave the statement's value at the place of each coordinate list
+  pub loops_value : (s : Statement) → IsNumbered s → IsWellNamed s → IsProduct s
+      → (ranges : List ℕ) (sizes values : ℕ → List ℕ) (tensors size : ℕ) → Fits ranges sizes values tensors (length s.vars) size s.left s.accesses
+      → sizes s.left.tensor ≡ map (slice_index ranges) s.left.vars
+      → (tensor_values : ℕ → List ℕ → ℕ) → AreWords tensor_values → Reads sizes values tensors tensor_values
+      → (xs : List ℕ) → length xs ≡ size → (coords : List ℕ) → IsBelow (sizes s.left.tensor) coords → slice_index xs (position (sizes s.left.tensor) coords) ≡ arithmetic.zero
+      → slice_index (after (slice_index ranges) (step_of arithmetic sizes values s.left s.accesses) 0 (length s.vars) (λ w. 0) xs) (position (sizes s.left.tensor) coords)
+      ≡ statement_value arithmetic s tensor_values (slice_index ranges) coords
+  loops_value s numbered named is_product ranges sizes values tensors size fits result_sizes tensor_values words reads xs long coords below empty =
+      let range = slice_index ranges in
+      let vars = length s.vars in
+      let lefts = length s.left.vars in
+      let owns = vars - lefts in
+      let within : lefts ≤ vars = left_within s numbered named in
+      let all : lefts + owns ≡ vars = omega arith in
+      let start = λ (w : ℕ). zero in
+      let target = slice_index coords in
+      let i = position (sizes s.left.tensor) coords in
+      let place = λ (q : ℕ → ℕ). position (sizes s.left.tensor) (map q s.left.vars) in
+      let read = λ (q : ℕ → ℕ). read_product arithmetic sizes values q s.accesses in
+      let told = λ (q : ℕ → ℕ). product_of_values arithmetic (map (access_value tensor_values q) s.accesses) in
+      let long_coords : length coords ≡ lefts = below_length (sizes s.left.tensor) coords below ∙ ap length result_sizes ∙ length-map s.left.vars range in
+      let numbered_sizes : sizes s.left.tensor ≡ map range (numbers_from 0 lefts) = result_sizes ∙ ap (map range) named.standing in
+      let inside = λ (w : ℕ) (l : w < lefts). subst (λ v. target w < range v) (zero_more w) (below_numbers range 0 lefts coords (subst (λ ns. IsBelow ns coords) numbered_sizes below) w l) in
+      let at_target = λ (q : ℕ → ℕ) (h : (w : ℕ) → w < lefts → q w ≡ target w). ap (map q) named.standing ∙ mapped_numbers 0 lefts q coords long_coords (λ w l. ap q (zero_more w) ∙ h w l) in
+      let differ = λ (q : ℕ → ℕ) (reach : (w : ℕ) → w < lefts + owns → q w < range w) (v : ℕ) (l : v < lefts) (ne : q v ≢ target v) (e : place q ≡ i).
+      ne (sym (ap q (zero_more v)) ∙ sym (index_numbers q 0 lefts v l)
+      ∙ ap (λ vs. slice_index (map q vs) v) (sym named.standing)
+      ∙ ap (λ cs. slice_index cs v) (position_injective (sizes s.left.tensor) (map q s.left.vars) coords (fits.below q (λ w m. reach w (omega arith))) below e)) in
+      let numbers_are : numbers_from 0 vars ≡ numbers_from 0 lefts ++ numbers_from lefts owns = sym (numbers_append 0 lefts owns lefts (zero_more lefts) ∙ ap (numbers_from 0) all) in
+      let summed : sum_over arithmetic range (numbers_from 0 vars) (λ q. where_equal arithmetic laws (place q) i (read q)) start ≡ sum_over arithmetic range (numbers_from lefts owns) told (filled 0 lefts target start) =
+      sum_over_same arithmetic laws range (numbers_from 0 vars) (λ q. where_equal arithmetic laws (place q) i (read q)) (λ q. where_equal arithmetic laws (place q) i (told q)) start
+      (each_over range (λ q. where_equal arithmetic laws (place q) i (read q) ≡ where_equal arithmetic laws (place q) i (told q)) vars 0 start (λ q kept reach.
+      ap (where_equal arithmetic laws (place q) i) (read_is sizes values tensors vars tensor_values reads q s.accesses fits.stand (fits.placed q (λ w l. reach w (omega arith) (omega arith))) is_product.some)))
+      ∙ ap (λ ns. sum_over arithmetic range ns (λ q. where_equal arithmetic laws (place q) i (told q)) start) numbers_are
+      ∙ collapse arithmetic laws range lefts owns place told i target inside (λ q. product_words tensor_values words q s.accesses) (λ q h. ap (position (sizes s.left.tensor)) (at_target q h)) differ
+      lefts 0 (zero_more lefts) start (λ w l. absurd (omega arith)) in
+      let point_is : filled 0 lefts target start ≡ point_of s.left.vars coords =
+      (λ j w. filled_is lefts 0 coords target start long_coords (λ y l. ap target (zero_more y)) (λ y l. refl) w (omega arith) j) ∙ ap (λ vs. point_of vs coords) (sym named.standing) in
+      let whole = summed ∙ ap (sum_over arithmetic range (numbers_from lefts owns) told) point_is ∙ sym (statement_value_of_product arithmetic laws s numbered named is_product tensor_values words range coords) in
+      let fits_word : statement_value arithmetic s tensor_values range coords < 2 ^ 64 = statement_value_fits arithmetic laws s tensor_values range coords in
+      after_value arithmetic laws ranges size vars i place read fits.within vars 0 (zero_more vars) start (λ w l. absurd (omega arith)) xs long (subst (λ y. y < 2 ^ 64) (sym empty) laws.zero_fits)
+      ∙ ap (λ y. arithmetic.plus y (sum_over arithmetic range (numbers_from 0 vars) (λ q. where_equal arithmetic laws (place q) i (read q)) start)) empty
+      ∙ ap (arithmetic.plus arithmetic.zero) whole
+      ∙ zero_before arithmetic laws (statement_value arithmetic s tensor_values range coords) fits_word

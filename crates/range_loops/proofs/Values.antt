@@ -1,37 +1,23 @@
 -- The values of the code's expressions.
-use Rattle.std.specs.Prelude.{◌≡◌, ℕ, zero, suc, ◌+◌, ◌*◌, ◌-◌, ◌%◌, ◌^◌, ◌<◌, ◌≤◌, List, [], ◌∷◌, length, map, Option, Some, None, slice_get, slice_index, refl}
-use Rattle.std.proofs.Common.{◌∙◌, sym, ap, subst, arith}
-use Rattle.std.proofs.Math.Nat.{mod-eq_of_lt, mul_assoc, add-mul, mul-le-mul_left}
+use Rattle.std.specs.Prelude.{◌≡◌, ℕ, ◌+◌, ◌*◌, ◌^◌, ◌<◌, ◌≤◌, List, [], ◌∷◌, length, map, Some, slice_index, refl}
+use Rattle.std.proofs.Common.{◌∙◌, ap, arith}
+use Rattle.std.proofs.Math.Nat.{mul-le-mul_left}
 use Rattle.std.proofs.lemmas.Option.{slice_get-get_or}
-use Rattle.numbers.specs.Ring.{ring, word_sum, word_product}
-use Rattle.numbers.proofs.WordLaws.{product_is_times, word_sum_is, word_product_is}
+use Rattle.numbers.specs.Arithmetic.{Arithmetic}
 use Rattle.kernel_code.specs.declared.syntax.Arr.{Arr}
-use Rattle.kernel_code.specs.declared.syntax.Arr.TheVariants.{Range, Values, Dimension}
-use Rattle.kernel_code.specs.declared.syntax.Op.{Op}
-use Rattle.kernel_code.specs.declared.syntax.Op.TheVariants.{Add, Mul, Less}
+use Rattle.kernel_code.specs.declared.syntax.Arr.TheVariants.{Values, Dimension}
+use Rattle.kernel_code.specs.declared.syntax.Op.TheVariants.{Add, Mul}
 use Rattle.kernel_code.specs.declared.syntax.KExpr.{KExpr, Num, Var, At, Bin}
-use Rattle.kernel_code.specs.Meaning.{State, value, word_at, apply_both, apply}
-use Rattle.kernel_code.proofs.Equations.{value_at, value_bin}
+use Rattle.kernel_code.specs.Meaning.{State, value}
+use Rattle.kernel_code.proofs.Words.{word_is, sum_is, product_is}
 use Rattle.index_notation.specs.declared.syntax.Access.{Access}
-use Rattle.range_loops.specs.Code.{position_below, position_code, access_code, product_after, product_code}
+use Rattle.range_loops.specs.Code.{position_below, position_code, access_code}
 use Rattle.tns_io.specs.Positions.{product, IsBelow, position}
 use Rattle.range_loops.specs.Runs.{SizesFrom}
 
-pub bin_is : (o : Op) (e f : KExpr) (s : State) (x y : ℕ) → value e s ≡ Some x → value f s ≡ Some y → value (Bin o e f) s ≡ apply_both o (Some x) (Some y)
-bin_is o e f s x y h g = value_bin o e f s ∙ ap (λ v. apply_both o v (value f s)) h ∙ ap (apply_both o (Some x)) g
-
-pub sum_is : (e f : KExpr) (s : State) (x y : ℕ) → value e s ≡ Some x → value f s ≡ Some y → x + y < 2 ^ 64 → value (Bin Add e f) s ≡ Some (x + y)
-sum_is e f s x y h g l = bin_is Add e f s x y h g ∙ ap Some (word_sum_is x y l)
-
-pub product_is : (e f : KExpr) (s : State) (x y : ℕ) → value e s ≡ Some x → value f s ≡ Some y → x * y < 2 ^ 64 → value (Bin Mul e f) s ≡ Some (x * y)
-product_is e f s x y h g l = bin_is Mul e f s x y h g ∙ ap Some (word_product_is x y l)
-
-pub times_is : (e f : KExpr) (s : State) (x y : ℕ) → value e s ≡ Some x → value f s ≡ Some y → value (Bin Mul e f) s ≡ Some (ring.times x y)
-times_is e f s x y h g = bin_is Mul e f s x y h g ∙ ap Some (product_is_times x y)
-
 -- the word at a place of an array
-pub word_is : (a : Arr) (i : KExpr) (s : State) (xs : List ℕ) (n : ℕ) → s.arrays a ≡ Some xs → value i s ≡ Some n → n < length xs → value (At a i) s ≡ Some (slice_index xs n)
-word_is a i s xs n h g l = value_at a i s ∙ ap (λ o. word_at o (value i s)) h ∙ ap (word_at (Some xs)) g ∙ slice_get-get_or xs n 0 l
+pub element_is : (a : Arr) (i : KExpr) (s : State) (xs : List ℕ) (n : ℕ) → s.arrays a ≡ Some xs → value i s ≡ Some n → n < length xs → value (At a i) s ≡ Some (slice_index xs n)
+element_is a i s xs n h g l = word_is a i xs n (slice_index xs n) s h g (slice_get-get_or xs n 0 l)
 
 -- below sizes, none of which is 0
 pub some_below : (ns cs : List ℕ) → IsBelow ns cs → 1 ≤ product ns
@@ -63,9 +49,9 @@ position_below_is s tensor level above a (v ∷ vs) (n ∷ ns) (x ∷ cs) h size
     let same = horner a n x (product ns) (position ns cs) in
     let whole : a * n + x ≤ (a * n + x) * product ns = at_most_times (a * n + x) (product ns) rest in
     let small : a * n + x < 2 ^ 64 = omega arith in
-    let size : value (At (Dimension tensor level) (Num 0)) s ≡ Some n = word_is (Dimension tensor level) (Num 0) s (n ∷ []) 0 sizes.0 refl (omega arith) in
-    let begin : value (Bin Mul above (At (Dimension tensor level) (Num 0))) s ≡ Some (a * n) = product_is above (At (Dimension tensor level) (Num 0)) s a n h size (omega arith) in
-    let here : value (Bin Add (Bin Mul above (At (Dimension tensor level) (Num 0))) (Var v)) s ≡ Some (a * n + x) = sum_is (Bin Mul above (At (Dimension tensor level) (Num 0))) (Var v) s (a * n) x begin have.0 small in
+    let size : value (At (Dimension tensor level) (Num 0)) s ≡ Some n = element_is (Dimension tensor level) (Num 0) s (n ∷ []) 0 sizes.0 refl (omega arith) in
+    let begin : value (Bin Mul above (At (Dimension tensor level) (Num 0))) s ≡ Some (a * n) = product_is above (At (Dimension tensor level) (Num 0)) a n s h size (omega arith) in
+    let here : value (Bin Add (Bin Mul above (At (Dimension tensor level) (Num 0))) (Var v)) s ≡ Some (a * n + x) = sum_is (Bin Mul above (At (Dimension tensor level) (Num 0))) (Var v) (a * n) x s begin have.0 small in
     position_below_is s tensor (level + 1) (Bin Add (Bin Mul above (At (Dimension tensor level) (Num 0))) (Var v)) (a * n + x) vs ns cs here sizes.1 have.1 b.1 (omega arith) ∙ ap Some same
 position_below_is s tensor level above a [] [] (x ∷ cs) h sizes have b l = absurd b
 position_below_is s tensor level above a [] (n ∷ ns) [] h sizes have b l = absurd b
@@ -90,13 +76,13 @@ abbrev pub read_at : (ℕ → List ℕ) → (ℕ → List ℕ) → (ℕ → ℕ)
 read_at sizes values point a = slice_index (values a.tensor) (position (sizes a.tensor) (map point a.vars))
 
 -- a product so far times what more accesses read
-abbrev pub read_product_after : ℕ → (ℕ → List ℕ) → (ℕ → List ℕ) → (ℕ → ℕ) → List Access → ℕ
-read_product_after x sizes values point [] = x
-read_product_after x sizes values point (a ∷ others) = read_product_after (ring.times x (read_at sizes values point a)) sizes values point others
+abbrev pub read_product_after : Arithmetic → ℕ → (ℕ → List ℕ) → (ℕ → List ℕ) → (ℕ → ℕ) → List Access → ℕ
+read_product_after arithmetic x sizes values point [] = x
+read_product_after arithmetic x sizes values point (a ∷ others) = read_product_after arithmetic (arithmetic.times x (read_at sizes values point a)) sizes values point others
 
-abbrev pub read_product : (ℕ → List ℕ) → (ℕ → List ℕ) → (ℕ → ℕ) → List Access → ℕ
-read_product sizes values point [] = 1
-read_product sizes values point (a ∷ others) = read_product_after (read_at sizes values point a) sizes values point others
+abbrev pub read_product : Arithmetic → (ℕ → List ℕ) → (ℕ → List ℕ) → (ℕ → ℕ) → List Access → ℕ
+read_product arithmetic sizes values point [] = arithmetic.one
+read_product arithmetic sizes values point (a ∷ others) = read_product_after arithmetic (read_at sizes values point a) sizes values point others
 
 -- an access can be read in a state at a point
 pub record Readable (sizes values : ℕ → List ℕ) (point : ℕ → ℕ) (s : State) (a : Access) : Type 0 where
@@ -107,23 +93,7 @@ pub record Readable (sizes values : ℕ → List ℕ) (point : ℕ → ℕ) (s :
   pub within : position (sizes a.tensor) (map point a.vars) < length (values a.tensor)
   pub small : position (sizes a.tensor) (map point a.vars) < 2 ^ 64
 
-abbrev pub AllReadable : (ℕ → List ℕ) → (ℕ → List ℕ) → (ℕ → ℕ) → State → List Access → Type 0
-AllReadable sizes values point s [] = Unit {0}
-AllReadable sizes values point s (a ∷ others) = Readable sizes values point s a × AllReadable sizes values point s others
-
-access_is : (sizes values : ℕ → List ℕ) (point : ℕ → ℕ) (s : State) (a : Access) → Readable sizes values point s a → value (access_code a) s ≡ Some (read_at sizes values point a)
+pub access_is : (sizes values : ℕ → List ℕ) (point : ℕ → ℕ) (s : State) (a : Access) → Readable sizes values point s a → value (access_code a) s ≡ Some (read_at sizes values point a)
 access_is sizes values point s a r =
-    word_is (Values a.tensor) (position_code a.tensor a.vars) s (values a.tensor) (position (sizes a.tensor) (map point a.vars)) r.values_are
+    element_is (Values a.tensor) (position_code a.tensor a.vars) s (values a.tensor) (position (sizes a.tensor) (map point a.vars)) r.values_are
     (position_is s a.tensor a.vars (sizes a.tensor) (map point a.vars) r.sizes_are r.have r.below r.small) r.within
-
-product_after_is : (sizes values : ℕ → List ℕ) (point : ℕ → ℕ) (s : State) (e : KExpr) (x : ℕ) (others : List Access) → value e s ≡ Some x → AllReadable sizes values point s others
-    → value (product_after e others) s ≡ Some (read_product_after x sizes values point others)
-product_after_is sizes values point s e x [] h r = h
-product_after_is sizes values point s e x (a ∷ others) h r =
-    product_after_is sizes values point s (Bin Mul e (access_code a)) (ring.times x (read_at sizes values point a)) others
-    (times_is e (access_code a) s x (read_at sizes values point a) h (access_is sizes values point s a r.0)) r.1
-
-pub product_code_is : (sizes values : ℕ → List ℕ) (point : ℕ → ℕ) (s : State) (others : List Access) → AllReadable sizes values point s others
-    → value (product_code others) s ≡ Some (read_product sizes values point others)
-product_code_is sizes values point s [] r = refl
-product_code_is sizes values point s (a ∷ others) r = product_after_is sizes values point s (access_code a) (read_at sizes values point a) others (access_is sizes values point s a r.0) r.1

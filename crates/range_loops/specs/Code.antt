@@ -1,11 +1,11 @@
 -- The code of the loops, as the compiler makes it.
-use Rattle.std.specs.Prelude.{ℕ, zero, suc, ◌+◌, List, [], ◌∷◌, ◌++◌, length}
-use Rattle.kernel_code.specs.declared.syntax.Arr.{Arr}
+use Rattle.std.specs.Prelude.{ℕ, zero, suc, ◌+◌, List, [], ◌∷◌, ◌++◌}
 use Rattle.kernel_code.specs.declared.syntax.Arr.TheVariants.{Range, Values, Dimension}
 use Rattle.kernel_code.specs.declared.syntax.LoopKind.TheVariants.{Merge}
 use Rattle.kernel_code.specs.declared.syntax.Op.TheVariants.{Add, Mul, Less}
+use Rattle.kernel_code.specs.declared.syntax.ValueOp.TheVariants.{Times}
 use Rattle.kernel_code.specs.declared.syntax.KExpr.{KExpr, Num, Var, At, Bin}
-use Rattle.kernel_code.specs.declared.syntax.KStmt.{KStmt, Set, AddTo, While}
+use Rattle.kernel_code.specs.declared.syntax.KStmt.{KStmt, Set, Combine, AddTo, While}
 use Rattle.index_notation.specs.declared.syntax.Access.{Access}
 
 -- the position of coordinates below a position of the level above, from this level on
@@ -20,13 +20,15 @@ position_code tensor (v ∷ vs) = position_below tensor 2 (Var v) vs
 abbrev pub access_code : Access → KExpr
 access_code a = At (Values a.tensor) (position_code a.tensor a.vars)
 
-abbrev pub product_after : KExpr → List Access → KExpr
-product_after product [] = product
-product_after product (a ∷ others) = product_after (Bin Mul product (access_code a)) others
+-- the product in a variable, times the values of more accesses
+abbrev pub product_after : ℕ → List Access → List KStmt
+product_after product [] = []
+product_after product (a ∷ others) = Combine product Times (Var product) (access_code a) ∷ product_after product others
 
-abbrev pub product_code : List Access → KExpr
-product_code [] = Num 1
-product_code (a ∷ others) = product_after (access_code a) others
+-- the product of the accesses' values left in a variable
+abbrev pub product_code : ℕ → ℕ → List Access → List KStmt
+product_code one product [] = Set product (Num one) ∷ []
+product_code one product (a ∷ others) = Set product (access_code a) ∷ product_after product others
 
 -- a loop of a variable over its whole range
 abbrev pub loop_code : ℕ → List KStmt → List KStmt
@@ -38,5 +40,5 @@ loops_code v zero body = body
 loops_code v (suc count) body = loop_code v (loops_code (v + 1) count body)
 
 -- the product added at its place
-abbrev pub body_code : Access → List Access → List KStmt
-body_code left accesses = AddTo (Values 0) (position_code left.tensor left.vars) (product_code accesses) ∷ []
+abbrev pub body_code : ℕ → ℕ → Access → List Access → List KStmt
+body_code one product left accesses = product_code one product accesses ++ AddTo (Values 0) (position_code left.tensor left.vars) (Var product) ∷ []

@@ -1,6 +1,6 @@
 -- What the loops compute: the values of a statement over all of the result's positions.
 use Rattle.std.specs.Prelude.{◌≡◌, ℕ, zero, suc, ◌+◌, ◌<◌, ◌≤◌, List, length, map, Option, None, Some, slice_get, slice_index, replicate}
-use Rattle.numbers.specs.Ring.{ring}
+use Rattle.numbers.specs.Arithmetic.{Arithmetic}
 use Rattle.tensor_map.specs.Entries.{Entries}
 use Rattle.index_notation.specs.Statement.{IsWellNamed}
 use Rattle.index_notation.specs.declared.syntax.Access.{Access}
@@ -46,10 +46,10 @@ abbrev pub AllFit : Statement → List Entries → (ℕ → ℕ) → Type 0
 AllFit s operands ranges = (tensor : ℕ) → tensor ≤ length operands → FitLevels (level_sizes s operands ranges tensor)
 
 -- the statement's values at all positions of the dense result
-pub record IsResult (s : Statement) (operands : List Entries) (sizes values : List ℕ) : Type 0 where
+pub record IsResult (arithmetic : Arithmetic) (s : Statement) (operands : List Entries) (sizes values : List ℕ) : Type 0 where
   pub sizes_are : sizes ≡ map (operand_ranges s operands) s.left.vars
   pub long : length values ≡ product sizes
-  pub each : (coords : List ℕ) → IsBelow sizes coords → slice_index values (position sizes coords) ≡ statement_value ring s (operand_values ring operands) (operand_ranges s operands) coords
+  pub each : (coords : List ℕ) → IsBelow sizes coords → slice_index values (position sizes coords) ≡ statement_value arithmetic s (operand_values arithmetic operands) (operand_ranges s operands) coords
 
 -- the sizes of operand n, which is tensor n + 1
 abbrev pub operand_sizes : Statement → List Entries → (ℕ → ℕ) → ℕ → List ℕ
@@ -68,12 +68,12 @@ pub record IsComputable (s : Statement) (operands : List Entries) : Type 0 where
   pub read : (n : ℕ) → n < length operands → IsRead s.accesses (n + 1)
 
 -- the machine has the arrays of the first operands
-abbrev pub AreLoaded : State → Statement → List Entries → (ℕ → ℕ) → ℕ → Type 0
-AreLoaded state s operands ranges count = (n : ℕ) → n < count → IsLoaded state (n + 1) (operand_sizes s operands ranges n) (entries_of operands (n + 1))
+abbrev pub AreLoaded : Arithmetic → State → Statement → List Entries → (ℕ → ℕ) → ℕ → Type 0
+AreLoaded arithmetic state s operands ranges count = (n : ℕ) → n < count → IsLoaded arithmetic state (n + 1) (operand_sizes s operands ranges n) (entries_of operands (n + 1))
 
 -- the machine has all arrays: the ranges, the operands, and zeros for the result
-pub record IsMachineOf (state : State) (s : Statement) (operands : List Entries) (ranges sizes : List ℕ) : Type 0 where
+pub record IsMachineOf (arithmetic : Arithmetic) (state : State) (s : Statement) (operands : List Entries) (ranges sizes : List ℕ) : Type 0 where
   pub range : state.arrays Range ≡ Some ranges
-  pub loaded : AreLoaded state s operands (slice_index ranges) (length operands)
+  pub loaded : AreLoaded arithmetic state s operands (slice_index ranges) (length operands)
   pub result_sizes : SizesFrom state 0 1 sizes
-  pub result : state.arrays (Values 0) ≡ Some (replicate (product sizes) ring.zero)
+  pub result : state.arrays (Values 0) ≡ Some (replicate (product sizes) arithmetic.zero)

@@ -1,6 +1,6 @@
 -- Runs of code that end, and what a machine is loaded with.
 use Rattle.std.specs.Prelude.{◌≡◌, ℕ, ◌+◌, ◌≤◌, false, List, [], ◌∷◌, Some}
-use Rattle.numbers.specs.Ring.{ring}
+use Rattle.numbers.specs.Arithmetic.{Arithmetic}
 use Rattle.tensor_map.specs.declared.entries.Entry.{Entry}
 use Rattle.dense_operands.specs.Levels.{IsDense}
 use Rattle.kernel_code.specs.declared.syntax.Arr.{Arr}
@@ -33,8 +33,8 @@ abbrev pub KeepsOthers : ℕ → State → State → Type 0
 KeepsOthers tensor old new = (a : Arr) → ((k : ℕ) → same_arr (Dimension tensor k) a ≡ false) → same_arr (Values tensor) a ≡ false → new.arrays a ≡ old.arrays a
 
 -- a dense tensor's arrays stand for these entries
-pub record IsLoaded (s : State) (tensor : ℕ) (sizes : List ℕ) (entries : List Entry) : Type 0 where
+pub record IsLoaded (arithmetic : Arithmetic) (s : State) (tensor : ℕ) (sizes : List ℕ) (entries : List Entry) : Type 0 where
   pub sizes_are : SizesFrom s tensor 1 sizes
   pub values : List ℕ
   pub values_are : s.arrays (Values tensor) ≡ Some values
-  pub dense : IsDense ring sizes entries values
+  pub dense : IsDense arithmetic sizes entries values

@@ -2,16 +2,12 @@ ghost use Rattle.std.specs.Prelude.{◌≡◌, ◌+◌, ◌<◌, ◌^◌, [], �
 ghost use Rattle.range_loops.specs.Code.{position_below, position_code, access_code, product_after, product_code, loop_code, loops_code, body_code};
 
 use index_notation::{Access, Statement};
-use kernel_code::{Arr, KExpr, KStmt, Kernel, LoopKind, Op, binary, one_statement};
+use kernel_code::{
+    Arr, KExpr, KStmt, Kernel, LoopKind, Op, ValueOp, binary, one_statement, word_at,
+};
+use numbers::Semiring;
 use std::alloc::{AllocError, Global};
-use trees::{Boxed, Items};
-
-/// An array's word at an index.
-fn word_at(alloc: Global, array: Arr, index: KExpr) -> Result<KExpr, AllocError>
-    ensures { IfOk result (λ e. e ≡ KExpr.At array index) }
-{
-    Ok(KExpr::At(array, Boxed::new(alloc, index)?))
-}
+use trees::Items;
 
 /// The position of a coordinate below a position of the level above.
 fn position_under(
@@ -69,27 +65,38 @@ fn value_of(alloc: Global, access: &Access) -> Result<KExpr, AllocError>
     Ok(value)
 }
 
-/// A product, times the values of more accesses.
-fn product_of_rest(alloc: Global, product: KExpr, accesses: &[Access]) -> Result<KExpr, AllocError>
-    ensures { IfOk result (λ e. e ≡ product_after product accesses.now) }
+/// Code, and then a product in a variable times the values of more accesses.
+fn product_of_rest(
+    alloc: Global,
+    product: u64,
+    code: Items<KStmt>,
+    accesses: &[Access],
+) -> Result<Items<KStmt>, AllocError>
+    ensures { IfOk result (λ c. c ≡ code ++ product_after product accesses.now) }
 {
-    let mut product = product;
+    let mut code = code;
     for access in accesses {
         let value = value_of(alloc, access)?;
-        product = binary(alloc, Op::Mul, product, value)?;
+        let so_far = KExpr::Var(product);
+        code.push(KStmt::Combine(product, ValueOp::Times, so_far, value))?;
     }
-    Ok(product)
+    Ok(code)
 }
 
-/// The product of the accesses' values.
-fn product_of(alloc: Global, accesses: &[Access]) -> Result<KExpr, AllocError>
-    ensures { IfOk result (λ e. e ≡ product_code accesses.now) }
+/// Code that leaves the product of the accesses' values in a variable.
+fn product_of<S: Semiring>(
+    alloc: Global,
+    product: u64,
+    accesses: &[Access],
+) -> Result<Items<KStmt>, AllocError>
+    ensures { IfOk result (λ code. code ≡ product_code S.arithmetic.one product accesses.now) }
 {
     match accesses {
-        [] => Ok(KExpr::Num(1)),
+        [] => one_statement(alloc, KStmt::Set(product, KExpr::Num(S::one()))),
         [first, rest @ ..] => {
             let value = value_of(alloc, first)?;
-            product_of_rest(alloc, value, rest)
+            let code = one_statement(alloc, KStmt::Set(product, value))?;
+            product_of_rest(alloc, product, code, rest)
         }
     }
 }
@@ -121,16 +128,18 @@ fn loops_over(alloc: Global, count: u64, body: Items<KStmt>) -> Result<Items<KSt
     Ok(code)
 }
 
-/// A kernel for a statement whose right side is a product of accesses and whose formats are all dense:
-/// loops over the whole ranges of all variables, in standing order, which add each product at its place.
-pub fn compile(alloc: Global, statement: &Statement) -> Result<Kernel, AllocError>
-    ensures body { IfOk result (λ kernel. kernel.body ≡ loops_code 0 (length statement.now.vars) (body_code statement.now.left statement.now.accesses)) }
+/// A kernel for a statement whose right side is a product of accesses and whose formats are all dense: loops over the
+/// whole ranges of all variables, in standing order, which add each product at its place. The product stands in the
+/// variable after those of the loops.
+pub fn compile<S: Semiring>(alloc: Global, statement: &Statement) -> Result<Kernel, AllocError>
+    ensures body { IfOk result (λ kernel. kernel.body ≡ loops_code 0 (length statement.now.vars) (body_code S.arithmetic.one (length statement.now.vars) statement.now.left statement.now.accesses)) }
     ensures workspaces { IfOk result (λ kernel. kernel.workspaces ≡ []) }
 {
+    let vars = statement.vars.len() as u64;
     let place = position_of(alloc, &statement.left)?;
-    let product = product_of(alloc, statement.accesses.as_slice())?;
-    let body = one_statement(alloc, KStmt::AddTo(Arr::Values(0), place, product))?;
-    let body = loops_over(alloc, statement.vars.len() as u64, body)?;
+    let mut body = product_of::<S>(alloc, vars, statement.accesses.as_slice())?;
+    body.push(KStmt::AddTo(Arr::Values(0), place, KExpr::Var(vars)))?;
+    let body = loops_over(alloc, vars, body)?;
     Ok(Kernel {
         workspaces: Items::new(alloc),
         lists: 0,

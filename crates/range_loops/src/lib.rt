@@ -11,6 +11,3 @@ mod sizing;
 
 pub use checks::is_computable;
 pub use loops::{Dense, compute};
-
-#[cfg(test)]
-mod tests;

@@ -9,6 +9,7 @@ ghost use Rattle.range_loops.specs.Runs.{RunsInto, RunsToEnd, SizesFrom, KeepsBe
 use dense_operands::{sizes_of, values_of};
 use index_notation::Statement;
 use kernel_code::{Arr, Ending, KStmt, Machine};
+use numbers::Semiring;
 use std::alloc::{AllocError, Global};
 use tensor_map::Entries;
 
@@ -51,7 +52,7 @@ pub(crate) fn load_tensor(
 }
 
 /// Gives the machine the arrays of an operand.
-pub(crate) fn load_operand(
+pub(crate) fn load_operand<S: Semiring>(
     alloc: Global,
     machine: &mut Machine,
     statement: &Statement,
@@ -61,21 +62,24 @@ pub(crate) fn load_operand(
 ) -> Result<(), AllocError>
     requires fit { FitLevels (mode_sizes statement.now (slice_index ranges.now) tensor entries.now.order) }
     requires below { All (λ entry. IsBelow (mode_sizes statement.now (slice_index ranges.now) tensor entries.now.order) entry.coords) entries.now.list }
-    ensures loaded { OnOk result (IsLoaded (state_of machine.new) tensor (mode_sizes statement.now (slice_index ranges.now) tensor entries.now.order) entries.now.list) }
+    ensures loaded { OnOk result (IsLoaded S.arithmetic (state_of machine.new) tensor (mode_sizes statement.now (slice_index ranges.now) tensor entries.now.order) entries.now.list) }
     ensures others { OnOk result (KeepsOthers tensor (state_of machine.old) (state_of machine.new)) }
 {
     let sizes = sizes_of(alloc, statement, ranges, tensor, entries.order())?;
-    let values = values_of(alloc, entries, sizes.as_slice())?;
+    let values = values_of::<S>(alloc, entries, sizes.as_slice())?;
     load_tensor(alloc, machine, tensor as u64, sizes.as_slice(), values)
 }
 
 /// Runs code that ends. A run of more than 2^64 - 1 turns, which takes centuries, is answered as want of
 /// memory.
-pub(crate) fn run_to_end(machine: &mut Machine, code: &[KStmt]) -> Result<(), AllocError>
-    requires { RunsToEnd (setting []) code.now (restarted (state_of machine.old)) }
-    ensures { OnOk result ((final : State) → RunsInto (setting []) code.now (restarted (state_of machine.old)) final → state_of machine.new ≡ final) }
+pub(crate) fn run_to_end<S: Semiring>(
+    machine: &mut Machine,
+    code: &[KStmt],
+) -> Result<(), AllocError>
+    requires { RunsToEnd (setting S.arithmetic []) code.now (restarted (state_of machine.old)) }
+    ensures { OnOk result ((final : State) → RunsInto (setting S.arithmetic []) code.now (restarted (state_of machine.old)) final → state_of machine.new ≡ final) }
 {
-    match machine.run(code, &[], u64::MAX)? {
+    match machine.run::<S>(code, &[], u64::MAX)? {
         Ending::Ended => Ok(()),
         Ending::Stuck | Ending::Over { .. } | Ending::More => Err(AllocError),
     }

@@ -1,5 +1,4 @@
 ghost use Rattle.std.specs.Prelude.{◌≡◌, ℕ, ◌+◌, ◌<◌, ◌^◌, length, slice_index, replicate, OnOk, IfOk, MatchOption};
-ghost use Rattle.numbers.specs.Ring.{ring};
 ghost use Rattle.kernel_code.specs.Store.{state_of};
 ghost use Rattle.expr_terms.specs.Operands.{entries_of};
 ghost use Rattle.expr_terms.specs.Ranges.{narrow_ranges};
@@ -12,12 +11,12 @@ use crate::sizing::operands_fit;
 use dense_operands::{positions_of, ranges_of, sizes_of};
 use index_notation::Statement;
 use kernel_code::{Arr, Machine};
-use numbers::zero;
+use numbers::Semiring;
 use std::alloc::{AllocError, Global};
 use tensor_map::Entries;
 
 /// Gives the machine the arrays of the operands.
-fn load_operands(
+fn load_operands<S: Semiring>(
     alloc: Global,
     machine: &mut Machine,
     statement: &Statement,
@@ -27,25 +26,25 @@ fn load_operands(
     requires computable { IsComputable statement.now operands.now }
     requires ranges { (v : ℕ) → v < length statement.now.vars → slice_index ranges.now v ≡ narrow_ranges statement.now (entries_of operands.now) v }
     requires fit { OperandsFit statement.now operands.now (slice_index ranges.now) (length operands.now) }
-    ensures { OnOk result (AreLoaded (state_of machine.new) statement.now operands.now (slice_index ranges.now) (length operands.now)) }
+    ensures { OnOk result (AreLoaded S.arithmetic (state_of machine.new) statement.now operands.now (slice_index ranges.now) (length operands.now)) }
 {
     for (n, entries) in operands.iter().enumerate() {
         // That the entries keep their invariant is told by their length.
         let _length = entries.len();
-        load_operand(alloc, machine, statement, ranges, n + 1, entries)?;
+        load_operand::<S>(alloc, machine, statement, ranges, n + 1, entries)?;
     }
     Ok(())
 }
 
 /// So many zeros.
-fn zeros(alloc: Global, count: u64) -> Result<Vec<u64>, AllocError>
-    ensures { IfOk result (λ zeros. zeros.items ≡ replicate count ring.zero) }
+fn zeros<S: Semiring>(alloc: Global, count: u64) -> Result<Vec<u64>, AllocError>
+    ensures { IfOk result (λ zeros. zeros.items ≡ replicate count S.arithmetic.zero) }
 {
-    vec![in alloc; zero(); count as usize]
+    vec![in alloc; S::zero(); count as usize]
 }
 
 /// A machine with the ranges, the operands, and zeros for the result.
-fn load(
+fn load<S: Semiring>(
     alloc: Global,
     statement: &Statement,
     operands: &[Entries],
@@ -58,11 +57,11 @@ fn load(
     requires fit { OperandsFit statement.now operands.now (slice_index ranges.items) (length operands.now) }
     requires positions { positions ≡ product sizes.now }
     requires order { length sizes.now < 2 ^ 62 }
-    ensures { IfOk result (λ machine. IsMachineOf (state_of machine) statement.now operands.now ranges.items sizes.now) }
+    ensures { IfOk result (λ machine. IsMachineOf S.arithmetic (state_of machine) statement.now operands.now ranges.items sizes.now) }
 {
     let mut machine = Machine::new(alloc);
-    load_operands(alloc, &mut machine, statement, ranges.as_slice(), operands)?;
-    let zeros = zeros(alloc, positions)?;
+    load_operands::<S>(alloc, &mut machine, statement, ranges.as_slice(), operands)?;
+    let zeros = zeros::<S>(alloc, positions)?;
     load_tensor(alloc, &mut machine, 0, sizes, zeros)?;
     machine.add_array(Arr::Range, ranges)?;
     Ok(machine)
@@ -75,17 +74,18 @@ pub struct Dense {
     pub values: Vec<u64>,
 }
 
-/// Makes a kernel for the statement and runs it on its operands, which are tensor 1 and on. The answer is
+/// Makes a kernel for the statement and runs it on its operands, which are tensor 1 and on. Values are added and
+/// multiplied as `S` says. The answer is
 /// none exactly where a level of a dense operand or of the dense result would have more positions than may
 /// be; sizes are tested before anything of their size is made.
-pub fn compute(
+pub fn compute<S: Semiring>(
     alloc: Global,
     statement: &Statement,
     operands: &[Entries],
 ) -> Result<Option<Dense>, AllocError>
     requires { IsComputable statement.now operands.now }
     ensures { IfOk result (λ r. MatchOption r (AllFit statement.now operands.now (operand_ranges statement.now operands.now) → ⊥)
-        (λ dense. AllFit statement.now operands.now (operand_ranges statement.now operands.now) × IsResult statement.now operands.now dense.sizes.items dense.values.items)) }
+        (λ dense. AllFit statement.now operands.now (operand_ranges statement.now operands.now) × IsResult S.arithmetic statement.now operands.now dense.sizes.items dense.values.items)) }
 {
     let ranges = ranges_of(alloc, statement, operands)?;
     let sizes = sizes_of(
@@ -101,8 +101,8 @@ pub fn compute(
     if !operands_fit(alloc, statement, ranges.as_slice(), operands)? {
         return Ok(None);
     }
-    let kernel = compile(alloc, statement)?;
-    let mut machine = load(
+    let kernel = compile::<S>(alloc, statement)?;
+    let mut machine = load::<S>(
         alloc,
         statement,
         operands,
@@ -110,7 +110,7 @@ pub fn compute(
         sizes.as_slice(),
         positions,
     )?;
-    run_to_end(&mut machine, kernel.body.as_slice())?;
+    run_to_end::<S>(&mut machine, kernel.body.as_slice())?;
     match machine.take_array(Arr::Values(0)) {
         Some(values) => Ok(Some(Dense { sizes, values })),
         None => Err(AllocError),

@@ -25,4 +25,6 @@ module _ {X Y : Type 0} where
   buffers xs ys n = record { first = xs; second = ys; spare = n }
 
   abbrev pub buffers_code : Coded X → Coded Y → Coded (Buffers X Y)
-  buffers_code c d = code_by (List X × (List Y × ℕ)) (coded× (coded_list c) (coded× (coded_list d) coded_ℕ)) (λ b. (b.first, (b.second, b.spare))) (λ p. buffers p.0 p.1.0 p.1.1) (λ _. refl)
+  buffers_code c d =
+      code_by (List X × (List Y × ℕ)) (coded× (coded_list c) (coded× (coded_list d) coded_ℕ)) (λ b. (b.first, (b.second, b.spare)))
+      (λ p. buffers p.0 p.1.0 p.1.1) (λ _. refl)

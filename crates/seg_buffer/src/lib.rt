@@ -7,8 +7,6 @@
 
 mod raw;
 mod segment;
-#[cfg(test)]
-mod tests;
 mod twin;
 
 // A crate can name a segment in a contract only if the types of its fields are exported.

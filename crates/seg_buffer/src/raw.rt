@@ -60,7 +60,8 @@ impl<T, A: Allocator> Model for Deed<T, A> {
 
 /// No block: the rights to no places, at an address that is never read.
 pub(crate) fn no_block<T, A: Allocator>(_alloc: &A) -> (Base<T>, Places<T>, Deed<T, A>)
-    ensures { (result.1.at ≡ result.0.ptr) × (result.1.room ≡ 0) × (result.1.values ≡ []) × (result.2.at ≡ result.0.ptr) × (result.2.room ≡ 0) × (result.2.alloc ≡ _alloc.now) }
+    ensures { (result.1.at ≡ result.0.ptr) × (result.1.room ≡ 0) × (result.1.values ≡ []) × (result.2.at ≡ result.0.ptr)
+        × (result.2.room ≡ 0) × (result.2.alloc ≡ _alloc.now) }
 {
     let nothing: [T; 0] = [];
     let base = Base {
@@ -79,7 +80,8 @@ pub(crate) fn allocate<T, A: Allocator>(
     room: usize,
 ) -> Result<(Base<T>, Places<T>, Deed<T, A>), AllocError>
     requires { FitsInBlock T.row room × (0 < room) }
-    ensures { IfOk result (λ r. (r.1.at ≡ r.0.ptr) × (r.1.room ≡ room) × (r.1.values ≡ []) × (r.2.at ≡ r.0.ptr) × (r.2.room ≡ room) × (r.2.alloc ≡ alloc.now)) }
+    ensures { IfOk result (λ r. (r.1.at ≡ r.0.ptr) × (r.1.room ≡ room) × (r.1.values ≡ []) × (r.2.at ≡ r.0.ptr) × (r.2.room ≡ room)
+        × (r.2.alloc ≡ alloc.now)) }
 {
     match alloc.allocate(room * size_of::<T>(), align_of::<T>()) {
         Ok(block) => {
@@ -104,7 +106,8 @@ pub(crate) fn deallocate<T, A: Allocator>(
     places: Places<T>,
     deed: Deed<T, A>,
 )
-    requires { (places.at ≡ base.ptr) × (places.room ≡ room) × (length places.values ≤ room) × (deed.at ≡ base.ptr) × (deed.room ≡ room) × (deed.alloc ≡ alloc.now) }
+    requires { (places.at ≡ base.ptr) × (places.room ≡ room) × (length places.values ≤ room) × (deed.at ≡ base.ptr) × (deed.room ≡ room)
+        × (deed.alloc ≡ alloc.now) }
 {
     let Places { mark: _ } = places;
     let Deed { mark: _ } = deed;
@@ -119,8 +122,10 @@ impl<T> Places<T> {
     /// Puts `value` in the place at `index`, which then is the last one that holds anything: what the others after
     /// it held is forgotten.
     pub(crate) fn write(&mut self, base: Base<T>, index: usize, value: T)
-        requires { (base.ptr ≡ self.old.at) × (index < self.old.room) × (index ≤ length self.old.values) × (length self.old.values ≤ self.old.room) }
-        ensures { (self.new.at ≡ self.old.at) × (self.new.room ≡ self.old.room) × (self.new.values ≡ take index self.old.values ++ value ∷ []) }
+        requires { (base.ptr ≡ self.old.at) × (index < self.old.room) × (index ≤ length self.old.values)
+            × (length self.old.values ≤ self.old.room) }
+        ensures { (self.new.at ≡ self.old.at) × (self.new.room ≡ self.old.room)
+            × (self.new.values ≡ take index self.old.values ++ value ∷ []) }
     {
         unsafe { base.ptr.add(index).write(value) }
     }

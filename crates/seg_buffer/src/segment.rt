@@ -1,5 +1,6 @@
 //! `Segment`: a list in one block. A clause sees it as its `items` and its `spare`.
-ghost use Rattle.std.specs.Prelude.{◌≡◌, ◌+◌, ◌-◌, ◌*◌, ◌^◌, ◌<◌, ◌≤◌, max, [], ◌∷◌, ◌++◌, length, take, replicate, slice_index_or, slice_set, IfOk, OnOk, OnErr, IsOk};
+ghost use Rattle.std.specs.Prelude.{◌≡◌, ◌+◌, ◌-◌, ◌*◌, ◌^◌, ◌<◌, ◌≤◌, max, [], ◌∷◌, ◌++◌, length, take, replicate, slice_index_or};
+ghost use Rattle.std.specs.Prelude.{slice_set, IfOk, OnOk, OnErr, IsOk};
 ghost use Rattle.std.specs.Borrow.{sem};
 
 use crate::raw::{Base, Deed, Places, allocate, deallocate, no_block};
@@ -42,7 +43,8 @@ impl<T> Model for Segment<T> {
 
     // The rights are those to the block of `room` places at `base`, and as many values lie there as there are elements,
     // or more: `truncate` leaves the others where they are.
-    ghost invariant = { λ s. (s.base.ptr ≡ s.places.at) × (s.deed.at ≡ s.base.ptr) × (s.deed.room ≡ s.room) × (s.deed.alloc ≡ s.alloc) × (s.places.room ≡ s.room) × (s.len ≤ length s.places.values) × (length s.places.values ≤ s.room) × (s.room < 2 ^ 63) };
+    ghost invariant = { λ s. (s.base.ptr ≡ s.places.at) × (s.deed.at ≡ s.base.ptr) × (s.deed.room ≡ s.room) × (s.deed.alloc ≡ s.alloc)
+        × (s.places.room ≡ s.room) × (s.len ≤ length s.places.values) × (length s.places.values ≤ s.room) × (s.room < 2 ^ 63) };
 }
 
 impl<T: Copy> Segment<T> {
@@ -143,7 +145,8 @@ impl<T: Copy> Segment<T> {
     pub fn reserve(&mut self, n: usize) -> Result<(), AllocError>
         ensures items { self.new.items ≡ self.old.items }
         ensures ok { OnOk result (n ≤ self.new.spare) }
-        ensures doubles { OnOk result (self.old.spare < n → length self.new.items + self.new.spare ≡ max (length self.old.items + n) (2 * (length self.old.items + self.old.spare))) }
+        ensures doubles { OnOk result (self.old.spare < n
+            → length self.new.items + self.new.spare ≡ max (length self.old.items + n) (2 * (length self.old.items + self.old.spare))) }
         ensures err { OnErr result (self.new ≡ self.old) }
         ensures enough { n ≤ self.old.spare → IsOk result × (self.new ≡ self.old) }
     {

@@ -78,7 +78,8 @@ impl<A: Copy, B: Copy> Twin<A, B> {
         ensures first { self.new.first ≡ self.old.first }
         ensures second { self.new.second ≡ self.old.second }
         ensures ok { OnOk result (n ≤ self.new.spare) }
-        ensures doubles { OnOk result (self.old.spare < n → length self.new.first + self.new.spare ≡ max (length self.old.first + n) (2 * (length self.old.first + self.old.spare))) }
+        ensures doubles { OnOk result (self.old.spare < n
+            → length self.new.first + self.new.spare ≡ max (length self.old.first + n) (2 * (length self.old.first + self.old.spare))) }
         ensures err { OnErr result (self.new ≡ self.old) }
         ensures enough { n ≤ self.old.spare → IsOk result × (self.new ≡ self.old) }
     {

@@ -1,5 +1,5 @@
 pub mod EndLaws
-pub mod Reads
+pub mod ReadsLaws
 pub mod SmallCoords
 pub mod Stands
 pub mod TopLemmas

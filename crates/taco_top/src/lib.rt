@@ -12,7 +12,3 @@ mod top;
 pub use laws::whole_input_is_computed;
 pub use top::taco;
 
-#[cfg(test)]
-mod tests;
-#[cfg(test)]
-mod value_tests;

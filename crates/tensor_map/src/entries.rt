@@ -1,12 +1,12 @@
-ghost use Rattle.std.specs.Prelude.{◌≡◌, ℕ, ◌≤◌, ◌<◌, ◌↔◌, [], ◌∷◌, ◌++◌, length, IsTrue, IsOk, IfOk, OnOk, OnErr, MatchOption, slice_index_or, slice_set, nat_eq, max, List, take, filter};
+ghost use Rattle.std.specs.Prelude.{◌≡◌, ℕ, ◌≤◌, ◌<◌, ◌↔◌, [], ◌∷◌, ◌++◌, length, IsTrue, IsOk, IfOk, OnOk, OnErr, MatchOption};
+ghost use Rattle.std.specs.Prelude.{slice_index_or, slice_set, nat_eq, max, List, take, filter};
 ghost use Rattle.limits.specs.Limits.{greatest_order};
-ghost use Rattle.numbers.specs.Ring.{ring};
 ghost use Rattle.tensor_map.specs.Summed.{joined, summed};
 ghost use Rattle.tensor_map.specs.Entries.{Entry};
 ghost use Rattle.std.specs.Cmp.Lexicographic.{pointwise};
 
 use crate::Coords;
-use numbers::{add, zero};
+use numbers::Semiring;
 use std::alloc::{AllocError, Global};
 use std::marker::Model;
 
@@ -106,31 +106,31 @@ impl Entries {
         self.order
     }
 
-    /// Puts the entries in increasing lexicographic order of their coordinates, and adds the values of equal ones.
-    /// A sum of zero stays. Refused for want of memory, the entries are as before.
-    pub fn sort_sum(&mut self) -> Result<(), AllocError>
+    /// Puts the entries in increasing lexicographic order of their coordinates, and adds the values of equal ones, as
+    /// `S` says. A sum of zero stays. Refused for want of memory, the entries are as before.
+    pub fn sort_sum<S: Semiring>(&mut self) -> Result<(), AllocError>
         ensures order { self.new.order ≡ self.old.order }
-        ensures values { OnOk result (SameValues ring self.old.list self.new.list) }
+        ensures values { OnOk result (SameValues S.arithmetic self.old.list self.new.list) }
         ensures listed { OnOk result (SameListed self.old.list self.new.list) }
         ensures increasing { OnOk result (StrictlyIncreasing self.new.list) }
         ensures shorter { length self.new.list ≤ length self.old.list }
         ensures err { OnErr result (self.new ≡ self.old) }
     {
         self.list.sort_by(|left, right| left.coords.as_slice().cmp(&right.coords.as_slice()))?;
-        let kept = add_neighbours(self.list.as_mut_slice());
+        let kept = add_neighbours::<S>(self.list.as_mut_slice());
         self.list.truncate(kept);
         Ok(())
     }
 
-    /// Drops the entries whose value is zero, and keeps the others in their order. It takes no memory.
-    pub fn nonzero(&mut self)
+    /// Drops the entries whose value is the zero of `S`, and keeps the others in their order. It takes no memory.
+    pub fn nonzero<S: Semiring>(&mut self)
         ensures order { self.new.order ≡ self.old.order }
-        ensures kept { self.new.list ≡ filter (is_nonzero ring) self.old.list }
-        ensures none { NoneIsZero ring self.new.list }
-        ensures values { SameValues ring self.old.list self.new.list }
+        ensures kept { self.new.list ≡ filter (is_nonzero S.arithmetic) self.old.list }
+        ensures none { NoneIsZero S.arithmetic self.new.list }
+        ensures values { SameValues S.arithmetic self.old.list self.new.list }
         ensures increasing { StrictlyIncreasing self.old.list → StrictlyIncreasing self.new.list }
     {
-        self.list.retain(|entry| entry.value != zero());
+        self.list.retain(|entry| entry.value != S::zero());
     }
 
     /// The greatest coordinate that an entry has in a mode, and none exactly where there is no entry.
@@ -155,9 +155,9 @@ fn greater(before: Option<u64>, coordinate: u64) -> u64
 }
 
 /// Adds entries that follow one another with equal coordinates, and moves what is left to the front.
-fn add_neighbours(entries: &mut [Entry]) -> usize
+fn add_neighbours<S: Semiring>(entries: &mut [Entry]) -> usize
     ensures within { result ≤ length entries.old }
-    ensures front { take result entries.new ≡ summed ring entries.old }
+    ensures front { take result entries.new ≡ summed S.arithmetic entries.old }
 {
     if entries.is_empty() {
         return 0;
@@ -165,7 +165,7 @@ fn add_neighbours(entries: &mut [Entry]) -> usize
     let mut last = 0;
     for next in 1..entries.len() {
         if have_equal_coords(entries, next, last) {
-            join(entries, last, next);
+            join::<S>(entries, last, next);
         } else {
             last += 1;
             entries.swap(last, next);
@@ -184,12 +184,13 @@ fn have_equal_coords(entries: &[Entry], i: usize, j: usize) -> bool
 }
 
 /// Adds the value of one entry to that of another.
-fn join(entries: &mut [Entry], into: usize, from: usize)
+fn join<S: Semiring>(entries: &mut [Entry], into: usize, from: usize)
     requires first { into < length entries.old }
     requires second { from < length entries.old }
-    ensures { (d : Entry) → entries.new ≡ slice_set entries.old into (joined ring (slice_index_or entries.old into d) (slice_index_or entries.old from d)) }
+    ensures { (d : Entry) → entries.new
+        ≡ slice_set entries.old into (joined S.arithmetic (slice_index_or entries.old into d) (slice_index_or entries.old from d)) }
 {
     let value = entries[from].value;
     let entry = &mut entries[into];
-    entry.value = add(entry.value, value);
+    entry.value = S::plus(entry.value, value);
 }

@@ -1,6 +1,7 @@
 //! Lists of a tensor's entries: coordinates, counted from 0, and a value. The tensor that a list stands for
 //! adds the values of equal coordinates, and does not depend on the order of the list: `specs/Entries.antt`
-//! defines it, and the functions of `laws` state what follows. Values are added and multiplied modulo 2^64, by the calls of `numbers` that stand here too.
+//! defines it, and the functions of `laws` state what follows. Values are added as a
+//! `Semiring` says; the calls of `numbers` stand here too.
 #![tactic(auto)]
 
 mod coords;
@@ -11,8 +12,7 @@ mod shape;
 pub use coords::Coords;
 pub use entries::Entries;
 pub use laws::{increasing_rows_do_not_repeat, one_row_a_tensor, order_is_free, rows_add};
-pub use numbers::{add, machine_words_are_the_ring, mul, ring_keeps_laws, signed, sub};
+pub use numbers::{
+    Ring, Semiring, add, keeps_laws, machine_words_are_the_ring, mul, ring_keeps_laws, signed, sub,
+};
 pub use shape::Shape;
-
-#[cfg(test)]
-mod tests;

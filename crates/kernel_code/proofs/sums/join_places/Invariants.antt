@@ -1,12 +1,11 @@
 use Rattle.std.proofs.Common.{◌≡◌, map, reverse, length}
-use Rattle.numbers.specs.Ring.{ring}
 use Rattle.kernel_code.specs.Rows.{row_of, joined_rows}
 use Rattle.kernel_code.proofs.SumLemmas.{read, onto}
 use Rattle.kernel_code.proofs.sums.join_places.Given as goal
 
 -- the rows that are left, joined ahead of the sums, are those of all rows
 abbrev pub invariant-loop-row : goal.invariant-loop-row
-invariant-loop-row l = onto ring (map (row_of (read l.columns)) l.rest.items) (reverse (map (row_of (read l.columns)) l.sums.items)) ≡ joined_rows ring (map (row_of (read l.columns)) l.fn.rows.items)
+invariant-loop-row g l = onto g.S.Semiring.arithmetic (map (row_of (read l.columns)) l.rest.items) (reverse (map (row_of (read l.columns)) l.sums.items)) ≡ joined_rows g.S.Semiring.arithmetic (map (row_of (read l.columns)) l.fn.rows.items)
 
 abbrev pub decreases-loop-row : goal.decreases-loop-row
-decreases-loop-row l = length l.rest.items
+decreases-loop-row g l = length l.rest.items

@@ -1,9 +1,9 @@
-use Rattle.std.specs.Prelude.{◌∷◌, [], ◌+◌, ◌≡◌, List, ℕ, OnOk}
-use Rattle.std.proofs.Common.{subst, sym, ap, ◌∙◌, get_or, drop}
+use Rattle.std.specs.Prelude.{◌+◌, List, ℕ, OnOk}
+use Rattle.std.proofs.Common.{subst, ap, ◌∙◌, get_or, drop}
 use Rattle.kernel_code.specs.declared.syntax.Arr.TheVariants.{Dimension}
 use Rattle.kernel_code.specs.Meaning.{set_array}
 use Rattle.kernel_code.specs.Store.{state_of}
-use Rattle.range_loops.specs.Runs.{SizesFrom, KeepsBelow}
+use Rattle.range_loops.specs.Runs.{SizesFrom}
 use Rattle.range_loops.proofs.MachineStates.{sizes_more, keeps_more, first_rest, on_ok_then, on_ok_both}
 use Rattle.range_loops.proofs.loading.+load_sizes.Goals as goal
 

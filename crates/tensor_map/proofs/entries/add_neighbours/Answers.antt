@@ -1,16 +1,15 @@
 use Rattle.std.proofs.Common.{◌<◌, length, sym, ◌∙◌, arith}
-use Rattle.numbers.specs.Ring.{ring}
 use Rattle.tensor_map.proofs.Neighbours.{adds_same, adds_other, adds_all}
 use Rattle.tensor_map.proofs.entries.add_neighbours.Goals as goal
 use Rattle.tensor_map.proofs.entries.add_neighbours.Goals.{then-have_equal_coords, else-have_equal_coords}
 
 pub loop-next-preserved : goal.loop-next-preserved
-loop-next-preserved c =
+loop-next-preserved g c =
     let within : c.loop-next.next < length c.args.entries.now = omega (arith, c.loop-next-test.true) in
     elim c.if-have_equal_coords.branch [
-      | then-have_equal_coords w ↦ rw (w.entries-is, w.last-is) (adds_same ring _ _ _ _ _ c.loop-next.invariant within (λ d. sym (c.have_equal_coords.ensures d) ∙ w.if-have_equal_coords.true) w.join.ensures)
-      | else-have_equal_coords w ↦ rw (w.entries-is, w.last-is) (adds_other ring _ _ _ _ _ c.loop-next.invariant within (λ d. sym (c.have_equal_coords.ensures d) ∙ w.if-have_equal_coords.false) w.swap.ensures.len w.swap.ensures.by_index)
+      | then-have_equal_coords w ↦ rw (w.entries-is, w.last-is) (adds_same g.S.Semiring.arithmetic _ _ _ _ _ c.loop-next.invariant within (λ d. sym (c.have_equal_coords.ensures d) ∙ w.if-have_equal_coords.true) w.join.ensures)
+      | else-have_equal_coords w ↦ rw (w.entries-is, w.last-is) (adds_other g.S.Semiring.arithmetic _ _ _ _ _ c.loop-next.invariant within (λ d. sym (c.have_equal_coords.ensures d) ∙ w.if-have_equal_coords.false) w.swap.ensures.len w.swap.ensures.by_index)
     ]
 
 pub returns-clause-front : goal.returns-clause-front
-returns-clause-front c = adds_all ring _ _ _ _ c.loop-next.invariant c.loop-next-test.false
+returns-clause-front g c = adds_all g.S.Semiring.arithmetic _ _ _ _ c.loop-next.invariant c.loop-next-test.false

@@ -47,8 +47,10 @@ module _ (R S : RattleType) (h : R.Denot → S.Denot) where
   unfolding part_of
   std_box_places same = record {
     mir_same = λ i. (std_box_of (one_value R (same.mir_same i) (λ _. ftrue) (λ _ _. nothing) gnil)).mir;
-    own_same = λ b i. (std_box_of (one_value R (same.mir_same i) (same.own_same b.value i) (same.shr_same b.value i) gnil)).own_val (holding b tt);
-    shr_same = λ b i. (std_box_of (one_value R (same.mir_same i) (same.own_same b.value i) (same.shr_same b.value i) gnil)).shr_at (holding b tt);
+    own_same =
+        λ b i. (std_box_of (one_value R (same.mir_same i) (same.own_same b.value i) (same.shr_same b.value i) gnil)).own_val (holding b tt);
+    shr_same =
+        λ b i. (std_box_of (one_value R (same.mir_same i) (same.own_same b.value i) (same.shr_same b.value i) gnil)).shr_at (holding b tt);
   }
 
   pub the_places : Alike R S h → Alike (contract.the_row R) (contract.the_row S) ((the_former this).map R.Denot S.Denot h)

@@ -38,7 +38,9 @@ the_items_listed X elements = list-listed X elements
 
 -- inside: the vector
 abbrev stored : Former {0}
-stored = via (std_vec.the_former this Global) Inside (λ X a. a.items) (λ X elements. record { items = elements }) (λ X a. refl) (λ X elements. refl)
+stored =
+    via (std_vec.the_former this Global) Inside (λ X a. a.items) (λ X elements. record { items = elements }) (λ X a. refl)
+    (λ X elements. refl)
 
 module _ (R S : RattleType) (h : R.Denot → S.Denot) where
   pub the_places : Alike R S h → Alike (contract.the_row R) (contract.the_row S) ((the_former this).map R.Denot S.Denot h)
