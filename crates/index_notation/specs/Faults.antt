@@ -1,7 +1,8 @@
 -- The first faulty symbol of a text, and its fault. A symbol's faults are tried in this order: that no sentence begins
 -- with the symbols up to it; that it opens a level too many; that it is one too many; that it is too large a number.
 use Rattle.std.specs.Prelude.{◌≡◌, ℕ, zero, suc, ◌+◌, ◌-◌, ◌*◌, nat_lt, if◌then◌else◌, Option, Some, None, List, [], ◌∷◌, ◌++◌, length}
-use Rattle.limits.specs.Limits.{greatest_nesting, greatest_order, greatest_variables, greatest_accesses, greatest_operands, greatest_literal}
+use Rattle.limits.specs.Limits.{greatest_nesting, greatest_order, greatest_variables, greatest_accesses, greatest_operands}
+use Rattle.limits.specs.Limits.{greatest_literal}
 use Rattle.index_notation.specs.Numbering.{distinct}
 use Rattle.index_notation.specs.declared.syntax.Name.{Name}
 use Rattle.index_notation.specs.declared.sentence.Token.TheVariants.{Name as NameToken, Number as NumberToken, Mark as MarkToken}
@@ -11,7 +12,8 @@ use Rattle.index_notation.specs.declared.symbol.Symbol.TheVariants.{Word, End, S
 use Rattle.index_notation.specs.declared.fault.Counted.TheVariants.{Order, Variables, Accesses, Operands}
 use Rattle.index_notation.specs.declared.fault.SymbolFault.{SymbolFault}
 use Rattle.index_notation.specs.declared.fault.SymbolFault.TheVariants.{BadNotation, TooDeep, TooMany, LiteralRange}
-use Rattle.index_notation.specs.Grammar.{Tree, Role, NamesLeft, NamesRight, IsVariable, IsNumber, Opens, Plain, Written, sentence_of, symbols, Begins}
+use Rattle.index_notation.specs.Grammar.{Tree, Role, NamesLeft, NamesRight, IsVariable, IsNumber, Opens, Plain, Written, sentence_of}
+use Rattle.index_notation.specs.Grammar.{symbols, Begins}
 
 -- the variable that a symbol is, and how many accesses of the right side and operands
 abbrev pub variable_at : Role → Symbol → List Name

@@ -1,21 +1,21 @@
 -- Each step adds to the accesses what its symbol says.
-use Rattle.std.specs.Prelude.{◌≡◌, ℕ, Option, Some, None, List, [], ◌∷◌, ◌++◌, refl}
+use Rattle.std.specs.Prelude.{◌≡◌, Option, Some, List, [], ◌∷◌, ◌++◌, refl}
 use Rattle.std.proofs.Common.{sym, ◌∙◌, ap, append_assoc}
 use Rattle.index_notation.specs.declared.syntax.Name.{Name}
 use Rattle.index_notation.specs.declared.sentence.WrittenAccess.{WrittenAccess}
 use Rattle.index_notation.specs.declared.sentence.Mark.TheVariants.{Equals, Plus, Minus, Times, Open, Close, Comma}
 use Rattle.index_notation.specs.declared.sentence.Token.TheVariants.{Name as NameToken, Number as NumberToken, Mark as MarkToken}
 use Rattle.index_notation.specs.declared.symbol.Symbol.{Symbol}
-use Rattle.index_notation.specs.declared.symbol.Symbol.TheVariants.{Word, End, Stray}
-use Rattle.index_notation.specs.Grammar.{Factor, Digits, Read, Bracketed, Negated, Product, Lone, Multiplied, Sum, Alone, Added, Taken, Tree}
-use Rattle.index_notation.specs.TreeStatement.{accesses_of_factor, accesses_of_product, accesses_of_sum, accesses_of_tree}
+use Rattle.index_notation.specs.declared.symbol.Symbol.TheVariants.{Word, End}
+use Rattle.index_notation.specs.Grammar.{Factor, Digits, Read, Bracketed, Negated, Product}
+use Rattle.index_notation.specs.TreeStatement.{accesses_of_factor, accesses_of_product, accesses_of_sum}
 use Rattle.notation_reader.specs.Machine.{SumPlace, OnTheRight, InBrackets, ProductPlace, First, BehindPlus, BehindMinus}
 use Rattle.notation_reader.specs.Machine.{FactorPlace, FirstFactor, BehindTimes, BehindSign, its_product, product_with, its_sum, sum_with}
 use Rattle.notation_reader.specs.Machine.{behind_factor, closed, ended, step_behind, step, Side, Left, Right}
 use Rattle.notation_reader.specs.Machine.{State, Start, Named, WantsVariable, BehindVariable, BehindLeft, WantsFactor, Behind, Ended}
 use Rattle.notation_reader.specs.Leads.{lead_of}
 use Rattle.notation_reader.specs.Shown.{show}
-use Rattle.notation_reader.specs.Accesses.{accesses_to_sum, accesses_to_product, accesses_to, accesses_before, access_to, accesses_so_far, Extends, Mentions}
+use Rattle.notation_reader.specs.Accesses.{accesses_to_sum, accesses_to_product, accesses_to, access_to, accesses_so_far, Mentions}
 use Rattle.notation_reader.proofs.MachineLaws.{some_is, nothing_leads, append_none}
 
 product_accesses : (place : FactorPlace) (f : Factor) → accesses_to_product (its_product place) ++ accesses_of_product (product_with place f) ≡ accesses_to place ++ accesses_of_factor f

@@ -1,11 +1,11 @@
 -- Signs have one answer: a tree within the limits, or the place and the fault of the first faulty symbol.
-use Rattle.std.specs.Prelude.{◌≡◌, ℕ, zero, suc, Option, Some, None, List, [], ◌∷◌, ◌++◌, length, refl}
-use Rattle.std.proofs.Common.{sym, ◌∙◌, ap, subst, arith, append_assoc}
+use Rattle.std.specs.Prelude.{◌≡◌, ℕ, Option, Some, List, [], ◌∷◌, ◌++◌, refl}
+use Rattle.std.proofs.Common.{sym, ◌∙◌, ap, subst, append_assoc}
 use Rattle.index_notation.specs.declared.symbol.PlacedSymbol.{PlacedSymbol}
 use Rattle.index_notation.specs.declared.symbol.Symbol.{Symbol}
 use Rattle.index_notation.specs.declared.fault.SymbolFault.{SymbolFault}
-use Rattle.index_notation.specs.Grammar.{Tree, Written, sentence_of, symbols, Begins}
-use Rattle.notation_reader.proofs.ReadingLaws.{one_reading, one_tree, append_none}
+use Rattle.index_notation.specs.Grammar.{Tree}
+use Rattle.notation_reader.proofs.ReadingLaws.{one_reading, append_none}
 use Rattle.notation_reader.proofs.FaultLaws.{last_once}
 use Rattle.index_notation.specs.Faults.{limit_passed, PastLimit, BeginsNone, FaultAt, no_sentence, past_limit, HasNoFault, HaveNoFault, symbols_of, IsFirstFault, IsTreeOf}
 
@@ -35,7 +35,7 @@ places (x ∷ a) (y ∷ b) t u r q e =
     let others : a ++ (t ∷ r) ≡ b ++ (u ∷ q) = cc in
     subst (λ (z : PlacedSymbol). Places (x ∷ a) (z ∷ b) t u) first (one_on x a b t u (places a b t u r q others))
 
-none_at : (e a : List Symbol) (t : Symbol) (r : List Symbol) → HaveNoFault e (a ++ (t ∷ r)) → HasNoFault (e ++ a) t
+pub none_at : (e a : List Symbol) (t : Symbol) (r : List Symbol) → HaveNoFault e (a ++ (t ∷ r)) → HasNoFault (e ++ a) t
 none_at e [] t r h = subst (λ (x : List Symbol). HasNoFault x t) (sym (append_none e)) h.0
 none_at e (x ∷ a) t r h = subst (λ (z : List Symbol). HasNoFault z t) (append_assoc e (x ∷ []) a) (none_at (e ++ (x ∷ [])) a t r h.1)
 

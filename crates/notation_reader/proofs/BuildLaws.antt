@@ -1,26 +1,26 @@
 -- What a factor, and a bracket that closes, build.
-use Rattle.std.specs.Prelude.{◌≡◌, ℕ, zero, suc, ◌+◌, ◌-◌, Bool, true, false, Option, Some, None, List, [], ◌∷◌, ◌++◌, refl}
-use Rattle.std.proofs.Common.{sym, ◌∙◌, ap, subst, arith}
+use Rattle.std.specs.Prelude.{◌≡◌, ℕ, suc, ◌+◌, ◌-◌, Bool, true, false, Option, Some, None, List, [], ◌∷◌, ◌++◌, refl}
+use Rattle.std.proofs.Common.{sym, ◌∙◌, ap, arith}
 use Rattle.index_notation.specs.declared.syntax.Name.{Name}
 use Rattle.index_notation.specs.declared.sentence.WrittenAccess.{WrittenAccess}
-use Rattle.index_notation.specs.declared.syntax.Expr.{Expr, Num, Access as AccessOf, Add, Sub, Mul, Neg}
+use Rattle.index_notation.specs.declared.syntax.Expr.{Expr, Access as AccessOf}
 use Rattle.notation_reader.specs.declared.builder.Joined.{Joined}
 use Rattle.notation_reader.specs.declared.builder.Frame.{Frame}
 use Rattle.notation_reader.specs.declared.builder.Builder.{Builder}
 use Rattle.index_notation.specs.declared.sentence.Mark.TheVariants.{Equals, Plus, Minus, Times, Open, Close, Comma}
 use Rattle.index_notation.specs.declared.sentence.Token.TheVariants.{Name as NameToken, Number as NumberToken, Mark as MarkToken}
 use Rattle.index_notation.specs.declared.symbol.Symbol.{Symbol}
-use Rattle.index_notation.specs.declared.symbol.Symbol.TheVariants.{Word, End, Stray}
+use Rattle.index_notation.specs.declared.symbol.Symbol.TheVariants.{Word, End}
 use Rattle.notation_reader.specs.declared.position.Lead.{Lead}
 use Rattle.notation_reader.specs.declared.position.Lead.TheVariants as lead
-use Rattle.index_notation.specs.Grammar.{Factor, Digits, Read, Bracketed, Negated, Product, Lone, Multiplied, Sum, Alone, Added, Taken, Tree}
-use Rattle.notation_reader.specs.Machine.{SumPlace, OnTheRight, InBrackets, ProductPlace, First, BehindPlus, BehindMinus, FactorPlace, FirstFactor, BehindTimes, BehindSign, its_product, product_with, its_sum, sum_with, behind_factor, behind_access, closed, ended, step_behind, step, Side, Left, Right, State, Start, Named, WantsVariable, BehindVariable, BehindLeft, WantsFactor, Behind, Ended}
+use Rattle.index_notation.specs.Grammar.{Factor, Digits, Read, Bracketed, Negated, Product}
+use Rattle.notation_reader.specs.Machine.{SumPlace, OnTheRight, InBrackets, ProductPlace, First, BehindPlus, BehindMinus, FactorPlace, FirstFactor, BehindTimes, BehindSign, its_product, product_with, its_sum, sum_with, behind_factor, closed, ended, step_behind, step, Side, Left, Right, State, Start, Named, WantsVariable, BehindVariable, BehindLeft, WantsFactor, Behind, Ended}
 use Rattle.notation_reader.proofs.MachineLaws.{some_is, nothing_leads}
 use Rattle.notation_reader.specs.Leads.{lead_of}
 use Rattle.notation_reader.proofs.ShownLaws.{behind_leads}
 use Rattle.notation_reader.specs.Shown.{minuses_of, show}
 use Rattle.index_notation.specs.TreeStatement.{reads_in_factor, reads_in_product, reads_in_sum, factor_expr, product_expr, sum_expr}
-use Rattle.notation_reader.specs.Building.{reads_to_sum, reads_to_product, reads_to, joined_by, sum_before, product_before, frame_of, frame_behind, frames_of_sum, frames_of_product, frames_of, no_frame, at_factor, built, negated, times, with_sum, last_product, with_factor, whole_sum, finished_by, joined_with, with_read, in_new_frame, with_minus, out_of_frame, at_the_end, with_last_access, settled, by_operator, closes_so, Builds}
+use Rattle.notation_reader.specs.Building.{reads_to_sum, reads_to_product, reads_to, joined_by, sum_before, product_before, frame_of, frame_behind, frames_of_sum, frames_of_product, frames_of, no_frame, at_factor, built, negated, times, whole_sum, finished_by, joined_with, with_read, out_of_frame, at_the_end, with_last_access, by_operator, closes_so, Builds}
 
 reads_behind : (place : FactorPlace) (f : Factor) → reads_to_product (its_product place) + reads_in_product (product_with place f) ≡ reads_to place + reads_in_factor f
 reads_behind (FirstFactor place) f = refl

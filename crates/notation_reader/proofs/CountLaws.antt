@@ -1,25 +1,23 @@
 -- The reader's counts are those of what it has read.
-use Rattle.std.specs.Prelude.{◌≡◌, ℕ, zero, suc, ◌+◌, ◌-◌, ◌≤◌, Option, Some, None, List, [], ◌∷◌, ◌++◌, length, refl}
+use Rattle.std.specs.Prelude.{◌≡◌, ℕ, suc, ◌+◌, Option, Some, None, List, [], ◌∷◌, ◌++◌, length, refl}
 use Rattle.std.proofs.Common.{sym, ◌∙◌, ap, subst, arith, append_assoc, length-append}
 use Rattle.index_notation.specs.declared.syntax.Name.{Name}
-use Rattle.index_notation.specs.declared.sentence.Mark.{Mark}
 use Rattle.index_notation.specs.declared.sentence.Mark.TheVariants.{Equals, Plus, Minus, Times, Open, Close, Comma}
-use Rattle.index_notation.specs.declared.sentence.Token.{Token}
 use Rattle.index_notation.specs.declared.sentence.Token.TheVariants.{Name as NameToken, Number as NumberToken, Mark as MarkToken}
 use Rattle.index_notation.specs.declared.sentence.WrittenAccess.{WrittenAccess}
 use Rattle.index_notation.specs.declared.symbol.Symbol.{Symbol}
-use Rattle.index_notation.specs.declared.symbol.Symbol.TheVariants.{Word, End, Stray}
-use Rattle.index_notation.specs.Grammar.{Factor, Digits, Read, Bracketed, Negated, Product, Lone, Multiplied, Sum, Alone, Added, Taken, Tree, Role, NamesLeft, NamesRight, IsVariable, IsNumber, Opens, Plain, Written, written, plain, the_end, access_of, factor_of, product_of, sum_of, left_of, sentence_of, more_variables, in_brackets, symbols, Begins}
-use Rattle.notation_reader.specs.Machine.{SumPlace, OnTheRight, InBrackets, ProductPlace, First, BehindPlus, BehindMinus, FactorPlace, FirstFactor, BehindTimes, BehindSign, sum_levels, product_levels, levels, before_sum, before_product, before_factor, its_product, product_with, its_sum, sum_with, Side, Left, Right, State, Start, Named, WantsVariable, BehindVariable, BehindLeft, WantsFactor, Behind, Ended, behind_factor, behind_access, closed, ended, step_behind, step, run, count_on, with_commas, named, variables_so_far, before, role, read}
-use Rattle.limits.specs.Limits.{greatest_nesting, greatest_order, greatest_variables, greatest_accesses, greatest_operands, greatest_literal}
+use Rattle.index_notation.specs.declared.symbol.Symbol.TheVariants.{Word, End}
+use Rattle.index_notation.specs.Grammar.{Digits, Read, Bracketed, Product, Sum, Role, NamesLeft, NamesRight, IsVariable, IsNumber, Opens, Plain, Written}
+use Rattle.notation_reader.specs.Machine.{SumPlace, OnTheRight, InBrackets, ProductPlace, First, BehindPlus, BehindMinus, FactorPlace, FirstFactor, BehindTimes, BehindSign, levels, its_product, product_with, its_sum, sum_with, Side, Left, Right, State, Start, Named, WantsVariable, BehindVariable, BehindLeft, WantsFactor, Behind, Ended, behind_factor, closed, ended, step_behind, step, count_on, before, role, read}
+use Rattle.limits.specs.Limits.{greatest_order, greatest_variables, greatest_accesses, greatest_operands, greatest_literal}
 use Rattle.index_notation.specs.Numbering.{distinct}
 use Rattle.index_notation.specs.declared.fault.Counted.TheVariants.{Order, Variables, Accesses, Operands}
 use Rattle.index_notation.specs.declared.fault.SymbolFault.{SymbolFault}
-use Rattle.index_notation.specs.declared.fault.SymbolFault.TheVariants.{BadNotation, TooDeep, TooMany, LiteralRange}
+use Rattle.index_notation.specs.declared.fault.SymbolFault.TheVariants.{TooMany, LiteralRange}
 use Rattle.notation_reader.specs.declared.position.Lead.{Lead}
 use Rattle.notation_reader.specs.declared.position.Lead.TheVariants as lead
 use Rattle.notation_reader.specs.declared.counts.Counts.{Counts}
-use Rattle.notation_reader.proofs.MachineLaws.{Grows, grows, some_is, nothing_leads, append_none}
+use Rattle.notation_reader.proofs.MachineLaws.{grows, some_is, nothing_leads, append_none}
 use Rattle.index_notation.specs.Faults.{above, number_of, variable_at, access_at, operand_at, variables_in, accesses_in, operands_in, limit_passed}
 use Rattle.notation_reader.specs.Added.{with_name}
 use Rattle.notation_reader.proofs.Adding.{distinct_more}
@@ -29,7 +27,7 @@ use Rattle.notation_reader.proofs.Doing.{Does, IsUncounted}
 use Rattle.notation_reader.proofs.ShownLaws.{does}
 use Rattle.notation_reader.specs.Counting.{OrderIs, IsCounted, with_variable, with_access, with_number, variable_fault, access_fault, number_fault, level_fault, CountsAs, CountsSymbol}
 
-variables_more : (ms : List Written) (m : Written) → variables_in (ms ++ (m ∷ [])) ≡ variables_in ms ++ variable_at m.role m.symbol
+pub variables_more : (ms : List Written) (m : Written) → variables_in (ms ++ (m ∷ [])) ≡ variables_in ms ++ variable_at m.role m.symbol
 variables_more [] m = append_none (variable_at m.role m.symbol)
 variables_more (n ∷ ms) m = ap (λ (ns : List Name). variable_at n.role n.symbol ++ ns) (variables_more ms m) ∙ sym (append_assoc (variable_at n.role n.symbol) (variables_in ms) (variable_at m.role m.symbol))
 

@@ -1,16 +1,10 @@
 -- How a reader judges a symbol, and how far it has come.
-use Rattle.std.specs.Prelude.{◌≡◌, ℕ, zero, suc, ◌+◌, ◌-◌, ◌≤◌, Bool, true, false, MatchBool, Option, Some, None, List, [], ◌∷◌, ◌++◌, length, refl}
-use Rattle.std.proofs.Common.{sym, ◌∙◌, ap, subst, arith, append_assoc}
-use Rattle.index_notation.specs.declared.syntax.Name.{Name}
-use Rattle.index_notation.specs.declared.sentence.Mark.{Mark}
-use Rattle.index_notation.specs.declared.sentence.Mark.TheVariants.{Equals, Plus, Minus, Times, Open, Close, Comma}
-use Rattle.index_notation.specs.declared.sentence.Token.{Token}
-use Rattle.index_notation.specs.declared.sentence.Token.TheVariants.{Name as NameToken, Number as NumberToken, Mark as MarkToken}
-use Rattle.index_notation.specs.declared.sentence.WrittenAccess.{WrittenAccess}
+use Rattle.std.specs.Prelude.{◌≡◌, ℕ, Bool, true, false, MatchBool, Option, Some, None, List, [], ◌∷◌, ◌++◌, refl}
+use Rattle.std.proofs.Common.{sym, ◌∙◌, ap, subst}
 use Rattle.index_notation.specs.declared.symbol.Symbol.{Symbol}
 use Rattle.index_notation.specs.declared.symbol.Symbol.TheVariants.{Word, End, Stray}
-use Rattle.index_notation.specs.Grammar.{Factor, Digits, Read, Bracketed, Negated, Product, Lone, Multiplied, Sum, Alone, Added, Taken, Tree, Role, NamesLeft, NamesRight, IsVariable, IsNumber, Opens, Plain, Written, written, plain, the_end, access_of, factor_of, product_of, sum_of, left_of, sentence_of, more_variables, in_brackets, symbols, Begins}
-use Rattle.notation_reader.specs.Machine.{SumPlace, OnTheRight, InBrackets, ProductPlace, First, BehindPlus, BehindMinus, FactorPlace, FirstFactor, BehindTimes, BehindSign, sum_levels, product_levels, levels, before_sum, before_product, before_factor, its_product, product_with, its_sum, sum_with, Side, Left, Right, State, Start, Named, WantsVariable, BehindVariable, BehindLeft, WantsFactor, Behind, Ended, behind_factor, behind_access, closed, ended, step_behind, step, run, count_on, with_commas, named, variables_so_far, before, role, read}
+use Rattle.index_notation.specs.Grammar.{Read, Sum, Tree, Role, symbols}
+use Rattle.notation_reader.specs.Machine.{SumPlace, OnTheRight, InBrackets, its_product, product_with, its_sum, sum_with, Left, Right, State, Start, Named, WantsVariable, BehindVariable, BehindLeft, WantsFactor, Behind, Ended, ended, step, run, before, role}
 use Rattle.index_notation.specs.declared.fault.SymbolFault.{SymbolFault}
 use Rattle.index_notation.specs.declared.fault.SymbolFault.TheVariants.{BadNotation}
 use Rattle.notation_reader.specs.declared.position.Lead.{Lead}
@@ -20,12 +14,12 @@ use Rattle.notation_reader.specs.declared.position.Position.{Position}
 use Rattle.notation_reader.specs.declared.counts.Counts.{Counts}
 use Rattle.notation_reader.proofs.MachineLaws.{some_is, nothing_leads}
 use Rattle.notation_reader.proofs.ReadingLaws.{run_parts, first_step, stands_begins}
-use Rattle.index_notation.specs.Faults.{limit_passed, FaultAt, no_sentence, past_limit, HaveNoFault, IsTreeOf}
+use Rattle.index_notation.specs.Faults.{FaultAt, no_sentence, past_limit, HaveNoFault, IsTreeOf}
 use Rattle.notation_reader.proofs.FaultLaws.{nowhere_is_bad, passed_is_fault, taken_has_no_fault, faultless_on, run_on}
 use Rattle.notation_reader.specs.Leads.{lead_of}
 use Rattle.notation_reader.specs.Shown.{on_the_left, show}
-use Rattle.notation_reader.proofs.Doing.{Leads, Does}
-use Rattle.notation_reader.specs.Judging.{IsRefused, nowhere, passes, IsTaken, Judges, IsLast, HasLast}
+use Rattle.notation_reader.proofs.Doing.{Does}
+use Rattle.notation_reader.specs.Judging.{IsRefused, nowhere, passes, IsTaken, IsLast, HasLast}
 use Rattle.notation_reader.proofs.ShownLaws.{does}
 use Rattle.notation_reader.specs.Moves.{Moves}
 use Rattle.notation_reader.proofs.MoveLaws.{Tells, move_tells}

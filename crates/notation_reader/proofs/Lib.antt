@@ -14,3 +14,4 @@ pub mod ReadingSteps
 pub mod Bytes
 pub mod Scanning
 pub mod NotationLaws
+pub mod TreeNumbers

@@ -1,14 +1,13 @@
 -- What a move tells of a step.
-use Rattle.std.specs.Prelude.{◌≡◌, ℕ, ◌+◌, ◌-◌, Bool, true, false, MatchBool, Option, Some, None, List, [], ◌∷◌, ◌++◌, refl}
-use Rattle.std.proofs.Common.{sym, ◌∙◌, ap, subst}
-use Rattle.notation_reader.specs.declared.position.Stand.{Stand}
+use Rattle.std.specs.Prelude.{◌≡◌, Bool, true, false, MatchBool, Option, None, refl}
+use Rattle.std.proofs.Common.{sym, ◌∙◌}
 use Rattle.notation_reader.specs.declared.position.Stand.TheVariants as stand
 use Rattle.notation_reader.specs.declared.position.Lead.{Lead}
 use Rattle.notation_reader.specs.declared.position.Lead.TheVariants as lead
 use Rattle.notation_reader.specs.declared.position.Position.{Position}
 use Rattle.index_notation.specs.Grammar.{Role}
 use Rattle.notation_reader.specs.Machine.{State}
-use Rattle.notation_reader.specs.Shown.{on_the_left, show, finished, with_stand, in_bracket, behind_sign, out_of_bracket}
+use Rattle.notation_reader.specs.Shown.{on_the_left, finished, with_stand, in_bracket, behind_sign, out_of_bracket}
 use Rattle.notation_reader.specs.Moves.{Moves}
 use Rattle.notation_reader.proofs.Doing.{Leads, Does}
 

@@ -2,23 +2,20 @@
 use Rattle.std.specs.Prelude.{◌≡◌, ℕ, ◌<◌, ◌≤◌, List, [], ◌∷◌, length, refl}
 use Rattle.std.proofs.Common.{sym, ◌∙◌, ap, subst, arith}
 use Rattle.limits.specs.Limits.{greatest_text_bytes}
-use Rattle.index_notation.specs.declared.sentence.Token.{Token}
 use Rattle.index_notation.specs.declared.symbol.Symbol.{Symbol}
 use Rattle.index_notation.specs.declared.symbol.Symbol.TheVariants.{Word, End, Stray}
 use Rattle.index_notation.specs.declared.symbol.PlacedSymbol.{PlacedSymbol}
 use Rattle.index_notation.specs.declared.syntax.Statement.{Statement}
 use Rattle.index_notation.specs.declared.sentence.WrittenAccess.{WrittenAccess}
-use Rattle.index_notation.specs.declared.fault.SymbolFault.{SymbolFault}
-use Rattle.index_notation.specs.declared.fault.SymbolFault.TheVariants as symbol_fault
 use Rattle.index_notation.specs.declared.fault.NotationFault.{NotationFault}
 use Rattle.index_notation.specs.declared.fault.NotationFault.TheVariants.{TextLength, BadNotation, TooDeep, TooMany, LiteralRange, Memory}
-use Rattle.index_notation.specs.Grammar.{Tree, symbols, sentence_of}
+use Rattle.index_notation.specs.Grammar.{Tree}
 use Rattle.index_notation.specs.Faults.{symbols_of, IsFirstFault, IsTreeOf}
 use Rattle.index_notation.specs.Symbols.{StartsWith, AreSymbols}
 use Rattle.index_notation.specs.TreeStatement.{accesses_of_sum, numbered_statement, statement_of_tree}
 use Rattle.notation_reader.specs.declared.reader.Reading.{Reading}
 use Rattle.notation_reader.specs.Reading.{IsReadingOf}
-use Rattle.index_notation.specs.Notation.{IsNotationOf, at_byte, HasFaultySymbol, IsFaultOf, MayRefuse}
+use Rattle.index_notation.specs.Notation.{IsNotationOf, at_byte, HasFaultySymbol, IsFaultOf}
 use Rattle.index_notation.proofs.TokenLaws.{next_once, token_full}
 use Rattle.notation_reader.proofs.ReadingLaws.{one_tree}
 use Rattle.notation_reader.proofs.AnswerLaws.{first_once, tree_or_fault}

@@ -1,18 +1,16 @@
 -- A sentence is read to its end, and each state can be led to an end. So some sentence begins with the symbols exactly where
 -- a reader takes them all, and then their roles are the reader's.
-use Rattle.std.specs.Prelude.{◌≡◌, ℕ, zero, suc, Option, Some, None, option_and_then, List, [], ◌∷◌, ◌++◌, refl}
-use Rattle.std.proofs.Common.{sym, ◌∙◌, ap, subst, arith, append_assoc}
+use Rattle.std.specs.Prelude.{◌≡◌, ℕ, suc, Option, Some, None, option_and_then, List, [], ◌∷◌, ◌++◌, refl}
+use Rattle.std.proofs.Common.{sym, ◌∙◌, ap, append_assoc}
 use Rattle.index_notation.specs.declared.syntax.Name.{Name}
-use Rattle.index_notation.specs.declared.sentence.Mark.{Mark}
-use Rattle.index_notation.specs.declared.sentence.Mark.TheVariants.{Equals, Plus, Minus, Times, Open, Close, Comma}
-use Rattle.index_notation.specs.declared.sentence.Token.{Token}
+use Rattle.index_notation.specs.declared.sentence.Mark.TheVariants.{Equals, Plus, Minus, Times, Open, Close}
 use Rattle.index_notation.specs.declared.sentence.Token.TheVariants.{Name as NameToken, Number as NumberToken, Mark as MarkToken}
 use Rattle.index_notation.specs.declared.sentence.WrittenAccess.{WrittenAccess}
 use Rattle.index_notation.specs.declared.symbol.Symbol.{Symbol}
-use Rattle.index_notation.specs.declared.symbol.Symbol.TheVariants.{Word, End, Stray}
-use Rattle.index_notation.specs.Grammar.{Factor, Digits, Read, Bracketed, Negated, Product, Lone, Multiplied, Sum, Alone, Added, Taken, Tree, Role, NamesLeft, NamesRight, IsVariable, IsNumber, Opens, Plain, Written, written, plain, the_end, access_of, factor_of, product_of, sum_of, left_of, sentence_of, more_variables, in_brackets, symbols, Begins}
-use Rattle.notation_reader.specs.Machine.{SumPlace, OnTheRight, InBrackets, ProductPlace, First, BehindPlus, BehindMinus, FactorPlace, FirstFactor, BehindTimes, BehindSign, sum_levels, product_levels, levels, before_sum, before_product, before_factor, its_product, product_with, its_sum, sum_with, Side, Left, Right, State, Start, Named, WantsVariable, BehindVariable, BehindLeft, WantsFactor, Behind, Ended, behind_factor, behind_access, closed, ended, step_behind, step, run, count_on, with_commas, named, variables_so_far, before, role, read}
-use Rattle.notation_reader.proofs.MachineLaws.{Grows, grows}
+use Rattle.index_notation.specs.declared.symbol.Symbol.TheVariants.{Word, End}
+use Rattle.index_notation.specs.Grammar.{Factor, Digits, Read, Bracketed, Negated, Product, Lone, Multiplied, Sum, Alone, Added, Taken, Tree, NamesLeft, Written, plain, the_end, access_of, factor_of, product_of, sum_of, left_of, sentence_of, more_variables, in_brackets, symbols, Begins}
+use Rattle.notation_reader.specs.Machine.{SumPlace, OnTheRight, InBrackets, ProductPlace, First, BehindPlus, BehindMinus, FactorPlace, FirstFactor, BehindTimes, BehindSign, its_sum, sum_with, Side, Left, Right, State, Start, Named, WantsVariable, BehindVariable, BehindLeft, WantsFactor, Behind, Ended, behind_factor, behind_access, closed, ended, step, run, before, read}
+use Rattle.notation_reader.proofs.MachineLaws.{grows}
 
 -- a symbol follows, and opens no bracket
 abbrev pub Follows : List Symbol → Type 0
@@ -222,9 +220,9 @@ run_parts (t ∷ ts) us s last e =
     let p = run_parts ts us f.0 last f.2 in
     (p.0, stepped s t (Some f.0) ts f.1 ∙ p.1, p.2)
 
-pub signs_append : (ms ns : List Written) → symbols (ms ++ ns) ≡ symbols ms ++ symbols ns
-signs_append [] ns = refl
-signs_append (m ∷ ms) ns = ap (λ (ts : List Symbol). m.symbol ∷ ts) (signs_append ms ns)
+pub symbols_join : (ms ns : List Written) → symbols (ms ++ ns) ≡ symbols ms ++ symbols ns
+symbols_join [] ns = refl
+symbols_join (m ∷ ms) ns = ap (λ (ts : List Symbol). m.symbol ∷ ts) (symbols_join ms ns)
 
 -- fronts of one list with the same symbols are one
 same_front : (ms ns r q : List Written) → ms ++ r ≡ ns ++ q → symbols ms ≡ symbols ns → ms ≡ ns
@@ -245,7 +243,7 @@ StandsBehind ms s = (run Start (symbols ms) ≡ Some s) × (before s ≡ ms)
 -- where some sentence begins so, a reader comes there
 pub begun_stands : (ms : List Written) → Begins ms → (s : State) × StandsBehind ms s
 begun_stands ms h =
-    let all : run Start (symbols ms ++ symbols h.rest) ≡ Some (Ended h.tree) = ap (run Start) (sym (signs_append ms h.rest) ∙ ap symbols h.is) ∙ sentence_read h.tree in
+    let all : run Start (symbols ms ++ symbols h.rest) ≡ Some (Ended h.tree) = ap (run Start) (sym (symbols_join ms h.rest) ∙ ap symbols h.is) ∙ sentence_read h.tree in
     let p = run_parts (symbols ms) (symbols h.rest) Start (Ended h.tree) all in
     let to = way (symbols ms) Start p.0 p.1 in
     let from = way (symbols h.rest) p.0 (Ended h.tree) p.2 in

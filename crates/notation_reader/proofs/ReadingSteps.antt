@@ -1,30 +1,28 @@
 -- How far a reader has come.
-use Rattle.std.specs.Prelude.{◌≡◌, ℕ, ◌+◌, ◌<◌, ◌≤◌, ◌^◌, nat_lt, Bool, true, false, Option, Some, None, List, [], ◌∷◌, ◌++◌, cond, length, take, get_or, zero, suc, refl}
+use Rattle.std.specs.Prelude.{◌≡◌, ℕ, ◌+◌, ◌<◌, ◌≤◌, nat_lt, Bool, true, false, Option, Some, None, List, [], ◌∷◌, ◌++◌, cond, length, take, get_or, zero, suc, refl}
 use Rattle.std.proofs.Common.{sym, ◌∙◌, ap, subst, arith}
 use Rattle.std.proofs.lemmas.Bool.{ltb-false}
 use Rattle.std.proofs.Math.Seq.{take-suc}
 use Rattle.limits.specs.Limits.{greatest_operands, greatest_literal}
-use Rattle.index_notation.specs.declared.syntax.Expr.{Expr}
 use Rattle.index_notation.specs.declared.symbol.Symbol.{Symbol}
 use Rattle.index_notation.specs.declared.fault.Counted.TheVariants.{Operands}
 use Rattle.index_notation.specs.declared.fault.SymbolFault.{SymbolFault}
 use Rattle.index_notation.specs.declared.fault.SymbolFault.TheVariants.{TooMany, LiteralRange}
 use Rattle.notation_reader.specs.declared.position.Lead.{Lead}
 use Rattle.notation_reader.specs.declared.position.Lead.TheVariants as lead
-use Rattle.notation_reader.specs.declared.position.Stand.TheVariants as stand
 use Rattle.notation_reader.specs.declared.position.Position.{Position}
 use Rattle.notation_reader.specs.declared.counts.Counts.{Counts}
 use Rattle.notation_reader.specs.declared.builder.Builder.{Builder}
 use Rattle.index_notation.specs.Grammar.{Tree}
-use Rattle.notation_reader.specs.Machine.{State, Start, Named, WantsVariable, BehindVariable, BehindLeft, WantsFactor, Behind, Ended, Left, Right, step, run, role, read, before}
+use Rattle.notation_reader.specs.Machine.{State, Start, Named, WantsVariable, BehindVariable, BehindLeft, WantsFactor, Behind, Ended, Left, Right, run}
 use Rattle.notation_reader.proofs.MachineLaws.{some_is}
 use Rattle.notation_reader.proofs.ReadingLaws.{sentence_read}
-use Rattle.index_notation.specs.Faults.{above, number_of, limit_passed, HaveNoFault, symbols_of, IsFirstFault, IsTreeOf}
+use Rattle.index_notation.specs.Faults.{above, number_of, symbols_of, IsFirstFault, IsTreeOf}
 use Rattle.notation_reader.proofs.FaultLaws.{run_on, faultless_on, taken_has_no_fault}
 use Rattle.notation_reader.specs.Leads.{lead_of}
-use Rattle.notation_reader.specs.Shown.{on_the_left, show}
-use Rattle.notation_reader.specs.Counting.{IsCounted, CountsSymbol, number_fault}
-use Rattle.notation_reader.specs.Judging.{IsRefused, IsTaken, Judges, HasLast}
+use Rattle.notation_reader.specs.Shown.{show}
+use Rattle.notation_reader.specs.Counting.{CountsSymbol, number_fault}
+use Rattle.notation_reader.specs.Judging.{IsRefused, IsTaken, HasLast}
 use Rattle.notation_reader.proofs.JudgingLaws.{Comes, fault_of, tree_found}
 use Rattle.notation_reader.specs.Building.{built, Builds}
 use Rattle.index_notation.specs.TreeStatement.{sum_expr, accesses_of_tree}
@@ -37,7 +35,7 @@ use Rattle.notation_reader.proofs.AccessLaws.{says}
 use Rattle.notation_reader.proofs.AnswerLaws.{symbols_append}
 use Rattle.notation_reader.proofs.BuildLaws.{builds}
 
-not_above : (b : Bool) (f : SymbolFault) (o : Option SymbolFault) → cond b (Some f) o ≡ None → (b ≡ false) × (o ≡ None)
+pub not_above : (b : Bool) (f : SymbolFault) (o : Option SymbolFault) → cond b (Some f) o ≡ None → (b ≡ false) × (o ≡ None)
 not_above false f o e = (refl, e)
 not_above true f o e = absurd (let no = e in cc)
 

@@ -1,7 +1,7 @@
 -- Reading the symbols of a text from the left.
-use Rattle.std.specs.Prelude.{◌≡◌, ◌≢◌, ℕ, ◌+◌, ◌-◌, ◌<◌, ◌≤◌, true, false, cond, List, [], ◌∷◌, ◌++◌, length, drop, refl}
+use Rattle.std.specs.Prelude.{◌≡◌, ◌≢◌, ℕ, ◌-◌, ◌<◌, ◌≤◌, true, false, cond, List, [], ◌∷◌, ◌++◌, length, drop, refl}
 use Rattle.std.proofs.Common.{sym, ◌∙◌, ap, subst, append_assoc, arith}
-use Rattle.std.proofs.lemmas.List.{append-nil, length-drop}
+use Rattle.std.proofs.lemmas.List.{length-drop}
 use Rattle.std.specs.List.{between}
 use Rattle.std.proofs.lemmas.Slice.{between_to_end}
 use Rattle.index_notation.specs.declared.sentence.Token.{Token}
@@ -13,7 +13,7 @@ use Rattle.lists.specs.Blanks.{is_blank}
 use Rattle.index_notation.specs.Symbols.{first_byte, BeginsNoToken, StartsWith, AreSymbols}
 use Rattle.index_notation.specs.Faults.{symbols_of}
 use Rattle.notation_reader.specs.Judging.{IsLast, HasLast}
-use Rattle.notation_reader.proofs.Bytes.{behind_twice, behind_again, no_blank_first}
+use Rattle.notation_reader.proofs.Bytes.{behind_twice, behind_again}
 
 pub behind_is_short : (text : List ℕ) → length (behind_blanks text) ≤ length text
 behind_is_short [] = omega arith

@@ -1,16 +1,14 @@
 -- Each step of a state is what the reader's lead says.
-use Rattle.std.specs.Prelude.{◌≡◌, ℕ, zero, suc, ◌+◌, ◌-◌, ◌≤◌, Option, Some, None, List, [], ◌∷◌, ◌++◌, refl}
-use Rattle.std.proofs.Common.{sym, ◌∙◌, ap, subst, arith, append_assoc, add-one}
+use Rattle.std.specs.Prelude.{◌≡◌, ℕ, suc, ◌+◌, ◌-◌, List, [], ◌∷◌, ◌++◌, refl}
+use Rattle.std.proofs.Common.{sym, ◌∙◌, ap, arith}
 use Rattle.index_notation.specs.declared.syntax.Name.{Name}
-use Rattle.index_notation.specs.declared.sentence.Mark.{Mark}
 use Rattle.index_notation.specs.declared.sentence.Mark.TheVariants.{Equals, Plus, Minus, Times, Open, Close, Comma}
-use Rattle.index_notation.specs.declared.sentence.Token.{Token}
 use Rattle.index_notation.specs.declared.sentence.Token.TheVariants.{Name as NameToken, Number as NumberToken, Mark as MarkToken}
 use Rattle.index_notation.specs.declared.sentence.WrittenAccess.{WrittenAccess}
 use Rattle.index_notation.specs.declared.symbol.Symbol.{Symbol}
 use Rattle.index_notation.specs.declared.symbol.Symbol.TheVariants.{Word, End, Stray}
-use Rattle.index_notation.specs.Grammar.{Factor, Digits, Read, Bracketed, Negated, Product, Lone, Multiplied, Sum, Alone, Added, Taken, Tree, Role, NamesLeft, NamesRight, IsVariable, IsNumber, Opens, Plain, Written, written, plain, the_end, access_of, factor_of, product_of, sum_of, left_of, sentence_of, more_variables, in_brackets, symbols, Begins}
-use Rattle.notation_reader.specs.Machine.{SumPlace, OnTheRight, InBrackets, ProductPlace, First, BehindPlus, BehindMinus, FactorPlace, FirstFactor, BehindTimes, BehindSign, sum_levels, product_levels, levels, before_sum, before_product, before_factor, its_product, product_with, its_sum, sum_with, Side, Left, Right, State, Start, Named, WantsVariable, BehindVariable, BehindLeft, WantsFactor, Behind, Ended, behind_factor, behind_access, closed, ended, step_behind, step, run, count_on, with_commas, named, variables_so_far, before, role, read}
+use Rattle.index_notation.specs.Grammar.{Factor, Digits, Read, Bracketed, Product, Sum, Tree, Opens, Plain}
+use Rattle.notation_reader.specs.Machine.{SumPlace, OnTheRight, InBrackets, ProductPlace, First, BehindPlus, BehindMinus, FactorPlace, FirstFactor, BehindTimes, BehindSign, sum_levels, product_levels, levels, its_product, product_with, its_sum, sum_with, Side, Left, Right, State, Start, Named, WantsVariable, BehindVariable, BehindLeft, WantsFactor, Behind, Ended, behind_factor, closed, ended, step_behind, step, count_on, role}
 use Rattle.notation_reader.specs.declared.position.Stand.{Stand}
 use Rattle.notation_reader.specs.declared.position.Stand.TheVariants as stand
 use Rattle.notation_reader.specs.declared.position.Lead.{Lead}
@@ -18,8 +16,8 @@ use Rattle.notation_reader.specs.declared.position.Lead.TheVariants as lead
 use Rattle.notation_reader.specs.declared.position.Position.{Position}
 use Rattle.notation_reader.proofs.FaultLaws.{last_once}
 use Rattle.notation_reader.specs.Leads.{factor_leads, lead_of}
-use Rattle.notation_reader.specs.Shown.{minuses_of, outer_of_sum, outer_of_product, outer_of, on_the_left, at_place, at_side, show, finished, with_stand, in_bracket, behind_sign, out_of_bracket}
-use Rattle.notation_reader.proofs.Doing.{Leads, IsUncounted, Does}
+use Rattle.notation_reader.specs.Shown.{minuses_of, outer_of_sum, outer_of_product, outer_of, at_place, show, finished, out_of_bracket}
+use Rattle.notation_reader.proofs.Doing.{Does}
 
 no_levels_without_minuses : (n m k : ℕ) → n ≡ m + k → n - m ≡ k
 no_levels_without_minuses n m k e = omega arith

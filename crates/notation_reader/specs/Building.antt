@@ -1,5 +1,5 @@
 -- What is built of the right side's expression at a place.
-use Rattle.std.specs.Prelude.{◌≡◌, ℕ, zero, suc, ◌+◌, ◌-◌, Bool, true, false, MatchBool, if◌then◌else◌, Option, Some, None, List, [], ◌∷◌, ◌++◌}
+use Rattle.std.specs.Prelude.{◌≡◌, ℕ, zero, suc, ◌+◌, ◌-◌, Bool, true, false, if◌then◌else◌, Option, Some, None, List, [], ◌∷◌, ◌++◌}
 use Rattle.index_notation.specs.declared.syntax.Expr.{Expr, Num, Access as AccessOf, Add, Sub, Mul, Neg}
 use Rattle.index_notation.specs.declared.sentence.Mark.TheVariants.{Plus, Minus}
 use Rattle.index_notation.specs.declared.sentence.Token.TheVariants.{Mark as MarkToken}
@@ -12,10 +12,12 @@ use Rattle.notation_reader.specs.declared.position.Lead.TheVariants as lead
 use Rattle.notation_reader.specs.declared.builder.Joined.{Joined}
 use Rattle.notation_reader.specs.declared.builder.Frame.{Frame}
 use Rattle.notation_reader.specs.declared.builder.Builder.{Builder}
-use Rattle.index_notation.specs.Grammar.{Factor, Digits, Read, Bracketed, Negated, Product, Lone, Multiplied, Sum, Alone, Added, Taken, Tree}
+use Rattle.index_notation.specs.Grammar.{Product}
 use Rattle.index_notation.specs.Faults.{number_of}
 use Rattle.index_notation.specs.TreeStatement.{reads_in_product, reads_in_sum, product_expr, sum_expr}
-use Rattle.notation_reader.specs.Machine.{SumPlace, OnTheRight, InBrackets, ProductPlace, First, BehindPlus, BehindMinus, FactorPlace, FirstFactor, BehindTimes, BehindSign, its_product, Side, Left, Right, State, Start, Named, WantsVariable, BehindVariable, BehindLeft, WantsFactor, Behind, Ended}
+use Rattle.notation_reader.specs.Machine.{SumPlace, OnTheRight, InBrackets, ProductPlace, First, BehindPlus, BehindMinus, FactorPlace}
+use Rattle.notation_reader.specs.Machine.{FirstFactor, BehindTimes, BehindSign, its_product, Side, Left, Right, State, Named}
+use Rattle.notation_reader.specs.Machine.{WantsVariable, BehindVariable, WantsFactor, Behind, Ended}
 use Rattle.notation_reader.specs.Shown.{minuses_of}
 
 -- how many accesses stand before a place

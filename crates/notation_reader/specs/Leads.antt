@@ -1,5 +1,4 @@
 -- What a symbol does at a stand of the reader.
-use Rattle.std.specs.Prelude.{List}
 use Rattle.index_notation.specs.declared.sentence.Mark.{Mark}
 use Rattle.index_notation.specs.declared.sentence.Mark.TheVariants.{Equals, Plus, Minus, Times, Open, Close, Comma}
 use Rattle.index_notation.specs.declared.sentence.Token.TheVariants.{Name as NameToken, Number as NumberToken, Mark as MarkToken}

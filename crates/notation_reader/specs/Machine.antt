@@ -1,14 +1,14 @@
 -- Where a reader stands in a sentence: what it has read, as places in the grammar, and where each symbol leads.
-use Rattle.std.specs.Prelude.{ℕ, zero, suc, Option, Some, None, option_and_then, List, [], ◌∷◌, ◌++◌}
+use Rattle.std.specs.Prelude.{ℕ, suc, Option, Some, None, option_and_then, List, [], ◌∷◌, ◌++◌}
 use Rattle.index_notation.specs.declared.syntax.Name.{Name}
-use Rattle.index_notation.specs.declared.sentence.Mark.{Mark}
 use Rattle.index_notation.specs.declared.sentence.Mark.TheVariants.{Equals, Plus, Minus, Times, Open, Close, Comma}
-use Rattle.index_notation.specs.declared.sentence.Token.{Token}
 use Rattle.index_notation.specs.declared.sentence.Token.TheVariants.{Name as NameToken, Number as NumberToken, Mark as MarkToken}
 use Rattle.index_notation.specs.declared.sentence.WrittenAccess.{WrittenAccess}
 use Rattle.index_notation.specs.declared.symbol.Symbol.{Symbol}
-use Rattle.index_notation.specs.declared.symbol.Symbol.TheVariants.{Word, End, Stray}
-use Rattle.index_notation.specs.Grammar.{Factor, Digits, Read, Bracketed, Negated, Product, Lone, Multiplied, Sum, Alone, Added, Taken, Tree, Role, NamesLeft, NamesRight, IsVariable, IsNumber, Opens, Plain, Written, written, plain, the_end, access_of, factor_of, product_of, sum_of, left_of, sentence_of}
+use Rattle.index_notation.specs.declared.symbol.Symbol.TheVariants.{Word, End}
+use Rattle.index_notation.specs.Grammar.{Factor, Digits, Read, Bracketed, Negated, Product, Lone, Multiplied, Sum, Alone, Added, Taken}
+use Rattle.index_notation.specs.Grammar.{Tree, Role, NamesLeft, NamesRight, IsVariable, IsNumber, Opens, Plain, Written, written}
+use Rattle.index_notation.specs.Grammar.{plain, access_of, product_of, sum_of, left_of, sentence_of}
 
 -- a place where a sum, a product or a factor is wanted, with all that stands before it
 mutual

@@ -1,9 +1,11 @@
 -- What the reader of the code keeps of a place in the grammar.
-use Rattle.std.specs.Prelude.{◌≡◌, ℕ, zero, suc, ◌+◌, ◌-◌, Option, Some, None, List, [], ◌∷◌, ◌++◌}
+use Rattle.std.specs.Prelude.{ℕ, ◌+◌, ◌-◌, List, [], ◌∷◌, ◌++◌}
 use Rattle.notation_reader.specs.declared.position.Stand.{Stand}
 use Rattle.notation_reader.specs.declared.position.Stand.TheVariants as stand
 use Rattle.notation_reader.specs.declared.position.Position.{Position}
-use Rattle.notation_reader.specs.Machine.{SumPlace, OnTheRight, InBrackets, ProductPlace, First, BehindPlus, BehindMinus, FactorPlace, FirstFactor, BehindTimes, BehindSign, product_levels, levels, Side, Left, Right, State, Start, Named, WantsVariable, BehindVariable, BehindLeft, WantsFactor, Behind, Ended}
+use Rattle.notation_reader.specs.Machine.{SumPlace, OnTheRight, InBrackets, ProductPlace, First, BehindPlus, BehindMinus, FactorPlace}
+use Rattle.notation_reader.specs.Machine.{FirstFactor, BehindTimes, BehindSign, product_levels, levels, Side, Left, Right, State}
+use Rattle.notation_reader.specs.Machine.{Start, Named, WantsVariable, BehindVariable, BehindLeft, WantsFactor, Behind, Ended}
 
 -- the prefix minuses right before a place
 abbrev pub minuses_of : FactorPlace → ℕ

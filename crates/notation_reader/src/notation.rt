@@ -1,6 +1,6 @@
-ghost use Rattle.std.specs.Prelude.{IfOk, IfErr};
+ghost use Rattle.std.specs.Prelude.{◌≡◌, IfOk, IfErr};
+ghost use Rattle.index_notation.specs.Statement.{IsNumbered};
 ghost use Rattle.index_notation.specs.Notation.{IsNotationOf, MayRefuse, at_byte as fault_at_byte};
-ghost use Rattle.std.specs.Prelude.{◌≡◌};
 
 use crate::numbering::number_statement;
 use crate::reader::{Reading, read};
@@ -28,6 +28,7 @@ fn at_byte(at: usize, fault: SymbolFault) -> NotationFault
 /// it has one, and with `Memory` for want of memory alone.
 pub fn parse(alloc: Global, text: &str) -> Result<Statement, NotationFault>
     ensures statement { IfOk result (IsNotationOf text.now) }
+    ensures numbered { IfOk result IsNumbered }
     ensures fault { IfErr result (MayRefuse text.now) }
 {
     let bytes = text.as_bytes();

@@ -1,7 +1,5 @@
-use Rattle.std.proofs.Common.{◌≡◌, ◌≢◌, ℕ, zero, suc, ◌-◌, IfOk, arith, sym, ◌∙◌, ap, subst, refl}
-use denote.Hole.Carrier.{hidden}
+use Rattle.std.proofs.Common.{◌≡◌, ◌≢◌, ℕ, zero, suc, ◌-◌, IfOk, arith, ◌∙◌, ap, subst, refl}
 use Rattle.index_notation.specs.declared.syntax.Expr.{Expr, Neg}
-use Rattle.index_notation.specs.declared.syntax.Expr.TheBlock.{hidden-the_row-Expr-0}
 use Rattle.notation_reader.specs.Building.{negated}
 use Rattle.notation_reader.proofs.builder.+negated.Goals as goal
 

@@ -1,4 +1,4 @@
-use Rattle.std.proofs.Common.{◌≡◌, true, false, Some, None, sym, ◌∙◌, ap, subst}
+use Rattle.std.proofs.Common.{true, false, Some, None, subst}
 use Rattle.notation_reader.proofs.JudgingLaws.{counted_refused, moved}
 use Rattle.notation_reader.proofs.ReadingSteps.{counted_small}
 use Rattle.notation_reader.specs.Leads.{lead_of}

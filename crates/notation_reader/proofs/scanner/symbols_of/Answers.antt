@@ -1,7 +1,6 @@
 use Rattle.std.proofs.Common.{◌≡◌, ◌∷◌, ◌-◌, length, sym, ◌∙◌, ap, refl}
 use Rattle.index_notation.specs.Tokens.{behind_blanks}
-use Rattle.std.proofs.lemmas.List.{nil_from_length}
-use Rattle.notation_reader.proofs.Scanning.{scan_starts, scan_shortens, scan_steps, scan_strays, scan_ends, no_blank_before}
+use Rattle.notation_reader.proofs.Scanning.{scan_starts, scan_shortens, scan_steps, no_blank_before}
 use Rattle.notation_reader.proofs.scanner.symbols_of.Goals as goal
 
 pub loop-first-init : goal.loop-first-init
