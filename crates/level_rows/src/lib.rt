@@ -1,0 +1,9 @@
+//! Rows into levels: a level of a tensor's storage is filled from rows, each with a position of the level above
+//! and a coordinate. `specs/Rows.antt` says what rows are, `specs/Taken.antt` what a level is that was given them.
+#![tactic(auto)]
+
+mod appending;
+mod rows;
+
+pub use appending::append_rows;
+pub use rows::SortedRows;
