@@ -1,7 +1,10 @@
 pub mod RowLaws
 pub mod Steps
+pub mod Entries
 pub mod Finishing
 pub mod Branchless
 pub mod Groups
 pub mod Filling
 pub mod AppendLoop
+pub mod InsertLaws
+pub mod InsertLoop

@@ -3,7 +3,9 @@
 #![tactic(auto)]
 
 mod appending;
+mod inserting;
 mod rows;
 
 pub use appending::append_rows;
+pub use inserting::insert_rows;
 pub use rows::SortedRows;
