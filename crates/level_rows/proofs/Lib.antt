@@ -8,3 +8,4 @@ pub mod Filling
 pub mod AppendLoop
 pub mod InsertLaws
 pub mod InsertLoop
+pub mod Tallies

@@ -3,9 +3,11 @@
 #![tactic(auto)]
 
 mod appending;
+mod counting;
 mod inserting;
 mod rows;
 
 pub use appending::append_rows;
+pub use counting::{greatest_below, positions_begun};
 pub use inserting::insert_rows;
 pub use rows::SortedRows;
