@@ -31,10 +31,10 @@ begins_it rows (suc n) pos h = by_first (begins_it rows n pos) (rows.first n) re
     by_first before false is = earlier (before (let k = begun_no rows n is in omega (arith, k, h)))
 
 -- rows that follow one another in a group of positions rise
-abbrev pub RiseIn : Bool → Rows → Span → Type 0
-RiseIn unique rows s = (i : ℕ) → suc i < rows.count → rows.first (suc i) ≡ true → IsIn (place rows.first i) s → IsIn (place rows.first (suc i)) s → rows.coord i + gap unique ≤ rows.coord (suc i)
+abbrev pub PlacesRise : Bool → Rows → Span → Type 0
+PlacesRise unique rows s = (i : ℕ) → suc i < rows.count → rows.first (suc i) ≡ true → IsIn (place rows.first i) s → IsIn (place rows.first (suc i)) s → rows.coord i + gap unique ≤ rows.coord (suc i)
 
-pub group_rises : (unique : Bool) (rows : Rows) (coords : List ℕ) (s : Span) → (0 < rows.count → rows.first 0 ≡ true) → Appended rows.count rows coords → s.lo ≤ s.hi → s.hi ≤ length coords → RiseIn unique rows s → Rises unique 0 (slice coords s)
+pub group_rises : (unique : Bool) (rows : Rows) (coords : List ℕ) (s : Span) → (0 < rows.count → rows.first 0 ≡ true) → Appended rows.count rows coords → s.lo ≤ s.hi → s.hi ≤ length coords → PlacesRise unique rows s → Rises unique 0 (slice coords s)
 group_rises unique rows coords s starts a order inside r = rises_from unique 0 (slice coords s) (λ _. omega arith) step
   where
     long : length (slice coords s) ≡ s.hi - s.lo

@@ -15,7 +15,7 @@ use Rattle.level_core.specs.Meaning.{Meaning, Prepares, Inserts}
 use Rattle.level_core.specs.Laws.{Laws}
 use Rattle.level_core.specs.Orders.{InOrder, KeepsOrder}
 use Rattle.level_core.proofs.Orders.{keeps_order}
-use Rattle.level_rows.specs.Rows.{Rows, begun_below, MayInsertRows}
+use Rattle.level_rows.specs.Rows.{Rows, begun_below, MayInsertRows, StandsFor}
 use Rattle.level_rows.specs.Taken.{Asked, Takes, InsertsRows}
 use Rattle.level_rows.proofs.Finishing.{stands_along}
 use Rattle.level_rows.proofs.InsertLaws.{Inserted, IsParent, may_insert, insert_first, insert_again, insert_none, inserted_stands}
@@ -208,14 +208,18 @@ module _ {L : Type 0} (means : Meaning L) (laws : Laws means) (parents most : �
       keeps = f.keeps;
       kind = f.kind;
       size = f.size;
-      has_parents = f.has_parents;
       many = f.many;
-      stands = stands_along (properties (means.kind old)).full (IsParent parents) (Asked means l parents) (means.segment_of l) (means.entries l) rows (slice_index positions) (slice_index positions) single (λ i h. refl)
-          (inserted_stands (means.kind old) (means.size old) parents rows (slice_index positions) (means.allowed l) (means.segment_of l) (means.entries l) (unique_inserted (means.kind old) f.able) may.within (laws.in_row l) allowed_at
-          (λ s ok. subst (λ k. AreEntries (properties k) (means.size old) s (means.segment_of l s) (means.entries l s)) f.kind (subst (λ n. AreEntries (properties (means.kind l)) n s (means.segment_of l s) (means.entries l s)) f.size (laws.entries l s ok)))
-          f.inserted);
+      stored = record {
+        has_parents = f.has_parents;
+        stands = subst (λ k. StandsFor (properties k).full (Asked means l parents) (means.segment_of l) (means.entries l) rows (slice_index positions)) (sym f.kind)
+            (stands_along (properties (means.kind old)).full (IsParent parents) (Asked means l parents) (means.segment_of l) (means.entries l) rows (slice_index positions) (slice_index positions) single (λ i h. refl)
+            (inserted_stands (means.kind old) (means.size old) parents rows (slice_index positions) (means.allowed l) (means.segment_of l) (means.entries l) (unique_inserted (means.kind old) f.able) may.within (laws.in_row l) allowed_at
+            (λ s ok. subst (λ k. AreEntries (properties k) (means.size old) s (means.segment_of l s) (means.entries l s)) f.kind (subst (λ n. AreEntries (properties (means.kind l)) n s (means.segment_of l s) (means.entries l s)) f.size (laws.entries l s ok)))
+            f.inserted));
+        ends = f.ends;
+        groups = λ branches. absurd (apart (sym branches ∙ ap (λ k. (properties k).branchless) f.kind ∙ branching_inserted (means.kind old) f.able));
+      };
     };
-    positions = f.ends;
     width = f.width;
     order = f.order;
   }

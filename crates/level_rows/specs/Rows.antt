@@ -91,7 +91,7 @@ pub record StandsFor (full : Bool) (asked : Span → Type 0) (segment_of : Span 
   pub only : full ≡ false → (parent : Span) (pos x : ℕ) → asked parent → IsIn pos (segment_of parent) → coord_at (entries parent) pos ≡ Some x
     → (i : ℕ) × (i < rows.count) × (place i ≡ pos)
 
--- the coordinates of rows in a row whose places are in the span rise
+-- the coordinates of rows in a row rise whose parents are in the span
 abbrev pub RiseIn : Bool → Rows → Span → Type 0
-RiseIn unique rows s = (i : ℕ) → suc i < rows.count → rows.first (suc i) ≡ true → IsIn (place rows.first i) s → IsIn (place rows.first (suc i)) s
+RiseIn unique rows s = (i : ℕ) → suc i < rows.count → rows.first (suc i) ≡ true → IsIn (rows.parent i) s → IsIn (rows.parent (suc i)) s
     → rows.coord i + gap unique ≤ rows.coord (suc i)

@@ -12,28 +12,31 @@ use Rattle.level_rows.specs.Rows.{Rows, begun, place, StandsFor, RiseIn}
 abbrev pub Asked : {L : Type 0} → Meaning L → L → ℕ → Span → Type 0
 Asked means l parents span = means.allowed l span × (span.hi ≤ parents)
 
--- the level has so many parents and stands for the rows, whose places stand in a list
-pub record Takes {L : Type 0} (means : Meaning L) (parents : ℕ) (rows : Rows) (places : List ℕ) (old new : L) : Type 0 where
+-- a level with so many parents and so many positions that stands for rows, each at its place; where it is branchless, parents in
+-- a row may be asked if the coordinates of their rows rise
+pub record Stores {L : Type 0} (means : Meaning L) (parents positions : ℕ) (rows : Rows) (place : ℕ → ℕ) (l : L) : Type 0 where
+  pub has_parents : means.has_parents l parents
+  pub stands : StandsFor (properties (means.kind l)).full (Asked means l parents) (means.segment_of l) (means.entries l) rows place
+  pub ends : (p : ℕ) → p + 1 ≡ parents → (means.segment_of l (one p)).hi ≡ positions
+  pub groups : (properties (means.kind l)).branchless ≡ true → (span : Span) → span.lo ≤ span.hi → span.hi ≤ parents
+    → RiseIn (properties (means.kind l)).unique rows span → means.allowed l span
+
+-- a level is given rows: it is of the same kind and range, and stores the rows at the places in the list
+pub record Takes {L : Type 0} (means : Meaning L) (parents positions : ℕ) (rows : Rows) (places : List ℕ) (old new : L) : Type 0 where
   pub keeps : means.keeps new
   pub kind : means.kind new ≡ means.kind old
   pub size : means.size new ≡ means.size old
-  pub has_parents : means.has_parents new parents
   pub many : length places ≡ rows.count
-  pub stands : StandsFor (properties (means.kind old)).full (Asked means new parents) (means.segment_of new) (means.entries new) rows (slice_index places)
+  pub stored : Stores means parents positions rows (slice_index places) new
 
--- rows are appended: positions are numbered in the order in which rows begin them, and there are no others; at a branchless
--- level parents in a row may be asked if the coordinates of their rows rise
+-- rows are appended: positions are numbered in the order in which rows begin them, and there are no others
 pub record AppendsRows {L : Type 0} (means : Meaning L) (parents : ℕ) (rows : Rows) (places : List ℕ) (old new : L) : Type 0 where
-  pub takes : Takes means parents rows places old new
+  pub takes : Takes means parents (begun rows.first rows.count) rows places old new
   pub numbered : (i : ℕ) → i < rows.count → slice_index places i ≡ place rows.first i
-  pub positions : (p : ℕ) → p + 1 ≡ parents → (means.segment_of new (one p)).hi ≡ begun rows.first rows.count
-  pub groups : (properties (means.kind old)).branchless ≡ true → (span : Span) → span.lo ≤ span.hi → span.hi ≤ parents
-    → RiseIn (properties (means.kind old)).unique rows span → means.allowed new span
 
 -- rows are inserted: there are as many positions as the kind says for at most `most` coordinates below each parent, and where
 -- coordinates stand without order each is sought past smaller ones alone
 pub record InsertsRows {L : Type 0} (means : Meaning L) (parents most : ℕ) (rows : Rows) (places : List ℕ) (old new : L) : Type 0 where
-  pub takes : Takes means parents rows places old new
-  pub positions : (p : ℕ) → p + 1 ≡ parents → (means.segment_of new (one p)).hi ≡ positions_for (means.kind old) (means.size old) parents most
+  pub takes : Takes means parents (positions_for (means.kind old) (means.size old) parents most) rows places old new
   pub width : (properties (means.kind old)).full ≡ false → means.width new ≡ Some (slot_width most)
   pub order : (properties (means.kind old)).ordered ≡ false → (p : ℕ) → p < parents → InOrder means new p
