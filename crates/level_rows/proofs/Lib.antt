@@ -9,3 +9,4 @@ pub mod AppendLoop
 pub mod InsertLaws
 pub mod InsertLoop
 pub mod Tallies
+pub mod StackLaws

@@ -1,3 +1,4 @@
 pub mod Rows
 pub mod Taken
 pub mod Appending
+pub mod Stacks

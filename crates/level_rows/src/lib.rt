@@ -5,9 +5,11 @@
 mod appending;
 mod counting;
 mod inserting;
+mod laws;
 mod rows;
 
 pub use appending::append_rows;
 pub use counting::{greatest_below, positions_begun};
 pub use inserting::insert_rows;
+pub use laws::stacked_levels_tell_paths;
 pub use rows::SortedRows;
