@@ -10,3 +10,4 @@ pub mod InsertLaws
 pub mod InsertLoop
 pub mod Tallies
 pub mod StackLaws
+pub mod TableLaws

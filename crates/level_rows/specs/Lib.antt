@@ -2,3 +2,4 @@ pub mod Rows
 pub mod Taken
 pub mod Appending
 pub mod Stacks
+pub mod Tables
