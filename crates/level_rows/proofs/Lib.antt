@@ -11,3 +11,4 @@ pub mod InsertLoop
 pub mod Tallies
 pub mod StackLaws
 pub mod TableLaws
+pub mod PlaceLaws
