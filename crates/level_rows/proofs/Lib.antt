@@ -12,3 +12,4 @@ pub mod Tallies
 pub mod StackLaws
 pub mod TableLaws
 pub mod PlaceLaws
+pub mod ValueLaws

@@ -306,6 +306,20 @@ module _ {L : Type 0} (means : Meaning L) (laws : Laws means) (count : ℕ) wher
       let d = b.down i less k.0 in
       (d.0, ap (λ y. y ∷ coords_of columns i) (d.1 ∙ p.2) ∙ ap (λ ys. x ∷ ys) k.1)
 
+  -- each row has its own path
+  own_path : (ls : List L) (columns : List Column) (parent : ℕ → ℕ) (parents : ℕ) (groups : Bool) (s : Span) (begins same : ℕ → Type 0) (i : ℕ)
+      → Here ls columns parent parents groups s begins same → i < count → IsIn (parent i) s → Path means ls s (coords_of columns i) (last_place columns parent i)
+  own_path [] [] parent parents groups s begins same i h less at =
+      let alone = h.asked.0 in let a = at.0 in let b = at.1 in
+      let here : s.lo ≡ parent i = omega (arith, alone, a, b) in
+      ap (span s.lo) alone ∙ ap one here
+  own_path [] (column ∷ columns) parent parents groups s begins same i h less at = absurd h.stacked
+  own_path (l ∷ ls) [] parent parents groups s begins same i h less at = absurd h.stacked
+  own_path (l ∷ ls) (column ∷ columns) parent parents groups s begins same i h less at =
+      let e = coord_from (column.place i) (column.coord i) (means.entries l s) (h.stacked.0.stands.has s i h.asked less at) in
+      (e.entry, e.stands, e.coord, own_path ls columns column.place column.positions (not (properties (means.kind l)).unique) e.entry.child (λ j. begins j × (column.coord j ≡ column.coord i)) (λ j. same j × (column.coord j ≡ column.coord (suc j))) i
+      (next_here l ls column columns parent parents groups s begins same e.entry (column.coord i) h e.stands e.coord) less e.at)
+
   nested : (ls : List L) (columns : List Column) (parent : ℕ → ℕ) (parents : ℕ) (groups : Bool) (s : Span) (begins same : ℕ → Type 0)
       → Here ls columns parent parents groups s begins same → AreNested means ls columns parents s
   nested [] [] parent parents groups s begins same h = h.asked
@@ -339,6 +353,7 @@ module _ {L : Type 0} (means : Meaning L) (laws : Laws means) (count : ℕ) wher
       let h = top ls columns st chained sorted in
       record {
         nested = nested ls columns (λ i. 0) 1 false (one 0) (λ i. i < count) (λ i. i < count) h;
+        own = λ i less. own_path ls columns (λ i. 0) 1 false (one 0) (λ i. i < count) (λ i. i < count) i h less (omega arith, omega arith);
         made = λ xs pos p. path_is ls columns (λ i. 0) 1 false (one 0) (λ i. i < count) (λ i. i < count) xs pos h p;
         there = λ xs p. path_there ls columns (λ i. 0) 1 false (one 0) (λ i. i < count) (λ i. i < count) xs h p;
         once = λ xs pos other p q. path_once ls columns (λ i. 0) 1 false (one 0) (λ i. i < count) (λ i. i < count) xs pos other h p q;

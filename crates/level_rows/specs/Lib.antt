@@ -3,3 +3,4 @@ pub mod Taken
 pub mod Appending
 pub mod Stacks
 pub mod Tables
+pub mod Values

@@ -91,10 +91,11 @@ AreNested means (l ∷ ls) (column ∷ columns) parents span =
     Asked means l parents span × ((e : Entry) → StandsAt e.child.lo e (means.entries l span) → AreNested means ls columns column.positions e.child)
 AreNested means _ _ parents span = ⊥
 
--- what stacked levels that store rows tell of their paths: they are those that the rows make, each once, and a row has a path's
+-- what stacked levels that store rows tell of their paths: below each the span may be asked, each row has its own, they are those that the rows make, each once, and a row has a path's
 -- coordinates exactly where its place at the last level is the path's position
 pub record TellsPaths {L : Type 0} (means : Meaning L) (count : ℕ) (levels : List L) (columns : List Column) : Type 0 where
   pub nested : AreNested means levels columns 1 (one 0)
+  pub own : (i : ℕ) → i < count → Path means levels (one 0) (coords_of columns i) (last_place columns (λ i. 0) i)
   pub made : (xs : List ℕ) (pos : ℕ) → Path means levels (one 0) xs pos → IsPath means count levels columns (λ i. i < count) xs
   pub there : (xs : List ℕ) → IsPath means count levels columns (λ i. i < count) xs → (pos : ℕ) × Path means levels (one 0) xs pos
   pub once : (xs : List ℕ) (pos other : ℕ) → Path means levels (one 0) xs pos → Path means levels (one 0) xs other → pos ≡ other

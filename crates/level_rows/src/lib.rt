@@ -7,9 +7,11 @@ mod counting;
 mod inserting;
 mod laws;
 mod rows;
+mod values;
 
 pub use appending::append_rows;
 pub use counting::{greatest_below, positions_begun};
 pub use inserting::insert_rows;
 pub use laws::stacked_levels_tell_paths;
 pub use rows::SortedRows;
+pub use values::{RowValues, store_values};
