@@ -13,3 +13,4 @@ pub mod StackLaws
 pub mod TableLaws
 pub mod PlaceLaws
 pub mod ValueLaws
+pub mod Growing
