@@ -9,34 +9,11 @@ use Rattle.level_core.specs.Laws.{Laws}
 use Rattle.level_rows.specs.Rows.{Keys, Rows, rows_at, begun, MayAppendRows, MayInsertRows, AreTogether}
 use Rattle.level_rows.specs.Taken.{Stores, Takes, AppendsRows, InsertsRows}
 use Rattle.level_rows.specs.Stacks.{Column, rows_in, Stacked, AreChained, TellsPaths, last_place, last_positions}
+use Rattle.level_rows.specs.Growing.{column_of, ChainTo, Growing, IsNext, Grows, LevelsGrow}
 use Rattle.level_rows.specs.Tables.{Agree, Increase, Begins, ShareBy, NeverFall, AllPlaced, AreRowsOf, IsColumnOf, AreColumnsOf}
 use Rattle.level_rows.proofs.PlaceLaws.{may_append_rows, may_insert_rows, together, appended_share, appended_never_fall, appended_all_placed, inserted_share, inserted_never_fall, columns_sorted}
 use Rattle.level_rows.proofs.StackLaws.{stacks_tell_paths}
 use Rattle.level_rows.proofs.ValueLaws.{places_apart}
-
--- the column of rows that a level was given
-abbrev pub column_of : Keys → List ℕ → ℕ → Column
-column_of keys places positions = record { coord = keys.coord; first = keys.first; place = slice_index places; positions = positions }
-
--- a level is branchless exactly where the one above has groups, and the last has groups if that is so
-abbrev pub ChainTo : {L : Type 0} → Meaning L → Bool → List L → Bool → Type 0
-ChainTo means groups [] last = groups ≡ last
-ChainTo means groups (l ∷ ls) last = ((properties (means.kind l)).branchless ≡ groups) × ChainTo means (not (properties (means.kind l)).unique) ls last
-
--- so many levels store the rows of a table, which share the positions of the last by their coordinates at the first levels; the last
--- may have groups, and all levels may have an order
-pub record Growing {L : Type 0} (means : Meaning L) (coords : ℕ → ℕ → ℕ) (count d above : ℕ) (groups ordered : Bool) (levels : List L) (columns : List Column) (place : ℕ → ℕ) (parents : ℕ) : Type 0 where
-  pub stacked : Stacked means count levels columns (λ i. 0) 1
-  pub chained : ChainTo means false levels groups
-  pub columns_are : AreColumnsOf means coords count levels columns 0
-  pub depth : length levels ≡ d
-  pub place_is : last_place columns (λ i. 0) ≡ place
-  pub parents_are : last_positions columns 1 ≡ parents
-  pub share : ShareBy coords above count parents place
-  pub deep : groups ≡ true → d < above
-  pub level : groups ≡ false → above ≡ d
-  pub never_fall : ordered ≡ true → NeverFall count place
-  pub all_placed : groups ≡ true → AllPlaced count parents place
 
 -- before the first level
 pub none_grown : {L : Type 0} (means : Meaning L) (coords : ℕ → ℕ → ℕ) (count : ℕ) → Growing means coords count 0 0 false true [] [] (λ i. 0) 1
@@ -89,13 +66,6 @@ module _ {L : Type 0} (means : Meaning L) (coords : ℕ → ℕ → ℕ) (count 
 
 length_more : {A : Type 0} (xs : List A) (x : A) (n : ℕ) → length xs ≡ n → length (xs ++ x ∷ []) ≡ suc n
 length_more xs x n is = let k = length_push xs x in omega (arith, k, is)
-
--- the place of a level among those of a table: rows begin positions by their coordinates at the first n levels
-pub record IsNext (letter : Letter) (d n above : ℕ) (groups : Bool) : Type 0 where
-  pub branchless : (properties letter).branchless ≡ groups
-  pub unique : (properties letter).unique ≡ true → n ≡ suc d
-  pub chained : groups ≡ true → above ≡ n
-  pub more : (properties letter).unique ≡ false → suc d < n
 
 apart : {A : Type 0} → true ≡ false → A
 apart {A} e = absurd (no_way e)
@@ -211,3 +181,17 @@ pub grown_apart : {L : Type 0} (means : Meaning L) (coords : ℕ → ℕ → ℕ
     → Growing means coords count order above false ordered levels columns place positions → (i j : ℕ) → i < j → j < count → place i ≢ place j
 grown_apart means coords count order above ordered levels columns place positions up g =
     places_apart coords order count positions place up (subst (λ n. ShareBy coords n count positions place) (g.level refl) g.share)
+
+pub levels_grow : {L : Type 0} (means : Meaning L) → Laws means → LevelsGrow means
+levels_grow means laws = record {
+  none = none_grown means;
+  next = λ coords order keys d above parents groups ordered levels columns ps up g. record {
+      may_append = may_append_next means laws coords order keys d above parents groups ordered levels columns ps up g;
+      may_insert = may_insert_next means laws coords order keys d above parents groups ordered levels columns ps up g;
+      together = next_together means laws coords order keys d above parents groups ordered levels columns ps up g;
+      appended = grown_appended means laws coords order keys d above parents groups ordered levels columns ps up g;
+      inserted = grown_inserted means laws coords order keys d above parents groups ordered levels columns ps up g;
+    };
+  all = grown_all means laws;
+  apart = grown_apart means;
+}

@@ -4,3 +4,4 @@ pub mod Appending
 pub mod Stacks
 pub mod Tables
 pub mod Values
+pub mod Growing

@@ -12,6 +12,6 @@ mod values;
 pub use appending::append_rows;
 pub use counting::{greatest_below, positions_begun};
 pub use inserting::insert_rows;
-pub use laws::stacked_levels_tell_paths;
+pub use laws::{levels_are_added, stacked_levels_tell_paths};
 pub use rows::SortedRows;
 pub use values::{RowValues, store_values};
