@@ -124,7 +124,7 @@ below_upto rows p n m h = let same : n + (m - n) ≡ m = omega (arith, h) in sub
 
 -- a row that begins a position may be inserted
 pub may_insert : (letter : Letter) (size parents most n : ℕ) (rows : Rows) (place : ℕ → ℕ) (segment : Span) (entries : Span → List Entry) → MayInsertRows size parents rows → n < rows.count → rows.first n ≡ true
-    → Inserted (properties letter).full parents n rows place entries → begun_below rows (rows.parent n) rows.count ≤ most → ((properties letter).full ≡ false → 2 * most ≤ segment.hi - segment.lo) → (capabilities letter).insert ≡ true
+    → Inserted (properties letter).full parents n rows place entries → ((properties letter).full ≡ false → begun_below rows (rows.parent n) rows.count ≤ most) → ((properties letter).full ≡ false → 2 * most ≤ segment.hi - segment.lo) → (capabilities letter).insert ≡ true
     → MayInsert letter size segment (entries (one (rows.parent n))) (rows.coord n)
 may_insert letter size parents most n rows place segment entries o h is p within wide able = record {
   able = able;
@@ -137,7 +137,8 @@ may_insert letter size parents most n rows place segment entries o h is p within
     (let few = p.few full (rows.parent n) (o.within n h) in
      let one = below_yes rows n is in
      let more = below_upto rows (rows.parent n) (suc n) rows.count (omega (arith, h)) in
-     let w = wide full in omega (arith, few, one, more, within, w)),
+     let w = wide full in
+     let upto = within full in omega (arith, few, one, more, upto, w)),
   );
 }
 

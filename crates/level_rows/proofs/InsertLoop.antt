@@ -65,7 +65,7 @@ pub record Inserting {L : Type 0} (means : Meaning L) (parents most done at : �
   pub ahead : (i : ℕ) → done ≤ i → i < rows.count → slice_index positions i ≡ rows.parent i
   pub upto : done ≤ rows.count
 
-module _ {L : Type 0} (means : Meaning L) (laws : Laws means) (parents most : ℕ) (rows : Rows) (old : L) (may : MayInsertRows (means.size old) parents rows) (enough : (p : ℕ) → p < parents → begun_below rows p rows.count ≤ most) where
+module _ {L : Type 0} (means : Meaning L) (laws : Laws means) (parents most : ℕ) (rows : Rows) (old : L) (may : MayInsertRows (means.size old) parents rows) (enough : (properties (means.kind old)).full ≡ false → (p : ℕ) → p < parents → begun_below rows p rows.count ≤ most) where
   pub begins : (positions : List ℕ) (l : L) → means.keeps old → MayPrepare (means.kind old) (means.width old) most → positions_for (means.kind old) (means.size old) parents most ≤ greatest_position_count
       → means.prepared old parents most l → length positions ≡ rows.count → ((i : ℕ) → slice_index positions i ≡ rows.parent i) → Inserting means parents most 0 0 rows positions old l
   begins positions l keeps can within prepared many parents_are =
@@ -105,7 +105,7 @@ module _ {L : Type 0} (means : Meaning L) (laws : Laws means) (parents most : �
         (subst (λ k. MayInsert k (means.size l) (means.segment_of l (one (rows.parent done))) (means.entries l (one (rows.parent done))) (rows.coord done)) (sym f.kind)
         (subst (λ n. MayInsert (means.kind old) n (means.segment_of l (one (rows.parent done))) (means.entries l (one (rows.parent done))) (rows.coord done)) (sym f.size)
         (may_insert (means.kind old) (means.size old) parents most done rows (slice_index positions) (means.segment_of l (one (rows.parent done))) (means.entries l) may h (sym first ∙ is) f.inserted
-        (enough (rows.parent done) (may.within done h)) (λ full. f.room full (rows.parent done) (may.within done h)) f.able))))
+        (λ full. enough full (rows.parent done) (may.within done h)) (λ full. f.room full (rows.parent done) (may.within done h)) f.able))))
 
     kept : (slot i : ℕ) → i < done → slice_index (slice_set positions done slot) i ≡ slice_index positions i
     kept slot i h = get_or-set_other positions done i slot 0 (λ same. omega (arith, same, h))

@@ -9,3 +9,8 @@ pub mod AppendLoop
 pub mod InsertLaws
 pub mod InsertLoop
 pub mod Tallies
+pub mod StackLaws
+pub mod TableLaws
+pub mod PlaceLaws
+pub mod ValueLaws
+pub mod Growing

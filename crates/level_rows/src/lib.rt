@@ -5,9 +5,13 @@
 mod appending;
 mod counting;
 mod inserting;
+mod laws;
 mod rows;
+mod values;
 
 pub use appending::append_rows;
 pub use counting::{greatest_below, positions_begun};
 pub use inserting::insert_rows;
+pub use laws::{levels_are_added, stacked_levels_tell_paths};
 pub use rows::SortedRows;
+pub use values::{RowValues, store_values};
