@@ -13,10 +13,13 @@ use Rattle.level_core.specs.Meaning.{Finishes}
 use Rattle.level_core.proofs.GroupLaws.{stands_where}
 use Rattle.compressed_level.specs.Compressed.{CompressedLevel, letter_of, counts_in, IsStored, log_in, KeepsRules, IsAllowed, segment_of, entries_of, meaning}
 use Rattle.compressed_level.specs.Laws.{logged, finished_level}
-use Rattle.compressed_level.specs.Laws.{keeps_parents, keeps_coord, keeps_edges, keeps_finished, log_of_parents, stored_parents, log_of_edges, stored_edges, log_of_finished, stored_finished, never_branchless}
+use Rattle.compressed_level.specs.Laws.{keeps_parents, keeps_finished, never_branchless}
+use Rattle.compressed_level.proofs.Laws.{keeps_coord, keeps_edges, log_of_parents, stored_parents, log_of_edges, stored_edges, log_of_finished, stored_finished}
 use Rattle.compressed_level.specs.Laws.{within_coords}
-use Rattle.compressed_level.specs.Laws.{end_is, coord_is, group_in}
-use Rattle.compressed_level.specs.CallLaws.{stored, Giving, Finishing, Reading}
+use Rattle.compressed_level.specs.Laws.{coord_is}
+use Rattle.compressed_level.proofs.Laws.{end_is, group_in}
+use Rattle.compressed_level.specs.Compressed.{stored}
+use Rattle.compressed_level.specs.CallLaws.{Giving, Finishing, Reading}
 use Rattle.std.proofs.lemmas.Option.{same_Some}
 
 -- the rules don't speak of the room

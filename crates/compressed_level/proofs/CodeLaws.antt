@@ -30,7 +30,8 @@ use Rattle.kernel_code.specs.declared.syntax.LoopKind.TheVariants.{Skip}
 use Rattle.level_core.specs.Codes.{HoldsLog}
 use Rattle.compressed_level.specs.Compressed.{CompressedLevel, letter_of, ends_of, KeepsRules, IsAllowed, segment_of, Holds, meaning}
 use Rattle.compressed_level.specs.Code.{reserve_code, edges_code}
-use Rattle.compressed_level.specs.Laws.{end_is, logged, keeps_parents, keeps_coord, keeps_edges, ends_are, unfinished_ends, ungiven_is, edges_are, never_branchless, set_behind}
+use Rattle.compressed_level.specs.Laws.{logged, keeps_parents, ends_are, unfinished_ends, ungiven_is, never_branchless}
+use Rattle.compressed_level.proofs.Laws.{end_is, keeps_coord, keeps_edges, edges_are, set_behind}
 
 -- the level with room for more parents
 abbrev reserved : CompressedLevel → ℕ → CompressedLevel

@@ -1,3 +1,5 @@
 pub mod CallLaws
 pub mod CodeLaws
+pub mod Laws
+pub mod PartLaws
 pub mod SumLaws

@@ -5,11 +5,7 @@ use Rattle.level_core.specs.declared.span.Span.{Span}
 use Rattle.level_core.specs.declared.stage.Stage.{Stage}
 use Rattle.level_core.specs.declared.stage.Stage.TheVariants.{Unfinished}
 use Rattle.level_core.specs.Logs.{total, MayAppendEdges, MayFinish}
-use Rattle.compressed_level.specs.Compressed.{CompressedLevel, letter_of, IsStored, log_in, KeepsRules}
-
--- the level of some fields
-abbrev pub stored : ℕ → Bool → Stage → List ℕ → List ℕ → ℕ → ℕ → CompressedLevel
-stored size unique stage ends coords next spare = record { size = size; unique = unique; log = log_in stage ends coords next; spare = spare }
+use Rattle.compressed_level.specs.Compressed.{CompressedLevel, letter_of, IsStored, log_in, stored, KeepsRules}
 
 -- what has to be known before the number of a parent's positions is stored
 pub record Giving (size : ℕ) (unique : Bool) (ends coords : List ℕ) (next spare parent begin end : ℕ) : Type 0 where

@@ -51,6 +51,11 @@ IsStored stage ends = ends ≡ ends_of stage (counts_in stage ends)
 abbrev pub log_in : Stage → List ℕ → List ℕ → ℕ → Log
 log_in stage ends coords next = record { stage = stage; coords = coords; counts = counts_in stage ends; next = next }
 
+-- the level of some fields
+abbrev pub stored : ℕ → Bool → Stage → List ℕ → List ℕ → ℕ → ℕ → CompressedLevel
+stored size unique stage ends coords next spare =
+    record { size = size; unique = unique; log = log_in stage ends coords next; spare = spare }
+
 -- a level without parents
 abbrev pub fresh : ℕ → Bool → CompressedLevel
 fresh n unique = record { size = n; unique = unique; log = record { stage = Fresh; coords = []; counts = []; next = 0 }; spare = 0 }
@@ -60,7 +65,8 @@ abbrev pub PartsRise : Bool → List ℕ → List ℕ → Type 0
 PartsRise unique [] xs = Rises unique 0 xs
 PartsRise unique (n ∷ ns) xs = Rises unique 0 (take n xs) × PartsRise unique ns (drop n xs)
 
--- the rules of compressed levels: the limits, coordinates below the range, an order below each parent, and positions given to parents up to the next
+-- the rules of compressed levels: the limits, coordinates below the range, an order below each parent, and positions given to
+-- parents up to the next
 pub record KeepsRules (l : CompressedLevel) : Type 0 where
   pub small : l.size ≤ greatest_position_count
   pub few : length l.log.coords ≤ greatest_position_count

@@ -41,9 +41,15 @@ pub(crate) fn reserve_code(
 }
 
 /// Code that stores the number of a parent's positions.
-pub(crate) fn edges_code(alloc: Global, level: u64, args: &[KExpr]) -> Result<Items<KStmt>, AllocError>
+pub(crate) fn edges_code(
+    alloc: Global,
+    level: u64,
+    args: &[KExpr],
+) -> Result<Items<KStmt>, AllocError>
     requires { length args.now ≡ 3 }
-    ensures { IfOk result (λ code. (p : KExpr) × (b : KExpr) × (e : KExpr) × (slice_get args.now 0 ≡ Some p) × (slice_get args.now 1 ≡ Some b) × (slice_get args.now 2 ≡ Some e) × (code ≡ edges_code level p b e)) }
+    ensures { IfOk result
+        (λ code. (p : KExpr) × (b : KExpr) × (e : KExpr) × (slice_get args.now 0 ≡ Some p) × (slice_get args.now 1 ≡ Some b)
+        × (slice_get args.now 2 ≡ Some e) × (code ≡ edges_code level p b e)) }
 {
     let parent = argument(alloc, args, 0)?;
     let begin = argument(alloc, args, 1)?;

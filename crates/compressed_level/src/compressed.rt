@@ -24,17 +24,18 @@ pub struct CompressedLevel {
 }
 
 impl Model for CompressedLevel {
-    ghost use Rattle.compressed_level.specs.Compressed.{CompressedLevel as Level, KeepsRules, IsStored, log_in};
+    ghost use Rattle.compressed_level.specs.Compressed.{CompressedLevel as Level, stored, KeepsRules, IsStored};
 
     ghost Value = { Level };
 
-    ghost view = { λ l. record { size = l.size; unique = l.unique; log = log_in l.stage l.ends.items l.coords.items l.next; spare = l.coords.spare } };
+    ghost view = { λ l. stored l.size l.unique l.stage l.ends.items l.coords.items l.next l.coords.spare };
 
-    ghost invariant = { λ l. KeepsRules (record { size = l.size; unique = l.unique; log = log_in l.stage l.ends.items l.coords.items l.next; spare = l.coords.spare }) × IsStored l.stage l.ends.items };
+    ghost invariant = { λ l. KeepsRules (stored l.size l.unique l.stage l.ends.items l.coords.items l.next l.coords.spare)
+        × IsStored l.stage l.ends.items };
 }
 
 impl CompressedLevel {
-    ghost use Rattle.compressed_level.specs.Compressed.{fresh, KeepsRules, IsStored, log_in};
+    ghost use Rattle.compressed_level.specs.Compressed.{fresh, stored, KeepsRules, IsStored};
 
     /// A level without parents, for coordinates below `n`. Refused for want of memory alone.
     pub fn new(alloc: Global, n: u64, unique: bool) -> Result<CompressedLevel, AllocError>
@@ -56,9 +57,9 @@ impl CompressedLevel {
 
     /// A finished level of these segment ends and coordinates. It takes no memory.
     pub fn from_arrays(n: u64, unique: bool, ends: Indices, coords: Indices) -> CompressedLevel
-        requires rules { KeepsRules (record { size = n; unique = unique; log = log_in Finished ends.items coords.items (length ends.items - 1); spare = coords.spare }) }
+        requires rules { KeepsRules (stored n unique Finished ends.items coords.items (length ends.items - 1) coords.spare) }
         requires ends { IsStored Finished ends.items }
-        ensures { result ≡ record { size = n; unique = unique; log = log_in Finished ends.items coords.items (length ends.items - 1); spare = coords.spare } }
+        ensures { result ≡ stored n unique Finished ends.items coords.items (length ends.items - 1) coords.spare }
     {
         let next = ends.len().saturating_sub(1);
         CompressedLevel {

@@ -15,4 +15,5 @@ skip_body free = Set (free + 1) (Bin Add (Var (free + 1)) (Num 1)) ∷ []
 
 -- the first position stays in free, and free + 1 goes past the others of its group
 abbrev pub skip_code : Arr → ℕ → KExpr → KExpr → List KStmt
-skip_code a free pos hi = Set free pos ∷ Set (free + 1) (Bin Add pos (Num 1)) ∷ Set (free + 2) hi ∷ Set (free + 3) (At a (Var free)) ∷ While Skip (skip_test a free) (skip_body free) ∷ []
+skip_code a free pos hi = Set free pos ∷ Set (free + 1) (Bin Add pos (Num 1)) ∷ Set (free + 2) hi ∷ Set (free + 3)
+    (At a (Var free)) ∷ While Skip (skip_test a free) (skip_body free) ∷ []

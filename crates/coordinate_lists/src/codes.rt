@@ -30,7 +30,10 @@ pub fn coord_code(
     free: u64,
 ) -> Result<Items<KStmt>, AllocError>
     requires { AreArguments 1 free args.now }
-    ensures { IfOk result (λ code. (c : Setting) (coords : List ℕ) (segment : Span) → segment.hi ≤ length coords → (pos : ℕ) → IsIn pos segment → (s : State) → s.arrays (Coordinates tensor level) ≡ Some coords → ValuesAre args.now s (pos ∷ []) → Reads c code free no_turns s (OptionLeft free (coord_at (entries_between coords segment) pos))) }
+    ensures { IfOk result
+        (λ code. (c : Setting) (coords : List ℕ) (segment : Span) → segment.hi ≤ length coords → (pos : ℕ) → IsIn pos segment
+        → (s : State) → s.arrays (Coordinates tensor level) ≡ Some coords → ValuesAre args.now s (pos ∷ [])
+        → Reads c code free no_turns s (OptionLeft free (coord_at (entries_between coords segment) pos))) }
 {
     let position = argument(alloc, args, 0)?;
     let word = word_at(alloc, Arr::Coordinates(tensor, level), position)?;
@@ -49,7 +52,12 @@ pub fn child_code(
     free: u64,
 ) -> Result<Items<KStmt>, AllocError>
     requires { AreArguments 3 free args.now }
-    ensures { IfOk result (λ code. (c : Setting) (coords : List ℕ) (segment : Span) → segment.hi ≤ length coords → length coords ≤ greatest_position_count → (unique ≡ true → Rises true 0 (slice coords segment)) → (e : Entry) → StandsAt e.child.lo e (entries_between coords segment) → (s : State) → s.arrays (Coordinates tensor level) ≡ Some coords → ValuesAre args.now s (e.child.lo ∷ segment.lo ∷ segment.hi ∷ []) → Reads c code free (if unique then no_turns else turns_of Skip (e.child.hi - e.child.lo)) s (SpanLeft free e.child)) }
+    ensures { IfOk result
+        (λ code. (c : Setting) (coords : List ℕ) (segment : Span) → segment.hi ≤ length coords → length coords ≤ greatest_position_count
+        → (unique ≡ true → Rises true 0 (slice coords segment)) → (e : Entry) → StandsAt e.child.lo e (entries_between coords segment)
+        → (s : State) → s.arrays (Coordinates tensor level) ≡ Some coords
+        → ValuesAre args.now s (e.child.lo ∷ segment.lo ∷ segment.hi ∷ [])
+        → Reads c code free (if unique then no_turns else turns_of Skip (e.child.hi - e.child.lo)) s (SpanLeft free e.child)) }
 {
     if unique {
         let code = position_code(alloc, args, free)?;
@@ -62,7 +70,10 @@ pub fn child_code(
 /// Code that leaves a position and the next.
 fn position_code(alloc: Global, args: &[KExpr], free: u64) -> Result<Items<KStmt>, AllocError>
     requires { AreArguments 3 free args.now }
-    ensures { IfOk result (λ code. (c : Setting) (coords : List ℕ) (segment : Span) → segment.hi ≤ length coords → length coords ≤ greatest_position_count → Rises true 0 (slice coords segment) → (e : Entry) → StandsAt e.child.lo e (entries_between coords segment) → (s : State) → ValuesAre args.now s (e.child.lo ∷ segment.lo ∷ segment.hi ∷ []) → Reads c code free no_turns s (SpanLeft free e.child)) }
+    ensures { IfOk result
+        (λ code. (c : Setting) (coords : List ℕ) (segment : Span) → segment.hi ≤ length coords → length coords ≤ greatest_position_count
+        → Rises true 0 (slice coords segment) → (e : Entry) → StandsAt e.child.lo e (entries_between coords segment) → (s : State)
+        → ValuesAre args.now s (e.child.lo ∷ segment.lo ∷ segment.hi ∷ []) → Reads c code free no_turns s (SpanLeft free e.child)) }
 {
     let position = argument(alloc, args, 0)?;
     let code = position_and_next(alloc, free, position)?;
@@ -78,7 +89,11 @@ fn group_code(
     free: u64,
 ) -> Result<Items<KStmt>, AllocError>
     requires { AreArguments 3 free args.now }
-    ensures { IfOk result (λ code. (c : Setting) (coords : List ℕ) (segment : Span) → segment.hi ≤ length coords → length coords ≤ greatest_position_count → (e : Entry) → StandsAt e.child.lo e (entries_between coords segment) → (s : State) → s.arrays (Coordinates tensor level) ≡ Some coords → ValuesAre args.now s (e.child.lo ∷ segment.lo ∷ segment.hi ∷ []) → Reads c code free (turns_of Skip (e.child.hi - e.child.lo)) s (SpanLeft free e.child)) }
+    ensures { IfOk result
+        (λ code. (c : Setting) (coords : List ℕ) (segment : Span) → segment.hi ≤ length coords → length coords ≤ greatest_position_count
+        → (e : Entry) → StandsAt e.child.lo e (entries_between coords segment) → (s : State)
+        → s.arrays (Coordinates tensor level) ≡ Some coords → ValuesAre args.now s (e.child.lo ∷ segment.lo ∷ segment.hi ∷ [])
+        → Reads c code free (turns_of Skip (e.child.hi - e.child.lo)) s (SpanLeft free e.child)) }
 {
     let position = argument(alloc, args, 0)?;
     let end = argument(alloc, args, 2)?;
@@ -141,7 +156,10 @@ fn step(alloc: Global, free: u64) -> Result<Items<KStmt>, AllocError>
 /// Code that appends a coordinate to a level of the result.
 pub fn append_code(alloc: Global, level: u64, args: &[KExpr]) -> Result<Items<KStmt>, AllocError>
     requires { length args.now ≡ 1 }
-    ensures { IfOk result (λ code. (c : Setting) (free : ℕ) (coords : List ℕ) (x : ℕ) (s : State) → s.arrays (Coordinates 0 level) ≡ Some coords → ValuesAre args.now s (x ∷ []) → Grows c code free 0 level no_turns s (Appended level x coords s) (PassesLimit 0 level (length coords + 1))) }
+    ensures { IfOk result
+        (λ code. (c : Setting) (free : ℕ) (coords : List ℕ) (x : ℕ) (s : State) → s.arrays (Coordinates 0 level) ≡ Some coords
+        → ValuesAre args.now s (x ∷ []) → Grows c code free 0 level no_turns s (Appended level x coords s)
+        (PassesLimit 0 level (length coords + 1))) }
 {
     let coord = argument(alloc, args, 0)?;
     let code = one_statement(alloc, KStmt::Push(Arr::Coordinates(0, level), coord))?;

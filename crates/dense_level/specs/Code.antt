@@ -20,4 +20,5 @@ place_word tensor level parent x = Bin Add (times_size tensor level parent) x
 
 -- the position of a coordinate that is below the size, and else none
 abbrev pub locate_code : ℕ → ℕ → KExpr → KExpr → ℕ → List KStmt
-locate_code tensor level parent x free = If (Bin Less x (size_word tensor level)) (two_code free (Num 1) (place_word tensor level parent x)) (one_code free (Num 0)) ∷ []
+locate_code tensor level parent x free = If (Bin Less x (size_word tensor level))
+    (two_code free (Num 1) (place_word tensor level parent x)) (one_code free (Num 0)) ∷ []

@@ -1,5 +1,6 @@
 -- Laws of dense levels.
-use Rattle.std.specs.Prelude.{◌≡◌, ◌≢◌, ℕ, zero, suc, ◌+◌, ◌-◌, ◌*◌, ◌≤◌, ◌<◌, ◌==◌, Bool, true, false, if◌then◌else◌, [], ◌∷◌, Some, None, refl}
+use Rattle.std.specs.Prelude.{◌≡◌, ◌≢◌, ℕ, zero, suc, ◌+◌, ◌-◌, ◌*◌, ◌≤◌, ◌<◌, ◌==◌, Bool, true, false, if◌then◌else◌, [], ◌∷◌, Some}
+use Rattle.std.specs.Prelude.{None, refl}
 use Rattle.std.proofs.Common.{◌∙◌, sym, ap, subst, arith}
 use Rattle.std.proofs.Math.Nat.{zero-mul, mul-le-mul_right}
 use Rattle.std.proofs.lemmas.Bool.Decides.{nat_tests}
@@ -15,14 +16,17 @@ use Rattle.level_core.proofs.EntryLaws.{tiles_placed, rising_distinct}
 use Rattle.level_core.specs.Meaning.{Arrays, Prepares, Inserts}
 use Rattle.level_core.specs.Laws.{Laws}
 use Rattle.level_core.specs.Kinds.{properties, positions_for, AreEntries, MayPrepare, MayInsert}
-use Rattle.dense_level.specs.Dense.{KeepsRules, Holds, HasParents, IsAllowed, segment_of, entries_from, entries_of, Prepared, Inserted, meaning}
+use Rattle.dense_level.specs.Dense.{KeepsRules, Holds, HasParents, IsAllowed, segment_of, entries_from, entries_of, Prepared, Inserted}
+use Rattle.dense_level.specs.Dense.{meaning}
 
-pub holds_there : (n tensor level : ℕ) (a b : Arrays) → ((x : Arr) → IsOf tensor level x → b x ≡ a x) → Holds n tensor level a → Holds n tensor level b
+pub holds_there : (n tensor level : ℕ) (a b : Arrays) → ((x : Arr) → IsOf tensor level x → b x ≡ a x) → Holds n tensor level a
+    → Holds n tensor level b
 holds_there n tensor level a b same h = same (Dimension tensor level) (refl, refl) ∙ h
 
 from_tiles : (count x pos : ℕ) → Tiles pos (pos + count) (entries_from count x pos)
 from_tiles zero x pos = omega arith
-from_tiles (suc count) x pos = let same : pos + 1 + count ≡ pos + suc count = omega arith in (refl, omega arith, subst (λ hi. Tiles (pos + 1) hi (entries_from count (x + 1) (pos + 1))) same (from_tiles count (x + 1) (pos + 1)))
+from_tiles (suc count) x pos = let same : pos + 1 + count ≡ pos + suc count = omega arith in
+    (refl, omega arith, subst (λ hi. Tiles (pos + 1) hi (entries_from count (x + 1) (pos + 1))) same (from_tiles count (x + 1) (pos + 1)))
 
 from_rising : (count x pos : ℕ) → Rising x (entries_from count x pos)
 from_rising zero x pos = tt
@@ -40,9 +44,11 @@ from_position : (count x pos y : ℕ) → x ≤ y → y < x + count → position
 from_position zero x pos y h g = absurd (omega (arith, h, g))
 from_position (suc count) x pos y h g = by_test (from_position count (x + 1) (pos + 1) y) (x == y) refl
   where
-    by_test : (x + 1 ≤ y → y < x + 1 + count → position_of (entries_from count (x + 1) (pos + 1)) y ≡ Some (pos + 1 + (y - (x + 1)))) → (b : Bool) → (x == y) ≡ b → (if b then Some pos else position_of (entries_from count (x + 1) (pos + 1)) y) ≡ Some (pos + (y - x))
+    by_test : (x + 1 ≤ y → y < x + 1 + count → position_of (entries_from count (x + 1) (pos + 1)) y ≡ Some (pos + 1 + (y - (x + 1))))
+        → (b : Bool) → (x == y) ≡ b → (if b then Some pos else position_of (entries_from count (x + 1) (pos + 1)) y) ≡ Some (pos + (y - x))
     by_test again true is = let same : x ≡ y = grind (arith, nat_tests, is) in ap Some (omega (arith, same))
-    by_test again false is = let apart : x ≢ y = grind (arith, nat_tests, is) in again (omega (arith, h, apart)) (omega (arith, g)) ∙ ap Some (omega (arith, h, apart))
+    by_test again false is = let apart : x ≢ y = grind (arith, nat_tests, is) in again (omega (arith, h, apart)) (omega (arith, g))
+        ∙ ap Some (omega (arith, h, apart))
 
 pub segment_end : (n p hi : ℕ) → hi ≡ p + 1 → hi * n ≡ p * n + n
 segment_end n p hi h = ap (λ k. k * n) h ∙ grind arith
@@ -51,10 +57,12 @@ segment_end n p hi h = ap (λ k. k * n) h ∙ grind arith
 pub position_is : (n x : ℕ) (parent : Span) → x < n → position_of (entries_of n parent) x ≡ Some (parent.lo * n + x)
 position_is n x parent h = from_position n 0 (parent.lo * n) x (omega arith) (omega (arith, h)) ∙ ap Some (omega arith)
 
-pub are_entries : (n : ℕ) (parent : Span) → IsAllowed n parent → AreEntries (properties Dense) n parent (segment_of n parent) (entries_of n parent)
+pub are_entries : (n : ℕ) (parent : Span) → IsAllowed n parent
+    → AreEntries (properties Dense) n parent (segment_of n parent) (entries_of n parent)
 are_entries n parent ok =
     let end = segment_end n parent.lo parent.hi ok.one_parent in
-    let tiles : Tiles (parent.lo * n) (parent.hi * n) (entries_of n parent) = subst (λ hi. Tiles (parent.lo * n) hi (entries_of n parent)) (sym end) (from_tiles n 0 (parent.lo * n)) in
+    let tiles : Tiles (parent.lo * n) (parent.hi * n) (entries_of n parent) =
+    subst (λ hi. Tiles (parent.lo * n) hi (entries_of n parent)) (sym end) (from_tiles n 0 (parent.lo * n)) in
     record {
       within = ok.size;
       positions = ok.positions;
@@ -90,7 +98,8 @@ true_is_false h = absurd (apart h)
     apart : true ≡ false → ⊥
     apart e = cc
 
-pub prepares : (n m parents most : ℕ) → KeepsRules n → MayPrepare Dense None most → positions_for Dense n parents most ≤ greatest_position_count → Prepared n parents most m → Prepares meaning parents most n m
+pub prepares : (n m parents most : ℕ) → KeepsRules n → MayPrepare Dense None most
+    → positions_for Dense n parents most ≤ greatest_position_count → Prepared n parents most m → Prepares meaning parents most n m
 prepares n m parents most keeps may within is = record {
   keeps = subst KeepsRules (sym is) keeps;
   kind = refl;
@@ -103,7 +112,9 @@ prepares n m parents most keeps may within is = record {
 }
 
 -- what is inserted is there already
-pub inserts : (n m parent x slot : ℕ) → IsAllowed n (one parent) → MayInsert Dense n (segment_of n (one parent)) (entries_of n (one parent)) x → Inserted n parent x slot m → Inserts meaning parent x slot n m
+pub inserts : (n m parent x slot : ℕ) → IsAllowed n (one parent)
+    → MayInsert Dense n (segment_of n (one parent)) (entries_of n (one parent)) x → Inserted n parent x slot m
+    → Inserts meaning parent x slot n m
 inserts n m parent x slot ok may is =
     let below = may.below in
     let end = segment_end n parent (parent + 1) refl in
@@ -148,7 +159,15 @@ laws = record {
   logs = λ n keeps branches. record { ahead = tt; given = omega arith };
   prepares = prepares;
   inserts = inserts;
-  starts = λ n size parents tensor level arrays small few at. record { start = size; keeps = small; kind = refl; size = refl; width = refl; log = λ no. true_is_false (sym no); held = at };
+  starts = λ n size parents tensor level arrays small few at. record {
+    start = size;
+    keeps = small;
+    kind = refl;
+    size = refl;
+    width = refl;
+    log = λ no. true_is_false (sym no);
+    held = at;
+  };
   finishes = λ n parents tensor level before after keeps may. finished_apart may.unfinished;
   same_arrays = λ n m parents tensor level arrays has also agree held. held ∙ ap (λ k. Some (k ∷ [])) (sym agree.size);
 }

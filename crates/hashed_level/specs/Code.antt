@@ -39,13 +39,16 @@ abbrev pub more_test : ℕ → ℕ → ℕ → KExpr
 more_test tensor level free = Bin Less (Var (free + 2)) (width_word tensor level)
 
 abbrev pub search_test : ℕ → ℕ → KExpr → ℕ → KExpr
-search_test tensor level x free = Bin And (more_test tensor level free) (Bin And (filled_test tensor level (slot_word free)) (other_test tensor level (slot_word free) x))
+search_test tensor level x free = Bin And (more_test tensor level free)
+    (Bin And (filled_test tensor level (slot_word free)) (other_test tensor level (slot_word free) x))
 
 abbrev pub search_step : ℕ → ℕ → ℕ → List KStmt
-search_step tensor level free = Set (free + 1) (wrapped_word tensor level (Bin Add (Var (free + 1)) (Num 1))) ∷ Set (free + 2) (Bin Add (Var (free + 2)) (Num 1)) ∷ []
+search_step tensor level free = Set (free + 1) (wrapped_word tensor level (Bin Add (Var (free + 1)) (Num 1))) ∷ Set (free + 2)
+    (Bin Add (Var (free + 2)) (Num 1)) ∷ []
 
 abbrev pub search_code : ℕ → ℕ → KExpr → KExpr → ℕ → List KStmt
-search_code tensor level parent x free = Set free (base_word tensor level parent) ∷ Set (free + 1) (wrapped_word tensor level x) ∷ Set (free + 2) (Num 0) ∷ While Probe (search_test tensor level x free) (search_step tensor level free) ∷ []
+search_code tensor level parent x free = Set free (base_word tensor level parent) ∷ Set (free + 1) (wrapped_word tensor level x) ∷ Set
+    (free + 2) (Num 0) ∷ While Probe (search_test tensor level x free) (search_step tensor level free) ∷ []
 
 -- whether the search has found a slot that is filled
 abbrev pub found_test : ℕ → ℕ → ℕ → KExpr
@@ -55,15 +58,20 @@ abbrev pub found_code : ℕ → List KStmt
 found_code free = Set (free + 1) (slot_word free) ∷ Set free (Num 1) ∷ []
 
 abbrev pub locate_code : ℕ → ℕ → KExpr → KExpr → ℕ → List KStmt
-locate_code tensor level parent x free = search_code tensor level parent x free ++ If (found_test tensor level free) (found_code free) (one_code free (Num 0)) ∷ []
+locate_code tensor level parent x free = search_code tensor level parent x free ++ If (found_test tensor level free) (found_code free)
+    (one_code free (Num 0)) ∷ []
 
 abbrev pub insert_code : ℕ → ℕ → KExpr → KExpr → ℕ → List KStmt
-insert_code tensor level parent x free = search_code tensor level parent x free ++ Put (Coordinates tensor level) (slot_word free) x ∷ Set free (slot_word free) ∷ []
+insert_code tensor level parent x free = search_code tensor level parent x free ++ Put (Coordinates tensor level)
+    (slot_word free) x ∷ Set free (slot_word free) ∷ []
 
 abbrev pub coord_code : ℕ → ℕ → KExpr → ℕ → List KStmt
-coord_code tensor level pos free = If (filled_test tensor level pos) (two_code free (Num 1) (At (Coordinates tensor level) pos)) (one_code free (Num 0)) ∷ []
+coord_code tensor level pos free = If (filled_test tensor level pos) (two_code free (Num 1) (At (Coordinates tensor level) pos))
+    (one_code free (Num 0)) ∷ []
 
 -- the width and the number of parents are kept in variables, since arguments may read the arrays that grow; of more parents than
 -- the limit on positions one more than the limit is enough to be refused, and their slots are words
 abbrev pub prepare_code : ℕ → ℕ → KExpr → KExpr → ℕ → List KStmt
-prepare_code tensor level parents most free = Set free (Width most) ∷ Set (free + 1) (Min parents (Num (greatest_position_count + 1))) ∷ Extend (Coordinates tensor level) (Bin Mul (Var (free + 1)) (Var free)) (Num empty_slot) ∷ Extend (WidthArray tensor level) (Num 1) (Var free) ∷ []
+prepare_code tensor level parents most free = Set free (Width most) ∷ Set (free + 1)
+    (Min parents (Num (greatest_position_count + 1))) ∷ Extend (Coordinates tensor level) (Bin Mul (Var (free + 1)) (Var free))
+    (Num empty_slot) ∷ Extend (WidthArray tensor level) (Num 1) (Var free) ∷ []

@@ -1,5 +1,6 @@
 -- Laws of hashed levels.
-use Rattle.std.specs.Prelude.{◌≡◌, ◌≢◌, ◌⊎◌, ℕ, ◌+◌, ◌-◌, ◌*◌, ◌/◌, ◌%◌, ◌≤◌, ◌<◌, true, false, List, [], Some, None, length, replicate, slice_index, slice_set, refl}
+use Rattle.std.specs.Prelude.{◌≡◌, ◌≢◌, ◌⊎◌, ℕ, ◌+◌, ◌-◌, ◌*◌, ◌/◌, ◌%◌, ◌≤◌, ◌<◌, true, false, List, [], Some, None, length}
+use Rattle.std.specs.Prelude.{replicate, slice_index, slice_set, refl}
 use Rattle.std.proofs.Common.{◌∙◌, sym, ap, subst, arith, inl, inr}
 use Rattle.std.proofs.Math.Nat.{zero-mul, mul-le-mul_right}
 use Rattle.std.proofs.lemmas.Nat.{div_below}
@@ -18,14 +19,18 @@ use Rattle.level_core.specs.Kinds.{properties, positions_for, AreEntries, MayPre
 use Rattle.level_core.specs.Meaning.{Arrays, Prepares, Inserts, AgreeBelow}
 use Rattle.level_core.specs.Laws.{Laws}
 use Rattle.hashed_level.specs.Slots.{empty_slot, positions_below_empty, KeepsBlock, FirstEmpty}
-use Rattle.hashed_level.specs.SlotLaws.{coord_none, none_is_empty, same_words, Puts, filled_below, filled_coord, filled_distinct, filled_nothing, filled_placed, filled_same, filled_single, filled_without}
+use Rattle.hashed_level.specs.SlotLaws.{coord_none, none_is_empty, same_words, Puts, filled_below, filled_coord, filled_distinct}
+use Rattle.hashed_level.specs.SlotLaws.{filled_nothing, filled_placed, filled_same, filled_single, filled_without}
 use Rattle.hashed_level.specs.SearchLaws.{place_inside, block_once, put_keeps, put_gains, block_same, block_empty}
 use Rattle.kernel_code.specs.Widths.{slot_width}
 use Rattle.kernel_code.proofs.Widths.{slot_width_power, slot_width_wide, slot_width_enough}
-use Rattle.hashed_level.specs.Hashed.{Hashed, hashed, width_or_two, block_width, width_words, base_of, KeepsRules, Holds, HasParents, IsAllowed, segment_of, entries_of, Prepared, with_blocks, with_coordinate, Inserted, meaning}
+use Rattle.hashed_level.specs.Hashed.{Hashed, hashed, width_or_two, block_width, width_words, base_of, KeepsRules, Holds, HasParents}
+use Rattle.hashed_level.specs.Hashed.{IsAllowed, segment_of, entries_of, Prepared, with_blocks, with_coordinate, Inserted, meaning}
 
-pub holds_there : (l : Hashed) (tensor level : ℕ) (a b : Arrays) → ((x : Arr) → IsOf tensor level x → b x ≡ a x) → Holds l tensor level a → Holds l tensor level b
-holds_there l tensor level a b same h = record { width = same (Width tensor level) (refl, refl) ∙ h.width; slots = same (Coordinates tensor level) (refl, refl) ∙ h.slots }
+pub holds_there : (l : Hashed) (tensor level : ℕ) (a b : Arrays) → ((x : Arr) → IsOf tensor level x → b x ≡ a x) → Holds l tensor level a
+    → Holds l tensor level b
+holds_there l tensor level a b same h =
+    record { width = same (Width tensor level) (refl, refl) ∙ h.width; slots = same (Coordinates tensor level) (refl, refl) ∙ h.slots }
 
 -- a block of a parent ends where the next one's begins
 block_end : (w p : ℕ) → (p + 1) * w ≡ p * w + w
@@ -50,7 +55,8 @@ block_within l p rules h =
 pub block_small : (l : Hashed) (p : ℕ) → KeepsRules l → p < l.parents → base_of l p + block_width l ≤ greatest_position_count
 block_small l p rules h = let inside = block_within l p rules h in let within = rules.within in omega (arith, inside, within)
 
-pub are_entries : (l : Hashed) (parent : Span) → IsAllowed l parent → AreEntries (properties HashedLetter) l.size parent (segment_of l parent) (entries_of l parent)
+pub are_entries : (l : Hashed) (parent : Span) → IsAllowed l parent
+    → AreEntries (properties HashedLetter) l.size parent (segment_of l parent) (entries_of l parent)
 are_entries l parent ok =
     let b = ok.rules.blocks parent.lo ok.prepared in
     let f = slice_index l.slots in
@@ -59,7 +65,9 @@ are_entries l parent ok =
     record {
       within = ok.rules.size;
       positions = block_small l parent.lo ok.rules ok.prepared;
-      below = filled_below f l.size w base (λ q h g e. let at : base + (q - base) ≡ q = omega (arith, h) in subst (λ k. f k < l.size) at (b.below (q - base) (omega (arith, h, g)) (λ z. e (ap f (sym at) ∙ z))));
+      below = filled_below f l.size w base
+          (λ q h g e. let at : base + (q - base) ≡ q = omega (arith, h) in
+          subst (λ k. f k < l.size) at (b.below (q - base) (omega (arith, h, g)) (λ z. e (ap f (sym at) ∙ z))));
       distinct = filled_distinct f w base (block_once f l.size w base b);
       placed = filled_placed f base w base (omega arith);
       properties = record {
@@ -84,7 +92,8 @@ prepared_slot parents w p q h g =
     let end = block_end w p in
     omega (arith, more, end, g)
 
-pub prepared_keeps : (l : Hashed) (parents most : ℕ) → KeepsRules l → positions_for HashedLetter l.size parents most ≤ greatest_position_count → KeepsRules (with_blocks l parents most)
+pub prepared_keeps : (l : Hashed) (parents most : ℕ) → KeepsRules l
+    → positions_for HashedLetter l.size parents most ≤ greatest_position_count → KeepsRules (with_blocks l parents most)
 prepared_keeps l parents most rules few =
     let w = slot_width most in
     let many : length (replicate (parents * w) empty_slot) ≡ parents * w = length-replicate (parents * w) empty_slot in
@@ -95,7 +104,8 @@ prepared_keeps l parents most rules few =
       power = slot_width_power most;
       wide = slot_width_wide most;
       fresh = λ h. absurd (some_is_none w h);
-      blocks = λ p h. block_empty (slice_index (replicate (parents * w) empty_slot)) l.size w (p * w) (λ j g. all_empty (parents * w) (p * w + j) (prepared_slot parents w p (p * w + j) h (omega (arith, g))));
+      blocks = λ p h. block_empty (slice_index (replicate (parents * w) empty_slot)) l.size w (p * w)
+          (λ j g. all_empty (parents * w) (p * w + j) (prepared_slot parents w p (p * w + j) h (omega (arith, g))));
     }
   where
     some_is_none : (w : ℕ) → Some w ≡ None → ⊥
@@ -107,16 +117,24 @@ some_is_none w h = absurd (apart h)
     apart : Some w ≡ None → ⊥
     apart e = cc
 
-pub prepares : (l m : Hashed) (parents most : ℕ) → KeepsRules l → MayPrepare HashedLetter l.width most → positions_for HashedLetter l.size parents most ≤ greatest_position_count → Prepared l parents most m → Prepares meaning parents most l m
+pub prepares : (l m : Hashed) (parents most : ℕ) → KeepsRules l → MayPrepare HashedLetter l.width most
+    → positions_for HashedLetter l.size parents most ≤ greatest_position_count → Prepared l parents most m
+    → Prepares meaning parents most l m
 prepares l m parents most rules may within same = subst (Prepares meaning parents most l) (sym same) (record {
   keeps = prepared_keeps l parents most rules within;
   kind = refl;
   size = refl;
-  has_parents = record { rules = prepared_keeps l parents most rules within; prepared = λ none. some_is_none (slot_width most) none; count = refl };
+  has_parents = record {
+    rules = prepared_keeps l parents most rules within;
+    prepared = λ none. some_is_none (slot_width most) none;
+    count = refl;
+  };
   positions = λ p last. sym (block_end (slot_width most) p) ∙ ap (λ k. k * slot_width most) last;
   width = λ _. refl;
-  empty = λ _ p h. filled_nothing (slice_index (replicate (parents * slot_width most) empty_slot)) (slot_width most) (p * slot_width most) (λ q g i. all_empty (parents * slot_width most) q (prepared_slot parents (slot_width most) p q h i));
-  room = λ _ p h. let small = positions_are_small in let few = may.coordinates in let enough = slot_width_enough most (omega (arith, small, few)) in omega (arith, enough);
+  empty = λ _ p h. filled_nothing (slice_index (replicate (parents * slot_width most) empty_slot)) (slot_width most)
+      (p * slot_width most) (λ q g i. all_empty (parents * slot_width most) q (prepared_slot parents (slot_width most) p q h i));
+  room = λ _ p h. let small = positions_are_small in let few = may.coordinates in let enough =
+      slot_width_enough most (omega (arith, small, few)) in omega (arith, enough);
 })
 
 -- a coordinate is below the word of empty slots
@@ -124,7 +142,8 @@ pub coordinate_filled : (l : Hashed) (x : ℕ) → KeepsRules l → x < l.size �
 coordinate_filled l x rules h is = let size = rules.size in let large = positions_below_empty in omega (arith, size, large, h, is)
 
 -- no slot of the block has it
-pub insert_absent : (l : Hashed) (p x : ℕ) → MayInsert HashedLetter l.size (segment_of l (one p)) (entries_of l (one p)) x → (q : ℕ) → base_of l p ≤ q → q < base_of l p + block_width l → slice_index l.slots q ≢ empty_slot → slice_index l.slots q ≢ x
+pub insert_absent : (l : Hashed) (p x : ℕ) → MayInsert HashedLetter l.size (segment_of l (one p)) (entries_of l (one p)) x → (q : ℕ)
+    → base_of l p ≤ q → q < base_of l p + block_width l → slice_index l.slots q ≢ empty_slot → slice_index l.slots q ≢ x
 insert_absent l p x may = filled_without (slice_index l.slots) x (block_width l) (base_of l p) (may.free refl).0
 
 -- slots of other blocks are other slots
@@ -135,8 +154,10 @@ other_block w p r q slot apart from below first last same = by_order (less_or_mo
     less_or_more a b h = grind arith
 
     by_order : (r + 1 ≤ p) ⊎ (p + 1 ≤ r) → ⊥
-    by_order (inl le) = let more : (r + 1) * w ≤ p * w = mul-le-mul_right w le in let end = block_end w r in omega (arith, more, end, from, below, first, last, same)
-    by_order (inr le) = let more : (p + 1) * w ≤ r * w = mul-le-mul_right w le in let end = block_end w p in omega (arith, more, end, from, below, first, last, same)
+    by_order (inl le) = let more : (r + 1) * w ≤ p * w = mul-le-mul_right w le in let end = block_end w r in
+        omega (arith, more, end, from, below, first, last, same)
+    by_order (inr le) = let more : (p + 1) * w ≤ r * w = mul-le-mul_right w le in let end = block_end w p in
+        omega (arith, more, end, from, below, first, last, same)
 
 pub set_puts : (xs : List ℕ) (slot x : ℕ) → slot < length xs → Puts (slice_index xs) (slice_index (slice_set xs slot x)) slot x
 set_puts xs slot x h = record { at = get_or-set_same xs slot x 0 h; others = λ q apart. get_or-set_other xs slot q x 0 apart }
@@ -149,21 +170,26 @@ first_inside f w base x slot first =
     (omega (arith, at, inside.0), omega (arith, at, inside.1))
 
 -- what insertion leaves
-module _ (l : Hashed) (p x slot : ℕ) (ok : IsAllowed l (one p)) (may : MayInsert HashedLetter l.size (segment_of l (one p)) (entries_of l (one p)) x) (first : FirstEmpty (slice_index l.slots) (block_width l) (base_of l p) x slot) where
+module _ (l : Hashed) (p x slot : ℕ) (ok : IsAllowed l (one p))
+    (may : MayInsert HashedLetter l.size (segment_of l (one p)) (entries_of l (one p)) x)
+    (first : FirstEmpty (slice_index l.slots) (block_width l) (base_of l p) x slot) where
   slot_inside : (base_of l p ≤ slot) × (slot < base_of l p + block_width l)
   slot_inside = first_inside (slice_index l.slots) (block_width l) (base_of l p) x slot first
 
   puts : Puts (slice_index l.slots) (slice_index (slice_set l.slots slot x)) slot x
   puts = let inside = block_within l p ok.rules ok.prepared in set_puts l.slots slot x (omega (arith, inside, slot_inside.1))
 
-  other_slots : (r : ℕ) → r ≢ p → (q : ℕ) → base_of l r ≤ q → q < base_of l r + block_width l → slice_index (slice_set l.slots slot x) q ≡ slice_index l.slots q
+  other_slots : (r : ℕ) → r ≢ p → (q : ℕ) → base_of l r ≤ q → q < base_of l r + block_width l
+      → slice_index (slice_set l.slots slot x) q ≡ slice_index l.slots q
   other_slots r apart q from below = puts.others q (other_block (block_width l) p r q slot apart from below slot_inside.0 slot_inside.1)
 
   inserted_block : (r : ℕ) → r < l.parents → KeepsBlock (slice_index (slice_set l.slots slot x)) l.size (block_width l) (base_of l r)
   inserted_block r h = elim (eqb_tells r p) [
     | inl k ↦ subst (λ a. KeepsBlock (slice_index (slice_set l.slots slot x)) l.size (block_width l) (base_of l a)) (sym k.1)
-        (put_keeps (slice_index l.slots) (slice_index (slice_set l.slots slot x)) l.size (block_width l) (base_of l p) x slot (ok.rules.blocks p ok.prepared) first puts (coordinate_filled l x ok.rules may.below) may.below (insert_absent l p x may))
-    | inr k ↦ let wide = ok.rules.wide in block_same (slice_index l.slots) (slice_index (slice_set l.slots slot x)) l.size (block_width l) (base_of l r) (omega (arith, wide)) (other_slots r k.1) (ok.rules.blocks r h)
+        (put_keeps (slice_index l.slots) (slice_index (slice_set l.slots slot x)) l.size (block_width l) (base_of l p) x slot
+        (ok.rules.blocks p ok.prepared) first puts (coordinate_filled l x ok.rules may.below) may.below (insert_absent l p x may))
+    | inr k ↦ let wide = ok.rules.wide in block_same (slice_index l.slots) (slice_index (slice_set l.slots slot x)) l.size
+        (block_width l) (base_of l r) (omega (arith, wide)) (other_slots r k.1) (ok.rules.blocks r h)
   ]
 
   pub inserted_keeps : KeepsRules (with_coordinate l x slot)
@@ -182,10 +208,12 @@ module _ (l : Hashed) (p x slot : ℕ) (ok : IsAllowed l (one p)) (may : MayInse
       }
 
   inserted_gains : Gains x slot (entries_of l (one p)) (entries_of (with_coordinate l x slot) (one p))
-  inserted_gains = put_gains (slice_index l.slots) (slice_index (slice_set l.slots slot x)) l.size (block_width l) (base_of l p) x slot (ok.rules.blocks p ok.prepared) first puts (coordinate_filled l x ok.rules may.below) may.below (insert_absent l p x may)
+  inserted_gains = put_gains (slice_index l.slots) (slice_index (slice_set l.slots slot x)) l.size (block_width l) (base_of l p) x slot
+      (ok.rules.blocks p ok.prepared) first puts (coordinate_filled l x ok.rules may.below) may.below (insert_absent l p x may)
 
 -- an inserted coordinate stands in the first free slot from where it is sought on
-first_free : (l : Hashed) (p x slot : ℕ) → IsAllowed l (one p) → FirstEmpty (slice_index l.slots) (block_width l) (base_of l p) x slot → FirstFree (segment_of l (one p)) (entries_of l (one p)) x slot
+first_free : (l : Hashed) (p x slot : ℕ) → IsAllowed l (one p) → FirstEmpty (slice_index l.slots) (block_width l) (base_of l p) x slot
+    → FirstFree (segment_of l (one p)) (entries_of l (one p)) x slot
 first_free l p x slot ok first =
     let inside = first_inside (slice_index l.slots) (block_width l) (base_of l p) x slot first in
     let w = block_width l in
@@ -200,10 +228,14 @@ first_free l p x slot ok first =
       taken = λ k h none.
           let same : base + (x + k) % (base + w - base) ≡ base + (x + k) % w = ap (λ n. base + (x + k) % n) width in
           let i = place_inside w base x k (omega (arith, wide)) in
-          first.filled k h (none_is_empty (slice_index l.slots (base + (x + k) % w)) (sym (filled_coord (slice_index l.slots) w base (base + (x + k) % w) i.0 i.1) ∙ ap (coord_at (entries_of l (one p))) (sym same) ∙ none));
+          first.filled k h
+          (none_is_empty (slice_index l.slots (base + (x + k) % w))
+          (sym (filled_coord (slice_index l.slots) w base (base + (x + k) % w) i.0 i.1)
+          ∙ ap (coord_at (entries_of l (one p))) (sym same) ∙ none));
     }
 
-pub inserts : (l m : Hashed) (p x slot : ℕ) → IsAllowed l (one p) → MayInsert HashedLetter l.size (segment_of l (one p)) (entries_of l (one p)) x → Inserted l p x slot m → Inserts meaning p x slot l m
+pub inserts : (l m : Hashed) (p x slot : ℕ) → IsAllowed l (one p)
+    → MayInsert HashedLetter l.size (segment_of l (one p)) (entries_of l (one p)) x → Inserted l p x slot m → Inserts meaning p x slot l m
 inserts l m p x slot ok may is = subst (Inserts meaning p x slot l) (sym is.level) (record {
   keeps = inserted_keeps l p x slot ok may is.first;
   kind = refl;
@@ -215,7 +247,8 @@ inserts l m p x slot ok may is = subst (Inserts meaning p x slot l) (sym is.leve
   has_parents = λ n has. record { rules = inserted_keeps l p x slot ok may is.first; prepared = has.prepared; count = has.count };
   allowed = λ r allowed. record { rules = inserted_keeps l p x slot ok may is.first; one_parent = refl; prepared = allowed.prepared };
   segments = λ r allowed. refl;
-  others = λ r allowed apart. filled_same (slice_index l.slots) (slice_index (slice_set l.slots slot x)) (block_width l) (base_of l r) (other_slots l p x slot ok may is.first r apart);
+  others = λ r allowed apart. filled_same (slice_index l.slots) (slice_index (slice_set l.slots slot x)) (block_width l) (base_of l r)
+      (other_slots l p x slot ok may is.first r apart);
 })
 
 -- a level without parents, as a kernel begins it
@@ -257,8 +290,10 @@ slots_same l m parents has also agree = ext_get_or 0 m.slots l.slots (long ∙ s
         let to : q < q / w * w + w = omega (arith, parts, few) in
         let begins : base_of m (q / w) ≡ q / w * w = ap (λ k. q / w * k) same_width in
         let here = filled_coord (slice_index l.slots) w (base_of l (q / w)) q from to in
-        let there = filled_coord (slice_index m.slots) (block_width m) (base_of m (q / w)) q (omega (arith, from, begins)) (omega (arith, to, begins, same_width)) in
-        same_words (slice_index m.slots q) (slice_index l.slots q) (sym there ∙ ap (λ es. coord_at es q) (agree.entries (q / w) below) ∙ here)
+        let there = filled_coord (slice_index m.slots) (block_width m) (base_of m (q / w)) q (omega (arith, from, begins))
+        (omega (arith, to, begins, same_width)) in
+        same_words (slice_index m.slots q) (slice_index l.slots q)
+        (sym there ∙ ap (λ es. coord_at es q) (agree.entries (q / w) below) ∙ here)
 
 never_appended : {A : Type 0} → false ≡ true → A
 never_appended h = absurd (apart h)
@@ -283,7 +318,15 @@ laws = record {
   logs = λ l keeps branches. record { ahead = tt; given = omega arith };
   prepares = prepares;
   inserts = inserts;
-  starts = λ l n parents tensor level arrays small few at. record { start = hashed n [] None 0; keeps = start_keeps n small; kind = refl; size = refl; width = refl; log = λ no. never_appended no; held = record { width = at.0; slots = at.1 } };
+  starts = λ l n parents tensor level arrays small few at. record {
+    start = hashed n [] None 0;
+    keeps = start_keeps n small;
+    kind = refl;
+    size = refl;
+    width = refl;
+    log = λ no. never_appended no;
+    held = record { width = at.0; slots = at.1 };
+  };
   finishes = λ l parents tensor level before after keeps may. finished_apart may.unfinished;
   same_arrays = λ l m parents tensor level arrays has also agree held. record {
     width = held.width ∙ ap (λ o. Some (width_words o)) (sym agree.width);

@@ -25,7 +25,8 @@ pub block_once : (f : ℕ → ℕ) (n w base : ℕ) → KeepsBlock f n w base �
 block_once f n w base b q r l m o p e same =
     let first = inside_is base q l in
     let second = inside_is base r o in
-    let equal = b.once (q - base) (r - base) (omega (arith, l, m)) (omega (arith, o, p)) (λ z. e (ap f (sym first) ∙ z)) (ap f first ∙ same ∙ ap f (sym second)) in
+    let equal = b.once (q - base) (r - base) (omega (arith, l, m)) (omega (arith, o, p)) (λ z. e (ap f (sym first) ∙ z))
+    (ap f first ∙ same ∙ ap f (sym second)) in
     omega (arith, equal, l, o)
 
 stays_filled : (f g : ℕ → ℕ) (slot x q : ℕ) → Puts f g slot x → f slot ≡ empty_slot → f q ≢ empty_slot → g q ≢ empty_slot
@@ -35,7 +36,8 @@ stays_filled f g slot x q p empty e z = elim (eqb_tells q slot) [
 ]
 
 -- the rules of the block where a coordinate is put that wasn't there
-module _ (f g : ℕ → ℕ) (n w base x slot : ℕ) (b : KeepsBlock f n w base) (first : FirstEmpty f w base x slot) (p : Puts f g slot x) (e : x ≢ empty_slot) (small : x < n) (absent : (q : ℕ) → base ≤ q → q < base + w → f q ≢ empty_slot → f q ≢ x) where
+module _ (f g : ℕ → ℕ) (n w base x slot : ℕ) (b : KeepsBlock f n w base) (first : FirstEmpty f w base x slot) (p : Puts f g slot x)
+    (e : x ≢ empty_slot) (small : x < n) (absent : (q : ℕ) → base ≤ q → q < base + w → f q ≢ empty_slot → f q ≢ x) where
   put_below : (j : ℕ) → j < w → g (base + j) ≢ empty_slot → g (base + j) < n
   put_below j l z = elim (eqb_tells (base + j) slot) [
     | inl k ↦ subst (λ v. v < n) (sym (ap g k.1 ∙ p.at)) small
@@ -44,7 +46,8 @@ module _ (f g : ℕ → ℕ) (n w base x slot : ℕ) (b : KeepsBlock f n w base)
 
   -- no other slot has it
   put_apart : (j : ℕ) → j < w → base + j ≢ slot → g (base + j) ≢ x
-  put_apart j l apart same = let old : f (base + j) ≡ x = sym (p.others (base + j) apart) ∙ same in absent (base + j) (omega arith) (omega (arith, l)) (λ z. e (sym old ∙ z)) old
+  put_apart j l apart same = let old : f (base + j) ≡ x = sym (p.others (base + j) apart)
+      ∙ same in absent (base + j) (omega arith) (omega (arith, l)) (λ z. e (sym old ∙ z)) old
 
   put_once : (i j : ℕ) → i < w → j < w → g (base + i) ≢ empty_slot → g (base + i) ≡ g (base + j) → i ≡ j
   put_once i j l m z same = elim (eqb_tells (base + i) slot) [
@@ -86,12 +89,14 @@ module _ (f g : ℕ → ℕ) (n w base x slot : ℕ) (b : KeepsBlock f n w base)
       let inside = place_inside w base x first.steps (omega (arith, few)) in
       let at = first.at in
       record {
-        has = filled_position g w base slot x (omega (arith, at, inside.0)) (omega (arith, at, inside.1)) p.at e (block_once g n w base put_keeps);
+        has = filled_position g w base slot x (omega (arith, at, inside.0)) (omega (arith, at, inside.1)) p.at e
+            (block_once g n w base put_keeps);
         others = λ y apart. filled_others f g slot x y w base p first.empty apart;
       }
 
 -- the rules depend on the block's slots alone
-pub block_same : (f g : ℕ → ℕ) (n w base : ℕ) → 0 < w → ((q : ℕ) → base ≤ q → q < base + w → g q ≡ f q) → KeepsBlock f n w base → KeepsBlock g n w base
+pub block_same : (f g : ℕ → ℕ) (n w base : ℕ) → 0 < w → ((q : ℕ) → base ≤ q → q < base + w → g q ≡ f q) → KeepsBlock f n w base
+    → KeepsBlock g n w base
 block_same f g n w base wide same b =
     let at : (j : ℕ) → j < w → g (base + j) ≡ f (base + j) = λ j l. same (base + j) (omega arith) (omega (arith, l)) in
     record {
@@ -101,10 +106,12 @@ block_same f g n w base wide same b =
         steps = r.steps;
         few = r.few;
         at = r.at;
-        filled = λ k h q. let inside = place_inside w base (f (base + j)) k wide in r.filled k h (sym (same (place w base (f (base + j)) k) inside.0 inside.1) ∙ q);
+        filled = λ k h q. let inside = place_inside w base (f (base + j)) k wide in
+            r.filled k h (sym (same (place w base (f (base + j)) k) inside.0 inside.1) ∙ q);
       });
     }
 
 -- a block of empty slots keeps the rules
 pub block_empty : (f : ℕ → ℕ) (n w base : ℕ) → ((j : ℕ) → j < w → f (base + j) ≡ empty_slot) → KeepsBlock f n w base
-block_empty f n w base h = record { below = λ j l z. absurd (z (h j l)); once = λ i j l m z _. absurd (z (h i l)); reached = λ j l z. absurd (z (h j l)) }
+block_empty f n w base h =
+    record { below = λ j l z. absurd (z (h j l)); once = λ i j l m z _. absurd (z (h i l)); reached = λ j l z. absurd (z (h j l)) }

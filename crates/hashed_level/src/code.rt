@@ -1,5 +1,7 @@
 ghost use Rattle.std.specs.Prelude.{◌≡◌, ◌≤◌, ◌^◌, IfOk};
-ghost use Rattle.hashed_level.specs.Code.{width_word, base_word, wrapped_word, slot_word, filled_test, other_test, more_test, search_test, search_step, search_code, found_test, found_code, locate_code, insert_code, coord_code, prepare_code};
+ghost use Rattle.hashed_level.specs.Code.{width_word, base_word, wrapped_word, slot_word, filled_test, other_test, more_test};
+ghost use Rattle.hashed_level.specs.Code.{search_test, search_step, search_code, found_test, found_code, locate_code, insert_code};
+ghost use Rattle.hashed_level.specs.Code.{coord_code, prepare_code};
 
 use crate::slots::empty_slot;
 use kernel_code::{Arr, KExpr, KStmt, LoopKind, Op, binary, copy_expr, one_statement, word_at};

@@ -4,7 +4,8 @@ ghost use Rattle.level_core.specs.declared.letter.Letter.TheVariants.{Hashed as 
 ghost use Rattle.level_core.specs.Entries.{one, span, position_of};
 ghost use Rattle.level_core.specs.Kinds.{positions_for, MayPrepare, MayInsert};
 ghost use Rattle.hashed_level.specs.Slots.{coord_of, FirstEmpty};
-ghost use Rattle.hashed_level.specs.Hashed.{hashed, KeepsRules, IsAllowed, block_width, base_of, segment_of, entries_of, with_blocks, Inserted};
+ghost use Rattle.hashed_level.specs.Hashed.{hashed, KeepsRules, IsAllowed, block_width, base_of, segment_of, entries_of, with_blocks};
+ghost use Rattle.hashed_level.specs.Hashed.{Inserted};
 
 use crate::slots::{coordinate_of, empty_slots, slot_of, sought};
 use crate::widths::width_for;

@@ -1,4 +1,5 @@
-ghost use Rattle.std.specs.Prelude.{◌≡◌, ◌≢◌, ◌⊎◌, ℕ, ◌==◌, ◌≤◌, ◌<◌, ◌+◌, IsTrue, false, length, replicate, slice_index, MatchOption, IfOk};
+ghost use Rattle.std.specs.Prelude.{◌≡◌, ◌≢◌, ◌⊎◌, ℕ, ◌==◌, ◌≤◌, ◌<◌, ◌+◌, IsTrue, false, length, replicate, slice_index, MatchOption};
+ghost use Rattle.std.specs.Prelude.{IfOk};
 ghost use Rattle.limits.specs.Limits.{greatest_position_count};
 ghost use Rattle.level_core.specs.Entries.{position_of};
 ghost use Rattle.hashed_level.specs.Slots.{empty_slot, coord_of, filled, KeepsBlock, Stops, Passes};
@@ -51,7 +52,8 @@ pub(crate) fn sought(slots: &[u64], base: u64, width: u64, x: u64) -> Option<u64
     requires wide { 0 < width }
     requires inside { base + width ≤ length slots.now }
     requires few { length slots.now ≤ greatest_position_count }
-    ensures { MatchOption result (Passes (slice_index slots.now) width base x width) (λ slot. Stops (slice_index slots.now) width base x slot) }
+    ensures { MatchOption result (Passes (slice_index slots.now) width base x width)
+        (λ slot. Stops (slice_index slots.now) width base x slot) }
 {
     let mut at = x % width;
     let mut steps = 0;
@@ -72,7 +74,8 @@ pub(crate) fn slot_of(slots: &[u64], base: u64, width: u64, x: u64) -> Option<u6
     requires wide { 0 < width }
     requires inside { base + width ≤ length slots.now }
     requires few { length slots.now ≤ greatest_position_count }
-    ensures { (n : ℕ) → KeepsBlock (slice_index slots.now) n width base → result ≡ position_of (filled (slice_index slots.now) width base) x }
+    ensures { (n : ℕ) → KeepsBlock (slice_index slots.now) n width base
+        → result ≡ position_of (filled (slice_index slots.now) width base) x }
 {
     match sought(slots, base, width, x) {
         None => None,

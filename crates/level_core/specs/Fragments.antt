@@ -6,7 +6,8 @@ pub use Rattle.kernel_code.specs.Meaning.{Setting, State, value, same_kind}
 pub use Rattle.kernel_code.specs.Does.{Refusal, Does, Never}
 pub use Rattle.kernel_code.specs.Keeps.{Below, Leaves, NoVariable, EveryArray, no_turns}
 pub use Rattle.kernel_code.specs.declared.syntax.Arr.{Arr}
-use Rattle.kernel_code.specs.declared.syntax.Arr.TheVariants.{Range, Values, Dimension, Ends, Coordinates, Width, Key, Sums, ListCoordinates, ListPositions}
+use Rattle.kernel_code.specs.declared.syntax.Arr.TheVariants.{Range, Values, Dimension, Ends, Coordinates, Width, Key, Sums}
+use Rattle.kernel_code.specs.declared.syntax.Arr.TheVariants.{ListCoordinates, ListPositions}
 pub use Rattle.kernel_code.specs.declared.syntax.LoopKind.{LoopKind}
 use Rattle.kernel_code.specs.declared.syntax.LoopKind.TheVariants.{Skip, Probe}
 pub use Rattle.kernel_code.specs.declared.syntax.KExpr.{KExpr}
@@ -79,7 +80,8 @@ RefusedWithin most s Refused turns a count = ((k : LoopKind) → turns k ≤ s.t
 
 -- such code that may be refused a growth
 abbrev pub Grows : Setting → List KStmt → ℕ → ℕ → ℕ → (LoopKind → ℕ) → State → (State → Type 0) → (Arr → ℕ → Type 0) → Type 0
-Grows c code free tensor level most s Answer Refused = Runs c code free (IsOutside tensor level) most s Answer (RefusedWithin most s Refused)
+Grows c code free tensor level most s Answer Refused = Runs c code free (IsOutside tensor level) most s Answer
+    (RefusedWithin most s Refused)
 
 -- a growth of one of the level's arrays to so many positions, which pass the limit, and are told as a word
 pub record PassesLimit (tensor level positions : ℕ) (a : Arr) (count : ℕ) : Type 0 where

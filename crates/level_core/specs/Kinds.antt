@@ -19,9 +19,11 @@ properties Hashed = record { full = false; ordered = false; unique = true; branc
 abbrev pub capabilities : Letter → Capabilities
 capabilities Dense = record { coordinate_iteration = true; position_iteration = false; locate = true; insert = true; append = false }
 capabilities Compressed = record { coordinate_iteration = false; position_iteration = true; locate = false; insert = false; append = true }
-capabilities CompressedGroups = record { coordinate_iteration = false; position_iteration = true; locate = false; insert = false; append = true }
+capabilities CompressedGroups =
+    record { coordinate_iteration = false; position_iteration = true; locate = false; insert = false; append = true }
 capabilities Singleton = record { coordinate_iteration = false; position_iteration = true; locate = false; insert = false; append = true }
-capabilities SingletonGroups = record { coordinate_iteration = false; position_iteration = true; locate = false; insert = false; append = true }
+capabilities SingletonGroups =
+    record { coordinate_iteration = false; position_iteration = true; locate = false; insert = false; append = true }
 capabilities Hashed = record { coordinate_iteration = false; position_iteration = true; locate = true; insert = true; append = false }
 
 -- what the properties say of the entries below a parent, whose positions are those of the segment, where n is the range

@@ -1,6 +1,7 @@
 -- What is appended to a level before it is finished: coordinates in the order of positions, and how many of them stand
 -- below each parent.
-use Rattle.std.specs.Prelude.{◌≡◌, ◌≢◌, ℕ, zero, suc, ◌+◌, ◌-◌, ◌≤◌, ◌<◌, ◌^◌, ◌==◌, Bool, true, false, if◌then◌else◌, List, [], ◌∷◌, ◌++◌, length, take, drop, replicate, slice_set}
+use Rattle.std.specs.Prelude.{◌≡◌, ◌≢◌, ℕ, zero, suc, ◌+◌, ◌-◌, ◌≤◌, ◌<◌, ◌^◌, ◌==◌, Bool, true, false, if◌then◌else◌, List, [], ◌∷◌}
+use Rattle.std.specs.Prelude.{◌++◌, length, take, drop, replicate, slice_set}
 use Rattle.limits.specs.Limits.{greatest_position_count}
 pub use Rattle.level_core.specs.declared.stage.Stage.{Stage}
 pub use Rattle.level_core.specs.declared.stage.Stage.TheVariants.{Fresh, Unfinished, Finished}
@@ -49,7 +50,8 @@ slice xs s = take (s.hi - s.lo) (drop s.lo xs)
 -- one more position, with the coordinate x, in front of groups
 abbrev pub join : ℕ → ℕ → List Entry → List Entry
 join p x [] = record { coord = x; child = span p (p + 1) } ∷ []
-join p x (e ∷ es) = if e.coord == x then record { coord = x; child = span p e.child.hi } ∷ es else record { coord = x; child = span p (p + 1) } ∷ e ∷ es
+join p x (e ∷ es) =
+    if e.coord == x then record { coord = x; child = span p e.child.hi } ∷ es else record { coord = x; child = span p (p + 1) } ∷ e ∷ es
 
 -- the groups of equal coordinates of positions from p on: a group is a run of equal coordinates, and its span of positions is the child
 abbrev pub groups : ℕ → List ℕ → List Entry
@@ -81,7 +83,13 @@ ungiven letter = if (properties letter).branchless then 1 else 0
 
 -- with room for so many parents
 abbrev pub with_parents : Letter → ℕ → Log → Log
-with_parents letter parents log = record { stage = Unfinished; coords = log.coords; counts = log.counts ++ replicate (parents - length log.counts) (ungiven letter); next = log.next }
+with_parents letter parents log =
+    record {
+      stage = Unfinished;
+      coords = log.coords;
+      counts = log.counts ++ replicate (parents - length log.counts) (ungiven letter);
+      next = log.next;
+    }
 
 -- with a coordinate more
 abbrev pub with_coord : ℕ → Log → Log
@@ -89,7 +97,8 @@ with_coord x log = record log { coords = log.coords ++ x ∷ [] }
 
 -- with the positions of a parent given; at branchless levels nothing is to be given
 abbrev pub with_edges : Letter → ℕ → ℕ → ℕ → Log → Log
-with_edges letter parent begin end log = if (properties letter).branchless then log else record log { counts = slice_set log.counts parent (end - begin); next = parent + 1 }
+with_edges letter parent begin end log = if
+    (properties letter).branchless then log else record log { counts = slice_set log.counts parent (end - begin); next = parent + 1 }
 
 -- finished
 abbrev pub finished : Log → Log
@@ -106,7 +115,8 @@ pub record CodeMayReserve (letter : Letter) (parents : ℕ) (log : Log) : Type 0
   pub within : (properties letter).branchless ≡ true → parents ≤ greatest_position_count
   pub reservable : log.stage ≢ Finished
 
--- a coordinate below the range n that may come next: what no parent has been given yet goes on rising with it, unless the level is branchless
+-- a coordinate below the range n that may come next: what no parent has been given yet goes on rising with it, unless the level
+-- is branchless
 pub record MayAppend (letter : Letter) (n x : ℕ) (log : Log) : Type 0 where
   pub unfinished : log.stage ≡ Unfinished
   pub below : x < n

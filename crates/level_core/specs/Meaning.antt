@@ -50,10 +50,12 @@ pub record Prepares {L : Type 0} (means : Meaning L) (parents most : ℕ) (old n
   pub kind : means.kind new ≡ means.kind old
   pub size : means.size new ≡ means.size old
   pub has_parents : means.has_parents new parents
-  pub positions : (p : ℕ) → p + 1 ≡ parents → (means.segment_of new (one p)).hi ≡ positions_for (means.kind old) (means.size old) parents most
+  pub positions : (p : ℕ) → p + 1 ≡ parents → (means.segment_of new (one p)).hi ≡ positions_for (means.kind old)
+      (means.size old) parents most
   pub width : (properties (means.kind old)).full ≡ false → means.width new ≡ Some (slot_width most)
   pub empty : (properties (means.kind old)).full ≡ false → (p : ℕ) → p < parents → means.entries new (one p) ≡ []
-  pub room : (properties (means.kind old)).full ≡ false → (p : ℕ) → p < parents → 2 * most ≤ (means.segment_of new (one p)).hi - (means.segment_of new (one p)).lo
+  pub room : (properties (means.kind old)).full ≡ false → (p : ℕ) → p < parents
+      → 2 * most ≤ (means.segment_of new (one p)).hi - (means.segment_of new (one p)).lo
 
 -- a coordinate is inserted below a parent and stands at its slot, the first that is free where the level has no order; all
 -- other entries stay
@@ -64,7 +66,8 @@ pub record Inserts {L : Type 0} (means : Meaning L) (parent x slot : ℕ) (old n
   pub width : means.width new ≡ means.width old
   pub inside : IsIn slot (means.segment_of old (one parent))
   pub gains : Gains x slot (means.entries old (one parent)) (means.entries new (one parent))
-  pub first : (properties (means.kind old)).ordered ≡ false → FirstFree (means.segment_of old (one parent)) (means.entries old (one parent)) x slot
+  pub first : (properties (means.kind old)).ordered ≡ false
+      → FirstFree (means.segment_of old (one parent)) (means.entries old (one parent)) x slot
   pub has_parents : (n : ℕ) → means.has_parents old n → means.has_parents new n
   pub allowed : (p : ℕ) → means.allowed old (one p) → means.allowed new (one p)
   pub segments : (p : ℕ) → means.allowed old (one p) → means.segment_of new (one p) ≡ means.segment_of old (one p)
@@ -79,10 +82,10 @@ pub record Finishes {L : Type 0} (means : Meaning L) (parents : ℕ) (old new : 
   pub log : means.log new ≡ finished (means.log old)
   pub has_parents : means.has_parents new parents
   pub groups : (properties (means.kind old)).branchless ≡ true → (parent : Span) → parent.lo ≤ parent.hi → parent.hi ≤ parents
-    → Rises (properties (means.kind old)).unique 0 (slice (means.log old).coords parent) → means.allowed new parent
+      → Rises (properties (means.kind old)).unique 0 (slice (means.log old).coords parent) → means.allowed new parent
   pub segments : (parent : Span) → means.allowed new parent → means.segment_of new parent ≡ segment_in (means.log old).counts parent
   pub entries : (parent : Span) → means.allowed new parent
-    → means.entries new parent ≡ entries_between (means.log old).coords (means.segment_of new parent)
+      → means.entries new parent ≡ entries_between (means.log old).coords (means.segment_of new parent)
 
 -- two levels with so many parents have the same below each
 pub record AgreeBelow {L : Type 0} (means : Meaning L) (parents : ℕ) (l m : L) : Type 0 where

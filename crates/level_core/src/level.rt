@@ -4,7 +4,8 @@ ghost use Rattle.level_core.specs.Kinds.{properties, capabilities};
 ghost use Rattle.level_core.specs.Fragments.{AreArguments};
 ghost use Rattle.level_core.specs.Meaning.{Meaning};
 ghost use Rattle.level_core.specs.Laws.{Laws};
-ghost use Rattle.level_core.specs.Codes.{SegmentCode, CoordCode, ChildCode, LocateCode, ReserveCode, AppendCode, EdgesCode, PrepareCode, InsertCode};
+ghost use Rattle.level_core.specs.Codes.{SegmentCode, CoordCode, ChildCode, LocateCode, ReserveCode, AppendCode, EdgesCode};
+ghost use Rattle.level_core.specs.Codes.{PrepareCode, InsertCode};
 
 use crate::letter::{Capabilities, Letter, Properties, caps_of, props_of};
 use crate::span::{Entry, Span};

@@ -1,8 +1,9 @@
 //! The level interface: a level of a tensor's storage maps each position of the level above to positions of
 //! its own, and these to coordinates. `specs/Entries.antt` says what stands below a parent, `specs/Kinds.antt`
-//! what the kinds of levels promise of it, `specs/Logs.antt` what appending leaves and `specs/Fragments.antt`
-//! what the code of a kind does. Everything above the levels is proved over the traits of `level` and
-//! `writing` alone; `walk` is the plain program over them.
+//! what the kinds of levels promise of it, and `specs/Logs.antt` what appending leaves. What is seen of a level
+//! is one record of `specs/Meaning.antt`; `specs/Laws.antt` has the laws that every kind keeps, and
+//! `specs/Codes.antt` what the code of each call does. Everything above the levels is proved over the traits of
+//! `level` and `writing` alone; `walk` is the plain program over them.
 #![tactic(auto)]
 
 mod fragments;

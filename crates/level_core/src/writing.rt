@@ -17,7 +17,8 @@ pub trait Append: Level {
     /// Makes room for `n` more coordinates and for so many parents. Refused for want of memory, the level is as before.
     fn reserve(&mut self, n: u64, parents: u64) -> Result<(), AllocError>
         requires { MayReserve parents (Self.meaning.log self.old) }
-        ensures log { OnOk result (ChangesLog Self.meaning (with_parents (Self.meaning.kind self.old) parents (Self.meaning.log self.old)) self.old self.new) }
+        ensures log { OnOk result
+            (ChangesLog Self.meaning (with_parents (Self.meaning.kind self.old) parents (Self.meaning.log self.old)) self.old self.new) }
         ensures spare { OnOk result (n ≤ spare self.new) }
         ensures err { OnErr result (self.new ≡ self.old) };
 
@@ -33,7 +34,8 @@ pub trait Append: Level {
     /// appended end. At singleton levels it does nothing. It takes no memory.
     fn append_edges(&mut self, parent: u64, begin: u64, end: u64)
         requires { MayAppendEdges (Self.meaning.kind self.old) parent begin end (Self.meaning.log self.old) }
-        ensures log { ChangesLog Self.meaning (with_edges (Self.meaning.kind self.old) parent begin end (Self.meaning.log self.old)) self.old self.new }
+        ensures log { ChangesLog Self.meaning
+            (with_edges (Self.meaning.kind self.old) parent begin end (Self.meaning.log self.old)) self.old self.new }
         ensures spare { spare self.new ≡ spare self.old };
 
     /// Finishes the level: each parent has the positions that it was given, none if it was given none, and its

@@ -1,10 +1,10 @@
 //! Whether a level's code, run on arrays, leaves what its calls answer, whatever the kind of level.
-ghost use Rattle.std.specs.Prelude.{◌≡◌, ◌<◌, ◌^◌, true};
+ghost use Rattle.std.specs.Prelude.{◌<◌, ◌^◌};
 ghost use Rattle.level_core.specs.Entries.{one};
-ghost use Rattle.level_core.specs.Kinds.{capabilities};
 
 use kernel_code::{KExpr, KStmt, Machine};
 use level_core::{Entry, Level, Span, walk};
+use numbers::Ring;
 use std::alloc::{AllocError, Global};
 
 /// Code leaves its answers from here on. Its arguments are numbers.
@@ -18,7 +18,7 @@ fn left_by(
     machine: &mut Machine,
     code: &[KStmt],
 ) -> Result<(Option<u64>, Option<u64>), AllocError> {
-    let _ending = machine.run(code, &[], TURNS)?;
+    let _ending = machine.run::<Ring>(code, &[], TURNS)?;
     Ok((machine.variable(FREE), machine.variable(FREE + 1)))
 }
 
@@ -58,9 +58,7 @@ fn coord_agrees<L: Level>(
     level: &L,
     machine: &mut Machine,
     entry: Entry,
-) -> Result<bool, AllocError>
-    requires { (capabilities (L.kind level.now)).position_iteration ≡ true }
-{
+) -> Result<bool, AllocError> {
     let args = [KExpr::Num(entry.child.lo)];
     let code = level.frag_coord(alloc, 0, 1, &args, FREE)?;
     Ok(left_by(machine, code.as_slice())? == (Some(1), Some(entry.coord)))
@@ -74,8 +72,7 @@ fn locate_agrees<L: Level>(
     parent: u64,
     entry: Entry,
 ) -> Result<bool, AllocError>
-    requires can { (capabilities (L.kind level.now)).locate ≡ true }
-    requires allowed { L.allowed level.now (one parent) }
+    requires { L.meaning.allowed level.now (one parent) }
 {
     let args = [KExpr::Num(parent), KExpr::Num(entry.coord)];
     let code = level.frag_locate(alloc, 0, 1, &args, FREE)?;
@@ -94,8 +91,7 @@ pub(crate) fn lacks<L: Level>(
     parent: u64,
     coord: u64,
 ) -> Result<bool, AllocError>
-    requires can { (capabilities (L.kind level.now)).locate ≡ true }
-    requires allowed { L.allowed level.now (one parent) }
+    requires { L.meaning.allowed level.now (one parent) }
 {
     let args = [KExpr::Num(parent), KExpr::Num(coord)];
     let code = level.frag_locate(alloc, 0, 1, &args, FREE)?;
@@ -130,7 +126,7 @@ pub(crate) fn agrees<L: Level>(
     parent: Span,
     wanted: &[Entry],
 ) -> Result<bool, AllocError>
-    requires { L.allowed level.now parent }
+    requires { L.meaning.allowed level.now parent }
 {
     let segment = level.segment(parent);
     let entries = walk(alloc, level, parent)?;
@@ -150,7 +146,7 @@ pub(crate) fn agrees_below<L: Level>(
     wanted: &[Entry],
 ) -> Result<bool, AllocError>
     requires small { parent < 2 ^ 32 }
-    requires allowed { L.allowed level.now (one parent) }
+    requires allowed { L.meaning.allowed level.now (one parent) }
 {
     agrees(
         alloc,
@@ -172,8 +168,7 @@ pub(crate) fn locates<L: Level>(
     parent: u64,
     entries: &[Entry],
 ) -> Result<bool, AllocError>
-    requires can { (capabilities (L.kind level.now)).locate ≡ true }
-    requires allowed { L.allowed level.now (one parent) }
+    requires { L.meaning.allowed level.now (one parent) }
 {
     let mut found = true;
     for entry in entries {

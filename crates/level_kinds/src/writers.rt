@@ -1,10 +1,8 @@
 //! Arrays of level 1 of the result, made by a level's code.
-ghost use Rattle.std.specs.Prelude.{◌≡◌, true};
-ghost use Rattle.level_core.specs.Kinds.{capabilities};
-
 use crate::agreement::FREE;
 use kernel_code::{Arr, KExpr, KStmt, Machine};
 use level_core::LevelKind;
+use numbers::Ring;
 use std::alloc::{AllocError, Global};
 use trees::Items;
 
@@ -12,7 +10,7 @@ use trees::Items;
 const TURNS: u64 = 99;
 
 fn run(machine: &mut Machine, code: Items<KStmt>) -> Result<(), AllocError> {
-    let _ending = machine.run(code.as_slice(), &[], TURNS)?;
+    let _ending = machine.run::<Ring>(code.as_slice(), &[], TURNS)?;
     Ok(())
 }
 
@@ -22,9 +20,7 @@ fn reserve<L: LevelKind>(
     machine: &mut Machine,
     n: u64,
     parents: u64,
-) -> Result<(), AllocError>
-    requires { (capabilities (L.kind level.now)).append ≡ true }
-{
+) -> Result<(), AllocError> {
     let args = [KExpr::Num(n), KExpr::Num(parents)];
     let code = level.frag_reserve(alloc, 0, 1, &args, FREE)?;
     run(machine, code)
@@ -35,9 +31,7 @@ fn append<L: LevelKind>(
     level: &L,
     machine: &mut Machine,
     coord: u64,
-) -> Result<(), AllocError>
-    requires { (capabilities (L.kind level.now)).append ≡ true }
-{
+) -> Result<(), AllocError> {
     let args = [KExpr::Num(coord)];
     let code = level.frag_append(alloc, 0, 1, &args, FREE)?;
     run(machine, code)
@@ -50,9 +44,7 @@ fn give<L: LevelKind>(
     parent: u64,
     begin: u64,
     end: u64,
-) -> Result<(), AllocError>
-    requires { (capabilities (L.kind level.now)).append ≡ true }
-{
+) -> Result<(), AllocError> {
     let args = [KExpr::Num(parent), KExpr::Num(begin), KExpr::Num(end)];
     let code = level.frag_edges(alloc, 0, 1, &args, FREE)?;
     run(machine, code)
@@ -64,9 +56,7 @@ fn prepare<L: LevelKind>(
     machine: &mut Machine,
     parents: u64,
     most: u64,
-) -> Result<(), AllocError>
-    requires { (capabilities (L.kind level.now)).insert ≡ true }
-{
+) -> Result<(), AllocError> {
     let args = [KExpr::Num(parents), KExpr::Num(most)];
     let code = level.frag_prepare(alloc, 0, 1, &args, FREE)?;
     run(machine, code)
@@ -78,9 +68,7 @@ fn insert<L: LevelKind>(
     machine: &mut Machine,
     parent: u64,
     coord: u64,
-) -> Result<Option<u64>, AllocError>
-    requires { (capabilities (L.kind level.now)).insert ≡ true }
-{
+) -> Result<Option<u64>, AllocError> {
     let args = [KExpr::Num(parent), KExpr::Num(coord)];
     let code = level.frag_insert(alloc, 0, 1, &args, FREE)?;
     run(machine, code)?;
@@ -95,9 +83,7 @@ fn append_parent<L: LevelKind>(
     parent: u64,
     begin: u64,
     coords: &[u64],
-) -> Result<u64, AllocError>
-    requires { (capabilities (L.kind level.now)).append ≡ true }
-{
+) -> Result<u64, AllocError> {
     let mut end = begin;
     for coord in coords {
         append(alloc, level, machine, *coord)?;
@@ -125,9 +111,7 @@ pub(crate) fn appended<L: LevelKind>(
     level: &L,
     parents: u64,
     rows: &[(u64, &[u64])],
-) -> Result<Machine, AllocError>
-    requires { (capabilities (L.kind level.now)).append ≡ true }
-{
+) -> Result<Machine, AllocError> {
     let mut machine = Machine::new(alloc);
     machine.add_array(Arr::Ends(0, 1), vec![in alloc; 0u64]?)?;
     machine.add_array(Arr::Coordinates(0, 1), Vec::new(alloc))?;
@@ -155,9 +139,7 @@ pub(crate) fn inserted<L: LevelKind>(
     parents: u64,
     most: u64,
     rows: &[(u64, u64)],
-) -> Result<(Machine, Vec<u64>), AllocError>
-    requires { (capabilities (L.kind level.now)).insert ≡ true }
-{
+) -> Result<(Machine, Vec<u64>), AllocError> {
     let mut machine = machine;
     let mut slots = Vec::new(alloc);
     prepare(alloc, level, &mut machine, parents, most)?;

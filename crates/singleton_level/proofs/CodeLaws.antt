@@ -18,7 +18,8 @@ use Rattle.coordinate_lists.specs.Codes.{Appended}
 use Rattle.limits.specs.Limits.{greatest_position_count}
 use Rattle.level_core.specs.Codes.{HoldsLog}
 use Rattle.singleton_level.specs.Singleton.{SingletonLevel, letter_of, log_of, KeepsRules, Holds, meaning}
-use Rattle.singleton_level.specs.Laws.{branchless, reserved, reserved_keeps, reserved_logs, appended_keeps, edges_log}
+use Rattle.singleton_level.specs.Laws.{branchless, reserved, reserved_keeps, reserved_logs}
+use Rattle.singleton_level.proofs.Laws.{appended_keeps, edges_log}
 
 pub segment_does : (c : Setting) (free : ℕ) (args : List KExpr) (lo hi : KExpr) (parent : Span) (s : State) → slice_get args 0 ≡ Some lo → slice_get args 1 ≡ Some hi → AreBelow free args → ValuesAre args s (parent.lo ∷ parent.hi ∷ [])
     → Reads c (two_code free lo hi) free no_turns s (SpanLeft free parent)

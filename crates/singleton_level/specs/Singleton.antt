@@ -14,7 +14,8 @@ use Rattle.coordinate_lists.specs.Letters.{letter_by}
 use Rattle.coordinate_lists.specs.Spans.{Within}
 use Rattle.kernel_code.specs.declared.syntax.Arr.TheVariants.{Coordinates}
 
--- the range, whether each coordinate stands once below a parent, how far it is made, for how many parents, the coordinates, and the room for more
+-- the range, whether each coordinate stands once below a parent, how far it is made, for how many parents, the coordinates, and
+-- the room for more
 pub record SingletonLevel : Type 0 where
   pub size : ℕ
   pub unique : Bool
@@ -24,7 +25,8 @@ pub record SingletonLevel : Type 0 where
   pub spare : ℕ
 
 abbrev pub stored : ℕ → Bool → Stage → ℕ → List ℕ → ℕ → SingletonLevel
-stored size unique stage parents coords spare = record { size = size; unique = unique; stage = stage; parents = parents; coords = coords; spare = spare }
+stored size unique stage parents coords spare =
+    record { size = size; unique = unique; stage = stage; parents = parents; coords = coords; spare = spare }
 
 abbrev pub letter_of : Bool → Letter
 letter_of = letter_by Singleton SingletonGroups

@@ -21,13 +21,13 @@ pub struct SingletonLevel {
 }
 
 impl Model for SingletonLevel {
-    ghost use Rattle.singleton_level.specs.Singleton.{SingletonLevel as Level, KeepsRules};
+    ghost use Rattle.singleton_level.specs.Singleton.{SingletonLevel as Level, stored, KeepsRules};
 
     ghost Value = { Level };
 
-    ghost view = { λ l. record { size = l.size; unique = l.unique; stage = l.stage; parents = l.parents; coords = l.coords.items; spare = l.coords.spare } };
+    ghost view = { λ l. stored l.size l.unique l.stage l.parents l.coords.items l.coords.spare };
 
-    ghost invariant = { λ l. KeepsRules (record { size = l.size; unique = l.unique; stage = l.stage; parents = l.parents; coords = l.coords.items; spare = l.coords.spare }) };
+    ghost invariant = { λ l. KeepsRules (stored l.size l.unique l.stage l.parents l.coords.items l.coords.spare) };
 }
 
 impl SingletonLevel {

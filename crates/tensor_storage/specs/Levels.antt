@@ -6,7 +6,8 @@ use Rattle.level_core.specs.declared.span.Entry.{Entry}
 use Rattle.level_core.specs.Logs.{Log}
 use Rattle.level_core.specs.Meaning.{Arrays, Meaning}
 pub use Rattle.tensor_storage.specs.declared.level.StorageLevel.{StorageLevel}
-use Rattle.tensor_storage.specs.declared.level.StorageLevel.TheVariants.{Dense as OfDense, Compressed as OfCompressed, Singleton as OfSingleton, Hashed as OfHashed}
+use Rattle.tensor_storage.specs.declared.level.StorageLevel.TheVariants.{Dense as OfDense, Compressed as OfCompressed}
+use Rattle.tensor_storage.specs.declared.level.StorageLevel.TheVariants.{Singleton as OfSingleton, Hashed as OfHashed}
 use Rattle.dense_level.specs.Dense as dense
 use Rattle.compressed_level.specs.Compressed as compressed
 use Rattle.singleton_level.specs.Singleton as singleton

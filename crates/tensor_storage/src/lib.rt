@@ -8,4 +8,3 @@ mod level;
 mod reading;
 
 pub use level::StorageLevel;
-

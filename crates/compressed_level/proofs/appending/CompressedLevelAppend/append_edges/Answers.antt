@@ -1,6 +1,6 @@
 use Rattle.std.proofs.Common.{◌+◌, sym, subst, arith}
 use Rattle.compressed_level.specs.Compressed.{KeepsRules, IsStored}
-use Rattle.compressed_level.specs.CallLaws.{stored}
+use Rattle.compressed_level.specs.Compressed.{stored}
 use Rattle.compressed_level.proofs.CallLaws.{giving, edges_keep}
 use Rattle.compressed_level.proofs.appending.CompressedLevelAppend.append_edges.Goals as goal
 

@@ -1,7 +1,7 @@
 use Rattle.std.proofs.Common.{◌≡◌, ◌-◌, ◌++◌, ◌∙◌, sym, ap, subst, length, replicate}
 use Rattle.level_core.specs.declared.stage.Stage.TheVariants.{Unfinished}
 use Rattle.compressed_level.specs.Compressed.{KeepsRules, IsStored}
-use Rattle.compressed_level.specs.CallLaws.{stored}
+use Rattle.compressed_level.specs.Compressed.{stored}
 use Rattle.compressed_level.proofs.CallLaws.{parents_keep}
 use Rattle.compressed_level.proofs.appending.CompressedLevelAppend.reserve.Goals as goal
 

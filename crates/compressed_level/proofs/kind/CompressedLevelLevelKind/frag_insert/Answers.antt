@@ -1,6 +1,6 @@
 use Rattle.coordinate_lists.proofs.Letters.{never_inserted}
 use Rattle.compressed_level.specs.Compressed.{letter_of}
-use Rattle.compressed_level.specs.Laws.{appends}
+use Rattle.compressed_level.proofs.Laws.{appends}
 use Rattle.compressed_level.proofs.kind.CompressedLevelLevelKind.frag_insert.Goals as goal
 
 pub returns : goal.returns

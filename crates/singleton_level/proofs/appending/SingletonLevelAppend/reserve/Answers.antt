@@ -1,6 +1,6 @@
 use Rattle.std.proofs.Common.{ap}
 use Rattle.singleton_level.specs.Singleton.{stored, letter_of}
-use Rattle.singleton_level.specs.Laws.{reserve_logs}
+use Rattle.singleton_level.proofs.Laws.{reserve_logs}
 use Rattle.singleton_level.proofs.appending.SingletonLevelAppend.reserve.Goals as goal
 
 pub returns-clause-log : goal.returns-clause-log

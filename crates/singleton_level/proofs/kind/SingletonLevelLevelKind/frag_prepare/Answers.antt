@@ -1,6 +1,6 @@
 use Rattle.coordinate_lists.proofs.Letters.{never_inserted}
 use Rattle.singleton_level.specs.Singleton.{letter_of}
-use Rattle.singleton_level.specs.Laws.{appends}
+use Rattle.singleton_level.proofs.Laws.{appends}
 use Rattle.singleton_level.proofs.kind.SingletonLevelLevelKind.frag_prepare.Goals as goal
 
 pub returns : goal.returns

@@ -1,6 +1,6 @@
 use Rattle.coordinate_lists.proofs.Letters.{never_located}
 use Rattle.singleton_level.specs.Singleton.{letter_of}
-use Rattle.singleton_level.specs.Laws.{appends}
+use Rattle.singleton_level.proofs.Laws.{appends}
 use Rattle.singleton_level.proofs.reading.SingletonLevelLevel.locate.Goals as goal
 
 pub returns : goal.returns
