@@ -20,4 +20,6 @@ pub record SizeStep (sizes : List ℕ) (i stride rest : ℕ) : Type 0 where
   pub some : 0 < stride / get_or sizes i 0
   pub within : rest % (stride / get_or sizes i 0) < stride / get_or sizes i 0
   pub below : rest / (stride / get_or sizes i 0) < get_or sizes i 0
-  pub coords : coords_at (drop i sizes) rest ≡ rest / (stride / get_or sizes i 0) ∷ coords_at (drop (i + 1) sizes) (rest % (stride / get_or sizes i 0))
+  pub coords :
+      coords_at (drop i sizes) rest
+      ≡ rest / (stride / get_or sizes i 0) ∷ coords_at (drop (i + 1) sizes) (rest % (stride / get_or sizes i 0))

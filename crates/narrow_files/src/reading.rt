@@ -112,5 +112,6 @@ pub fn read_entries(alloc: Global, text: &[u8], order: usize) -> Result<Option<E
 /// What is read in the narrow form is what the whole definition reads. It does nothing.
 #[tactic(auto, using(crate::proofs::NarrowLaws::built_is_read))]
 pub fn built_files_are_read()
-    ensures { (order : ℕ) (text : List ℕ) (entries : List Entry) → built_entries order text ≡ Some entries → entries_of_text order text ≡ Ok entries }
+    ensures { (order : ℕ) (text : List ℕ) (entries : List Entry) → built_entries order text ≡ Some entries
+        → entries_of_text order text ≡ Ok entries }
 {}

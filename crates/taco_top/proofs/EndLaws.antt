@@ -1,7 +1,8 @@
 -- Lemmas about what specs/EndLaws.antt defines.
 use Rattle.std.specs.Prelude.{◌≡◌, ℕ, zero, suc, ◌+◌, ◌⊎◌, List, [], ◌∷◌, length, drop, Option, Some, None, slice_get, string_bytes, String, IsSomeAnd, map, refl}
 use Rattle.std.specs.declared.alloc.Global.{Global}
-use Rattle.std.proofs.Common.{◌∙◌, ap, sym, subst, arith, inl, inr}
+use Rattle.std.proofs.Common.{◌∙◌, ap, sym, subst, arith, inl, inr, length-append}
+use Rattle.std.proofs.lemmas.List.{take_all}
 use Rattle.numbers.specs.Ring.{ring}
 use Rattle.outside.specs.Count.{Rose}
 use Rattle.outside.specs.Told.{Told, Untold, NoFile, Bytes}
@@ -19,7 +20,8 @@ use Rattle.tns_io.proofs.TextLaws.{one_text}
 use Rattle.expr_terms.specs.Operands.{operand_values}
 use Rattle.expr_terms.specs.Terms.{statement_value}
 use Rattle.taco_top.specs.Answer.{status_of_answer, Answer, Done, NotBuilt, Usage, ReadFault, WriteFault, Memory}
-use Rattle.taco_top.specs.Built.{IsOperand, IsUnbuilt, AreRead, HasUnbuilt, IsBuiltLine, IsFilesText, IsValuesText, AreTooLarge, IsResultText, AtText, AtWords, NotBuiltAt, AtLine, AtFile, AtSize, IsOperandPath}
+use Rattle.taco_top.specs.Built.{IsOperand, IsUnbuilt, IsTooLong, HasBadLine, names_of, AreOperands, AreRead, HasUnbuilt, IsBuiltLine, IsFilesText, IsValuesText, AreTooLarge, IsResultText, AtText, AtWords, NotBuiltAt, AtLine, AtFile, AtSize, IsOperandPath}
+use Rattle.taco_top.proofs.OperandsRead.{as_many}
 use Rattle.taco_top.specs.Ends.{Ends, Cause}
 use Rattle.outside.specs.Sink.{SinkState}
 use Rattle.outside.specs.Folder.{FolderState}
@@ -54,81 +56,105 @@ line_once words s t paths ways a b =
     (same, words_once s.tensors (drop 3 words) paths ways (names_once (slice_get words 2) s a.text) a.words_bind bind)
 
 -- told files have one list of entries
-entries_once : (order : ℕ) (told : Told) (entries others : Entries) → IsTold told → IsOperand order told entries → IsOperand order told others → entries ≡ others
-entries_once order Untold entries others is a b = absurd is
-entries_once order NoFile entries others is a b = absurd is
-entries_once order (Bytes bytes) entries others is a b =
+entries_once : (order : ℕ) (told : Told) (bytes others_bytes : List ℕ) (entries others : Entries) → IsTold told → IsOperand order told bytes entries → IsOperand order told others_bytes others → entries ≡ others
+entries_once order Untold bytes others_bytes entries others is a b = absurd is
+entries_once order NoFile bytes others_bytes entries others is a b = absurd is
+entries_once order (Bytes text) bytes others_bytes entries others is a b =
     let found : Some entries.list ≡ Some others.list = sym a.entries_are ∙ ap (built_entries order) (sym a.told_text ∙ b.told_text) ∙ b.entries_are in
     let lists : entries.list ≡ others.list = cc in
     let orders : entries.order ≡ others.order = a.order_is ∙ sym b.order_is in
     (λ i. record { order = orders i; list = lists i })
 
-read_once : (holds : List ℕ → Told) (accesses : List Access) (tensor : ℕ) (operands others : List Entries) (paths : List (List ℕ)) → AreTold holds paths
-    → AreRead holds accesses tensor operands paths → AreRead holds accesses tensor others paths → length operands ≡ length paths → length others ≡ length paths → operands ≡ others
-read_once holds accesses tensor [] [] paths told a b la lb = refl
-read_once holds accesses tensor [] (other ∷ others) [] told a b la lb = absurd b
-read_once holds accesses tensor [] (other ∷ others) (path ∷ paths) told a b la lb = absurd (omega (arith, la))
-read_once holds accesses tensor (entries ∷ operands) [] [] told a b la lb = absurd a
-read_once holds accesses tensor (entries ∷ operands) [] (path ∷ paths) told a b la lb = absurd (omega (arith, lb))
-read_once holds accesses tensor (entries ∷ operands) (other ∷ others) [] told a b la lb = absurd a
-read_once holds accesses tensor (entries ∷ operands) (other ∷ others) (path ∷ paths) told a b la lb =
-    let first : entries ≡ other = entries_once (first_order accesses tensor) (holds path) entries other told.0 a.0 b.0 in
-    let rest : operands ≡ others = read_once holds accesses (tensor + 1) operands others paths told.1 a.1 b.1 (omega (arith, la)) (omega (arith, lb)) in
+read_once : (holds : List ℕ → Told) (accesses : List Access) (tensor : ℕ) (operands others : List Entries) (files others_files : List (List ℕ × List ℕ)) → AreTold holds (names_of files)
+    → names_of others_files ≡ names_of files → AreOperands holds accesses tensor operands files → AreOperands holds accesses tensor others others_files → operands ≡ others
+read_once holds accesses tensor [] [] files others_files told names a b = refl
+read_once holds accesses tensor [] (other ∷ others) [] [] told names a b = absurd b
+read_once holds accesses tensor [] (other ∷ others) [] (at ∷ others_files) told names a b = absurd (cc)
+read_once holds accesses tensor [] (other ∷ others) (file ∷ files) others_files told names a b = absurd a
+read_once holds accesses tensor (entries ∷ operands) others [] others_files told names a b = absurd a
+read_once holds accesses tensor (entries ∷ operands) [] (file ∷ files) [] told names a b = absurd (cc)
+read_once holds accesses tensor (entries ∷ operands) [] (file ∷ files) (at ∷ others_files) told names a b = absurd b
+read_once holds accesses tensor (entries ∷ operands) (other ∷ others) (file ∷ files) [] told names a b = absurd b
+read_once holds accesses tensor (entries ∷ operands) (other ∷ others) (file ∷ files) (at ∷ others_files) told names a b =
+    let name : at.0 ≡ file.0 = cc in
+    let behind : names_of others_files ≡ names_of files = cc in
+    let here : IsOperand (first_order accesses tensor) (holds file.0) at.1 other = subst (λ n. IsOperand (first_order accesses tensor) (holds n) at.1 other) name b.0 in
+    let first : entries ≡ other = entries_once (first_order accesses tensor) (holds file.0) file.1 at.1 entries other told.0 a.0 here in
+    let rest : operands ≡ others = read_once holds accesses (tensor + 1) operands others files others_files told.1 behind a.1 b.1 in
     (λ i. first i ∷ rest i)
 
 -- a file that is built isn't unbuilt
-built_not_unbuilt : (order : ℕ) (told : Told) (entries : Entries) → IsTold told → IsOperand order told entries → IsUnbuilt order told → ⊥
-built_not_unbuilt order Untold entries is a un = is
-built_not_unbuilt order NoFile entries is a un = is
-built_not_unbuilt order (Bytes bytes) entries is a (inl long) = omega (arith, long, a.short)
-built_not_unbuilt order (Bytes bytes) entries is a (inr none) =
-    let e : Some entries.list ≡ None = sym a.entries_are ∙ ap (built_entries order) (sym a.told_text) ∙ none in
+built_not_unbuilt : (order : ℕ) (told : Told) (bytes others_bytes : List ℕ) (entries : Entries) → IsTold told → IsOperand order told bytes entries → IsUnbuilt order told others_bytes → ⊥
+built_not_unbuilt order Untold bytes others_bytes entries is a un = is
+built_not_unbuilt order NoFile bytes others_bytes entries is a un = is
+built_not_unbuilt order (Bytes text) bytes others_bytes entries is a (IsTooLong front long) =
+    omega (arith, long, a.short, ap length (sym a.told_text ∙ front.1), length-append others_bytes front.0)
+built_not_unbuilt order (Bytes text) bytes others_bytes entries is a (HasBadLine whole none) =
+    let e : Some entries.list ≡ None = sym a.entries_are ∙ ap (built_entries order) (sym a.told_text ∙ whole) ∙ none in
     absurd (cc)
 
 -- the operand behind some is read, and told
-at_next : (holds : List ℕ → Told) (accesses : List Access) (tensor n : ℕ) (operands : List Entries) (paths : List (List ℕ)) (path : List ℕ) → AreTold holds paths → AreRead holds accesses tensor operands paths
-    → length operands ≡ length paths → slice_get paths n ≡ Some path → (entries : Entries) × IsTold (holds path) × IsOperand (first_order accesses (n + tensor)) (holds path) entries
-at_next holds accesses tensor n operands [] path told read long next = absurd (cc)
-at_next holds accesses tensor n [] (first ∷ paths) path told read long next = absurd (omega (arith, long))
-at_next holds accesses tensor zero (entries ∷ operands) (first ∷ paths) path told read long next =
+record IsTheOperand (order : ℕ) (told : Told) : Type 0 where
+  bytes : List ℕ
+  entries : Entries
+  is_told : IsTold told
+  operand : IsOperand order told bytes entries
+
+at_next : (holds : List ℕ → Told) (accesses : List Access) (tensor n : ℕ) (operands : List Entries) (files : List (List ℕ × List ℕ)) (paths : List (List ℕ)) (path : List ℕ) → AreTold holds paths
+    → names_of files ≡ paths → AreOperands holds accesses tensor operands files → slice_get paths n ≡ Some path → IsTheOperand (first_order accesses (n + tensor)) (holds path)
+at_next holds accesses tensor n operands files [] path told names read next = absurd (cc)
+at_next holds accesses tensor n operands [] (first ∷ paths) path told names read next = absurd (cc)
+at_next holds accesses tensor n [] (file ∷ files) (first ∷ paths) path told names read next = absurd read
+at_next holds accesses tensor zero (entries ∷ operands) (file ∷ files) (first ∷ paths) path told names read next =
+    let name : file.0 ≡ first = cc in
     let is : first ≡ path = cc in
     let from : tensor ≡ zero + tensor = omega arith in
-    (entries, subst (λ p. IsTold (holds p)) is told.0, subst (λ k. IsOperand (first_order accesses k) (holds path) entries) from (subst (λ p. IsOperand (first_order accesses tensor) (holds p) entries) is read.0))
-at_next holds accesses tensor (suc n) (entries ∷ operands) (first ∷ paths) path told read long next =
+    let here : IsOperand (first_order accesses tensor) (holds path) file.1 entries = subst (λ p. IsOperand (first_order accesses tensor) (holds p) file.1 entries) (name ∙ is) read.0 in
+    record {
+      bytes = file.1;
+      entries = entries;
+      is_told = subst (λ p. IsTold (holds p)) is told.0;
+      operand = subst (λ k. IsOperand (first_order accesses k) (holds path) file.1 entries) from here;
+    }
+at_next holds accesses tensor (suc n) (entries ∷ operands) (file ∷ files) (first ∷ paths) path told names read next =
     let from : n + (tensor + 1) ≡ suc n + tensor = omega arith in
-    let found = at_next holds accesses (tensor + 1) n operands paths path told.1 read.1 (omega (arith, long)) next in
-    (found.0, found.1, subst (λ k. IsOperand (first_order accesses k) (holds path) found.0) from found.2)
+    let behind : names_of files ≡ paths = cc in
+    subst (λ k. IsTheOperand (first_order accesses k) (holds path)) from (at_next holds accesses (tensor + 1) n operands files paths path told.1 behind read.1 next)
 
-unbuilt_absurd : (holds : List ℕ → Told) (accesses : List Access) (operands : List Entries) (paths : List (List ℕ)) → AreTold holds paths → AreRead holds accesses 1 operands paths → length operands ≡ length paths → HasUnbuilt holds accesses paths → ⊥
-unbuilt_absurd holds accesses operands paths told read all un =
-    let found = at_next holds accesses 1 (length un.next.operands) operands paths un.path told read all un.next.next in
-    built_not_unbuilt (first_order accesses (length un.next.operands + 1)) (holds un.path) found.0 found.1 found.2 un.unbuilt
+-- the operands of whole input are those of the files that were read, if each has one
+whole_operands : (old new : FolderState) (words : List (String Global)) (whole : IsWhole old.holds words) (operands : List Entries)
+    → AreRead old new whole.s.accesses whole.paths operands [] → length operands ≡ length whole.paths → whole.operands ≡ operands
+whole_operands old new words whole operands read all =
+    let long : length operands ≡ length read.files = as_many old.holds whole.s.accesses 1 operands read.files read.are in
+    let names : names_of read.files ≡ whole.paths = read.in_order ∙ take_all (length read.files) whole.paths (omega (arith, long, all)) in
+    read_once old.holds whole.s.accesses 1 whole.operands operands whole.files read.files (subst (AreTold old.holds) (sym whole.names) whole.told) (names ∙ sym whole.names) whole.read read.are
 
-not_unbuilt : (holds : List ℕ → Told) (words : List (String Global)) → IsWhole holds words → NotBuiltAt holds words → ⊥
-not_unbuilt holds words whole (AtLine (AtText none)) = none whole.s whole.line.text
-not_unbuilt holds words whole (AtLine (AtWords t text none)) =
+not_unbuilt : (old new : FolderState) (words : List (String Global)) → IsWhole old.holds words → NotBuiltAt old new words → ⊥
+not_unbuilt old new words whole (AtLine (AtText none) same) = none whole.s whole.line.text
+not_unbuilt old new words whole (AtLine (AtWords t text none) given) =
     let same : whole.s ≡ t = text_of_once (slice_get words 2) whole.s t whole.line.text text in
     none whole.paths (subst (λ (u : Statement). IsBuiltWords u.tensors (drop 3 words) whole.paths) same whole.line.words_bind)
-not_unbuilt holds words whole (AtFile t ways line unbuilt) =
+not_unbuilt old new words whole (AtFile t ways line unbuilt) =
     let same = line_once words whole.s t whole.paths ways whole.line line in
-    let un : HasUnbuilt holds whole.s.accesses whole.paths = subst (λ p. HasUnbuilt holds whole.s.accesses p) (sym same.1) (subst (λ (u : Statement). HasUnbuilt holds u.accesses ways) (sym same.0) unbuilt) in
-    unbuilt_absurd holds whole.s.accesses whole.operands whole.paths whole.told whole.read whole.all un
-not_unbuilt holds words whole (AtSize t ways line large) =
+    let un : HasUnbuilt old new whole.s.accesses whole.paths = subst (λ p. HasUnbuilt old new whole.s.accesses p) (sym same.1) (subst (λ (u : Statement). HasUnbuilt old new u.accesses ways) (sym same.0) unbuilt) in
+    let found = at_next old.holds whole.s.accesses 1 (length un.next.operands) whole.operands whole.files whole.paths un.path whole.told whole.names whole.read un.next.next in
+    built_not_unbuilt (first_order whole.s.accesses (length un.next.operands + 1)) (old.holds un.path) found.bytes un.bytes found.entries found.is_told found.operand un.unbuilt
+not_unbuilt old new words whole (AtSize t ways line large) =
     let same = line_once words whole.s t whole.paths ways whole.line line in
-    let at : AreTooLarge holds whole.s whole.paths = subst (λ p. AreTooLarge holds whole.s p) (sym same.1) (subst (λ (u : Statement). AreTooLarge holds u ways) (sym same.0) large) in
-    let operands_same : whole.operands ≡ at.operands = read_once holds whole.s.accesses 1 whole.operands at.operands whole.paths whole.told whole.read at.read whole.all at.all in
+    let at : AreTooLarge old new whole.s whole.paths = subst (λ p. AreTooLarge old new whole.s p) (sym same.1) (subst (λ (u : Statement). AreTooLarge old new u ways) (sym same.0) large) in
+    let operands_same : whole.operands ≡ at.operands = whole_operands old new words whole at.operands at.read at.all in
     at.unfit (subst (λ os. AllFit whole.s os (operand_ranges whole.s os)) operands_same whole.fits)
 
 -- a told file isn't absent
 told_there : (holds : List ℕ → Told) (path : List ℕ) → IsTold (holds path) → holds path ≡ NoFile → ⊥
 told_there holds path is none = subst IsTold none is
 
-path_there : (holds : List ℕ → Told) (words : List (String Global)) (path : List ℕ) → IsWhole holds words → IsOperandPath holds words path → holds path ≡ NoFile → ⊥
-path_there holds words path whole operand none =
+path_there : (old new : FolderState) (words : List (String Global)) (path : List ℕ) → IsWhole old.holds words → IsOperandPath old new words path → old.holds path ≡ NoFile → ⊥
+path_there old new words path whole operand none =
     let same = line_once words whole.s operand.s whole.paths operand.paths whole.line operand.line in
     let next : slice_get whole.paths (length operand.next.operands) ≡ Some path = ap (λ p. slice_get p (length operand.next.operands)) same.1 ∙ operand.next.next in
-    let found = at_next holds whole.s.accesses 1 (length operand.next.operands) whole.operands whole.paths path whole.told whole.read whole.all next in
-    told_there holds path found.1 none
+    let found = at_next old.holds whole.s.accesses 1 (length operand.next.operands) whole.operands whole.files whole.paths path whole.told whole.names whole.read next in
+    told_there old.holds path found.is_told none
 
 -- then a call that isn't a usage and met no fault wrote its file, or wanted memory
 pub whole_ends : (words : List (String Global)) (files files' : FolderState) (out out' err err' : SinkState) (status : ℕ) → IsWhole files.holds words
@@ -138,24 +164,37 @@ whole_ends words files files' out out' err err' status whole reads writes usage 
   where
     by : (answer : Answer) → status ≡ status_of_answer answer → Cause words files files' out out' answer → (status ≡ 0) ⊎ (status ≡ 5)
     by Done is cause = inl is
-    by NotBuilt is cause = absurd (not_unbuilt files.holds words whole cause.1)
+    by NotBuilt is cause = absurd (not_unbuilt files files' words whole cause.1)
     by Usage is cause = absurd (usage is)
     by (ReadFault path) is (stays, (operand, inl fault)) = absurd (reads fault.0)
-    by (ReadFault path) is (stays, (operand, inr none)) = absurd (path_there files.holds words path whole operand none)
+    by (ReadFault path) is (stays, (operand, inr none)) = absurd (path_there files files' words path whole operand none)
     by WriteFault is cause = absurd (writes cause.1)
     by Memory is cause = inr is
 
--- and its file is one
-files_once : (holds : List ℕ → Told) (s : Statement) (paths : List (List ℕ)) (text other : List ℕ) → AreTold holds paths → IsFilesText holds s paths text → IsFilesText holds s paths other → text ≡ other
-files_once holds s paths text other told a b =
-    let same : b.operands ≡ a.operands = read_once holds s.accesses 1 b.operands a.operands paths told b.read a.read b.all a.all in
-    let b_values : IsValuesText s a.operands other = subst (λ os. IsValuesText s os other) same b.values in
-    one_text ring (map (operand_ranges s a.operands) s.left.vars) (statement_value ring s (operand_values ring a.operands) (operand_ranges s a.operands)) text other a.values b_values
+-- the text of a result is that of the values over the operands of whole input
+values_of : (old new : FolderState) (words : List (String Global)) (whole : IsWhole old.holds words) (text : List ℕ) → IsResultText old new words text → IsValuesText whole.s whole.operands text
+values_of old new words whole text result =
+    let same = line_once words whole.s result.s whole.paths result.paths whole.line result.line in
+    let at : IsFilesText old new whole.s whole.paths text =
+    subst (λ p. IsFilesText old new whole.s p text) (sym same.1) (subst (λ (u : Statement). IsFilesText old new u result.paths text) (sym same.0) result.text_is) in
+    let operands_same : whole.operands ≡ at.operands = whole_operands old new words whole at.operands at.read at.all in
+    subst (λ os. IsValuesText whole.s os text) (sym operands_same) at.values
 
-pub results_once : (holds : List ℕ → Told) (words : List (String Global)) (text other : List ℕ) → IsWhole holds words → IsResultText holds words text → IsResultText holds words other → text ≡ other
-results_once holds words text other whole a b =
-    let same = line_once words whole.s a.s whole.paths a.paths whole.line a.line in
-    let other_same = line_once words whole.s b.s whole.paths b.paths whole.line b.line in
-    let a_at : IsFilesText holds whole.s whole.paths text = subst (λ p. IsFilesText holds whole.s p text) (sym same.1) (subst (λ (u : Statement). IsFilesText holds u a.paths text) (sym same.0) a.text_is) in
-    let b_at : IsFilesText holds whole.s whole.paths other = subst (λ p. IsFilesText holds whole.s p other) (sym other_same.1) (subst (λ (u : Statement). IsFilesText holds u b.paths other) (sym other_same.0) b.text_is) in
-    files_once holds whole.s whole.paths text other whole.told a_at b_at
+-- and its file is one
+pub results_once : (files files' others others' : FolderState) (words : List (String Global)) (text other : List ℕ) → others.holds ≡ files.holds → IsWhole files.holds words
+    → IsResultText files files' words text → IsResultText others others' words other → text ≡ other
+results_once files files' others others' words text other same_holds whole a b =
+    let whole_b : IsWhole others.holds words = record {
+      s = whole.s;
+      paths = whole.paths;
+      files = whole.files;
+      operands = whole.operands;
+      line = whole.line;
+      told = subst (λ h. AreTold h whole.paths) (sym same_holds) whole.told;
+      names = whole.names;
+      read = subst (λ h. AreOperands h whole.s.accesses 1 whole.operands whole.files) (sym same_holds) whole.read;
+      fits = whole.fits;
+    } in
+    one_text ring (map (operand_ranges whole.s whole.operands) whole.s.left.vars)
+    (statement_value ring whole.s (operand_values ring whole.operands) (operand_ranges whole.s whole.operands)) text other
+    (values_of files files' words whole text a) (values_of others others' words whole_b other b)

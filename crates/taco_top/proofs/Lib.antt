@@ -4,3 +4,4 @@ pub mod SmallCoords
 pub mod Stands
 pub mod TopLemmas
 pub mod WordLaws
+pub mod OperandsRead

@@ -2,18 +2,16 @@
 use Rattle.std.specs.Prelude.{◌≡◌, ◌≢◌, ℕ, zero, suc, ◌+◌, ◌≤◌, true, false, ◌==◌, if◌then◌else◌, List, [], ◌∷◌, ◌++◌, length, map, drop, All, Option, Some, None, slice_get, slice_index, String, string_bytes, IsSomeAnd, IfOk, Result, Ok, Err, refl}
 use Rattle.std.specs.declared.alloc.Global.{Global}
 use Rattle.std.proofs.Common.{◌∙◌, ap, sym, arith, inl, inr}
-use Rattle.limits.specs.Limits.{greatest_order, greatest_file_bytes}
-use Rattle.outside.specs.Told.{Told, Untold, NoFile, Bytes, told_bytes}
-use Rattle.outside.specs.ReadStop.{IsLonger}
+use Rattle.limits.specs.Limits.{greatest_order}
+use Rattle.outside.specs.Told.{Told}
 use Rattle.index_notation.specs.Statement.{IsAccess, IsNumbered}
 use Rattle.index_notation.specs.Text.{IsBuiltText}
 use Rattle.index_notation.specs.declared.syntax.Access.{Access}
 use Rattle.index_notation.specs.declared.syntax.Statement.{Statement}
 use Rattle.dense_operands.specs.Operands.{HasSmallCoords}
-use Rattle.narrow_files.specs.Narrow.{built_entries}
 use Rattle.range_loops.specs.Computes.{IsComputable}
 use Rattle.tensor_map.specs.Entries.{Entries}
-use Rattle.taco_top.specs.Built.{IsToldText, IsOperand, IsUnbuilt, AreRead, IsBuiltLine, IsTextOf}
+use Rattle.taco_top.specs.Built.{AreOperands, AreRead, IsBuiltLine, IsTextOf}
 use Rattle.lists.proofs.Each.{each_get, all_from}
 use Rattle.taco_top.specs.SmallCoords.{first_order}
 use Rattle.taco_top.proofs.SmallCoords.{built_are_small, read_operands_fit}
@@ -39,59 +37,28 @@ use Rattle.outside.specs.Folder.{FolderState}
 use Rattle.taco_top.specs.Reads.{ReadCause}
 use Rattle.taco_top.proofs.Stands.{built_is_product, built_reads, words_count}
 
--- a file with too many bytes isn't built
-pub too_long_unbuilt : (order : ℕ) (told : Told) → IsLonger (told_bytes told) greatest_file_bytes → told ≢ NoFile → IsUnbuilt order told
-too_long_unbuilt order Untold longer there = tt
-too_long_unbuilt order NoFile longer there = absurd (there refl)
-too_long_unbuilt order (Bytes bytes) longer there = inl longer
-
--- nor is one with a line that isn't an entry
-pub bad_line_unbuilt : (order : ℕ) (told : Told) (text : List ℕ) → ((bytes : List ℕ) → told ≡ Bytes bytes → text ≡ bytes) → told ≢ NoFile → built_entries order text ≡ None → IsUnbuilt order told
-bad_line_unbuilt order Untold text whole there none = tt
-bad_line_unbuilt order NoFile text whole there none = absurd (there refl)
-bad_line_unbuilt order (Bytes bytes) text whole there none = inr (ap (built_entries order) (sym (whole bytes refl)) ∙ none)
-
-pub told_text : (told : Told) (text : List ℕ) → ((bytes : List ℕ) → told ≡ Bytes bytes → text ≡ bytes) → told ≢ NoFile → IsToldText told text
-told_text Untold text whole there = tt
-told_text NoFile text whole there = absurd (there refl)
-told_text (Bytes bytes) text whole there = sym (whole bytes refl)
-
--- one operand more
-pub read_more : (holds : List ℕ → Told) (accesses : List Access) (tensor : ℕ) (operands : List Entries) (paths : List (List ℕ)) (path : List ℕ) (entries : Entries)
-    → AreRead holds accesses tensor operands paths → slice_get paths (length operands) ≡ Some path
-    → IsOperand (first_order accesses (tensor + length operands)) (holds path) entries → AreRead holds accesses tensor (operands ++ entries ∷ []) paths
-read_more holds accesses tensor [] [] path entries read next operand = absurd (cc)
-read_more holds accesses tensor [] (first ∷ paths) path entries read next operand =
-    let is : path ≡ first = cc in
-    let at : tensor + 0 ≡ tensor = omega arith in
-    ((rw is at (rw at at operand)), tt)
-read_more holds accesses tensor (other ∷ operands) [] path entries read next operand = absurd read
-read_more holds accesses tensor (other ∷ operands) (first ∷ paths) path entries read next operand =
-    let at : tensor + suc (length operands) ≡ tensor + 1 + length operands = omega arith in
-    (read.0, read_more holds accesses (tensor + 1) operands paths path entries read.1 next (rw at at operand))
-
 -- each operand that is read has the order of its tensor, and small coordinates
-pub read_at : (holds : List ℕ → Told) (accesses : List Access) (tensor : ℕ) (operands : List Entries) (paths : List (List ℕ)) → AreRead holds accesses tensor operands paths
+pub read_at : (holds : List ℕ → Told) (accesses : List Access) (tensor : ℕ) (operands : List Entries) (files : List (List ℕ × List ℕ)) → AreOperands holds accesses tensor operands files
     → (n : ℕ) (entries : Entries) → slice_get operands n ≡ Some entries → (entries.order ≡ first_order accesses (n + tensor)) × All HasSmallCoords entries.list
-read_at holds accesses tensor [] paths read n entries is = absurd (cc)
+read_at holds accesses tensor [] files read n entries is = absurd (cc)
 read_at holds accesses tensor (first ∷ operands) [] read n entries is = absurd read
-read_at holds accesses tensor (first ∷ operands) (path ∷ paths) read zero entries is =
+read_at holds accesses tensor (first ∷ operands) (file ∷ files) read zero entries is =
     let same : first ≡ entries = cc in
     let from : zero + tensor ≡ tensor = omega arith in
-    let found : (first.order ≡ first_order accesses tensor) × All HasSmallCoords first.list = (read.0.order_is, built_are_small (first_order accesses tensor) read.0.text first.list read.0.entries_are) in
+    let found : (first.order ≡ first_order accesses tensor) × All HasSmallCoords first.list = (read.0.order_is, built_are_small (first_order accesses tensor) file.1 first.list read.0.entries_are) in
     let found_at : (first.order ≡ first_order accesses (zero + tensor)) × All HasSmallCoords first.list = rw (sym from) at found in
     rw same at found_at
-read_at holds accesses tensor (first ∷ operands) (path ∷ paths) read (suc n) entries is =
+read_at holds accesses tensor (first ∷ operands) (file ∷ files) read (suc n) entries is =
     let at : n + (tensor + 1) ≡ suc n + tensor = omega arith in
-    rw at at (read_at holds accesses (tensor + 1) operands paths read.1 n entries is)
+    rw at at (read_at holds accesses (tensor + 1) operands files read.1 n entries is)
 
 -- where all input is built, the loops can compute
-pub built_is_computable : (holds : List ℕ → Told) (text : List ℕ) (s : Statement) (paths : List (List ℕ)) (operands : List Entries)
-    → IsBuiltText text s → length s.tensors ≡ length paths + 1 → AreRead holds s.accesses 1 operands paths → length operands ≡ length paths → IsComputable s operands
-built_is_computable holds text s paths operands built count read all =
+pub built_is_computable : (old new : FolderState) (text : List ℕ) (s : Statement) (paths : List (List ℕ)) (operands : List Entries)
+    → IsBuiltText text s → length s.tensors ≡ length paths + 1 → AreRead old new s.accesses paths operands [] → length operands ≡ length paths → IsComputable s operands
+built_is_computable old new text s paths operands built count read all =
     let sizes : length s.tensors ≡ length operands + 1 = omega (arith, count, all) in
     record {
-      operands_fit = read_operands_fit s operands built.numbers_stand built.well_named sizes (read_at holds s.accesses 1 operands paths read);
+      operands_fit = read_operands_fit s operands built.numbers_stand built.well_named sizes (read_at old.holds s.accesses 1 operands read.files read.are);
       named = built.well_named;
       product = built_is_product text s built;
       read = λ n h. built_reads text s built n (omega (arith, sizes, h));
@@ -167,35 +134,25 @@ pub words_unbuilt : (words : List (String Global)) (s : Statement) (tensors : Li
     → ((paths : List (List ℕ)) → IsBuiltWords tensors rest paths → ⊥) → LineNotBuilt words
 words_unbuilt words s tensors rest text tensors_are rest_is none = AtWords s text (rw tensors_are at (rw rest_is at none))
 
--- one operand more is read
-pub operands_more : (holds holds' : List ℕ → Told) (accesses : List Access) (operands operands' : List Entries) (paths : List (List ℕ)) (path : List ℕ) (entries : Entries) (order n : ℕ)
-    → holds' ≡ holds → order ≡ first_order accesses (n + 1) → length operands ≡ n → slice_get paths n ≡ Some path → AreRead holds accesses 1 operands paths
-    → IsOperand order (holds' path) entries → operands' ≡ operands ++ entries ∷ [] → AreRead holds accesses 1 operands' paths × (length operands' ≡ n + 1)
-operands_more holds holds' accesses operands operands' paths path entries order n same order_is long at read operand more =
-    let tensor_is : n + 1 ≡ 1 + length operands = omega (arith, long) in
-    let next : slice_get paths (length operands) ≡ Some path = rw (sym long) at at in
-    let operand_at : IsOperand (first_order accesses (1 + length operands)) (holds path) entries = rw (ap (λ h. h path) same) at (rw (order_is ∙ ap (first_order accesses) tensor_is) at operand) in
-    (rw (sym more) at (read_more holds accesses 1 operands paths path entries read next operand_at), ap length more ∙ length-append operands (entries ∷ []) ∙ ap (λ k. k + 1) long)
-
 -- statement and operands, for the loops
-pub files_computable : (holds : List ℕ → Told) (s : Statement) (accesses : List Access) (paths : List (List ℕ)) (count : ℕ) (operands operands' : List Entries)
+pub files_computable : (old new : FolderState) (s : Statement) (accesses : List Access) (paths : List (List ℕ)) (count : ℕ) (operands operands' : List Entries)
     → (text : List ℕ) × IsBuiltText text s → length s.tensors ≡ count + 1 → length paths ≡ count → accesses ≡ s.accesses → operands' ≡ operands
-    → AreRead holds accesses 1 operands paths × (length operands ≡ count) → IsComputable s operands'
-files_computable holds s accesses paths count operands operands' built tensors long accesses_are operands_are read =
-    let read_at : AreRead holds s.accesses 1 operands paths = rw accesses_are at read.0 in
-    rw (sym operands_are) at (built_is_computable holds built.0 s paths operands built.1 (omega (arith, tensors, long)) read_at (omega (arith, read.1, long)))
+    → AreRead old new accesses paths operands [] × (length operands ≡ count) → IsComputable s operands'
+files_computable old new s accesses paths count operands operands' built tensors long accesses_are operands_are read =
+    let read_at : AreRead old new s.accesses paths operands [] = rw accesses_are at read.0 in
+    rw (sym operands_are) at (built_is_computable old new built.0 s paths operands built.1 (omega (arith, tensors, long)) read_at (omega (arith, read.1, long)))
 
-pub files_text_is : (holds : List ℕ → Told) (s : Statement) (accesses : List Access) (paths : List (List ℕ)) (count : ℕ) (operands operands' : List Entries) (text : List ℕ)
-    → length paths ≡ count → accesses ≡ s.accesses → operands' ≡ operands → AreRead holds accesses 1 operands paths × (length operands ≡ count)
-    → AllFit s operands' (operand_ranges s operands') × IsValuesText s operands' text → IsFilesText holds s paths text
-files_text_is holds s accesses paths count operands operands' text long accesses_are operands_are read found =
+pub files_text_is : (old new : FolderState) (s : Statement) (accesses : List Access) (paths : List (List ℕ)) (count : ℕ) (operands operands' : List Entries) (text : List ℕ)
+    → length paths ≡ count → accesses ≡ s.accesses → operands' ≡ operands → AreRead old new accesses paths operands [] × (length operands ≡ count)
+    → AllFit s operands' (operand_ranges s operands') × IsValuesText s operands' text → IsFilesText old new s paths text
+files_text_is old new s accesses paths count operands operands' text long accesses_are operands_are read found =
     let found_at : AllFit s operands (operand_ranges s operands) × IsValuesText s operands text = rw operands_are at found in
     record { operands = operands; read = rw accesses_are at read.0; all = read.1 ∙ sym long; fits = found_at.0; values = found_at.1 }
 
-pub files_large : (holds : List ℕ → Told) (s : Statement) (accesses : List Access) (paths : List (List ℕ)) (count : ℕ) (operands operands' : List Entries)
-    → length paths ≡ count → accesses ≡ s.accesses → operands' ≡ operands → AreRead holds accesses 1 operands paths × (length operands ≡ count)
-    → (AllFit s operands' (operand_ranges s operands') → ⊥) → AreTooLarge holds s paths
-files_large holds s accesses paths count operands operands' long accesses_are operands_are read unfit =
+pub files_large : (old new : FolderState) (s : Statement) (accesses : List Access) (paths : List (List ℕ)) (count : ℕ) (operands operands' : List Entries)
+    → length paths ≡ count → accesses ≡ s.accesses → operands' ≡ operands → AreRead old new accesses paths operands [] × (length operands ≡ count)
+    → (AllFit s operands' (operand_ranges s operands') → ⊥) → AreTooLarge old new s paths
+files_large old new s accesses paths count operands operands' long accesses_are operands_are read unfit =
     let unfit_at : AllFit s operands (operand_ranges s operands) → ⊥ = rw operands_are at unfit in
     record { operands = operands; read = rw accesses_are at read.0; all = read.1 ∙ sym long; unfit = unfit_at }
 
@@ -203,10 +160,10 @@ files_large holds s accesses paths count operands operands' long accesses_are op
 pub line_count : (words : List (String Global)) (s : Statement) (paths : List (List ℕ)) (count : ℕ) → IsBuiltLine words s paths → length paths ≡ count → length s.tensors ≡ count + 1
 line_count words s paths count line long = omega (arith, words_count s.tensors (drop 3 words) paths line.words_bind, long)
 
-pub result_is : {A E : Type 0} (items : A → List ℕ) (holds : List ℕ → Told) (words : List (String Global)) (s : Statement) (paths : List (List ℕ)) (r : Result A E) → IsBuiltLine words s paths
-    → IfOk r (λ text. IsFilesText holds s paths (items text)) → IfOk r (λ text. IsResultText holds words (items text))
-result_is items holds words s paths (Ok text) line is = record { s = s; paths = paths; line = line; text_is = is }
-result_is items holds words s paths (Err fault) line is = tt
+pub result_is : {A E : Type 0} (items : A → List ℕ) (old new : FolderState) (words : List (String Global)) (s : Statement) (paths : List (List ℕ)) (r : Result A E) → IsBuiltLine words s paths
+    → IfOk r (λ text. IsFilesText old new s paths (items text)) → IfOk r (λ text. IsResultText old new words (items text))
+result_is items old new words s paths (Ok text) line is = record { s = s; paths = paths; line = line; text_is = is }
+result_is items old new words s paths (Err fault) line is = tt
 
 -- a fault while reading leaves the output for results as it was
 stays : (out : SinkState) → Stays out out
@@ -217,4 +174,4 @@ cause_of_read words files files' out fault.Usage c = absurd c
 cause_of_read words files files' out fault.NotBuilt c = (stays out, c)
 cause_of_read words files files' out (fault.ReadFault path) c = (stays out, c)
 cause_of_read words files files' out fault.WriteFault c = absurd c
-cause_of_read words files files' out fault.Memory c = inl (stays out)
+cause_of_read words files files' out fault.Memory c = inl (stays out, c)

@@ -1,7 +1,6 @@
 ghost use Rattle.std.specs.Prelude.{◌≤◌, IfOk};
 ghost use Rattle.taco_top.specs.Answer.{answer_of};
-ghost use Rattle.taco_top.specs.Built.{IsOperand};
-ghost use Rattle.taco_top.specs.Reads.{OnlyReads, FileCause};
+ghost use Rattle.taco_top.specs.Reads.{OnlyReads, ReadsOperand, FileCause};
 ghost use Rattle.limits.specs.Limits.{greatest_order};
 
 use crate::fault::Fault;
@@ -20,7 +19,7 @@ pub fn read_file<'a, F: Folder>(
 ) -> Result<Entries, Fault<'a>>
     requires { order ≤ greatest_order }
     ensures only_reads { OnlyReads (F.state files.old) (F.state files.new) }
-    ensures operand { IfOk result (IsOperand order ((F.state files.old).holds path.now)) }
+    ensures operand { IfOk result (ReadsOperand order path.now (F.state files.old) (F.state files.new)) }
     ensures cause { FileCause order path.now (F.state files.old) (F.state files.new) (answer_of result) }
 {
     let mut text = Vec::new(alloc);

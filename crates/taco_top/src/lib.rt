@@ -11,4 +11,3 @@ mod top;
 
 pub use laws::whole_input_is_computed;
 pub use top::taco;
-

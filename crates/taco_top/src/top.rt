@@ -1,4 +1,5 @@
-ghost use Rattle.std.specs.Prelude.{◌≡◌, ◌≤◌, ◌<◌, ◌+◌, ◌↔◌, ℕ, List, length, map, false, All, IsTrue, IfOk, IfErr, MatchOption, OnOk, codes, string_bytes};
+ghost use Rattle.std.specs.Prelude.{◌≡◌, ◌≤◌, ◌<◌, ◌+◌, ◌↔◌, ℕ, List, [], length, map, false, All, IsTrue, IfOk, IfErr};
+ghost use Rattle.std.specs.Prelude.{MatchOption, OnOk, codes, string_bytes};
 ghost use Rattle.outside.specs.Sink.{Appends};
 ghost use Rattle.taco_top.specs.Answer.{Usage, IsRun, answer_of, answer_of_fault, status_of_answer};
 ghost use Rattle.taco_top.specs.Built.{AreRead, IsBuiltLine, IsFilesText, IsResultText, IsTextOf, IsValuesText};
@@ -46,8 +47,10 @@ fn read_operands<'a, F: Folder>(
 ) -> Result<Vec<Entries>, Fault<'a>>
     requires { All (λ access. length access.vars ≤ greatest_order) accesses.now }
     ensures only_reads { OnlyReads (F.state files.old) (F.state files.new) }
-    ensures operands { IfOk result (λ operands. AreRead (F.state files.old).holds accesses.now 1 operands.items (map (λ path. path.now) paths.now) × (length operands.items ≡ length paths.now)) }
-    ensures cause { OperandsCause accesses.now (map (λ path. path.now) paths.now) (F.state files.old) (F.state files.new) (answer_of result) }
+    ensures operands { IfOk result (λ operands. AreRead (F.state files.old) (F.state files.new) accesses.now
+        (map (λ path. path.now) paths.now) operands.items [] × (length operands.items ≡ length paths.now)) }
+    ensures cause { OperandsCause accesses.now (map (λ path. path.now) paths.now)
+        (F.state files.old) (F.state files.new) (answer_of result) }
 {
     let mut operands = Vec::new(alloc);
     for (n, path) in paths.iter().enumerate() {
@@ -69,7 +72,8 @@ fn values_text(
 ) -> Result<Option<Vec<u8>>, AllocError>
     requires { IsComputable statement.now operands.now }
     ensures { IfOk result (λ text. MatchOption text (AllFit statement.now operands.now (operand_ranges statement.now operands.now) → ⊥)
-        (λ text. AllFit statement.now operands.now (operand_ranges statement.now operands.now) × IsValuesText statement.now operands.now text.items)) }
+        (λ text. AllFit statement.now operands.now (operand_ranges statement.now operands.now)
+        × IsValuesText statement.now operands.now text.items)) }
 {
     match compute(alloc, statement, operands)? {
         Some(dense) => Ok(Some(text_of(alloc, dense.values.as_slice(), dense.sizes.as_slice())?)),
@@ -87,7 +91,8 @@ fn files_text<'a, F: Folder>(
     requires built { (text : List ℕ) × IsBuiltText text statement.now }
     requires count { length statement.now.tensors ≡ length paths.now + 1 }
     ensures only_reads { OnlyReads (F.state files.old) (F.state files.new) }
-    ensures text { IfOk result (λ text. IsFilesText (F.state files.old).holds statement.now (map (λ path. path.now) paths.now) text.items) }
+    ensures text { IfOk result (λ text. IsFilesText (F.state files.old) (F.state files.new) statement.now
+        (map (λ path. path.now) paths.now) text.items) }
     ensures cause { FilesCause statement.now (map (λ path. path.now) paths.now) (F.state files.old) (F.state files.new) (answer_of result) }
 {
     match read_operands(alloc, files, statement.accesses.as_slice(), paths) {
@@ -132,7 +137,7 @@ fn result_of<'a, F: Folder>(
 ) -> Result<Vec<u8>, Fault<'a>>
     requires { IsRun words.now }
     ensures only_reads { OnlyReads (F.state files.old) (F.state files.new) }
-    ensures text { IfOk result (λ text. IsResultText (F.state files.old).holds words.now text.items) }
+    ensures text { IfOk result (λ text. IsResultText (F.state files.old) (F.state files.new) words.now text.items) }
     ensures cause { ReadCause words.now (F.state files.old) (F.state files.new) (answer_of result) }
 {
     match read_line(alloc, words) {

@@ -1,6 +1,7 @@
 -- The numbers that tokens stand for, in decimal notation. What a printed number looks like is told by std's
 -- `decimal` and `signed_decimal`.
-use Rattle.std.specs.Prelude.{ℕ, ℤ, pos, negsuc, neg_ℤ, ◌+◌, ◌^◌, Bool, ◌==◌, ◌||◌, ◌&&◌, not, nat_lt, nat_le, List, length, Option, Some, None, Result, Ok, Err, if◌then◌else◌}
+use Rattle.std.specs.Prelude.{ℕ, ℤ, pos, negsuc, neg_ℤ, ◌+◌, ◌^◌, Bool, ◌==◌, ◌||◌, ◌&&◌, not, nat_lt, nat_le, List, length}
+use Rattle.std.specs.Prelude.{Option, Some, None, Result, Ok, Err, if◌then◌else◌}
 use Rattle.std.specs.List.{list_all, list_any, before_first, after_first}
 use Rattle.std.specs.Option.{option_map}
 use Rattle.std.specs.Str.{all_ascii_digits}

@@ -1,5 +1,6 @@
 //! What follows from the definitions, as calls whose contract is the law. They do nothing.
-ghost use Rattle.std.specs.Prelude.{◌≡◌, ℕ, ℤ, pos, negsuc, map, replicate, codes, Ok, Err, ◌^◌, ◌<◌, ◌≤◌, length, ◌++◌, ◌∷◌, [], List, All, Some, IsTrue};
+ghost use Rattle.std.specs.Prelude.{◌≡◌, ℕ, ℤ, pos, negsuc, map, replicate, codes, Ok, Err, ◌^◌, ◌<◌, ◌≤◌, length, ◌++◌, ◌∷◌, []};
+ghost use Rattle.std.specs.Prelude.{List, All, Some, IsTrue};
 ghost use Rattle.std.specs.Fmt.{decimal, signed_decimal};
 ghost use Rattle.text_lines.specs.LineLaws.{IsLine, joined_lines};
 ghost use Rattle.text_lines.specs.Lines.{lines};
@@ -39,9 +40,13 @@ pub fn printed_numbers_are_tokens()
 
 /// What stands for a whole number of 64 bits, and what doesn't.
 pub fn tokens_are_whole_numbers_or_not()
-    ensures whole { map read_whole_of (codes "1.0" ∷ codes "3." ∷ codes "+7" ∷ codes "-0" ∷ codes "-007" ∷ codes "9223372036854775807" ∷ codes "-9223372036854775808" ∷ [])
+    ensures whole { map read_whole_of (codes "1.0" ∷ codes "3." ∷ codes "+7" ∷ codes "-0" ∷ codes "-007"
+        ∷ codes "9223372036854775807" ∷ codes "-9223372036854775808" ∷ [])
         ≡ map Ok (pos 1 ∷ pos 3 ∷ pos 7 ∷ pos 0 ∷ negsuc 6 ∷ pos 9223372036854775807 ∷ negsuc 9223372036854775807 ∷ []) }
-    ensures not_whole { map read_whole_of (codes "1.5" ∷ codes "1e3" ∷ codes ".0" ∷ codes "3.e5" ∷ codes "-2.50E+1" ∷ []) ≡ replicate 5 (Err NotWhole) }
-    ensures out_of_range { map read_whole_of (codes "9223372036854775808" ∷ codes "-9223372036854775809" ∷ []) ≡ replicate 2 (Err NumRange) }
-    ensures no_numbers { map read_whole_of (codes "1e" ∷ codes "1e+" ∷ codes "." ∷ codes "+" ∷ codes "--1" ∷ codes "1.5.2" ∷ codes "x" ∷ []) ≡ replicate 7 (Err NotNumber) }
+    ensures not_whole { map read_whole_of (codes "1.5" ∷ codes "1e3" ∷ codes ".0" ∷ codes "3.e5" ∷ codes "-2.50E+1" ∷ [])
+        ≡ replicate 5 (Err NotWhole) }
+    ensures out_of_range { map read_whole_of (codes "9223372036854775808" ∷ codes "-9223372036854775809" ∷ [])
+        ≡ replicate 2 (Err NumRange) }
+    ensures no_numbers { map read_whole_of (codes "1e" ∷ codes "1e+" ∷ codes "." ∷ codes "+" ∷ codes "--1" ∷ codes "1.5.2" ∷ codes "x" ∷ [])
+        ≡ replicate 7 (Err NotNumber) }
 {}

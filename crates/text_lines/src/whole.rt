@@ -2,7 +2,8 @@ ghost use Rattle.std.specs.Prelude.{◌≡◌, ◌≤◌, ◌+◌, ◌==◌, ◌
 ghost use Rattle.std.specs.List.{list_all, position, position_or_len, before_first, after_first};
 ghost use Rattle.std.specs.Str.{all_ascii_digits};
 ghost use Rattle.std.specs.Str.Parse.{starts_with_minus, without_leading_sign};
-ghost use Rattle.text_lines.specs.Numbers.{is_point, is_exponent_mark, is_mantissa, is_number, is_unsigned_decimal, index_within, whole_part_of, with_sign, read_whole_of};
+ghost use Rattle.text_lines.specs.Numbers.{is_point, is_exponent_mark, is_mantissa, is_number, is_unsigned_decimal, index_within};
+ghost use Rattle.text_lines.specs.Numbers.{whole_part_of, with_sign, read_whole_of};
 
 use crate::NumFault;
 use crate::cuts::behind_first;

@@ -1,6 +1,7 @@
 -- What a `.tns` file says, as the FROSTT page describes it: a line an entry, the coordinates from 1 and then the
 -- value. Comments, lines without a token, and what is taken as a number are told here.
-use Rattle.std.specs.Prelude.{ℕ, zero, suc, ◌+◌, ℤ, Bool, ◌==◌, nat_lt, List, [], ◌∷◌, length, Option, Some, None, Result, Ok, Err, if◌then◌else◌, slice_index}
+use Rattle.std.specs.Prelude.{ℕ, zero, suc, ◌+◌, ℤ, Bool, ◌==◌, nat_lt, List, [], ◌∷◌, length, Option, Some, None, Result, Ok}
+use Rattle.std.specs.Prelude.{Err, if◌then◌else◌, slice_index}
 use Rattle.limits.specs.Limits.{greatest_file_coordinate, greatest_line_bytes}
 use Rattle.numbers.specs.Signed.{word_of_signed}
 use Rattle.tensor_map.specs.declared.entries.Entry.{Entry}

@@ -34,4 +34,6 @@ pub record IsPlace (order : ℕ) (value : List ℕ → ℕ) (coords : List ℕ) 
 -- the entries stand for the tensor that has these values below the ranges, and zero elsewhere
 abbrev pub StandsFor : Arithmetic → List ℕ → (List ℕ → ℕ) → Result (List Entry) BadLine → Type 0
 StandsFor a ranges value (Err bad) = ⊥
-StandsFor a ranges value (Ok entries) = ((coords : List ℕ) → IsBelow ranges coords → value_at a entries coords ≡ value coords) × ((coords : List ℕ) → (IsBelow ranges coords → ⊥) → value_at a entries coords ≡ a.zero)
+StandsFor a ranges value (Ok entries) =
+    ((coords : List ℕ) → IsBelow ranges coords → value_at a entries coords ≡ value coords)
+    × ((coords : List ℕ) → (IsBelow ranges coords → ⊥) → value_at a entries coords ≡ a.zero)

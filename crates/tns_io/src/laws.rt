@@ -41,11 +41,14 @@ pub fn written_texts_stand_for_their_tensor()
 #[tactic(auto, unfolding(limits::specs::Limits::greatest_line_bytes, limits::specs::Limits::greatest_file_coordinate))]
 pub fn lines_are_entries_or_bad()
     ensures entries { map (reading 2) (codes "1 2 3.0" ∷ codes " 2147483647 \t0001 -0 " ∷ codes "2 1 -9223372036854775808" ∷ [])
-        ≡ map Read (record { coords = 0 ∷ 1 ∷ []; value = 3 } ∷ record { coords = 2147483646 ∷ 0 ∷ []; value = 0 } ∷ record { coords = 1 ∷ 0 ∷ []; value = 2 ^ 63 } ∷ []) }
+        ≡ map Read (record { coords = 0 ∷ 1 ∷ []; value = 3 } ∷ record { coords = 2147483646 ∷ 0 ∷ []; value = 0 }
+        ∷ record { coords = 1 ∷ 0 ∷ []; value = 2 ^ 63 } ∷ []) }
     ensures skipped { map (reading 2) (codes "" ∷ codes " \t" ∷ codes "# 1 2 3" ∷ codes "  #1" ∷ []) ≡ replicate 4 Skipped }
-    ensures bad { map (reading 2) (codes "1 2 3.5" ∷ codes "0 1 3" ∷ codes "1 2" ∷ codes "1 2 3 #" ∷ codes "2147483648 0 x" ∷ codes "+1 1 3" ∷ codes "1 1 1e" ∷ codes "1 1 9223372036854775808" ∷ [])
+    ensures bad { map (reading 2) (codes "1 2 3.5" ∷ codes "0 1 3" ∷ codes "1 2" ∷ codes "1 2 3 #" ∷ codes "2147483648 0 x"
+        ∷ codes "+1 1 3" ∷ codes "1 1 1e" ∷ codes "1 1 9223372036854775808" ∷ [])
         ≡ map Bad (NotWhole ∷ ZeroCoordinate ∷ Fields ∷ Fields ∷ NumRange ∷ NotNumber ∷ NotNumber ∷ NumRange ∷ []) }
     ensures alone { map (reading 0) (codes "-1" ∷ codes "1 2" ∷ []) ≡ Read (record { coords = []; value = 2 ^ 64 - 1 }) ∷ Bad Fields ∷ [] }
-    ensures text { entries_of_text 1 (codes "1 5\r\n# 2\n3 7") ≡ Ok (record { coords = 0 ∷ []; value = 5 } ∷ record { coords = 2 ∷ []; value = 7 } ∷ []) }
+    ensures text { entries_of_text 1 (codes "1 5\r\n# 2\n3 7")
+        ≡ Ok (record { coords = 0 ∷ []; value = 5 } ∷ record { coords = 2 ∷ []; value = 7 } ∷ []) }
     ensures bad_text { entries_of_text 1 (codes "1 5\n\n1 x\n0 1\n") ≡ Err (record { number = 3; kind = NotNumber }) }
 {}

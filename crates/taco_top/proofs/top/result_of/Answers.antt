@@ -14,7 +14,7 @@ files_text-requires-clause-count g c =
 pub returns-in-Ok-clause-text : goal.returns-in-Ok-clause-text
 returns-in-Ok-clause-text g c =
     let line : IsBuiltLine c.args.words.now c.in-Ok.statement (map (λ path. path.now) c.as_slice.result.now) = rw (sym c.as_slice.ensures.value) at c.in-Ok.ensures.line in
-    result_is (λ text. text.items) (g.F.Folder.state c.args.files.now).holds c.args.words.now c.in-Ok.statement (map (λ path. path.now) c.as_slice.result.now) c.files_text.result line c.files_text.ensures.text
+    result_is (λ text. text.items) (g.F.Folder.state c.args.files.now) (g.F.Folder.state c.files_text.new.files) c.args.words.now c.in-Ok.statement (map (λ path. path.now) c.as_slice.result.now) c.files_text.result line c.files_text.ensures.text
 
 pub returns-in-Ok-clause-cause : goal.returns-in-Ok-clause-cause
 returns-in-Ok-clause-cause g c =
