@@ -8,13 +8,14 @@ use Rattle.level_core.specs.declared.span.Entry.{Entry}
 use Rattle.level_core.specs.declared.stage.Stage.{Stage}
 use Rattle.level_core.specs.declared.stage.Stage.TheVariants.{Unfinished, Finished}
 use Rattle.level_core.specs.Entries.{IsIn, StandsAt, coord_at}
-use Rattle.level_core.specs.Logs.{total, with_parents, with_coord, with_edges, finished, MayReserve, MayAppend, MayAppendEdges, MayFinish, entries_between}
+use Rattle.level_core.specs.Logs.{total, running, with_parents, with_coord, with_edges, finished, MayReserve, MayAppend, MayAppendEdges, MayFinish, entries_between}
+use Rattle.level_core.specs.Meaning.{Finishes}
 use Rattle.level_core.proofs.GroupLaws.{stands_where}
-use Rattle.compressed_level.specs.Compressed.{CompressedLevel, letter_of, counts_in, IsStored, log_in, running, KeepsRules, IsAllowed, segment_of, entries_of}
-use Rattle.compressed_level.specs.RuleLaws.{logged}
-use Rattle.compressed_level.proofs.RuleLaws.{keeps_parents, keeps_coord, keeps_edges, keeps_finished, log_of_parents, stored_parents, log_of_edges, stored_edges, log_of_finished, stored_finished, never_branchless}
-use Rattle.compressed_level.specs.LevelLaws.{within_coords}
-use Rattle.compressed_level.proofs.LevelLaws.{end_is, coord_is, group_in}
+use Rattle.compressed_level.specs.Compressed.{CompressedLevel, letter_of, counts_in, IsStored, log_in, KeepsRules, IsAllowed, segment_of, entries_of, meaning}
+use Rattle.compressed_level.specs.Laws.{logged, finished_level}
+use Rattle.compressed_level.specs.Laws.{keeps_parents, keeps_coord, keeps_edges, keeps_finished, log_of_parents, stored_parents, log_of_edges, stored_edges, log_of_finished, stored_finished, never_branchless}
+use Rattle.compressed_level.specs.Laws.{within_coords}
+use Rattle.compressed_level.specs.Laws.{end_is, coord_is, group_in}
 use Rattle.compressed_level.specs.CallLaws.{stored, Giving, Finishing, Reading}
 use Rattle.std.proofs.lemmas.Option.{same_Some}
 
@@ -110,6 +111,16 @@ finish_keeps size unique ends coords next spare parents sums f items =
 
 pub finish_logged : (size : ℕ) (unique : Bool) (ends coords : List ℕ) (next spare parents : ℕ) (sums : List ℕ) → Finishing size unique ends coords next spare parents → sums ≡ running 0 ends → log_in Finished sums coords next ≡ finished (log_in Unfinished ends coords next)
 finish_logged size unique ends coords next spare parents sums f items = ap (λ xs. log_in Finished xs coords next) items ∙ log_of_finished ends coords next f.stored_ends
+
+pub finish_is : (size : ℕ) (unique : Bool) (stage : Stage) (ends coords : List ℕ) (next spare parents : ℕ) (sums : List ℕ) (now : CompressedLevel) → stored size unique stage ends coords next spare ≡ now → KeepsRules (stored size unique stage ends coords next spare) → IsStored stage ends
+    → MayFinish parents now.log → sums ≡ running 0 ends → Finishes meaning parents now (stored size unique Finished sums coords next spare)
+finish_is size unique stage ends coords next spare parents sums now is k s m items =
+    let v = stored size unique stage ends coords next spare in
+    let f = finishing size unique stage ends coords next spare parents now is k s m in
+    let may : MayFinish parents v.log = subst (λ n. MayFinish parents n.log) (sym is) m in
+    let log : log_in Finished sums coords next ≡ finished v.log = finish_logged size unique ends coords next spare parents sums f.1 items ∙ ap (λ t. finished (log_in t ends coords next)) (sym f.0) in
+    subst (λ n. Finishes meaning parents n (stored size unique Finished sums coords next spare)) is
+    (subst (λ g. Finishes meaning parents v (logged v g)) (sym log) (finished_level v parents k may))
 
 get_inside : (xs : List ℕ) (i x : ℕ) → slice_get xs i ≡ Some x → i < length xs
 get_inside [] i x h = absurd (none_is x h)

@@ -20,24 +20,31 @@ use Rattle.kernel_code.proofs.Keeps.{mentions_at, leaves_none, leaves_array, oth
 use Rattle.level_core.specs.declared.span.Span.{Span}
 use Rattle.level_core.specs.declared.span.Entry.{Entry}
 use Rattle.level_core.specs.declared.stage.Stage.TheVariants.{Unfinished, Finished}
-use Rattle.level_core.specs.Logs.{Log, total, with_coord, with_edges, CodeMayReserve, MayAppend, MayAppendEdges}
-use Rattle.level_core.specs.Fragments.{AreBelow, ValuesAre, IsOutside, Reads, Writes, SpanLeft, PassesLimit, child_turns, turns_of}
+use Rattle.level_core.specs.Logs.{Log, total, with_parents, with_coord, with_edges, CodeMayReserve, MayAppend, MayAppendEdges}
+use Rattle.level_core.specs.Fragments.{AreBelow, ValuesAre, IsOutside, Refusal, Reads, Writes, Grows, RefusedWithin, SpanLeft, PassesLimit, child_turns, turns_of}
 use Rattle.level_core.specs.FragmentLaws.{two_code}
-use Rattle.level_core.proofs.FragmentLaws.{outside_apart, argument_is, word_is, sum_is, difference_is, less_yes, less_no, span_set}
+use Rattle.level_core.proofs.FragmentLaws.{outside_apart, argument_is, span_set}
+use Rattle.kernel_code.proofs.Words.{word_is, sum_is, difference_is, less_yes, less_no}
 use Rattle.coordinate_lists.specs.Codes.{Appended}
 use Rattle.kernel_code.specs.declared.syntax.LoopKind.TheVariants.{Skip}
-use Rattle.compressed_level.specs.Compressed.{CompressedLevel, letter_of, ends_of, KeepsRules, IsAllowed, segment_of, Holds}
+use Rattle.level_core.specs.Codes.{HoldsLog}
+use Rattle.compressed_level.specs.Compressed.{CompressedLevel, letter_of, ends_of, KeepsRules, IsAllowed, segment_of, Holds, meaning}
 use Rattle.compressed_level.specs.Code.{reserve_code, edges_code}
-use Rattle.compressed_level.proofs.LevelLaws.{end_is}
-use Rattle.compressed_level.specs.RuleLaws.{logged}
-use Rattle.compressed_level.proofs.RuleLaws.{keeps_parents, keeps_coord, keeps_edges, ends_are, unfinished_ends, ungiven_is, edges_are, never_branchless, set_behind}
-use Rattle.compressed_level.specs.CodeLaws.{reserved, Reserves, Gives, SegmentLaw, ReserveLaw, EdgesLaw, AppendLaw}
+use Rattle.compressed_level.specs.Laws.{end_is, logged, keeps_parents, keeps_coord, keeps_edges, ends_are, unfinished_ends, ungiven_is, edges_are, never_branchless, set_behind}
+
+-- the level with room for more parents
+abbrev reserved : CompressedLevel → ℕ → CompressedLevel
+reserved l parents = logged l (with_parents (letter_of l.unique) parents l.log)
+
+-- what reserving leaves, where the parents are within the limit
+abbrev pub Reserves : CompressedLevel → ℕ → ℕ → ℕ → State → Type 0
+Reserves l parents tensor level t = HoldsLog meaning l (with_parents (letter_of l.unique) parents l.log) tensor level t × (parents ≤ greatest_position_count)
 
 -- where a parent's positions begin and end is left
-pub segment_law : (c : Setting) (l : CompressedLevel) (tensor level free : ℕ) (parent : Span) (args : List KExpr) (a b : KExpr) (s : State) → slice_get args 0 ≡ Some a → slice_get args 1 ≡ Some b → AreBelow free args
+pub segment_does : (c : Setting) (l : CompressedLevel) (tensor level free : ℕ) (parent : Span) (args : List KExpr) (a b : KExpr) (s : State) → slice_get args 0 ≡ Some a → slice_get args 1 ≡ Some b → AreBelow free args
     → IsAllowed l parent → Holds l tensor level s.arrays → ValuesAre args s (parent.lo ∷ parent.hi ∷ [])
     → Reads c (two_code free (At (Ends tensor level) a) (At (Ends tensor level) b)) free no_turns s (SpanLeft free (segment_of l parent))
-segment_law c l tensor level free parent args a b s first second below ok held values =
+segment_does c l tensor level free parent args a b s first second below ok held values =
     let x = argument_is args a free 0 parent.lo (parent.lo ∷ parent.hi ∷ []) s first refl below values in
     let y = argument_is args b free 1 parent.hi (parent.lo ∷ parent.hi ∷ []) s second refl below values in
     let single = ok.single in
@@ -68,13 +75,15 @@ ends_length l f = ap length (ends_are l.log.stage l.log.counts f) ∙ omega arit
 reserves : (l : CompressedLevel) (level parents more : ℕ) (s : State) (xs : List ℕ) → xs ≡ ends_of l.log.stage l.log.counts ++ replicate more 0 → more ≡ parents - length l.log.counts → parents ≤ greatest_position_count → l.log.stage ≢ Finished → KeepsRules l
     → s.arrays (Ends 0 level) ≡ Some xs → s.arrays (Coordinates 0 level) ≡ Some l.log.coords → Reserves l parents 0 level s
 reserves l level parents more s xs are count within reservable k ends coords = (
-  reserved l parents,
-  keeps_parents l parents k (record { within = within; reservable = reservable }),
-  refl,
-  refl,
-  refl,
+  record {
+    left = reserved l parents;
+    keeps = keeps_parents l parents k (record { within = within; reservable = reservable });
+    kind = refl;
+    size = refl;
+    log = refl;
+    held = record { ends = ends ∙ ap Some (are ∙ reserved_counts l parents more count reservable); coords = coords };
+  },
   within,
-  record { ends = ends ∙ ap Some (are ∙ reserved_counts l parents more count reservable); coords = coords },
 )
 
 ends_within : (level n : ℕ) → may_have (Ends 0 level) n ≡ true → n ≤ greatest_position_count + 1
@@ -85,24 +94,25 @@ ends_beyond level n h = grind (arith, nat_tests, h)
 
 -- zeros behind the segment ends, or the refusal of more parents than the limit
 more_ends : (c : Setting) (l : CompressedLevel) (level free parents : ℕ) (e : KExpr) (s : State) → KeepsRules l → l.log.stage ≢ Finished → Holds l 0 level s.arrays → length l.log.counts ≤ parents → value e s ≡ Some (parents - length l.log.counts)
-    → Writes c (Extend (Ends 0 level) e (Num 0) ∷ []) free 0 level no_turns s (Reserves l parents 0 level) (PassesLimit 0 level parents)
+    → Grows c (Extend (Ends 0 level) e (Num 0) ∷ []) free 0 level no_turns s (Reserves l parents 0 level) (PassesLimit 0 level parents)
 more_ends c l level free parents e s k reservable held fewer more_is =
     let more : ℕ = parents - length l.log.counts in
     let xs : List ℕ = ends_of l.log.stage l.log.counts in
+    let R = RefusedWithin no_turns s (PassesLimit 0 level parents) in
     let long = ends_length l reservable in
     let size : length xs + more ≡ parents + 1 = omega (arith, long, fewer) in
-    does_extend c (Ends 0 level) e (Num 0) [] s more 0 xs _ (PassesLimit 0 level parents) more_is refl refl held.ends
-    (λ may. let some = ends_within level (length xs + more) may in does_nothing c (set_array s (Ends 0 level) (xs ++ replicate more 0)) _ (PassesLimit 0 level parents) (
+    does_extend c (Ends 0 level) e (Num 0) [] s more 0 xs _ R more_is refl refl held.ends
+    (λ may. let some = ends_within level (length xs + more) may in does_nothing c (set_array s (Ends 0 level) (xs ++ replicate more 0)) _ R (
       leaves_array _ (IsOutside 0 level) free no_turns s s (Ends 0 level) (xs ++ replicate more 0) (outside_ends level) (leaves_none _ (IsOutside 0 level) free no_turns s),
       reserves l level parents more (set_array s (Ends 0 level) (xs ++ replicate more 0)) (xs ++ replicate more 0) refl refl (omega (arith, some, size)) reservable k (this_array s (Ends 0 level) (Ends 0 level) (xs ++ replicate more 0) (same_arr_self (Ends 0 level))) (other_array s (Ends 0 level) (Coordinates 0 level) (xs ++ replicate more 0) refl ∙ held.coords),
     ))
     (λ no. let many = ends_beyond level (length xs + more) no in
-    record { array = (refl, refl); told = ap word_count (ap (λ n. n - 1) size ∙ omega arith); above = omega (arith, many, size) })
+    (λ k. omega arith, record { array = (refl, refl); told = ap word_count (ap (λ n. n - 1) size ∙ omega arith); above = omega (arith, many, size) }))
 
-pub reserve_law : (c : Setting) (l : CompressedLevel) (level free n parents : ℕ) (args : List KExpr) (p : KExpr) (s : State) → slice_get args 1 ≡ Some p → AreBelow free args
+pub reserve_does : (c : Setting) (l : CompressedLevel) (level free n parents : ℕ) (args : List KExpr) (p : KExpr) (s : State) → slice_get args 1 ≡ Some p → AreBelow free args
     → KeepsRules l → CodeMayReserve (letter_of l.unique) parents l.log → Holds l 0 level s.arrays → ValuesAre args s (n ∷ parents ∷ [])
-    → Writes c (reserve_code level p) free 0 level no_turns s (Reserves l parents 0 level) (PassesLimit 0 level parents)
-reserve_law c l level free n parents args p s second below k m held values = by_test (nat_lt parents (length l.log.counts + 1)) refl
+    → Grows c (reserve_code level p) free 0 level no_turns s (Reserves l parents 0 level) (PassesLimit 0 level parents)
+reserve_does c l level free n parents args p s second below k m held values = by_test (nat_lt parents (length l.log.counts + 1)) refl
   where
     word : parents < 2 ^ 64
     word = m.word
@@ -119,20 +129,20 @@ reserve_law c l level free n parents args p s second below k m held values = by_
     there : value (Bin Sub (Len (Ends 0 level)) (Num 1)) s ≡ Some (length l.log.counts)
     there = difference_is (Len (Ends 0 level)) (Num 1) (length l.log.counts + 1) 1 s long refl (omega (arith, few, positions_are_small)) (omega arith) ∙ ap Some (omega arith)
 
-    by_test : (b : Bool) → nat_lt parents (length l.log.counts + 1) ≡ b → Writes c (reserve_code level p) free 0 level no_turns s (Reserves l parents 0 level) (PassesLimit 0 level parents)
+    by_test : (b : Bool) → nat_lt parents (length l.log.counts + 1) ≡ b → Grows c (reserve_code level p) free 0 level no_turns s (Reserves l parents 0 level) (PassesLimit 0 level parents)
     by_test true is =
         let enough : parents ≤ length l.log.counts = grind (arith, nat_tests, is) in
         let same : ends_of l.log.stage l.log.counts ≡ ends_of l.log.stage l.log.counts ++ replicate 0 0 = sym (append-nil (ends_of l.log.stage l.log.counts)) in
-        does_if_yes c (Bin Less p (Len (Ends 0 level))) [] _ [] s 0 _ _ (PassesLimit 0 level parents)
+        does_if_yes c (Bin Less p (Len (Ends 0 level))) [] _ [] s 0 _ _ (RefusedWithin no_turns s (PassesLimit 0 level parents))
         (less_yes p (Len (Ends 0 level)) parents (length l.log.counts + 1) s at long (omega (arith, enough)))
-        (does_nothing c s _ (PassesLimit 0 level parents) (leaves_none _ (IsOutside 0 level) free no_turns s, reserves l level parents 0 s (ends_of l.log.stage l.log.counts) same (omega (arith, enough)) (omega (arith, enough, few)) m.reservable k held.ends held.coords))
-        (λ t h. does_nothing c t _ (PassesLimit 0 level parents) h)
+        (does_nothing c s _ (RefusedWithin no_turns s (PassesLimit 0 level parents)) (leaves_none _ (IsOutside 0 level) free no_turns s, reserves l level parents 0 s (ends_of l.log.stage l.log.counts) same (omega (arith, enough)) (omega (arith, enough, few)) m.reservable k held.ends held.coords))
+        (λ t h. does_nothing c t _ (RefusedWithin no_turns s (PassesLimit 0 level parents)) h)
     by_test false is =
         let fewer : length l.log.counts < parents = grind (arith, nat_tests, is) in
-        does_if_no c (Bin Less p (Len (Ends 0 level))) [] _ [] s _ _ (PassesLimit 0 level parents)
+        does_if_no c (Bin Less p (Len (Ends 0 level))) [] _ [] s _ _ (RefusedWithin no_turns s (PassesLimit 0 level parents))
         (less_no p (Len (Ends 0 level)) parents (length l.log.counts + 1) s at long (omega (arith, fewer)))
         (more_ends c l level free parents (Bin Sub p (Bin Sub (Len (Ends 0 level)) (Num 1))) s k m.reservable held (omega (arith, fewer)) (difference_is p (Bin Sub (Len (Ends 0 level)) (Num 1)) parents (length l.log.counts) s at there word (omega (arith, fewer))))
-        (λ t h. does_nothing c t _ (PassesLimit 0 level parents) h)
+        (λ t h. does_nothing c t _ (RefusedWithin no_turns s (PassesLimit 0 level parents)) h)
 
 abbrev given : CompressedLevel → ℕ → ℕ → ℕ → CompressedLevel
 given l parent begin end = logged l (with_edges (letter_of l.unique) parent begin end l.log)
@@ -147,10 +157,10 @@ given_coords : (unique : Bool) (parent begin end : ℕ) (log : Log) → (with_ed
 given_coords true parent begin end log = refl
 given_coords false parent begin end log = refl
 
-pub edges_law : (c : Setting) (l : CompressedLevel) (level free parent begin end : ℕ) (args : List KExpr) (p b e : KExpr) (s : State) → slice_get args 0 ≡ Some p → slice_get args 1 ≡ Some b → slice_get args 2 ≡ Some e → AreBelow free args
+pub edges_does : (c : Setting) (l : CompressedLevel) (level free parent begin end : ℕ) (args : List KExpr) (p b e : KExpr) (s : State) → slice_get args 0 ≡ Some p → slice_get args 1 ≡ Some b → slice_get args 2 ≡ Some e → AreBelow free args
     → KeepsRules l → MayAppendEdges (letter_of l.unique) parent begin end l.log → Holds l 0 level s.arrays → ValuesAre args s (parent ∷ begin ∷ end ∷ [])
-    → Writes c (edges_code level p b e) free 0 level no_turns s (Gives l parent begin end level) Never
-edges_law c l level free parent begin end args p b e s first second third below k m held values =
+    → Writes c (edges_code level p b e) free 0 level no_turns s (HoldsLog meaning l (with_edges (letter_of l.unique) parent begin end l.log) 0 level)
+edges_does c l level free parent begin end args p b e s first second third below k m held values =
     let x = argument_is args p free 0 parent (parent ∷ begin ∷ end ∷ []) s first refl below values in
     let y = argument_is args b free 1 begin (parent ∷ begin ∷ end ∷ []) s second refl below values in
     let z = argument_is args e free 2 end (parent ∷ begin ∷ end ∷ []) s third refl below values in
@@ -170,21 +180,8 @@ edges_law c l level free parent begin end args p b e s first second third below 
     refl held.ends (omega (arith, size, reserved))
     (does_nothing c (set_array s (Ends 0 level) xs) _ Never (
       leaves_array _ (IsOutside 0 level) free no_turns s s (Ends 0 level) xs (outside_ends level) (leaves_none _ (IsOutside 0 level) free no_turns s),
-      (given l parent begin end, keeps_edges l parent begin end k m, refl, refl, refl, holds_ends l (given l parent begin end) level s xs held (given_ends l parent begin end m.unfinished) (given_coords l.unique parent begin end l.log)),
+      record { left = given l parent begin end; keeps = keeps_edges l parent begin end k m; kind = refl; size = refl; log = refl; held = holds_ends l (given l parent begin end) level s xs held (given_ends l parent begin end m.unfinished) (given_coords l.unique parent begin end l.log) },
     ))
-
-pub segment_fragment : (now : CompressedLevel) (args : List KExpr) (tensor level free : ℕ) (code : List KStmt) (a b : KExpr) → slice_get args 0 ≡ Some a → slice_get args 1 ≡ Some b → AreBelow free args → code ≡ two_code free (At (Ends tensor level) a) (At (Ends tensor level) b) → SegmentLaw now args tensor level free code
-segment_fragment now args tensor level free code a b first second below is = subst (SegmentLaw now args tensor level free) (sym is) (λ c l like parent ok s held values. segment_law c l tensor level free parent args a b s first second below ok held values)
-
-pub reserve_fragment : (now : CompressedLevel) (args : List KExpr) (level free tensor : ℕ) (code : List KStmt) (p : KExpr) → tensor ≡ 0 → slice_get args 1 ≡ Some p → AreBelow free args → code ≡ reserve_code level p → ReserveLaw now args level free tensor code
-reserve_fragment now args level free tensor code p zero_is second below is =
-    subst (λ n. ReserveLaw now args level free n code) (sym zero_is)
-    (subst (ReserveLaw now args level free 0) (sym is) (λ c l like k n parents may s held values. reserve_law c l level free n parents args p s second below k may held values))
-
-pub edges_fragment : (now : CompressedLevel) (args : List KExpr) (level free tensor : ℕ) (code : List KStmt) (p b e : KExpr) → tensor ≡ 0 → slice_get args 0 ≡ Some p → slice_get args 1 ≡ Some b → slice_get args 2 ≡ Some e → AreBelow free args → code ≡ edges_code level p b e → EdgesLaw now args level free tensor code
-edges_fragment now args level free tensor code p b e zero_is first second third below is =
-    subst (λ n. EdgesLaw now args level free n code) (sym zero_is)
-    (subst (EdgesLaw now args level free 0) (sym is) (λ c l like k parent begin end may s held values. edges_law c l level free parent begin end args p b e s first second third below k may held values))
 
 -- the letters of two levels tell whether they are unique
 pub letter_tells : (u v : Bool) → letter_of u ≡ letter_of v → u ≡ v
@@ -203,23 +200,24 @@ pub child_turns_are : (u : Bool) (e : Entry) → child_turns (letter_of u) e ≡
 child_turns_are true e = refl
 child_turns_are false e = refl
 
-append_here : (l : CompressedLevel) (level x : ℕ) (s t : State) → KeepsRules l → MayAppend (letter_of l.unique) l.size x l.log → Holds l 0 level s.arrays → Appended level x l.log.coords s t
-    → (m : CompressedLevel) × KeepsRules m × (letter_of m.unique ≡ letter_of l.unique) × (m.size ≡ l.size) × (m.log ≡ with_coord x l.log) × (length m.log.coords ≤ greatest_position_count) × Holds m 0 level t.arrays
-append_here l level x s t k may held a =
-    let within = a.within in
-    let long = length-append l.log.coords (x ∷ []) in (
-      logged l (with_coord x l.log),
-      keeps_coord l x k may a.within,
-      refl,
-      refl,
-      refl,
-      omega (arith, long, within),
-      record { ends = a.others (Ends 0 level) refl ∙ held.ends; coords = a.array },
-    )
-
-pub append_fragment : (now : CompressedLevel) (args : List KExpr) (level free tensor : ℕ) (code : List KStmt) → tensor ≡ 0
-    → ((c : Setting) (free : ℕ) (coords : List ℕ) (x : ℕ) (s : State) → s.arrays (Coordinates 0 level) ≡ Some coords → ValuesAre args s (x ∷ []) → Writes c code free 0 level no_turns s (Appended level x coords s) (PassesLimit 0 level (length coords + 1)))
-    → AppendLaw now args level free tensor code
-append_fragment now args level free tensor code zero_is law =
-    subst (λ n. AppendLaw now args level free n code) (sym zero_is)
-    (λ c l like k x may s held values. does_weaker c code s _ _ _ _ (law c free l.log.coords x s held.coords values) (λ t h. (h.0, append_here l level x s t k may held h.1)) (λ a n r. r))
+pub append_does : (c : Setting) (l : CompressedLevel) (level free x : ℕ) (code : List KStmt) (s : State) → KeepsRules l → MayAppend (letter_of l.unique) l.size x l.log → Holds l 0 level s.arrays
+    → Grows c code free 0 level no_turns s (Appended level x l.log.coords s) (PassesLimit 0 level (length l.log.coords + 1))
+    → Grows c code free 0 level no_turns s (λ t. HoldsLog meaning l (with_coord x l.log) 0 level t × (length l.log.coords + 1 ≤ greatest_position_count)) (PassesLimit 0 level (length l.log.coords + 1))
+append_does c l level free x code s k may held d =
+    let R = RefusedWithin no_turns s (PassesLimit 0 level (length l.log.coords + 1)) in
+    does_weaker c code s _ _ R R d
+    (λ t h. (
+      h.0,
+      (
+        record {
+          left = logged l (with_coord x l.log);
+          keeps = keeps_coord l x k may h.1.within;
+          kind = refl;
+          size = refl;
+          log = refl;
+          held = record { ends = h.1.others (Ends 0 level) refl ∙ held.ends; coords = h.1.array };
+        },
+        h.1.within,
+      ),
+    ))
+    (λ t a n z. z)

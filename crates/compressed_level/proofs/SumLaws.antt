@@ -1,8 +1,7 @@
 -- Lemmas about what specs/SumLaws.antt defines.
 use Rattle.std.specs.Prelude.{◌≡◌, ℕ, zero, suc, ◌+◌, ◌≤◌, List, [], ◌∷◌, length, take, slice_get, slice_set, Some, None, refl}
 use Rattle.std.proofs.Common.{◌∙◌, sym, ap, subst, arith}
-use Rattle.level_core.specs.Logs.{total}
-use Rattle.compressed_level.specs.Compressed.{running}
+use Rattle.level_core.specs.Logs.{total, running}
 use Rattle.compressed_level.specs.SumLaws.{partly, Summing}
 use Rattle.std.proofs.lemmas.Option.{same_Some}
 

@@ -1,5 +1,5 @@
 -- A compressed level: coordinates in the order of positions, and where each parent's positions end.
-use Rattle.std.specs.Prelude.{◌≡◌, ◌≢◌, ℕ, ◌+◌, ◌-◌, ◌≤◌, ◌<◌, Bool, true, false, List, [], ◌∷◌, length, take, drop, Option, Some}
+use Rattle.std.specs.Prelude.{◌≡◌, ◌≢◌, ℕ, ◌+◌, ◌-◌, ◌≤◌, ◌<◌, Bool, List, [], ◌∷◌, length, take, drop, Some, None}
 use Rattle.limits.specs.Limits.{greatest_position_count}
 use Rattle.level_core.specs.declared.span.Span.{Span}
 use Rattle.level_core.specs.declared.span.Entry.{Entry}
@@ -7,9 +7,10 @@ use Rattle.level_core.specs.declared.letter.Letter.{Letter}
 use Rattle.level_core.specs.declared.letter.Letter.TheVariants.{Compressed, CompressedGroups}
 use Rattle.level_core.specs.declared.stage.Stage.{Stage}
 use Rattle.level_core.specs.declared.stage.Stage.TheVariants.{Fresh, Unfinished, Finished}
-use Rattle.level_core.specs.Logs.{Log, total, NoneFrom, Rises, segment_in, entries_between}
+use Rattle.level_core.specs.Logs.{Log, total, running, NoneFrom, Rises, segment_in, entries_between}
 use Rattle.level_core.specs.GroupLaws.{CoordsBelow}
-use Rattle.kernel_code.specs.declared.syntax.Arr.{Arr}
+use Rattle.level_core.specs.Meaning.{Arrays, Meaning}
+use Rattle.coordinate_lists.specs.Letters.{letter_by}
 use Rattle.kernel_code.specs.declared.syntax.Arr.TheVariants.{Ends, Coordinates}
 
 -- the range, whether each coordinate stands once below a parent, what was appended, and the room for more
@@ -20,13 +21,7 @@ pub record CompressedLevel : Type 0 where
   pub spare : ℕ
 
 abbrev pub letter_of : Bool → Letter
-letter_of true = Compressed
-letter_of false = CompressedGroups
-
--- the sums of the numbers up to each and of what is before them
-abbrev pub running : ℕ → List ℕ → List ℕ
-running before [] = []
-running before (n ∷ ns) = (before + n) ∷ running (before + n) ns
+letter_of = letter_by Compressed CompressedGroups
 
 abbrev pub steps_from : ℕ → List ℕ → List ℕ
 steps_from x [] = []
@@ -76,6 +71,12 @@ pub record KeepsRules (l : CompressedLevel) : Type 0 where
   pub ahead : NoneFrom l.log.next l.log.counts
   pub all_given : l.log.stage ≢ Unfinished → total l.log.counts ≡ length l.log.coords
 
+-- a finished level of so many parents
+pub record HasParents (l : CompressedLevel) (parents : ℕ) : Type 0 where
+  pub keeps : KeepsRules l
+  pub finished : l.log.stage ≡ Finished
+  pub count : length l.log.counts ≡ parents
+
 -- a parent is one position; a level that is unfinished has none
 pub record IsAllowed (l : CompressedLevel) (parent : Span) : Type 0 where
   pub keeps : KeepsRules l
@@ -90,6 +91,22 @@ abbrev pub entries_of : CompressedLevel → Span → List Entry
 entries_of l parent = entries_between l.log.coords (segment_of l parent)
 
 -- the arrays of a level
-pub record Holds (l : CompressedLevel) (tensor level : ℕ) (arrays : Arr → Option (List ℕ)) : Type 0 where
+pub record Holds (l : CompressedLevel) (tensor level : ℕ) (arrays : Arrays) : Type 0 where
   pub ends : arrays (Ends tensor level) ≡ Some (ends_of l.log.stage l.log.counts)
   pub coords : arrays (Coordinates tensor level) ≡ Some l.log.coords
+
+abbrev pub meaning : Meaning CompressedLevel
+meaning = record {
+  kind = λ l. letter_of l.unique;
+  keeps = KeepsRules;
+  size = λ l. l.size;
+  width = λ l. None;
+  holds = Holds;
+  has_parents = HasParents;
+  allowed = IsAllowed;
+  segment_of = segment_of;
+  entries = entries_of;
+  log = λ l. l.log;
+  prepared = λ l parents most m. ⊥;
+  inserted = λ l parent x slot m. ⊥;
+}

@@ -1,8 +1,6 @@
 pub mod CallLaws
 pub mod Code
-pub mod CodeLaws
 pub mod Compressed
-pub mod LevelLaws
+pub mod Laws
 pub mod PartLaws
-pub mod RuleLaws
 pub mod SumLaws

@@ -1,7 +1,6 @@
 -- Sums put in the place of numbers, one after another.
 use Rattle.std.specs.Prelude.{◌≡◌, ℕ, ◌+◌, List, ◌++◌, take, drop}
-use Rattle.level_core.specs.Logs.{total}
-use Rattle.compressed_level.specs.Compressed.{running}
+use Rattle.level_core.specs.Logs.{total, running}
 
 -- the first i numbers are sums already
 abbrev pub partly : ℕ → List ℕ → ℕ → List ℕ

@@ -21,7 +21,7 @@ fn parents_with_ends(alloc: Global, level: u64) -> Result<KExpr, AllocError>
 }
 
 /// Code that makes the array of segment ends long enough for so many parents.
-pub(crate) fn reserving(
+pub(crate) fn reserve_code(
     alloc: Global,
     level: u64,
     args: &[KExpr],
@@ -41,7 +41,7 @@ pub(crate) fn reserving(
 }
 
 /// Code that stores the number of a parent's positions.
-pub(crate) fn giving(alloc: Global, level: u64, args: &[KExpr]) -> Result<Items<KStmt>, AllocError>
+pub(crate) fn edges_code(alloc: Global, level: u64, args: &[KExpr]) -> Result<Items<KStmt>, AllocError>
     requires { length args.now ≡ 3 }
     ensures { IfOk result (λ code. (p : KExpr) × (b : KExpr) × (e : KExpr) × (slice_get args.now 0 ≡ Some p) × (slice_get args.now 1 ≡ Some b) × (slice_get args.now 2 ≡ Some e) × (code ≡ edges_code level p b e)) }
 {

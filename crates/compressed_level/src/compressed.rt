@@ -1,5 +1,6 @@
-ghost use Rattle.std.specs.Prelude.{◌≡◌, ◌≤◌, [], IfOk};
+ghost use Rattle.std.specs.Prelude.{◌≡◌, ◌≤◌, ◌-◌, [], IfOk, length};
 ghost use Rattle.limits.specs.Limits.{greatest_position_count};
+ghost use Rattle.level_core.specs.declared.stage.Stage.TheVariants.{Finished};
 
 use coordinate_lists::Indices;
 use level_core::Stage;
@@ -33,7 +34,7 @@ impl Model for CompressedLevel {
 }
 
 impl CompressedLevel {
-    ghost use Rattle.compressed_level.specs.Compressed.{fresh};
+    ghost use Rattle.compressed_level.specs.Compressed.{fresh, KeepsRules, IsStored, log_in};
 
     /// A level without parents, for coordinates below `n`. Refused for want of memory alone.
     pub fn new(alloc: Global, n: u64, unique: bool) -> Result<CompressedLevel, AllocError>
@@ -51,5 +52,22 @@ impl CompressedLevel {
             coords: Indices::new(alloc),
             next: 0,
         })
+    }
+
+    /// A finished level of these segment ends and coordinates. It takes no memory.
+    pub fn from_arrays(n: u64, unique: bool, ends: Indices, coords: Indices) -> CompressedLevel
+        requires rules { KeepsRules (record { size = n; unique = unique; log = log_in Finished ends.items coords.items (length ends.items - 1); spare = coords.spare }) }
+        requires ends { IsStored Finished ends.items }
+        ensures { result ≡ record { size = n; unique = unique; log = log_in Finished ends.items coords.items (length ends.items - 1); spare = coords.spare } }
+    {
+        let next = ends.len().saturating_sub(1);
+        CompressedLevel {
+            size: n,
+            unique,
+            stage: Stage::Finished,
+            ends,
+            coords,
+            next,
+        }
     }
 }

@@ -1,40 +1,18 @@
-use crate::code::{giving, reserving};
+use crate::code::{edges_code, reserve_code};
 use crate::compressed::CompressedLevel;
 use coordinate_lists::{append_code, child_code, coord_code};
-use kernel_code::{Arr, KExpr, KStmt};
-use level_core::{Letter, LevelKind, argument, leave_two, word_at};
+use kernel_code::{Arr, KExpr, KStmt, word_at};
+use level_core::{Letter, LevelKind, argument, leave_two};
 use std::alloc::{AllocError, Global};
 use trees::Items;
 
 impl LevelKind for CompressedLevel {
-    ghost use Rattle.level_core.proofs.ParentLaws.{segments_in_row};
-    ghost use Rattle.compressed_level.specs.Compressed.{letter_of, KeepsRules, Holds, IsAllowed, segment_of, entries_of};
-    ghost use Rattle.compressed_level.specs.LevelLaws.{holds_there, are_entries};
-    ghost use Rattle.compressed_level.specs.RuleLaws.{logs_are};
+    ghost use Rattle.compressed_level.specs.Compressed as compressed;
+    ghost use Rattle.compressed_level.specs.Laws.{laws as compressed_laws};
 
-    ghost kind = { λ l. letter_of l.unique };
+    ghost meaning = { compressed.meaning };
 
-    ghost keeps = { KeepsRules };
-
-    ghost size = { λ l. l.size };
-
-    ghost holds = { Holds };
-
-    ghost allowed = { IsAllowed };
-
-    ghost segment_of = { segment_of };
-
-    ghost entries = { entries_of };
-
-    ghost log = { λ l. l.log };
-
-    ghost positions_for = { λ l parents most. 0 };
-
-    ghost may_prepare = { λ l parents most. ⊥ };
-
-    ghost prepared = { λ l parents most m. ⊥ };
-
-    ghost inserted = { λ l parent x slot m. ⊥ };
+    ghost laws = { compressed_laws };
 
     fn letter(&self) -> Letter {
         if self.unique {
@@ -103,7 +81,7 @@ impl LevelKind for CompressedLevel {
         args: &[KExpr],
         _free: u64,
     ) -> Result<Items<KStmt>, AllocError> {
-        let code = reserving(alloc, level, args)?;
+        let code = reserve_code(alloc, level, args)?;
         Ok(code)
     }
 
@@ -127,7 +105,7 @@ impl LevelKind for CompressedLevel {
         args: &[KExpr],
         _free: u64,
     ) -> Result<Items<KStmt>, AllocError> {
-        let code = giving(alloc, level, args)?;
+        let code = edges_code(alloc, level, args)?;
         Ok(code)
     }
 
@@ -152,16 +130,4 @@ impl LevelKind for CompressedLevel {
     ) -> Result<Items<KStmt>, AllocError> {
         Ok(Items::new(alloc))
     }
-
-    ghost holds_there = { holds_there };
-
-    ghost are_entries = { are_entries };
-
-    ghost in_row = { λ l. segments_in_row l.log.counts (IsAllowed l) };
-
-    ghost logs = { logs_are };
-
-    ghost prepares = { λ l m parents most may within is. absurd may };
-
-    ghost inserts = { λ l m parent x slot allowed may is. absurd is };
 }

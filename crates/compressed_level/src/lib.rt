@@ -8,7 +8,5 @@ mod compressed;
 mod kind;
 mod reading;
 mod sums;
-#[cfg(test)]
-mod tests;
 
 pub use compressed::CompressedLevel;

@@ -1,7 +1,6 @@
 ghost use Rattle.std.specs.Prelude.{◌≡◌, ◌≤◌};
 ghost use Rattle.limits.specs.Limits.{greatest_position_count};
-ghost use Rattle.level_core.specs.Logs.{total};
-ghost use Rattle.compressed_level.specs.Compressed.{running};
+ghost use Rattle.level_core.specs.Logs.{total, running};
 
 use coordinate_lists::Indices;
 

@@ -18,7 +18,8 @@ use Rattle.kernel_code.proofs.Keeps.{this_var, other_var}
 use Rattle.level_core.specs.declared.span.Span.{Span}
 use Rattle.level_core.specs.declared.span.Entry.{Entry}
 use Rattle.level_core.specs.Fragments.{Reads, turns_of, SpanLeft}
-use Rattle.level_core.proofs.FragmentLaws.{below_kept, word_is, binary_is, sum_is, less_yes, less_no}
+use Rattle.level_core.proofs.FragmentLaws.{below_kept}
+use Rattle.kernel_code.proofs.Words.{word_is, binary_is, sum_is, less_yes, less_no}
 use Rattle.coordinate_lists.specs.Spans.{IsGroupIn}
 use Rattle.coordinate_lists.specs.Skips.{skip_test, skip_body, skip_code}
 

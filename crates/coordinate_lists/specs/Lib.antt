@@ -1,3 +1,4 @@
 pub mod Codes
+pub mod Letters
 pub mod Skips
 pub mod Spans

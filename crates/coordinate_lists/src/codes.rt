@@ -10,12 +10,14 @@ ghost use Rattle.level_core.specs.declared.span.Span.{Span};
 ghost use Rattle.level_core.specs.declared.span.Entry.{Entry};
 ghost use Rattle.level_core.specs.Entries.{IsIn, StandsAt, coord_at};
 ghost use Rattle.level_core.specs.Logs.{Rises, slice, entries_between};
-ghost use Rattle.level_core.specs.Fragments.{AreArguments, ValuesAre, Reads, Writes, PassesLimit, SpanLeft, OptionLeft, turns_of};
+ghost use Rattle.level_core.specs.Fragments.{AreArguments, ValuesAre, Reads, Grows, PassesLimit, SpanLeft, OptionLeft, turns_of};
 ghost use Rattle.coordinate_lists.specs.Skips.{skip_test, skip_body, skip_code};
 ghost use Rattle.coordinate_lists.specs.Codes.{Appended};
 
-use kernel_code::{Arr, KExpr, KStmt, LoopKind, Op, binary, one_statement};
-use level_core::{argument, leave_two, word_at};
+use kernel_code::{
+    Arr, KExpr, KStmt, LoopKind, Op, binary, one_statement, position_and_next, word_at,
+};
+use level_core::{argument, leave_two};
 use std::alloc::{AllocError, Global};
 use trees::Items;
 
@@ -63,9 +65,7 @@ fn position_code(alloc: Global, args: &[KExpr], free: u64) -> Result<Items<KStmt
     ensures { IfOk result (λ code. (c : Setting) (coords : List ℕ) (segment : Span) → segment.hi ≤ length coords → length coords ≤ greatest_position_count → Rises true 0 (slice coords segment) → (e : Entry) → StandsAt e.child.lo e (entries_between coords segment) → (s : State) → ValuesAre args.now s (e.child.lo ∷ segment.lo ∷ segment.hi ∷ []) → Reads c code free no_turns s (SpanLeft free e.child)) }
 {
     let position = argument(alloc, args, 0)?;
-    let again = argument(alloc, args, 0)?;
-    let next = binary(alloc, Op::Add, again, KExpr::Num(1))?;
-    let code = leave_two(alloc, free, position, next)?;
+    let code = position_and_next(alloc, free, position)?;
     Ok(code)
 }
 
@@ -141,7 +141,7 @@ fn step(alloc: Global, free: u64) -> Result<Items<KStmt>, AllocError>
 /// Code that appends a coordinate to a level of the result.
 pub fn append_code(alloc: Global, level: u64, args: &[KExpr]) -> Result<Items<KStmt>, AllocError>
     requires { length args.now ≡ 1 }
-    ensures { IfOk result (λ code. (c : Setting) (free : ℕ) (coords : List ℕ) (x : ℕ) (s : State) → s.arrays (Coordinates 0 level) ≡ Some coords → ValuesAre args.now s (x ∷ []) → Writes c code free 0 level no_turns s (Appended level x coords s) (PassesLimit 0 level (length coords + 1))) }
+    ensures { IfOk result (λ code. (c : Setting) (free : ℕ) (coords : List ℕ) (x : ℕ) (s : State) → s.arrays (Coordinates 0 level) ≡ Some coords → ValuesAre args.now s (x ∷ []) → Grows c code free 0 level no_turns s (Appended level x coords s) (PassesLimit 0 level (length coords + 1))) }
 {
     let coord = argument(alloc, args, 0)?;
     let code = one_statement(alloc, KStmt::Push(Arr::Coordinates(0, level), coord))?;

@@ -3,8 +3,6 @@
 
 mod codes;
 mod indices;
-#[cfg(test)]
-mod tests;
 
 pub use codes::{append_code, child_code, coord_code};
 pub use indices::Indices;

@@ -19,5 +19,5 @@ abbrev pub place_word : ℕ → ℕ → KExpr → KExpr → KExpr
 place_word tensor level parent x = Bin Add (times_size tensor level parent) x
 
 -- the position of a coordinate that is below the size, and else none
-abbrev pub located_code : ℕ → ℕ → KExpr → KExpr → ℕ → List KStmt
-located_code tensor level parent x free = If (Bin Less x (size_word tensor level)) (two_code free (Num 1) (place_word tensor level parent x)) (one_code free (Num 0)) ∷ []
+abbrev pub locate_code : ℕ → ℕ → KExpr → KExpr → ℕ → List KStmt
+locate_code tensor level parent x free = If (Bin Less x (size_word tensor level)) (two_code free (Num 1) (place_word tensor level parent x)) (one_code free (Num 0)) ∷ []

@@ -1,4 +1,3 @@
 pub mod Code
-pub mod CodeLaws
 pub mod Dense
-pub mod DenseLaws
+pub mod Laws

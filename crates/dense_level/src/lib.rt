@@ -5,7 +5,8 @@
 
 mod code;
 mod dense;
-#[cfg(test)]
-mod tests;
+mod inserting;
+mod kind;
+mod reading;
 
 pub use dense::DenseLevel;

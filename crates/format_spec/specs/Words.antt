@@ -46,9 +46,13 @@ pub record Reads (letters : List ℕ) (order : Option (List ℕ)) (n : ℕ) (kin
 
 -- the answer to letters and an order for a tensor of order n: the format, or the first fault
 abbrev pub Answers : List ℕ → Option (List ℕ) → ℕ → Result (List FormatLevel) FormatFault → Type 0
-Answers letters order n (Ok levels) = Reads letters order n (letters_of levels) (modes_of levels) × Chained false (letters_of levels) × InsertedBelowHashed (letters_of levels)
+Answers letters order n (Ok levels) = Reads letters order n (letters_of levels) (modes_of levels) ×
+    Chained false (letters_of levels) × InsertedBelowHashed (letters_of levels)
 Answers letters order n (Err BadLetter) = (kinds : List Letter) → AreLetters letters kinds → ⊥
 Answers letters order n (Err BadLength) = (kinds : List Letter) × AreLetters letters kinds × (length kinds ≢ n)
-Answers letters order n (Err BadOrder) = (kinds : List Letter) × AreLetters letters kinds × (length kinds ≡ n) × ((modes : List ℕ) → HasOrder order n modes → ⊥)
-Answers letters order n (Err BadChain) = (kinds : List Letter) × (modes : List ℕ) × Reads letters order n kinds modes × (Chained false kinds → ⊥)
-Answers letters order n (Err BelowHashed) = (kinds : List Letter) × (modes : List ℕ) × Reads letters order n kinds modes × Chained false kinds × (InsertedBelowHashed kinds → ⊥)
+Answers letters order n (Err BadOrder) = (kinds : List Letter) × AreLetters letters kinds × (length kinds ≡ n) ×
+    ((modes : List ℕ) → HasOrder order n modes → ⊥)
+Answers letters order n (Err BadChain) = (kinds : List Letter) × (modes : List ℕ) × Reads letters order n kinds modes ×
+    (Chained false kinds → ⊥)
+Answers letters order n (Err BelowHashed) = (kinds : List Letter) × (modes : List ℕ) × Reads letters order n kinds modes ×
+    Chained false kinds × (InsertedBelowHashed kinds → ⊥)

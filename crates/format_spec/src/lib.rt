@@ -14,6 +14,3 @@ pub use fault::FormatFault;
 pub use format::{Format, FormatLevel};
 pub use laws::{each_mode_is_stored, formats_are_read_back, one_answer_a_word};
 pub use reading::parse_format;
-
-#[cfg(test)]
-mod tests;

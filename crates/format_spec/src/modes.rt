@@ -26,7 +26,9 @@ pub(crate) fn text_of(alloc: Global, modes: &[usize]) -> SmallVec<u8, 11>
 
 /// The digit at a place of a text.
 fn digit_at(text: &[u8], place: usize) -> Option<usize>
-    ensures { MatchOption result ((digit : ℕ) → slice_get text.now place ≢ Some (48 + digit)) (λ digit. slice_get text.now place ≡ Some (48 + digit)) }
+    ensures { MatchOption result
+        ((digit : ℕ) → slice_get text.now place ≢ Some (48 + digit))
+        (λ digit. slice_get text.now place ≡ Some (48 + digit)) }
 {
     match text.get(place) {
         Some(byte) if *byte >= b'0' => Some((*byte - b'0') as usize),
@@ -45,7 +47,9 @@ fn is_new(modes: &[usize], mode: usize, order: usize) -> bool
 #[tactic(auto, unfolding(limits::specs::Limits::greatest_order))]
 fn read_modes(alloc: Global, text: &[u8], order: usize) -> Option<SmallVec<usize, 6>>
     requires { order ≤ greatest_order }
-    ensures { MatchOption result ((modes : List ℕ) → IsOrder order modes → text.now ≢ mode_text modes) (λ modes. IsOrder order modes.items × (text.now ≡ mode_text modes.items)) }
+    ensures { MatchOption result
+        ((modes : List ℕ) → IsOrder order modes → text.now ≢ mode_text modes)
+        (λ modes. IsOrder order modes.items × (text.now ≡ mode_text modes.items)) }
 {
     let mut modes = SmallVec::new(alloc);
     for place in 0..order {
@@ -84,7 +88,9 @@ pub(crate) fn order_of(
     order: usize,
 ) -> Option<SmallVec<usize, 6>>
     requires { order ≤ greatest_order }
-    ensures { MatchOption result ((modes : List ℕ) → HasOrder (option_map (λ given. given.now) text.entry) order modes → ⊥) (λ modes. HasOrder (option_map (λ given. given.now) text.entry) order modes.items) }
+    ensures { MatchOption result
+        ((modes : List ℕ) → HasOrder (option_map (λ given. given.now) text.entry) order modes → ⊥)
+        (λ modes. HasOrder (option_map (λ given. given.now) text.entry) order modes.items) }
 {
     match text {
         None => Some(standing_order(alloc, order)),

@@ -40,7 +40,9 @@ fn are_letters(letters: &[u8]) -> bool
 fn levels_of(alloc: Global, letters: &[u8], modes: &[usize]) -> Option<SmallVec<FormatLevel, 6>>
     requires count { length letters.now ≡ length modes.now }
     requires short { length letters.now ≤ greatest_order }
-    ensures { MatchOption result ((kinds : List Letter) → AreLetters letters.now kinds → ⊥) (λ levels. AreLetters letters.now (letters_of levels.items) × (modes_of levels.items ≡ modes.now) × (levels.capacity ≡ 6)) }
+    ensures { MatchOption result
+        ((kinds : List Letter) → AreLetters letters.now kinds → ⊥)
+        (λ levels. AreLetters letters.now (letters_of levels.items) × (modes_of levels.items ≡ modes.now) × (levels.capacity ≡ 6)) }
 {
     let mut levels = SmallVec::new(alloc);
     for letter in letters {
@@ -60,7 +62,8 @@ fn format_of(levels: SmallVec<FormatLevel, 6>) -> Result<Format, FormatFault>
     requires inline { levels.capacity ≡ 6 }
     ensures { MatchResult result
         (λ format. (format ≡ levels.items) × Chained false (letters_of levels.items) × InsertedBelowHashed (letters_of levels.items))
-        (λ fault. ((fault ≡ BadChain) × (Chained false (letters_of levels.items) → ⊥)) ⊎ ((fault ≡ BelowHashed) × Chained false (letters_of levels.items) × (InsertedBelowHashed (letters_of levels.items) → ⊥))) }
+        (λ fault. ((fault ≡ BadChain) × (Chained false (letters_of levels.items) → ⊥)) ⊎
+        ((fault ≡ BelowHashed) × Chained false (letters_of levels.items) × (InsertedBelowHashed (letters_of levels.items) → ⊥))) }
 {
     if !is_chained(levels.as_slice()) {
         return Err(FormatFault::BadChain);

@@ -23,7 +23,9 @@ pub(crate) fn is_chained(levels: &[FormatLevel]) -> bool
 
 /// The first hashed level, from 0.
 fn first_hashed(levels: &[FormatLevel]) -> Option<usize>
-    ensures { MatchOption result (AllWithin IsOther levels.now 0 (length levels.now)) (λ first. (first < length levels.now) × HoldsAt IsHashed levels.now first × AllWithin IsOther levels.now 0 first) }
+    ensures { MatchOption result
+        (AllWithin IsOther levels.now 0 (length levels.now))
+        (λ first. (first < length levels.now) × HoldsAt IsHashed levels.now first × AllWithin IsOther levels.now 0 first) }
 {
     levels
         .iter()

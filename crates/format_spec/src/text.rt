@@ -1,8 +1,7 @@
-ghost use Rattle.std.specs.Prelude.{◌≡◌, ◌≤◌, ◌<◌, ◌+◌, ◌++◌, length, map, All, OnOk, OnErr};
+ghost use Rattle.std.specs.Prelude.{◌≡◌, ◌≤◌, ◌<◌, ◌+◌, ◌++◌, length, map, All, OnOk, IfErr};
 ghost use Rattle.limits.specs.Limits.{greatest_order};
-ghost use Rattle.outside.specs.Folder.{appended};
-ghost use Rattle.outside.specs.Refusal.{IsNotAbsent, CountsFailed, CountsMemory};
-ghost use Rattle.text_lines.specs.Puts.{PutsLess};
+ghost use Rattle.outside.specs.Sink.{Appends};
+ghost use Rattle.text_lines.specs.Puts.{AppendsPart};
 ghost use Rattle.format_spec.specs.Formats.{letters_of, modes_of};
 ghost use Rattle.format_spec.specs.Words.{letter_byte, format_text};
 
@@ -84,11 +83,8 @@ impl Format {
     /// Appends the text of the format: its letters, a colon, and its modes joined by commas. After a refusal a part of it
     /// at its front was appended. It takes no memory but what the sink takes.
     pub fn put_format<S: Sink>(&self, sink: &mut S) -> Result<(), Refusal>
-        ensures whole { OnOk result (S.written sink.new ≡ appended (S.written sink.old) (format_text self.now)) }
-        ensures part { OnErr result (PutsLess (S.written sink.old) (S.written sink.new) (format_text self.now)) }
-        ensures present { IsNotAbsent result }
-        ensures counted { CountsFailed result (S.faults sink.old) (S.faults sink.new) }
-        ensures wanted { CountsMemory result (S.wants sink.old) (S.wants sink.new) }
+        ensures whole { OnOk result (Appends (S.state sink.old) (S.state sink.new) (format_text self.now)) }
+        ensures part { IfErr result (AppendsPart (S.state sink.old) (S.state sink.new) (format_text self.now)) }
     {
         let text = text_of_levels(self.allocator(), self.levels());
         put_all(sink, text.as_slice())

@@ -1,8 +1,5 @@
 pub mod CodeLaws
-pub mod HashedLaws
-pub mod OrderLaws
-pub mod RowLaws
+pub mod Laws
 pub mod SearchCode
 pub mod SearchLaws
 pub mod SlotLaws
-pub mod SlotsLemmas

@@ -1,4 +1,4 @@
--- Lemmas about what specs/SearchCode.antt defines.
+-- What the code of a search does.
 use Rattle.std.specs.Prelude.{◌≡◌, ◌≢◌, ◌⊎◌, ℕ, zero, suc, ◌+◌, ◌-◌, ◌%◌, ◌^◌, ◌≤◌, ◌<◌, ◌==◌, true, false, not, if◌then◌else◌, [], ◌∷◌, Option, Some, None, slice_index, bit_and, refl, slice_set}
 use Rattle.std.proofs.Common.{◌∙◌, sym, ap, subst, arith, inl, inr}
 use Rattle.std.proofs.lemmas.Nat.{and_mask, mod_below}
@@ -19,19 +19,21 @@ use Rattle.kernel_code.specs.Keeps.{Below, Leaves, NoVariable, EveryArray, turn_
 use Rattle.kernel_code.proofs.Keeps.{this_var, other_var, leaves_none, leaves_set, leaves_turn, leaves_then, leaves_wider, leaves_array, this_array}
 use Rattle.level_core.specs.Entries.{one, position_of}
 use Rattle.kernel_code.proofs.ArrayNames.{same_arr_self}
-use Rattle.level_core.specs.Fragments.{turns_of, OptionLeft, NumberLeft, IsOutside}
+use Rattle.level_core.specs.Fragments.{turns_of, OptionLeft, IsOutside}
+use Rattle.level_core.proofs.FragmentLaws.{outside_apart, below_kept}
+use Rattle.kernel_code.proofs.Words.{word_is, binary_is, product_is, sum_is, difference_is, less_yes, less_no}
 use Rattle.level_core.specs.FragmentLaws.{one_code}
-use Rattle.level_core.proofs.FragmentLaws.{outside_apart, below_kept, word_is, binary_is, product_is, sum_is, difference_is, less_yes, less_no}
-use Rattle.hashed_level.specs.Slots.{empty_slot, place, Passes, FirstEmpty}
-use Rattle.hashed_level.proofs.SearchLaws.{place_next, place_first, place_inside, passes_more, not_there, found_filled, nowhere}
-use Rattle.hashed_level.specs.Hashed.{Hashed, block_width, base_of, width_words, width_or_two, Held, IsAllowed, Keeps, hashed_segment, hashed_entries, with_coordinate, IsInserted}
-use Rattle.hashed_level.specs.HashedLaws.{block_within, block_small}
-use Rattle.hashed_level.proofs.HashedLaws.{inserted_keeps, stops_first, never_passes}
+use Rattle.hashed_level.specs.Slots.{empty_slot, place, Stops, Passes, FirstEmpty}
+use Rattle.hashed_level.specs.SearchLaws.{place_inside}
+use Rattle.hashed_level.proofs.SearchLaws.{place_next, place_first, passes_more, not_there, found_filled, nowhere}
+use Rattle.hashed_level.specs.Hashed.{Hashed, block_width, base_of, width_words, width_or_two, Holds, IsAllowed, KeepsRules, segment_of, entries_of, with_coordinate, meaning}
+use Rattle.hashed_level.specs.Laws.{block_within, block_small, inserted_keeps}
+use Rattle.hashed_level.proofs.Laws.{stops_first, never_passes}
 use Rattle.hashed_level.specs.Code.{width_word, base_word, wrapped_word, slot_word, filled_test, other_test, more_test, search_test, search_step, search_code, found_test, found_code, locate_code, insert_code}
 use Rattle.kernel_code.specs.Arrays.{may_write}
 use Rattle.level_core.specs.declared.letter.Letter.TheVariants.{Hashed as HashedLetter}
 use Rattle.level_core.specs.Kinds.{MayInsert}
-use Rattle.hashed_level.specs.SearchCode.{Seeking, Found, Missed, Sought}
+use Rattle.level_core.specs.Codes.{HoldsInserted}
 
 words_of : (o : Option ℕ) → (o ≡ None → ⊥) → width_words o ≡ width_or_two o ∷ []
 words_of None n = absurd (n refl)
@@ -44,28 +46,28 @@ width_stored l p ok = words_of l.width (λ h. let none = ok.rules.fresh h in let
 pub width_small : (l : Hashed) (p : ℕ) → IsAllowed l (one p) → block_width l < 2 ^ 62
 width_small l p ok = let inside = block_small l p ok.rules ok.prepared in let small = positions_are_small in omega (arith, inside, small)
 
-pub width_is : (l : Hashed) (p tensor level : ℕ) (t : State) → IsAllowed l (one p) → Held l tensor level t.arrays → value (width_word tensor level) t ≡ Some (block_width l)
+pub width_is : (l : Hashed) (p tensor level : ℕ) (t : State) → IsAllowed l (one p) → Holds l tensor level t.arrays → value (width_word tensor level) t ≡ Some (block_width l)
 width_is l p tensor level t ok held = word_is (WidthArray tensor level) (Num 0) (block_width l ∷ []) 0 (block_width l) t (held.width ∙ ap Some (width_stored l p ok)) refl refl
 
 -- the mask of a power of two
 masked : (n w : ℕ) → (k : ℕ) × (w ≡ 2 ^ k) → bit_and n (w - 1) ≡ n % w
 masked n w power = subst (λ v. bit_and n (v - 1) ≡ n % v) (sym power.1) (and_mask n power.0)
 
-pub wrapped_is : (l : Hashed) (p tensor level n : ℕ) (e : KExpr) (t : State) → IsAllowed l (one p) → Held l tensor level t.arrays → value e t ≡ Some n → value (wrapped_word tensor level e) t ≡ Some (n % block_width l)
+pub wrapped_is : (l : Hashed) (p tensor level n : ℕ) (e : KExpr) (t : State) → IsAllowed l (one p) → Holds l tensor level t.arrays → value e t ≡ Some n → value (wrapped_word tensor level e) t ≡ Some (n % block_width l)
 wrapped_is l p tensor level n e t ok held is =
     let small = width_small l p ok in
     let wide = ok.rules.wide in
     let mask = difference_is (width_word tensor level) (Num 1) (block_width l) 1 t (width_is l p tensor level t ok held) refl (omega (arith, small)) (omega (arith, wide)) in
     binary_is BitAnd e (Bin Sub (width_word tensor level) (Num 1)) n (block_width l - 1) t is mask ∙ ap Some (masked n (block_width l) ok.rules.power)
 
-pub base_is : (l : Hashed) (p tensor level : ℕ) (e : KExpr) (t : State) → IsAllowed l (one p) → Held l tensor level t.arrays → value e t ≡ Some p → value (base_word tensor level e) t ≡ Some (base_of l p)
+pub base_is : (l : Hashed) (p tensor level : ℕ) (e : KExpr) (t : State) → IsAllowed l (one p) → Holds l tensor level t.arrays → value e t ≡ Some p → value (base_word tensor level e) t ≡ Some (base_of l p)
 base_is l p tensor level e t ok held is =
     let inside = block_small l p ok.rules ok.prepared in
     let small = positions_are_small in
     product_is e (width_word tensor level) p (block_width l) t is (width_is l p tensor level t ok held) (omega (arith, inside, small))
 
 -- a slot read
-pub slot_read : (l : Hashed) (p tensor level q : ℕ) (e : KExpr) (t : State) → IsAllowed l (one p) → Held l tensor level t.arrays → value e t ≡ Some q → q < base_of l p + block_width l → value (At (Coordinates tensor level) e) t ≡ Some (slice_index l.slots q)
+pub slot_read : (l : Hashed) (p tensor level q : ℕ) (e : KExpr) (t : State) → IsAllowed l (one p) → Holds l tensor level t.arrays → value e t ≡ Some q → q < base_of l p + block_width l → value (At (Coordinates tensor level) e) t ≡ Some (slice_index l.slots q)
 slot_read l p tensor level q e t ok held is below =
     let inside = block_within l p ok.rules ok.prepared in
     word_is (Coordinates tensor level) e l.slots q (slice_index l.slots q) t held.slots is (slice_get-get_or l.slots q 0 (omega (arith, inside, below)))
@@ -85,7 +87,7 @@ first_no e f t h = value_bin And e f t ∙ ap (λ v. apply_both And v (value f t
 pub second_no : (e f : KExpr) (t : State) → value e t ≡ Some 1 → value f t ≡ Some 0 → value (Bin And e f) t ≡ Some 0
 second_no e f t h g = binary_is And e f 1 0 t h g
 
-pub held_kept : (l : Hashed) (tensor level free : ℕ) (most : LoopKind → ℕ) (s t : State) → Leaves NoVariable EveryArray free most s t → Held l tensor level s.arrays → Held l tensor level t.arrays
+pub held_kept : (l : Hashed) (tensor level free : ℕ) (most : LoopKind → ℕ) (s t : State) → Leaves NoVariable EveryArray free most s t → Holds l tensor level s.arrays → Holds l tensor level t.arrays
 held_kept l tensor level free most s t leaves held = record { width = leaves.arrays (WidthArray tensor level) tt ∙ held.width; slots = leaves.arrays (Coordinates tensor level) tt ∙ held.slots }
 
 pub turns_more : (a b : ℕ) → a ≤ b → (k : LoopKind) → turns_of Probe a k ≤ turns_of Probe b k
@@ -94,7 +96,39 @@ turns_more a b h k = elim (same_kind Probe k) as (λ t. (if t then a else 0) ≤
 turns_add : (a : ℕ) (k : LoopKind) → turns_of Probe a k + turn_of Probe k ≤ turns_of Probe (a + 1) k
 turns_add a k = elim (same_kind Probe k) as (λ t. (if t then a else 0) + (if t then 1 else 0) ≤ (if t then a + 1 else 0)) [ true ↦ omega arith | false ↦ omega arith ]
 
-module _ (c : Setting) (l : Hashed) (tensor level free p x : ℕ) (e : KExpr) (s : State) (ok : IsAllowed l (one p)) (held : Held l tensor level s.arrays) (xv : value e s ≡ Some x) (xb : Below free e) where
+-- a search from the state s on that has made so many steps, without an end
+pub record Seeking (l : Hashed) (free p x : ℕ) (s : State) (steps : ℕ) (t : State) : Type 0 where
+  pub leaves : Leaves NoVariable EveryArray free (turns_of Probe steps) s t
+  pub base : t.vars free ≡ Some (base_of l p)
+  pub at : t.vars (free + 1) ≡ Some ((x + steps) % block_width l)
+  pub count : t.vars (free + 2) ≡ Some steps
+  pub few : steps ≤ block_width l
+  pub passes : Passes (slice_index l.slots) (block_width l) (base_of l p) x steps
+
+-- one that has stopped at a slot
+pub record Found (l : Hashed) (free p x : ℕ) (s t : State) : Type 0 where
+  pub slot : ℕ
+  pub leaves : Leaves NoVariable EveryArray free (turns_of Probe (block_width l)) s t
+  pub base : t.vars free ≡ Some (base_of l p)
+  pub within : ℕ
+  pub at : t.vars (free + 1) ≡ Some within
+  pub position : base_of l p + within ≡ slot
+  pub inside : slot < base_of l p + block_width l
+  pub steps : ℕ
+  pub count : t.vars (free + 2) ≡ Some steps
+  pub few : steps < block_width l
+  pub stops : Stops (slice_index l.slots) (block_width l) (base_of l p) x slot
+
+-- one that has met all slots without an end
+pub record Missed (l : Hashed) (free p x : ℕ) (s t : State) : Type 0 where
+  pub leaves : Leaves NoVariable EveryArray free (turns_of Probe (block_width l)) s t
+  pub count : t.vars (free + 2) ≡ Some (block_width l)
+  pub passes : Passes (slice_index l.slots) (block_width l) (base_of l p) x (block_width l)
+
+abbrev pub Sought : Hashed → ℕ → ℕ → ℕ → State → State → Type 0
+Sought l free p x s t = Found l free p x s t ⊎ Missed l free p x s t
+
+module _ (c : Setting) (l : Hashed) (tensor level free p x : ℕ) (e : KExpr) (s : State) (ok : IsAllowed l (one p)) (held : Holds l tensor level s.arrays) (xv : value e s ≡ Some x) (xb : Below free e) where
   abbrev pub w : ℕ
   w = block_width l
 
@@ -117,16 +151,16 @@ module _ (c : Setting) (l : Hashed) (tensor level free p x : ℕ) (e : KExpr) (s
       let small = positions_are_small in
       sum_is (Var free) (Var (free + 1)) (base_of l p) ((x + steps) % w) t h.base h.at (omega (arith, below, inside, small))
 
-  filled_yes : (n : ℕ) (g : KExpr) (t : State) → Held l tensor level t.arrays → value g t ≡ Some n → n < base_of l p + w → f n ≢ empty_slot → value (filled_test tensor level g) t ≡ Some 1
+  filled_yes : (n : ℕ) (g : KExpr) (t : State) → Holds l tensor level t.arrays → value g t ≡ Some n → n < base_of l p + w → f n ≢ empty_slot → value (filled_test tensor level g) t ≡ Some 1
   filled_yes n g t stored is below e = differ_yes (At (Coordinates tensor level) g) (Num empty_slot) (f n) empty_slot t (slot_read l p tensor level n g t ok stored is below) refl e
 
-  filled_no : (n : ℕ) (g : KExpr) (t : State) → Held l tensor level t.arrays → value g t ≡ Some n → n < base_of l p + w → f n ≡ empty_slot → value (filled_test tensor level g) t ≡ Some 0
+  filled_no : (n : ℕ) (g : KExpr) (t : State) → Holds l tensor level t.arrays → value g t ≡ Some n → n < base_of l p + w → f n ≡ empty_slot → value (filled_test tensor level g) t ≡ Some 0
   filled_no n g t stored is below e = differ_no (At (Coordinates tensor level) g) (Num empty_slot) (f n) empty_slot t (slot_read l p tensor level n g t ok stored is below) refl e
 
-  more_yes : (steps : ℕ) (t : State) → Held l tensor level t.arrays → t.vars (free + 2) ≡ Some steps → steps < w → value (more_test tensor level free) t ≡ Some 1
+  more_yes : (steps : ℕ) (t : State) → Holds l tensor level t.arrays → t.vars (free + 2) ≡ Some steps → steps < w → value (more_test tensor level free) t ≡ Some 1
   more_yes steps t stored count less = less_yes (Var (free + 2)) (width_word tensor level) steps w t count (width_is l p tensor level t ok stored) less
 
-  more_no : (steps : ℕ) (t : State) → Held l tensor level t.arrays → t.vars (free + 2) ≡ Some steps → w ≤ steps → value (more_test tensor level free) t ≡ Some 0
+  more_no : (steps : ℕ) (t : State) → Holds l tensor level t.arrays → t.vars (free + 2) ≡ Some steps → w ≤ steps → value (more_test tensor level free) t ≡ Some 0
   more_no steps t stored count less = less_no (Var (free + 2)) (width_word tensor level) steps w t count (width_is l p tensor level t ok stored) less
 
   -- what a step finds at its slot
@@ -187,7 +221,7 @@ module _ (c : Setting) (l : Hashed) (tensor level free p x : ℕ) (e : KExpr) (s
       let t1 = one_turn t Probe in
       let v = (x + (steps + 1)) % w in
       let t2 = set_var t1 (free + 1) v in
-      let stored : Held l tensor level t1.arrays = held_kept l tensor level free (turns_of Probe steps) s t h.leaves held in
+      let stored : Holds l tensor level t1.arrays = held_kept l tensor level free (turns_of Probe steps) s t h.leaves held in
       let small = width_small l p ok in
       let wide = ok.rules.wide in
       let within : (x + steps) % w < w = mod_below (x + steps) w (omega (arith, wide)) in
@@ -263,19 +297,19 @@ module _ (c : Setting) (l : Hashed) (tensor level free p x : ℕ) (e : KExpr) (s
       sum_is (Var free) (Var (free + 1)) (base_of l p) h.within u (first ∙ h.base) (second ∙ h.at) (omega (arith, inside, small, below, position)) ∙ ap Some h.position
 
   abbrev pub Located : State → Type 0
-  Located u = Leaves NoVariable EveryArray free (turns_of Probe (base_of l p + w - base_of l p)) s u × OptionLeft free (position_of (hashed_entries l (one p)) x) u
+  Located u = Leaves NoVariable EveryArray free (turns_of Probe (base_of l p + w - base_of l p)) s u × OptionLeft free (position_of (entries_of l (one p)) x) u
 
   wider : (t : State) → Leaves NoVariable EveryArray free (turns_of Probe w) s t → Leaves NoVariable EveryArray free (turns_of Probe (base_of l p + w - base_of l p)) s t
   wider t leaves = leaves_wider NoVariable NoVariable EveryArray EveryArray free (turns_of Probe w) (turns_of Probe (base_of l p + w - base_of l p)) s t (λ y m. m) (λ a m. m) (turns_more w (base_of l p + w - base_of l p) (omega arith)) leaves
 
-  none_left : (t : State) → Leaves NoVariable EveryArray free (turns_of Probe w) s t → position_of (hashed_entries l (one p)) x ≡ None → Does c (one_code free (Num 0)) t Located Never
+  none_left : (t : State) → Leaves NoVariable EveryArray free (turns_of Probe w) s t → position_of (entries_of l (one p)) x ≡ None → Does c (one_code free (Num 0)) t Located Never
   none_left t leaves none =
       let most = turns_of Probe (base_of l p + w - base_of l p) in
       let u = set_var t free 0 in
       does_set c free (Num 0) [] t 0 Located Never refl
       (does_nothing c u Located Never (leaves_set NoVariable EveryArray free most s t free 0 (λ y h is. omega (arith, h, is)) (wider t leaves), subst (λ o. OptionLeft free o u) (sym none) (this_var t free 0)))
 
-  some_left : (t : State) (h : Found l free p x s t) → position_of (hashed_entries l (one p)) x ≡ Some h.slot → Does c (found_code free) t Located Never
+  some_left : (t : State) (h : Found l free p x s t) → position_of (entries_of l (one p)) x ≡ Some h.slot → Does c (found_code free) t Located Never
   some_left t h some =
       let most = turns_of Probe (base_of l p + w - base_of l p) in
       let t1 = set_var t (free + 1) h.slot in
@@ -301,13 +335,13 @@ module _ (c : Setting) (l : Hashed) (tensor level free p x : ℕ) (e : KExpr) (s
       does_if_no c (found_test tensor level free) (found_code free) (one_code free (Num 0)) [] t Located Located Never (first_no (more_test tensor level free) (filled_test tensor level (slot_word free)) t (more_no w t stored h.count (omega arith))) (none_left t h.leaves (nowhere f w (base_of l p) x h.passes)) (λ u g. does_nothing c u Located Never g)
 
   -- the code of `locate` leaves the position
-  pub locate_does : (g : KExpr) → value g s ≡ Some p → Does c (locate_code tensor level g e free) s Located Never
-  locate_does g gv = does_append c (search_code tensor level g e free) (If (found_test tensor level free) (found_code free) (one_code free (Num 0)) ∷ []) s (Sought l free p x s) Located Never (search_does g gv) located_end
+  pub locate_runs : (g : KExpr) → value g s ≡ Some p → Does c (locate_code tensor level g e free) s Located Never
+  locate_runs g gv = does_append c (search_code tensor level g e free) (If (found_test tensor level free) (found_code free) (one_code free (Num 0)) ∷ []) s (Sought l free p x s) Located Never (search_does g gv) located_end
 
-  abbrev pub Inserted : State → Type 0
-  Inserted u = Leaves NoVariable (IsOutside tensor level) free (turns_of Probe (base_of l p + w - base_of l p)) s u × ((m : Hashed) × (slot : ℕ) × Keeps m × IsInserted l p x slot m × Held m tensor level u.arrays × NumberLeft free slot u)
+  abbrev pub Stored : State → Type 0
+  Stored u = Leaves NoVariable (IsOutside tensor level) free (turns_of Probe (base_of l p + w - base_of l p)) s u × HoldsInserted meaning l p x tensor level free u
 
-  put_end : (t : State) → tensor ≡ 0 → MayInsert HashedLetter l.size (hashed_segment l (one p)) (hashed_entries l (one p)) x → (h : Found l free p x s t) → FirstEmpty f w (base_of l p) x h.slot → Does c (Put (Coordinates tensor level) (slot_word free) e ∷ Set free (slot_word free) ∷ []) t Inserted Never
+  put_end : (t : State) → tensor ≡ 0 → MayInsert HashedLetter l.size (segment_of l (one p)) (entries_of l (one p)) x → (h : Found l free p x s t) → FirstEmpty f w (base_of l p) x h.slot → Does c (Put (Coordinates tensor level) (slot_word free) e ∷ Set free (slot_word free) ∷ []) t Stored Never
   put_end t result may h first =
       let most = turns_of Probe (base_of l p + w - base_of l p) in
       let stored = held_kept l tensor level free (turns_of Probe w) s t h.leaves held in
@@ -317,26 +351,26 @@ module _ (c : Setting) (l : Hashed) (tensor level free p x : ℕ) (e : KExpr) (s
       let xs = slice_set l.slots h.slot x in
       let t1 = set_array t (Coordinates tensor level) xs in
       let u = set_var t1 free h.slot in
-      does_put c (Coordinates tensor level) (slot_word free) e (Set free (slot_word free) ∷ []) t h.slot x l.slots Inserted Never (slot_found t h t refl refl) (x_kept (turns_of Probe w) t h.leaves) written stored.slots (omega (arith, inside, below))
-      (does_set c free (slot_word free) [] t1 h.slot Inserted Never (slot_found t h t1 refl refl)
-      (does_nothing c u Inserted Never (
+      does_put c (Coordinates tensor level) (slot_word free) e (Set free (slot_word free) ∷ []) t h.slot x l.slots Stored Never (slot_found t h t refl refl) (x_kept (turns_of Probe w) t h.leaves) written stored.slots (omega (arith, inside, below))
+      (does_set c free (slot_word free) [] t1 h.slot Stored Never (slot_found t h t1 refl refl)
+      (does_nothing c u Stored Never (
         leaves_set NoVariable (IsOutside tensor level) free most s t1 free h.slot (λ y g is. omega (arith, g, is))
             (leaves_array NoVariable (IsOutside tensor level) free most s t (Coordinates tensor level) xs (λ b out. outside_apart tensor level (Coordinates tensor level) b (refl, refl) out)
             (leaves_wider NoVariable NoVariable EveryArray (IsOutside tensor level) free most most s t (λ y m. m) (λ a m. tt) (λ k. omega arith) (wider t h.leaves))),
-        (
-          with_coordinate l x h.slot,
-          h.slot,
-          inserted_keeps l p x h.slot ok may first,
-          record { first = first; level = refl },
-          record { width = stored.width; slots = this_array t (Coordinates tensor level) (Coordinates tensor level) xs (same_arr_self (Coordinates tensor level)) },
-          this_var t1 free h.slot,
-        ),
+        record {
+          left = with_coordinate l x h.slot;
+          slot = h.slot;
+          keeps = inserted_keeps l p x h.slot ok may first;
+          inserted = record { first = first; level = refl };
+          held = record { width = stored.width; slots = this_array t (Coordinates tensor level) (Coordinates tensor level) xs (same_arr_self (Coordinates tensor level)) };
+          answer = this_var t1 free h.slot;
+        },
       )))
 
-  inserted_end : (t : State) → tensor ≡ 0 → MayInsert HashedLetter l.size (hashed_segment l (one p)) (hashed_entries l (one p)) x → Sought l free p x s t → Does c (Put (Coordinates tensor level) (slot_word free) e ∷ Set free (slot_word free) ∷ []) t Inserted Never
+  inserted_end : (t : State) → tensor ≡ 0 → MayInsert HashedLetter l.size (segment_of l (one p)) (entries_of l (one p)) x → Sought l free p x s t → Does c (Put (Coordinates tensor level) (slot_word free) e ∷ Set free (slot_word free) ∷ []) t Stored Never
   inserted_end t result may (inl h) = put_end t result may h (stops_first l p x h.slot l.slots w (base_of l p) refl refl refl ok may h.stops)
   inserted_end t result may (inr h) = absurd (never_passes l p x l.slots w (base_of l p) refl refl refl may h.passes)
 
   -- the code of `insert_coord` puts the coordinate where it belongs
-  pub insert_does : (g : KExpr) → value g s ≡ Some p → tensor ≡ 0 → MayInsert HashedLetter l.size (hashed_segment l (one p)) (hashed_entries l (one p)) x → Does c (insert_code tensor level g e free) s Inserted Never
-  insert_does g gv result may = does_append c (search_code tensor level g e free) (Put (Coordinates tensor level) (slot_word free) e ∷ Set free (slot_word free) ∷ []) s (Sought l free p x s) Inserted Never (search_does g gv) (λ t h. inserted_end t result may h)
+  pub insert_runs : (g : KExpr) → value g s ≡ Some p → tensor ≡ 0 → MayInsert HashedLetter l.size (segment_of l (one p)) (entries_of l (one p)) x → Does c (insert_code tensor level g e free) s Stored Never
+  insert_runs g gv result may = does_append c (search_code tensor level g e free) (Put (Coordinates tensor level) (slot_word free) e ∷ Set free (slot_word free) ∷ []) s (Sought l free p x s) Stored Never (search_does g gv) (λ t h. inserted_end t result may h)

@@ -1,24 +1,11 @@
 -- Lemmas about what specs/SlotLaws.antt defines.
-use Rattle.std.specs.Prelude.{◌≡◌, ◌≢◌, ℕ, zero, suc, ◌+◌, ◌≤◌, ◌<◌, ◌==◌, true, false, if◌then◌else◌, List, [], ◌∷◌, length, Some, None, refl}
+use Rattle.std.specs.Prelude.{◌≡◌, ◌≢◌, ℕ, zero, suc, ◌+◌, ◌≤◌, ◌<◌, ◌==◌, true, false, if◌then◌else◌, List, [], ◌∷◌, length, None, refl}
 use Rattle.std.proofs.Common.{◌∙◌, sym, ap, subst, arith, inl, inr}
 use Rattle.std.proofs.lemmas.Bool.Decides.{nat_tests, eqb_tells}
 use Rattle.level_core.specs.declared.span.Entry.{Entry}
-use Rattle.level_core.specs.Entries.{one, Lacks, StandsAt, coord_at, position_of}
-use Rattle.level_core.proofs.EntryLaws.{coord_here, coord_past, coord_before}
-use Rattle.hashed_level.specs.Slots.{empty_slot, with_slot, filled, coord_of}
-use Rattle.hashed_level.specs.SlotLaws.{entry_at, slot_cases, filled_lacks, Once, Free, Puts}
-
-pub coord_none : (x : ℕ) → x ≡ empty_slot → coord_of x ≡ None
-coord_none x h = let is : (x == empty_slot) ≡ true = grind (arith, nat_tests) in ap (λ b. if b then None else Some x) is
-
-pub coord_some : (x : ℕ) → x ≢ empty_slot → coord_of x ≡ Some x
-coord_some x h = let is : (x == empty_slot) ≡ false = grind (arith, nat_tests) in ap (λ b. if b then None else Some x) is
-
-position_here : (e : Entry) (es : List Entry) (x : ℕ) → e.coord ≡ x → position_of (e ∷ es) x ≡ Some e.child.lo
-position_here e es x h = let is : (e.coord == x) ≡ true = grind (arith, nat_tests) in ap (λ b. if b then Some e.child.lo else position_of es x) is
-
-position_past : (e : Entry) (es : List Entry) (x : ℕ) → e.coord ≢ x → position_of (e ∷ es) x ≡ position_of es x
-position_past e es x h = let is : (e.coord == x) ≡ false = grind (arith, nat_tests) in ap (λ b. if b then Some e.child.lo else position_of es x) is
+use Rattle.level_core.specs.Entries.{one, Lacks, StandsAt, position_of}
+use Rattle.hashed_level.specs.Slots.{empty_slot, with_slot, filled}
+use Rattle.hashed_level.specs.SlotLaws.{entry_at, slot_cases, position_past, filled_lacks, Free, filled_same, Puts}
 
 lacks_none : (x : ℕ) (es : List Entry) → Lacks x es → position_of es x ≡ None
 lacks_none x [] h = refl
@@ -26,46 +13,6 @@ lacks_none x (e ∷ es) h = position_past e es x h.0 ∙ lacks_none x es h.1
 
 pub filled_none : (f : ℕ → ℕ) (x count pos : ℕ) → ((q : ℕ) → pos ≤ q → q < pos + count → f q ≢ empty_slot → f q ≢ x) → position_of (filled f count pos) x ≡ None
 filled_none f x count pos h = lacks_none x (filled f count pos) (filled_lacks f x count pos h)
-
-filled_before : (f : ℕ → ℕ) (count pos q : ℕ) → q < pos → coord_at (filled f count pos) q ≡ None
-filled_before f zero pos q h = refl
-filled_before f (suc count) pos q h =
-    let again = filled_before f count (pos + 1) q (omega (arith, h)) in
-    slot_cases (λ es. coord_at es q ≡ None) (f pos) pos (filled f count (pos + 1)) (λ _. again) (λ _. coord_before (entry_at (f pos) pos) (filled f count (pos + 1)) q h ∙ again)
-
-pub filled_coord : (f : ℕ → ℕ) (count pos q : ℕ) → pos ≤ q → q < pos + count → coord_at (filled f count pos) q ≡ coord_of (f q)
-filled_coord f zero pos q h g = absurd (omega (arith, h, g))
-filled_coord f (suc count) pos q h g = elim (eqb_tells q pos) [
-  | inl k ↦ slot_cases (λ es. coord_at es q ≡ coord_of (f q)) (f pos) pos (filled f count (pos + 1))
-      (λ e. filled_before f count (pos + 1) q (omega (arith, k.1)) ∙ sym (coord_none (f q) (ap f k.1 ∙ e)))
-      (λ e. coord_here (entry_at (f pos) pos) (filled f count (pos + 1)) q h (omega (arith, k.1)) ∙ sym (ap coord_of (ap f k.1) ∙ coord_some (f pos) e))
-  | inr k ↦ slot_cases (λ es. coord_at es q ≡ coord_of (f q)) (f pos) pos (filled f count (pos + 1))
-      (λ _. filled_coord f count (pos + 1) q (omega (arith, h, k.1)) (omega (arith, g)))
-      (λ _. coord_past (entry_at (f pos) pos) (filled f count (pos + 1)) q (omega (arith, h, k.1)) ∙ filled_coord f count (pos + 1) q (omega (arith, h, k.1)) (omega (arith, g)))
-]
-
-pub filled_position : (f : ℕ → ℕ) (count pos q x : ℕ) → pos ≤ q → q < pos + count → f q ≡ x → x ≢ empty_slot → Once f pos (pos + count) → position_of (filled f count pos) x ≡ Some q
-filled_position f zero pos q x h g is e o = absurd (omega (arith, h, g))
-filled_position f (suc count) pos q x h g is e o = elim (eqb_tells q pos) [
-  | inl k ↦ slot_cases (λ es. position_of es x ≡ Some q) (f pos) pos (filled f count (pos + 1))
-      (λ z. absurd (e (sym is ∙ ap f k.1 ∙ z)))
-      (λ _. position_here (entry_at (f pos) pos) (filled f count (pos + 1)) x (sym (ap f k.1) ∙ is) ∙ ap Some (sym k.1))
-  | inr k ↦
-      let again = filled_position f count (pos + 1) q x (omega (arith, h, k.1)) (omega (arith, g)) is e (λ q r l m n t. o q r (omega (arith, l)) (omega (arith, m)) (omega (arith, n)) (omega (arith, t))) in
-      slot_cases (λ es. position_of es x ≡ Some q) (f pos) pos (filled f count (pos + 1))
-      (λ _. again)
-      (λ z. position_past (entry_at (f pos) pos) (filled f count (pos + 1)) x (λ same. k.1 (sym (o pos q (omega arith) (omega arith) h g z (same ∙ sym is)))) ∙ again)
-]
-
--- where no entry has a coordinate, no slot is filled with it
-pub filled_without : (f : ℕ → ℕ) (x count pos : ℕ) → Lacks x (filled f count pos) → (q : ℕ) → pos ≤ q → q < pos + count → f q ≢ empty_slot → f q ≢ x
-filled_without f x zero pos lacks q h g = absurd (omega (arith, h, g))
-filled_without f x (suc count) pos lacks q h g = elim (eqb_tells q pos) [
-  | inl k ↦ slot_cases (λ es. Lacks x es → f q ≢ empty_slot → f q ≢ x) (f pos) pos (filled f count (pos + 1)) (λ z _ e. absurd (e (ap f k.1 ∙ z))) (λ _ l _ same. l.0 (sym (ap f k.1) ∙ same)) lacks
-  | inr k ↦ slot_cases (λ es. Lacks x es → f q ≢ empty_slot → f q ≢ x) (f pos) pos (filled f count (pos + 1))
-      (λ _ l. filled_without f x count (pos + 1) l q (omega (arith, h, k.1)) (omega (arith, g)))
-      (λ _ l. filled_without f x count (pos + 1) l.1 q (omega (arith, h, k.1)) (omega (arith, g))) lacks
-]
 
 free_next : (f : ℕ → ℕ) (count pos : ℕ) → Free f (pos + 1) (pos + 1 + count) → Free f pos (pos + suc count)
 free_next f count pos r = let l = r.from in let m = r.below in record { slot = r.slot; from = omega (arith, l); below = omega (arith, m); empty = r.empty }
@@ -85,37 +32,6 @@ filled_child f (suc count) pos q e h = slot_cases (λ es. StandsAt q e es → (e
       | inl s ↦ (sym (ap (λ g. g.child) s.1) ∙ ap one s.0, omega (arith, s.0), omega (arith, s.0))
       | inr s ↦ let k = filled_child f count (pos + 1) q e s in (k.0, omega (arith, k.1), omega (arith, k.2))
     ]) h
-
-pub filled_same : (f g : ℕ → ℕ) (count pos : ℕ) → ((q : ℕ) → pos ≤ q → q < pos + count → g q ≡ f q) → filled g count pos ≡ filled f count pos
-filled_same f g zero pos h = refl
-filled_same f g (suc count) pos h = ap (λ x. with_slot x pos (filled g count (pos + 1))) (h pos (omega arith) (omega arith)) ∙ ap (with_slot (f pos) pos) (filled_same f g count (pos + 1) (λ q l m. h q (omega (arith, l)) (omega (arith, m))))
-
-skip_slot : (v pos y : ℕ) (es : List Entry) → v ≢ y → position_of (with_slot v pos es) y ≡ position_of es y
-skip_slot v pos y es h = slot_cases (λ fs. position_of fs y ≡ position_of es y) v pos es (λ _. refl) (λ _. position_past (entry_at v pos) es y h)
-
-no_slot : (v pos : ℕ) (es : List Entry) → v ≡ empty_slot → with_slot v pos es ≡ es
-no_slot v pos es h = slot_cases (λ fs. fs ≡ es) v pos es (λ _. refl) (λ e. absurd (e h))
-
-same_behind : (v pos y : ℕ) (es fs : List Entry) → position_of es y ≡ position_of fs y → position_of (with_slot v pos es) y ≡ position_of (with_slot v pos fs) y
-same_behind v pos y es fs h = elim (v == empty_slot) as (λ b. position_of (if b then es else entry_at v pos ∷ es) y ≡ position_of (if b then fs else entry_at v pos ∷ fs) y) [
-  | true ↦ h
-  | false ↦ ap (λ o. if v == y then Some pos else o) h
-]
-
--- other coordinates stand where they stood
-pub filled_others : (f g : ℕ → ℕ) (slot x y count pos : ℕ) → Puts f g slot x → f slot ≡ empty_slot → y ≢ x → position_of (filled g count pos) y ≡ position_of (filled f count pos) y
-filled_others f g slot x y zero pos p e n = refl
-filled_others f g slot x y (suc count) pos p e n =
-    let again = filled_others f g slot x y count (pos + 1) p e n in
-    elim (eqb_tells pos slot) [
-      | inl k ↦
-          skip_slot (g pos) pos y (filled g count (pos + 1)) (λ same. n (sym same ∙ ap g k.1 ∙ p.at))
-          ∙ again
-          ∙ ap (λ es. position_of es y) (sym (no_slot (f pos) pos (filled f count (pos + 1)) (ap f k.1 ∙ e)))
-      | inr k ↦
-          ap (λ v. position_of (with_slot v pos (filled g count (pos + 1))) y) (p.others pos k.1)
-          ∙ same_behind (f pos) pos y (filled g count (pos + 1)) (filled f count (pos + 1)) again
-    ]
 
 pub is_empty_yes : (x : ℕ) → (x == empty_slot) ≡ true → x ≡ empty_slot
 is_empty_yes x is = grind (arith, nat_tests, is)

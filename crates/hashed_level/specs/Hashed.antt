@@ -1,13 +1,13 @@
 -- What a hashed level holds.
-use Rattle.std.specs.Prelude.{◌≡◌, ℕ, ◌+◌, ◌*◌, ◌^◌, ◌≤◌, ◌<◌, List, [], ◌∷◌, Option, Some, None, length, replicate, slice_index, slice_set}
+use Rattle.std.specs.Prelude.{◌≡◌, ◌≢◌, ℕ, ◌+◌, ◌*◌, ◌^◌, ◌≤◌, ◌<◌, List, [], ◌∷◌, Option, Some, None, length, replicate, slice_index, slice_set}
 use Rattle.limits.specs.Limits.{greatest_position_count}
-use Rattle.kernel_code.specs.declared.syntax.Arr.{Arr}
 use Rattle.kernel_code.specs.declared.syntax.Arr.TheVariants.{Coordinates, Width}
 use Rattle.level_core.specs.declared.span.Span.{Span}
 use Rattle.level_core.specs.declared.span.Entry.{Entry}
-use Rattle.level_core.specs.declared.stage.Stage.TheVariants.{Finished}
+use Rattle.level_core.specs.declared.letter.Letter.TheVariants.{Hashed as HashedLetter}
 use Rattle.level_core.specs.Entries.{span}
-use Rattle.level_core.specs.Logs.{Log}
+use Rattle.level_core.specs.Logs.{nothing_appended}
+use Rattle.level_core.specs.Meaning.{Arrays, Meaning}
 use Rattle.hashed_level.specs.Slots.{empty_slot, filled, KeepsBlock, FirstEmpty}
 use Rattle.kernel_code.specs.Widths.{slot_width}
 
@@ -39,7 +39,7 @@ abbrev pub base_of : Hashed → ℕ → ℕ
 base_of l p = p * block_width l
 
 -- the rules of hashed levels: a block for each parent within the limit, of a power of two of slots, and each block keeps its own
-pub record Keeps (l : Hashed) : Type 0 where
+pub record KeepsRules (l : Hashed) : Type 0 where
   pub size : l.size ≤ greatest_position_count
   pub count : length l.slots ≡ l.parents * block_width l
   pub within : length l.slots ≤ greatest_position_count
@@ -49,45 +49,56 @@ pub record Keeps (l : Hashed) : Type 0 where
   pub blocks : (p : ℕ) → p < l.parents → KeepsBlock (slice_index l.slots) l.size (block_width l) (base_of l p)
 
 -- the width and the slots are stored
-pub record Held (l : Hashed) (tensor level : ℕ) (arrays : Arr → Option (List ℕ)) : Type 0 where
+pub record Holds (l : Hashed) (tensor level : ℕ) (arrays : Arrays) : Type 0 where
   pub width : arrays (Width tensor level) ≡ Some (width_words l.width)
   pub slots : arrays (Coordinates tensor level) ≡ Some l.slots
 
+-- so many parents were prepared
+pub record HasParents (l : Hashed) (parents : ℕ) : Type 0 where
+  pub rules : KeepsRules l
+  pub prepared : l.width ≢ None
+  pub count : l.parents ≡ parents
+
 -- one prepared parent of a level that keeps the rules
 pub record IsAllowed (l : Hashed) (parent : Span) : Type 0 where
-  pub rules : Keeps l
+  pub rules : KeepsRules l
   pub one_parent : parent.hi ≡ parent.lo + 1
   pub prepared : parent.lo < l.parents
 
-abbrev pub hashed_segment : Hashed → Span → Span
-hashed_segment l parent = span (base_of l parent.lo) (base_of l parent.lo + block_width l)
+abbrev pub segment_of : Hashed → Span → Span
+segment_of l parent = span (base_of l parent.lo) (base_of l parent.lo + block_width l)
 
-abbrev pub hashed_entries : Hashed → Span → List Entry
-hashed_entries l parent = filled (slice_index l.slots) (block_width l) (base_of l parent.lo)
-
--- nothing is ever appended
-abbrev pub nothing_appended : Log
-nothing_appended = record { stage = Finished; coords = []; counts = []; next = 0 }
-
--- the slots of so many parents
-abbrev pub hashed_positions : Hashed → ℕ → ℕ → ℕ
-hashed_positions l parents most = parents * slot_width most
-
--- parents are prepared once, and the coordinates of each are within the limit
-pub record MayPrepare (l : Hashed) (parents most : ℕ) : Type 0 where
-  pub rules : Keeps l
-  pub fresh : l.width ≡ None
-  pub coordinates : most ≤ greatest_position_count
+abbrev pub entries_of : Hashed → Span → List Entry
+entries_of l parent = filled (slice_index l.slots) (block_width l) (base_of l parent.lo)
 
 -- so many parents without entries
-abbrev pub prepared : Hashed → ℕ → ℕ → Hashed
-prepared l parents most = hashed l.size (replicate (parents * slot_width most) empty_slot) (Some (slot_width most)) parents
+abbrev pub with_blocks : Hashed → ℕ → ℕ → Hashed
+with_blocks l parents most = hashed l.size (replicate (parents * slot_width most) empty_slot) (Some (slot_width most)) parents
+
+abbrev pub Prepared : Hashed → ℕ → ℕ → Hashed → Type 0
+Prepared l parents most m = m ≡ with_blocks l parents most
 
 -- the level with a coordinate in a slot
 abbrev pub with_coordinate : Hashed → ℕ → ℕ → Hashed
 with_coordinate l x slot = hashed l.size (slice_set l.slots slot x) l.width l.parents
 
 -- a coordinate was put in the first empty slot from where it is sought on
-pub record IsInserted (l : Hashed) (parent x slot : ℕ) (m : Hashed) : Type 0 where
+pub record Inserted (l : Hashed) (parent x slot : ℕ) (m : Hashed) : Type 0 where
   pub first : FirstEmpty (slice_index l.slots) (block_width l) (base_of l parent) x slot
   pub level : m ≡ with_coordinate l x slot
+
+abbrev pub meaning : Meaning Hashed
+meaning = record {
+  kind = λ l. HashedLetter;
+  keeps = KeepsRules;
+  size = λ l. l.size;
+  width = λ l. l.width;
+  holds = Holds;
+  has_parents = HasParents;
+  allowed = IsAllowed;
+  segment_of = segment_of;
+  entries = entries_of;
+  log = λ l. nothing_appended;
+  prepared = Prepared;
+  inserted = Inserted;
+}

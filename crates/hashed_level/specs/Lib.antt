@@ -1,10 +1,6 @@
 pub mod Code
-pub mod CodeLaws
 pub mod Hashed
-pub mod HashedLaws
-pub mod Slots
-pub mod OrderLaws
-pub mod RowLaws
-pub mod SearchCode
+pub mod Laws
 pub mod SearchLaws
 pub mod SlotLaws
+pub mod Slots

@@ -1,12 +1,20 @@
 -- A block of slots: each is empty or holds a coordinate. f tells what a slot holds, a block of width w begins at base, and
 -- coordinate x is sought from slot x mod w of the block on, wrapping.
 use Rattle.std.specs.Prelude.{◌≡◌, ◌≢◌, ◌⊎◌, ℕ, zero, suc, ◌+◌, ◌%◌, ◌^◌, ◌-◌, ◌<◌, ◌==◌, if◌then◌else◌, List, [], ◌∷◌, Option, Some, None}
+use Rattle.std.proofs.Common.{arith}
+use Rattle.limits.specs.Limits.{greatest_position_count}
+use Rattle.limits.proofs.Limits.{positions_are_small}
 use Rattle.level_core.specs.declared.span.Entry.{Entry}
 use Rattle.level_core.specs.Entries.{one}
 
 -- what an empty slot holds: the last word
 unfoldable pub empty_slot : ℕ
 empty_slot = 2 ^ 64 - 1
+
+-- no coordinate is so large
+pub positions_below_empty : greatest_position_count < empty_slot
+unfolding empty_slot
+positions_below_empty = let small = positions_are_small in omega (arith, small)
 
 -- the entry of a slot before others, if it isn't empty
 abbrev pub with_slot : ℕ → ℕ → List Entry → List Entry

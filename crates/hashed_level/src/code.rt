@@ -2,22 +2,22 @@ ghost use Rattle.std.specs.Prelude.{◌≡◌, ◌≤◌, ◌^◌, IfOk};
 ghost use Rattle.hashed_level.specs.Code.{width_word, base_word, wrapped_word, slot_word, filled_test, other_test, more_test, search_test, search_step, search_code, found_test, found_code, locate_code, insert_code, coord_code, prepare_code};
 
 use crate::slots::empty_slot;
-use kernel_code::{Arr, KExpr, KStmt, LoopKind, Op, binary, copy_expr, one_statement};
-use level_core::{leave_one, leave_two, word_at};
+use kernel_code::{Arr, KExpr, KStmt, LoopKind, Op, binary, copy_expr, one_statement, word_at};
+use level_core::{leave_one, leave_two};
 use limits::greatest_positions;
 use std::alloc::{AllocError, Global};
 use trees::{Boxed, Items};
 
 // Each of these is refused for want of memory alone.
 
-fn width_of_block(alloc: Global, tensor: u64, level: u64) -> Result<KExpr, AllocError>
+fn width_word(alloc: Global, tensor: u64, level: u64) -> Result<KExpr, AllocError>
     ensures { IfOk result (λ e. e ≡ width_word tensor level) }
 {
     word_at(alloc, Arr::Width(tensor, level), KExpr::Num(0))
 }
 
 /// Where a parent's block begins.
-pub(crate) fn base_of_block(
+pub(crate) fn base_word(
     alloc: Global,
     tensor: u64,
     level: u64,
@@ -25,26 +25,26 @@ pub(crate) fn base_of_block(
 ) -> Result<KExpr, AllocError>
     ensures { IfOk result (λ e. e ≡ base_word tensor level parent) }
 {
-    let width = width_of_block(alloc, tensor, level)?;
+    let width = width_word(alloc, tensor, level)?;
     binary(alloc, Op::Mul, parent, width)
 }
 
-fn wrapped(alloc: Global, tensor: u64, level: u64, e: KExpr) -> Result<KExpr, AllocError>
+fn wrapped_word(alloc: Global, tensor: u64, level: u64, e: KExpr) -> Result<KExpr, AllocError>
     ensures { IfOk result (λ r. r ≡ wrapped_word tensor level e) }
 {
-    let width = width_of_block(alloc, tensor, level)?;
+    let width = width_word(alloc, tensor, level)?;
     let mask = binary(alloc, Op::Sub, width, KExpr::Num(1))?;
     binary(alloc, Op::BitAnd, e, mask)
 }
 
-fn slot_of_search(alloc: Global, free: u64) -> Result<KExpr, AllocError>
+fn slot_word(alloc: Global, free: u64) -> Result<KExpr, AllocError>
     requires { free ≤ 2 ^ 63 }
     ensures { IfOk result (λ e. e ≡ slot_word free) }
 {
     binary(alloc, Op::Add, KExpr::Var(free), KExpr::Var(free + 1))
 }
 
-fn test_filled(alloc: Global, tensor: u64, level: u64, slot: KExpr) -> Result<KExpr, AllocError>
+fn filled_test(alloc: Global, tensor: u64, level: u64, slot: KExpr) -> Result<KExpr, AllocError>
     ensures { IfOk result (λ e. e ≡ filled_test tensor level slot) }
 {
     let word = word_at(alloc, Arr::Coordinates(tensor, level), slot)?;
@@ -52,7 +52,7 @@ fn test_filled(alloc: Global, tensor: u64, level: u64, slot: KExpr) -> Result<KE
     binary(alloc, Op::NotEqual, word, KExpr::Num(empty))
 }
 
-fn test_other(
+fn other_test(
     alloc: Global,
     tensor: u64,
     level: u64,
@@ -65,15 +65,15 @@ fn test_other(
     binary(alloc, Op::NotEqual, word, x)
 }
 
-fn test_more(alloc: Global, tensor: u64, level: u64, free: u64) -> Result<KExpr, AllocError>
+fn more_test(alloc: Global, tensor: u64, level: u64, free: u64) -> Result<KExpr, AllocError>
     requires { free ≤ 2 ^ 63 }
     ensures { IfOk result (λ e. e ≡ more_test tensor level free) }
 {
-    let width = width_of_block(alloc, tensor, level)?;
+    let width = width_word(alloc, tensor, level)?;
     binary(alloc, Op::Less, KExpr::Var(free + 2), width)
 }
 
-fn test_search(
+fn search_test(
     alloc: Global,
     tensor: u64,
     level: u64,
@@ -83,16 +83,16 @@ fn test_search(
     requires { free ≤ 2 ^ 63 }
     ensures { IfOk result (λ e. e ≡ search_test tensor level x free) }
 {
-    let more = test_more(alloc, tensor, level, free)?;
-    let slot = slot_of_search(alloc, free)?;
-    let again = slot_of_search(alloc, free)?;
-    let filled = test_filled(alloc, tensor, level, slot)?;
-    let other = test_other(alloc, tensor, level, again, x)?;
+    let more = more_test(alloc, tensor, level, free)?;
+    let slot = slot_word(alloc, free)?;
+    let again = slot_word(alloc, free)?;
+    let filled = filled_test(alloc, tensor, level, slot)?;
+    let other = other_test(alloc, tensor, level, again, x)?;
     let goes = binary(alloc, Op::And, filled, other)?;
     binary(alloc, Op::And, more, goes)
 }
 
-fn step_of_search(
+fn search_step(
     alloc: Global,
     tensor: u64,
     level: u64,
@@ -102,7 +102,7 @@ fn step_of_search(
     ensures { IfOk result (λ code. code ≡ search_step tensor level free) }
 {
     let next = binary(alloc, Op::Add, KExpr::Var(free + 1), KExpr::Num(1))?;
-    let next = wrapped(alloc, tensor, level, next)?;
+    let next = wrapped_word(alloc, tensor, level, next)?;
     let steps = binary(alloc, Op::Add, KExpr::Var(free + 2), KExpr::Num(1))?;
     let mut code = one_statement(alloc, KStmt::Set(free + 1, next))?;
     code.push(KStmt::Set(free + 2, steps))?;
@@ -110,7 +110,7 @@ fn step_of_search(
 }
 
 /// Code that seeks a coordinate below a parent.
-fn search(
+fn search_code(
     alloc: Global,
     tensor: u64,
     level: u64,
@@ -121,12 +121,12 @@ fn search(
     requires { free ≤ 2 ^ 63 }
     ensures { IfOk result (λ code. code ≡ search_code tensor level parent x.now free) }
 {
-    let base = base_of_block(alloc, tensor, level, parent)?;
+    let base = base_word(alloc, tensor, level, parent)?;
     let first = copy_expr(alloc, x)?;
-    let first = wrapped(alloc, tensor, level, first)?;
+    let first = wrapped_word(alloc, tensor, level, first)?;
     let again = copy_expr(alloc, x)?;
-    let test = test_search(alloc, tensor, level, again, free)?;
-    let step = step_of_search(alloc, tensor, level, free)?;
+    let test = search_test(alloc, tensor, level, again, free)?;
+    let step = search_step(alloc, tensor, level, free)?;
     let mut code = one_statement(alloc, KStmt::Set(free, base))?;
     code.push(KStmt::Set(free + 1, first))?;
     code.push(KStmt::Set(free + 2, KExpr::Num(0)))?;
@@ -135,7 +135,7 @@ fn search(
 }
 
 /// Code that leaves the position of a coordinate below a parent, or none.
-pub(crate) fn leave_position(
+pub(crate) fn locate_code(
     alloc: Global,
     tensor: u64,
     level: u64,
@@ -146,12 +146,12 @@ pub(crate) fn leave_position(
     requires { free ≤ 2 ^ 63 }
     ensures { IfOk result (λ code. code ≡ locate_code tensor level parent x free) }
 {
-    let mut code = search(alloc, tensor, level, parent, &x, free)?;
-    let more = test_more(alloc, tensor, level, free)?;
-    let slot = slot_of_search(alloc, free)?;
-    let filled = test_filled(alloc, tensor, level, slot)?;
+    let mut code = search_code(alloc, tensor, level, parent, &x, free)?;
+    let more = more_test(alloc, tensor, level, free)?;
+    let slot = slot_word(alloc, free)?;
+    let filled = filled_test(alloc, tensor, level, slot)?;
     let test = binary(alloc, Op::And, more, filled)?;
-    let position = slot_of_search(alloc, free)?;
+    let position = slot_word(alloc, free)?;
     let mut found = one_statement(alloc, KStmt::Set(free + 1, position))?;
     found.push(KStmt::Set(free, KExpr::Num(1)))?;
     let missing = leave_one(alloc, free, KExpr::Num(0))?;
@@ -160,7 +160,7 @@ pub(crate) fn leave_position(
 }
 
 /// Code that puts a coordinate into the first empty slot below a parent, and leaves that slot.
-pub(crate) fn put_coordinate(
+pub(crate) fn insert_code(
     alloc: Global,
     tensor: u64,
     level: u64,
@@ -171,16 +171,16 @@ pub(crate) fn put_coordinate(
     requires { free ≤ 2 ^ 63 }
     ensures { IfOk result (λ code. code ≡ insert_code tensor level parent x free) }
 {
-    let mut code = search(alloc, tensor, level, parent, &x, free)?;
-    let slot = slot_of_search(alloc, free)?;
-    let answer = slot_of_search(alloc, free)?;
+    let mut code = search_code(alloc, tensor, level, parent, &x, free)?;
+    let slot = slot_word(alloc, free)?;
+    let answer = slot_word(alloc, free)?;
     code.push(KStmt::Put(Arr::Coordinates(tensor, level), slot, x))?;
     code.push(KStmt::Set(free, answer))?;
     Ok(code)
 }
 
 /// Code that leaves the coordinate in a slot, or none.
-pub(crate) fn leave_coordinate(
+pub(crate) fn coord_code(
     alloc: Global,
     tensor: u64,
     level: u64,
@@ -191,7 +191,7 @@ pub(crate) fn leave_coordinate(
     ensures { IfOk result (λ code. code ≡ coord_code tensor level pos free) }
 {
     let again = copy_expr(alloc, &pos)?;
-    let test = test_filled(alloc, tensor, level, again)?;
+    let test = filled_test(alloc, tensor, level, again)?;
     let word = word_at(alloc, Arr::Coordinates(tensor, level), pos)?;
     let found = leave_two(alloc, free, KExpr::Num(1), word)?;
     let missing = leave_one(alloc, free, KExpr::Num(0))?;
@@ -201,7 +201,7 @@ pub(crate) fn leave_coordinate(
 
 /// Code that makes so many parents of at most so many coordinates each.
 #[tactic(auto, using(limits::proofs::Limits::positions_are_small))]
-pub(crate) fn make_parents(
+pub(crate) fn prepare_code(
     alloc: Global,
     tensor: u64,
     level: u64,

@@ -2,9 +2,9 @@ ghost use Rattle.std.specs.Prelude.{◌≡◌, ◌≤◌, ◌<◌, ◌+◌, ◌*
 ghost use Rattle.limits.specs.Limits.{greatest_position_count};
 ghost use Rattle.level_core.specs.declared.letter.Letter.TheVariants.{Hashed as HashedLetter};
 ghost use Rattle.level_core.specs.Entries.{one, span, position_of};
-ghost use Rattle.level_core.specs.Kinds.{MayInsert};
+ghost use Rattle.level_core.specs.Kinds.{positions_for, MayPrepare, MayInsert};
 ghost use Rattle.hashed_level.specs.Slots.{coord_of, FirstEmpty};
-ghost use Rattle.hashed_level.specs.Hashed.{hashed, Keeps, IsAllowed, block_width, base_of, hashed_segment, hashed_entries, hashed_positions, MayPrepare, prepared, IsInserted};
+ghost use Rattle.hashed_level.specs.Hashed.{hashed, KeepsRules, IsAllowed, block_width, base_of, segment_of, entries_of, with_blocks, Inserted};
 
 use crate::slots::{coordinate_of, empty_slots, slot_of, sought};
 use crate::widths::width_for;
@@ -25,13 +25,13 @@ pub struct HashedLevel {
 }
 
 impl Model for HashedLevel {
-    ghost use Rattle.hashed_level.specs.Hashed.{Hashed, hashed, Keeps};
+    ghost use Rattle.hashed_level.specs.Hashed.{Hashed, hashed, KeepsRules};
 
     ghost Value = { Hashed };
 
     ghost view = { λ a. hashed a.size a.slots.items a.width a.parents };
 
-    ghost invariant = { λ a. Keeps (hashed a.size a.slots.items a.width a.parents) };
+    ghost invariant = { λ a. KeepsRules (hashed a.size a.slots.items a.width a.parents) };
 }
 
 impl HashedLevel {
@@ -50,9 +50,24 @@ impl HashedLevel {
         })
     }
 
+    /// A level of a mode with the range `n` and so many prepared parents, each with a block of `width` slots. It takes no
+    /// memory.
+    pub fn from_slots(alloc: Global, n: u64, width: u64, parents: u64, slots: Segment<u64>) -> Self
+        requires { KeepsRules (hashed n slots.items (Some width) parents) }
+        ensures { result ≡ hashed n slots.items (Some width) parents }
+    {
+        HashedLevel {
+            alloc,
+            size: n,
+            slots,
+            width: Some(width),
+            parents,
+        }
+    }
+
     /// Tells that the level keeps the rules.
     pub(crate) fn know_rules(&self)
-        ensures { Keeps self.now }
+        ensures { KeepsRules self.now }
     {
         let _size = self.size;
     }
@@ -90,7 +105,7 @@ impl HashedLevel {
     /// The slot of a coordinate below a parent, if it is there.
     pub(crate) fn position_below(&self, parent: u64, x: u64) -> Option<u64>
         requires { IsAllowed self.now (one parent) }
-        ensures { result ≡ position_of (hashed_entries self.now (one parent)) x }
+        ensures { result ≡ position_of (entries_of self.now (one parent)) x }
     {
         let block = self.block_of(parent);
         let width = self.width_now();
@@ -99,9 +114,9 @@ impl HashedLevel {
 
     /// Makes so many parents without entries. Refused for want of memory, the level is as before.
     pub(crate) fn make_blocks(&mut self, parents: u64, most: u64) -> Result<(), AllocError>
-        requires may { MayPrepare self.old parents most }
-        requires within { hashed_positions self.old parents most ≤ greatest_position_count }
-        ensures ok { OnOk result (self.new ≡ prepared self.old parents most) }
+        requires may { MayPrepare HashedLetter self.old.width most }
+        requires within { positions_for HashedLetter self.old.size parents most ≤ greatest_position_count }
+        ensures ok { OnOk result (self.new ≡ with_blocks self.old parents most) }
         ensures err { OnErr result (self.new ≡ self.old) }
     {
         let width = width_for(most);
@@ -115,7 +130,7 @@ impl HashedLevel {
     /// Where a coordinate that isn't there is to be put.
     fn slot_for(&self, parent: u64, x: u64) -> u64
         requires parent { IsAllowed self.now (one parent) }
-        requires may { MayInsert HashedLetter self.now.size (hashed_segment self.now (one parent)) (hashed_entries self.now (one parent)) x }
+        requires may { MayInsert HashedLetter self.now.size (segment_of self.now (one parent)) (entries_of self.now (one parent)) x }
         ensures { FirstEmpty (slice_index self.now.slots) (block_width self.now) (base_of self.now parent) x result }
     {
         let block = self.block_of(parent);
@@ -129,8 +144,8 @@ impl HashedLevel {
     /// Puts a coordinate that isn't there into the first empty slot, and answers that slot.
     pub(crate) fn put_below(&mut self, parent: u64, x: u64) -> u64
         requires parent { IsAllowed self.old (one parent) }
-        requires may { MayInsert HashedLetter self.old.size (hashed_segment self.old (one parent)) (hashed_entries self.old (one parent)) x }
-        ensures { IsInserted self.old parent x result self.new }
+        requires may { MayInsert HashedLetter self.old.size (segment_of self.old (one parent)) (entries_of self.old (one parent)) x }
+        ensures { Inserted self.old parent x result self.new }
     {
         let slot = self.slot_for(parent, x);
         self.slots.set(slot as usize, x);

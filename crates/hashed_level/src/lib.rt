@@ -4,14 +4,11 @@
 #![tactic(auto)]
 
 mod code;
-mod fragments;
 mod hashed;
-mod laws;
+mod inserting;
+mod kind;
 mod reading;
 mod slots;
-#[cfg(test)]
-mod tests;
 mod widths;
 
 pub use hashed::HashedLevel;
-pub use laws::increasing_inserts_keep_order;

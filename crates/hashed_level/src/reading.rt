@@ -1,6 +1,5 @@
 use crate::hashed::HashedLevel;
-use level_core::{Insert, Level, Span};
-use std::alloc::AllocError;
+use level_core::{Level, Span};
 
 impl Level for HashedLevel {
     fn tell_rules(&self) {
@@ -24,15 +23,5 @@ impl Level for HashedLevel {
 
     fn locate(&self, parent: u64, x: u64) -> Option<u64> {
         self.position_below(parent, x)
-    }
-}
-
-impl Insert for HashedLevel {
-    fn prepare(&mut self, parents: u64, most: u64) -> Result<(), AllocError> {
-        self.make_blocks(parents, most)
-    }
-
-    fn insert_coord(&mut self, parent: u64, x: u64) -> u64 {
-        self.put_below(parent, x)
     }
 }

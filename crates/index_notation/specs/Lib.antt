@@ -1,8 +1,13 @@
+pub mod Faults
+pub mod Grammar
+pub mod Notation
 pub mod Numbering
 pub mod NumberingLaws
 pub mod Sentence
 pub mod SentenceLaws
 pub mod Statement
+pub mod Symbols
 pub mod Text
 pub mod TokenLaws
 pub mod Tokens
+pub mod TreeStatement

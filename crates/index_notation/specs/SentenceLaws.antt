@@ -15,7 +15,8 @@ front_variables _ = None
 
 -- the access at the front, and the tokens behind it
 abbrev pub front_access : List Token → Option (WrittenAccess × List Token)
-front_access (NameToken name ∷ MarkToken Open ∷ rest) = option_map (λ front. (record { name = name; vars = front.0 }, front.1)) (front_variables rest)
+front_access (NameToken name ∷ MarkToken Open ∷ rest) =
+    option_map (λ front. (record { name = name; vars = front.0 }, front.1)) (front_variables rest)
 front_access (NameToken name ∷ rest) = Some (record { name = name; vars = [] }, rest)
 front_access _ = None
 

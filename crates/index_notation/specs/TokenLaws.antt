@@ -5,4 +5,7 @@ use Rattle.index_notation.specs.declared.sentence.Mark.TheVariants.{Equals, Plus
 
 -- the mark that a byte is
 abbrev pub mark_at : ℕ → Option Mark
-mark_at b = if b == 61 then Some Equals else (if b == 43 then Some Plus else (if b == 45 then Some Minus else (if b == 42 then Some Times else (if b == 40 then Some Open else (if b == 41 then Some Close else (if b == 44 then Some Comma else None))))))
+mark_at b =
+    if b == 61 then Some Equals else (if b == 43 then Some Plus else (if b == 45 then Some Minus else
+    (if b == 42 then Some Times else (if b == 40 then Some Open else (if b == 41 then Some Close else
+    (if b == 44 then Some Comma else None))))))

@@ -10,6 +10,3 @@ mod loops;
 pub use accesses::edges;
 pub use laws::{edges_lead_forward, edges_lead_round_a_cycle};
 pub use loops::{OrderFault, order};
-
-#[cfg(test)]
-mod tests;

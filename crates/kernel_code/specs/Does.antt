@@ -29,6 +29,7 @@ abbrev pub Never : Refusal
 Never t a count = ⊥
 
 -- what one test of a loop finds: it ends here, or a body run leads to a state with less to do
-pub data Turn (c : Setting) (k : LoopKind) (e : KExpr) (body : List KStmt) (s : State) (Less : State → Type 0) (P : State → Type 0) (R : Refusal) : Type 0 where
+pub data Turn (c : Setting) (k : LoopKind) (e : KExpr) (body : List KStmt) (s : State) (Less : State → Type 0) (P : State → Type 0)
+    (R : Refusal) : Type 0 where
   Ends : value e s ≡ Some 0 → P s → Turn c k e body s Less P R
   Goes : (v : ℕ) → value e s ≡ Some (suc v) → Does c body (one_turn s k) Less R → Turn c k e body s Less P R

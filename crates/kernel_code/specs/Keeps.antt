@@ -3,7 +3,8 @@
 use Rattle.std.specs.Prelude.{◌≡◌, ℕ, ◌+◌, ◌≤◌, ◌<◌, if◌then◌else◌}
 use Rattle.kernel_code.specs.declared.syntax.Arr.{Arr}
 use Rattle.kernel_code.specs.declared.syntax.LoopKind.{LoopKind}
-use Rattle.kernel_code.specs.declared.syntax.KExpr.{KExpr, Num, Var, At', Len, Bin', Min', Width', Row_of-KExpr, end_of-KExpr, more_of-KExpr}
+use Rattle.kernel_code.specs.declared.syntax.KExpr.{KExpr, Num, Var, At', Len, Bin', Min', Width', Row_of-KExpr, end_of-KExpr}
+use Rattle.kernel_code.specs.declared.syntax.KExpr.{more_of-KExpr}
 use Rattle.kernel_code.specs.Meaning.{State, same_kind}
 
 abbrev mutual

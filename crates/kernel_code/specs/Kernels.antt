@@ -2,7 +2,8 @@
 use Rattle.std.specs.Prelude.{ℕ, ◌+◌, Bool, nat_lt, nat_le, if◌then◌else◌, List, [], length, Option, Some, None, slice_index}
 use Rattle.numbers.specs.Arithmetic.{Arithmetic}
 use Rattle.kernel_code.specs.declared.syntax.Arr.{Arr}
-use Rattle.kernel_code.specs.declared.syntax.Arr.TheVariants.{Range, Values, Dimension, Ends, Coordinates, Width, Key, Sums, ListCoordinates, ListPositions}
+use Rattle.kernel_code.specs.declared.syntax.Arr.TheVariants.{Range, Values, Dimension, Ends, Coordinates, Width, Key, Sums}
+use Rattle.kernel_code.specs.declared.syntax.Arr.TheVariants.{ListCoordinates, ListPositions}
 use Rattle.kernel_code.specs.declared.syntax.LoopKind.{LoopKind}
 use Rattle.kernel_code.specs.declared.syntax.LoopKind.TheVariants.{Merge, Skip, Gather, Drain, Probe}
 use Rattle.kernel_code.specs.declared.syntax.Place.{Place}
@@ -69,4 +70,5 @@ told order More = NotFinished
 
 -- a kernel whose result has this order, on these arrays, for at most n turns in all
 abbrev pub go : Arithmetic → ℕ → Kernel → (Arr → Option (List ℕ)) → ℕ → KernelOutcome
-go arithmetic order k given n = told order (within n (run_list (record { arithmetic = arithmetic; workspaces = k.workspaces }) n k.body (start_state k given)))
+go arithmetic order k given n =
+    told order (within n (run_list (record { arithmetic = arithmetic; workspaces = k.workspaces }) n k.body (start_state k given)))

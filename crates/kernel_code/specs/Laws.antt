@@ -1,7 +1,8 @@
 -- The laws of the kernel language that the crates above use, as the clauses of functions.
 use Rattle.std.specs.Prelude.{◌≡◌, ℕ, ◌<◌, Bool, true, false, List, [], ◌++◌, Option, None}
 use Rattle.kernel_code.specs.declared.syntax.Arr.{Arr}
-use Rattle.kernel_code.specs.declared.syntax.Arr.TheVariants.{Range, Values, Dimension, Ends, Coordinates, Width, Key, Sums, ListCoordinates, ListPositions}
+use Rattle.kernel_code.specs.declared.syntax.Arr.TheVariants.{Range, Values, Dimension, Ends, Coordinates, Width, Key, Sums}
+use Rattle.kernel_code.specs.declared.syntax.Arr.TheVariants.{ListCoordinates, ListPositions}
 use Rattle.kernel_code.specs.declared.syntax.Kernel.{Kernel}
 use Rattle.kernel_code.specs.declared.syntax.LoopKind.{LoopKind}
 use Rattle.kernel_code.specs.declared.syntax.KExpr.{KExpr}
@@ -13,7 +14,8 @@ use Rattle.kernel_code.specs.Keeps.{Below}
 
 -- an expression over variables below free has one value in all states that agree on these and on the arrays
 abbrev pub DependsOnMentioned : Type 0
-DependsOnMentioned = (free : ℕ) (e : KExpr) (s s' : State) → Below free e → ((y : ℕ) → y < free → s'.vars y ≡ s.vars y) → ((a : Arr) → s'.arrays a ≡ s.arrays a) → value e s' ≡ value e s
+DependsOnMentioned = (free : ℕ) (e : KExpr) (s s' : State) → Below free e → ((y : ℕ) → y < free → s'.vars y ≡ s.vars y)
+    → ((a : Arr) → s'.arrays a ≡ s.arrays a) → value e s' ≡ value e s
 
 -- code and then more code does the one and then the other
 abbrev pub RunsInOrder : Type 0
@@ -21,11 +23,13 @@ RunsInOrder = (c : Setting) (n : ℕ) (a b : List KStmt) (s : State) → run_lis
 
 -- a choice does one of its bodies, by its test
 abbrev pub ChoosesByTest : Type 0
-ChoosesByTest = (c : Setting) (n : ℕ) (e : KExpr) (first second : List KStmt) (s : State) → run c n (If e first second) s ≡ choice s (value e s) (run_list c n first s) (run_list c n second s)
+ChoosesByTest = (c : Setting) (n : ℕ) (e : KExpr) (first second : List KStmt) (s : State)
+    → run c n (If e first second) s ≡ choice s (value e s) (run_list c n first s) (run_list c n second s)
 
 -- a loop does its body turn by turn
 abbrev pub LoopsByTurns : Type 0
-LoopsByTurns = (c : Setting) (n : ℕ) (k : LoopKind) (e : KExpr) (body : List KStmt) (s : State) → run c n (While k e body) s ≡ run_turns n k (value e) (run_list c n body) s
+LoopsByTurns = (c : Setting) (n : ℕ) (k : LoopKind) (e : KExpr) (body : List KStmt) (s : State)
+    → run c n (While k e body) s ≡ run_turns n k (value e) (run_list c n body) s
 
 -- a run leaves at least the turns that it starts with
 abbrev pub TurnsNeverFall : Type 0
@@ -46,4 +50,5 @@ is_scratch (Width n l) = false
 
 -- a kernel without workspaces and scratch lists starts on the arrays that it is given, if these have none
 abbrev pub StartsAsGiven : Type 0
-StartsAsGiven = (k : Kernel) (given : Arr → Option (List ℕ)) → k.workspaces ≡ [] → k.lists ≡ 0 → ((a : Arr) → is_scratch a ≡ true → given a ≡ None) → (a : Arr) → start_arrays k given a ≡ given a
+StartsAsGiven = (k : Kernel) (given : Arr → Option (List ℕ)) → k.workspaces ≡ [] → k.lists ≡ 0
+    → ((a : Arr) → is_scratch a ≡ true → given a ≡ None) → (a : Arr) → start_arrays k given a ≡ given a

@@ -1,5 +1,7 @@
 -- What an expression's value is, and what a statement does.
-use Rattle.std.specs.Prelude.{ℕ, zero, suc, ◌+◌, ◌*◌, ◌^◌, min, Bool, true, false, not, nat_lt, nat_le, ◌==◌, ◌&&◌, ◌||◌, if◌then◌else◌, List, [], ◌∷◌, ◌++◌, length, map, take, replicate, Option, Some, None, slice_get, slice_index, slice_set, bit_and}
+use Rattle.std.specs.Prelude.{ℕ, zero, suc, ◌+◌, ◌*◌, ◌^◌, min, Bool, true, false, not, nat_lt, nat_le, ◌==◌, ◌&&◌, ◌||◌, if◌then◌else◌}
+use Rattle.std.specs.Prelude.{List, [], ◌∷◌, ◌++◌, length, map, take, replicate, Option, Some, None, slice_get, slice_index, slice_set}
+use Rattle.std.specs.Prelude.{bit_and}
 use Rattle.numbers.specs.Arithmetic.{Arithmetic}
 use Rattle.numbers.specs.Ring.{word_sum, word_difference, word_product}
 use Rattle.kernel_code.specs.declared.syntax.Arr.{Arr}
@@ -10,8 +12,10 @@ use Rattle.kernel_code.specs.declared.syntax.Op.{Op}
 use Rattle.kernel_code.specs.declared.syntax.Op.TheVariants as op
 use Rattle.kernel_code.specs.declared.syntax.ValueOp.{ValueOp}
 use Rattle.kernel_code.specs.declared.syntax.ValueOp.TheVariants as value_op
-use Rattle.kernel_code.specs.declared.syntax.KExpr.{KExpr, Num, Var, At', Len, Bin', Min', Width', Row_of-KExpr, end_of-KExpr, more_of-KExpr}
-use Rattle.kernel_code.specs.declared.syntax.KStmt.{KStmt, Set, Combine, Put, AddTo, Push, Extend, Cut, Sort, SortSum, If', While', Row_of-KStmt, end_of-KStmt, more_of-KStmt}
+use Rattle.kernel_code.specs.declared.syntax.KExpr.{KExpr, Num, Var, At', Len, Bin', Min', Width', Row_of-KExpr, end_of-KExpr}
+use Rattle.kernel_code.specs.declared.syntax.KExpr.{more_of-KExpr}
+use Rattle.kernel_code.specs.declared.syntax.KStmt.{KStmt, Set, Combine, Put, AddTo, Push, Extend, Cut, Sort, SortSum, If', While'}
+use Rattle.kernel_code.specs.declared.syntax.KStmt.{Row_of-KStmt, end_of-KStmt, more_of-KStmt}
 use Rattle.kernel_code.specs.Arrays.{same_arr, may_write, may_have, told_count, sum_in}
 use Rattle.kernel_code.specs.Rows.{sorted_rows, list_rows, Row, summed_rows, rows_from, column_of}
 
@@ -26,7 +30,8 @@ pub record State : Type 0 where
   pub arrays : Arr → Option (List ℕ)
   pub turns : LoopKind → ℕ
 
--- how a run ends, each with the turns made: Over names the array and the count that is told of the length that the refused growth would have given; More where a loop had no turn left
+-- how a run ends, each with the turns made: Over names the array and the count that is told of the length that the refused
+-- growth would have given; More where a loop had no turn left
 pub data Outcome : Type 0 where
   Ended : (s : State) → Outcome
   Stuck : (turns : LoopKind → ℕ) → Outcome
@@ -152,7 +157,8 @@ abbrev pub put_outcome : State → Arr → Option ℕ → Option ℕ → Outcome
 put_outcome s a i v = with_value s i (λ i. with_value s v (λ v. with_array s a (changed s a i (λ old. v))))
 
 abbrev pub add_outcome : Arithmetic → State → Arr → Option ℕ → Option ℕ → Outcome
-add_outcome arithmetic s a i v = with_value s i (λ i. with_value s v (λ v. with_array s a (changed s a i (λ old. sum_in arithmetic a old v))))
+add_outcome arithmetic s a i v =
+    with_value s i (λ i. with_value s v (λ v. with_array s a (changed s a i (λ old. sum_in arithmetic a old v))))
 
 -- the words of an array and more, unless it may not have so many
 abbrev pub grown : State → Arr → ℕ → List ℕ → List ℕ → Outcome

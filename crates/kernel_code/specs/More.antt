@@ -15,4 +15,5 @@ Settled More = ⊥
 
 -- a kernel that finishes, is stuck or is refused a growth within n turns does the same within more
 abbrev pub GoesOn : Type 0
-GoesOn = (arithmetic : Arithmetic) (order : ℕ) (k : Kernel) (given : Arr → Option (List ℕ)) (n m : ℕ) → n ≤ m → (go arithmetic order k given n ≡ NotFinished → ⊥) → go arithmetic order k given m ≡ go arithmetic order k given n
+GoesOn = (arithmetic : Arithmetic) (order : ℕ) (k : Kernel) (given : Arr → Option (List ℕ)) (n m : ℕ) → n ≤ m
+    → (go arithmetic order k given n ≡ NotFinished → ⊥) → go arithmetic order k given m ≡ go arithmetic order k given n

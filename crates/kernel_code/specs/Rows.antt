@@ -42,7 +42,8 @@ row_before q r = is_lt (compare_keys q.keys r.keys)
 -- a row ahead of others, or its value added to that of the first where their keys are equal
 abbrev pub join_row : Arithmetic → Row → List Row → List Row
 join_row arithmetic r [] = r ∷ []
-join_row arithmetic r (q ∷ qs) = if is_eq (compare_keys r.keys q.keys) then record { keys = q.keys; value = arithmetic.plus r.value q.value } ∷ qs else r ∷ (q ∷ qs)
+join_row arithmetic r (q ∷ qs) =
+    if is_eq (compare_keys r.keys q.keys) then record { keys = q.keys; value = arithmetic.plus r.value q.value } ∷ qs else r ∷ (q ∷ qs)
 
 -- neighbours with equal keys as one row with the sum of their values
 abbrev pub joined_rows : Arithmetic → List Row → List Row

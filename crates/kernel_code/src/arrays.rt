@@ -1,4 +1,5 @@
-ghost use Rattle.std.specs.Prelude.{◌≡◌, ℕ, ◌+◌, ◌++◌, replicate, ◌<◌, ◌≤◌, Bool, true, false, length, MatchOption, IfOk, OnOk, OnErr, Some, None, slice_index_or, option_map};
+ghost use Rattle.std.specs.Prelude.{◌≡◌, ℕ, ◌+◌, ◌++◌, replicate, ◌<◌, ◌≤◌, Bool, true, false, length, MatchOption, IfOk, OnOk, OnErr};
+ghost use Rattle.std.specs.Prelude.{Some, None, slice_index_or, option_map};
 ghost use Rattle.kernel_code.specs.Arrays.{same_arr, may_write, may_have, told_count, sum_in};
 ghost use Rattle.kernel_code.specs.Store.{array_of, IsPlaceOf};
 

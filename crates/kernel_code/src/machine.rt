@@ -1,9 +1,13 @@
-ghost use Rattle.std.specs.Prelude.{◌≡◌, ℕ, ◌+◌, ◌^◌, ◌<◌, List, length, MatchOption, IfOk, OnOk, OnErr, ◌++◌, ◌∷◌, [], Some, None, take, replicate, slice_get, option_map, unwrap_or, map};
+ghost use Rattle.std.specs.Prelude.{◌≡◌, ℕ, ◌+◌, ◌^◌, ◌<◌, List, length, MatchOption, IfOk, OnOk, OnErr, ◌++◌, ◌∷◌, [], Some, None, take};
+ghost use Rattle.std.specs.Prelude.{replicate, slice_get, option_map, unwrap_or, map};
 ghost use Rattle.kernel_code.specs.Arrays.{sum_in};
-ghost use Rattle.kernel_code.specs.Meaning.{Ended, Stuck, Outcome, set_array, one_turn, sort_outcome, sort_sum_outcome, key_columns, set_columns, with_array, changed, grown, value, word_at, length_of, run_list, set_outcome, put_outcome, add_outcome, push_outcome, extend_outcome, cut_outcome};
+ghost use Rattle.kernel_code.specs.Meaning.{Ended, Stuck, Outcome, set_array, one_turn, sort_outcome, sort_sum_outcome, key_columns};
+ghost use Rattle.kernel_code.specs.Meaning.{set_columns, with_array, changed, grown, value, word_at, length_of, run_list, set_outcome};
+ghost use Rattle.kernel_code.specs.Meaning.{put_outcome, add_outcome, push_outcome, extend_outcome, cut_outcome};
 ghost use Rattle.kernel_code.specs.Kernels.{within};
 ghost use Rattle.kernel_code.specs.Rows.{row_of};
-ghost use Rattle.kernel_code.specs.Store.{count_of, state_of, outcome_of, empty_state, restarted, setting, has_ended, kept_at, made, IsWritable};
+ghost use Rattle.kernel_code.specs.Store.{count_of, state_of, outcome_of, empty_state, restarted, setting, has_ended, kept_at, made};
+ghost use Rattle.kernel_code.specs.Store.{IsWritable};
 
 use crate::arrays::{
     Words, append_copies, count_told, may_be_written, may_grow, place_of, sum_of_words,
@@ -116,7 +120,8 @@ impl Machine {
     /// Takes the words of an array out, which leaves the array empty. It takes no memory.
     pub fn take_array(&mut self, a: Arr) -> Option<Vec<u64>>
         ensures words { option_map (λ words. words.items) result ≡ (state_of self.old).arrays a }
-        ensures left { MatchOption result (state_of self.new ≡ state_of self.old) (λ _. state_of self.new ≡ set_array (state_of self.old) a []) }
+        ensures left { MatchOption result (state_of self.new ≡ state_of self.old)
+            (λ _. state_of self.new ≡ set_array (state_of self.old) a []) }
     {
         let Some(place) = place_of(self.arrays.as_slice(), a) else {
             return None;
@@ -132,7 +137,8 @@ impl Machine {
     }
 
     /// Runs code from its start, with no variable set, until `budget` turns are made in all. Values are
-    /// added and multiplied as `S` says, and `workspaces` has the number of keys of each workspace. The arrays are those of the machine, and stay its own.
+    /// added and multiplied as `S` says, and `workspaces` has the number of keys of each workspace. The arrays are those of the
+    /// machine, and stay its own.
     /// Refused for want of memory, the machine holds whatever the run has made of it.
     pub fn run<S: Semiring>(
         &mut self,
@@ -140,7 +146,8 @@ impl Machine {
         workspaces: &[u64],
         budget: u64,
     ) -> Result<Ending, AllocError>
-        ensures { IfOk result (λ ending. outcome_of ending (state_of self.new) ≡ within budget (run_list (setting S.arithmetic workspaces.now) budget code.now (restarted (state_of self.old)))) }
+        ensures { IfOk result (λ ending. outcome_of ending (state_of self.new)
+            ≡ within budget (run_list (setting S.arithmetic workspaces.now) budget code.now (restarted (state_of self.old)))) }
     {
         self.variables.clear();
         self.turns = NO_TURNS;
@@ -149,7 +156,8 @@ impl Machine {
 
     /// Gives the variables up to x a place.
     fn make_room(&mut self, x: u64) -> Result<(), AllocError>
-        ensures same { OnOk result ((y : ℕ) → kept_at (slice_get self.new.variables.items y) ≡ kept_at (slice_get self.old.variables.items y)) }
+        ensures same { OnOk result ((y : ℕ)
+            → kept_at (slice_get self.new.variables.items y) ≡ kept_at (slice_get self.old.variables.items y)) }
         ensures others { OnOk result ((self.new.arrays ≡ self.old.arrays) × (self.new.turns ≡ self.old.turns)) }
         ensures room { OnOk result (x < length self.new.variables.items) }
     {
@@ -209,7 +217,8 @@ impl Machine {
 
     /// The place of an array that exists and may be written.
     fn writable(&self, a: Arr) -> Option<usize>
-        ensures { MatchOption result ((next : List ℕ → Outcome) → with_array (state_of self.now) a next ≡ Stuck (state_of self.now).turns) (IsWritable self.now a) }
+        ensures { MatchOption result ((next : List ℕ → Outcome) → with_array (state_of self.now) a next ≡ Stuck (state_of self.now).turns)
+            (IsWritable self.now a) }
     {
         if !may_be_written(a) {
             return None;
@@ -218,7 +227,8 @@ impl Machine {
     }
 
     fn put_word(&mut self, a: Arr, i: u64, value: u64) -> Ending
-        ensures is { outcome_of result (state_of self.new) ≡ with_array (state_of self.old) a (changed (state_of self.old) a i (λ _. value)) }
+        ensures is { outcome_of result (state_of self.new)
+            ≡ with_array (state_of self.old) a (changed (state_of self.old) a i (λ _. value)) }
         ensures turns { self.new.turns ≡ self.old.turns }
     {
         let Some(place) = self.writable(a) else {
@@ -233,7 +243,8 @@ impl Machine {
     }
 
     fn add_word<S: Semiring>(&mut self, a: Arr, i: u64, value: u64) -> Ending
-        ensures is { outcome_of result (state_of self.new) ≡ with_array (state_of self.old) a (changed (state_of self.old) a i (λ old. sum_in S.arithmetic a old value)) }
+        ensures is { outcome_of result (state_of self.new)
+            ≡ with_array (state_of self.old) a (changed (state_of self.old) a i (λ old. sum_in S.arithmetic a old value)) }
         ensures turns { self.new.turns ≡ self.old.turns }
     {
         let Some(place) = self.writable(a) else {
@@ -249,7 +260,8 @@ impl Machine {
     }
 
     fn push_word(&mut self, a: Arr, value: u64) -> Result<Ending, AllocError>
-        ensures is { IfOk result (λ ending. outcome_of ending (state_of self.new) ≡ with_array (state_of self.old) a (λ xs. grown (state_of self.old) a (length xs + 1) xs (value ∷ []))) }
+        ensures is { IfOk result (λ ending. outcome_of ending (state_of self.new)
+            ≡ with_array (state_of self.old) a (λ xs. grown (state_of self.old) a (length xs + 1) xs (value ∷ []))) }
         ensures turns { OnOk result (self.new.turns ≡ self.old.turns) }
     {
         let Some(place) = self.writable(a) else {
@@ -266,7 +278,8 @@ impl Machine {
     }
 
     fn extend_words(&mut self, a: Arr, n: u64, value: u64) -> Result<Ending, AllocError>
-        ensures is { IfOk result (λ ending. outcome_of ending (state_of self.new) ≡ with_array (state_of self.old) a (λ xs. grown (state_of self.old) a (length xs + n) xs (replicate n value))) }
+        ensures is { IfOk result (λ ending. outcome_of ending (state_of self.new)
+            ≡ with_array (state_of self.old) a (λ xs. grown (state_of self.old) a (length xs + n) xs (replicate n value))) }
         ensures turns { OnOk result (self.new.turns ≡ self.old.turns) }
     {
         let Some(place) = self.writable(a) else {
@@ -283,7 +296,8 @@ impl Machine {
     }
 
     fn cut_words(&mut self, a: Arr, n: u64) -> Ending
-        ensures is { outcome_of result (state_of self.new) ≡ with_array (state_of self.old) a (λ xs. Ended (set_array (state_of self.old) a (take n xs))) }
+        ensures is { outcome_of result (state_of self.new)
+            ≡ with_array (state_of self.old) a (λ xs. Ended (set_array (state_of self.old) a (take n xs))) }
         ensures turns { self.new.turns ≡ self.old.turns }
     {
         let Some(place) = self.writable(a) else {
@@ -374,7 +388,9 @@ impl Machine {
 
     /// Sorts the rows of a scratch list by their coordinates.
     pub(crate) fn sort(&mut self, list: u64) -> Result<Ending, AllocError>
-        ensures is { IfOk result (λ ending. outcome_of ending (state_of self.new) ≡ sort_outcome (state_of self.old) list ((state_of self.old).arrays (Arr.ListCoordinates list)) ((state_of self.old).arrays (Arr.ListPositions list))) }
+        ensures is { IfOk result (λ ending. outcome_of ending (state_of self.new)
+            ≡ sort_outcome (state_of self.old) list ((state_of self.old).arrays (Arr.ListCoordinates list))
+            ((state_of self.old).arrays (Arr.ListPositions list))) }
         ensures turns { OnOk result (self.new.turns ≡ self.old.turns) }
     {
         let Some(coordinates) = self.array(Arr::ListCoordinates(list)) else {
@@ -412,7 +428,8 @@ impl Machine {
         keys: u64,
         count: usize,
     ) -> Result<Option<Vec<&[u64]>>, AllocError>
-        ensures { IfOk result (λ columns. option_map (λ cs. map (λ c. c.now) cs.items) columns ≡ key_columns (state_of self.now) workspace count keys) }
+        ensures { IfOk result (λ columns. option_map (λ cs. map (λ c. c.now) cs.items) columns
+            ≡ key_columns (state_of self.now) workspace count keys) }
     {
         let mut columns = Vec::new(self.alloc);
         for k in 0..keys {
@@ -434,7 +451,9 @@ impl Machine {
         keys: u64,
         rows: &[PlacedRow],
     ) -> Result<(), AllocError>
-        ensures is { OnOk result ((columns : List (List ℕ)) (count : ℕ) → key_columns (state_of self.old) workspace count keys ≡ Some columns → state_of self.new ≡ set_columns (state_of self.old) workspace (map (row_of columns) rows.now) keys) }
+        ensures is { OnOk result ((columns : List (List ℕ)) (count : ℕ)
+            → key_columns (state_of self.old) workspace count keys ≡ Some columns
+            → state_of self.new ≡ set_columns (state_of self.old) workspace (map (row_of columns) rows.now) keys) }
         ensures turns { OnOk result (self.new.turns ≡ self.old.turns) }
     {
         for k in 0..keys {
@@ -451,7 +470,9 @@ impl Machine {
         workspace: u64,
         workspaces: &[u64],
     ) -> Result<Ending, AllocError>
-        ensures is { IfOk result (λ ending. outcome_of ending (state_of self.new) ≡ sort_sum_outcome S.arithmetic (state_of self.old) workspace (slice_get workspaces.now workspace) ((state_of self.old).arrays (Arr.Sums workspace))) }
+        ensures is { IfOk result (λ ending. outcome_of ending (state_of self.new)
+            ≡ sort_sum_outcome S.arithmetic (state_of self.old) workspace (slice_get workspaces.now workspace)
+            ((state_of self.old).arrays (Arr.Sums workspace))) }
         ensures turns { OnOk result (self.new.turns ≡ self.old.turns) }
     {
         let Some(keys) = number_of_keys(workspaces, workspace) else {

@@ -18,7 +18,8 @@ pub(crate) fn run_statement<S: Semiring>(
     limit: u64,
 ) -> Result<Ending, AllocError>
     requires { made machine.old ≤ limit }
-    ensures { IfOk result (λ ending. outcome_of ending (state_of machine.new) ≡ within limit (run (setting S.arithmetic workspaces.now) limit s.now (state_of machine.old))) }
+    ensures { IfOk result (λ ending. outcome_of ending (state_of machine.new)
+        ≡ within limit (run (setting S.arithmetic workspaces.now) limit s.now (state_of machine.old))) }
 {
     match s {
         KStmt::Set(x, e) => {
@@ -75,7 +76,8 @@ pub(crate) fn run_statements<S: Semiring>(
     limit: u64,
 ) -> Result<Ending, AllocError>
     requires { made machine.old ≤ limit }
-    ensures { IfOk result (λ ending. outcome_of ending (state_of machine.new) ≡ within limit (run_list (setting S.arithmetic workspaces.now) limit statements.now (state_of machine.old))) }
+    ensures { IfOk result (λ ending. outcome_of ending (state_of machine.new)
+        ≡ within limit (run_list (setting S.arithmetic workspaces.now) limit statements.now (state_of machine.old))) }
 {
     for s in statements {
         let ending = run_statement::<S>(machine, s, workspaces, limit)?;
@@ -97,7 +99,9 @@ fn run_loop<S: Semiring>(
     limit: u64,
 ) -> Result<Ending, AllocError>
     requires { made machine.old ≤ limit }
-    ensures { IfOk result (λ ending. outcome_of ending (state_of machine.new) ≡ within limit (run_turns limit kind (value e.now) (run_list (setting S.arithmetic workspaces.now) limit body.now) (state_of machine.old))) }
+    ensures { IfOk result (λ ending. outcome_of ending (state_of machine.new)
+        ≡ within limit (run_turns limit kind (value e.now) (run_list (setting S.arithmetic workspaces.now) limit body.now)
+        (state_of machine.old))) }
 {
     for _ in 0..limit {
         match value_of(machine, e) {

@@ -1,5 +1,6 @@
 ghost use Rattle.std.specs.Prelude.{◌≡◌, List, ℕ, map, reverse, IfOk, OnOk, slice_get, slice_index};
-ghost use Rattle.kernel_code.specs.Rows.{compare_keys, keys_at, row_of, row_before, sorted_by, join_row, joined_rows, summed_rows, rows_from};
+ghost use Rattle.kernel_code.specs.Rows.{compare_keys, keys_at, row_of, row_before, sorted_by, join_row, joined_rows, summed_rows};
+ghost use Rattle.kernel_code.specs.Rows.{rows_from};
 
 use numbers::Semiring;
 use std::alloc::{AllocError, Global};
@@ -56,7 +57,8 @@ fn placed_rows(alloc: Global, values: &[u64]) -> Result<Vec<PlacedRow>, AllocErr
 /// Sorts rows by their keys; those with equal ones stay in order. Refused for want of memory, the rows
 /// are as before.
 fn sort_places(columns: &[&[u64]], rows: &mut Vec<PlacedRow>) -> Result<(), AllocError>
-    ensures { OnOk result (map (row_of (map (λ c. c.now) columns.now)) rows.new.items ≡ sorted_by row_before (map (row_of (map (λ c. c.now) columns.now)) rows.old.items)) }
+    ensures { OnOk result (map (row_of (map (λ c. c.now) columns.now)) rows.new.items
+        ≡ sorted_by row_before (map (row_of (map (λ c. c.now) columns.now)) rows.old.items)) }
 {
     rows.sort_by(|p, q| compare_places(columns, p.place, q.place))?;
     Ok(())
@@ -68,7 +70,9 @@ fn join_place<S: Semiring>(
     row: PlacedRow,
     sums: &mut Vec<PlacedRow>,
 ) -> Result<(), AllocError>
-    ensures { OnOk result (reverse (map (row_of (map (λ c. c.now) columns.now)) sums.new.items) ≡ join_row S.arithmetic (row_of (map (λ c. c.now) columns.now) row) (reverse (map (row_of (map (λ c. c.now) columns.now)) sums.old.items))) }
+    ensures { OnOk result (reverse (map (row_of (map (λ c. c.now) columns.now)) sums.new.items)
+        ≡ join_row S.arithmetic (row_of (map (λ c. c.now) columns.now) row)
+        (reverse (map (row_of (map (λ c. c.now) columns.now)) sums.old.items))) }
 {
     let Some(next) = sums.pop() else {
         sums.push(row)?;
@@ -92,7 +96,8 @@ fn join_places<S: Semiring>(
     columns: &[&[u64]],
     rows: Vec<PlacedRow>,
 ) -> Result<Vec<PlacedRow>, AllocError>
-    ensures { IfOk result (λ sums. map (row_of (map (λ c. c.now) columns.now)) sums.items ≡ joined_rows S.arithmetic (map (row_of (map (λ c. c.now) columns.now)) rows.items)) }
+    ensures { IfOk result (λ sums. map (row_of (map (λ c. c.now) columns.now)) sums.items
+        ≡ joined_rows S.arithmetic (map (row_of (map (λ c. c.now) columns.now)) rows.items)) }
 {
     let mut rest = rows;
     let mut sums = Vec::new(alloc);
@@ -109,7 +114,8 @@ pub(crate) fn sum_rows<S: Semiring>(
     columns: &[&[u64]],
     values: &[u64],
 ) -> Result<Vec<PlacedRow>, AllocError>
-    ensures { IfOk result (λ sums. map (row_of (map (λ c. c.now) columns.now)) sums.items ≡ summed_rows S.arithmetic (rows_from (map (λ c. c.now) columns.now) 0 values.now)) }
+    ensures { IfOk result (λ sums. map (row_of (map (λ c. c.now) columns.now)) sums.items
+        ≡ summed_rows S.arithmetic (rows_from (map (λ c. c.now) columns.now) 0 values.now)) }
 {
     let mut rows = placed_rows(alloc, values)?;
     sort_places(columns, &mut rows)?;

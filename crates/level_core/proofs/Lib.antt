@@ -2,5 +2,6 @@ pub mod EdgeLaws
 pub mod EntryLaws
 pub mod FragmentLaws
 pub mod GroupLaws
+pub mod Orders
 pub mod ParentLaws
 mod Walks

@@ -1,5 +1,5 @@
 -- The entries below a parent of a level: its coordinates, each with the span of positions that are its children.
-use Rattle.std.specs.Prelude.{◌≡◌, ◌≢◌, ◌⊎◌, ℕ, ◌+◌, ◌≤◌, ◌<◌, nat_le, nat_lt, ◌==◌, ◌&&◌, if◌then◌else◌, List, [], ◌∷◌, Option, Some, None}
+use Rattle.std.specs.Prelude.{◌≡◌, ◌≢◌, ◌⊎◌, ℕ, ◌+◌, ◌-◌, ◌%◌, ◌≤◌, ◌<◌, nat_le, nat_lt, ◌==◌, ◌&&◌, if◌then◌else◌, List, [], ◌∷◌, Option, Some, None}
 pub use Rattle.level_core.specs.declared.span.Span.{Span}
 pub use Rattle.level_core.specs.declared.span.Entry.{Entry}
 
@@ -79,3 +79,15 @@ position_of (e ∷ es) x = if e.coord == x then Some e.child.lo else position_of
 pub record Gains (x slot : ℕ) (es fs : List Entry) : Type 0 where
   pub has : position_of fs x ≡ Some slot
   pub others : (y : ℕ) → y ≢ x → position_of fs y ≡ position_of es y
+
+-- the position where a coordinate is sought after k steps: by one, from the one that it stands for on, going round the segment
+abbrev pub sought_at : Span → ℕ → ℕ → ℕ
+sought_at segment x k = segment.lo + (x + k) % (segment.hi - segment.lo)
+
+-- the position is the first without a coordinate from where x is sought on
+pub record FirstFree (segment : Span) (es : List Entry) (x slot : ℕ) : Type 0 where
+  pub steps : ℕ
+  pub few : steps < segment.hi - segment.lo
+  pub at : slot ≡ sought_at segment x steps
+  pub free : coord_at es slot ≡ None
+  pub taken : (k : ℕ) → k < steps → coord_at es (sought_at segment x k) ≢ None

@@ -3,7 +3,7 @@ use Rattle.std.specs.Prelude.{◌≡◌, ℕ, ◌+◌, ◌-◌, ◌≤◌, ◌<�
 use Rattle.limits.specs.Limits.{greatest_position_count}
 use Rattle.kernel_code.specs.Arrays.{word_count}
 pub use Rattle.kernel_code.specs.Meaning.{Setting, State, value, same_kind}
-pub use Rattle.kernel_code.specs.Does.{Does, Never}
+pub use Rattle.kernel_code.specs.Does.{Refusal, Does, Never}
 pub use Rattle.kernel_code.specs.Keeps.{Below, Leaves, NoVariable, EveryArray, no_turns}
 pub use Rattle.kernel_code.specs.declared.syntax.Arr.{Arr}
 use Rattle.kernel_code.specs.declared.syntax.Arr.TheVariants.{Range, Values, Dimension, Ends, Coordinates, Width, Key, Sums, ListCoordinates, ListPositions}
@@ -60,18 +60,26 @@ child_turns letter e = if (properties letter).unique then no_turns else turns_of
 abbrev pub probe_turns : Letter → Span → LoopKind → ℕ
 probe_turns letter segment = if (properties letter).ordered then no_turns else turns_of Probe (segment.hi - segment.lo)
 
--- the one form of all laws of fragments: the code ends with an answer, has set no variable below free, has left the arrays
--- that are kept and made so many turns at most, or is refused a growth
-abbrev pub Runs : Setting → List KStmt → ℕ → (Arr → Type 0) → (LoopKind → ℕ) → State → (State → Type 0) → (Arr → ℕ → Type 0) → Type 0
+-- the form of all laws of fragments: the code ends with an answer, has set no variable below free, has left the arrays that are
+-- kept and made so many turns at most, or is refused a growth
+abbrev pub Runs : Setting → List KStmt → ℕ → (Arr → Type 0) → (LoopKind → ℕ) → State → (State → Type 0) → Refusal → Type 0
 Runs c code free kept most s Answer Refused = Does c code s (λ s'. Leaves NoVariable kept free most s s' × Answer s') Refused
 
 -- code that changes no array and is refused nothing
 abbrev pub Reads : Setting → List KStmt → ℕ → (LoopKind → ℕ) → State → (State → Type 0) → Type 0
 Reads c code free most s Answer = Runs c code free EveryArray most s Answer Never
 
--- code that changes no array but those of one level of a tensor
-abbrev pub Writes : Setting → List KStmt → ℕ → ℕ → ℕ → (LoopKind → ℕ) → State → (State → Type 0) → (Arr → ℕ → Type 0) → Type 0
-Writes c code free tensor level most s Answer Refused = Runs c code free (IsOutside tensor level) most s Answer Refused
+-- code that changes no array but those of one level of a tensor, and is refused nothing
+abbrev pub Writes : Setting → List KStmt → ℕ → ℕ → ℕ → (LoopKind → ℕ) → State → (State → Type 0) → Type 0
+Writes c code free tensor level most s Answer = Runs c code free (IsOutside tensor level) most s Answer Never
+
+-- a refused growth, before which so many turns at most were made
+abbrev pub RefusedWithin : (LoopKind → ℕ) → State → (Arr → ℕ → Type 0) → Refusal
+RefusedWithin most s Refused turns a count = ((k : LoopKind) → turns k ≤ s.turns k + most k) × Refused a count
+
+-- such code that may be refused a growth
+abbrev pub Grows : Setting → List KStmt → ℕ → ℕ → ℕ → (LoopKind → ℕ) → State → (State → Type 0) → (Arr → ℕ → Type 0) → Type 0
+Grows c code free tensor level most s Answer Refused = Runs c code free (IsOutside tensor level) most s Answer (RefusedWithin most s Refused)
 
 -- a growth of one of the level's arrays to so many positions, which pass the limit, and are told as a word
 pub record PassesLimit (tensor level positions : ℕ) (a : Arr) (count : ℕ) : Type 0 where

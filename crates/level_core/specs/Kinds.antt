@@ -1,10 +1,11 @@
 -- The kinds of levels: their properties and capabilities, and what the properties say of entries.
-use Rattle.std.specs.Prelude.{◌≡◌, ℕ, ◌+◌, ◌-◌, ◌≤◌, ◌<◌, true, false, List, length, Some}
+use Rattle.std.specs.Prelude.{◌≡◌, ℕ, ◌+◌, ◌-◌, ◌*◌, ◌≤◌, ◌<◌, true, false, List, length, Option, Some, None}
 use Rattle.limits.specs.Limits.{greatest_position_count}
 pub use Rattle.level_core.specs.declared.letter.Letter.{Letter}
 pub use Rattle.level_core.specs.declared.letter.Letter.TheVariants.{Dense, Compressed, CompressedGroups, Singleton, SingletonGroups, Hashed}
 pub use Rattle.level_core.specs.declared.letter.Properties.{Properties}
 pub use Rattle.level_core.specs.declared.letter.Capabilities.{Capabilities}
+use Rattle.kernel_code.specs.Widths.{slot_width}
 use Rattle.level_core.specs.Entries.{Span, Entry, Placed, Tiles, Rising, AllBelow, Lacks, Distinct, Single, position_of}
 
 abbrev pub properties : Letter → Properties
@@ -41,11 +42,28 @@ pub record AreEntries (p : Properties) (n : ℕ) (parent segment : Span) (es : L
   pub placed : Placed segment.lo segment.hi es
   pub properties : HaveProperties p n parent segment es
 
+-- how many positions so many parents have once they are prepared for at most `most` coordinates each: of a mode of range n
+abbrev pub positions_for : Letter → ℕ → ℕ → ℕ → ℕ
+positions_for Dense n parents most = parents * n
+positions_for Hashed n parents most = parents * slot_width most
+positions_for Compressed n parents most = 0
+positions_for CompressedGroups n parents most = 0
+positions_for Singleton n parents most = 0
+positions_for SingletonGroups n parents most = 0
+
+-- a level that coordinates can be inserted into may be prepared, once where that settles its width, for coordinates within the
+-- limit below each parent
+pub record MayPrepare (letter : Letter) (width : Option ℕ) (most : ℕ) : Type 0 where
+  pub able : (capabilities letter).insert ≡ true
+  pub unprepared : width ≡ None
+  pub coordinates : most ≤ greatest_position_count
+
 -- so many positions may be asked of code: more than the limit are refused where they are stored, and a full level stores none
 abbrev pub CodeMayPrepare : Letter → ℕ → Type 0
 CodeMayPrepare letter positions = (properties letter).full ≡ true → positions ≤ greatest_position_count
 
 -- a coordinate below the range n may be inserted: where a level isn't full, one that isn't there yet, while a position is free
 pub record MayInsert (letter : Letter) (n : ℕ) (segment : Span) (es : List Entry) (x : ℕ) : Type 0 where
+  pub able : (capabilities letter).insert ≡ true
   pub below : x < n
   pub free : (properties letter).full ≡ false → Lacks x es × (length es < segment.hi - segment.lo)

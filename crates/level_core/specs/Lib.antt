@@ -1,3 +1,4 @@
+pub mod Codes
 pub mod EdgeLaws
 pub mod Entries
 pub mod EntryLaws
@@ -5,5 +6,8 @@ pub mod FragmentLaws
 pub mod Fragments
 pub mod GroupLaws
 pub mod Kinds
+pub mod Laws
 pub mod Logs
+pub mod Meaning
+pub mod Orders
 pub mod ParentLaws

@@ -14,10 +14,23 @@ pub record Log : Type 0 where
   pub counts : List ℕ
   pub next : ℕ
 
+-- of levels that are never appended to
+abbrev pub nothing_appended : Log
+nothing_appended = record { stage = Finished; coords = []; counts = []; next = 0 }
+
+-- of a level that is to be appended to, before parents are reserved
+abbrev pub nothing_reserved : Log
+nothing_reserved = record { stage = Fresh; coords = []; counts = []; next = 0 }
+
 -- the sum of numbers of positions
 abbrev pub total : List ℕ → ℕ
 total [] = 0
 total (n ∷ ns) = n + total ns
+
+-- the sums of the numbers up to each and of what is before them
+abbrev pub running : ℕ → List ℕ → List ℕ
+running before [] = []
+running before (n ∷ ns) = (before + n) ∷ running (before + n) ns
 
 -- how far apart coordinates in a row are at least
 abbrev pub gap : Bool → ℕ

@@ -1,9 +1,9 @@
 ghost use Rattle.std.specs.Prelude.{◌≡◌, ◌≤◌, ◌<◌, ◌^◌, length, slice_get, Some, IfOk};
 ghost use Rattle.level_core.specs.FragmentLaws.{one_code, two_code};
 
-use kernel_code::{Arr, KExpr, KStmt, copy_expr};
+use kernel_code::{KExpr, KStmt, copy_expr};
 use std::alloc::{AllocError, Global};
-use trees::{Boxed, Items};
+use trees::Items;
 
 /// A copy of a fragment's argument, counted from 0. Refused for want of memory alone.
 pub fn argument(alloc: Global, args: &[KExpr], n: usize) -> Result<KExpr, AllocError>
@@ -11,13 +11,6 @@ pub fn argument(alloc: Global, args: &[KExpr], n: usize) -> Result<KExpr, AllocE
     ensures { IfOk result (λ e. slice_get args.now n ≡ Some e) }
 {
     copy_expr(alloc, &args[n])
-}
-
-/// An array's word at an index. Refused for want of memory alone.
-pub fn word_at(alloc: Global, array: Arr, index: KExpr) -> Result<KExpr, AllocError>
-    ensures { IfOk result (λ e. e ≡ KExpr.At array index) }
-{
-    Ok(KExpr::At(array, Boxed::new(alloc, index)?))
 }
 
 /// Code that leaves an answer in a variable. Refused for want of memory alone.

@@ -12,13 +12,11 @@ mod level;
 mod positions;
 mod span;
 mod stage;
-#[cfg(test)]
-mod tests;
 mod walking;
 mod writing;
 
-pub use fragments::{argument, leave_one, leave_two, word_at};
-pub use laws::edges_tell_segments;
+pub use fragments::{argument, leave_one, leave_two};
+pub use laws::{edges_tell_segments, increasing_inserts_keep_order};
 pub use letter::{Capabilities, Letter, Properties, caps_of, props_of};
 pub use level::{Level, LevelKind};
 pub use positions::positions_below;

@@ -8,8 +8,8 @@ use crate::span::Span;
 /// The number of positions below so many parents, each of which may be asked: each position below that number is below
 /// exactly one of them. A storage keeps one value for each.
 pub fn positions_below<L: Level>(level: &L, parents: u64) -> u64
-    requires { (p : ℕ) → p < parents → L.allowed level.now (one p) }
-    ensures share { ShareOut (L.segment_of level.now) parents result }
+    requires { (p : ℕ) → p < parents → L.meaning.allowed level.now (one p) }
+    ensures share { ShareOut (L.meaning.segment_of level.now) parents result }
     ensures within { result ≤ greatest_position_count }
 {
     if parents == 0 {

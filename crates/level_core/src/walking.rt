@@ -8,8 +8,8 @@ use trees::Items;
 /// The coordinates below an allowed parent, each with its child positions, in the order of positions. Refused for
 /// want of memory alone.
 pub fn walk<L: Level>(alloc: Global, level: &L, parent: Span) -> Result<Items<Entry>, AllocError>
-    requires { L.allowed level.now parent }
-    ensures { IfOk result (λ entries. entries ≡ L.entries level.now parent) }
+    requires { L.meaning.allowed level.now parent }
+    ensures { IfOk result (λ entries. entries ≡ L.meaning.entries level.now parent) }
 {
     let segment = level.segment(parent);
     let mut entries = Items::new(alloc);

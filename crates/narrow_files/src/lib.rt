@@ -7,6 +7,3 @@ mod reading;
 
 pub use printing::text_of;
 pub use reading::{built_files_are_read, read_entries};
-
-#[cfg(test)]
-mod tests;

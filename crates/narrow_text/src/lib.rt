@@ -12,6 +12,3 @@ mod words;
 
 pub use text::read_text;
 pub use words::read_words;
-
-#[cfg(test)]
-mod tests;

@@ -1,5 +1,6 @@
 ghost use Rattle.std.specs.Prelude.{◌≡◌, ◌∷◌, ◌<◌, map, IfOk, OnOk};
-ghost use Rattle.index_notation.specs.Numbering.{place_of, distinct, accesses_of, name_of, variables_of, numbered, product_of, statement_of};
+ghost use Rattle.index_notation.specs.Numbering.{place_of, distinct, accesses_of, name_of, variables_of, numbered, product_of};
+ghost use Rattle.index_notation.specs.Numbering.{statement_of};
 ghost use Rattle.narrow_text.specs.Added.{with_name, with_names};
 
 use index_notation::{Access, Expr, Name, Sentence, Statement, WrittenAccess, copy_name};

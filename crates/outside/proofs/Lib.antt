@@ -1,2 +1,5 @@
 pub mod Feeding
+pub mod Files
 pub mod FilesByName
+pub mod Givens
+pub mod Sinks

@@ -2,7 +2,11 @@ pub mod Told
 pub mod Refusal
 pub mod Count
 pub mod Fault
+pub mod Given
 pub mod Folder
+pub mod Sink
+pub mod Batch
+pub mod FileSink
 pub mod MemFolder
 pub mod MemSink
 pub mod MemoryFile

@@ -14,6 +14,7 @@ pub record KeepsPlaces (old new : MemoryFiles) : Type 0 where
   pub taken_is : new.taken ≡ old.taken
   pub unfinished_is : new.is_unfinished ≡ old.is_unfinished
   pub wants_is : new.wants ≡ old.wants
+  pub given_is : new.given.files ≡ old.given.files
 
 -- there is a file of this name, the fault is about it, no file is read any longer, and all else is as before
 pub record FailsToStart (old new : MemoryFiles) (name : List ℕ) : Type 0 where
@@ -25,6 +26,7 @@ pub record FailsToStart (old new : MemoryFiles) (name : List ℕ) : Type 0 where
   pub writing_is : new.writing ≡ old.writing
   pub unfinished_is : new.is_unfinished ≡ old.is_unfinished
   pub wants_is : new.wants ≡ old.wants
+  pub given_is : new.given.files ≡ old.given.files
 
 -- the fault is about the file being read, and all else is as before
 pub record FailsToRead (old new : MemoryFiles) : Type 0 where
@@ -36,3 +38,4 @@ pub record FailsToRead (old new : MemoryFiles) : Type 0 where
   pub writing_is : new.writing ≡ old.writing
   pub unfinished_is : new.is_unfinished ≡ old.is_unfinished
   pub wants_is : new.wants ≡ old.wants
+  pub given_is : new.given.files ≡ old.given.files

@@ -1,89 +1,163 @@
--- Facts for one answer of `read_through`, and what it feeds.
-use Rattle.std.specs.Prelude.{Option, Result, List, ◌++◌, ◌≡◌, ◌⊎◌, ℕ, ◌<◌, length, ⊤, None, Some, Ok, Err}
-use Rattle.outside.specs.Count.{Rose}
-use Rattle.outside.specs.Folder.{before_rest}
+-- What `read_through` feeds, and why it stops.
+use Rattle.std.specs.Prelude.{Option, List, [], ◌∷◌, ◌++◌, ◌≡◌, ◌≢◌, ◌⊎◌, ℕ, ◌+◌, ◌<◌, ◌≤◌, length, take, ⊤, None, Some}
+use Rattle.outside.specs.Told.{NoFile, told_bytes}
+use Rattle.outside.specs.Count.{Rose, Rises}
+use Rattle.outside.specs.Given.{extended}
+use Rattle.outside.specs.Folder.{FolderState, KeepsWriting, FailsToRead, Reads, WantsMemory, IsAtEnd, before_rest}
 use Rattle.outside.specs.declared.refusal.ReadStop.{ReadStop}
 use Rattle.outside.specs.declared.refusal.ReadStop.TheVariants.{ReadFault, FileBytes, Memory}
-
--- P, if the answer is ReadFault
-abbrev pub OnReadFault : {A : Type 0} → Result A ReadStop → Type 0 → Type 0
-OnReadFault (Ok x) P = ⊤
-OnReadFault (Err ReadFault) P = P
-OnReadFault (Err FileBytes) P = ⊤
-OnReadFault (Err (Memory e)) P = ⊤
-
--- P, if the answer is FileBytes
-abbrev pub OnFileBytes : {A : Type 0} → Result A ReadStop → Type 0 → Type 0
-OnFileBytes (Ok x) P = ⊤
-OnFileBytes (Err ReadFault) P = ⊤
-OnFileBytes (Err FileBytes) P = P
-OnFileBytes (Err (Memory e)) P = ⊤
-
--- P, unless the answer is ReadFault
-abbrev pub UnlessReadFault : {A : Type 0} → Result A ReadStop → Type 0 → Type 0
-UnlessReadFault (Ok x) P = P
-UnlessReadFault (Err ReadFault) P = ⊤
-UnlessReadFault (Err FileBytes) P = P
-UnlessReadFault (Err (Memory e)) P = P
-
--- P, unless the answer is Memory
-abbrev pub UnlessMemory : {A : Type 0} → Result A ReadStop → Type 0 → Type 0
-UnlessMemory (Ok x) P = P
-UnlessMemory (Err ReadFault) P = P
-UnlessMemory (Err FileBytes) P = P
-UnlessMemory (Err (Memory e)) P = ⊤
-
--- the count of read faults rose, and the last fault was about this name
-pub record IsFaultOf {F : Type 0} (read_faults : F → ℕ) (faulted : F → Option (List ℕ)) (name : List ℕ) (old new : F) : Type 0 where
-  pub rose : Rose (read_faults old) (read_faults new)
-  pub faulted_is : faulted new ≡ Some name
-
--- n bytes were fed, and they are the first of what was left
-pub record Feeds (rest rest' : Option (List ℕ)) (eaten eaten' : List ℕ) (n : ℕ) : Type 0 where
-  pub fed : List ℕ
-  pub rest_is : rest ≡ before_rest fed rest'
-  pub eaten_is : eaten' ≡ eaten ++ fed
-  pub count_is : n ≡ length fed
 
 -- the bytes are all of the text, where it is told
 abbrev pub IsAll : Option (List ℕ) → List ℕ → Type 0
 IsAll None fed = ⊤
 IsAll (Some text) fed = text ≡ fed
 
--- n bytes were fed, and they are all of the text, where it is told
-pub record FeedsAll (text : Option (List ℕ)) (eaten eaten' : List ℕ) (n : ℕ) : Type 0 where
-  pub fed : List ℕ
-  pub all : IsAll text fed
-  pub eaten_is : eaten' ≡ eaten ++ fed
-  pub count_is : n ≡ length fed
-
--- some bytes at the front of the text were fed
-pub record FeedsPart (text : Option (List ℕ)) (eaten eaten' : List ℕ) : Type 0 where
-  pub fed : List ℕ
-  pub more : Option (List ℕ)
-  pub text_is : text ≡ before_rest fed more
-  pub eaten_is : eaten' ≡ eaten ++ fed
-
--- a part of the text was fed, and then the eater refused a piece: nothing was fed after that
-pub record RefusesPiece {E : Type 0} (eaten : E → List ℕ) (refused : E → List ℕ → E → Type 0) (text : Option (List ℕ)) (old new : E) : Type 0 where
-  pub before : E
-  pub piece : List ℕ
-  pub part : FeedsPart text (eaten old) (eaten before)
-  pub refuses : refused before piece new
-
--- the folder wanted memory after a part of the text was fed
-pub record WantsMemory (text : Option (List ℕ)) (eaten eaten' : List ℕ) (wants wants' : ℕ) : Type 0 where
-  pub rose : Rose wants wants'
-  pub part : FeedsPart text eaten eaten'
-
 -- the text is longer than n, where it is told
 abbrev pub IsLonger : Option (List ℕ) → ℕ → Type 0
 IsLonger None n = ⊤
 IsLonger (Some text) n = n < length text
 
--- what was fed before the reading stopped for this reason
-abbrev pub Stops : {E : Type 0} → (E → List ℕ) → (E → List ℕ → E → Type 0) → Option (List ℕ) → ℕ → E → E → ℕ → ℕ → ReadStop → Type 0
-Stops eaten refused text budget old new wants wants' ReadFault = FeedsPart text (eaten old) (eaten new)
-Stops eaten refused text budget old new wants wants' FileBytes = FeedsPart text (eaten old) (eaten new) × IsLonger text budget
-Stops eaten refused text budget old new wants wants' (Memory e) =
-    WantsMemory text (eaten old) (eaten new) wants wants' ⊎ RefusesPiece eaten refused text old new
+-- the eater was fed the whole file: just the n bytes that reads gave of it, to its end
+pub record FeedsWhole (old new : FolderState) (name : List ℕ) (budget : ℕ) (eaten eaten' : List ℕ) (n : ℕ) : Type 0 where
+  pub fed : List ℕ
+  pub eaten_is : eaten' ≡ eaten ++ fed
+  pub count_is : n ≡ length fed
+  pub given_is : new.given ≡ old.given ++ (name, fed) ∷ []
+  pub all : IsAll (told_bytes (old.holds name)) fed
+  pub present : old.holds name ≢ NoFile
+  pub within : n ≤ budget
+  pub taken_is : new.taken ≡ n
+  pub reading_is : new.reading ≡ Some name
+  pub at_end : IsAtEnd new.rest
+  pub read_faults_are : new.read_faults ≡ old.read_faults
+  pub faulted_is : new.faulted ≡ old.faulted
+  pub wants_are : new.wants ≡ old.wants
+  pub keeps_writing : KeepsWriting old new
+
+-- the file wasn't opened, and nothing was fed
+pub record FeedsNone (old new : FolderState) (eaten eaten' : List ℕ) : Type 0 where
+  pub eaten_is : eaten' ≡ eaten
+  pub given_is : new.given ≡ old.given
+
+-- what was fed is a front of what reads gave of the file, and that is a front of what the file holds, where it is told
+pub record FeedsFront (old new : FolderState) (name eaten eaten' : List ℕ) : Type 0 where
+  pub fed : List ℕ
+  pub more : List ℕ
+  pub rest : Option (List ℕ)
+  pub eaten_is : eaten' ≡ eaten ++ fed
+  pub taken_is : new.taken ≡ length (fed ++ more)
+  pub given_is : new.given ≡ old.given ++ (name, fed ++ more) ∷ []
+  pub told_is : told_bytes (old.holds name) ≡ before_rest (fed ++ more) rest
+
+-- the count of read faults rose, and the last fault was about this name
+pub record IsFaultOf (name : List ℕ) (old new : FolderState) : Type 0 where
+  pub rose : Rose old.read_faults new.read_faults
+  pub faulted_is : new.faulted ≡ Some name
+
+-- reading failed in this call, or the folder tells that there is no such file
+pub record StopsAtFault (old new : FolderState) (name : List ℕ) (budget : ℕ) (eaten eaten' : List ℕ) : Type 0 where
+  pub cause : IsFaultOf name old new ⊎ (old.holds name ≡ NoFile)
+  pub feeds : FeedsNone old new eaten eaten' ⊎ FeedsFront old new name eaten eaten'
+  pub under : new.taken ≤ budget
+  pub grows : old.read_faults ≤ new.read_faults
+  pub wants_are : new.wants ≡ old.wants
+  pub keeps_writing : KeepsWriting old new
+
+-- more bytes than the budget were taken
+pub record StopsAtBudget (old new : FolderState) (name : List ℕ) (budget : ℕ) (eaten eaten' : List ℕ) : Type 0 where
+  pub over : budget < new.taken
+  pub longer : IsLonger (told_bytes (old.holds name)) budget
+  pub feeds : FeedsFront old new name eaten eaten'
+  pub present : old.holds name ≢ NoFile
+  pub read_faults_are : new.read_faults ≡ old.read_faults
+  pub faulted_is : new.faulted ≡ old.faulted
+  pub wants_are : new.wants ≡ old.wants
+  pub keeps_writing : KeepsWriting old new
+
+-- the folder wanted memory
+pub record FolderWants (old new : FolderState) (name eaten eaten' : List ℕ) : Type 0 where
+  pub rises : Rises old.wants new.wants
+  pub feeds : FeedsNone old new eaten eaten' ⊎ FeedsFront old new name eaten eaten'
+
+-- the eater refused a piece, and nothing was fed after that
+pub record EaterRefuses {E : Type 0} (eaten : E → List ℕ) (refused : E → List ℕ → E → Type 0)
+    (old new : FolderState) (name : List ℕ) (eater eater' : E) : Type 0 where
+  pub before : E
+  pub piece : List ℕ
+  pub feeds : FeedsFront old new name (eaten eater) (eaten before)
+  pub refuses : refused before piece eater'
+  pub wants_are : new.wants ≡ old.wants
+
+-- the folder or the eater wanted memory
+pub record StopsForMemory {E : Type 0} (eaten : E → List ℕ) (refused : E → List ℕ → E → Type 0)
+    (old new : FolderState) (name : List ℕ) (eater eater' : E) : Type 0 where
+  pub cause : FolderWants old new name (eaten eater) (eaten eater') ⊎ EaterRefuses eaten refused old new name eater eater'
+  pub read_faults_are : new.read_faults ≡ old.read_faults
+  pub faulted_is : new.faulted ≡ old.faulted
+  pub keeps_writing : KeepsWriting old new
+
+-- why the reading of a file stopped before its end, and what was fed until then
+abbrev pub StopsReading : {E : Type 0} (eaten : E → List ℕ) (refused : E → List ℕ → E → Type 0)
+    (old new : FolderState) (name : List ℕ) (budget : ℕ) (eater eater' : E) → ReadStop → Type 0
+StopsReading eaten refused old new name budget eater eater' ReadFault = StopsAtFault old new name budget (eaten eater) (eaten eater')
+StopsReading eaten refused old new name budget eater eater' FileBytes = StopsAtBudget old new name budget (eaten eater) (eaten eater')
+StopsReading eaten refused old new name budget eater eater' (Memory e) = StopsForMemory eaten refused old new name eater eater'
+
+-- the next n bytes of the file being read were read and fed, and all else is as before
+pub record Feeds (old new : FolderState) (eaten eaten' : List ℕ) (n : ℕ) : Type 0 where
+  pub fed : List ℕ
+  pub eaten_is : eaten' ≡ eaten ++ fed
+  pub count_is : n ≡ length fed
+  pub rest_is : old.rest ≡ before_rest fed new.rest
+  pub taken_is : new.taken ≡ old.taken + n
+  pub given_is : new.given ≡ extended old.given fed
+  pub reading_is : new.reading ≡ old.reading
+  pub read_faults_are : new.read_faults ≡ old.read_faults
+  pub faulted_is : new.faulted ≡ old.faulted
+  pub wants_are : new.wants ≡ old.wants
+  pub keeps_writing : KeepsWriting old new
+
+-- n bytes were fed, no more than the budget, and then a read failed
+pub record ReadFails (old new : FolderState) (budget : ℕ) (eaten eaten' : List ℕ) : Type 0 where
+  pub mid : FolderState
+  pub n : ℕ
+  pub within : n ≤ budget
+  pub feeds : Feeds old mid eaten eaten' n
+  pub fails : FailsToRead mid new
+
+-- n bytes were fed, and with the m bytes of the next piece they are more than the budget
+pub record PieceIsOver (old new : FolderState) (budget : ℕ) (eaten eaten' : List ℕ) : Type 0 where
+  pub mid : FolderState
+  pub n : ℕ
+  pub feeds : Feeds old mid eaten eaten' n
+  pub buffer : List ℕ
+  pub m : ℕ
+  pub reads : Reads mid new buffer m
+  pub over : budget < n + m
+
+-- n bytes were fed, and then the folder wanted memory
+pub record ReadWants (old new : FolderState) (eaten eaten' : List ℕ) : Type 0 where
+  pub mid : FolderState
+  pub n : ℕ
+  pub feeds : Feeds old mid eaten eaten' n
+  pub wants : WantsMemory mid new
+
+-- n bytes were fed, and then the eater refused the m bytes of the next piece
+pub record PieceIsRefused {E : Type 0} (eaten : E → List ℕ) (refused : E → List ℕ → E → Type 0)
+    (old new : FolderState) (eater eater' : E) : Type 0 where
+  pub mid : FolderState
+  pub before : E
+  pub n : ℕ
+  pub feeds : Feeds old mid (eaten eater) (eaten before) n
+  pub buffer : List ℕ
+  pub m : ℕ
+  pub reads : Reads mid new buffer m
+  pub refuses : refused before (take m buffer) eater'
+
+-- how the reading of an open file stops before its end
+abbrev pub Stops : {E : Type 0} (eaten : E → List ℕ) (refused : E → List ℕ → E → Type 0)
+    (old new : FolderState) (budget : ℕ) (eater eater' : E) → ReadStop → Type 0
+Stops eaten refused old new budget eater eater' ReadFault = ReadFails old new budget (eaten eater) (eaten eater')
+Stops eaten refused old new budget eater eater' FileBytes = PieceIsOver old new budget (eaten eater) (eaten eater')
+Stops eaten refused old new budget eater eater' (Memory e) =
+    ReadWants old new (eaten eater) (eaten eater') ⊎ PieceIsRefused eaten refused old new eater eater'

@@ -4,10 +4,14 @@
 //! `MemFolder` and `MemSink` fail where they are told, `NeverFails` never; `RealFolder` and `StdSink` are the system's.
 #![tactic(auto)]
 
+mod batch;
 mod count;
 mod eater;
 mod fault;
+mod file_sink;
 mod folder;
+mod given;
+mod kept;
 mod mem_folder;
 mod mem_sink;
 mod memory_file;
@@ -21,10 +25,10 @@ mod refusal;
 mod script;
 mod sink;
 mod std_sink;
-#[cfg(test)]
-mod tests;
 
+pub use batch::Batch;
 pub use eater::Eater;
+pub use file_sink::FileSink;
 pub use folder::Folder;
 pub use mem_folder::MemFolder;
 pub use mem_sink::MemSink;

@@ -21,10 +21,10 @@ impl MemSink {
 
     /// An empty sink that fails no call and cuts no piece.
     pub fn new(alloc: Global) -> Self
-        ensures written { ⟦<MemSink as Sink>⟧.written result ≡ Some [] }
-        ensures unfinished { ⟦<MemSink as Sink>⟧.unfinished result ≡ true }
-        ensures faults { ⟦<MemSink as Sink>⟧.faults result ≡ 0 }
-        ensures wants { ⟦<MemSink as Sink>⟧.wants result ≡ 0 }
+        ensures written { (⟦<MemSink as Sink>⟧.state result).written ≡ Some [] }
+        ensures unfinished { (⟦<MemSink as Sink>⟧.state result).unfinished ≡ true }
+        ensures faults { (⟦<MemSink as Sink>⟧.state result).faults ≡ 0 }
+        ensures wants { (⟦<MemSink as Sink>⟧.state result).wants ≡ 0 }
     {
         MemSink {
             text: MemoryText::new(alloc),
@@ -50,41 +50,35 @@ impl MemSink {
 
     /// The bytes that it was given.
     pub fn written(&self) -> &[u8]
-        ensures { ⟦<MemSink as Sink>⟧.written self.now ≡ Some result.now }
+        ensures { (⟦<MemSink as Sink>⟧.state self.now).written ≡ Some result.now }
     {
         self.text.bytes()
     }
 
     /// Whether a `finish` is due.
     pub fn is_unfinished(&self) -> bool
-        ensures { result ≡ ⟦<MemSink as Sink>⟧.unfinished self.now }
+        ensures { result ≡ (⟦<MemSink as Sink>⟧.state self.now).unfinished }
     {
         self.text.is_unfinished()
     }
 
     /// How often a call failed.
     pub fn faults(&self) -> u64
-        ensures { result ≡ ⟦<MemSink as Sink>⟧.faults self.now }
+        ensures { result ≡ (⟦<MemSink as Sink>⟧.state self.now).faults }
     {
         self.faults
     }
 
     /// How often it wanted memory.
     pub fn wants(&self) -> u64
-        ensures { result ≡ ⟦<MemSink as Sink>⟧.wants self.now }
+        ensures { result ≡ (⟦<MemSink as Sink>⟧.state self.now).wants }
     {
         self.text.wants()
     }
 }
 
 impl Sink for MemSink {
-    ghost written = { λ s. ⟦<MemoryText as Sink>⟧.written s.text };
-
-    ghost unfinished = { λ s. ⟦<MemoryText as Sink>⟧.unfinished s.text };
-
-    ghost faults = { λ s. s.faults };
-
-    ghost wants = { λ s. ⟦<MemoryText as Sink>⟧.wants s.text };
+    ghost state = { λ s. record (⟦<MemoryText as Sink>⟧.state s.text) { faults = s.faults } };
 
     fn write(&mut self, piece: &[u8]) -> Result<usize, Refusal> {
         if self.script.next_call() {

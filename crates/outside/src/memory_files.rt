@@ -1,11 +1,13 @@
 // A folder in memory that never fails.
-ghost use Rattle.std.specs.Prelude.{◌≡◌, ℕ, ◌<◌, ◌≤◌, false, List, [], length, min, take, drop, None, Some, OnOk, OnErr, MatchOption, MatchBool};
+ghost use Rattle.std.specs.Prelude.{◌≡◌, ℕ, ◌<◌, ◌≤◌, false, List, [], length, min, take, drop};
+ghost use Rattle.std.specs.Prelude.{None, Some, OnOk, OnErr, MatchOption, MatchBool};
 ghost use Rattle.std.specs.Option.{option_copied};
 ghost use Rattle.outside.specs.Told.{NoFile, Bytes};
 ghost use Rattle.outside.specs.MemoryFile.{told, name_of, rest_of, IsFirstOfName, Changes};
 
 use crate::count::raised;
 use crate::folder::Folder;
+use crate::given::Given;
 use crate::memory_file::MemoryFile;
 use crate::memory_list::{append_to_file, position, put_file};
 use crate::refusal::Refusal;
@@ -22,6 +24,8 @@ pub struct MemoryFiles {
     // A copy of the file being read, and how much of it was read.
     text: Vec<u8>,
     taken: usize,
+    // What reads gave of each file that was opened.
+    given: Given,
     is_unfinished: bool,
     wants: u64,
     ghost taken_within: { taken ≤ length text.items },
@@ -38,6 +42,7 @@ impl MemoryFiles {
         ensures reading { result.reading ≡ None }
         ensures writing { result.writing ≡ None }
         ensures faulted { result.faulted ≡ None }
+        ensures given { result.given.files ≡ [] }
         ensures finished { result.is_unfinished ≡ false }
         ensures wants { result.wants ≡ 0 }
     {
@@ -49,6 +54,7 @@ impl MemoryFiles {
             faulted: None,
             text: Vec::new(alloc),
             taken: 0,
+            given: Given::new(),
             is_unfinished: false,
             wants: 0,
         }
@@ -67,7 +73,8 @@ impl MemoryFiles {
 
     // The bytes of the file of this name.
     pub(crate) fn bytes(&self, name: &str) -> Option<&[u8]>
-        ensures { MatchOption result (told self.now.files.items name.now ≡ NoFile) (λ bytes. told self.now.files.items name.now ≡ Bytes bytes.now) }
+        ensures { MatchOption result (told self.now.files.items name.now ≡ NoFile)
+            (λ bytes. told self.now.files.items name.now ≡ Bytes bytes.now) }
     {
         match position(self.files.as_slice(), name) {
             Some(i) => Some(self.files[i].bytes.as_slice()),
@@ -99,7 +106,8 @@ impl MemoryFiles {
 
     // A fault of `start_read`, if there is such a file: it is the last one that a fault was about, and none is read.
     pub(crate) fn fail_start(&mut self, name: &str) -> bool
-        ensures { MatchBool result (FailsToStart self.old self.new name.now) ((told self.old.files.items name.now ≡ NoFile) × (self.new ≡ self.old)) }
+        ensures { MatchBool result (FailsToStart self.old self.new name.now)
+            ((told self.old.files.items name.now ≡ NoFile) × (self.new ≡ self.old)) }
     {
         let Some(i) = position(self.files.as_slice(), name) else {
             return false
@@ -129,25 +137,19 @@ fn copy_front(bytes: &[u8], buf: &mut [u8]) -> usize
 }
 
 impl Folder for MemoryFiles {
-    ghost holds = { λ s. told s.files.items };
-
-    ghost reading = { λ s. name_of s.files.items s.reading };
-
-    ghost rest = { λ s. rest_of s.reading (drop s.taken s.text.items) };
-
-    ghost taken = { λ s. s.taken };
-
-    ghost writing = { λ s. name_of s.files.items s.writing };
-
-    ghost unfinished = { λ s. s.is_unfinished };
-
-    ghost read_faults = { λ _. 0 };
-
-    ghost write_faults = { λ _. 0 };
-
-    ghost wants = { λ s. s.wants };
-
-    ghost faulted = { λ s. name_of s.files.items s.faulted };
+    ghost state = { λ s. record {
+      holds = told s.files.items;
+      reading = name_of s.files.items s.reading;
+      rest = rest_of s.reading (drop s.taken s.text.items);
+      taken = s.taken;
+      given = s.given.files;
+      writing = name_of s.files.items s.writing;
+      unfinished = s.is_unfinished;
+      read_faults = 0;
+      write_faults = 0;
+      wants = s.wants;
+      faulted = name_of s.files.items s.faulted;
+    } };
 
     fn start_read(&mut self, name: &str) -> Result<(), Refusal> {
         let Some(i) = position(self.files.as_slice(), name) else {
@@ -160,6 +162,7 @@ impl Folder for MemoryFiles {
                 self.text = text;
                 self.taken = 0;
                 self.reading = Some(i);
+                self.given.start(name.as_bytes());
                 Ok(())
             }
             Err(error) => {
@@ -172,6 +175,7 @@ impl Folder for MemoryFiles {
     fn read(&mut self, buf: &mut [u8]) -> Result<usize, Refusal> {
         let n = copy_front(&self.text[self.taken..], buf);
         self.taken += n;
+        self.given.extend(&buf[..n]);
         Ok(n)
     }
 

@@ -8,7 +8,8 @@ use std::alloc::{AllocError, Global};
 
 // The place of the first file of this name.
 pub(crate) fn position(files: &[MemoryFile], name: &str) -> Option<usize>
-    ensures { MatchOption result ((told files.now name.now ≡ NoFile) × IsNewName files.now (length files.now) name.now) (λ i. IsFirst files.now i name.now) }
+    ensures { MatchOption result ((told files.now name.now ≡ NoFile) × IsNewName files.now (length files.now) name.now)
+        (λ i. IsFirst files.now i name.now) }
 {
     for (i, file) in files.iter().enumerate() {
         if file.name.as_str() == name {
@@ -50,7 +51,8 @@ pub(crate) fn append_to_file(
     piece: &[u8],
 ) -> Result<(), AllocError>
     requires { i < length files.old.items }
-    ensures changes { OnOk result ((name : List ℕ) → IsFirst files.old.items i name → Changes files.old.items files.new.items name (grown (told files.old.items name) piece.now)) }
+    ensures changes { OnOk result ((name : List ℕ) → IsFirst files.old.items i name
+        → Changes files.old.items files.new.items name (grown (told files.old.items name) piece.now)) }
     ensures refused { OnErr result (told files.new.items ≡ told files.old.items) }
     ensures names { (k : ℕ) → name_at files.new.items k ≡ name_at files.old.items k }
     ensures length { length files.new.items ≡ length files.old.items }

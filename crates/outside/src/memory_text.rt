@@ -1,5 +1,6 @@
 // A sink in memory that never fails.
 ghost use Rattle.std.specs.Prelude.{◌≡◌, Some, true, []};
+ghost use Rattle.outside.specs.Sink.{alone};
 
 use crate::count::raised;
 use crate::refusal::Refusal;
@@ -46,13 +47,13 @@ impl MemoryText {
 }
 
 impl Sink for MemoryText {
-    ghost written = { λ s. Some s.bytes.items };
-
-    ghost unfinished = { λ s. s.is_unfinished };
-
-    ghost faults = { λ _. 0 };
-
-    ghost wants = { λ s. s.wants };
+    ghost state = { λ s. record {
+      written = Some s.bytes.items;
+      unfinished = s.is_unfinished;
+      faults = 0;
+      wants = s.wants;
+      beside = alone;
+    } };
 
     fn write(&mut self, piece: &[u8]) -> Result<usize, Refusal> {
         match self.bytes.extend_from_slice(piece) {

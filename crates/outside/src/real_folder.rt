@@ -1,11 +1,13 @@
 // Files of the system.
-ghost use Rattle.std.specs.Prelude.{◌≡◌, None, Some, false, string_bytes};
+ghost use Rattle.std.specs.Prelude.{None, string_bytes};
 ghost use Rattle.outside.specs.Told.{Untold};
+ghost use Rattle.outside.specs.Folder.{IsFresh};
 ghost use Rattle.outside.specs.Fault.{faulted_name, open_name};
 
 use crate::count::raised;
 use crate::fault::Fault;
 use crate::folder::Folder;
+use crate::given::Given;
 use crate::refusal::Refusal;
 use std::alloc::Global;
 use std::io::{Read, Write};
@@ -23,6 +25,7 @@ pub struct RealFolder<R: Files + Drop> {
     source_name: String,
     source: Option<R::File>,
     taken: u64,
+    given: Given,
     fault: Fault,
     // The path being written, and its file.
     target_name: String,
@@ -36,10 +39,7 @@ pub struct RealFolder<R: Files + Drop> {
 impl<R: Files + Drop> RealFolder<R> {
     /// No file is read or written yet.
     pub fn new(alloc: Global, rt: R) -> Self
-        ensures reading { ⟦<RealFolder<R> as Folder>⟧.reading result ≡ None }
-        ensures writing { ⟦<RealFolder<R> as Folder>⟧.writing result ≡ None }
-        ensures finished { ⟦<RealFolder<R> as Folder>⟧.unfinished result ≡ false }
-        ensures faulted { ⟦<RealFolder<R> as Folder>⟧.faulted result ≡ None }
+        ensures { IsFresh (⟦<RealFolder<R> as Folder>⟧.state result) }
     {
         RealFolder {
             rt,
@@ -47,6 +47,7 @@ impl<R: Files + Drop> RealFolder<R> {
             source_name: String::new(alloc),
             source: None,
             taken: 0,
+            given: Given::new(),
             fault: Fault::Never,
             target_name: String::new(alloc),
             target: None,
@@ -59,25 +60,19 @@ impl<R: Files + Drop> RealFolder<R> {
 }
 
 impl<R: Files + Drop> Folder for RealFolder<R> {
-    ghost holds = { λ _ _. Untold };
-
-    ghost reading = { λ s. open_name s.source (string_bytes s.source_name) };
-
-    ghost rest = { λ _. None };
-
-    ghost taken = { λ s. s.taken };
-
-    ghost writing = { λ s. open_name s.target (string_bytes s.target_name) };
-
-    ghost unfinished = { λ s. s.is_unfinished };
-
-    ghost read_faults = { λ s. s.read_faults };
-
-    ghost write_faults = { λ s. s.write_faults };
-
-    ghost wants = { λ s. s.wants };
-
-    ghost faulted = { λ s. faulted_name s.fault (string_bytes s.source_name) };
+    ghost state = { λ s. record {
+      holds = λ _. Untold;
+      reading = open_name s.source (string_bytes s.source_name);
+      rest = None;
+      taken = s.taken;
+      given = s.given.files;
+      writing = open_name s.target (string_bytes s.target_name);
+      unfinished = s.is_unfinished;
+      read_faults = s.read_faults;
+      write_faults = s.write_faults;
+      wants = s.wants;
+      faulted = faulted_name s.fault (string_bytes s.source_name);
+    } };
 
     fn start_read(&mut self, name: &str) -> Result<(), Refusal> {
         let copy = match String::from_str(self.alloc, name) {
@@ -95,6 +90,7 @@ impl<R: Files + Drop> Folder for RealFolder<R> {
                     self.fault = Fault::Before(earlier);
                 }
                 self.source = Some(file);
+                self.given.start(name.as_bytes());
                 Ok(())
             }
             Err(_) => {
@@ -114,6 +110,7 @@ impl<R: Files + Drop> Folder for RealFolder<R> {
             // A file of 2^64 bytes or more can't be counted: that is a fault.
             if let Some(taken) = self.taken.checked_add(n as u64) {
                 self.taken = taken;
+                self.given.extend(&buf[..n]);
                 return Ok(n);
             }
         }

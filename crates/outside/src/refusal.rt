@@ -1,4 +1,6 @@
 // Why a call of the outside is refused.
+ghost use Rattle.std.specs.Prelude.{◌≡◌};
+
 use std::alloc::AllocError;
 
 /// Why a folder or a sink refuses a call.
@@ -21,4 +23,18 @@ pub enum ReadStop {
     FileBytes,
     /// The folder or the eater wants memory.
     Memory(AllocError),
+}
+
+/// A file that isn't there can't be read.
+impl From<Refusal> for ReadStop {
+    ghost use Rattle.outside.specs.Refusal.{stop_of};
+
+    ghost from_gives = { λ refusal stop. stop ≡ stop_of refusal };
+
+    fn from(refusal: Refusal) -> ReadStop {
+        match refusal {
+            Refusal::Failed | Refusal::Absent => ReadStop::ReadFault,
+            Refusal::Memory(error) => ReadStop::Memory(error),
+        }
+    }
 }

@@ -1,5 +1,6 @@
 // Which calls of an object in memory fail, and into which pieces it cuts.
-ghost use Rattle.std.specs.Prelude.{◌≡◌, ◌<◌, ◌≤◌, ◌↔◌, ◌+◌, ◌-◌, ◌^◌, ◌∷◌, ◌++◌, [], IsTrue, Contains, OnOk, min, max, slice_index, vec_len};
+ghost use Rattle.std.specs.Prelude.{◌≡◌, ◌<◌, ◌≤◌, ◌↔◌, ◌+◌, ◌-◌, ◌^◌, ◌∷◌, ◌++◌, []};
+ghost use Rattle.std.specs.Prelude.{IsTrue, Contains, OnOk, min, max, slice_index, vec_len};
 
 use std::alloc::{AllocError, Global};
 
@@ -56,7 +57,8 @@ impl Script {
         ensures within { result ≤ length }
         ensures progress { 0 < length → 0 < result }
         ensures whole { self.old.lengths.items ≡ [] → result ≡ length }
-        ensures cut { self.old.turn < vec_len self.old.lengths → result ≡ min length (max (slice_index self.old.lengths.items self.old.turn) 1) }
+        ensures cut { self.old.turn < vec_len self.old.lengths
+            → result ≡ min length (max (slice_index self.old.lengths.items self.old.turn) 1) }
     {
         let Some(greatest) = self.lengths.get(self.turn).copied() else {
             return length;

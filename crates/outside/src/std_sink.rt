@@ -1,5 +1,6 @@
 // Standard output and standard error.
 ghost use Rattle.std.specs.Prelude.{◌≡◌, None, true};
+ghost use Rattle.outside.specs.Sink.{alone};
 
 use crate::count::raised;
 use crate::refusal::Refusal;
@@ -17,7 +18,7 @@ pub struct StdSink<W: Write + Drop> {
 impl<W: Write + Drop> StdSink<W> {
     /// A sink over this stream.
     pub fn new(stream: W) -> Self
-        ensures unfinished { ⟦<StdSink<W> as Sink>⟧.unfinished result ≡ true }
+        ensures unfinished { (⟦<StdSink<W> as Sink>⟧.state result).unfinished ≡ true }
     {
         StdSink {
             stream,
@@ -28,13 +29,13 @@ impl<W: Write + Drop> StdSink<W> {
 }
 
 impl<W: Write + Drop> Sink for StdSink<W> {
-    ghost written = { λ _. None };
-
-    ghost unfinished = { λ s. s.is_unfinished };
-
-    ghost faults = { λ s. s.faults };
-
-    ghost wants = { λ _. 0 };
+    ghost state = { λ s. record {
+      written = None;
+      unfinished = s.is_unfinished;
+      faults = s.faults;
+      wants = 0;
+      beside = alone;
+    } };
 
     fn write(&mut self, piece: &[u8]) -> Result<usize, Refusal> {
         match self.stream.write(piece) {

@@ -1,3 +1,1 @@
 pub mod CodeLaws
-pub mod LevelLaws
-pub mod RuleLaws

@@ -1,4 +1,2 @@
-pub mod CodeLaws
-pub mod LevelLaws
-pub mod RuleLaws
+pub mod Laws
 pub mod Singleton

@@ -1,5 +1,5 @@
 -- A singleton level: one coordinate for each position of the level above, at the same position.
-use Rattle.std.specs.Prelude.{◌≡◌, ◌≢◌, ℕ, ◌≤◌, Bool, true, false, List, [], length, replicate, Option, Some}
+use Rattle.std.specs.Prelude.{◌≡◌, ◌≢◌, ℕ, ◌≤◌, Bool, List, [], length, replicate, Some, None}
 use Rattle.limits.specs.Limits.{greatest_position_count}
 use Rattle.level_core.specs.declared.span.Span.{Span}
 use Rattle.level_core.specs.declared.span.Entry.{Entry}
@@ -9,8 +9,9 @@ use Rattle.level_core.specs.declared.stage.Stage.{Stage}
 use Rattle.level_core.specs.declared.stage.Stage.TheVariants.{Fresh, Unfinished, Finished}
 use Rattle.level_core.specs.Logs.{Log, Rises, slice, entries_between}
 use Rattle.level_core.specs.GroupLaws.{CoordsBelow}
+use Rattle.level_core.specs.Meaning.{Arrays, Meaning}
+use Rattle.coordinate_lists.specs.Letters.{letter_by}
 use Rattle.coordinate_lists.specs.Spans.{Within}
-use Rattle.kernel_code.specs.declared.syntax.Arr.{Arr}
 use Rattle.kernel_code.specs.declared.syntax.Arr.TheVariants.{Coordinates}
 
 -- the range, whether each coordinate stands once below a parent, how far it is made, for how many parents, the coordinates, and the room for more
@@ -26,8 +27,7 @@ abbrev pub stored : ℕ → Bool → Stage → ℕ → List ℕ → ℕ → Sing
 stored size unique stage parents coords spare = record { size = size; unique = unique; stage = stage; parents = parents; coords = coords; spare = spare }
 
 abbrev pub letter_of : Bool → Letter
-letter_of true = Singleton
-letter_of false = SingletonGroups
+letter_of = letter_by Singleton SingletonGroups
 
 -- each parent has one position
 abbrev pub log_with : Stage → List ℕ → ℕ → Log
@@ -47,6 +47,12 @@ pub record KeepsRules (l : SingletonLevel) : Type 0 where
   pub below : CoordsBelow l.size l.coords
   pub given : l.stage ≡ Finished → length l.coords ≡ l.parents
 
+-- a finished level of so many parents
+pub record HasParents (l : SingletonLevel) (parents : ℕ) : Type 0 where
+  pub keeps : KeepsRules l
+  pub finished : l.stage ≡ Finished
+  pub count : l.parents ≡ parents
+
 -- a parent is any positions that have coordinates, and these keep the order; a level that is unfinished has none
 pub record IsAllowed (l : SingletonLevel) (parent : Span) : Type 0 where
   pub keeps : KeepsRules l
@@ -62,5 +68,21 @@ abbrev pub entries_of : SingletonLevel → Span → List Entry
 entries_of l parent = entries_between l.coords parent
 
 -- the array of a level
-abbrev pub Holds : SingletonLevel → ℕ → ℕ → (Arr → Option (List ℕ)) → Type 0
+abbrev pub Holds : SingletonLevel → ℕ → ℕ → Arrays → Type 0
 Holds l tensor level arrays = arrays (Coordinates tensor level) ≡ Some l.coords
+
+abbrev pub meaning : Meaning SingletonLevel
+meaning = record {
+  kind = λ l. letter_of l.unique;
+  keeps = KeepsRules;
+  size = λ l. l.size;
+  width = λ l. None;
+  holds = Holds;
+  has_parents = HasParents;
+  allowed = IsAllowed;
+  segment_of = segment_of;
+  entries = entries_of;
+  log = log_of;
+  prepared = λ l parents most m. ⊥;
+  inserted = λ l parent x slot m. ⊥;
+}

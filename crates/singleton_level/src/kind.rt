@@ -6,33 +6,12 @@ use std::alloc::{AllocError, Global};
 use trees::Items;
 
 impl LevelKind for SingletonLevel {
-    ghost use Rattle.singleton_level.specs.Singleton.{letter_of, log_of, KeepsRules, Holds, IsAllowed, segment_of, entries_of};
-    ghost use Rattle.singleton_level.specs.LevelLaws.{holds_there, are_entries, in_row};
-    ghost use Rattle.singleton_level.specs.RuleLaws.{logs_are};
+    ghost use Rattle.singleton_level.specs.Singleton as singleton;
+    ghost use Rattle.singleton_level.specs.Laws.{laws as singleton_laws};
 
-    ghost kind = { λ l. letter_of l.unique };
+    ghost meaning = { singleton.meaning };
 
-    ghost keeps = { KeepsRules };
-
-    ghost size = { λ l. l.size };
-
-    ghost holds = { Holds };
-
-    ghost allowed = { IsAllowed };
-
-    ghost segment_of = { segment_of };
-
-    ghost entries = { entries_of };
-
-    ghost log = { log_of };
-
-    ghost positions_for = { λ l parents most. 0 };
-
-    ghost may_prepare = { λ l parents most. ⊥ };
-
-    ghost prepared = { λ l parents most m. ⊥ };
-
-    ghost inserted = { λ l parent x slot m. ⊥ };
+    ghost laws = { singleton_laws };
 
     fn letter(&self) -> Letter {
         if self.unique {
@@ -146,16 +125,4 @@ impl LevelKind for SingletonLevel {
     ) -> Result<Items<KStmt>, AllocError> {
         Ok(Items::new(alloc))
     }
-
-    ghost holds_there = { holds_there };
-
-    ghost are_entries = { are_entries };
-
-    ghost in_row = { in_row };
-
-    ghost logs = { logs_are };
-
-    ghost prepares = { λ l m parents most may within is. absurd may };
-
-    ghost inserts = { λ l m parent x slot allowed may is. absurd is };
 }

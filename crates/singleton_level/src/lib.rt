@@ -6,7 +6,5 @@ mod appending;
 mod kind;
 mod reading;
 mod singleton;
-#[cfg(test)]
-mod tests;
 
 pub use singleton::SingletonLevel;

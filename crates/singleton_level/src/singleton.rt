@@ -1,4 +1,5 @@
-ghost use Rattle.std.specs.Prelude.{◌≡◌, ◌≤◌, IfOk, IsOk};
+ghost use Rattle.std.specs.Prelude.{◌≡◌, ◌≤◌, IfOk, IsOk, length};
+ghost use Rattle.level_core.specs.declared.stage.Stage.TheVariants.{Finished};
 ghost use Rattle.limits.specs.Limits.{greatest_position_count};
 
 use coordinate_lists::Indices;
@@ -30,7 +31,7 @@ impl Model for SingletonLevel {
 }
 
 impl SingletonLevel {
-    ghost use Rattle.singleton_level.specs.Singleton.{fresh};
+    ghost use Rattle.singleton_level.specs.Singleton.{fresh, stored, KeepsRules};
 
     /// A level without parents, for coordinates below `n`. It takes no memory.
     pub fn new(alloc: Global, n: u64, unique: bool) -> Result<SingletonLevel, AllocError>
@@ -45,5 +46,19 @@ impl SingletonLevel {
             parents: 0,
             coords: Indices::new(alloc),
         })
+    }
+
+    /// A finished level of these coordinates, one for each parent. It takes no memory.
+    pub fn from_coordinates(n: u64, unique: bool, coords: Indices) -> SingletonLevel
+        requires { KeepsRules (stored n unique Finished (length coords.items) coords.items coords.spare) }
+        ensures { result ≡ stored n unique Finished (length coords.items) coords.items coords.spare }
+    {
+        SingletonLevel {
+            size: n,
+            unique,
+            stage: Stage::Finished,
+            parents: coords.len(),
+            coords,
+        }
     }
 }

@@ -21,8 +21,8 @@ use Rattle.expr_terms.specs.Terms.{statement_value}
 use Rattle.taco_top.specs.Answer.{status_of_answer, Answer, Done, NotBuilt, Usage, ReadFault, WriteFault, Memory}
 use Rattle.taco_top.specs.Built.{IsOperand, IsUnbuilt, AreRead, HasUnbuilt, IsBuiltLine, IsFilesText, IsValuesText, AreTooLarge, IsResultText, AtText, AtWords, NotBuiltAt, AtLine, AtFile, AtSize, IsOperandPath}
 use Rattle.taco_top.specs.Ends.{Ends, Cause}
-use Rattle.taco_top.specs.Puts.{SinkState}
-use Rattle.taco_top.specs.Reads.{FolderState}
+use Rattle.outside.specs.Sink.{SinkState}
+use Rattle.outside.specs.Folder.{FolderState}
 use Rattle.taco_top.specs.SmallCoords.{first_order}
 use Rattle.taco_top.specs.Stands.{Once}
 use Rattle.taco_top.proofs.Stands.{distinct_once}

@@ -1,7 +1,8 @@
 -- Lemmas about what specs/Reads.antt defines.
-use Rattle.std.specs.Prelude.{◌≡◌, ℕ, ◌≤◌, Bool, List, Option, Some}
+use Rattle.std.specs.Prelude.{◌≡◌, ℕ, ◌≤◌, List, Some}
 use Rattle.std.proofs.Common.{◌∙◌, arith, sym, ap, inl, inr}
-use Rattle.outside.specs.Told.{Told}
+use Rattle.outside.specs.Folder.{FolderState}
+use Rattle.outside.proofs.Feeding.{writing_stays, writing_kept}
 use Rattle.std.specs.Prelude.{String, ◌+◌, length, slice_get}
 use Rattle.tensor_map.specs.Entries.{Entries}
 use Rattle.taco_top.specs.SmallCoords.{first_order}
@@ -10,26 +11,17 @@ use Rattle.index_notation.specs.declared.syntax.Access.{Access}
 use Rattle.index_notation.specs.declared.syntax.Statement.{Statement}
 use Rattle.taco_top.specs.Built.{AreRead, IsNext, IsBuiltLine, AtLine, AtFile, AtSize}
 use Rattle.taco_top.specs.Answer.{Answer, Done, NotBuilt, Usage, ReadFault, WriteFault, Memory}
-use Rattle.taco_top.specs.Reads.{OnlyReads, FolderState, IsReadFault, FileCause, OperandsCause, LineCause, FilesCause, ReadCause}
+use Rattle.taco_top.specs.Reads.{OnlyReads, IsReadFault, FileCause, OperandsCause, LineCause, FilesCause, ReadCause}
 
-module _ {F : Type 0} (holds : F → List ℕ → Told) (writing : F → Option (List ℕ)) (unfinished : F → Bool) (read_faults write_faults wants : F → ℕ) where
-  pub only_reads_same : (f : F) → OnlyReads holds writing unfinished read_faults write_faults wants f f
-  only_reads_same f = record {
-    keeps_writing = record { holds_is = λ i. holds f; writing_is = λ i. writing f; unfinished_is = λ i. unfinished f };
-    counts_grow = record { read_faults_grow = omega arith; write_faults_grow = omega arith; wants_grow = omega arith };
-    no_write_fault = λ i. write_faults f;
-  }
+pub only_reads_same : (files : FolderState) → OnlyReads files files
+only_reads_same files = record { keeps_writing = writing_stays files; read_faults_grow = omega arith; wants_grow = omega arith }
 
-  pub only_reads_trans : (f g h : F) → OnlyReads holds writing unfinished read_faults write_faults wants f g → OnlyReads holds writing unfinished read_faults write_faults wants g h → OnlyReads holds writing unfinished read_faults write_faults wants f h
-  only_reads_trans f g h a b = record {
-    keeps_writing = record { holds_is = b.keeps_writing.holds_is ∙ a.keeps_writing.holds_is; writing_is = b.keeps_writing.writing_is ∙ a.keeps_writing.writing_is; unfinished_is = b.keeps_writing.unfinished_is ∙ a.keeps_writing.unfinished_is };
-    counts_grow = record {
-      read_faults_grow = omega (arith, a.counts_grow.read_faults_grow, b.counts_grow.read_faults_grow);
-      write_faults_grow = omega (arith, a.counts_grow.write_faults_grow, b.counts_grow.write_faults_grow);
-      wants_grow = omega (arith, a.counts_grow.wants_grow, b.counts_grow.wants_grow);
-    };
-    no_write_fault = b.no_write_fault ∙ a.no_write_fault;
-  }
+pub only_reads_trans : (old mid new : FolderState) → OnlyReads old mid → OnlyReads mid new → OnlyReads old new
+only_reads_trans old mid new a b = record {
+  keeps_writing = writing_kept a.keeps_writing b.keeps_writing;
+  read_faults_grow = omega (arith, a.read_faults_grow, b.read_faults_grow);
+  wants_grow = omega (arith, a.wants_grow, b.wants_grow);
+}
 
 -- a read fault in a later part of the call is one in the whole
 pub later_fault : (old mid new : FolderState) (path : List ℕ) → mid.holds ≡ old.holds → old.read_faults ≤ mid.read_faults → IsReadFault mid new path → IsReadFault old new path

@@ -32,9 +32,11 @@ use Rattle.taco_top.specs.Built.{AreTooLarge, IsFilesText, IsResultText, IsValue
 use Rattle.taco_top.specs.declared.fault.Fault.{Fault}
 use Rattle.taco_top.specs.declared.fault.Fault.TheVariants as fault
 use Rattle.taco_top.specs.Answer.{answer_of_fault}
-use Rattle.taco_top.specs.Ends.{Cause, SinkStays}
-use Rattle.taco_top.specs.Puts.{SinkState}
-use Rattle.taco_top.specs.Reads.{FolderState, ReadCause}
+use Rattle.outside.specs.Sink.{Stays}
+use Rattle.taco_top.specs.Ends.{Cause}
+use Rattle.outside.specs.Sink.{SinkState}
+use Rattle.outside.specs.Folder.{FolderState}
+use Rattle.taco_top.specs.Reads.{ReadCause}
 use Rattle.taco_top.proofs.Stands.{built_is_product, built_reads, words_count}
 
 -- a file with too many bytes isn't built
@@ -207,8 +209,8 @@ result_is items holds words s paths (Ok text) line is = record { s = s; paths = 
 result_is items holds words s paths (Err fault) line is = tt
 
 -- a fault while reading leaves the output for results as it was
-stays : (out : SinkState) → SinkStays out out
-stays out = record { written_is = refl; unfinished_is = refl; faults_are = refl; wants_are = refl }
+stays : (out : SinkState) → Stays out out
+stays out = record { written_is = refl; unfinished_is = refl; faults_are = refl; wants_are = refl; beside_is = refl }
 
 pub cause_of_read : (words : List (String Global)) (files files' : FolderState) (out : SinkState) (f : Fault) → ReadCause words files files' (answer_of_fault f) → Cause words files files' out out (answer_of_fault f)
 cause_of_read words files files' out fault.Usage c = absurd c

@@ -1,20 +1,14 @@
 -- What stands after a call of the program.
 use Rattle.std.specs.Prelude.{◌≡◌, ℕ, ◌⊎◌, false, List}
 use Rattle.outside.specs.Count.{Rose}
-use Rattle.outside.specs.Folder.{appended}
+use Rattle.outside.specs.Folder.{FolderState, appended}
+use Rattle.outside.specs.Sink.{SinkState, Stays}
 use Rattle.taco_top.specs.Answer.{Answer, Done, NotBuilt, Usage, ReadFault, WriteFault, Memory, status_of_answer, line_of}
-use Rattle.taco_top.specs.Puts.{PutsFront, PutsLine, SinkState}
+use Rattle.taco_top.specs.Puts.{PutsFront, PutsLine}
 use Rattle.std.specs.Prelude.{String}
 use Rattle.std.specs.declared.alloc.Global.{Global}
 use Rattle.taco_top.specs.Built.{IsResultText, NotBuiltAt, IsOperandPath}
-use Rattle.taco_top.specs.Reads.{FolderState, IsReadFault}
-
--- a sink is as before
-pub record SinkStays (old new : SinkState) : Type 0 where
-  pub written_is : new.written ≡ old.written
-  pub unfinished_is : new.unfinished ≡ old.unfinished
-  pub faults_are : new.faults ≡ old.faults
-  pub wants_are : new.wants ≡ old.wants
+use Rattle.taco_top.specs.Reads.{IsReadFault}
 
 -- the result's text was appended whole, and nothing is kept back
 pub record PutsResult (words : List (String Global)) (files : FolderState) (old new : SinkState) : Type 0 where
@@ -32,11 +26,11 @@ pub record PutsPart (words : List (String Global)) (files : FolderState) (old ne
 -- why an answer comes, and what stands on the output for results after it
 abbrev pub Cause : List (String Global) → FolderState → FolderState → SinkState → SinkState → Answer → Type 0
 Cause words files files' out out' Done = PutsResult words files out out'
-Cause words files files' out out' NotBuilt = SinkStays out out' × NotBuiltAt files.holds words
-Cause words files files' out out' Usage = SinkStays out out'
-Cause words files files' out out' (ReadFault path) = SinkStays out out' × (IsOperandPath files.holds words path × IsReadFault files files' path)
+Cause words files files' out out' NotBuilt = Stays out out' × NotBuiltAt files.holds words
+Cause words files files' out out' Usage = Stays out out'
+Cause words files files' out out' (ReadFault path) = Stays out out' × (IsOperandPath files.holds words path × IsReadFault files files' path)
 Cause words files files' out out' WriteFault = PutsPart words files out out' × Rose out.faults out'.faults
-Cause words files files' out out' Memory = SinkStays out out' ⊎ (PutsPart words files out out' × Rose out.wants out'.wants)
+Cause words files files' out out' Memory = Stays out out' ⊎ (PutsPart words files out out' × Rose out.wants out'.wants)
 
 -- a call with this status gave this answer: it has its cause, and the output for refusals grew by its line
 pub record Ends (words : List (String Global)) (files files' : FolderState) (out out' err err' : SinkState) (status : ℕ) : Type 0 where

@@ -1,7 +1,10 @@
 -- What the streams were given, and how often they failed.
-use Rattle.std.specs.Prelude.{◌≡◌, ℕ, ◌⊎◌, Bool, List, ◌++◌, Option}
+use Rattle.std.specs.Prelude.{◌≡◌, ℕ, ◌⊎◌, List, ◌++◌, Option}
 use Rattle.outside.specs.Folder.{appended}
 use Rattle.outside.specs.Count.{Rose}
+use Rattle.outside.specs.Refusal.{IsCounted}
+use Rattle.outside.specs.Sink.{SinkState}
+use Rattle.outside.specs.declared.refusal.Refusal.{Refusal}
 use Rattle.text_lines.specs.Puts.{PutsLess}
 
 -- a part of the text, at its front, was appended
@@ -11,15 +14,10 @@ pub record PutsFront (old new : Option (List ℕ)) (text : List ℕ) : Type 0 wh
   pub text_is : text ≡ front ++ rest
   pub written_is : new ≡ appended old front
 
--- what a sink has been given, whether it is unfinished, and its counts
-pub record SinkState : Type 0 where
-  pub written : Option (List ℕ)
-  pub unfinished : Bool
-  pub faults : ℕ
-  pub wants : ℕ
-
-abbrev pub sink_state : {S : Type 0} → (S → Option (List ℕ)) → (S → Bool) → (S → ℕ) → (S → ℕ) → S → SinkState
-sink_state written unfinished faults wants s = record { written = written s; unfinished = unfinished s; faults = faults s; wants = wants s }
+-- and then the sink refused, for a reason that it counted
+pub record AppendsFront (old new : SinkState) (text : List ℕ) (why : Refusal) : Type 0 where
+  pub puts : PutsFront old.written new.written text
+  pub counted : IsCounted why old.faults new.faults old.wants new.wants
 
 -- the line was appended whole; or not the whole of it, where the sink failed or wanted memory
 abbrev pub PutsLine : SinkState → SinkState → List ℕ → Type 0

@@ -1,8 +1,8 @@
 -- What reading the operands leaves, and why it may be refused.
-use Rattle.std.specs.Prelude.{◌≡◌, ℕ, ◌⊎◌, Bool, List, Option, Some, ⊤}
-use Rattle.outside.specs.Told.{Told, NoFile}
+use Rattle.std.specs.Prelude.{◌≡◌, ℕ, ◌≤◌, ◌⊎◌, List, Some, ⊤}
+use Rattle.outside.specs.Told.{NoFile}
 use Rattle.outside.specs.Count.{Rose}
-use Rattle.outside.specs.Folder.{KeepsWriting, CountsGrow}
+use Rattle.outside.specs.Folder.{FolderState, KeepsWriting}
 use Rattle.std.specs.Prelude.{String}
 use Rattle.std.specs.declared.alloc.Global.{Global}
 use Rattle.index_notation.specs.declared.syntax.Access.{Access}
@@ -10,20 +10,11 @@ use Rattle.index_notation.specs.declared.syntax.Statement.{Statement}
 use Rattle.taco_top.specs.Built.{IsUnbuilt, HasUnbuilt, IsNext, AreTooLarge, LineNotBuilt, NotBuiltAt, IsOperandPath}
 use Rattle.taco_top.specs.Answer.{Answer, Done, NotBuilt, Usage, ReadFault, WriteFault, Memory}
 
--- files, the name being written and its state are as before, the count of write faults is, and no count has fallen
-pub record OnlyReads {F : Type 0} (holds : F → List ℕ → Told) (writing : F → Option (List ℕ)) (unfinished : F → Bool) (read_faults write_faults wants : F → ℕ) (old new : F) : Type 0 where
-  pub keeps_writing : KeepsWriting holds writing unfinished old new
-  pub counts_grow : CountsGrow read_faults write_faults wants old new
-  pub no_write_fault : write_faults new ≡ write_faults old
-
--- what a folder holds, its count of read faults, and the name of the last
-pub record FolderState : Type 0 where
-  pub holds : List ℕ → Told
-  pub read_faults : ℕ
-  pub faulted : Option (List ℕ)
-
-abbrev pub folder_state : {F : Type 0} → (F → List ℕ → Told) → (F → ℕ) → (F → Option (List ℕ)) → F → FolderState
-folder_state holds read_faults faulted f = record { holds = holds f; read_faults = read_faults f; faulted = faulted f }
+-- all that belongs to writing is as before, and no count has fallen
+pub record OnlyReads (old new : FolderState) : Type 0 where
+  pub keeps_writing : KeepsWriting old new
+  pub read_faults_grow : old.read_faults ≤ new.read_faults
+  pub wants_grow : old.wants ≤ new.wants
 
 -- reading this path failed in this call, or the folder tells that there is no such file
 abbrev pub IsReadFault : FolderState → FolderState → List ℕ → Type 0

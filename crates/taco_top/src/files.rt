@@ -1,7 +1,7 @@
 ghost use Rattle.std.specs.Prelude.{◌≤◌, IfOk};
 ghost use Rattle.taco_top.specs.Answer.{answer_of};
 ghost use Rattle.taco_top.specs.Built.{IsOperand};
-ghost use Rattle.taco_top.specs.Reads.{OnlyReads, FileCause, folder_state};
+ghost use Rattle.taco_top.specs.Reads.{OnlyReads, FileCause};
 ghost use Rattle.limits.specs.Limits.{greatest_order};
 
 use crate::fault::Fault;
@@ -19,9 +19,9 @@ pub fn read_file<'a, F: Folder>(
     order: usize,
 ) -> Result<Entries, Fault<'a>>
     requires { order ≤ greatest_order }
-    ensures only_reads { OnlyReads F.holds F.writing F.unfinished F.read_faults F.write_faults F.wants files.old files.new }
-    ensures operand { IfOk result (IsOperand order (F.holds files.old path.now)) }
-    ensures cause { FileCause order path.now (folder_state F.holds F.read_faults F.faulted files.old) (folder_state F.holds F.read_faults F.faulted files.new) (answer_of result) }
+    ensures only_reads { OnlyReads (F.state files.old) (F.state files.new) }
+    ensures operand { IfOk result (IsOperand order ((F.state files.old).holds path.now)) }
+    ensures cause { FileCause order path.now (F.state files.old) (F.state files.new) (answer_of result) }
 {
     let mut text = Vec::new(alloc);
     match read_through(files, path, limits::greatest_bytes_of_file(), &mut text) {

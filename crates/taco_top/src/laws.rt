@@ -7,8 +7,8 @@ ghost use Rattle.index_notation.specs.declared.syntax.Statement.{Statement};
 ghost use Rattle.taco_top.specs.Built.{IsBuiltLine, IsResultText};
 ghost use Rattle.taco_top.specs.EndLaws.{IsWhole};
 ghost use Rattle.taco_top.specs.Ends.{Ends};
-ghost use Rattle.taco_top.specs.Puts.{SinkState};
-ghost use Rattle.taco_top.specs.Reads.{FolderState};
+ghost use Rattle.outside.specs.Sink.{SinkState};
+ghost use Rattle.outside.specs.Folder.{FolderState};
 
 /// Where all input is built, told and not too large, a call ends with status 0, and so with its file, or with
 /// want of memory, unless a count of faults rose. A command line has one statement and one list of paths, and

@@ -1,7 +1,6 @@
-ghost use Rattle.std.specs.Prelude.{◌≡◌, ◌++◌, OnOk, OnErr};
-ghost use Rattle.outside.specs.Folder.{appended};
-ghost use Rattle.outside.specs.Refusal.{IsNotAbsent, CountsFailed, CountsMemory};
-ghost use Rattle.text_lines.specs.Puts.{PutsLess};
+ghost use Rattle.std.specs.Prelude.{◌≡◌, ◌++◌, OnOk, IfErr};
+ghost use Rattle.outside.specs.Sink.{Appends};
+ghost use Rattle.text_lines.specs.Puts.{AppendsPart};
 ghost use Rattle.taco_top.specs.Answer.{Answer, ReadFault, NamesNothing, answer_of_fault, line_of};
 
 use crate::fault::Fault;
@@ -10,11 +9,8 @@ use text_lines::put_all;
 
 // Appends one text and then another.
 fn put_both<S: Sink>(sink: &mut S, first: &[u8], second: &[u8]) -> Result<(), Refusal>
-    ensures whole { OnOk result (S.written sink.new ≡ appended (S.written sink.old) (first.now ++ second.now)) }
-    ensures part { OnErr result (PutsLess (S.written sink.old) (S.written sink.new) (first.now ++ second.now)) }
-    ensures present { IsNotAbsent result }
-    ensures counted { CountsFailed result (S.faults sink.old) (S.faults sink.new) }
-    ensures wanted { CountsMemory result (S.wants sink.old) (S.wants sink.new) }
+    ensures whole { OnOk result (Appends (S.state sink.old) (S.state sink.new) (first.now ++ second.now)) }
+    ensures part { IfErr result (AppendsPart (S.state sink.old) (S.state sink.new) (first.now ++ second.now)) }
 {
     match put_all(sink, first) {
         Ok(()) => put_all(sink, second),
@@ -24,11 +20,8 @@ fn put_both<S: Sink>(sink: &mut S, first: &[u8], second: &[u8]) -> Result<(), Re
 
 // Appends the line of a path that can't be read.
 fn put_read_fault<S: Sink>(sink: &mut S, path: &str) -> Result<(), Refusal>
-    ensures whole { OnOk result (S.written sink.new ≡ appended (S.written sink.old) (line_of (ReadFault path.now))) }
-    ensures part { OnErr result (PutsLess (S.written sink.old) (S.written sink.new) (line_of (ReadFault path.now))) }
-    ensures present { IsNotAbsent result }
-    ensures counted { CountsFailed result (S.faults sink.old) (S.faults sink.new) }
-    ensures wanted { CountsMemory result (S.wants sink.old) (S.wants sink.new) }
+    ensures whole { OnOk result (Appends (S.state sink.old) (S.state sink.new) (line_of (ReadFault path.now))) }
+    ensures part { IfErr result (AppendsPart (S.state sink.old) (S.state sink.new) (line_of (ReadFault path.now))) }
 {
     match put_all(sink, b"taco: ") {
         Ok(()) => put_both(sink, path.as_bytes(), b": read fault\n"),
@@ -53,11 +46,8 @@ fn plain_line(fault: &Fault<'_>) -> &'static [u8]
 
 /// Appends the line of a fault.
 pub fn put_fault<S: Sink>(sink: &mut S, fault: &Fault<'_>) -> Result<(), Refusal>
-    ensures whole { OnOk result (S.written sink.new ≡ appended (S.written sink.old) (line_of (answer_of_fault fault.now))) }
-    ensures part { OnErr result (PutsLess (S.written sink.old) (S.written sink.new) (line_of (answer_of_fault fault.now))) }
-    ensures present { IsNotAbsent result }
-    ensures counted { CountsFailed result (S.faults sink.old) (S.faults sink.new) }
-    ensures wanted { CountsMemory result (S.wants sink.old) (S.wants sink.new) }
+    ensures whole { OnOk result (Appends (S.state sink.old) (S.state sink.new) (line_of (answer_of_fault fault.now))) }
+    ensures part { IfErr result (AppendsPart (S.state sink.old) (S.state sink.new) (line_of (answer_of_fault fault.now))) }
 {
     match fault {
         Fault::ReadFault(path) => put_read_fault(sink, path),

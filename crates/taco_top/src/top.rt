@@ -1,10 +1,9 @@
-ghost use Rattle.std.specs.Prelude.{◌≡◌, ◌≤◌, ◌<◌, ◌+◌, ◌↔◌, ℕ, List, length, map, false, All, IsTrue, IfOk, MatchOption, OnOk, OnErr, codes, string_bytes};
-ghost use Rattle.outside.specs.Folder.{appended};
-ghost use Rattle.outside.specs.Refusal.{IsNotAbsent, CountsFailed, CountsMemory};
+ghost use Rattle.std.specs.Prelude.{◌≡◌, ◌≤◌, ◌<◌, ◌+◌, ◌↔◌, ℕ, List, length, map, false, All, IsTrue, IfOk, IfErr, MatchOption, OnOk, codes, string_bytes};
+ghost use Rattle.outside.specs.Sink.{Appends};
 ghost use Rattle.taco_top.specs.Answer.{Usage, IsRun, answer_of, answer_of_fault, status_of_answer};
 ghost use Rattle.taco_top.specs.Built.{AreRead, IsBuiltLine, IsFilesText, IsResultText, IsTextOf, IsValuesText};
-ghost use Rattle.taco_top.specs.Puts.{PutsFront, sink_state};
-ghost use Rattle.taco_top.specs.Reads.{OnlyReads, FilesCause, LineCause, OperandsCause, ReadCause, folder_state};
+ghost use Rattle.taco_top.specs.Puts.{AppendsFront};
+ghost use Rattle.taco_top.specs.Reads.{OnlyReads, FilesCause, LineCause, OperandsCause, ReadCause};
 ghost use Rattle.taco_top.specs.Ends.{Cause, WriteCause, Ends};
 ghost use Rattle.taco_top.specs.SmallCoords.{first_order};
 ghost use Rattle.index_notation.specs.Text.{IsBuiltText};
@@ -46,9 +45,9 @@ fn read_operands<'a, F: Folder>(
     paths: &[&'a str],
 ) -> Result<Vec<Entries>, Fault<'a>>
     requires { All (λ access. length access.vars ≤ greatest_order) accesses.now }
-    ensures only_reads { OnlyReads F.holds F.writing F.unfinished F.read_faults F.write_faults F.wants files.old files.new }
-    ensures operands { IfOk result (λ operands. AreRead (F.holds files.old) accesses.now 1 operands.items (map (λ path. path.now) paths.now) × (length operands.items ≡ length paths.now)) }
-    ensures cause { OperandsCause accesses.now (map (λ path. path.now) paths.now) (folder_state F.holds F.read_faults F.faulted files.old) (folder_state F.holds F.read_faults F.faulted files.new) (answer_of result) }
+    ensures only_reads { OnlyReads (F.state files.old) (F.state files.new) }
+    ensures operands { IfOk result (λ operands. AreRead (F.state files.old).holds accesses.now 1 operands.items (map (λ path. path.now) paths.now) × (length operands.items ≡ length paths.now)) }
+    ensures cause { OperandsCause accesses.now (map (λ path. path.now) paths.now) (F.state files.old) (F.state files.new) (answer_of result) }
 {
     let mut operands = Vec::new(alloc);
     for (n, path) in paths.iter().enumerate() {
@@ -87,9 +86,9 @@ fn files_text<'a, F: Folder>(
 ) -> Result<Vec<u8>, Fault<'a>>
     requires built { (text : List ℕ) × IsBuiltText text statement.now }
     requires count { length statement.now.tensors ≡ length paths.now + 1 }
-    ensures only_reads { OnlyReads F.holds F.writing F.unfinished F.read_faults F.write_faults F.wants files.old files.new }
-    ensures text { IfOk result (λ text. IsFilesText (F.holds files.old) statement.now (map (λ path. path.now) paths.now) text.items) }
-    ensures cause { FilesCause statement.now (map (λ path. path.now) paths.now) (folder_state F.holds F.read_faults F.faulted files.old) (folder_state F.holds F.read_faults F.faulted files.new) (answer_of result) }
+    ensures only_reads { OnlyReads (F.state files.old) (F.state files.new) }
+    ensures text { IfOk result (λ text. IsFilesText (F.state files.old).holds statement.now (map (λ path. path.now) paths.now) text.items) }
+    ensures cause { FilesCause statement.now (map (λ path. path.now) paths.now) (F.state files.old) (F.state files.new) (answer_of result) }
 {
     match read_operands(alloc, files, statement.accesses.as_slice(), paths) {
         Ok(operands) => match values_text(alloc, statement, operands.as_slice())? {
@@ -132,9 +131,9 @@ fn result_of<'a, F: Folder>(
     files: &mut F,
 ) -> Result<Vec<u8>, Fault<'a>>
     requires { IsRun words.now }
-    ensures only_reads { OnlyReads F.holds F.writing F.unfinished F.read_faults F.write_faults F.wants files.old files.new }
-    ensures text { IfOk result (λ text. IsResultText (F.holds files.old) words.now text.items) }
-    ensures cause { ReadCause words.now (folder_state F.holds F.read_faults F.faulted files.old) (folder_state F.holds F.read_faults F.faulted files.new) (answer_of result) }
+    ensures only_reads { OnlyReads (F.state files.old) (F.state files.new) }
+    ensures text { IfOk result (λ text. IsResultText (F.state files.old).holds words.now text.items) }
+    ensures cause { ReadCause words.now (F.state files.old) (F.state files.new) (answer_of result) }
 {
     match read_line(alloc, words) {
         Ok((statement, paths)) => files_text(alloc, files, &statement, paths.as_slice()),
@@ -161,12 +160,9 @@ fn is_run(words: &[String]) -> bool
 
 /// Writes the whole text, and finishes.
 fn put_text<O: Sink>(out: &mut O, text: &[u8]) -> Result<(), Refusal>
-    ensures whole { OnOk result (O.written out.new ≡ appended (O.written out.old) text.now) }
-    ensures finished { OnOk result (O.unfinished out.new ≡ false) }
-    ensures front { OnErr result (PutsFront (O.written out.old) (O.written out.new) text.now) }
-    ensures present { IsNotAbsent result }
-    ensures counted { CountsFailed result (O.faults out.old) (O.faults out.new) }
-    ensures wanted { CountsMemory result (O.wants out.old) (O.wants out.new) }
+    ensures whole { OnOk result (Appends (O.state out.old) (O.state out.new) text.now) }
+    ensures finished { OnOk result ((O.state out.new).unfinished ≡ false) }
+    ensures front { IfErr result (AppendsFront (O.state out.old) (O.state out.new) text.now) }
 {
     match put_all(out, text) {
         Ok(()) => out.finish(),
@@ -176,7 +172,7 @@ fn put_text<O: Sink>(out: &mut O, text: &[u8]) -> Result<(), Refusal>
 
 /// Writes the result's text.
 fn write_result<'a, O: Sink>(out: &mut O, text: &[u8]) -> Result<(), Fault<'a>>
-    ensures { WriteCause (sink_state O.written O.unfinished O.faults O.wants out.old) (sink_state O.written O.unfinished O.faults O.wants out.new) text.now (answer_of result) }
+    ensures { WriteCause (O.state out.old) (O.state out.new) text.now (answer_of result) }
 {
     match put_text(out, text) {
         Ok(()) => Ok(()),
@@ -192,9 +188,9 @@ fn run_words<'a, F: Folder, O: Sink>(
     files: &mut F,
     out: &mut O,
 ) -> Result<(), Fault<'a>>
-    ensures only_reads { OnlyReads F.holds F.writing F.unfinished F.read_faults F.write_faults F.wants files.old files.new }
+    ensures only_reads { OnlyReads (F.state files.old) (F.state files.new) }
     ensures usage { (answer_of result ≡ Usage) ↔ ¬ IsRun words.now }
-    ensures cause { Cause words.now (folder_state F.holds F.read_faults F.faulted files.old) (folder_state F.holds F.read_faults F.faulted files.new) (sink_state O.written O.unfinished O.faults O.wants out.old) (sink_state O.written O.unfinished O.faults O.wants out.new) (answer_of result) }
+    ensures cause { Cause words.now (F.state files.old) (F.state files.new) (O.state out.old) (O.state out.new) (answer_of result) }
 {
     if !is_run(words) {
         return Err(Fault::Usage);
@@ -232,12 +228,12 @@ pub fn taco<F: Folder, O: Sink, E: Sink>(
     ensures usage { (result ≡ 2) ↔ ¬ IsRun words.now }
 
     // Files are only read, and stay as they were.
-    ensures only_reads { OnlyReads F.holds F.writing F.unfinished F.read_faults F.write_faults F.wants files.old files.new }
+    ensures only_reads { OnlyReads (F.state files.old) (F.state files.new) }
 
     // The status has its cause, the result's stream holds what the status says, and `err` grew by its line.
-    ensures answers { Ends words.now (folder_state F.holds F.read_faults F.faulted files.old) (folder_state F.holds F.read_faults F.faulted files.new)
-        (sink_state O.written O.unfinished O.faults O.wants out.old) (sink_state O.written O.unfinished O.faults O.wants out.new)
-        (sink_state E.written E.unfinished E.faults E.wants err.old) (sink_state E.written E.unfinished E.faults E.wants err.new) result }
+    ensures answers { Ends words.now (F.state files.old) (F.state files.new)
+        (O.state out.old) (O.state out.new)
+        (E.state err.old) (E.state err.new) result }
 {
     match run_words(alloc, words, files, out) {
         Ok(()) => 0,

@@ -11,7 +11,8 @@ joined a entry next = record { coords = entry.coords; value = a.plus entry.value
 -- an entry takes up what follows it with the same coordinates
 abbrev pub summed_from : Arithmetic → Entry → List Entry → List Entry
 summed_from a entry [] = entry ∷ []
-summed_from a entry (next ∷ others) = cond (pointwise nat_eq next.coords entry.coords) (summed_from a (joined a entry next) others) (entry ∷ summed_from a next others)
+summed_from a entry (next ∷ others) =
+    cond (pointwise nat_eq next.coords entry.coords) (summed_from a (joined a entry next) others) (entry ∷ summed_from a next others)
 
 abbrev pub summed : Arithmetic → List Entry → List Entry
 summed a [] = []

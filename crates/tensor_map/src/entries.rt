@@ -1,4 +1,5 @@
-ghost use Rattle.std.specs.Prelude.{◌≡◌, ℕ, ◌≤◌, ◌<◌, ◌↔◌, [], ◌∷◌, ◌++◌, length, IsTrue, IsOk, IfOk, OnOk, OnErr, MatchOption, slice_index_or, slice_set, nat_eq, max, List, take, filter};
+ghost use Rattle.std.specs.Prelude.{◌≡◌, ℕ, ◌≤◌, ◌<◌, ◌↔◌, [], ◌∷◌, ◌++◌, length, IsTrue, IsOk, IfOk, OnOk, OnErr, MatchOption};
+ghost use Rattle.std.specs.Prelude.{slice_index_or, slice_set, nat_eq, max, List, take, filter};
 ghost use Rattle.limits.specs.Limits.{greatest_order};
 ghost use Rattle.tensor_map.specs.Summed.{joined, summed};
 ghost use Rattle.tensor_map.specs.Entries.{Entry};
@@ -186,7 +187,8 @@ fn have_equal_coords(entries: &[Entry], i: usize, j: usize) -> bool
 fn join<S: Semiring>(entries: &mut [Entry], into: usize, from: usize)
     requires first { into < length entries.old }
     requires second { from < length entries.old }
-    ensures { (d : Entry) → entries.new ≡ slice_set entries.old into (joined S.arithmetic (slice_index_or entries.old into d) (slice_index_or entries.old from d)) }
+    ensures { (d : Entry) → entries.new
+        ≡ slice_set entries.old into (joined S.arithmetic (slice_index_or entries.old into d) (slice_index_or entries.old from d)) }
 {
     let value = entries[from].value;
     let entry = &mut entries[into];

@@ -1,2 +1,2 @@
-pub mod LevelLaws
+pub mod Laws
 pub mod Levels

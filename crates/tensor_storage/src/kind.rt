@@ -1,6 +1,3 @@
-ghost use Rattle.tensor_storage.specs.Levels.{kind_of, keeps_rules, size_of, Holds, IsAllowed, segment_of, entries_of, log_of, positions_for, MayPrepare, Prepared, Inserted};
-ghost use Rattle.tensor_storage.specs.LevelLaws.{holds_there, are_entries, in_row, logs, prepares, inserts};
-
 use crate::level::StorageLevel;
 use kernel_code::{KExpr, KStmt};
 use level_core::{Letter, LevelKind};
@@ -8,41 +5,12 @@ use std::alloc::{AllocError, Global};
 use trees::Items;
 
 impl LevelKind for StorageLevel {
-    ghost kind = { kind_of };
+    ghost use Rattle.tensor_storage.specs.Levels as levels;
+    ghost use Rattle.tensor_storage.specs.Laws.{laws as storage_laws};
 
-    ghost keeps = { keeps_rules };
+    ghost meaning = { levels.meaning };
 
-    ghost size = { size_of };
-
-    ghost holds = { Holds };
-
-    ghost allowed = { IsAllowed };
-
-    ghost segment_of = { segment_of };
-
-    ghost entries = { entries_of };
-
-    ghost log = { log_of };
-
-    ghost positions_for = { positions_for };
-
-    ghost may_prepare = { MayPrepare };
-
-    ghost prepared = { Prepared };
-
-    ghost inserted = { Inserted };
-
-    ghost holds_there = { holds_there };
-
-    ghost are_entries = { are_entries };
-
-    ghost in_row = { in_row };
-
-    ghost logs = { logs };
-
-    ghost prepares = { prepares };
-
-    ghost inserts = { inserts };
+    ghost laws = { storage_laws };
 
     fn letter(&self) -> Letter {
         match self {

@@ -1,11 +1,11 @@
 //! The storage of tensors: so far, a level of any kind.
 #![tactic(auto)]
 
+mod appending;
+mod inserting;
 mod kind;
 mod level;
 mod reading;
 
 pub use level::StorageLevel;
 
-#[cfg(test)]
-mod tests;

@@ -1,6 +1,9 @@
 -- What a sink was given: a whole text, or a part of it at its front.
 use Rattle.std.specs.Prelude.{◌≡◌, ℕ, ◌<◌, List, ◌++◌, length, Option}
 use Rattle.outside.specs.Folder.{appended}
+use Rattle.outside.specs.Refusal.{IsCounted}
+use Rattle.outside.specs.Sink.{SinkState}
+use Rattle.outside.specs.declared.refusal.Refusal.{Refusal}
 
 -- a part of the text, at its front, was appended, and not the whole
 pub record PutsLess (old new : Option (List ℕ)) (text : List ℕ) : Type 0 where
@@ -10,10 +13,8 @@ pub record PutsLess (old new : Option (List ℕ)) (text : List ℕ) : Type 0 whe
   pub short : 0 < length rest
   pub written_is : new ≡ appended old front
 
--- a part of the text is put, the rest is left, and no count has moved
-pub record PutsSoFar {S : Type 0} (written : S → Option (List ℕ)) (faults wants : S → ℕ) (old new : S) (text rest : List ℕ) : Type 0 where
-  pub front : List ℕ
-  pub text_is : text ≡ front ++ rest
-  pub written_is : written new ≡ appended (written old) front
-  pub faults_are : faults new ≡ faults old
-  pub wants_are : wants new ≡ wants old
+-- a part of the text was appended, and then the sink refused more, for a reason that it counted
+pub record AppendsPart (old new : SinkState) (text : List ℕ) (why : Refusal) : Type 0 where
+  pub less : PutsLess old.written new.written text
+  pub counted : IsCounted why old.faults new.faults old.wants new.wants
+  pub beside_is : new.beside ≡ old.beside

@@ -19,6 +19,3 @@ pub use laws::{
 pub use num_fault::NumFault;
 pub use puts::{put_all, put_i64, put_u64};
 pub use whole::read_whole;
-
-#[cfg(test)]
-mod tests;

@@ -11,17 +11,3 @@ pub use laws::{
     written_texts_stand_for_their_tensor,
 };
 pub use line_kind::LineKind;
-
-#[cfg(test)]
-mod tests {
-    use super::*;
-
-    #[test]
-    fn laws_are_calls(rt: HostRuntime) {
-        lines_are_entries_or_bad();
-        positions_number_coordinates();
-        tensors_have_one_text();
-        written_texts_stand_for_their_tensor();
-        assert_ne!(rt; LineKind::Fields, LineKind::LongLine);
-    }
-}

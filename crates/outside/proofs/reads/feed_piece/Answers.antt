@@ -1,17 +1,25 @@
-use Rattle.std.proofs.Common.{take, inl, inr, arith}
-use Rattle.std.proofs.lemmas.Grind.{common_steps}
-use Rattle.outside.proofs.Feeding.{feeds_nothing, longer_by}
+use Rattle.std.proofs.Common.{inr, arith}
+use Rattle.std.proofs.lemmas.Result.{err_from_is_err_and}
+use Rattle.outside.proofs.Feeding.{feeds_none, refused_to_read}
 use Rattle.outside.proofs.reads.feed_piece.Goals as goal
 
-pub returns-in-Err-Memory-clause-stops : goal.returns-in-Err-Memory-clause-stops
-returns-in-Err-Memory-clause-stops g c = inl (record { rose = rw c.in-Err-Memory.field-0-is at c.in-Err-Memory.ensures.wanted; part = feeds_nothing _ _ })
-
-pub returns-in-Err-Failed-clause-stops : goal.returns-in-Err-Failed-clause-stops
-returns-in-Err-Failed-clause-stops g c = feeds_nothing _ _
+pub returns-in_err-n-clause-stops : goal.returns-in_err-n-clause-stops
+returns-in_err-n-clause-stops g c =
+    let p = err_from_is_err_and c.from_residual.result c.from_residual.ensures.1 in
+    rw (p.1, p.2) (refused_to_read g.E.Eater.eaten g.E.Eater.refused _ _ c.args.left c.args.eater.now c.in_err-n.field-0.0 c.in_err-n.ensures.refused)
 
 pub returns-then-n-left-clause-stops : goal.returns-then-n-left-clause-stops
 returns-then-n-left-clause-stops g c =
-    (feeds_nothing _ _, longer_by _ _ (take c.in-Ok.n c.read.new.buf) c.args.left c.in-Ok.ensures.gives (grind (arith, common_steps)))
+    record { mid = _; n = 0; feeds = feeds_none _ _; buffer = _; m = _; reads = c.in_ok-n.ensures.read; over = omega arith }
 
 pub returns-in-Err-clause-stops : goal.returns-in-Err-clause-stops
-returns-in-Err-clause-stops g c = inr (record { before = c.args.eater.now; piece = _; part = feeds_nothing _ _; refuses = c.in-Err.ensures.err })
+returns-in-Err-clause-stops g c = inr (record {
+  mid = _;
+  before = c.args.eater.now;
+  n = 0;
+  feeds = feeds_none _ _;
+  buffer = _;
+  m = _;
+  reads = c.in_ok-n.ensures.read;
+  refuses = c.in-Err.ensures.err;
+})

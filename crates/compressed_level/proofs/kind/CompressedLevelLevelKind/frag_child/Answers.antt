@@ -3,8 +3,8 @@ use Rattle.kernel_code.specs.declared.syntax.LoopKind.TheVariants.{Skip}
 use Rattle.kernel_code.specs.Keeps.{no_turns}
 use Rattle.level_core.specs.Fragments.{Reads, SpanLeft, turns_of}
 use Rattle.compressed_level.specs.Compressed.{segment_of}
-use Rattle.compressed_level.specs.LevelLaws.{within_coords}
-use Rattle.compressed_level.proofs.LevelLaws.{rises_where_unique}
+use Rattle.compressed_level.specs.Laws.{within_coords}
+use Rattle.compressed_level.specs.Laws.{rises_where_unique}
 use Rattle.compressed_level.proofs.CodeLaws.{letter_tells, child_turns_are}
 use Rattle.compressed_level.proofs.kind.CompressedLevelLevelKind.frag_child.Goals as goal
 

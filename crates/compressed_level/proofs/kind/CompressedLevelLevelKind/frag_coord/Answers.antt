@@ -1,5 +1,5 @@
 use Rattle.compressed_level.specs.Compressed.{segment_of}
-use Rattle.compressed_level.specs.LevelLaws.{within_coords}
+use Rattle.compressed_level.specs.Laws.{within_coords}
 use Rattle.compressed_level.proofs.kind.CompressedLevelLevelKind.frag_coord.Goals as goal
 
 pub returns : goal.returns

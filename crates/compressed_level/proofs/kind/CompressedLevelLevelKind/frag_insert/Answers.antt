@@ -1,5 +1,7 @@
-use Rattle.compressed_level.proofs.RuleLaws.{never_inserted}
+use Rattle.coordinate_lists.proofs.Letters.{never_inserted}
+use Rattle.compressed_level.specs.Compressed.{letter_of}
+use Rattle.compressed_level.specs.Laws.{appends}
 use Rattle.compressed_level.proofs.kind.CompressedLevelLevelKind.frag_insert.Goals as goal
 
 pub returns : goal.returns
-returns c = λ can. absurd (never_inserted c.args.self.now.unique can)
+returns c = λ setting l like keeps parent x ok may. absurd (never_inserted (letter_of l.unique) (appends l.unique) may.able)

@@ -1,6 +1,6 @@
 use Rattle.std.proofs.Common.{◌+◌, ◌*◌, ◌^◌, ◌<◌, sym, subst, arith}
 use Rattle.level_core.specs.Entries.{one}
-use Rattle.dense_level.proofs.DenseLaws.{small_start, small_place}
+use Rattle.dense_level.proofs.Laws.{small_start, small_place}
 use Rattle.dense_level.proofs.dense.DenseLevel.place_of.Goals as goal
 
 pub overflow_mul-result : goal.overflow_mul-result

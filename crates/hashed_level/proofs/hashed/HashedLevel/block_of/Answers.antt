@@ -1,5 +1,5 @@
 use Rattle.std.proofs.Common.{◌+◌, ◌*◌, ◌^◌, ◌<◌, sym, subst, arith}
-use Rattle.hashed_level.proofs.HashedLaws.{block_word}
+use Rattle.hashed_level.proofs.Laws.{block_word}
 use Rattle.hashed_level.proofs.hashed.HashedLevel.block_of.Goals as goal
 
 pub overflow_mul-lo : goal.overflow_mul-lo

@@ -3,9 +3,9 @@ use Rattle.std.proofs.Common.{◌∙◌, ◌*◌, ◌^◌, ◌<◌, sym, ap, sub
 use Rattle.limits.proofs.Limits.{positions_are_small}
 use Rattle.hashed_level.specs.Slots.{empty_slot}
 use Rattle.kernel_code.specs.Widths.{slot_width}
-use Rattle.hashed_level.specs.Hashed.{Keeps, hashed}
-use Rattle.hashed_level.specs.HashedLaws.{prepared_keeps}
-use Rattle.hashed_level.proofs.HashedLaws.{slots_word}
+use Rattle.hashed_level.specs.Hashed.{KeepsRules, hashed}
+use Rattle.hashed_level.specs.Laws.{prepared_keeps}
+use Rattle.hashed_level.proofs.Laws.{slots_word}
 use Rattle.hashed_level.proofs.hashed.HashedLevel.make_blocks.Goals as goal
 
 pub width_for-width-requires : goal.width_for-width-requires
@@ -17,8 +17,8 @@ overflow_mul-parents c =
     omega (arith, small)
 
 pub invariant_of-self : goal.invariant_of-self
-invariant_of-self c = subst Keeps (sym (
+invariant_of-self c = subst KeepsRules (sym (
     ap (λ xs. hashed c.self.inside.size xs (Some c.width_for-width.result) c.args.parents) c.in_ok-slots.ensures
     ∙ ap (λ w. hashed c.self.inside.size (replicate (c.args.parents * w) empty_slot) (Some w) c.args.parents) c.width_for-width.ensures
     ∙ ap (λ l. hashed l.size (replicate (c.args.parents * slot_width c.args.most) empty_slot) (Some (slot_width c.args.most)) c.args.parents) c.self.view_is))
-    (prepared_keeps c.args.self.now c.args.parents c.args.most c.requires.may c.requires.within)
+    (prepared_keeps c.args.self.now c.args.parents c.args.most (subst KeepsRules c.self.view_is c.self.invariant) c.requires.within)

@@ -1,5 +1,5 @@
 use Rattle.std.proofs.Common.{◌∙◌, ap}
-use Rattle.hashed_level.proofs.HashedLaws.{never_passes, stops_first}
+use Rattle.hashed_level.proofs.Laws.{never_passes, stops_first}
 use Rattle.hashed_level.proofs.hashed.HashedLevel.slot_for.Goals as goal
 
 pub unreachable-requires : goal.unreachable-requires

@@ -15,4 +15,5 @@ returns c =
       writing_is = refl;
       unfinished_is = refl;
       wants_is = refl;
+      given_is = refl;
     }

@@ -1,5 +1,5 @@
 use Rattle.singleton_level.specs.Singleton.{stored}
-use Rattle.singleton_level.proofs.RuleLaws.{push_keeps}
+use Rattle.singleton_level.specs.Laws.{push_keeps}
 use Rattle.singleton_level.proofs.appending.SingletonLevelAppend.append_coord.Goals as goal
 
 pub invariant_of-self : goal.invariant_of-self

@@ -2,8 +2,8 @@ use Rattle.std.proofs.Common.{◌≡◌, ◌-◌, ◌∙◌, sym, ap, subst, if�
 use Rattle.kernel_code.specs.declared.syntax.LoopKind.TheVariants.{Skip}
 use Rattle.kernel_code.specs.Keeps.{no_turns}
 use Rattle.level_core.specs.Fragments.{Reads, SpanLeft, turns_of}
-use Rattle.singleton_level.proofs.LevelLaws.{rises_where_unique}
-use Rattle.singleton_level.proofs.RuleLaws.{letter_tells}
+use Rattle.singleton_level.specs.Laws.{rises_where_unique}
+use Rattle.singleton_level.specs.Laws.{letter_tells}
 use Rattle.singleton_level.proofs.CodeLaws.{child_turns_are}
 use Rattle.singleton_level.proofs.kind.SingletonLevelLevelKind.frag_child.Goals as goal
 

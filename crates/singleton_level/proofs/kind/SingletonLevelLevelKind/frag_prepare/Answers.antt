@@ -1,5 +1,7 @@
-use Rattle.singleton_level.proofs.RuleLaws.{never_inserted}
+use Rattle.coordinate_lists.proofs.Letters.{never_inserted}
+use Rattle.singleton_level.specs.Singleton.{letter_of}
+use Rattle.singleton_level.specs.Laws.{appends}
 use Rattle.singleton_level.proofs.kind.SingletonLevelLevelKind.frag_prepare.Goals as goal
 
 pub returns : goal.returns
-returns c = λ can. absurd (never_inserted c.args.self.now.unique can)
+returns c = λ setting l like keeps parents most may. absurd (never_inserted (letter_of l.unique) (appends l.unique) may.able)

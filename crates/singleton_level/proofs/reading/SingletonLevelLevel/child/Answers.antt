@@ -1,5 +1,5 @@
 use Rattle.std.proofs.Common.{ap}
-use Rattle.singleton_level.proofs.LevelLaws.{child_first, child_read}
+use Rattle.singleton_level.specs.Laws.{child_first, child_read}
 use Rattle.singleton_level.proofs.reading.SingletonLevelLevel.child.Goals as goal
 
 pub group_end-requires-clause-first : goal.group_end-requires-clause-first

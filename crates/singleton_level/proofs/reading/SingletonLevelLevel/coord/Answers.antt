@@ -1,5 +1,5 @@
 use Rattle.std.proofs.Common.{ap}
-use Rattle.singleton_level.proofs.LevelLaws.{coord_inside, coord_read}
+use Rattle.singleton_level.specs.Laws.{coord_inside, coord_read}
 use Rattle.singleton_level.proofs.reading.SingletonLevelLevel.coord.Goals as goal
 
 pub get-requires : goal.get-requires

@@ -1,5 +1,7 @@
-use Rattle.singleton_level.proofs.RuleLaws.{never_located}
+use Rattle.coordinate_lists.proofs.Letters.{never_located}
+use Rattle.singleton_level.specs.Singleton.{letter_of}
+use Rattle.singleton_level.specs.Laws.{appends}
 use Rattle.singleton_level.proofs.reading.SingletonLevelLevel.locate.Goals as goal
 
 pub returns : goal.returns
-returns c = λ can. absurd (never_located c.args.self.now.unique can)
+returns c = λ can. absurd (never_located (letter_of c.args.self.now.unique) (appends c.args.self.now.unique) can)

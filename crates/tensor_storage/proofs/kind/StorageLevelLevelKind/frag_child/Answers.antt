@@ -1,5 +1,6 @@
 use Rattle.std.specs.Prelude.{refl}
-use Rattle.tensor_storage.proofs.OneKind.{ok_then, only_dense, only_compressed, only_singleton, only_hashed}
+use Rattle.tensor_storage.specs.Laws.{only_compressed, only_dense, only_hashed, only_singleton}
+use Rattle.tensor_storage.proofs.OneKind.{ok_then}
 use Rattle.tensor_storage.proofs.kind.StorageLevelLevelKind.frag_child.Goals as goal
 
 pub returns-in-Dense : goal.returns-in-Dense

@@ -1,0 +1,108 @@
+-- The grammar of statements, as the symbols of a syntax tree, each with its role.
+--   statement = access "=" sum end
+--   sum       = product { ("+" | "-") product }, grouped to the left
+--   product   = factor { "*" factor }, grouped to the left
+--   factor    = number | access | "(" sum ")" | "-" factor
+--   access    = name [ "(" variable { "," variable } ")" ]
+use Rattle.std.specs.Prelude.{◌≡◌, ℕ, zero, suc, List, [], ◌∷◌, ◌++◌, map}
+use Rattle.index_notation.specs.declared.syntax.Name.{Name}
+use Rattle.index_notation.specs.declared.sentence.Mark.{Mark}
+use Rattle.index_notation.specs.declared.sentence.Mark.TheVariants.{Equals, Plus, Minus, Times, Open, Close, Comma}
+use Rattle.index_notation.specs.declared.sentence.Token.{Token}
+use Rattle.index_notation.specs.declared.sentence.Token.TheVariants.{Name as NameToken, Number as NumberToken, Mark as MarkToken}
+use Rattle.index_notation.specs.declared.sentence.WrittenAccess.{WrittenAccess}
+use Rattle.index_notation.specs.declared.symbol.Symbol.{Symbol}
+use Rattle.index_notation.specs.declared.symbol.Symbol.TheVariants.{Word, End, Stray}
+
+-- trees keep brackets and prefix minuses
+mutual
+  pub data Factor : Type 0 where
+    Digits : List ℕ → Factor
+    Read : WrittenAccess → Factor
+    Bracketed : Sum → Factor
+    Negated : Factor → Factor
+
+  pub data Product : Type 0 where
+    Lone : Factor → Product
+    Multiplied : Product → Factor → Product
+
+  pub data Sum : Type 0 where
+    Alone : Product → Sum
+    Added : Sum → Product → Sum
+    Taken : Sum → Product → Sum
+
+pub record Tree : Type 0 where
+  pub left : WrittenAccess
+  pub right : Sum
+
+-- what a symbol does in its sentence: it names an access of the left or right side, is the n-th variable of its
+-- access, is a number, opens the n-th level, or none of these
+pub data Role : Type 0 where
+  NamesLeft : Role
+  NamesRight : Role
+  IsVariable : ℕ → Role
+  IsNumber : Role
+  Opens : ℕ → Role
+  Plain : Role
+
+-- a symbol as it is written in a sentence
+pub record Written : Type 0 where
+  pub symbol : Symbol
+  pub role : Role
+
+abbrev pub written : Token → Role → Written
+written token role = record { symbol = Word token; role = role }
+
+abbrev pub plain : Mark → Written
+plain mark = written (MarkToken mark) Plain
+
+abbrev pub the_end : Written
+the_end = record { symbol = End; role = Plain }
+
+-- the variables behind the first one, the first of them being the n-th, and the bracket that closes
+abbrev pub more_variables : ℕ → List Name → List Written
+more_variables n [] = plain Close ∷ []
+more_variables n (var ∷ vars) = plain Comma ∷ written (NameToken var) (IsVariable n) ∷ more_variables (suc n) vars
+
+-- variables in brackets; no variables have no brackets
+abbrev pub in_brackets : List Name → List Written
+in_brackets [] = []
+in_brackets (var ∷ vars) = plain Open ∷ written (NameToken var) (IsVariable 1) ∷ more_variables 2 vars
+
+abbrev pub access_of : Role → WrittenAccess → List Written
+access_of role access = written (NameToken access.name) role ∷ in_brackets access.vars
+
+-- the symbols of a factor, a product and a sum, where n levels are open before it
+abbrev mutual
+  pub factor_of : ℕ → Factor → List Written
+  factor_of n (Digits digits) = written (NumberToken digits) IsNumber ∷ []
+  factor_of n (Read access) = access_of NamesRight access
+  factor_of n (Bracketed sum) = written (MarkToken Open) (Opens (suc n)) ∷ (sum_of (suc n) sum ++ (plain Close ∷ []))
+  factor_of n (Negated factor) = written (MarkToken Minus) (Opens (suc n)) ∷ factor_of (suc n) factor
+
+  pub product_of : ℕ → Product → List Written
+  product_of n (Lone factor) = factor_of n factor
+  product_of n (Multiplied product factor) = product_of n product ++ (plain Times ∷ factor_of n factor)
+
+  pub sum_of : ℕ → Sum → List Written
+  sum_of n (Alone product) = product_of n product
+  sum_of n (Added sum product) = sum_of n sum ++ (plain Plus ∷ product_of n product)
+  sum_of n (Taken sum product) = sum_of n sum ++ (plain Minus ∷ product_of n product)
+
+-- the left side and its `=`
+abbrev pub left_of : WrittenAccess → List Written
+left_of access = access_of NamesLeft access ++ (plain Equals ∷ [])
+
+abbrev pub sentence_of : Tree → List Written
+sentence_of tree = (left_of tree.left ++ sum_of 0 tree.right) ++ (the_end ∷ [])
+
+-- the symbols alone
+abbrev pub symbols : List Written → List Symbol
+symbols [] = []
+symbols (m ∷ ms) = m.symbol ∷ symbols ms
+
+-- some sentence begins with these symbols in these roles
+pub record Begins (ms : List Written) : Type 0 where
+  pub tree : Tree
+  pub rest : List Written
+  pub is : ms ++ rest ≡ sentence_of tree

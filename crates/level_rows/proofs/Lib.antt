@@ -1,0 +1,16 @@
+pub mod RowLaws
+pub mod Steps
+pub mod Entries
+pub mod Finishing
+pub mod Branchless
+pub mod Groups
+pub mod Filling
+pub mod AppendLoop
+pub mod InsertLaws
+pub mod InsertLoop
+pub mod Tallies
+pub mod StackLaws
+pub mod TableLaws
+pub mod PlaceLaws
+pub mod ValueLaws
+pub mod Growing

@@ -1,0 +1,23 @@
+ghost use Rattle.std.specs.Prelude.{◌≡◌, ◌<◌, ℕ};
+ghost use Rattle.level_rows.specs.Rows.{Keys};
+
+/// Rows for a level, in the order in which they are taken: of each its coordinate, and whether it begins a position. The
+/// positions of the level above stand in a list of their own.
+pub trait SortedRows {
+    /// How many rows, their coordinates, and which of them begin a position.
+    ghost keys: { Self → Keys };
+
+    /// How many rows there are.
+    fn count(&self) -> usize
+        ensures { result ≡ (keys self.now).count };
+
+    /// The coordinate of a row.
+    fn coord(&self, row: usize) -> u64
+        requires { row < (keys self.now).count }
+        ensures { result ≡ (keys self.now).coord row };
+
+    /// Whether the row begins a position: else it shares that of the row before.
+    fn begins(&self, row: usize) -> bool
+        requires { row < (keys self.now).count }
+        ensures { result ≡ (keys self.now).first row };
+}

@@ -1,0 +1,78 @@
+// The lines of a case file, one after another.
+use crate::checks::checked_numbers;
+use crate::formats::{dense_shape, format_shape};
+use crate::graphs::{edge_shape, graph_shape};
+use crate::narrow::{built_shape, path_shape};
+use crate::shapes::{fault_shape, statement_shape};
+use crate::texts::spelled;
+use anyhow::{Result, bail};
+use index_notation::{NotationFault, Statement};
+use notation_reader::parse;
+use std::alloc::Global;
+
+/// What earlier lines left for later ones.
+#[derive(Drop)]
+pub(crate) struct Session {
+    alloc: Global,
+    statement: Option<Statement>,
+    built: Option<Statement>,
+}
+
+impl Session {
+    pub(crate) fn new(alloc: Global) -> Session {
+        Session {
+            alloc,
+            statement: None,
+            built: None,
+        }
+    }
+
+    // What comes of a line.
+    pub(crate) fn answer(&mut self, line: &str) -> Result<String> {
+        let (keyword, rest) = line.split_once(' ').unwrap_or((line, ""));
+        match keyword {
+            "text" => self.read_text(rest),
+            "edges" => match &self.statement {
+                Some(statement) => edge_shape(self.alloc, statement, rest),
+                None => bail!("no statement"),
+            },
+            "graph" => graph_shape(self.alloc, rest),
+            "format" => format_shape(self.alloc, rest),
+            "dense" => dense_shape(self.alloc, rest),
+            "numbers" => checked_numbers(self.alloc, rest),
+            "built" => self.read_built(rest),
+            "paths" => match &self.built {
+                Some(statement) => path_shape(self.alloc, statement, rest),
+                None => bail!("no statement"),
+            },
+            _ => bail!("no such line"),
+        }
+    }
+
+    // The statement of a text, which is kept, or its fault.
+    fn read_text(&mut self, text: &str) -> Result<String> {
+        let text = spelled(self.alloc, text)?;
+        match parse(self.alloc, text.as_str()) {
+            Ok(statement) => {
+                let shape = statement_shape(self.alloc, &statement)?;
+                self.statement = Some(statement);
+                Ok(shape)
+            }
+            Err(NotationFault::Memory(error)) => Err(error.into()),
+            Err(fault) => Ok(fault_shape(self.alloc, &fault)?),
+        }
+    }
+
+    // The statement of a text that is built so far, which is kept.
+    fn read_built(&mut self, text: &str) -> Result<String> {
+        let text = spelled(self.alloc, text)?;
+        match narrow_text::read_text(self.alloc, text.as_bytes())? {
+            Some(statement) => {
+                let shape = statement_shape(self.alloc, &statement)?;
+                self.built = Some(statement);
+                Ok(shape)
+            }
+            None => Ok(built_shape(self.alloc)?),
+        }
+    }
+}

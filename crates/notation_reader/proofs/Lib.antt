@@ -1,0 +1,17 @@
+pub mod MachineLaws
+pub mod ReadingLaws
+pub mod FaultLaws
+pub mod AnswerLaws
+pub mod Doing
+pub mod ShownLaws
+pub mod MoveLaws
+pub mod Adding
+pub mod CountLaws
+pub mod BuildLaws
+pub mod JudgingLaws
+pub mod AccessLaws
+pub mod ReadingSteps
+pub mod Bytes
+pub mod Scanning
+pub mod NotationLaws
+pub mod TreeNumbers

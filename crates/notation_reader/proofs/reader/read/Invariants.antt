@@ -1,0 +1,13 @@
+use Rattle.std.proofs.Common.{◌≤◌, take}
+use Rattle.index_notation.specs.Faults.{symbols_of}
+use Rattle.notation_reader.proofs.ReadingSteps.{HasRead}
+use Rattle.notation_reader.proofs.reader.read.Given as goal
+
+abbrev pub invariant-loop-placed : goal.invariant-loop-placed
+invariant-loop-placed l = record {
+  has_read : HasRead (symbols_of (take l.placed-index l.symbols)) l.reader;
+  levels : l.reader.position.levels ≤ l.placed-index;
+  minuses : l.reader.position.minuses ≤ l.placed-index;
+  reads : l.reader.builder.reads ≤ l.placed-index;
+  built_minuses : l.reader.builder.frame.minuses ≤ l.placed-index;
+}

@@ -1,0 +1,180 @@
+-- What is built of the right side's expression at a place.
+use Rattle.std.specs.Prelude.{◌≡◌, ℕ, zero, suc, ◌+◌, ◌-◌, Bool, true, false, if◌then◌else◌, Option, Some, None, List, [], ◌∷◌, ◌++◌}
+use Rattle.index_notation.specs.declared.syntax.Expr.{Expr, Num, Access as AccessOf, Add, Sub, Mul, Neg}
+use Rattle.index_notation.specs.declared.sentence.Mark.TheVariants.{Plus, Minus}
+use Rattle.index_notation.specs.declared.sentence.Token.TheVariants.{Mark as MarkToken}
+use Rattle.index_notation.specs.declared.symbol.Symbol.{Symbol}
+use Rattle.index_notation.specs.declared.symbol.Symbol.TheVariants.{Word}
+use Rattle.notation_reader.specs.declared.position.Stand.{Stand}
+use Rattle.notation_reader.specs.declared.position.Stand.TheVariants as stand
+use Rattle.notation_reader.specs.declared.position.Lead.{Lead}
+use Rattle.notation_reader.specs.declared.position.Lead.TheVariants as lead
+use Rattle.notation_reader.specs.declared.builder.Joined.{Joined}
+use Rattle.notation_reader.specs.declared.builder.Frame.{Frame}
+use Rattle.notation_reader.specs.declared.builder.Builder.{Builder}
+use Rattle.index_notation.specs.Grammar.{Product}
+use Rattle.index_notation.specs.Faults.{number_of}
+use Rattle.index_notation.specs.TreeStatement.{reads_in_product, reads_in_sum, product_expr, sum_expr}
+use Rattle.notation_reader.specs.Machine.{SumPlace, OnTheRight, InBrackets, ProductPlace, First, BehindPlus, BehindMinus, FactorPlace}
+use Rattle.notation_reader.specs.Machine.{FirstFactor, BehindTimes, BehindSign, its_product, Side, Left, Right, State, Named}
+use Rattle.notation_reader.specs.Machine.{WantsVariable, BehindVariable, WantsFactor, Behind, Ended}
+use Rattle.notation_reader.specs.Shown.{minuses_of}
+
+-- how many accesses stand before a place
+abbrev mutual
+  pub reads_to_sum : SumPlace → ℕ
+  reads_to_sum (OnTheRight left) = 0
+  reads_to_sum (InBrackets place) = reads_to place
+
+  pub reads_to_product : ProductPlace → ℕ
+  reads_to_product (First place) = reads_to_sum place
+  reads_to_product (BehindPlus place sum) = reads_to_sum place + reads_in_sum sum
+  reads_to_product (BehindMinus place sum) = reads_to_sum place + reads_in_sum sum
+
+  pub reads_to : FactorPlace → ℕ
+  reads_to (FirstFactor place) = reads_to_product place
+  reads_to (BehindTimes place product) = reads_to_product place + reads_in_product product
+  reads_to (BehindSign place) = reads_to place
+
+abbrev pub joined_by : Bool → Expr → Joined
+joined_by is_minus expr = record { before = expr; is_minus = is_minus }
+
+abbrev pub sum_before : ProductPlace → Option Joined
+sum_before (First place) = None
+sum_before (BehindPlus place sum) = Some (joined_by false (sum_expr (reads_to_sum place) sum))
+sum_before (BehindMinus place sum) = Some (joined_by true (sum_expr (reads_to_sum place) sum))
+
+abbrev pub product_before : FactorPlace → Option Expr
+product_before (FirstFactor place) = None
+product_before (BehindTimes place product) = Some (product_expr (reads_to_product place) product)
+product_before (BehindSign place) = product_before place
+
+abbrev pub frame_of : FactorPlace → Frame
+frame_of place = record { sum = sum_before (its_product place); product = product_before place; minuses = minuses_of place }
+
+abbrev pub frame_behind : ProductPlace → Product → Frame
+frame_behind place product = record { sum = sum_before place; product = Some (product_expr (reads_to_product place) product); minuses = 0 }
+
+abbrev mutual
+  pub frames_of_sum : SumPlace → List Frame
+  frames_of_sum (OnTheRight left) = []
+  frames_of_sum (InBrackets place) = frames_of place ++ (frame_of place ∷ [])
+
+  pub frames_of_product : ProductPlace → List Frame
+  frames_of_product (First place) = frames_of_sum place
+  frames_of_product (BehindPlus place sum) = frames_of_sum place
+  frames_of_product (BehindMinus place sum) = frames_of_sum place
+
+  pub frames_of : FactorPlace → List Frame
+  frames_of (FirstFactor place) = frames_of_product place
+  frames_of (BehindTimes place product) = frames_of_product place
+  frames_of (BehindSign place) = frames_of place
+
+abbrev pub no_frame : Frame
+no_frame = record { sum = None; product = None; minuses = 0 }
+
+abbrev pub at_factor : ℕ → FactorPlace → Builder
+at_factor more place = record { reads = reads_to place + more; outer = frames_of place; frame = frame_of place; result = None }
+
+abbrev pub on_side : Side → Builder
+on_side Left = record { reads = 0; outer = []; frame = no_frame; result = None }
+on_side (Right place) = at_factor 1 place
+
+abbrev pub built : State → Builder
+built (Named side name) = on_side side
+built (WantsVariable side name vars) = on_side side
+built (BehindVariable side name vars var) = on_side side
+built (WantsFactor place) = at_factor 0 place
+built (Behind place product) = record {
+  reads = reads_to_product place + reads_in_product product;
+  outer = frames_of_product place;
+  frame = frame_behind place product;
+  result = None;
+}
+built (Ended tree) = record { reads = 0; outer = []; frame = no_frame; result = Some (sum_expr 0 tree.right) }
+built _ = on_side Left
+
+-- an expression behind prefix minuses
+abbrev pub negated : ℕ → Expr → Expr
+negated zero expr = expr
+negated (suc n) expr = negated n (Neg expr)
+
+abbrev pub times : Option Expr → Expr → Expr
+times None expr = expr
+times (Some product) expr = Mul product expr
+
+abbrev pub with_sum : Option Joined → Expr → Expr
+with_sum None expr = expr
+with_sum (Some joined) expr = if joined.is_minus then Sub joined.before expr else Add joined.before expr
+
+abbrev pub last_product : Option Expr → Expr
+last_product None = Num 0
+last_product (Some expr) = expr
+
+-- a factor joins its frame
+abbrev pub with_factor : Frame → Expr → Frame
+with_factor frame expr = record { sum = frame.sum; product = Some (times frame.product (negated frame.minuses expr)); minuses = 0 }
+
+-- the sum that a frame ends with
+abbrev pub whole_sum : Frame → Expr
+whole_sum frame = with_sum frame.sum (last_product frame.product)
+
+abbrev pub finished_by : Builder → Expr → Builder
+finished_by b expr = record { reads = b.reads; outer = b.outer; frame = with_factor b.frame expr; result = None }
+
+abbrev pub joined_with : Builder → Bool → Builder
+joined_with b is_minus = record {
+  reads = b.reads;
+  outer = b.outer;
+  frame = record { sum = Some (joined_by is_minus (whole_sum b.frame)); product = None; minuses = 0 };
+  result = None;
+}
+
+abbrev pub with_read : Builder → Builder
+with_read b = record { reads = b.reads + 1; outer = b.outer; frame = b.frame; result = None }
+
+abbrev pub in_new_frame : Builder → Builder
+in_new_frame b = record { reads = b.reads; outer = b.outer ++ (b.frame ∷ []); frame = no_frame; result = None }
+
+abbrev pub with_minus : Builder → Builder
+with_minus b = record {
+  reads = b.reads;
+  outer = b.outer;
+  frame = record { sum = b.frame.sum; product = b.frame.product; minuses = b.frame.minuses + 1 };
+  result = None;
+}
+
+abbrev pub out_of_frame : Builder → List Frame → Frame → Builder
+out_of_frame b front frame = finished_by (record { reads = b.reads; outer = front; frame = frame; result = None }) (whole_sum b.frame)
+
+abbrev pub at_the_end : Builder → Builder
+at_the_end b = record { reads = 0; outer = []; frame = no_frame; result = Some (whole_sum b.frame) }
+
+abbrev pub with_last_access : Builder → Builder
+with_last_access b = finished_by b (AccessOf (b.reads - 1))
+
+-- a name is a factor where no bracket follows
+abbrev pub settled : Stand → Builder → Builder
+settled stand.Name b = with_last_access b
+settled _ b = b
+
+abbrev pub by_operator : Builder → Symbol → Builder
+by_operator b (Word (MarkToken Plus)) = joined_with b false
+by_operator b (Word (MarkToken Minus)) = joined_with b true
+by_operator b _ = b
+
+-- what a bracket that closes builds
+abbrev pub closes_so : Builder → Builder → Type 0
+closes_so b new = (front : List Frame) (frame : Frame) → b.outer ≡ front ++ (frame ∷ []) → new ≡ out_of_frame b front frame
+
+-- what a symbol builds
+abbrev pub Builds : Builder → Stand → Symbol → Lead → Builder → Type 0
+Builds b at t lead.Number new = new ≡ finished_by b (Num (number_of t))
+Builds b at t lead.Name new = new ≡ with_read b
+Builds b at t lead.Access new = new ≡ with_last_access b
+Builds b at t lead.Bracket new = new ≡ in_new_frame b
+Builds b at t lead.Minus new = new ≡ with_minus b
+Builds b at t lead.Operator new = new ≡ by_operator (settled at b) t
+Builds b at t lead.Close new = closes_so (settled at b) new
+Builds b at t lead.End new = new ≡ at_the_end (settled at b)
+Builds b at t _ new = new ≡ b

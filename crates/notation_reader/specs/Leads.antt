@@ -1,0 +1,82 @@
+-- What a symbol does at a stand of the reader.
+use Rattle.index_notation.specs.declared.sentence.Mark.{Mark}
+use Rattle.index_notation.specs.declared.sentence.Mark.TheVariants.{Equals, Plus, Minus, Times, Open, Close, Comma}
+use Rattle.index_notation.specs.declared.sentence.Token.TheVariants.{Name as NameToken, Number as NumberToken, Mark as MarkToken}
+use Rattle.index_notation.specs.declared.symbol.Symbol.{Symbol}
+use Rattle.index_notation.specs.declared.symbol.Symbol.TheVariants.{Word, End, Stray}
+use Rattle.notation_reader.specs.declared.position.Stand.{Stand}
+use Rattle.notation_reader.specs.declared.position.Stand.TheVariants as stand
+use Rattle.notation_reader.specs.declared.position.Lead.{Lead}
+use Rattle.notation_reader.specs.declared.position.Lead.TheVariants as lead
+
+abbrev pub left_name_leads : Mark → Lead
+left_name_leads Open = lead.To stand.LeftOpen
+left_name_leads Equals = lead.To stand.Operator
+left_name_leads _ = lead.Nowhere
+
+abbrev pub left_variable_leads : Mark → Lead
+left_variable_leads Comma = lead.To stand.LeftOpen
+left_variable_leads Close = lead.To stand.LeftAccess
+left_variable_leads _ = lead.Nowhere
+
+abbrev pub left_access_leads : Mark → Lead
+left_access_leads Equals = lead.To stand.Operator
+left_access_leads _ = lead.Nowhere
+
+abbrev pub operator_leads : Mark → Lead
+operator_leads Open = lead.Bracket
+operator_leads Minus = lead.Minus
+operator_leads _ = lead.Nowhere
+
+abbrev pub factor_leads : Mark → Lead
+factor_leads Times = lead.Operator
+factor_leads Plus = lead.Operator
+factor_leads Minus = lead.Operator
+factor_leads Close = lead.Close
+factor_leads _ = lead.Nowhere
+
+abbrev pub name_leads : Mark → Lead
+name_leads Open = lead.To stand.Open
+name_leads Times = lead.Operator
+name_leads Plus = lead.Operator
+name_leads Minus = lead.Operator
+name_leads Close = lead.Close
+name_leads _ = lead.Nowhere
+
+abbrev pub variable_leads : Mark → Lead
+variable_leads Comma = lead.To stand.Open
+variable_leads Close = lead.Access
+variable_leads _ = lead.Nowhere
+
+abbrev pub mark_leads : Stand → Mark → Lead
+mark_leads stand.LeftName mark = left_name_leads mark
+mark_leads stand.LeftVariable mark = left_variable_leads mark
+mark_leads stand.LeftAccess mark = left_access_leads mark
+mark_leads stand.Operator mark = operator_leads mark
+mark_leads stand.Name mark = name_leads mark
+mark_leads stand.Variable mark = variable_leads mark
+mark_leads stand.Factor mark = factor_leads mark
+mark_leads _ mark = lead.Nowhere
+
+abbrev pub name_token_leads : Stand → Lead
+name_token_leads stand.Nothing = lead.To stand.LeftName
+name_token_leads stand.LeftOpen = lead.Variable stand.LeftVariable
+name_token_leads stand.Operator = lead.Name
+name_token_leads stand.Open = lead.Variable stand.Variable
+name_token_leads _ = lead.Nowhere
+
+abbrev pub number_leads : Stand → Lead
+number_leads stand.Operator = lead.Number
+number_leads _ = lead.Nowhere
+
+abbrev pub end_leads : Stand → Lead
+end_leads stand.Name = lead.End
+end_leads stand.Factor = lead.End
+end_leads _ = lead.Nowhere
+
+abbrev pub lead_of : Stand → Symbol → Lead
+lead_of at (Word (NameToken name)) = name_token_leads at
+lead_of at (Word (NumberToken digits)) = number_leads at
+lead_of at (Word (MarkToken mark)) = mark_leads at mark
+lead_of at End = end_leads at
+lead_of at Stray = lead.Nowhere

@@ -1,0 +1,10 @@
+pub mod Machine
+pub mod Leads
+pub mod Shown
+pub mod Moves
+pub mod Added
+pub mod Counting
+pub mod Accesses
+pub mod Building
+pub mod Judging
+pub mod Reading

@@ -1,0 +1,43 @@
+ghost use Rattle.std.specs.Prelude.{OnOk};
+ghost use Rattle.notation_reader.specs.Accesses.{Extends, Mentions};
+ghost use Rattle.index_notation.specs.declared.syntax.Name.{Name};
+
+use crate::position::Lead;
+use index_notation::{Name, Symbol, Token, WrittenAccess, copy_name};
+use std::alloc::{AllocError, Global};
+use trees::Items;
+
+/// Puts a variable into the last access.
+fn extend_last(accesses: &mut Items<WrittenAccess>, var: Name) -> Result<(), AllocError>
+    ensures { OnOk result (Extends var accesses.old accesses.new) }
+{
+    if let Some(access) = accesses.pop() {
+        let WrittenAccess { name, mut vars } = access;
+        vars.push(var)?;
+        accesses.push(WrittenAccess { name, vars })?;
+    }
+    Ok(())
+}
+
+/// Keeps what a symbol says of the accesses: a name begins one, unless it is a variable of the last.
+pub fn mention(
+    alloc: Global,
+    accesses: &mut Items<WrittenAccess>,
+    lead: Lead,
+    symbol: &Symbol,
+) -> Result<(), AllocError>
+    ensures { OnOk result (Mentions symbol.now lead accesses.old accesses.new) }
+{
+    let Symbol::Word(Token::Name(name)) = symbol else {
+        return Ok(());
+    };
+    let name = copy_name(alloc, name)?;
+    match lead {
+        Lead::Variable(_) => extend_last(accesses, name),
+        _ => {
+            let vars = Items::new(alloc);
+            accesses.push(WrittenAccess { name, vars })?;
+            Ok(())
+        }
+    }
+}

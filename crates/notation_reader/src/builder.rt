@@ -1,0 +1,356 @@
+ghost use Rattle.std.specs.Prelude.{◌≡◌, ◌<◌, ◌≤◌, ◌^◌, None, IfOk};
+ghost use Rattle.limits.specs.Limits.{greatest_literal};
+ghost use Rattle.notation_reader.specs.Building.{negated as negated_by, times as times_by};
+ghost use Rattle.notation_reader.specs.Building.{with_sum as sum_by, with_factor as factor_by, whole_sum as sum_of};
+ghost use Rattle.notation_reader.specs.Building.{no_frame as an_empty_frame};
+ghost use Rattle.index_notation.specs.Faults.{number_of};
+
+use crate::literals::number;
+use crate::position::{Lead, Stand};
+use index_notation::{Expr, Mark, Symbol, Token};
+use std::alloc::{AllocError, Global};
+use trees::{Boxed, Items};
+
+/// A sum so far, and the sign behind it.
+#[derive(Debug, Drop)]
+pub struct Joined {
+    pub before: Expr,
+    pub is_minus: bool,
+}
+
+/// What stands right before a factor: the sum so far, the product so far, and prefix minuses.
+#[derive(Debug, Drop)]
+pub struct Frame {
+    pub sum: Option<Joined>,
+    pub product: Option<Expr>,
+    pub minuses: u64,
+}
+
+/// The expression so far: the number of accesses, the frames of the brackets that are open, that of the factor, and the
+/// whole expression at the end.
+#[derive(Debug, Drop)]
+pub struct Builder {
+    pub reads: usize,
+    pub outer: Items<Frame>,
+    pub frame: Frame,
+    pub result: Option<Expr>,
+}
+
+/// An expression behind so many prefix minuses.
+fn negated(alloc: Global, minuses: u64, expr: Expr) -> Result<Expr, AllocError>
+    ensures { IfOk result (λ e. e ≡ negated_by minuses expr) }
+{
+    if minuses == 0 {
+        Ok(expr)
+    } else {
+        let inner = Boxed::new(alloc, expr)?;
+        negated(alloc, minuses - 1, Expr::Neg(inner))
+    }
+}
+
+/// A product with one factor more.
+fn times(alloc: Global, product: Option<Expr>, expr: Expr) -> Result<Expr, AllocError>
+    ensures { IfOk result (λ e. e ≡ times_by product expr) }
+{
+    match product {
+        Some(product) => {
+            let first = Boxed::new(alloc, product)?;
+            let second = Boxed::new(alloc, expr)?;
+            Ok(Expr::Mul(first, second))
+        }
+        None => Ok(expr),
+    }
+}
+
+/// A sum with one product more.
+fn with_sum(alloc: Global, sum: Option<Joined>, expr: Expr) -> Result<Expr, AllocError>
+    ensures { IfOk result (λ e. e ≡ sum_by sum expr) }
+{
+    match sum {
+        Some(joined) => {
+            let Joined { before, is_minus } = joined;
+            let first = Boxed::new(alloc, before)?;
+            let second = Boxed::new(alloc, expr)?;
+            if is_minus {
+                Ok(Expr::Sub(first, second))
+            } else {
+                Ok(Expr::Add(first, second))
+            }
+        }
+        None => Ok(expr),
+    }
+}
+
+/// A frame behind one factor more.
+fn with_factor(alloc: Global, frame: Frame, expr: Expr) -> Result<Frame, AllocError>
+    ensures { IfOk result (λ f. f ≡ factor_by frame expr) }
+{
+    let Frame {
+        sum,
+        product,
+        minuses,
+    } = frame;
+    let expr = negated(alloc, minuses, expr)?;
+    let expr = times(alloc, product, expr)?;
+    Ok(Frame {
+        sum,
+        product: Some(expr),
+        minuses: 0,
+    })
+}
+
+/// The sum that a frame ends with.
+fn whole_sum(alloc: Global, frame: Frame) -> Result<Expr, AllocError>
+    ensures { IfOk result (λ e. e ≡ sum_of frame) }
+{
+    let Frame { sum, product, .. } = frame;
+    match product {
+        Some(product) => with_sum(alloc, sum, product),
+        None => with_sum(alloc, sum, Expr::Num(0)),
+    }
+}
+
+fn no_frame() -> Frame
+    ensures { result ≡ an_empty_frame }
+{
+    Frame {
+        sum: None,
+        product: None,
+        minuses: 0,
+    }
+}
+
+impl Builder {
+    ghost use Rattle.notation_reader.specs.Building.{finished_by, joined_with, with_last_access};
+    ghost use Rattle.notation_reader.specs.Building.{settled as settled_at, by_operator as by_sign};
+
+    /// Goes behind a factor.
+    fn finish(self, alloc: Global, expr: Expr) -> Result<Builder, AllocError>
+        ensures { IfOk result (λ b. b ≡ finished_by self expr) }
+    {
+        let Builder {
+            reads,
+            outer,
+            frame,
+            ..
+        } = self;
+        let frame = with_factor(alloc, frame, expr)?;
+        Ok(Builder {
+            reads,
+            outer,
+            frame,
+            result: None,
+        })
+    }
+
+    /// Goes behind the access that was read last.
+    fn finish_access(self, alloc: Global) -> Result<Builder, AllocError>
+        ensures { IfOk result (λ b. b ≡ with_last_access self) }
+    {
+        let number = self.reads.saturating_sub(1);
+        self.finish(alloc, Expr::Access(number))
+    }
+
+    /// Goes behind a name that is a factor.
+    fn settle(self, alloc: Global, stand: Stand) -> Result<Builder, AllocError>
+        ensures settled { IfOk result (λ b. b ≡ settled_at stand self) }
+        ensures reads { IfOk result (λ b. b.reads ≤ self.reads) }
+    {
+        match stand {
+            Stand::Name => self.finish_access(alloc),
+            _ => Ok(self),
+        }
+    }
+
+    /// Goes behind the symbol of a sum.
+    fn join(self, alloc: Global, is_minus: bool) -> Result<Builder, AllocError>
+        ensures { IfOk result (λ b. b ≡ joined_with self is_minus) }
+    {
+        let Builder {
+            reads,
+            outer,
+            frame,
+            ..
+        } = self;
+        let before = whole_sum(alloc, frame)?;
+        Ok(Builder {
+            reads,
+            outer,
+            frame: Frame {
+                sum: Some(Joined { before, is_minus }),
+                product: None,
+                minuses: 0,
+            },
+            result: None,
+        })
+    }
+
+    fn by_operator(self, alloc: Global, symbol: &Symbol) -> Result<Builder, AllocError>
+        ensures { IfOk result (λ b. b ≡ by_sign self symbol.now) }
+    {
+        match symbol {
+            Symbol::Word(Token::Mark(Mark::Plus)) => self.join(alloc, false),
+            Symbol::Word(Token::Mark(Mark::Minus)) => self.join(alloc, true),
+            _ => Ok(self),
+        }
+    }
+}
+
+impl Builder {
+    ghost use Rattle.std.specs.Prelude.{◌+◌, [], ◌∷◌, ◌++◌, true};
+    ghost use Rattle.notation_reader.specs.declared.position.Lead.TheVariants as lead_is;
+    ghost use Rattle.notation_reader.specs.Building.{with_read, in_new_frame, with_minus, at_the_end, closes_so, Builds};
+
+    /// Nothing yet.
+    pub fn new(alloc: Global) -> Builder
+        ensures { result ≡ record { reads = 0; outer = []; frame = an_empty_frame; result = None } }
+    {
+        Builder {
+            reads: 0,
+            outer: Items::new(alloc),
+            frame: no_frame(),
+            result: None,
+        }
+    }
+
+    /// Goes into a bracket.
+    fn open(self) -> Result<Builder, AllocError>
+        ensures { IfOk result (λ b. b ≡ in_new_frame self) }
+    {
+        let Builder {
+            reads,
+            mut outer,
+            frame,
+            ..
+        } = self;
+        outer.push(frame)?;
+        Ok(Builder {
+            reads,
+            outer,
+            frame: no_frame(),
+            result: None,
+        })
+    }
+
+    /// Goes out of a bracket.
+    fn close(self, alloc: Global) -> Result<Builder, AllocError>
+        ensures closes { IfOk result (closes_so self) }
+        ensures reads { IfOk result (λ b. b.reads ≤ self.reads) }
+    {
+        let Builder {
+            reads,
+            mut outer,
+            frame,
+            ..
+        } = self;
+        let whole = whole_sum(alloc, frame)?;
+        let frame = match outer.pop() {
+            Some(frame) => frame,
+            None => no_frame(),
+        };
+        let b = Builder {
+            reads,
+            outer,
+            frame,
+            result: None,
+        };
+        b.finish(alloc, whole)
+    }
+
+    /// Goes to the end.
+    fn end(self, alloc: Global) -> Result<Builder, AllocError>
+        ensures { IfOk result (λ b. b ≡ at_the_end self) }
+    {
+        let Builder { frame, .. } = self;
+        let whole = whole_sum(alloc, frame)?;
+        Ok(Builder {
+            reads: 0,
+            outer: Items::new(alloc),
+            frame: no_frame(),
+            result: Some(whole),
+        })
+    }
+
+    /// Goes behind one name more.
+    fn read(self) -> Builder
+        requires { self.reads < 2 ^ 63 }
+        ensures { result ≡ with_read self }
+    {
+        let Builder {
+            reads,
+            outer,
+            frame,
+            ..
+        } = self;
+        Builder {
+            reads: reads + 1,
+            outer,
+            frame,
+            result: None,
+        }
+    }
+
+    /// Goes behind a prefix minus.
+    fn minus(self) -> Builder
+        requires { self.frame.minuses < 2 ^ 63 }
+        ensures { result ≡ with_minus self }
+    {
+        let Builder {
+            reads,
+            outer,
+            frame,
+            ..
+        } = self;
+        let Frame {
+            sum,
+            product,
+            minuses,
+        } = frame;
+        Builder {
+            reads,
+            outer,
+            frame: Frame {
+                sum,
+                product,
+                minuses: minuses + 1,
+            },
+            result: None,
+        }
+    }
+
+    /// Goes behind a symbol that leads so from a stand.
+    pub fn build(
+        self,
+        alloc: Global,
+        stand: Stand,
+        lead: Lead,
+        symbol: &Symbol,
+    ) -> Result<Builder, AllocError>
+        requires reads { self.reads < 2 ^ 63 }
+        requires minuses { self.frame.minuses < 2 ^ 63 }
+        requires number { lead ≡ lead_is.Number → number_of symbol.now ≤ greatest_literal }
+        ensures builds { IfOk result (Builds self stand symbol.now lead) }
+        ensures reads { IfOk result (λ b. b.reads ≤ self.reads + 1) }
+    {
+        match lead {
+            Lead::Number => self.finish(alloc, Expr::Num(number(symbol))),
+            Lead::Name => Ok(self.read()),
+            Lead::Access => self.finish_access(alloc),
+            Lead::Bracket => self.open(),
+            Lead::Minus => Ok(self.minus()),
+            Lead::Operator => {
+                let b = self.settle(alloc, stand)?;
+                b.by_operator(alloc, symbol)
+            }
+            Lead::Close => {
+                let b = self.settle(alloc, stand)?;
+                b.close(alloc)
+            }
+            Lead::End => {
+                let b = self.settle(alloc, stand)?;
+                b.end(alloc)
+            }
+            _ => Ok(self),
+        }
+    }
+}

@@ -1,0 +1,201 @@
+ghost use Rattle.std.specs.Prelude.{◌≡◌};
+ghost use Rattle.notation_reader.specs.Leads.{lead_of, mark_leads};
+
+use index_notation::{Mark, Symbol, Token};
+use std::alloc::{AllocError, Global};
+use trees::Items;
+
+/// What a position is behind.
+#[derive(Clone, Copy, Debug, PartialEq, Eq)]
+pub enum Stand {
+    Nothing,
+    LeftName,
+    LeftOpen,
+    LeftVariable,
+    LeftAccess,
+    Operator,
+    Name,
+    Open,
+    Variable,
+    Factor,
+    End,
+}
+
+/// What a symbol does at a stand.
+#[derive(Clone, Copy, Debug, PartialEq, Eq)]
+pub enum Lead {
+    Nowhere,
+    To(Stand),
+    Variable(Stand),
+    Number,
+    Name,
+    Bracket,
+    Minus,
+    Operator,
+    Close,
+    Access,
+    End,
+}
+
+/// A position in the grammar: what it is behind, the levels that are open, the prefix minuses of the factor that is
+/// read or wanted, and for each bracket that is open those before it.
+#[derive(Debug, Drop)]
+pub struct Position {
+    pub stand: Stand,
+    pub levels: u64,
+    pub minuses: u64,
+    pub outer: Items<u64>,
+}
+
+/// What a mark does at a stand.
+fn lead_of_mark(stand: Stand, mark: Mark) -> Lead
+    ensures { result ≡ mark_leads stand mark }
+{
+    match stand {
+        Stand::LeftName => match mark {
+            Mark::Open => Lead::To(Stand::LeftOpen),
+            Mark::Equals => Lead::To(Stand::Operator),
+            _ => Lead::Nowhere,
+        },
+        Stand::LeftVariable => match mark {
+            Mark::Comma => Lead::To(Stand::LeftOpen),
+            Mark::Close => Lead::To(Stand::LeftAccess),
+            _ => Lead::Nowhere,
+        },
+        Stand::LeftAccess => match mark {
+            Mark::Equals => Lead::To(Stand::Operator),
+            _ => Lead::Nowhere,
+        },
+        Stand::Operator => match mark {
+            Mark::Open => Lead::Bracket,
+            Mark::Minus => Lead::Minus,
+            _ => Lead::Nowhere,
+        },
+        Stand::Name => match mark {
+            Mark::Open => Lead::To(Stand::Open),
+            Mark::Times => Lead::Operator,
+            Mark::Plus => Lead::Operator,
+            Mark::Minus => Lead::Operator,
+            Mark::Close => Lead::Close,
+            _ => Lead::Nowhere,
+        },
+        Stand::Variable => match mark {
+            Mark::Comma => Lead::To(Stand::Open),
+            Mark::Close => Lead::Access,
+            _ => Lead::Nowhere,
+        },
+        Stand::Factor => match mark {
+            Mark::Times => Lead::Operator,
+            Mark::Plus => Lead::Operator,
+            Mark::Minus => Lead::Operator,
+            Mark::Close => Lead::Close,
+            _ => Lead::Nowhere,
+        },
+        _ => Lead::Nowhere,
+    }
+}
+
+/// What a symbol does at a stand.
+pub fn lead_at(stand: Stand, symbol: &Symbol) -> Lead
+    ensures { result ≡ lead_of stand symbol.now }
+{
+    match symbol {
+        Symbol::Word(Token::Name(_)) => match stand {
+            Stand::Nothing => Lead::To(Stand::LeftName),
+            Stand::LeftOpen => Lead::Variable(Stand::LeftVariable),
+            Stand::Operator => Lead::Name,
+            Stand::Open => Lead::Variable(Stand::Variable),
+            _ => Lead::Nowhere,
+        },
+        Symbol::Word(Token::Number(_)) => match stand {
+            Stand::Operator => Lead::Number,
+            _ => Lead::Nowhere,
+        },
+        Symbol::Word(Token::Mark(mark)) => lead_of_mark(stand, *mark),
+        Symbol::End => match stand {
+            Stand::Name => Lead::End,
+            Stand::Factor => Lead::End,
+            _ => Lead::Nowhere,
+        },
+        Symbol::Stray => Lead::Nowhere,
+    }
+}
+
+impl Position {
+    ghost use Rattle.std.specs.Prelude.{◌+◌, ◌<◌, ◌≤◌, ◌^◌, IfOk, OnOk};
+    ghost use Rattle.notation_reader.specs.declared.position.Stand.TheVariants as stand;
+    ghost use Rattle.notation_reader.specs.Shown.{finished, on_the_left};
+    ghost use Rattle.notation_reader.specs.Moves.{Moves};
+
+    /// The position before the first symbol.
+    pub fn new(alloc: Global) -> Position
+        ensures { result ≡ on_the_left stand.Nothing }
+    {
+        Position {
+            stand: Stand::Nothing,
+            levels: 0,
+            minuses: 0,
+            outer: Items::new(alloc),
+        }
+    }
+
+    /// Goes behind the whole factor.
+    fn finish(&mut self)
+        ensures { self.new ≡ finished self.old }
+    {
+        self.stand = Stand::Factor;
+        self.levels = self.levels.saturating_sub(self.minuses);
+        self.minuses = 0;
+    }
+
+    /// Goes behind a symbol, if it may stand here.
+    pub fn move_on(&mut self, lead: Lead) -> Result<bool, AllocError>
+        requires levels { self.old.levels < 2 ^ 63 }
+        requires minuses { self.old.minuses < 2 ^ 63 }
+        ensures moves { IfOk result (λ moved. Moves self.old lead moved self.new) }
+        ensures levels { OnOk result (self.new.levels ≤ self.old.levels + 1) }
+        ensures minuses { OnOk result (self.new.minuses ≤ self.old.minuses + 1) }
+    {
+        match lead {
+            Lead::Nowhere => return Ok(false),
+            Lead::To(stand) => self.stand = stand,
+            Lead::Variable(stand) => self.stand = stand,
+            Lead::Number => self.finish(),
+            Lead::Name => self.stand = Stand::Name,
+            Lead::Bracket => {
+                self.outer.push(self.minuses)?;
+                self.levels += 1;
+                self.minuses = 0;
+                self.stand = Stand::Operator;
+            }
+            Lead::Minus => {
+                self.levels += 1;
+                self.minuses += 1;
+                self.stand = Stand::Operator;
+            }
+            Lead::Operator => {
+                self.finish();
+                self.stand = Stand::Operator;
+            }
+            Lead::Access => self.finish(),
+            Lead::Close => {
+                let Some(minuses) = self.outer.pop() else {
+                    return Ok(false);
+                };
+                self.finish();
+                self.levels = self.levels.saturating_sub(1);
+                self.minuses = minuses;
+                self.finish();
+            }
+            Lead::End => {
+                if self.outer.pop().is_some() {
+                    return Ok(false);
+                }
+                self.levels = 0;
+                self.minuses = 0;
+                self.stand = Stand::End;
+            }
+        }
+        Ok(true)
+    }
+}
