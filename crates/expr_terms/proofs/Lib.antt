@@ -3,6 +3,8 @@ pub mod GroupLaws
 pub mod Heights
 pub mod Made
 pub mod Meanings
+pub mod NameLaws
+pub mod NameOnce
 pub mod PointLaws
 pub mod ProductLaws
 pub mod RangeLaws
@@ -11,3 +13,4 @@ pub mod TermLaws
 pub mod TermSums
 pub mod ValueIn
 pub mod ValueLaws
+pub mod WellNamed

@@ -1,5 +1,6 @@
 pub mod Groups
 pub mod Minus
+pub mod Names
 pub mod Operands
 pub mod PointLaws
 pub mod Points

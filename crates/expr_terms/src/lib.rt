@@ -5,6 +5,7 @@
 mod laws;
 mod lookups;
 mod minus;
+mod names;
 mod products;
 mod ranges;
 mod value;
@@ -14,6 +15,7 @@ pub use laws::{
     sums_change_places, terms_add_up, values_are_words, values_depend_on_little,
 };
 pub use minus::has_meaning;
+pub use names::{NameFault, check_names, checked_statements_are_well_named, one_fault_of_names};
 pub use products::is_product;
 pub use ranges::{Bound, RangeFault};
 pub use value::value_at;
