@@ -120,7 +120,7 @@ text_same a ranges value other text same is = record {
 
 -- the text of the loops' result is that of the statement's values
 pub values_text_is : (s : Statement) (operands : List Entries) (sizes values sizes' values' text : List ℕ)
-    → AllFit s operands (operand_ranges s operands) × IsResult s operands sizes values → sizes' ≡ sizes → values' ≡ values
+    → AllFit s operands (operand_ranges s operands) × IsResult ring s operands sizes values → sizes' ≡ sizes → values' ≡ values
     → IsTnsText ring sizes' (λ coords. slice_index values' (position sizes' coords)) text
     → AllFit s operands (operand_ranges s operands) × IsValuesText s operands text
 values_text_is s operands sizes values sizes' values' text found size_is value_is text_is =

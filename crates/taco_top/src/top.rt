@@ -18,6 +18,7 @@ use crate::put::put_fault;
 use index_notation::{Access, Statement};
 use narrow_files::text_of;
 use narrow_text::{read_text, read_words};
+use numbers::Ring;
 use outside::{Folder, Refusal, Sink};
 use range_loops::compute;
 use std::alloc::{AllocError, Global};
@@ -75,7 +76,7 @@ fn values_text(
         (λ text. AllFit statement.now operands.now (operand_ranges statement.now operands.now)
         × IsValuesText statement.now operands.now text.items)) }
 {
-    match compute(alloc, statement, operands)? {
+    match compute::<Ring>(alloc, statement, operands)? {
         Some(dense) => Ok(Some(text_of(alloc, dense.values.as_slice(), dense.sizes.as_slice())?)),
         None => Ok(None),
     }
