@@ -1,4 +1,9 @@
 // Cases of streams: what stands after numbers and texts are put, and files are read and written.
+ghost use Rattle.std.specs.Prelude.{◌≡◌, false, OnOk};
+ghost use Rattle.outside.specs.Folder.{KeepsReading, appended};
+ghost use Rattle.outside.specs.Sink.{Appends, told_written};
+ghost use Rattle.outside.specs.Told.{told_bytes, emptied};
+
 use crate::case::Case;
 use crate::pieces::Pieces;
 use anyhow::{Result, bail};
@@ -48,18 +53,24 @@ fn read(alloc: Global, case: &Case, name: &str) -> Result<String> {
     )?)
 }
 
-// Puts a text into the file that is being written, and finishes.
-fn write_file<F: Folder>(folder: &mut F, text: &[u8]) -> Result<(), Refusal> {
-    folder.start_write(NAME)?;
+// Puts a text into the file of this name, which is made or emptied first.
+fn write_file<F: Folder>(folder: &mut F, name: &str, text: &[u8]) -> Result<(), Refusal>
+    ensures finished { OnOk result ((F.state folder.new).unfinished ≡ false) }
+    ensures whole { OnOk result (told_written (F.state folder.new).writing (F.state folder.new).holds
+        ≡ appended (told_bytes (emptied ((F.state folder.old).holds name.now))) text.now) }
+    ensures reading { OnOk result (KeepsReading (F.state folder.old) (F.state folder.new)) }
+{
+    folder.start_write(name)?;
     let mut sink = FileSink::new(folder);
     put_all(&mut sink, text)?;
-    sink.finish()
+    sink.finish()?;
+    Ok(())
 }
 
 fn write(alloc: Global, case: &Case) -> Result<String> {
     let mut folder = case.folder(alloc)?;
     folder.add_file(NAME, b"before")?;
-    let answer = write_file(&mut folder, case.text.as_slice());
+    let answer = write_file(&mut folder, NAME, case.text.as_slice());
     let faults = folder.write_faults();
     let is_unfinished = folder.is_unfinished();
     let stands = folder.bytes(NAME).unwrap_or(b"none");
@@ -78,9 +89,24 @@ fn put_times<S: Sink>(sink: &mut S, text: &[u8], times: u64) -> Result<(), Refus
     batch.finish()
 }
 
+// Puts a text into a sink, in large pieces, and finishes.
+fn put_batched<S: Sink>(sink: &mut S, text: &[u8]) -> Result<(), Refusal>
+    ensures whole { OnOk result (Appends (S.state sink.old) (S.state sink.new) text.now) }
+    ensures finished { OnOk result ((S.state sink.new).unfinished ≡ false) }
+{
+    let mut batch = Batch::new(sink);
+    put_all(&mut batch, text)?;
+    batch.finish()?;
+    Ok(())
+}
+
 fn batch(alloc: Global, case: &Case) -> Result<String> {
     let mut lower = Pieces::new(alloc, case.sink(alloc)?);
-    let answer = put_times(&mut lower, case.text.as_slice(), case.number()?);
+    let text = case.text.as_slice();
+    let answer = match case.number()? {
+        1 => put_batched(&mut lower, text),
+        times => put_times(&mut lower, text, times),
+    };
     let length = lower.sink.written().len();
     let is_unfinished = lower.sink.is_unfinished();
     let lengths = lower.lengths;

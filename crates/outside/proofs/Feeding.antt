@@ -1,8 +1,8 @@
 -- How pieces that are fed one after another make a text.
-use Rattle.std.proofs.Common.{Option, List, [], ◌∷◌, ◌++◌, ◌≡◌, ◌⊎◌, inl, inr, ℕ, ◌+◌, ◌-◌, ◌<◌, ◌≤◌, length, take, None, Some, refl, sym, ap, ◌∙◌, subst, append_assoc, append-nil, arith, length-append, Result, Ok, Err, IfOk, OnOk}
+use Rattle.std.proofs.Common.{Option, List, [], ◌∷◌, ◌++◌, ◌≡◌, inl, inr, ℕ, ◌+◌, ◌<◌, ◌≤◌, length, take, None, Some, refl, sym, ap, ◌∙◌, subst, append_assoc, append-nil, arith, length-append, Result, Ok, Err, IfOk, OnOk}
 use Rattle.std.proofs.lemmas.Grind.{common_steps}
 use Rattle.outside.specs.Told.{told_bytes}
-use Rattle.outside.specs.Count.{Rose, Rises}
+use Rattle.outside.specs.Count.{Rose}
 use Rattle.outside.specs.Given.{opened, extended}
 use Rattle.outside.specs.Folder.{FolderState, KeepsWriting, Opens, RefusesToOpen, RefusesToRead, Reads, before_rest, IsAtEnd}
 use Rattle.outside.specs.ReadStop.{IsAll, IsLonger, Feeds, FeedsWhole, FeedsFront, Stops, StopsReading}

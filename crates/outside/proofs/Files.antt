@@ -1,5 +1,5 @@
 -- A folder's file as a sink, and what stands beside the file being written.
-use Rattle.std.proofs.Common.{Option, None, Some, List, [], ◌∷◌, ◌≡◌, ◌≢◌, ℕ, Bool, true, false, take, refl, sym, ap, ◌∙◌, subst}
+use Rattle.std.proofs.Common.{Option, None, Some, List, [], ◌∷◌, ◌≡◌, ◌≢◌, ℕ, Bool, true, false, take, refl, sym, ap, ◌∙◌}
 use Rattle.std.specs.Prelude.{IsSome}
 use Rattle.std.specs.Borrow.{GName}
 use Rattle.std.specs.Str.{bytes_eq}
@@ -7,7 +7,7 @@ use Rattle.std.proofs.lemmas.Slice.Eq.{bytes_eq-Decides}
 use Rattle.std.proofs.lemmas.Bool.Decides.{not_from_Decides}
 use Rattle.outside.specs.Told.{Told, Untold, NoFile, Bytes, told_bytes, grown}
 use Rattle.outside.specs.Folder.{FolderState, KeepsReading, KeepsOthers, WritesTo, appended}
-use Rattle.outside.specs.Sink.{SinkState, Takes, Beside, file_written, told_written, told_beside, beside_writing}
+use Rattle.outside.specs.Sink.{Takes, Beside, file_written, told_written, told_beside, beside_writing}
 
 told_bytes-grown : (told : Told) (piece : List ℕ) → told_bytes (grown told piece) ≡ appended (told_bytes told) piece
 told_bytes-grown Untold piece = refl

@@ -1,10 +1,8 @@
 -- What a sink is given piece by piece.
-use Rattle.std.proofs.Common.{Option, None, Some, List, [], ◌∷◌, ◌++◌, ◌≡◌, ℕ, ◌+◌, ◌-◌, ◌<◌, ◌≤◌, length, take, drop, refl, sym, ap, ◌∙◌, append_assoc, append-nil, arith, length-append}
+use Rattle.std.proofs.Common.{Option, None, Some, List, [], ◌++◌, ◌≡◌, ℕ, take, drop, refl, sym, ap, ◌∙◌, append_assoc, append-nil}
 use Rattle.std.proofs.lemmas.List.{take-append-drop}
-use Rattle.std.proofs.lemmas.Grind.{common_steps}
-use Rattle.outside.specs.declared.refusal.Refusal.{Refusal}
 use Rattle.outside.specs.Folder.{appended}
-use Rattle.outside.specs.Sink.{SinkState, Takes, Refuses, Appends, AppendsFirst, AppendsSoFar}
+use Rattle.outside.specs.Sink.{SinkState, Takes, Appends, AppendsSoFar}
 
 pub appended-nil : (old : Option (List ℕ)) → appended old [] ≡ old
 appended-nil None = refl

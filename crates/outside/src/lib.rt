@@ -1,6 +1,7 @@
 //! The edge to files and streams. A `Folder` has files by name, a `Sink` takes bytes, an `Eater` is fed
-//! bytes. Contracts see what each holds, where it tells, and what it counts: a fault or a want of memory
-//! is answered only where its count rose in that call. `read_through` feeds a whole file to an eater.
+//! bytes. Contracts see the state of each: what it holds, where it tells, what reads gave, and what it counts: a
+//! fault or a want of memory is answered only where its count rose in that call. `read_through` feeds a whole file to
+//! an eater, `FileSink` writes to a folder's file, and `Batch` hands large pieces on to another sink.
 //! `MemFolder` and `MemSink` fail where they are told, `NeverFails` never; `RealFolder` and `StdSink` are the system's.
 #![tactic(auto)]
 

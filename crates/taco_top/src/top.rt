@@ -236,7 +236,8 @@ pub fn taco<F: Folder, O: Sink, E: Sink>(
     // Files are only read, and stay as they were.
     ensures only_reads { OnlyReads (F.state files.old) (F.state files.new) }
 
-    // The status has its cause, the result's stream holds what the status says, and `err` grew by its line.
+    // The status has its cause, over the bytes that reads gave of the operands' files; the result's stream holds what the
+    // status says, and `err` grew by its line.
     ensures answers { Ends words.now (F.state files.old) (F.state files.new)
         (O.state out.old) (O.state out.new)
         (E.state err.old) (E.state err.new) result }

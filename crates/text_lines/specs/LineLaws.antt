@@ -1,5 +1,5 @@
 -- What follows from the definition of lines.
-use Rattle.std.specs.Prelude.{◌≢◌, ℕ, ◌+◌, ◌-◌, List, [], ◌∷◌, ◌++◌, length, slice_index}
+use Rattle.std.specs.Prelude.{◌≢◌, ℕ, ◌-◌, List, [], ◌∷◌, ◌++◌, length, slice_index}
 use Rattle.std.specs.List.{All, flat_map}
 
 -- it could stand on a line: it has no line feed, and no carriage return at its end

@@ -1,5 +1,5 @@
 -- The tokens of a line: the longest runs of bytes that aren't blanks.
-use Rattle.std.specs.Prelude.{ℕ, Bool, ◌==◌, ◌||◌, nat_lt, List, length, filter}
+use Rattle.std.specs.Prelude.{ℕ, Bool, nat_lt, List, length, filter}
 use Rattle.std.specs.List.{slice_split}
 use Rattle.lists.specs.Blanks.{is_blank}
 
