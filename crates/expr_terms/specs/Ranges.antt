@@ -1,5 +1,6 @@
 -- The ranges of a statement's variables, and the first refusal.
-use Rattle.std.specs.Prelude.{ℕ, ◌+◌, max, nat_eq, nat_lt, if◌then◌else◌, List, [], ◌∷◌, ◌++◌, map, length, Option, None, Some, option_to_list, Result, Ok, Err, slice_get, slice_index, filter_map}
+use Rattle.std.specs.Prelude.{ℕ, ◌+◌, max, nat_eq, nat_lt, if◌then◌else◌, List, [], ◌∷◌, ◌++◌, map, length, Option, None, Some}
+use Rattle.std.specs.Prelude.{option_to_list, Result, Ok, Err, slice_get, slice_index, filter_map}
 use Rattle.tensor_map.specs.declared.entries.Entry.{Entry}
 use Rattle.index_notation.specs.Statement.{numbers_from}
 use Rattle.index_notation.specs.declared.syntax.Access.{Access}
@@ -22,7 +23,10 @@ pub record Place : Type 0 where
 -- the modes from one on at which a variable stands, among these variables of a tensor
 abbrev pub places_from : ℕ → ℕ → List ℕ → ℕ → List Place
 places_from tensor mode [] v = []
-places_from tensor mode (w ∷ ws) v = if nat_eq w v then (record { tensor = tensor; mode = mode } ∷ places_from tensor (mode + 1) ws v) else places_from tensor (mode + 1) ws v
+places_from tensor mode (w ∷ ws) v =
+    if nat_eq w v
+    then (record { tensor = tensor; mode = mode } ∷ places_from tensor (mode + 1) ws v)
+    else places_from tensor (mode + 1) ws v
 
 -- the places of a variable in some accesses, in text order
 abbrev pub places_in : List Access → ℕ → List Place
@@ -32,7 +36,10 @@ places_in (access ∷ accesses) v = places_from access.tensor 0 access.vars v ++
 -- the ranges of the variables that stand at a mode of a tensor in some accesses
 abbrev pub ranges_at : (ℕ → ℕ) → ℕ → ℕ → List Access → List ℕ
 ranges_at ranges tensor mode [] = []
-ranges_at ranges tensor mode (access ∷ accesses) = if nat_eq access.tensor tensor then (map ranges (option_to_list (slice_get access.vars mode)) ++ ranges_at ranges tensor mode accesses) else ranges_at ranges tensor mode accesses
+ranges_at ranges tensor mode (access ∷ accesses) =
+    if nat_eq access.tensor tensor
+    then (map ranges (option_to_list (slice_get access.vars mode)) ++ ranges_at ranges tensor mode accesses)
+    else ranges_at ranges tensor mode accesses
 
 -- the size of a tensor's mode: the greatest range of the variables that stand there in any access
 abbrev pub mode_size : Statement → (ℕ → ℕ) → ℕ → ℕ → ℕ
@@ -67,7 +74,8 @@ first_other n (m ∷ ms) = if nat_eq m n then first_other n ms else Some m
 -- the first of these places whose bound is above a range
 abbrev pub first_above : ℕ → (ℕ → ℕ → Bound) → List Place → Option Place
 first_above range bounds [] = None
-first_above range bounds (place ∷ places) = if nat_lt range (least_of (bounds place.tensor place.mode)) then Some place else first_above range bounds places
+first_above range bounds (place ∷ places) =
+    if nat_lt range (least_of (bounds place.tensor place.mode)) then Some place else first_above range bounds places
 
 -- a range unless a bound is above it
 abbrev pub unless_above : ℕ → (ℕ → ℕ → Bound) → Option Place → Result ℕ RangeFault
@@ -87,7 +95,8 @@ bounded_range v bounds (place ∷ places) = Ok (greatest_of (map (λ p. least_of
 -- the range of a variable, by its exact ranges and its places
 abbrev pub settled : ℕ → List ℕ → (ℕ → ℕ → Bound) → List Place → Result ℕ RangeFault
 settled v [] bounds places = bounded_range v bounds places
-settled v (first ∷ others) bounds places = exact_range v first (first_other first others) (unless_above first bounds (first_above first bounds places))
+settled v (first ∷ others) bounds places =
+    exact_range v first (first_other first others) (unless_above first bounds (first_above first bounds places))
 
 -- the range of a variable, or its refusal
 abbrev pub range_of : Statement → (ℕ → Option ℕ) → (ℕ → ℕ → Bound) → ℕ → Result ℕ RangeFault

@@ -17,5 +17,7 @@ AreBelow (x ∷ coords) (range ∷ ranges) = (x < range) × AreBelow coords rang
 -- that value
 pub record IsResult (a : Arithmetic) (s : Statement) (values : ℕ → List ℕ → ℕ) (ranges : ℕ → ℕ) (entries : List Entry) : Type 0 where
   pub increasing : StrictlyIncreasing entries
-  pub listed : (coords : List ℕ) → Listed entries coords ↔ (AreBelow coords (map ranges s.left.vars) × (statement_value a s values ranges coords ≢ a.zero))
-  pub value : (coords : List ℕ) → AreBelow coords (map ranges s.left.vars) → value_at a entries coords ≡ statement_value a s values ranges coords
+  pub listed : (coords : List ℕ) → Listed entries coords
+      ↔ (AreBelow coords (map ranges s.left.vars) × (statement_value a s values ranges coords ≢ a.zero))
+  pub value : (coords : List ℕ) → AreBelow coords (map ranges s.left.vars)
+      → value_at a entries coords ≡ statement_value a s values ranges coords

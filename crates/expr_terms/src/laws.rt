@@ -9,7 +9,8 @@ ghost use Rattle.index_notation.specs.declared.syntax.Access.{Access as AnAccess
 ghost use Rattle.expr_terms.specs.Points.{point_of, sum_over};
 ghost use Rattle.expr_terms.specs.Value.{access_value, value_of, minus};
 ghost use Rattle.expr_terms.specs.ValueLaws.{AgreeAt, AreWords, HasWords};
-ghost use Rattle.expr_terms.specs.Terms.{Term, terms, plain_term, negated_term, contains, stands_in, own_variables, term_value, term_sum, statement_value};
+ghost use Rattle.expr_terms.specs.Terms.{Term, terms, plain_term, negated_term, contains, stands_in, own_variables, term_value, term_sum};
+ghost use Rattle.expr_terms.specs.Terms.{statement_value};
 ghost use Rattle.expr_terms.specs.Groups.{groups, group_sum};
 ghost use Rattle.expr_terms.specs.Products.{product_of_values, stands_at, IsProduct};
 ghost use Rattle.expr_terms.specs.Ranges.{Bound, AtLeast, reach, narrow_ranges, ranges_of, mode_size};
@@ -59,25 +60,29 @@ pub fn terms_add_up()
 /// at once.
 pub fn groups_add_up()
     ensures { (a : Arithmetic) → Laws a → (s : Statement) (values : ℕ → List ℕ → ℕ) (ranges : ℕ → ℕ) (coords : List ℕ)
-        → total_of a (map (group_sum a s values ranges (point_of s.left.vars coords)) (groups s)) ≡ statement_value a s values ranges coords }
+        → total_of a (map (group_sum a s values ranges (point_of s.left.vars coords)) (groups s))
+        ≡ statement_value a s values ranges coords }
 {}
 
 /// A product of accesses in which each variable stands is one term, whose own variables are the numbers after the
 /// left ones; the value of the statement is one sum of products over them.
 pub fn products_are_one_sum()
     ensures own { (s : Statement) → IsNumbered s → IsWellNamed s → IsProduct s
-        → own_variables s (plain_term (product_of (length s.accesses))) ≡ numbers_from (length s.left.vars) (length s.vars - length s.left.vars) }
+        → own_variables s (plain_term (product_of (length s.accesses)))
+        ≡ numbers_from (length s.left.vars) (length s.vars - length s.left.vars) }
     ensures value { (a : Arithmetic) → Laws a → (s : Statement) → IsNumbered s → IsWellNamed s → IsProduct s
         → (values : ℕ → List ℕ → ℕ) → AreWords values → (ranges : ℕ → ℕ) (coords : List ℕ)
         → statement_value a s values ranges coords
-        ≡ sum_over a ranges (numbers_from (length s.left.vars) (length s.vars - length s.left.vars)) (λ p. product_of_values a (map (access_value values p) s.accesses)) (point_of s.left.vars coords) }
+        ≡ sum_over a ranges (numbers_from (length s.left.vars) (length s.vars - length s.left.vars))
+        (λ p. product_of_values a (map (access_value values p) s.accesses)) (point_of s.left.vars coords) }
 {}
 
 /// Where no word gives a range and each mode only bounds it, the ranges of a statement whose variables all stand on
 /// the right are the greatest reaches.
 pub fn ranges_without_words()
     ensures { (s : Statement) (entries : ℕ → List AnEntry) → ((v : ℕ) → v < length s.vars → stands_at s.accesses v ≡ true)
-        → ranges_of s (λ v. None) (λ tensor mode. AtLeast (reach (entries tensor) mode)) ≡ Ok (map (narrow_ranges s entries) (numbers_from 0 (length s.vars))) }
+        → ranges_of s (λ v. None) (λ tensor mode. AtLeast (reach (entries tensor) mode))
+        ≡ Ok (map (narrow_ranges s entries) (numbers_from 0 (length s.vars))) }
 {}
 
 /// The sizes of the result's modes are the ranges of the left variables.

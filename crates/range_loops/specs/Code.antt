@@ -11,7 +11,8 @@ use Rattle.index_notation.specs.declared.syntax.Access.{Access}
 -- the position of coordinates below a position of the level above, from this level on
 abbrev pub position_below : ℕ → ℕ → KExpr → List ℕ → KExpr
 position_below tensor level above [] = above
-position_below tensor level above (v ∷ vs) = position_below tensor (level + 1) (Bin Add (Bin Mul above (At (Dimension tensor level) (Num 0))) (Var v)) vs
+position_below tensor level above (v ∷ vs) =
+    position_below tensor (level + 1) (Bin Add (Bin Mul above (At (Dimension tensor level) (Num 0))) (Var v)) vs
 
 abbrev pub position_code : ℕ → List ℕ → KExpr
 position_code tensor [] = Num 0
@@ -41,4 +42,5 @@ loops_code v (suc count) body = loop_code v (loops_code (v + 1) count body)
 
 -- the product added at its place
 abbrev pub body_code : ℕ → ℕ → Access → List Access → List KStmt
-body_code one product left accesses = product_code one product accesses ++ AddTo (Values 0) (position_code left.tensor left.vars) (Var product) ∷ []
+body_code one product left accesses =
+    product_code one product accesses ++ AddTo (Values 0) (position_code left.tensor left.vars) (Var product) ∷ []

@@ -49,7 +49,8 @@ AllFit s operands ranges = (tensor : ℕ) → tensor ≤ length operands → Fit
 pub record IsResult (arithmetic : Arithmetic) (s : Statement) (operands : List Entries) (sizes values : List ℕ) : Type 0 where
   pub sizes_are : sizes ≡ map (operand_ranges s operands) s.left.vars
   pub long : length values ≡ product sizes
-  pub each : (coords : List ℕ) → IsBelow sizes coords → slice_index values (position sizes coords) ≡ statement_value arithmetic s (operand_values arithmetic operands) (operand_ranges s operands) coords
+  pub each : (coords : List ℕ) → IsBelow sizes coords → slice_index values (position sizes coords)
+      ≡ statement_value arithmetic s (operand_values arithmetic operands) (operand_ranges s operands) coords
 
 -- the sizes of operand n, which is tensor n + 1
 abbrev pub operand_sizes : Statement → List Entries → (ℕ → ℕ) → ℕ → List ℕ
@@ -69,10 +70,12 @@ pub record IsComputable (s : Statement) (operands : List Entries) : Type 0 where
 
 -- the machine has the arrays of the first operands
 abbrev pub AreLoaded : Arithmetic → State → Statement → List Entries → (ℕ → ℕ) → ℕ → Type 0
-AreLoaded arithmetic state s operands ranges count = (n : ℕ) → n < count → IsLoaded arithmetic state (n + 1) (operand_sizes s operands ranges n) (entries_of operands (n + 1))
+AreLoaded arithmetic state s operands ranges count =
+    (n : ℕ) → n < count → IsLoaded arithmetic state (n + 1) (operand_sizes s operands ranges n) (entries_of operands (n + 1))
 
 -- the machine has all arrays: the ranges, the operands, and zeros for the result
-pub record IsMachineOf (arithmetic : Arithmetic) (state : State) (s : Statement) (operands : List Entries) (ranges sizes : List ℕ) : Type 0 where
+pub record IsMachineOf (arithmetic : Arithmetic) (state : State) (s : Statement) (operands : List Entries)
+    (ranges sizes : List ℕ) : Type 0 where
   pub range : state.arrays Range ≡ Some ranges
   pub loaded : AreLoaded arithmetic state s operands (slice_index ranges) (length operands)
   pub result_sizes : SizesFrom state 0 1 sizes

@@ -30,7 +30,8 @@ KeepsBelow tensor level old new = (a : Arr) → ((k : ℕ) → level ≤ k → s
 
 -- the arrays but for those of a tensor are as before
 abbrev pub KeepsOthers : ℕ → State → State → Type 0
-KeepsOthers tensor old new = (a : Arr) → ((k : ℕ) → same_arr (Dimension tensor k) a ≡ false) → same_arr (Values tensor) a ≡ false → new.arrays a ≡ old.arrays a
+KeepsOthers tensor old new =
+    (a : Arr) → ((k : ℕ) → same_arr (Dimension tensor k) a ≡ false) → same_arr (Values tensor) a ≡ false → new.arrays a ≡ old.arrays a
 
 -- a dense tensor's arrays stand for these entries
 pub record IsLoaded (arithmetic : Arithmetic) (s : State) (tensor : ℕ) (sizes : List ℕ) (entries : List Entry) : Type 0 where

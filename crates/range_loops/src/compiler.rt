@@ -1,5 +1,6 @@
 ghost use Rattle.std.specs.Prelude.{◌≡◌, ◌+◌, ◌<◌, ◌^◌, [], ◌∷◌, ◌++◌, length, IfOk};
-ghost use Rattle.range_loops.specs.Code.{position_below, position_code, access_code, product_after, product_code, loop_code, loops_code, body_code};
+ghost use Rattle.range_loops.specs.Code.{position_below, position_code, access_code, product_after, product_code, loop_code, loops_code};
+ghost use Rattle.range_loops.specs.Code.{body_code};
 
 use index_notation::{Access, Statement};
 use kernel_code::{
@@ -17,7 +18,8 @@ fn position_under(
     above: KExpr,
     var: u64,
 ) -> Result<KExpr, AllocError>
-    ensures { IfOk result (λ e. e ≡ KExpr.Bin Op.Add (KExpr.Bin Op.Mul above (KExpr.At (Arr.Dimension tensor level) (KExpr.Num 0))) (KExpr.Var var)) }
+    ensures { IfOk result (λ e. e
+        ≡ KExpr.Bin Op.Add (KExpr.Bin Op.Mul above (KExpr.At (Arr.Dimension tensor level) (KExpr.Num 0))) (KExpr.Var var)) }
 {
     let size = word_at(alloc, Arr::Dimension(tensor, level), KExpr::Num(0))?;
     let begin = binary(alloc, Op::Mul, above, size)?;
@@ -132,7 +134,8 @@ fn loops_over(alloc: Global, count: u64, body: Items<KStmt>) -> Result<Items<KSt
 /// whole ranges of all variables, in standing order, which add each product at its place. The product stands in the
 /// variable after those of the loops.
 pub fn compile<S: Semiring>(alloc: Global, statement: &Statement) -> Result<Kernel, AllocError>
-    ensures body { IfOk result (λ kernel. kernel.body ≡ loops_code 0 (length statement.now.vars) (body_code S.arithmetic.one (length statement.now.vars) statement.now.left statement.now.accesses)) }
+    ensures body { IfOk result (λ kernel. kernel.body ≡ loops_code 0 (length statement.now.vars)
+        (body_code S.arithmetic.one (length statement.now.vars) statement.now.left statement.now.accesses)) }
     ensures workspaces { IfOk result (λ kernel. kernel.workspaces ≡ []) }
 {
     let vars = statement.vars.len() as u64;

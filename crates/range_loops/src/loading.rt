@@ -61,8 +61,10 @@ pub(crate) fn load_operand<S: Semiring>(
     entries: &Entries,
 ) -> Result<(), AllocError>
     requires fit { FitLevels (mode_sizes statement.now (slice_index ranges.now) tensor entries.now.order) }
-    requires below { All (λ entry. IsBelow (mode_sizes statement.now (slice_index ranges.now) tensor entries.now.order) entry.coords) entries.now.list }
-    ensures loaded { OnOk result (IsLoaded S.arithmetic (state_of machine.new) tensor (mode_sizes statement.now (slice_index ranges.now) tensor entries.now.order) entries.now.list) }
+    requires below { All
+        (λ entry. IsBelow (mode_sizes statement.now (slice_index ranges.now) tensor entries.now.order) entry.coords) entries.now.list }
+    ensures loaded { OnOk result (IsLoaded S.arithmetic (state_of machine.new) tensor
+        (mode_sizes statement.now (slice_index ranges.now) tensor entries.now.order) entries.now.list) }
     ensures others { OnOk result (KeepsOthers tensor (state_of machine.old) (state_of machine.new)) }
 {
     let sizes = sizes_of(alloc, statement, ranges, tensor, entries.order())?;
@@ -77,7 +79,8 @@ pub(crate) fn run_to_end<S: Semiring>(
     code: &[KStmt],
 ) -> Result<(), AllocError>
     requires { RunsToEnd (setting S.arithmetic []) code.now (restarted (state_of machine.old)) }
-    ensures { OnOk result ((final : State) → RunsInto (setting S.arithmetic []) code.now (restarted (state_of machine.old)) final → state_of machine.new ≡ final) }
+    ensures { OnOk result ((final : State) → RunsInto (setting S.arithmetic []) code.now (restarted (state_of machine.old)) final
+        → state_of machine.new ≡ final) }
 {
     match machine.run::<S>(code, &[], u64::MAX)? {
         Ending::Ended => Ok(()),

@@ -24,9 +24,11 @@ fn load_operands<S: Semiring>(
     operands: &[Entries],
 ) -> Result<(), AllocError>
     requires computable { IsComputable statement.now operands.now }
-    requires ranges { (v : ℕ) → v < length statement.now.vars → slice_index ranges.now v ≡ narrow_ranges statement.now (entries_of operands.now) v }
+    requires ranges { (v : ℕ) → v < length statement.now.vars → slice_index ranges.now v
+        ≡ narrow_ranges statement.now (entries_of operands.now) v }
     requires fit { OperandsFit statement.now operands.now (slice_index ranges.now) (length operands.now) }
-    ensures { OnOk result (AreLoaded S.arithmetic (state_of machine.new) statement.now operands.now (slice_index ranges.now) (length operands.now)) }
+    ensures { OnOk result (AreLoaded S.arithmetic (state_of machine.new)
+        statement.now operands.now (slice_index ranges.now) (length operands.now)) }
 {
     for (n, entries) in operands.iter().enumerate() {
         // That the entries keep their invariant is told by their length.
@@ -53,7 +55,8 @@ fn load<S: Semiring>(
     positions: u64,
 ) -> Result<Machine, AllocError>
     requires computable { IsComputable statement.now operands.now }
-    requires ranges { (v : ℕ) → v < length statement.now.vars → slice_index ranges.items v ≡ narrow_ranges statement.now (entries_of operands.now) v }
+    requires ranges { (v : ℕ) → v < length statement.now.vars → slice_index ranges.items v
+        ≡ narrow_ranges statement.now (entries_of operands.now) v }
     requires fit { OperandsFit statement.now operands.now (slice_index ranges.items) (length operands.now) }
     requires positions { positions ≡ product sizes.now }
     requires order { length sizes.now < 2 ^ 62 }
@@ -85,7 +88,8 @@ pub fn compute<S: Semiring>(
 ) -> Result<Option<Dense>, AllocError>
     requires { IsComputable statement.now operands.now }
     ensures { IfOk result (λ r. MatchOption r (AllFit statement.now operands.now (operand_ranges statement.now operands.now) → ⊥)
-        (λ dense. AllFit statement.now operands.now (operand_ranges statement.now operands.now) × IsResult S.arithmetic statement.now operands.now dense.sizes.items dense.values.items)) }
+        (λ dense. AllFit statement.now operands.now (operand_ranges statement.now operands.now)
+        × IsResult S.arithmetic statement.now operands.now dense.sizes.items dense.values.items)) }
 {
     let ranges = ranges_of(alloc, statement, operands)?;
     let sizes = sizes_of(
