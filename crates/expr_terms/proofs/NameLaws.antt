@@ -1,15 +1,14 @@
 -- How far the checks of names have come.
-use Rattle.std.specs.Prelude.{◌≡◌, ◌≢◌, ℕ, zero, suc, ◌+◌, ◌<◌, List, [], ◌∷◌, ◌++◌, length, take, drop, get_or, Contains, refl}
+use Rattle.std.specs.Prelude.{◌≡◌, ◌≢◌, ℕ, zero, suc, ◌+◌, ◌<◌, List, [], ◌∷◌, ◌++◌, length, take, get_or, Contains, refl}
 use Rattle.std.proofs.Common.{sym, ◌∙◌, ap, subst, arith, append_assoc}
 use Rattle.std.proofs.Math.Seq.{take-suc}
-use Rattle.lists.specs.Each.{Each}
 use Rattle.lists.proofs.Each.{each_append}
 use Rattle.index_notation.specs.declared.syntax.Access.{Access}
 use Rattle.index_notation.specs.declared.syntax.Statement.{Statement}
 use Rattle.index_notation.specs.Statement.{IsDistinct}
 use Rattle.expr_terms.specs.declared.names.NameFault.{NameFault}
 use Rattle.expr_terms.specs.declared.names.NameFault.TheVariants.{RepeatedVariable}
-use Rattle.expr_terms.specs.Names.{RepeatsFirst, ReadsResult, IsFaultless, HasFault, AreFaultless, HasNoNameFault, IsFirstNameFault}
+use Rattle.expr_terms.specs.Names.{RepeatsFirst, IsFaultless, HasFault, AreFaultless, IsFirstNameFault}
 
 pub append_none : {A : Type 0} (xs : List A) → xs ++ [] ≡ xs
 append_none [] = refl

@@ -1,12 +1,11 @@
 -- The statement of a text whose names have no fault is well named.
-use Rattle.std.specs.Prelude.{◌≡◌, ◌≢◌, ℕ, zero, suc, ◌+◌, ◌<◌, Bool, true, false, List, [], ◌∷◌, ◌++◌, length, map, refl}
+use Rattle.std.specs.Prelude.{◌≡◌, ◌≢◌, ℕ, ◌+◌, ◌<◌, false, List, [], ◌∷◌, ◌++◌, length, map, refl}
 use Rattle.std.proofs.Common.{sym, ◌∙◌, ap, subst, arith, append_assoc, length-append}
 use Rattle.std.proofs.lemmas.List.{length-map}
 use Rattle.lists.specs.Each.{Each}
 use Rattle.index_notation.specs.declared.syntax.Name.{Name}
 use Rattle.index_notation.specs.declared.syntax.Access.{Access}
 use Rattle.index_notation.specs.declared.syntax.Statement.{Statement}
-use Rattle.index_notation.specs.declared.sentence.WrittenAccess.{WrittenAccess}
 use Rattle.index_notation.specs.Grammar.{Tree}
 use Rattle.index_notation.specs.Numbering.{is_same, place_of, without, distinct, name_of, variables_of}
 use Rattle.index_notation.specs.NumberingLaws.{yes, no}
@@ -14,7 +13,7 @@ use Rattle.index_notation.specs.Statement.{HaveOneOrder, HaveOrders, IsDistinct,
 use Rattle.index_notation.specs.TreeStatement.{accesses_of_sum, statement_of_tree}
 use Rattle.index_notation.specs.Notation.{IsNotationOf}
 use Rattle.index_notation.proofs.NumberingLaws.{tested, same_names, same_self, place_here, place_later, without_keeps}
-use Rattle.expr_terms.specs.Names.{IsFaultless, AreFaultless, HasNoNameFault}
+use Rattle.expr_terms.specs.Names.{AreFaultless, HasNoNameFault}
 
 -- what has no fault behind some access
 unread_each : (left e : Access) (earlier xs : List Access) → AreFaultless left (e ∷ earlier) xs → Each (λ a. a.tensor ≡ left.tensor → ⊥) xs

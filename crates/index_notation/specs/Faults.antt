@@ -1,18 +1,18 @@
 -- The first faulty symbol of a text, and its fault. A symbol's faults are tried in this order: that no sentence begins
 -- with the symbols up to it; that it opens a level too many; that it is one too many; that it is too large a number.
-use Rattle.std.specs.Prelude.{◌≡◌, ℕ, zero, suc, ◌+◌, ◌-◌, ◌*◌, nat_lt, if◌then◌else◌, Option, Some, None, List, [], ◌∷◌, ◌++◌, length}
+use Rattle.std.specs.Prelude.{◌≡◌, ℕ, ◌+◌, ◌-◌, ◌*◌, nat_lt, if◌then◌else◌, Option, Some, None, List, [], ◌∷◌, ◌++◌, length}
 use Rattle.limits.specs.Limits.{greatest_nesting, greatest_order, greatest_variables, greatest_accesses, greatest_operands}
 use Rattle.limits.specs.Limits.{greatest_literal}
 use Rattle.index_notation.specs.Numbering.{distinct}
 use Rattle.index_notation.specs.declared.syntax.Name.{Name}
-use Rattle.index_notation.specs.declared.sentence.Token.TheVariants.{Name as NameToken, Number as NumberToken, Mark as MarkToken}
+use Rattle.index_notation.specs.declared.sentence.Token.TheVariants.{Name as NameToken, Number as NumberToken}
 use Rattle.index_notation.specs.declared.symbol.PlacedSymbol.{PlacedSymbol}
 use Rattle.index_notation.specs.declared.symbol.Symbol.{Symbol}
-use Rattle.index_notation.specs.declared.symbol.Symbol.TheVariants.{Word, End, Stray}
+use Rattle.index_notation.specs.declared.symbol.Symbol.TheVariants.{Word}
 use Rattle.index_notation.specs.declared.fault.Counted.TheVariants.{Order, Variables, Accesses, Operands}
 use Rattle.index_notation.specs.declared.fault.SymbolFault.{SymbolFault}
 use Rattle.index_notation.specs.declared.fault.SymbolFault.TheVariants.{BadNotation, TooDeep, TooMany, LiteralRange}
-use Rattle.index_notation.specs.Grammar.{Tree, Role, NamesLeft, NamesRight, IsVariable, IsNumber, Opens, Plain, Written, sentence_of}
+use Rattle.index_notation.specs.Grammar.{Tree, Role, NamesRight, IsVariable, IsNumber, Opens, Written, sentence_of}
 use Rattle.index_notation.specs.Grammar.{symbols, Begins}
 
 -- the variable that a symbol is, and how many accesses of the right side and operands

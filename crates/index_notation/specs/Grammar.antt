@@ -4,7 +4,7 @@
 --   product   = factor { "*" factor }, grouped to the left
 --   factor    = number | access | "(" sum ")" | "-" factor
 --   access    = name [ "(" variable { "," variable } ")" ]
-use Rattle.std.specs.Prelude.{◌≡◌, ℕ, zero, suc, List, [], ◌∷◌, ◌++◌, map}
+use Rattle.std.specs.Prelude.{◌≡◌, ℕ, suc, List, [], ◌∷◌, ◌++◌}
 use Rattle.index_notation.specs.declared.syntax.Name.{Name}
 use Rattle.index_notation.specs.declared.sentence.Mark.{Mark}
 use Rattle.index_notation.specs.declared.sentence.Mark.TheVariants.{Equals, Plus, Minus, Times, Open, Close, Comma}
@@ -12,7 +12,7 @@ use Rattle.index_notation.specs.declared.sentence.Token.{Token}
 use Rattle.index_notation.specs.declared.sentence.Token.TheVariants.{Name as NameToken, Number as NumberToken, Mark as MarkToken}
 use Rattle.index_notation.specs.declared.sentence.WrittenAccess.{WrittenAccess}
 use Rattle.index_notation.specs.declared.symbol.Symbol.{Symbol}
-use Rattle.index_notation.specs.declared.symbol.Symbol.TheVariants.{Word, End, Stray}
+use Rattle.index_notation.specs.declared.symbol.Symbol.TheVariants.{Word, End}
 
 -- trees keep brackets and prefix minuses
 mutual

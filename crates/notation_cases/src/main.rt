@@ -6,6 +6,7 @@
 //! ```text
 //! # A comment.
 //! text y(i) = A(i,j) * x(j)    The statement of a text, or its fault. The last such statement is kept.
+//! names a = b(i) * b          Whether the names of a text's statement pass, or their fault.
 //! edges ds ds:1,0 d            The edges of the statement that was kept, under a format for each tensor.
 //! graph 3 2-0 0-1              The order of so many variables with these edges, or their cycle.
 //! format 2 ds:1,0              The format of a word, for a tensor of this order, or its fault.

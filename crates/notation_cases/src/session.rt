@@ -3,7 +3,7 @@ use crate::checks::checked_numbers;
 use crate::formats::{dense_shape, format_shape};
 use crate::graphs::{edge_shape, graph_shape};
 use crate::narrow::{built_shape, path_shape};
-use crate::shapes::{fault_shape, statement_shape};
+use crate::shapes::{fault_shape, name_shape, statement_shape};
 use crate::texts::spelled;
 use anyhow::{Result, bail};
 use index_notation::{NotationFault, Statement};
@@ -32,6 +32,7 @@ impl Session {
         let (keyword, rest) = line.split_once(' ').unwrap_or((line, ""));
         match keyword {
             "text" => self.read_text(rest),
+            "names" => self.check_names(rest),
             "edges" => match &self.statement {
                 Some(statement) => edge_shape(self.alloc, statement, rest),
                 None => bail!("no statement"),
@@ -60,6 +61,14 @@ impl Session {
             }
             Err(NotationFault::Memory(error)) => Err(error.into()),
             Err(fault) => Ok(fault_shape(self.alloc, &fault)?),
+        }
+    }
+
+    // Whether the names of a text's statement pass, or their fault.
+    fn check_names(&mut self, text: &str) -> Result<String> {
+        match parse(self.alloc, text) {
+            Ok(statement) => Ok(name_shape(self.alloc, &statement)?),
+            Err(_) => bail!("no statement"),
         }
     }
 

@@ -1,4 +1,5 @@
 // Statements and faults as they are printed.
+use expr_terms::{NameFault, check_names};
 use index_notation::{
     Access, Counted, Expr, Name, NotationFault, Statement, copy_access, copy_expr, copy_name,
 };
@@ -102,4 +103,36 @@ pub(crate) fn fault_shape(alloc: Global, fault: &NotationFault) -> Result<String
         NotationFault::LiteralRange { at } => format!(in alloc; "too large at {}", *at),
         NotationFault::Memory(_) => format!(in alloc; "want of memory"),
     }
+}
+
+// The name of a number in a list.
+fn put_named(out: &mut String, names: &[Name], number: usize) -> Result<(), AllocError> {
+    match names.get(number) {
+        Some(name) => put_name(out, name),
+        None => out.push('?'),
+    }
+}
+
+/// Whether the names of a statement pass, or their fault.
+pub(crate) fn name_shape(alloc: Global, statement: &Statement) -> Result<String, AllocError> {
+    let tensors = statement.tensors.as_slice();
+    let mut out = String::new(alloc);
+    match check_names(statement) {
+        Ok(()) => out.push_str("pass")?,
+        Err(NameFault::ResultRead { tensor }) => {
+            put_named(&mut out, tensors, tensor)?;
+            out.push_str(": the result is read")?;
+        }
+        Err(NameFault::Arity { tensor }) => {
+            put_named(&mut out, tensors, tensor)?;
+            out.push_str(": another number of variables")?;
+        }
+        Err(NameFault::RepeatedVariable { tensor, var }) => {
+            put_named(&mut out, tensors, tensor)?;
+            out.push_str(": ")?;
+            put_named(&mut out, statement.vars.as_slice(), var)?;
+            out.push_str(" stands twice")?;
+        }
+    }
+    Ok(out)
 }

@@ -1,3 +1,4 @@
+// The accesses that have been read.
 ghost use Rattle.std.specs.Prelude.{OnOk};
 ghost use Rattle.notation_reader.specs.Accesses.{Extends, Mentions};
 ghost use Rattle.index_notation.specs.declared.syntax.Name.{Name};

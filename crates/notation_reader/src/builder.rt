@@ -1,3 +1,4 @@
+// The expression that has been read, built as its symbols come.
 ghost use Rattle.std.specs.Prelude.{◌≡◌, ◌<◌, ◌≤◌, ◌^◌, None, IfOk};
 ghost use Rattle.limits.specs.Limits.{greatest_literal};
 ghost use Rattle.notation_reader.specs.Building.{negated as negated_by, times as times_by};
@@ -162,7 +163,7 @@ impl Builder {
         }
     }
 
-    /// Goes behind the symbol of a sum.
+    /// Goes behind the sign of a sum.
     fn join(self, alloc: Global, is_minus: bool) -> Result<Builder, AllocError>
         ensures { IfOk result (λ b. b ≡ joined_with self is_minus) }
     {

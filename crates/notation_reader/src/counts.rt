@@ -1,3 +1,4 @@
+// What is limited, counted as its symbols come.
 ghost use Rattle.std.specs.Prelude.{◌≡◌};
 ghost use Rattle.notation_reader.specs.Counting.{level_fault as due_level_fault};
 

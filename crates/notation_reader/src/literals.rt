@@ -1,3 +1,4 @@
+// The numbers that may be written.
 ghost use Rattle.std.specs.Prelude.{◌≡◌, ◌<◌, ◌≤◌, nat_lt, MatchOption};
 ghost use Rattle.limits.specs.Limits.{greatest_literal};
 ghost use Rattle.index_notation.specs.Faults.{number_of, value_after};

@@ -1,3 +1,4 @@
+// Rows of names, each name once.
 ghost use Rattle.std.specs.Prelude.{◌≡◌, OnOk};
 ghost use Rattle.index_notation.specs.Numbering.{place_of};
 ghost use Rattle.notation_reader.specs.Added.{with_name, with_names};

@@ -1,3 +1,4 @@
+// The statement of a text, or its fault.
 ghost use Rattle.std.specs.Prelude.{◌≡◌, IfOk, IfErr};
 ghost use Rattle.index_notation.specs.Statement.{IsNumbered};
 ghost use Rattle.index_notation.specs.Notation.{IsNotationOf, MayRefuse, at_byte as fault_at_byte};

@@ -1,3 +1,4 @@
+// The statement of accesses: their names, tensors and variables apart, are numbered by first appearance.
 ghost use Rattle.std.specs.Prelude.{◌≡◌, ◌∷◌, List, map, IfOk};
 ghost use Rattle.index_notation.specs.Numbering.{distinct, name_of, variables_of, numbered};
 ghost use Rattle.index_notation.specs.TreeStatement.{numbered_statement};

@@ -1,3 +1,4 @@
+// Where a reader stands in the grammar, and where each symbol leads.
 ghost use Rattle.std.specs.Prelude.{◌≡◌};
 ghost use Rattle.notation_reader.specs.Leads.{lead_of, mark_leads};
 
@@ -9,31 +10,52 @@ use trees::Items;
 #[derive(Clone, Copy, Debug, PartialEq, Eq)]
 pub enum Stand {
     Nothing,
+    /// The name of the left side.
     LeftName,
+    /// A bracket or comma of the left access, so a variable is wanted.
     LeftOpen,
+    /// A variable of the left access.
     LeftVariable,
+    /// The whole left access.
     LeftAccess,
+    /// `=`, an operator, a prefix minus or an open bracket, so a factor is wanted.
     Operator,
+    /// The name of an access of the right side.
     Name,
+    /// A bracket or comma of an access of the right side, so a variable is wanted.
     Open,
+    /// A variable of an access of the right side.
     Variable,
+    /// A whole factor.
     Factor,
+    /// The end of the text.
     End,
 }
 
 /// What a symbol does at a stand.
 #[derive(Clone, Copy, Debug, PartialEq, Eq)]
 pub enum Lead {
+    /// No sentence goes on so.
     Nowhere,
+    /// It leads there, and no limit counts it.
     To(Stand),
+    /// It is a variable, and leads there.
     Variable(Stand),
+    /// It is a number, which is a factor.
     Number,
+    /// It names an access of the right side.
     Name,
+    /// It opens a bracket of a factor.
     Bracket,
+    /// It is a prefix minus.
     Minus,
+    /// It is an operator behind a factor.
     Operator,
+    /// It closes a bracket of a factor, if one is open.
     Close,
+    /// It closes the variables of an access, which is a factor.
     Access,
+    /// It ends the text, if no bracket is open.
     End,
 }
 

@@ -1,3 +1,4 @@
+// Symbols read one after another, or the fault of the first that is faulty.
 ghost use Rattle.std.specs.Prelude.{◌≡◌, ◌≤◌, ◌<◌, ◌+◌, ◌^◌, None, IfOk, OnOk, MatchResult};
 ghost use Rattle.limits.specs.Limits.{greatest_literal};
 ghost use Rattle.index_notation.specs.Grammar.{Tree};

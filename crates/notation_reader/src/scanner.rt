@@ -1,3 +1,4 @@
+// The symbols of a text.
 ghost use Rattle.std.specs.Prelude.{◌≡◌, ◌<◌, ◌≤◌, ◌∷◌, ℕ, false, List, length, take, drop, MatchOption, IfOk};
 ghost use Rattle.std.specs.Char.{is_ascii_digit};
 ghost use Rattle.index_notation.specs.Tokens.{goes_on, behind_blanks, EachPasses, StopsAt, IsNext};

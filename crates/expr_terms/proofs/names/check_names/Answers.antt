@@ -1,7 +1,5 @@
-use Rattle.std.proofs.Common.{◌≡◌, ◌<◌, ◌∷◌, List, length, take, get_or, sym, ◌∙◌, ap, subst}
-use Rattle.index_notation.specs.declared.syntax.Access.{Access}
-use Rattle.index_notation.specs.Statement.{IsDistinct}
-use Rattle.expr_terms.specs.Names.{RepeatsFirst, AreFaultless, HasFault, IsFirstNameFault}
+use Rattle.std.proofs.Common.{List, subst}
+use Rattle.expr_terms.specs.Names.{RepeatsFirst}
 use Rattle.expr_terms.proofs.NameLaws.{left_fault, right_fault_found, faultless_step}
 use Rattle.expr_terms.proofs.names.check_names.Goals as goal
 
