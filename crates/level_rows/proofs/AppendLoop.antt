@@ -1,25 +1,26 @@
 -- The loop that appends rows: what holds of the level after each step, and when it is finished.
-use Rattle.std.specs.Prelude.{◌≡◌, ◌≢◌, ◌⊎◌, ℕ, zero, suc, ◌+◌, ◌-◌, ◌≤◌, ◌<◌, nat_lt, Bool, true, false, if◌then◌else◌, List, [], ◌∷◌, ◌++◌, length, take, slice_index, slice_set, refl}
+use Rattle.std.specs.Prelude.{◌≡◌, ◌≢◌, ◌⊎◌, ℕ, suc, ◌+◌, ◌-◌, ◌≤◌, ◌<◌, nat_lt, Bool, true, false, if◌then◌else◌, List, length, take, slice_index, slice_set, refl}
 use Rattle.std.proofs.Common.{◌∙◌, sym, ap, subst, arith, inl, inr}
 use Rattle.std.proofs.lemmas.Bool.{cases_lt}
 use Rattle.std.proofs.lemmas.Bool.Decides.{nat_tests}
 use Rattle.std.proofs.lemmas.List.{get_or-set_same, get_or-set_other, length-set, length_push, take_all}
 use Rattle.limits.specs.Limits.{greatest_position_count}
-use Rattle.level_core.specs.declared.letter.Letter.{Letter}
 use Rattle.level_core.specs.declared.span.Span.{Span}
 use Rattle.level_core.specs.Entries.{IsIn, one}
 use Rattle.level_core.specs.Kinds.{properties}
-use Rattle.level_core.specs.Logs.{Log, total, IsLog, Rises, slice, segment_in, MayAppend, MayAppendEdges, MayFinish, with_parents, with_edges, nothing_reserved}
+use Rattle.level_core.specs.Logs.{total, IsLog, Rises, slice, MayAppend, MayAppendEdges, MayFinish, with_parents, with_edges, nothing_reserved}
 use Rattle.level_core.specs.Meaning.{Meaning, ChangesLog, Finishes}
 use Rattle.level_core.specs.Laws.{Laws}
-use Rattle.level_rows.specs.Rows.{Rows, begun, place, InOrder, MayAppendRows, StandsFor, RiseIn}
-use Rattle.level_rows.specs.Taken.{Asked, Takes, AppendsRows}
-use Rattle.level_rows.specs.Appending.{Cursor, Appended, Progress, Filled, Placing, turned, turned_log, added, added_log, closed_log}
-use Rattle.level_rows.proofs.RowLaws.{begun_yes, begun_no, begun_upto, begun_some}
+use Rattle.level_rows.specs.Rows.{Rows, begun, place, MayAppendRows, StandsFor, RiseIn}
+use Rattle.level_rows.specs.Taken.{Asked, AppendsRows}
+use Rattle.level_rows.specs.Appending.{Cursor, turned, turned_log, added, added_log, closed_log}
+use Rattle.level_rows.proofs.Progress.{Progress, Filled, Placing}
+use Rattle.level_rows.proofs.RowLaws.{begun_yes, begun_no, begun_upto}
 use Rattle.level_rows.proofs.Branchless.{place_is, all_begun}
 use Rattle.level_rows.proofs.Groups.{group_rises}
-use Rattle.level_rows.proofs.Finishing.{Finished, stands_for, stands_along}
-use Rattle.level_rows.proofs.Filling.{Stands, stands_none, stands_more, none_done, may_turn, turns, turned_count, turned_last, turned_coords, may_add, adds, fills, may_finish}
+use Rattle.level_rows.proofs.Finishing.{stands_for, stands_along}
+use Rattle.level_rows.proofs.Stored.{filled_stores}
+use Rattle.level_rows.proofs.AppendSteps.{Stands, stands_none, stands_more, none_done, may_turn, turns, turned_count, turned_last, turned_coords, may_add, adds, fills, may_finish}
 
 -- while rows are appended: the level, the cursor and the list of positions after so many of them
 pub record Filling {L : Type 0} (means : Meaning L) (parents done spare : ℕ) (at : Cursor) (rows : Rows) (positions : List ℕ) (old new : L) : Type 0 where
@@ -220,19 +221,7 @@ module _ {L : Type 0} (means : Meaning L) (laws : Laws means) (parents : ℕ) (r
         kind = kind_new;
         size = finishes.size ∙ (changes.size ∙ f.size);
         many = f.placing.many;
-        stored = record {
-          has_parents = finishes.has_parents;
-          stands = subst (λ k. StandsFor (properties k).full (Asked means new parents) (means.segment_of new) (means.entries new) rows (slice_index positions)) (sym kind_new)
-              (stands_along (properties (means.kind old)).full (means.allowed new) (Asked means new parents) (means.segment_of new) (means.entries new) rows (place rows.first) (slice_index positions) (λ s ok. ok.0) f.placing.behind
-              (stands_for (properties (means.kind old)).full parents rows (means.log given) (means.allowed new) (means.segment_of new) (means.entries new) may.order.begins all
-              (record { segments = finishes.segments; entries_are = finishes.entries })));
-          ends = λ p last.
-              let counts = (means.log given).counts in
-              let reserved = all.reserved in
-              let whole : take (p + 1) counts ≡ counts = take_all (p + 1) counts (omega (arith, reserved, last)) in
-              ap (λ s. s.hi) (finishes.segments (one p) (laws.parents new parents p finishes.has_parents (omega (arith, last)))) ∙ ap total whole ∙ all.given ∙ all.appended.many;
-          groups = λ branches s up within rise. groups (sym (ap (λ k. (properties k).branchless) kind_new) ∙ branches) s up within (subst (λ k. RiseIn (properties k).unique rows s) kind_new rise);
-        };
+        stored = filled_stores means laws (means.kind old) (means.size old) parents rows (slice_index positions) given new may kind all finishes f.placing.behind;
       };
       numbered = f.placing.behind;
     }
@@ -245,14 +234,3 @@ module _ {L : Type 0} (means : Meaning L) (laws : Laws means) (parents : ℕ) (r
 
         kind_new : means.kind new ≡ means.kind old
         kind_new = finishes.kind ∙ kind
-
-        groups : (properties (means.kind old)).branchless ≡ true → (s : Span) → s.lo ≤ s.hi → s.hi ≤ parents → RiseIn (properties (means.kind old)).unique rows s → means.allowed new s
-        groups b s up within rise =
-            let branches = ap (λ k. (properties k).branchless) kind ∙ b in
-            let many = all.appended.many in
-            let begun_all = all_begun (properties (means.kind old)).unique (means.size old) parents rows may.order (may.each b) in
-            let at : (i : ℕ) → i < rows.count → place rows.first i ≡ rows.parent i = λ i h. place_is (properties (means.kind old)).unique (means.size old) parents rows i may.order (may.each b) h in
-            finishes.groups branches s up within
-            (subst (λ k. Rises (properties k).unique 0 (slice (means.log given).coords s)) (sym kind)
-            (group_rises (properties (means.kind old)).unique rows (means.log given).coords s may.order.begins all.appended up (omega (arith, many, begun_all, within))
-            (λ i h first here there. rise i h first (subst (λ p. IsIn p s) (at i (omega (arith, h))) here) (subst (λ p. IsIn p s) (at (suc i) h) there))))

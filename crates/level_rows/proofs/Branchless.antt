@@ -1,14 +1,13 @@
 -- Rows that are appended to a branchless level: each parent has one position, its own.
-use Rattle.std.specs.Prelude.{◌≡◌, ◌≢◌, ◌⊎◌, ℕ, zero, suc, ◌+◌, ◌-◌, ◌≤◌, ◌<◌, Bool, true, false, List, [], ◌∷◌, length, take, replicate, refl}
+use Rattle.std.specs.Prelude.{◌≡◌, ◌≢◌, ◌⊎◌, ℕ, zero, suc, ◌+◌, ◌-◌, ◌≤◌, ◌<◌, Bool, true, false, length, take, replicate, refl}
 use Rattle.std.proofs.Common.{◌∙◌, sym, ap, subst, arith, inl, inr}
 use Rattle.std.proofs.lemmas.Bool.{cases_lt}
 use Rattle.std.proofs.lemmas.List.{length-replicate}
 use Rattle.level_core.specs.declared.stage.Stage.TheVariants.{Unfinished}
-use Rattle.level_core.specs.Entries.{IsIn, one}
-use Rattle.level_core.specs.Logs.{Log, total, segment_in}
-use Rattle.level_rows.specs.Rows.{Rows, begun, place, IsBehind, InOrder, OneEach}
-use Rattle.level_rows.specs.Appending.{Appended, Filled}
-use Rattle.level_rows.proofs.RowLaws.{begun_yes, begun_no, begun_some, place_within}
+use Rattle.level_core.specs.Logs.{Log, total}
+use Rattle.level_rows.specs.Rows.{Rows, begun, place, InOrder, OneEach}
+use Rattle.level_rows.proofs.Progress.{Appended, Filled}
+use Rattle.level_rows.proofs.RowLaws.{begun_yes, begun_no, begun_some}
 use Rattle.level_rows.proofs.Steps.{parents_rise}
 
 -- parents never fall

@@ -1,9 +1,8 @@
 -- Entries by their coordinates and positions.
-use Rattle.std.specs.Prelude.{◌≡◌, ◌≢◌, ◌⊎◌, ℕ, ◌+◌, ◌≤◌, ◌<◌, nat_le, nat_lt, ◌==◌, ◌&&◌, Bool, true, false, if◌then◌else◌, List, [], ◌∷◌, Option, Some, None, refl}
+use Rattle.std.specs.Prelude.{◌≡◌, ℕ, ◌≤◌, ◌<◌, nat_le, nat_lt, ◌==◌, ◌&&◌, Bool, true, false, if◌then◌else◌, List, [], ◌∷◌, Some, None, refl}
 use Rattle.std.proofs.Common.{◌∙◌, sym, ap, subst, arith, inl, inr}
 use Rattle.std.proofs.lemmas.Bool.Decides.{nat_tests}
 use Rattle.std.proofs.lemmas.Option.{same_Some}
-use Rattle.level_core.specs.declared.span.Span.{Span}
 use Rattle.level_core.specs.declared.span.Entry.{Entry}
 use Rattle.level_core.specs.Entries.{IsIn, Placed, Lacks, Distinct, AllBelow, StandsAt, coord_at, position_of}
 use Rattle.level_core.proofs.EntryLaws.{placed_within, coord_here, coord_past}

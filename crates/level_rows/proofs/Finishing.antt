@@ -1,17 +1,17 @@
 -- A level that is finished after its rows were appended stands for them.
-use Rattle.std.specs.Prelude.{◌≡◌, ◌⊎◌, ℕ, zero, suc, ◌+◌, ◌-◌, ◌≤◌, ◌<◌, Bool, true, false, List, [], ◌∷◌, length, take, drop, slice_get, slice_index, Option, Some, refl}
+use Rattle.std.specs.Prelude.{◌≡◌, ◌⊎◌, ℕ, zero, suc, ◌+◌, ◌-◌, ◌≤◌, ◌<◌, Bool, true, List, [], ◌∷◌, length, take, drop, slice_index, Some}
 use Rattle.std.proofs.Common.{◌∙◌, sym, ap, subst, arith, inl, inr}
 use Rattle.std.proofs.lemmas.Bool.{cases_lt}
 use Rattle.std.proofs.lemmas.List.{get_or-take, get_or-drop, length-take-le, length-drop}
 use Rattle.std.proofs.lemmas.Option.{slice_get-get_or}
 use Rattle.level_core.specs.declared.span.Span.{Span}
 use Rattle.level_core.specs.declared.span.Entry.{Entry}
-use Rattle.level_core.specs.Entries.{IsIn, one, span, coord_at}
-use Rattle.level_core.specs.Logs.{Log, total, slice, groups, entries_between, segment_in}
+use Rattle.level_core.specs.Entries.{IsIn, coord_at}
+use Rattle.level_core.specs.Logs.{Log, total, slice, entries_between, segment_in}
 use Rattle.level_core.proofs.GroupLaws.{groups_coord}
-use Rattle.level_rows.specs.Rows.{Rows, begun, place, StandsFor}
-use Rattle.level_rows.specs.Appending.{Appended, Filled}
-use Rattle.level_rows.proofs.RowLaws.{place_within, placed}
+use Rattle.level_rows.specs.Rows.{Rows, place, StandsFor}
+use Rattle.level_rows.proofs.Progress.{Filled}
+use Rattle.level_rows.proofs.RowLaws.{placed}
 
 take_more : (p : ℕ) (ns : List ℕ) → total (take p ns) ≤ total (take (suc p) ns)
 take_more zero [] = omega arith

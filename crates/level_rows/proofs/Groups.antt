@@ -1,13 +1,13 @@
 -- The coordinates of a group of positions rise where the rows do.
 use Rattle.std.specs.Prelude.{◌≡◌, ◌⊎◌, ℕ, zero, suc, ◌+◌, ◌-◌, ◌≤◌, ◌<◌, Bool, true, false, List, [], ◌∷◌, length, drop, slice_index, refl}
-use Rattle.std.proofs.Common.{◌∙◌, sym, ap, subst, arith, inl, inr}
+use Rattle.std.proofs.Common.{◌∙◌, ap, arith, inl, inr}
 use Rattle.std.proofs.lemmas.Bool.{cases_lt}
 use Rattle.std.proofs.lemmas.List.{get_or-take, get_or-drop, length-take-le, length-drop}
 use Rattle.level_core.specs.declared.span.Span.{Span}
 use Rattle.level_core.specs.Entries.{IsIn}
 use Rattle.level_core.specs.Logs.{Rises, gap, slice}
 use Rattle.level_rows.specs.Rows.{Rows, begun, place}
-use Rattle.level_rows.specs.Appending.{Appended}
+use Rattle.level_rows.proofs.Progress.{Appended}
 use Rattle.level_rows.proofs.RowLaws.{begun_yes, begun_no, begun_some}
 
 pub rises_from : (unique : Bool) (least : ℕ) (xs : List ℕ) → (0 < length xs → least ≤ slice_index xs 0) → ((k : ℕ) → suc k < length xs → slice_index xs k + gap unique ≤ slice_index xs (suc k)) → Rises unique least xs

@@ -6,11 +6,11 @@ use Rattle.level_core.specs.declared.letter.Letter.{Letter}
 use Rattle.level_core.specs.Kinds.{properties}
 use Rattle.level_core.specs.Meaning.{Meaning}
 use Rattle.level_core.specs.Laws.{Laws}
-use Rattle.level_rows.specs.Rows.{Keys, Rows, rows_at, begun, MayAppendRows, MayInsertRows, AreTogether}
-use Rattle.level_rows.specs.Taken.{Stores, Takes, AppendsRows, InsertsRows}
+use Rattle.level_rows.specs.Rows.{Keys, rows_at, begun, MayAppendRows, MayInsertRows, AreTogether}
+use Rattle.level_rows.specs.Taken.{Stores, Takes, AppendsRows}
 use Rattle.level_rows.specs.Stacks.{Column, rows_in, Stacked, AreChained, TellsPaths, last_place, last_positions}
-use Rattle.level_rows.specs.Growing.{column_of, ChainTo, Growing, IsNext, Grows, LevelsGrow}
-use Rattle.level_rows.specs.Tables.{Agree, Increase, Begins, ShareBy, NeverFall, AllPlaced, AreRowsOf, IsColumnOf, AreColumnsOf}
+use Rattle.level_rows.specs.Growing.{column_of, ChainTo, Growing, IsNext, LevelsGrow}
+use Rattle.level_rows.specs.Tables.{Increase, ShareBy, NeverFall, AllPlaced, AreRowsOf, IsColumnOf, AreColumnsOf}
 use Rattle.level_rows.proofs.PlaceLaws.{may_append_rows, may_insert_rows, together, appended_share, appended_never_fall, appended_all_placed, inserted_share, inserted_never_fall, columns_sorted}
 use Rattle.level_rows.proofs.StackLaws.{stacks_tell_paths}
 use Rattle.level_rows.proofs.ValueLaws.{places_apart}
@@ -186,12 +186,12 @@ pub levels_grow : {L : Type 0} (means : Meaning L) → Laws means → LevelsGrow
 levels_grow means laws = record {
   none = none_grown means;
   next = λ coords order keys d above parents groups ordered levels columns ps up g. record {
-      may_append = may_append_next means laws coords order keys d above parents groups ordered levels columns ps up g;
-      may_insert = may_insert_next means laws coords order keys d above parents groups ordered levels columns ps up g;
-      together = next_together means laws coords order keys d above parents groups ordered levels columns ps up g;
-      appended = grown_appended means laws coords order keys d above parents groups ordered levels columns ps up g;
-      inserted = grown_inserted means laws coords order keys d above parents groups ordered levels columns ps up g;
-    };
+    may_append = may_append_next means laws coords order keys d above parents groups ordered levels columns ps up g;
+    may_insert = may_insert_next means laws coords order keys d above parents groups ordered levels columns ps up g;
+    together = next_together means laws coords order keys d above parents groups ordered levels columns ps up g;
+    appended = grown_appended means laws coords order keys d above parents groups ordered levels columns ps up g;
+    inserted = grown_inserted means laws coords order keys d above parents groups ordered levels columns ps up g;
+  };
   all = grown_all means laws;
   apart = grown_apart means;
 }

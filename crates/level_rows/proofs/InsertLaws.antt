@@ -1,5 +1,5 @@
 -- Laws of rows that are inserted.
-use Rattle.std.specs.Prelude.{◌≡◌, ◌≢◌, ◌⊎◌, ℕ, zero, suc, ◌+◌, ◌-◌, ◌*◌, ◌≤◌, ◌<◌, ◌==◌, ◌&&◌, nat_le, nat_lt, Bool, true, false, if◌then◌else◌, List, [], ◌∷◌, length, Option, Some, None, refl}
+use Rattle.std.specs.Prelude.{◌≡◌, ◌≢◌, ◌⊎◌, ℕ, zero, suc, ◌+◌, ◌-◌, ◌*◌, ◌≤◌, ◌<◌, ◌==◌, ◌&&◌, Bool, true, false, if◌then◌else◌, List, [], ◌∷◌, length, Some, None, refl}
 use Rattle.std.proofs.Common.{◌∙◌, sym, ap, subst, arith, inl, inr}
 use Rattle.std.proofs.lemmas.Bool.{cases_lt, cases_order}
 use Rattle.std.proofs.lemmas.Bool.Decides.{nat_tests}
@@ -7,19 +7,19 @@ use Rattle.std.proofs.lemmas.Option.{same_Some}
 use Rattle.level_core.specs.declared.span.Span.{Span}
 use Rattle.level_core.specs.declared.span.Entry.{Entry}
 use Rattle.level_core.specs.declared.letter.Letter.{Letter}
-use Rattle.level_core.specs.Entries.{IsIn, Placed, Lacks, Distinct, Single, StandsAt, Gains, AreInRow, one, span, coord_at, position_of}
+use Rattle.level_core.specs.Entries.{IsIn, Lacks, Distinct, Single, StandsAt, Gains, AreInRow, one, span, coord_at, position_of}
 use Rattle.level_core.proofs.EntryLaws.{placed_within}
 use Rattle.level_core.specs.Kinds.{properties, capabilities, AreEntries, MayInsert}
 use Rattle.level_core.specs.ParentLaws.{Askable}
 use Rattle.level_core.proofs.ParentLaws.{segments_apart}
 use Rattle.level_rows.specs.Rows.{Rows, begun_below, MayInsertRows, StandsFor}
-use Rattle.level_rows.proofs.Entries.{EntryOf, Found, coord_in, coord_from, found, one_entry, stands_within}
+use Rattle.level_rows.proofs.Entries.{coord_in, coord_from, stands_within}
 
 -- the entries after n rows are those of the rows at their places
 pub record Inserted (full : Bool) (parents n : ℕ) (rows : Rows) (place : ℕ → ℕ) (entries : Span → List Entry) : Type 0 where
   pub has : (i : ℕ) → i < n → position_of (entries (one (rows.parent i))) (rows.coord i) ≡ Some (place i)
   pub only : full ≡ false → (p x pos : ℕ) → p < parents → position_of (entries (one p)) x ≡ Some pos
-    → (i : ℕ) × (i < n) × (rows.parent i ≡ p) × (rows.coord i ≡ x) × (place i ≡ pos)
+      → (i : ℕ) × (i < n) × (rows.parent i ≡ p) × (rows.coord i ≡ x) × (place i ≡ pos)
   pub few : full ≡ false → (p : ℕ) → p < parents → length (entries (one p)) ≤ begun_below rows p n
 
 -- a single position that is a parent
@@ -83,9 +83,9 @@ no_more (f ∷ fs) es d h =
     let k = h f.coord f.child.lo (first_position f fs) in
     let l = without_length f.coord k.0 es k.1 in
     let rest = no_more fs (without f.coord es) d.1 (λ y pos at.
-        let apart : y ≢ f.coord = λ same. none_some pos (sym (lacks_none f.coord fs d.0) ∙ ap (position_of fs) (sym same) ∙ at) in
-        let q = h y pos (other_position f fs y (λ same. apart (sym same)) ∙ at) in
-        (q.0, without_other f.coord y q.0 es apart q.1)) in
+    let apart : y ≢ f.coord = λ same. none_some pos (sym (lacks_none f.coord fs d.0) ∙ ap (position_of fs) (sym same) ∙ at) in
+    let q = h y pos (other_position f fs y (λ same. apart (sym same)) ∙ at) in
+    (q.0, without_other f.coord y q.0 es apart q.1)) in
     omega (arith, rest, l)
 
 -- a coordinate that is gained makes the entries at most one longer
@@ -135,10 +135,10 @@ may_insert letter size parents most n rows place segment entries o h is p within
         let l = o.above k.0 n k.1 h is k.2 in
         let same = k.3 in omega (arith, l, same)),
     (let few = p.few full (rows.parent n) (o.within n h) in
-     let one = below_yes rows n is in
-     let more = below_upto rows (rows.parent n) (suc n) rows.count (omega (arith, h)) in
-     let w = wide full in
-     let upto = within full in omega (arith, few, one, more, upto, w)),
+        let one = below_yes rows n is in
+        let more = below_upto rows (rows.parent n) (suc n) rows.count (omega (arith, h)) in
+        let w = wide full in
+        let upto = within full in omega (arith, few, one, more, upto, w)),
   );
 }
 

@@ -1,7 +1,6 @@
 -- The loop that inserts rows: what holds of the level after each of them.
-use Rattle.std.specs.Prelude.{◌≡◌, ◌≢◌, ◌⊎◌, ℕ, zero, suc, ◌+◌, ◌-◌, ◌*◌, ◌≤◌, ◌<◌, ◌==◌, Bool, true, false, List, length, slice_index, slice_set, Some, refl}
-use Rattle.std.proofs.Common.{◌∙◌, sym, ap, subst, arith, inl, inr}
-use Rattle.std.proofs.lemmas.Bool.{cases_lt}
+use Rattle.std.specs.Prelude.{◌≡◌, ◌≢◌, ℕ, zero, suc, ◌+◌, ◌-◌, ◌*◌, ◌≤◌, ◌<◌, ◌==◌, Bool, true, false, List, length, slice_index, slice_set, Some, refl}
+use Rattle.std.proofs.Common.{◌∙◌, sym, ap, subst, arith}
 use Rattle.std.proofs.lemmas.Bool.Decides.{nat_tests}
 use Rattle.std.proofs.lemmas.List.{get_or-set_same, get_or-set_other, length-set}
 use Rattle.limits.specs.Limits.{greatest_position_count}
@@ -11,12 +10,12 @@ use Rattle.level_core.specs.declared.letter.Letter.TheVariants.{Dense, Compresse
 use Rattle.level_core.specs.declared.span.Span.{Span}
 use Rattle.level_core.specs.Entries.{one, span}
 use Rattle.level_core.specs.Kinds.{properties, capabilities, positions_for, AreEntries, MayPrepare, MayInsert}
-use Rattle.level_core.specs.Meaning.{Meaning, Prepares, Inserts}
+use Rattle.level_core.specs.Meaning.{Meaning, Inserts}
 use Rattle.level_core.specs.Laws.{Laws}
-use Rattle.level_core.specs.Orders.{InOrder, KeepsOrder}
+use Rattle.level_core.specs.Orders.{InOrder}
 use Rattle.level_core.proofs.Orders.{keeps_order}
 use Rattle.level_rows.specs.Rows.{Rows, begun_below, MayInsertRows, StandsFor}
-use Rattle.level_rows.specs.Taken.{Asked, Takes, InsertsRows}
+use Rattle.level_rows.specs.Taken.{Asked, InsertsRows}
 use Rattle.level_rows.proofs.Finishing.{stands_along}
 use Rattle.level_rows.proofs.InsertLaws.{Inserted, IsParent, may_insert, insert_first, insert_again, insert_none, inserted_stands}
 
@@ -158,10 +157,10 @@ module _ {L : Type 0} (means : Meaning L) (laws : Laws means) (parents most : �
             subst (InOrder means m) (sym at_parent)
             ((keeps_order means laws).greater l m (rows.parent done) (rows.coord done) slot (ap (λ j. (properties j).ordered) f.kind ∙ unordered) (allowed_at (rows.parent done) (may.within done h))
             (λ y pos there.
-                let r = f.inserted.only full (rows.parent done) y pos (may.within done h) there in
-                let less = may.above r.0 done r.1 h (sym first ∙ is) r.2 in
-                let coord_is = r.3 in
-                omega (arith, less, coord_is))
+            let r = f.inserted.only full (rows.parent done) y pos (may.within done h) there in
+            let less = may.above r.0 done r.1 h (sym first ∙ is) r.2 in
+            let coord_is = r.3 in
+            omega (arith, less, coord_is))
             k (f.order unordered (rows.parent done) (may.within done h)))
         by_parent unordered p inside false other =
             let away : p ≢ rows.parent done = grind (arith, nat_tests, other) in

@@ -1,10 +1,12 @@
+pub mod Progress
 pub mod RowLaws
 pub mod Steps
 pub mod Entries
 pub mod Finishing
 pub mod Branchless
 pub mod Groups
-pub mod Filling
+pub mod AppendSteps
+pub mod Stored
 pub mod AppendLoop
 pub mod InsertLaws
 pub mod InsertLoop
@@ -14,3 +16,7 @@ pub mod TableLaws
 pub mod PlaceLaws
 pub mod ValueLaws
 pub mod Growing
+pub mod FillLaws
+pub mod DrainSteps
+pub mod DrainLaws
+pub mod EmitLaws

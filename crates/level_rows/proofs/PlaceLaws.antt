@@ -1,12 +1,12 @@
 -- What the order of a table's rows tells of a level: it may be given them, and how they share positions then.
-use Rattle.std.specs.Prelude.{◌≡◌, ◌≢◌, ◌⊎◌, ℕ, zero, suc, ◌+◌, ◌-◌, ◌≤◌, ◌<◌, Bool, true, false, List, [], ◌∷◌, Option, Some, refl}
+use Rattle.std.specs.Prelude.{◌≡◌, ◌⊎◌, ℕ, zero, suc, ◌+◌, ◌-◌, ◌≤◌, ◌<◌, Bool, true, false, List, [], ◌∷◌, Some, refl}
 use Rattle.std.proofs.Common.{◌∙◌, sym, ap, subst, arith, inl, inr}
-use Rattle.std.proofs.lemmas.Bool.{cases_lt, cases_order}
+use Rattle.std.proofs.lemmas.Bool.{cases_lt}
 use Rattle.std.proofs.lemmas.Option.{same_Some}
 use Rattle.level_core.specs.declared.letter.Letter.{Letter}
 use Rattle.level_core.specs.declared.span.Entry.{Entry}
-use Rattle.level_core.specs.Entries.{IsIn, Placed, Rising, StandsAt, one, coord_at, position_of}
-use Rattle.level_core.specs.Kinds.{properties, AreEntries}
+use Rattle.level_core.specs.Entries.{IsIn, Placed, Rising, StandsAt, one, coord_at}
+use Rattle.level_core.specs.Kinds.{properties}
 use Rattle.level_core.specs.Logs.{gap}
 use Rattle.level_core.specs.Meaning.{Meaning}
 use Rattle.level_core.specs.Laws.{Laws}
@@ -14,13 +14,13 @@ use Rattle.level_core.specs.ParentLaws.{Askable}
 use Rattle.level_core.proofs.EntryLaws.{placed_within}
 use Rattle.level_core.proofs.ParentLaws.{segments_apart}
 use Rattle.level_core.proofs.Orders.{coord_position}
-use Rattle.level_rows.specs.Rows.{Rows, begun, place, IsBehind, InOrder, OneEach, MayAppendRows, MayInsertRows, AreTogether}
+use Rattle.level_rows.specs.Rows.{Rows, begun, place, IsBehind, MayAppendRows, MayInsertRows, AreTogether}
 use Rattle.level_rows.specs.Taken.{Asked, Stores}
-use Rattle.level_rows.specs.Stacks.{Column, Rises, rows_in, AreSorted}
-use Rattle.level_rows.specs.Tables.{Agree, Increase, Begins, ShareBy, NeverFall, AllPlaced, AreRowsOf, IsColumnOf, AreColumnsOf}
+use Rattle.level_rows.specs.Stacks.{Column, AreSorted}
+use Rattle.level_rows.specs.Tables.{Agree, Increase, Begins, ShareBy, NeverFall, AllPlaced, AreRowsOf, AreColumnsOf}
 use Rattle.level_rows.proofs.RowLaws.{begun_yes, begun_no, begun_upto, begun_some, place_within, placed}
 use Rattle.level_rows.proofs.Entries.{coord_from, stands_within}
-use Rattle.level_rows.proofs.TableLaws.{agree_sym, agree_trans, agree_less, agree_more, between, after, coords_upto}
+use Rattle.level_rows.proofs.TableLaws.{agree_trans, agree_less, agree_more, between, after, coords_upto}
 
 -- rows that agree above a level and differ there or before rise
 rises : (coords : ℕ → ℕ → ℕ) (order count d i j : ℕ) → Increase coords order count → i < j → j < count → Agree coords d i j → (Agree coords (suc d) i j → ⊥) → coords d i < coords d j
@@ -278,7 +278,7 @@ module _ {L : Type 0} (means : Meaning L) (laws : Laws means) (l : L) (parents p
           let f = coord_from (place_of (suc i)) (rows.coord (suc i)) (means.entries l (one (rows.parent i))) (ap (λ p. coord_at (means.entries l (one p)) (place_of (suc i))) same ∙ has_coord (suc i) h) in
           let low = e.coord in let high = f.coord in
           let k = stands_order 0 (means.segment_of l (one (rows.parent i))).lo (means.segment_of l (one (rows.parent i))).hi e.entry.child.lo f.entry.child.lo e.entry f.entry (means.entries l (one (rows.parent i)))
-              (are_them.properties.ordered ordered) are_them.placed e.stands f.stands (omega (arith, low, high, less)) in
+          (are_them.properties.ordered ordered) are_them.placed e.stands f.stands (omega (arith, low, high, less)) in
           let a = e.at.1 in let b = f.at.0 in
           omega (arith, k, a, b)
       by_coord same (inr near) =
@@ -307,7 +307,7 @@ columns_sorted means coords order count (l ∷ ls) (column ∷ columns) d same u
       let high = are.0.coord (suc i) h in
       record { follows = (let k = coords_upto coords order count d i (suc i) up (omega arith) h (agree i h s) in omega (arith, low, high, k)); apart = λ first. by_unique i h s first (properties (means.kind l)).unique refl }),
   columns_sorted means coords order count ls columns (suc d) (λ i. same i × (column.coord i ≡ column.coord (suc i))) up are.1
-    (λ i h s. agree_more coords d i (suc i) (agree i h s.0) (sym (are.0.coord i (omega (arith, h))) ∙ s.1 ∙ are.0.coord (suc i) h)),
+      (λ i h s. agree_more coords d i (suc i) (agree i h s.0) (sym (are.0.coord i (omega (arith, h))) ∙ s.1 ∙ are.0.coord (suc i) h)),
 )
   where
     by_unique : (i : ℕ) → suc i < count → same i → column.first (suc i) ≡ true → (b : Bool) → (properties (means.kind l)).unique ≡ b → column.coord i + gap (properties (means.kind l)).unique ≤ column.coord (suc i)

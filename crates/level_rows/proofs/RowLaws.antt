@@ -1,10 +1,10 @@
 -- Laws of rows.
-use Rattle.std.specs.Prelude.{◌≡◌, ◌⊎◌, ℕ, zero, suc, ◌+◌, ◌-◌, ◌≤◌, ◌<◌, Bool, true, false, if◌then◌else◌, List, [], ◌∷◌, ◌++◌, length, drop, slice_index, refl}
-use Rattle.std.proofs.Common.{◌∙◌, sym, ap, subst, arith, inl, inr}
+use Rattle.std.specs.Prelude.{◌≡◌, ◌⊎◌, ℕ, zero, suc, ◌+◌, ◌-◌, ◌≤◌, ◌<◌, Bool, true, false, if◌then◌else◌, List, [], ◌∷◌, ◌++◌, refl}
+use Rattle.std.proofs.Common.{sym, ap, subst, arith, inl, inr}
 use Rattle.std.proofs.lemmas.Bool.{cases_lt}
 use Rattle.level_core.specs.Logs.{gap, Rises}
 use Rattle.level_rows.specs.Rows.{Rows, begun, place}
-use Rattle.level_rows.specs.Appending.{UpTo}
+use Rattle.level_rows.proofs.Progress.{UpTo}
 
 pub begun_yes : (rows : Rows) (n : ℕ) → rows.first n ≡ true → begun rows.first (suc n) ≡ begun rows.first n + 1
 begun_yes rows n h = ap (λ b. if b then begun rows.first n + 1 else begun rows.first n) h

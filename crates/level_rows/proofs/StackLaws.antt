@@ -1,5 +1,5 @@
 -- The paths of stacked levels are those that their rows make.
-use Rattle.std.specs.Prelude.{◌≡◌, ◌≢◌, ◌⊎◌, ℕ, suc, ◌+◌, ◌-◌, ◌≤◌, ◌<◌, not, Bool, true, false, if◌then◌else◌, List, [], ◌∷◌, Option, Some, None, refl}
+use Rattle.std.specs.Prelude.{◌≡◌, ◌⊎◌, ℕ, suc, ◌+◌, ◌-◌, ◌≤◌, ◌<◌, not, Bool, true, false, List, [], ◌∷◌, Some, refl}
 use Rattle.std.proofs.Common.{◌∙◌, sym, ap, subst, arith, inl, inr}
 use Rattle.std.proofs.lemmas.Bool.{cases_lt}
 use Rattle.std.proofs.lemmas.Option.{same_Some}
@@ -7,7 +7,7 @@ use Rattle.level_core.specs.declared.letter.Letter.{Letter}
 use Rattle.level_core.specs.declared.letter.Letter.TheVariants.{Dense, Compressed, CompressedGroups, Singleton, SingletonGroups, Hashed}
 use Rattle.level_core.specs.declared.span.Span.{Span}
 use Rattle.level_core.specs.declared.span.Entry.{Entry}
-use Rattle.level_core.specs.Entries.{IsIn, Placed, Distinct, Single, AllBelow, StandsAt, one, span, coord_at, position_of}
+use Rattle.level_core.specs.Entries.{IsIn, StandsAt, one, span}
 use Rattle.level_core.specs.Kinds.{properties, AreEntries}
 use Rattle.level_core.specs.Meaning.{Meaning}
 use Rattle.level_core.specs.Laws.{Laws}
@@ -15,10 +15,10 @@ use Rattle.level_core.specs.ParentLaws.{Askable}
 use Rattle.level_core.proofs.EntryLaws.{placed_within}
 use Rattle.level_core.proofs.ParentLaws.{segments_apart}
 use Rattle.level_core.proofs.GroupLaws.{single_at}
-use Rattle.level_rows.specs.Rows.{Rows, StandsFor, RiseIn}
+use Rattle.level_rows.specs.Rows.{StandsFor}
 use Rattle.level_rows.specs.Taken.{Asked, Stores}
-use Rattle.level_rows.specs.Stacks.{Path, IsPath, coords_of, rows_in, Column, Rises, last_place, last_positions, Stacked, AreChained, AreSorted, MayAsk, AreNested, TellsPaths, StacksTellPaths}
-use Rattle.level_rows.proofs.Entries.{EntryOf, Found, stands_within, coord_in, coord_from, one_entry, found, below_at}
+use Rattle.level_rows.specs.Stacks.{Path, IsPath, coords_of, rows_in, Column, last_place, last_positions, Stacked, AreChained, AreSorted, MayAsk, AreNested, TellsPaths, StacksTellPaths}
+use Rattle.level_rows.proofs.Entries.{Found, stands_within, coord_in, coord_from, one_entry, found, below_at}
 
 -- one level: which rows have their places below an entry
 pub record Below (full : Bool) (size count : ℕ) (parent column place : ℕ → ℕ) (span : Span) (e : Entry) : Type 0 where
@@ -190,9 +190,9 @@ module _ {L : Type 0} (means : Meaning L) (laws : Laws means) (count : ℕ) wher
           let a = ends.0 in
           let b = below_it l column parent parents h.stacked.0 h.within s e h.asked stands in
           h.stacked.1.0.groups is e.child (omega (arith, a)) ends.1 (λ i more first here there.
-            let d = b.down i (omega (arith, more)) here in
-            let f = b.down (suc i) more there in
-            (h.sorted.1.0 i more (h.alike i more (h.those.into i (omega (arith, more)) d.0) (h.those.into (suc i) more f.0), d.1 ∙ sym f.1)).apart first)
+          let d = b.down i (omega (arith, more)) here in
+          let f = b.down (suc i) more there in
+          (h.sorted.1.0 i more (h.alike i more (h.those.into i (omega (arith, more)) d.0) (h.those.into (suc i) more f.0), d.1 ∙ sym f.1)).apart first)
 
   next_here : (l : L) (ls : List L) (column : Column) (columns : List Column) (parent : ℕ → ℕ) (parents : ℕ) (groups : Bool) (s : Span) (begins same : ℕ → Type 0) (e : Entry) (x : ℕ)
       → Here (l ∷ ls) (column ∷ columns) parent parents groups s begins same → StandsAt e.child.lo e (means.entries l s) → e.coord ≡ x
@@ -218,12 +218,11 @@ module _ {L : Type 0} (means : Meaning L) (laws : Laws means) (count : ℕ) wher
   path_is (l ∷ ls) (column ∷ columns) parent parents groups s begins same (x ∷ xs) pos h p =
       let b = below_it l column parent parents h.stacked.0 h.within s p.0 h.asked p.1 in
       let is = p.2 in
-      let less = b.size_is in
-      (
+      let less = b.size_is in (
         λ _. omega (arith, less, is),
         λ full. let k = b.some full in (k.0, k.1, h.those.into k.0 k.1 k.2, k.3 ∙ is),
         path_is ls columns column.place column.positions (not (properties (means.kind l)).unique) p.0.child (λ i. begins i × (column.coord i ≡ x)) (λ i. same i × (column.coord i ≡ column.coord (suc i))) xs pos
-        (next_here l ls column columns parent parents groups s begins same p.0 x h p.1 is) p.3,
+            (next_here l ls column columns parent parents groups s begins same p.0 x h p.1 is) p.3,
       )
 
   -- the entry of a coordinate that the rows make
@@ -316,9 +315,13 @@ module _ {L : Type 0} (means : Meaning L) (laws : Laws means) (count : ℕ) wher
   own_path [] (column ∷ columns) parent parents groups s begins same i h less at = absurd h.stacked
   own_path (l ∷ ls) [] parent parents groups s begins same i h less at = absurd h.stacked
   own_path (l ∷ ls) (column ∷ columns) parent parents groups s begins same i h less at =
-      let e = coord_from (column.place i) (column.coord i) (means.entries l s) (h.stacked.0.stands.has s i h.asked less at) in
-      (e.entry, e.stands, e.coord, own_path ls columns column.place column.positions (not (properties (means.kind l)).unique) e.entry.child (λ j. begins j × (column.coord j ≡ column.coord i)) (λ j. same j × (column.coord j ≡ column.coord (suc j))) i
-      (next_here l ls column columns parent parents groups s begins same e.entry (column.coord i) h e.stands e.coord) less e.at)
+      let e = coord_from (column.place i) (column.coord i) (means.entries l s) (h.stacked.0.stands.has s i h.asked less at) in (
+        e.entry,
+        e.stands,
+        e.coord,
+        own_path ls columns column.place column.positions (not (properties (means.kind l)).unique) e.entry.child (λ j. begins j × (column.coord j ≡ column.coord i)) (λ j. same j × (column.coord j ≡ column.coord (suc j))) i
+            (next_here l ls column columns parent parents groups s begins same e.entry (column.coord i) h e.stands e.coord) less e.at,
+      )
 
   nested : (ls : List L) (columns : List Column) (parent : ℕ → ℕ) (parents : ℕ) (groups : Bool) (s : Span) (begins same : ℕ → Type 0)
       → Here ls columns parent parents groups s begins same → AreNested means ls columns parents s
@@ -328,7 +331,7 @@ module _ {L : Type 0} (means : Meaning L) (laws : Laws means) (count : ℕ) wher
   nested (l ∷ ls) (column ∷ columns) parent parents groups s begins same h = (
     h.asked,
     λ e stands. nested ls columns column.place column.positions (not (properties (means.kind l)).unique) e.child (λ i. begins i × (column.coord i ≡ e.coord)) (λ i. same i × (column.coord i ≡ column.coord (suc i)))
-      (next_here l ls column columns parent parents groups s begins same e e.coord h stands refl),
+        (next_here l ls column columns parent parents groups s begins same e e.coord h stands refl),
   )
 
   top_asked : (ls : List L) (columns : List Column) → Stacked means count ls columns (λ i. 0) 1 → AreChained means false ls → MayAsk means ls 1 (one 0)

@@ -1,17 +1,17 @@
 -- One row's step, and the end: what is appended and given.
-use Rattle.std.specs.Prelude.{◌≡◌, ◌≢◌, ◌⊎◌, ℕ, zero, suc, ◌+◌, ◌-◌, ◌≤◌, ◌<◌, Bool, true, false, if◌then◌else◌, List, [], ◌∷◌, ◌++◌, length, take, drop, slice_index, slice_set, refl}
+use Rattle.std.specs.Prelude.{◌≡◌, ◌⊎◌, ℕ, zero, suc, ◌+◌, ◌-◌, ◌≤◌, ◌<◌, Bool, true, false, if◌then◌else◌, List, [], ◌∷◌, ◌++◌, length, take, drop, slice_index, slice_set, refl}
 use Rattle.std.proofs.Common.{◌∙◌, sym, ap, subst, arith, inl, inr}
 use Rattle.std.proofs.lemmas.Bool.{cases_lt}
 use Rattle.std.proofs.lemmas.List.{drop_all, drop-append-le, length_push, get_or_append_left, get_or_push, length-set}
 use Rattle.level_core.specs.declared.letter.Letter.{Letter}
 use Rattle.level_core.specs.declared.stage.Stage.TheVariants.{Unfinished}
-use Rattle.level_core.specs.Entries.{IsIn, one, span}
+use Rattle.level_core.specs.Entries.{IsIn, one}
 use Rattle.level_core.specs.Kinds.{properties}
-use Rattle.level_core.specs.Logs.{Log, gap, total, NoneFrom, Rises, IsLog, MayGive, MayAppend, MayAppendEdges, MayFinish, segment_in, with_coord, with_edges}
+use Rattle.level_core.specs.Logs.{Log, total, NoneFrom, Rises, IsLog, MayGive, segment_in, with_coord, with_edges}
 use Rattle.level_core.proofs.EdgeLaws.{edges_tell, edges_keep, none_total}
 use Rattle.level_rows.specs.Rows.{Rows, begun, place, IsBehind, InOrder}
-use Rattle.level_rows.specs.Appending.{UpTo, Appended, Given, Filled}
-use Rattle.level_rows.proofs.RowLaws.{begun_yes, begun_no, begun_some, place_within, rises_push, upto_more, upto_push}
+use Rattle.level_rows.proofs.Progress.{UpTo, Appended, Given, Filled}
+use Rattle.level_rows.proofs.RowLaws.{begun_yes, begun_no, place_within, rises_push, upto_more, upto_push}
 
 -- while rows are appended to a level that isn't branchless
 pub record Branching (unique : Bool) (parents n last begin : ℕ) (rows : Rows) (log : Log) : Type 0 where

@@ -1,8 +1,8 @@
 -- The order of a table's rows.
-use Rattle.std.specs.Prelude.{◌≡◌, ◌≢◌, ◌⊎◌, ℕ, zero, suc, ◌+◌, ◌-◌, ◌≤◌, ◌<◌, Bool, true, false, refl}
-use Rattle.std.proofs.Common.{◌∙◌, sym, ap, subst, arith, inl, inr}
+use Rattle.std.specs.Prelude.{◌≡◌, ◌⊎◌, ℕ, zero, suc, ◌+◌, ◌-◌, ◌≤◌, ◌<◌}
+use Rattle.std.proofs.Common.{◌∙◌, sym, subst, arith, inl, inr}
 use Rattle.std.proofs.lemmas.Bool.{cases_lt, cases_order}
-use Rattle.level_rows.specs.Tables.{Agree, IsBefore, Increase, Begins}
+use Rattle.level_rows.specs.Tables.{Agree, IsBefore, Increase}
 
 pub agree_sym : (coords : ℕ → ℕ → ℕ) (n i j : ℕ) → Agree coords n i j → Agree coords n j i
 agree_sym coords n i j a d h = sym (a d h)

@@ -126,3 +126,19 @@ tallied_all rows n last here most all t = along (subst (λ m. Tallying rows m la
   where
     along : Tallying rows rows.count last here most → IsGreatestBelow rows most
     along k = record { upto = k.upto; reached = k.reached }
+
+-- n rows begin at most n positions below a parent
+below_few : (rows : Rows) (p n : ℕ) → begun_below rows p n ≤ n
+below_few rows p zero = omega arith
+below_few rows p (suc n) = by_test (below_few rows p n) (rows.first n && (rows.parent n == p))
+  where
+    by_test : begun_below rows p n ≤ n → (b : Bool) → (if b then begun_below rows p n + 1 else begun_below rows p n) ≤ suc n
+    by_test k true = omega (arith, k)
+    by_test k false = omega (arith, k)
+
+pub greatest_few : (rows : Rows) (most : ℕ) → IsGreatestBelow rows most → most ≤ rows.count
+greatest_few rows most g = by_reached g.reached
+  where
+    by_reached : (most ≡ 0) ⊎ ((i : ℕ) × (i < rows.count) × (begun_below rows (rows.parent i) rows.count ≡ most)) → most ≤ rows.count
+    by_reached (inl none) = omega (arith, none)
+    by_reached (inr some) = let k = below_few rows (rows.parent some.0) rows.count in let at = some.2 in omega (arith, k, at)

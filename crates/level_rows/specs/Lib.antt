@@ -5,3 +5,5 @@ pub mod Stacks
 pub mod Tables
 pub mod Values
 pub mod Growing
+pub mod Filling
+pub mod Draining

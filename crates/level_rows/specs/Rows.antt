@@ -1,6 +1,7 @@
 -- What a level is given: rows, each with a position of the level above and a coordinate. Rows that follow one another may share a
 -- position of the level, which the first of them begins.
-use Rattle.std.specs.Prelude.{◌≡◌, ◌≢◌, ◌⊎◌, ℕ, zero, suc, ◌+◌, ◌-◌, ◌≤◌, ◌<◌, ◌==◌, ◌&&◌, Bool, true, false, if◌then◌else◌, List, slice_index, Some}
+use Rattle.std.specs.Prelude.{◌≡◌, ◌≢◌, ◌⊎◌, ℕ, zero, suc, ◌+◌, ◌-◌, ◌≤◌, ◌<◌, ◌==◌, ◌&&◌}
+use Rattle.std.specs.Prelude.{Bool, true, false, if◌then◌else◌, List, slice_index, Some}
 use Rattle.level_core.specs.declared.letter.Letter.{Letter}
 use Rattle.level_core.specs.declared.span.Span.{Span}
 use Rattle.level_core.specs.declared.span.Entry.{Entry}
@@ -61,7 +62,7 @@ pub record InOrder (unique : Bool) (size parents : ℕ) (rows : Rows) : Type 0 w
   pub begins : 0 < rows.count → rows.first 0 ≡ true
   pub behind : (i : ℕ) → suc i < rows.count → rows.first (suc i) ≡ true → IsBehind unique rows i
   pub again : (i : ℕ) → suc i < rows.count → rows.first (suc i) ≡ false
-    → (rows.parent (suc i) ≡ rows.parent i) × (rows.coord (suc i) ≡ rows.coord i)
+      → (rows.parent (suc i) ≡ rows.parent i) × (rows.coord (suc i) ≡ rows.coord i)
 
 -- each parent has rows, and the first of them alone begins a position
 pub record OneEach (parents : ℕ) (rows : Rows) : Type 0 where
@@ -81,15 +82,18 @@ pub record MayInsertRows (size parents : ℕ) (rows : Rows) : Type 0 where
   pub begins : 0 < rows.count → rows.first 0 ≡ true
   pub above : (i n : ℕ) → i < n → n < rows.count → rows.first n ≡ true → rows.parent i ≡ rows.parent n → rows.coord i < rows.coord n
   pub again : (i : ℕ) → suc i < rows.count → rows.first (suc i) ≡ false
-    → (rows.parent (suc i) ≡ rows.parent i) × (rows.coord (suc i) ≡ rows.coord i)
+      → (rows.parent (suc i) ≡ rows.parent i) × (rows.coord (suc i) ≡ rows.coord i)
 
 -- the level stands for rows that are placed: below a span of parents that is asked, the coordinate of each of its rows stands at
 -- the row's place, a row's place is in the segment of its own parents alone, and nothing else is stored where the level isn't full
-pub record StandsFor (full : Bool) (asked : Span → Type 0) (segment_of : Span → Span) (entries : Span → List Entry) (rows : Rows) (place : ℕ → ℕ) : Type 0 where
-  pub has : (parent : Span) (i : ℕ) → asked parent → i < rows.count → IsIn (rows.parent i) parent → coord_at (entries parent) (place i) ≡ Some (rows.coord i)
+pub record StandsFor (full : Bool) (asked : Span → Type 0) (segment_of : Span → Span) (entries : Span → List Entry)
+    (rows : Rows) (place : ℕ → ℕ) : Type 0 where
+  pub has : (parent : Span) (i : ℕ) → asked parent → i < rows.count → IsIn (rows.parent i) parent
+      → coord_at (entries parent) (place i) ≡ Some (rows.coord i)
   pub alone : (parent : Span) (i : ℕ) → asked parent → i < rows.count → IsIn (place i) (segment_of parent) → IsIn (rows.parent i) parent
-  pub only : full ≡ false → (parent : Span) (pos x : ℕ) → asked parent → IsIn pos (segment_of parent) → coord_at (entries parent) pos ≡ Some x
-    → (i : ℕ) × (i < rows.count) × (place i ≡ pos)
+  pub only : full ≡ false → (parent : Span) (pos x : ℕ) → asked parent → IsIn pos (segment_of parent)
+      → coord_at (entries parent) pos ≡ Some x
+      → (i : ℕ) × (i < rows.count) × (place i ≡ pos)
 
 -- the coordinates of rows in a row rise whose parents are in the span
 abbrev pub RiseIn : Bool → Rows → Span → Type 0

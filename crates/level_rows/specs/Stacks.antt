@@ -14,7 +14,8 @@ abbrev pub Path : {L : Type 0} → Meaning L → List L → Span → List ℕ �
 Path means [] span [] pos = span ≡ one pos
 Path means [] span (x ∷ xs) pos = ⊥
 Path means (l ∷ ls) span [] pos = ⊥
-Path means (l ∷ ls) span (x ∷ xs) pos = (e : Entry) × StandsAt e.child.lo e (means.entries l span) × (e.coord ≡ x) × Path means ls e.child xs pos
+Path means (l ∷ ls) span (x ∷ xs) pos =
+    (e : Entry) × StandsAt e.child.lo e (means.entries l span) × (e.coord ≡ x) × Path means ls e.child xs pos
 
 -- of each row, at a level: the coordinate, whether it begins a position, and its position; and how many positions the level has
 pub record Column : Type 0 where
@@ -33,7 +34,8 @@ Stacked means count [] [] parent parents = Unit {0}
 Stacked means count [] (column ∷ columns) parent parents = ⊥
 Stacked means count (l ∷ ls) [] parent parents = ⊥
 Stacked means count (l ∷ ls) (column ∷ columns) parent parents =
-    Stores means parents column.positions (rows_in count parent column) column.place l × Stacked means count ls columns column.place column.positions
+    Stores means parents column.positions (rows_in count parent column) column.place l
+    × Stacked means count ls columns column.place column.positions
 
 -- a level is branchless exactly where the one above has groups
 abbrev pub AreChained : {L : Type 0} → Meaning L → Bool → List L → Type 0
@@ -88,10 +90,12 @@ MayAsk means (l ∷ ls) parents span = Asked means l parents span
 abbrev pub AreNested : {L : Type 0} → Meaning L → List L → List Column → ℕ → Span → Type 0
 AreNested means [] [] parents span = MayAsk means [] parents span
 AreNested means (l ∷ ls) (column ∷ columns) parents span =
-    Asked means l parents span × ((e : Entry) → StandsAt e.child.lo e (means.entries l span) → AreNested means ls columns column.positions e.child)
+    Asked means l parents span
+    × ((e : Entry) → StandsAt e.child.lo e (means.entries l span) → AreNested means ls columns column.positions e.child)
 AreNested means _ _ parents span = ⊥
 
--- what stacked levels that store rows tell of their paths: below each the span may be asked, each row has its own, they are those that the rows make, each once, and a row has a path's
+-- what stacked levels that store rows tell of their paths: below each the span may be asked, each row has its own, they are those
+-- that the rows make, each once, and a row has a path's
 -- coordinates exactly where its place at the last level is the path's position
 pub record TellsPaths {L : Type 0} (means : Meaning L) (count : ℕ) (levels : List L) (columns : List Column) : Type 0 where
   pub nested : AreNested means levels columns 1 (one 0)
@@ -100,10 +104,14 @@ pub record TellsPaths {L : Type 0} (means : Meaning L) (count : ℕ) (levels : L
   pub there : (xs : List ℕ) → IsPath means count levels columns (λ i. i < count) xs → (pos : ℕ) × Path means levels (one 0) xs pos
   pub once : (xs : List ℕ) (pos other : ℕ) → Path means levels (one 0) xs pos → Path means levels (one 0) xs other → pos ≡ other
   pub within : (xs : List ℕ) (pos : ℕ) → Path means levels (one 0) xs pos → pos < last_positions columns 1
-  pub placed : (xs : List ℕ) (pos i : ℕ) → Path means levels (one 0) xs pos → i < count → coords_of columns i ≡ xs → last_place columns (λ i. 0) i ≡ pos
-  pub back : (xs : List ℕ) (pos i : ℕ) → Path means levels (one 0) xs pos → i < count → last_place columns (λ i. 0) i ≡ pos → coords_of columns i ≡ xs
+  pub placed : (xs : List ℕ) (pos i : ℕ) → Path means levels (one 0) xs pos → i < count
+      → coords_of columns i ≡ xs → last_place columns (λ i. 0) i ≡ pos
+  pub back : (xs : List ℕ) (pos i : ℕ) → Path means levels (one 0) xs pos → i < count
+      → last_place columns (λ i. 0) i ≡ pos → coords_of columns i ≡ xs
 
 -- sorted rows in levels one below another tell their paths
 abbrev pub StacksTellPaths : {L : Type 0} → Meaning L → Type 0
-StacksTellPaths {L} means = (count : ℕ) (levels : List L) (columns : List Column) → Stacked means count levels columns (λ i. 0) 1 → AreChained means false levels
+StacksTellPaths {L} means =
+    (count : ℕ) (levels : List L) (columns : List Column)
+    → Stacked means count levels columns (λ i. 0) 1 → AreChained means false levels
     → AreSorted means count levels columns (λ i. i < count) → TellsPaths means count levels columns

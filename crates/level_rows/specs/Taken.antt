@@ -19,7 +19,7 @@ pub record Stores {L : Type 0} (means : Meaning L) (parents positions : ℕ) (ro
   pub stands : StandsFor (properties (means.kind l)).full (Asked means l parents) (means.segment_of l) (means.entries l) rows place
   pub ends : (p : ℕ) → p + 1 ≡ parents → (means.segment_of l (one p)).hi ≡ positions
   pub groups : (properties (means.kind l)).branchless ≡ true → (span : Span) → span.lo ≤ span.hi → span.hi ≤ parents
-    → RiseIn (properties (means.kind l)).unique rows span → means.allowed l span
+      → RiseIn (properties (means.kind l)).unique rows span → means.allowed l span
 
 -- a level is given rows: it is of the same kind and range, and stores the rows at the places in the list
 pub record Takes {L : Type 0} (means : Meaning L) (parents positions : ℕ) (rows : Rows) (places : List ℕ) (old new : L) : Type 0 where

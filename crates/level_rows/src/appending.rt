@@ -79,7 +79,13 @@ fn close<L: Append>(level: &mut L, at: Cursor, some: bool)
 
 /// Fills a level below so many parents from rows, one position after another. `positions` has the position of the level above
 /// of each row, and then its position at this level. Refused for want of memory alone, and then nothing has changed.
-pub fn append_rows<L: Append, R: SortedRows>(level: &mut L, parents: u64, most: u64, rows: &R, positions: &mut [u64]) -> Result<(), AllocError>
+pub fn append_rows<L: Append, R: SortedRows>(
+    level: &mut L,
+    parents: u64,
+    most: u64,
+    rows: &R,
+    positions: &mut [u64],
+) -> Result<(), AllocError>
     requires rows { MayAppendRows (L.meaning.kind level.old) (L.meaning.size level.old) parents (rows_at (R.keys rows.now) positions.old) }
     requires many { length positions.old ≡ (R.keys rows.now).count }
     requires fresh { L.meaning.log level.old ≡ nothing_reserved }

@@ -1,4 +1,4 @@
-ghost use Rattle.std.specs.Prelude.{◌≡◌, ◌<◌, ◌+◌, ◌-◌, ◌^◌, ◌==◌, max, if◌then◌else◌, length};
+ghost use Rattle.std.specs.Prelude.{◌≡◌, ◌≤◌, ◌<◌, ◌+◌, ◌-◌, ◌^◌, ◌==◌, max, if◌then◌else◌, length};
 ghost use Rattle.level_rows.specs.Rows.{rows_at, begun, AreTogether, IsGreatestBelow};
 
 use crate::rows::SortedRows;
@@ -14,6 +14,14 @@ pub fn positions_begun<R: SortedRows>(rows: &R) -> u64
         }
     }
     begun
+}
+
+/// How many positions stand in a list: memory has no room for many.
+fn length_of(positions: &[u64]) -> usize
+    ensures is { result ≡ length positions.now }
+    ensures few { result ≤ 2 ^ 62 }
+{
+    positions.len()
 }
 
 /// The last row's parent, how many positions rows begin below it, and the greatest number that they begin below one parent.
@@ -45,14 +53,15 @@ fn with_row(at: Tally, parent: u64, begins: bool) -> Tally
 pub fn greatest_below<R: SortedRows>(rows: &R, parents: &[u64]) -> u64
     requires many { length parents.now ≡ (R.keys rows.now).count }
     requires together { AreTogether (rows_at (R.keys rows.now) parents.now) }
-    ensures { IsGreatestBelow (rows_at (R.keys rows.now) parents.now) result }
+    ensures greatest { IsGreatestBelow (rows_at (R.keys rows.now) parents.now) result }
+    ensures few { result ≤ 2 ^ 62 }
 {
     let mut at = Tally {
         last: 0,
         here: 0,
         most: 0,
     };
-    for row in 0..parents.len() {
+    for row in 0..length_of(parents) {
         at = with_row(at, parents[row], rows.begins(row));
     }
     at.most

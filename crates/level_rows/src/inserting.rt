@@ -12,7 +12,8 @@ use std::alloc::AllocError;
 /// Inserts a row's coordinate if it begins a position, and answers the row's position: else that of the row before.
 fn insert_first<L: Insert>(level: &mut L, parent: u64, x: u64, begins: bool, before: u64) -> u64
     requires parent { begins ≡ true → L.meaning.allowed level.old (one parent) }
-    requires may { begins ≡ true → MayInsert (L.meaning.kind level.old) (L.meaning.size level.old) (L.meaning.segment_of level.old (one parent))
+    requires may { begins ≡ true → MayInsert (L.meaning.kind level.old) (L.meaning.size level.old)
+        (L.meaning.segment_of level.old (one parent))
         (L.meaning.entries level.old (one parent)) x }
     ensures first { begins ≡ true → L.meaning.inserted level.old parent x result level.new }
     ensures again { begins ≡ false → (level.new ≡ level.old) × (result ≡ before) }
@@ -28,14 +29,21 @@ fn insert_first<L: Insert>(level: &mut L, parent: u64, x: u64, begins: bool, bef
 /// most `most` positions below each parent.
 /// `positions` has the position of the level above of each row, and then its position at this level. Refused for want of
 /// memory alone, and then nothing has changed.
-pub fn insert_rows<L: Insert, R: SortedRows>(level: &mut L, parents: u64, most: u64, rows: &R, positions: &mut [u64]) -> Result<(), AllocError>
+pub fn insert_rows<L: Insert, R: SortedRows>(
+    level: &mut L,
+    parents: u64,
+    most: u64,
+    rows: &R,
+    positions: &mut [u64],
+) -> Result<(), AllocError>
     requires rows { MayInsertRows (L.meaning.size level.old) parents (rows_at (R.keys rows.now) positions.old) }
     requires many { length positions.old ≡ (R.keys rows.now).count }
     requires may { MayPrepare (L.meaning.kind level.old) (L.meaning.width level.old) most }
     requires most { (properties (L.meaning.kind level.old)).full ≡ false → (p : ℕ) → p < parents
         → begun_below (rows_at (R.keys rows.now) positions.old) p (R.keys rows.now).count ≤ most }
     requires within { positions_for (L.meaning.kind level.old) (L.meaning.size level.old) parents most ≤ greatest_position_count }
-    ensures ok { OnOk result (InsertsRows L.meaning parents most (rows_at (R.keys rows.now) positions.old) positions.new level.old level.new) }
+    ensures ok { OnOk result (InsertsRows L.meaning parents most (rows_at (R.keys rows.now) positions.old) positions.new
+        level.old level.new) }
     ensures err { OnErr result ((level.new ≡ level.old) × (positions.new ≡ positions.old)) }
 {
     level.tell_rules();
@@ -43,7 +51,13 @@ pub fn insert_rows<L: Insert, R: SortedRows>(level: &mut L, parents: u64, most: 
     let mut at = 0;
     let mut done = 0;
     while done < positions.len() {
-        at = insert_first(level, positions[done], rows.coord(done), rows.begins(done), at);
+        at = insert_first(
+            level,
+            positions[done],
+            rows.coord(done),
+            rows.begins(done),
+            at,
+        );
         positions[done] = at;
         done += 1;
     }

@@ -4,6 +4,8 @@
 
 mod appending;
 mod counting;
+mod emitting;
+mod filling;
 mod inserting;
 mod laws;
 mod rows;
@@ -11,6 +13,8 @@ mod values;
 
 pub use appending::append_rows;
 pub use counting::{greatest_below, positions_begun};
+pub use emitting::{DrainSite, emit_append_rows};
+pub use filling::{FillRefusal, fill_level};
 pub use inserting::insert_rows;
 pub use laws::{levels_are_added, stacked_levels_tell_paths};
 pub use rows::SortedRows;

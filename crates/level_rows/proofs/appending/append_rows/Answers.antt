@@ -1,12 +1,8 @@
-use Rattle.std.specs.Prelude.{◌≡◌, ◌≤◌, ◌<◌, ◌+◌, ◌-◌, ℕ, zero, suc, length, slice_index, refl, nat_lt}
-use Rattle.std.proofs.Common.{◌∙◌, sym, ap, subst, arith}
-use Rattle.limits.specs.Limits.{greatest_position_count}
-use Rattle.level_core.specs.Meaning.{ChangesLog, Finishes}
-use Rattle.level_rows.specs.Rows.{Rows, rows_at, begun}
-use Rattle.level_rows.specs.Appending.{closed_log}
+use Rattle.std.specs.Prelude.{◌≡◌, ◌≤◌, ◌<◌, ℕ, suc, length, slice_index, refl, nat_lt}
+use Rattle.std.proofs.Common.{ap, subst, arith}
+use Rattle.level_rows.specs.Rows.{rows_at}
 use Rattle.level_rows.proofs.RowLaws.{begun_some}
-use Rattle.level_rows.proofs.AppendLoop.{Filling, Turned, begins, next_is, may_turn_to, turned_to, may_append, is_spare, is_room, count_some, filled_more, may_close, may_finish_it, appends}
-use Rattle.level_rows.proofs.appending.append_rows.Given as given
+use Rattle.level_rows.proofs.AppendLoop.{Filling, begins, next_is, may_turn_to, turned_to, may_append, is_spare, is_room, count_some, filled_more, may_close, may_finish_it, appends}
 use Rattle.level_rows.proofs.appending.append_rows.Goals as goal
 
 pub loop-done-init : goal.loop-done-init
@@ -78,4 +74,3 @@ returns-clause-ok g c =
     let all : c.loop-done.done ≡ (g.R.SortedRows.keys c.args.rows.now).count = ended c.loop-done.done (length c.loop-done.positions) (g.R.SortedRows.keys c.args.rows.now).count c.loop-done-test.false c.loop-done.invariant.upto c.loop-done.invariant.placing.many in
     let full = subst (λ n. Filling g.L.LevelKind.meaning c.args.parents n (g.L.Append.spare c.loop-done.level) c.loop-done.at (rows_at (g.R.SortedRows.keys c.args.rows.now) c.args.positions.now) c.loop-done.positions c.args.level.now c.loop-done.level) all c.loop-done.invariant in
     appends g.L.LevelKind.meaning g.met.L.LevelKind.laws c.args.parents (rows_at (g.R.SortedRows.keys c.args.rows.now) c.args.positions.now) c.args.level.now c.requires.rows (g.L.Append.spare c.loop-done.level) c.loop-done.at c.loop-done.positions c.loop-done.level full (nat_lt 0 c.loop-done.done) c.close.new.level c.finish.new.self (ap (nat_lt 0) all) c.close.ensures.log c.close.ensures.keeps c.finish.ensures
-

@@ -1,5 +1,5 @@
-use Rattle.std.specs.Prelude.{◌≡◌, ◌≤◌, ◌<◌, ◌+◌, ◌-◌, ℕ, length, slice_index, refl}
-use Rattle.std.proofs.Common.{◌∙◌, sym, ap, subst, arith}
+use Rattle.std.specs.Prelude.{◌≡◌, ◌≤◌, ◌<◌, ℕ, length, slice_index, refl}
+use Rattle.std.proofs.Common.{subst, arith}
 use Rattle.level_rows.specs.Rows.{rows_at}
 use Rattle.level_rows.proofs.InsertLoop.{Inserting, begins, next_is, allowed_next, may_insert_next, inserts_next, inserts}
 use Rattle.level_rows.proofs.inserting.insert_rows.Goals as goal

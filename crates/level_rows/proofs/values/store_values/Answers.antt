@@ -1,7 +1,7 @@
-use Rattle.std.specs.Prelude.{◌≡◌, ◌+◌, ◌<◌, ◌≤◌, length, slice_index, slice_set}
-use Rattle.std.proofs.Common.{◌∙◌, sym, ap, subst, arith}
+use Rattle.std.specs.Prelude.{◌≡◌, ◌+◌, ◌<◌, slice_index, slice_set}
+use Rattle.std.proofs.Common.{sym, subst, arith}
 use Rattle.level_rows.specs.Values.{StoresValues}
-use Rattle.level_rows.proofs.ValueLaws.{none_stored, one_stored}
+use Rattle.level_rows.proofs.ValueLaws.{one_stored}
 use Rattle.level_rows.proofs.values.store_values.Goals as goal
 
 pub loop-row-preserved : goal.loop-row-preserved

@@ -1,18 +1,15 @@
 -- How far the rows are appended, after each step of the loop.
-use Rattle.std.specs.Prelude.{◌≡◌, ◌≢◌, ◌⊎◌, ℕ, zero, suc, ◌+◌, ◌-◌, ◌≤◌, ◌<◌, ◌==◌, not, Bool, true, false, if◌then◌else◌, List, [], ◌∷◌, ◌++◌, length, drop, replicate, slice_index, slice_set, refl}
-use Rattle.std.proofs.Common.{◌∙◌, sym, ap, subst, arith, inl, inr}
-use Rattle.std.proofs.lemmas.Bool.{cases_lt}
+use Rattle.std.specs.Prelude.{◌≡◌, ◌≢◌, ℕ, zero, suc, ◌+◌, ◌-◌, ◌≤◌, ◌<◌, ◌==◌, Bool, true, false, if◌then◌else◌, [], length, drop, replicate, slice_set, refl}
+use Rattle.std.proofs.Common.{◌∙◌, sym, ap, subst, arith, inl}
 use Rattle.std.proofs.lemmas.Bool.Decides.{nat_tests}
 use Rattle.std.proofs.lemmas.List.{length-replicate}
 use Rattle.level_core.specs.declared.letter.Letter.{Letter}
-use Rattle.level_core.specs.declared.stage.Stage.TheVariants.{Unfinished}
 use Rattle.level_core.specs.Kinds.{properties}
-use Rattle.level_core.specs.Meaning.{Meaning, ChangesLog}
 use Rattle.level_core.specs.Logs.{Log, total, ungiven, Rises, IsLog, MayAppend, MayAppendEdges, MayFinish, with_parents, with_coord, with_edges, nothing_reserved}
-use Rattle.level_rows.specs.Rows.{Rows, begun, place, InOrder, MayAppendRows}
-use Rattle.level_rows.specs.Appending.{Cursor, Appended, Given, Progress, Filled, Placing, turned, turned_log, added, added_log, closed_log}
-use Rattle.level_rows.proofs.RowLaws.{begun_yes, begun_no}
-use Rattle.level_rows.proofs.Steps.{Branching, parents_rise, may_give, may_come, given_edges, row_first, row_again, all_filled, none_filled, appended_more, appended_same}
+use Rattle.level_rows.specs.Rows.{Rows, InOrder, MayAppendRows}
+use Rattle.level_rows.specs.Appending.{Cursor, turned, turned_log, added_log, closed_log}
+use Rattle.level_rows.proofs.Progress.{Progress, Filled}
+use Rattle.level_rows.proofs.Steps.{Branching, parents_rise, may_come, given_edges, row_first, row_again, all_filled, none_filled, appended_more, appended_same}
 use Rattle.level_rows.proofs.Branchless.{branchless_filled}
 
 apart : true ≡ false → ⊥
@@ -108,15 +105,15 @@ turns letter size parents n at rows log o h behind count p tells = by_test (at.l
     away : at.last ≢ rows.parent n → (with_edges letter at.last at.begin at.count log ≡ turned_log letter at (rows.parent n) log) → Progress letter parents n (rows.parent n) at.count rows (with_edges letter at.last at.begin at.count log)
     away other is = by_kind letter
         (λ b.
-            let within = o.order.within n h in
-            let more : at.last < rows.parent n = omega (arith, behind, other) in
-            let begins = o.order.begins (omega (arith, h)) in
-            subst (λ k. Progress letter parents n (rows.parent n) k rows (with_edges letter at.last at.begin k log)) (sym count)
-            (progress letter parents n (rows.parent n) (length log.coords) rows (with_edges letter at.last at.begin (length log.coords) log) b
-            (given_edges letter (properties letter).unique parents n at.last at.begin (rows.parent n) rows log b begins (omega (arith, more, within)) more (branching letter parents n at.last at.begin rows log b p)
-            (subst (λ k. IsLog (with_edges letter at.last at.begin k log)) count (subst IsLog (sym is) (tells b))))))
+        let within = o.order.within n h in
+        let more : at.last < rows.parent n = omega (arith, behind, other) in
+        let begins = o.order.begins (omega (arith, h)) in
+        subst (λ k. Progress letter parents n (rows.parent n) k rows (with_edges letter at.last at.begin k log)) (sym count)
+        (progress letter parents n (rows.parent n) (length log.coords) rows (with_edges letter at.last at.begin (length log.coords) log) b
+        (given_edges letter (properties letter).unique parents n at.last at.begin (rows.parent n) rows log b begins (omega (arith, more, within)) more (branching letter parents n at.last at.begin rows log b p)
+        (subst (λ k. IsLog (with_edges letter at.last at.begin k log)) count (subst IsLog (sym is) (tells b))))))
         (λ b. subst (Progress letter parents n (rows.parent n) at.count rows) (sym (same_edges letter at.last at.begin at.count log b))
-            (record { stage = p.stage; reserved = p.reserved; appended = p.appended; given = λ no_ones. absurd (apart (sym b ∙ no_ones)); ones = p.ones }))
+        (record { stage = p.stage; reserved = p.reserved; appended = p.appended; given = λ no_ones. absurd (apart (sym b ∙ no_ones)); ones = p.ones }))
 
     by_test : (b : Bool) → (at.last == rows.parent n) ≡ b → Progress letter parents n (rows.parent n) (turned at (rows.parent n)).begin rows (turned_log letter at (rows.parent n) log)
     by_test true is =
@@ -133,6 +130,13 @@ pub turned_count : (at : Cursor) (next : ℕ) → (turned at next).count ≡ at.
 turned_count at next = by_test (at.last == next)
   where
     by_test : (b : Bool) → (if b then at else record { last = next; begin = at.count; count = at.count }).count ≡ at.count
+    by_test true = refl
+    by_test false = refl
+
+pub turned_begin : (at : Cursor) (next : ℕ) → (turned at next).begin ≡ (if at.last == next then at.begin else at.count)
+turned_begin at next = by_test (at.last == next)
+  where
+    by_test : (b : Bool) → (if b then at else record { last = next; begin = at.count; count = at.count }).begin ≡ (if b then at.begin else at.count)
     by_test true = refl
     by_test false = refl
 
@@ -169,27 +173,27 @@ adds letter size parents n begin rows log o h p tells = by_first (rows.first n) 
     first : rows.first n ≡ true → (with_coord (rows.coord n) log ≡ added_log (rows.first n) (rows.coord n) log) → Progress letter parents (suc n) (rows.parent n) begin rows (with_coord (rows.coord n) log)
     first is log_is = by_kind letter
         (λ b. progress letter parents (suc n) (rows.parent n) begin rows (with_coord (rows.coord n) log) b
-            (row_first (properties letter).unique size parents n (rows.parent n) begin rows log o.order h refl is (branching letter parents n (rows.parent n) begin rows log b p) (subst IsLog (sym log_is) (tells b))))
+        (row_first (properties letter).unique size parents n (rows.parent n) begin rows log o.order h refl is (branching letter parents n (rows.parent n) begin rows log b p) (subst IsLog (sym log_is) (tells b))))
         (λ b. record {
-            stage = p.stage;
-            reserved = p.reserved;
-            appended = appended_more n rows log.coords (o.order.begins (omega (arith, h))) is p.appended;
-            given = λ k. absurd (apart (sym b ∙ k));
-            ones = p.ones;
-          })
+          stage = p.stage;
+          reserved = p.reserved;
+          appended = appended_more n rows log.coords (o.order.begins (omega (arith, h))) is p.appended;
+          given = λ k. absurd (apart (sym b ∙ k));
+          ones = p.ones;
+        })
 
     again : rows.first n ≡ false → (m : ℕ) → n ≡ m → Progress letter parents (suc n) (rows.parent n) begin rows log
     again is zero at = absurd (apart (sym (o.order.begins (omega (arith, h))) ∙ sym (ap rows.first at) ∙ is))
     again is (suc m) at = by_kind letter
         (λ b. progress letter parents (suc n) (rows.parent n) begin rows log b
-            (row_again (properties letter).unique size parents n (rows.parent n) begin rows log o.order h refl is (branching letter parents n (rows.parent n) begin rows log b p)))
+        (row_again (properties letter).unique size parents n (rows.parent n) begin rows log o.order h refl is (branching letter parents n (rows.parent n) begin rows log b p)))
         (λ b. record {
-            stage = p.stage;
-            reserved = p.reserved;
-            appended = appended_same n m rows log.coords at is (ap rows.coord at ∙ (o.order.again m (omega (arith, h, at)) (sym (ap rows.first at) ∙ is)).1) p.appended;
-            given = λ k. absurd (apart (sym b ∙ k));
-            ones = p.ones;
-          })
+          stage = p.stage;
+          reserved = p.reserved;
+          appended = appended_same n m rows log.coords at is (ap rows.coord at ∙ (o.order.again m (omega (arith, h, at)) (sym (ap rows.first at) ∙ is)).1) p.appended;
+          given = λ k. absurd (apart (sym b ∙ k));
+          ones = p.ones;
+        })
 
     by_first : (b : Bool) → rows.first n ≡ b → Progress letter parents (suc n) (rows.parent n) begin rows (added_log (rows.first n) (rows.coord n) log)
     by_first true is =
@@ -211,14 +215,14 @@ fills letter size parents at some rows log o last some_is count p tells = by_cas
         let within = o.order.within i (omega (arith, more)) in
         by_kind letter
         (λ b.
-            let then_is = subst (λ k. IsLog (with_edges letter at.last at.begin k log)) count (tells is b) in
-            let coords = turned_coords letter (record { last = at.last; begin = at.begin; count = length log.coords }) (at.last + 1) log in
-            let branches = branching letter parents rows.count at.last at.begin rows log b p in
-            let next = given_edges letter (properties letter).unique parents rows.count at.last at.begin (at.last + 1) rows log b (o.order.begins (omega (arith, more))) (omega (arith, at_last, within)) (omega arith) branches then_is in
-            subst (λ k. Filled parents rows (with_edges letter at.last at.begin k log)) (sym count)
-            (all_filled (properties letter).unique parents (at.last + 1) (length log.coords) rows (with_edges letter at.last at.begin (length log.coords) log)
-            (λ j h. let u = (p.given b).upto j h in omega (arith, u))
-            (ap length (sym (same_coords b))) next))
+        let then_is = subst (λ k. IsLog (with_edges letter at.last at.begin k log)) count (tells is b) in
+        let coords = turned_coords letter (record { last = at.last; begin = at.begin; count = length log.coords }) (at.last + 1) log in
+        let branches = branching letter parents rows.count at.last at.begin rows log b p in
+        let next = given_edges letter (properties letter).unique parents rows.count at.last at.begin (at.last + 1) rows log b (o.order.begins (omega (arith, more))) (omega (arith, at_last, within)) (omega arith) branches then_is in
+        subst (λ k. Filled parents rows (with_edges letter at.last at.begin k log)) (sym count)
+        (all_filled (properties letter).unique parents (at.last + 1) (length log.coords) rows (with_edges letter at.last at.begin (length log.coords) log)
+        (λ j h. let u = (p.given b).upto j h in omega (arith, u))
+        (ap length (sym (same_coords b))) next))
         (λ b. subst (Filled parents rows) (sym (same_edges letter at.last at.begin at.count log b)) (branchless_filled parents rows log (o.each b) o.order p.stage (p.ones b) p.appended))
       where
         same_coords : (properties letter).branchless ≡ false → (with_edges letter at.last at.begin (length log.coords) log).coords ≡ log.coords
