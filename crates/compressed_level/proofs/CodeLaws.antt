@@ -1,8 +1,8 @@
 -- Lemmas about what specs/CodeLaws.antt defines.
 use Rattle.std.specs.Prelude.{◌≡◌, ◌≢◌, ℕ, ◌+◌, ◌-◌, ◌≤◌, ◌<◌, ◌^◌, nat_lt, Bool, true, false, if◌then◌else◌, List, [], ◌∷◌, ◌++◌, length, take, replicate, slice_get, slice_set, Some, refl}
-use Rattle.std.proofs.Common.{◌∙◌, sym, ap, subst, arith}
+use Rattle.std.proofs.Common.{◌∙◌, sym, ap, arith}
 use Rattle.std.proofs.lemmas.Bool.Decides.{nat_tests}
-use Rattle.std.proofs.lemmas.List.{append-nil, length-append}
+use Rattle.std.proofs.lemmas.List.{append-nil}
 use Rattle.limits.specs.Limits.{greatest_position_count}
 use Rattle.limits.proofs.Limits.{positions_are_small}
 use Rattle.kernel_code.specs.declared.syntax.Arr.{Arr}
@@ -21,7 +21,7 @@ use Rattle.level_core.specs.declared.span.Span.{Span}
 use Rattle.level_core.specs.declared.span.Entry.{Entry}
 use Rattle.level_core.specs.declared.stage.Stage.TheVariants.{Unfinished, Finished}
 use Rattle.level_core.specs.Logs.{Log, total, with_parents, with_coord, with_edges, CodeMayReserve, MayAppend, MayAppendEdges}
-use Rattle.level_core.specs.Fragments.{AreBelow, ValuesAre, IsOutside, Refusal, Reads, Writes, Grows, RefusedWithin, SpanLeft, PassesLimit, child_turns, turns_of}
+use Rattle.level_core.specs.Fragments.{AreBelow, ValuesAre, IsOutside, Reads, Writes, Grows, RefusedWithin, SpanLeft, PassesLimit, child_turns, turns_of}
 use Rattle.level_core.specs.FragmentLaws.{two_code}
 use Rattle.level_core.proofs.FragmentLaws.{outside_apart, argument_is, span_set}
 use Rattle.kernel_code.proofs.Words.{word_is, sum_is, difference_is, less_yes, less_no}

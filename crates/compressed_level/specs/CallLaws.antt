@@ -2,10 +2,9 @@
 use Rattle.std.specs.Prelude.{◌≡◌, ℕ, ◌+◌, ◌≤◌, ◌<◌, ◌^◌, Bool, List, length, slice_get, Some}
 use Rattle.limits.specs.Limits.{greatest_position_count}
 use Rattle.level_core.specs.declared.span.Span.{Span}
-use Rattle.level_core.specs.declared.stage.Stage.{Stage}
 use Rattle.level_core.specs.declared.stage.Stage.TheVariants.{Unfinished}
 use Rattle.level_core.specs.Logs.{total, MayAppendEdges, MayFinish}
-use Rattle.compressed_level.specs.Compressed.{CompressedLevel, letter_of, IsStored, log_in, stored, KeepsRules}
+use Rattle.compressed_level.specs.Compressed.{letter_of, IsStored, log_in, stored, KeepsRules}
 
 -- what has to be known before the number of a parent's positions is stored
 pub record Giving (size : ℕ) (unique : Bool) (ends coords : List ℕ) (next spare parent begin end : ℕ) : Type 0 where

@@ -1,5 +1,5 @@
 -- Sums put in the place of numbers, one after another.
-use Rattle.std.specs.Prelude.{◌≡◌, ℕ, ◌+◌, List, ◌++◌, take, drop}
+use Rattle.std.specs.Prelude.{◌≡◌, ℕ, List, ◌++◌, take, drop}
 use Rattle.level_core.specs.Logs.{total, running}
 
 -- the first i numbers are sums already

@@ -1,20 +1,19 @@
 -- Lemmas about what specs/Codes.antt defines.
 use Rattle.std.specs.Prelude.{◌≡◌, ℕ, ◌+◌, ◌-◌, ◌≤◌, ◌<◌, ◌^◌, nat_le, true, false, List, [], ◌∷◌, ◌++◌, length, Some, slice_get, slice_index_or, refl}
-use Rattle.std.proofs.Common.{◌∙◌, sym, ap, subst, arith}
+use Rattle.std.proofs.Common.{◌∙◌, sym, subst, arith}
 use Rattle.std.proofs.lemmas.Option.{slice_get-get_or}
 use Rattle.std.proofs.lemmas.Bool.Decides.{nat_tests}
 use Rattle.limits.specs.Limits.{greatest_position_count}
 use Rattle.limits.proofs.Limits.{positions_are_small}
 use Rattle.kernel_code.specs.declared.syntax.Arr.TheVariants.{Coordinates}
 use Rattle.kernel_code.specs.declared.syntax.LoopKind.TheVariants.{Skip}
-use Rattle.kernel_code.specs.declared.syntax.Op.TheVariants.{Add}
-use Rattle.kernel_code.specs.declared.syntax.KExpr.{KExpr, Num, At, Bin}
+use Rattle.kernel_code.specs.declared.syntax.KExpr.{KExpr, Num, At}
 use Rattle.kernel_code.specs.declared.syntax.KStmt.{Push}
 use Rattle.kernel_code.proofs.ArrayNames.{same_arr_self}
 use Rattle.kernel_code.specs.Meaning.{Setting, State, value, set_array}
 use Rattle.kernel_code.proofs.Does.{does_push, does_nothing}
 use Rattle.kernel_code.specs.Keeps.{EveryArray, no_turns}
-use Rattle.kernel_code.proofs.Keeps.{mentions_at, mentions_bin, this_array, other_array}
+use Rattle.kernel_code.proofs.Keeps.{mentions_at, this_array, other_array}
 use Rattle.level_core.specs.declared.span.Span.{Span}
 use Rattle.level_core.specs.declared.span.Entry.{Entry}
 use Rattle.lists.proofs.Tests.{within_tested}

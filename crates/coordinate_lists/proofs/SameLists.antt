@@ -1,10 +1,10 @@
 -- Lists of coordinates, and of numbers of positions, that tell the same below each parent are the same.
-use Rattle.std.specs.Prelude.{◌≡◌, ℕ, zero, suc, ◌+◌, ◌-◌, ◌≤◌, ◌<◌, List, [], ◌∷◌, length, take, slice_get, slice_index, Some}
-use Rattle.std.proofs.Common.{◌∙◌, sym, ap, subst, arith, inl, inr, ◌⊎◌}
+use Rattle.std.specs.Prelude.{◌≡◌, ℕ, zero, suc, ◌+◌, ◌-◌, ◌≤◌, ◌<◌, List, [], ◌∷◌, length, take, slice_get, slice_index}
+use Rattle.std.proofs.Common.{◌∙◌, sym, ap, arith, inl, inr, ◌⊎◌}
 use Rattle.std.proofs.lemmas.Bool.{cases_lt}
 use Rattle.std.proofs.lemmas.List.{ext_get_or}
 use Rattle.std.proofs.lemmas.Option.{slice_get-get_or, same_Some}
-use Rattle.level_core.specs.Entries.{one, span, IsIn}
+use Rattle.level_core.specs.Entries.{one, IsIn}
 use Rattle.level_core.specs.Logs.{total, segment_in}
 
 -- lists of one length with the same words are the same

@@ -5,9 +5,8 @@ use Rattle.std.proofs.Math.Nat.{mul-le-mul_left, mul-le-mul_right}
 use Rattle.std.proofs.lemmas.Bool.Decides.{nat_tests, eqb_tells}
 use Rattle.limits.specs.Limits.{greatest_position_count}
 use Rattle.limits.proofs.Limits.{positions_are_small}
-use Rattle.kernel_code.specs.declared.syntax.Arr.{Arr}
 use Rattle.kernel_code.specs.declared.syntax.Arr.TheVariants.{Coordinates, Width as WidthArray}
-use Rattle.kernel_code.specs.declared.syntax.Op.TheVariants.{Add, Mul}
+use Rattle.kernel_code.specs.declared.syntax.Op.TheVariants.{Mul}
 use Rattle.kernel_code.specs.declared.syntax.KExpr.{KExpr, Num, Var, At, Bin, Min, Width}
 use Rattle.kernel_code.specs.declared.syntax.KStmt.{Set, Extend}
 use Rattle.kernel_code.specs.Arrays.{may_write, may_have, word_count}
@@ -27,7 +26,7 @@ use Rattle.level_core.specs.Codes.{HoldsPrepared}
 use Rattle.level_core.specs.Entries.{one, IsIn, StandsAt, coord_at}
 use Rattle.level_core.specs.Fragments.{AreBelow, ValuesAre, IsOutside, Reads, Grows, RefusedWithin, PassesLimitWithin, SpanLeft, OptionLeft}
 use Rattle.level_core.proofs.FragmentLaws.{position_set, outside_apart, argument_is, below_kept, span_set, some_set, none_set}
-use Rattle.kernel_code.proofs.Words.{product_is, sum_is}
+use Rattle.kernel_code.proofs.Words.{product_is}
 use Rattle.level_core.specs.FragmentLaws.{one_code, two_code}
 use Rattle.hashed_level.specs.Slots.{empty_slot}
 use Rattle.hashed_level.specs.SlotLaws.{coord_none, coord_some}

@@ -26,7 +26,7 @@ use Rattle.level_core.specs.FragmentLaws.{one_code}
 use Rattle.hashed_level.specs.Slots.{empty_slot, place, Stops, Passes, FirstEmpty}
 use Rattle.hashed_level.specs.SearchLaws.{place_inside}
 use Rattle.hashed_level.proofs.SearchLaws.{place_next, place_first, passes_more, not_there, found_filled, nowhere}
-use Rattle.hashed_level.specs.Hashed.{Hashed, block_width, base_of, width_words, width_or_two, Holds, IsAllowed, KeepsRules, segment_of, entries_of, with_coordinate, meaning}
+use Rattle.hashed_level.specs.Hashed.{Hashed, block_width, base_of, width_words, width_or_two, Holds, IsAllowed, segment_of, entries_of, with_coordinate, meaning}
 use Rattle.hashed_level.specs.Laws.{block_within, block_small, inserted_keeps}
 use Rattle.hashed_level.proofs.Laws.{stops_first, never_passes}
 use Rattle.hashed_level.specs.Code.{width_word, base_word, wrapped_word, slot_word, filled_test, other_test, more_test, search_test, search_step, search_code, found_test, found_code, locate_code, insert_code}

@@ -1,13 +1,13 @@
 -- Inserting increasing coordinates keeps the order in a block, at levels of any kind.
-use Rattle.std.specs.Prelude.{◌≡◌, ◌≢◌, ℕ, ◌+◌, ◌≤◌, ◌<◌, nat_le, nat_lt, ◌==◌, ◌&&◌, Bool, true, false, if◌then◌else◌, List, [], ◌∷◌, Option, Some, None, refl}
+use Rattle.std.specs.Prelude.{◌≡◌, ◌≢◌, ℕ, ◌≤◌, ◌<◌, nat_le, nat_lt, ◌==◌, ◌&&◌, Bool, true, false, if◌then◌else◌, List, [], ◌∷◌, Option, Some, None, refl}
 use Rattle.std.proofs.Common.{◌∙◌, sym, ap, subst, arith, inl, inr}
 use Rattle.std.proofs.lemmas.Bool.Decides.{nat_tests, eqb_tells}
 use Rattle.level_core.specs.Entries.{Span, Entry, Placed, Lacks, Distinct, Single, FirstFree, Gains, one, coord_at, position_of, sought_at}
-use Rattle.level_core.specs.Kinds.{Letter, Dense, Compressed, CompressedGroups, Singleton, SingletonGroups, Hashed, properties, AreEntries}
-use Rattle.level_core.specs.Meaning.{Meaning, Prepares, Inserts}
+use Rattle.level_core.specs.Kinds.{Letter, Dense, Compressed, CompressedGroups, Singleton, SingletonGroups, Hashed, properties}
+use Rattle.level_core.specs.Meaning.{Meaning}
 use Rattle.level_core.specs.Laws.{Laws}
-use Rattle.level_core.specs.Orders.{IsAfterSmaller, InOrder, AllSmaller, KeepsOrder}
-use Rattle.level_core.proofs.EntryLaws.{coord_here, coord_past, placed_within}
+use Rattle.level_core.specs.Orders.{IsAfterSmaller, KeepsOrder}
+use Rattle.level_core.proofs.EntryLaws.{coord_here, coord_past}
 
 none_some : {A : Type 0} (q : ℕ) → None ≡ Some q → A
 none_some q h = absurd (apart h)

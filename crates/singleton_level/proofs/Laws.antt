@@ -13,7 +13,7 @@ use Rattle.level_core.specs.GroupLaws.{CoordsBelow}
 use Rattle.level_core.proofs.GroupLaws.{stands_where}
 use Rattle.coordinate_lists.proofs.Spans.{one_rises, entries_coord, entry_is_group}
 use Rattle.singleton_level.specs.Singleton.{SingletonLevel, letter_of, log_with, log_of, KeepsRules, IsAllowed, entries_of}
-use Rattle.singleton_level.specs.Laws.{long, reserved_logs, all_given, finished_keeps}
+use Rattle.singleton_level.specs.Laws.{reserved_logs, all_given, finished_keeps}
 
 -- the letter tells whether the level is unique
 pub letter_tells : (a b : Bool) → letter_of a ≡ letter_of b → a ≡ b

@@ -1,5 +1,5 @@
 -- What is true of the code of each level of one kind is true of that of each level of any kind that has the letter.
-use Rattle.std.specs.Prelude.{◌≡◌, ℕ, Result, Ok, Err, List, IfOk}
+use Rattle.std.specs.Prelude.{ℕ, Result, Ok, Err, List, IfOk}
 use Rattle.kernel_code.specs.declared.syntax.Arr.{Arr}
 use Rattle.kernel_code.specs.declared.syntax.KStmt.{KStmt}
 use Rattle.kernel_code.specs.declared.syntax.LoopKind.{LoopKind}

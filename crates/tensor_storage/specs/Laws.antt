@@ -1,5 +1,5 @@
 -- The laws of a level of any kind are those of its kind.
-use Rattle.std.specs.Prelude.{◌≡◌, ℕ, ◌≤◌, ◌<◌, Bool, true, false, List, refl}
+use Rattle.std.specs.Prelude.{◌≡◌, ℕ, ◌≤◌, Bool, true, false, refl}
 use Rattle.std.proofs.Common.{◌∙◌, sym, ap, arith}
 use Rattle.limits.specs.Limits.{greatest_position_count}
 use Rattle.level_core.specs.declared.letter.Letter.{Letter}
@@ -7,7 +7,7 @@ use Rattle.level_core.specs.declared.letter.Letter.TheVariants.{Dense, Compresse
 use Rattle.level_core.specs.Entries.{one}
 use Rattle.level_core.specs.Kinds.{positions_for, MayPrepare, MayInsert}
 use Rattle.level_core.specs.Logs.{MayFinish}
-use Rattle.level_core.specs.Meaning.{Arrays, Meaning, Prepares, Inserts, Finishes, AgreeBelow}
+use Rattle.level_core.specs.Meaning.{Arrays, Prepares, Inserts, Finishes, AgreeBelow}
 use Rattle.level_core.specs.Laws.{AreAtStart, SumsUp, HoldsStart, HoldsFinished, Laws}
 use Rattle.dense_level.specs.Dense as dense
 use Rattle.dense_level.specs.Laws.{laws as dense_laws}
