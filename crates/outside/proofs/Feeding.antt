@@ -67,30 +67,6 @@ pub feeds_end : {r s t : FolderState} {a b d : List ℕ} {m n : ℕ} → Feeds r
 feeds_end {r} {s} {t} {a} {b} {d} {m} {n} p q z =
     let both : Feeds r t a d (m + n) = feeds_then p q in subst (Feeds r t a d) (omega (arith, z)) both
 
--- a piece that was read, and is fed
-pub feeds_piece : {s t : FolderState} {buffer eaten eaten' : List ℕ} {n : ℕ} → Reads s t buffer n → eaten' ≡ eaten ++ take n buffer → Feeds s t eaten eaten' n
-feeds_piece {buffer = buffer} {n = n} p e = record {
-  fed = take n buffer;
-  eaten_is = e;
-  count_is = (let within : n ≤ length buffer = p.within in grind (arith, common_steps));
-  rest_is = p.rest_is;
-  taken_is = p.taken_is;
-  given_is = p.given_is;
-  reading_is = p.reading_is;
-  read_faults_are = p.read_faults_are;
-  faulted_is = p.faulted_is;
-  wants_are = p.wants_are;
-  keeps_writing = p.keeps_writing;
-}
-
--- an empty piece is read at the file's end, and leaves it there
-pub stays_at_end : (r s : Option (List ℕ)) (bytes : List ℕ) → r ≡ before_rest bytes s → IsAtEnd r → IsAtEnd s
-stays_at_end r None bytes e h = tt
-stays_at_end None (Some s) bytes e h = cc
-stays_at_end (Some r) (Some s) bytes e h =
-    let is : r ≡ bytes ++ s = cc in
-    let none : length s ≡ 0 = omega (arith, ap length is, ap length h, length-append bytes s) in grind (arith, common_steps)
-
 -- what stops behind pieces that were fed stops the whole
 pub stops_after : {E : Type 0} (eaten : E → List ℕ) (refused : E → List ℕ → E → Type 0) (r s t : FolderState) (old mid new : E) (n left budget : ℕ) (stop : ReadStop) → Feeds r s (eaten old) (eaten mid) n → budget ≡ n + left → Stops eaten refused s t left mid new stop → Stops eaten refused r t budget old new stop
 stops_after eaten refused r s t old mid new n left budget ReadFault p b h =

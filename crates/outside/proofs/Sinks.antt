@@ -2,7 +2,7 @@
 use Rattle.std.proofs.Common.{Option, None, Some, List, [], ◌++◌, ◌≡◌, ℕ, take, drop, refl, sym, ap, ◌∙◌, append_assoc, append-nil}
 use Rattle.std.proofs.lemmas.List.{take-append-drop}
 use Rattle.outside.specs.Folder.{appended}
-use Rattle.outside.specs.Sink.{SinkState, Takes, Appends, AppendsSoFar}
+use Rattle.outside.specs.Sink.{SinkState, Takes, AppendsSoFar}
 
 pub appended-nil : (old : Option (List ℕ)) → appended old [] ≡ old
 appended-nil None = refl
@@ -12,10 +12,6 @@ pub appended-append : (old : Option (List ℕ)) (a b : List ℕ) → appended (a
 appended-append None a b = refl
 appended-append (Some bytes) a b = ap Some (append_assoc bytes a b)
 
-pub so_far_nothing : (old : SinkState) (text : List ℕ) → AppendsSoFar old old text text
-so_far_nothing old text =
-    record { front = []; text_is = refl; written_is = sym (appended-nil old.written); faults_are = refl; wants_are = refl; beside_is = refl }
-
 pub so_far_more : (old mid new : SinkState) (text rest : List ℕ) (n : ℕ) → AppendsSoFar old mid text rest → Takes mid new rest n → AppendsSoFar old new text (drop n rest)
 so_far_more old mid new text rest n so_far takes = record {
   front = so_far.front ++ take n rest;
@@ -24,12 +20,4 @@ so_far_more old mid new text rest n so_far takes = record {
   faults_are = takes.faults_are ∙ so_far.faults_are;
   wants_are = takes.wants_are ∙ so_far.wants_are;
   beside_is = takes.beside_is ∙ so_far.beside_is;
-}
-
-pub so_far_whole : (old new : SinkState) (text : List ℕ) → AppendsSoFar old new text [] → Appends old new text
-so_far_whole old new text h = record {
-  written_is = h.written_is ∙ ap (appended old.written) (sym (h.text_is ∙ append-nil h.front));
-  faults_are = h.faults_are;
-  wants_are = h.wants_are;
-  beside_is = h.beside_is;
 }

@@ -12,33 +12,6 @@ use Rattle.taco_top.specs.Built.{IsToldText, IsToldFront, IsOperand, IsUnbuilt, 
 use Rattle.taco_top.specs.Reads.{ReadsOperand, ReadsUnbuilt, MayOpen}
 use Rattle.taco_top.specs.SmallCoords.{first_order}
 
--- the bytes that were fed are the file's
-pub told_text : (told : Told) (bytes : List ℕ) → IsAll (told_bytes told) bytes → told ≢ NoFile → IsToldText told bytes
-told_text Untold bytes all there = tt
-told_text NoFile bytes all there = absurd (there refl)
-told_text (Bytes text) bytes all there = all
-
--- or a front of them
-told_front : (told : Told) (bytes : List ℕ) (rest : Option (List ℕ)) → told_bytes told ≡ before_rest bytes rest → told ≢ NoFile → IsToldFront told bytes
-told_front Untold bytes rest is there = tt
-told_front NoFile bytes rest is there = absurd (there refl)
-told_front (Bytes text) bytes None is there = absurd (cc)
-told_front (Bytes text) bytes (Some rest) is there = (rest, cc)
-
--- a file with too many bytes isn't built
-pub too_long_unbuilt : (order : ℕ) (path eaten eaten' : List ℕ) (old new : FolderState) → FeedsFront old new path eaten eaten' → old.holds path ≢ NoFile → greatest_file_bytes < new.taken → ReadsUnbuilt order path old new
-too_long_unbuilt order path eaten eaten' old new feeds there over = record {
-  bytes = feeds.fed ++ feeds.more;
-  given_is = feeds.given_is;
-  unbuilt = IsTooLong (told_front (old.holds path) (feeds.fed ++ feeds.more) feeds.rest feeds.told_is there) (omega (arith, over, feeds.taken_is));
-}
-
--- what was opened, if anything was
-pub may_open : (path eaten eaten' : List ℕ) (old new : FolderState) → FeedsNone old new eaten eaten' ⊎ FeedsFront old new path eaten eaten' → MayOpen path old new
-may_open path eaten eaten' old new (inl none) = record { last = []; given_is = none.given_is ∙ sym (append-nil old.given); last_is = inl refl }
-may_open path eaten eaten' old new (inr front) =
-    record { last = (path, front.fed ++ front.more) ∷ []; given_is = front.given_is; last_is = inr (front.fed ++ front.more, refl) }
-
 names-append : (files more : List (List ℕ × List ℕ)) → names_of (files ++ more) ≡ names_of files ++ names_of more
 names-append [] more = refl
 names-append (file ∷ files) more = ap (λ w. file.0 ∷ w) (names-append files more)

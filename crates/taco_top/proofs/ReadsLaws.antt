@@ -48,14 +48,6 @@ cause_of_files words s paths old new (ReadFault path) line c =
 cause_of_files words s paths old new WriteFault line c = c
 cause_of_files words s paths old new Memory line c = inr (s, paths, line, c)
 
-pub cause_of_operands : (s : Statement) (paths : List (List ℕ)) (old new : FolderState) (answer : Answer) → OperandsCause s.accesses paths old new answer → FilesCause s paths old new answer
-cause_of_operands s paths old new Done c = tt
-cause_of_operands s paths old new NotBuilt c = inl c
-cause_of_operands s paths old new Usage c = c
-cause_of_operands s paths old new (ReadFault path) c = c
-cause_of_operands s paths old new WriteFault c = c
-cause_of_operands s paths old new Memory c = c
-
 -- the file behind those that are built gives the cause
 pub cause_of_file : (accesses : List Access) (paths : List (List ℕ)) (path : List ℕ) (operands : List Entries) (old mid new : FolderState) (answer : Answer)
     → OnlyReads old mid → AreRead old mid accesses paths operands [] → slice_get paths (length operands) ≡ Some path
