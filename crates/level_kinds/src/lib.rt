@@ -5,11 +5,11 @@
 #[cfg(test)]
 mod agreement;
 #[cfg(test)]
+mod indices;
+#[cfg(test)]
 mod interface;
 #[cfg(test)]
 mod levels;
-#[cfg(test)]
-mod lists;
 #[cfg(test)]
 mod refusals;
 #[cfg(test)]
