@@ -1,15 +1,12 @@
 -- The operands that are read one after another, and the files that were opened for them.
-use Rattle.std.specs.Prelude.{◌≡◌, ◌≢◌, ℕ, zero, suc, ◌+◌, ◌<◌, ◌≤◌, List, [], ◌∷◌, ◌++◌, length, map, take, ◌⊎◌, Option, Some, None, slice_get, refl}
+use Rattle.std.specs.Prelude.{◌≡◌, ℕ, zero, suc, ◌+◌, List, [], ◌∷◌, ◌++◌, length, take, Some, slice_get, refl}
 use Rattle.std.proofs.Common.{◌∙◌, ap, sym, arith, inl, inr, append_assoc, append-nil, length-append}
-use Rattle.limits.specs.Limits.{greatest_file_bytes}
-use Rattle.outside.specs.Folder.{FolderState, before_rest}
-use Rattle.outside.specs.ReadStop.{IsAll, FeedsNone, FeedsFront}
-use Rattle.outside.specs.Told.{Told, Untold, NoFile, Bytes, told_bytes}
+use Rattle.outside.specs.Folder.{FolderState}
+use Rattle.outside.specs.Told.{Told}
 use Rattle.index_notation.specs.declared.syntax.Access.{Access}
-use Rattle.narrow_files.specs.Narrow.{built_entries}
 use Rattle.tensor_map.specs.Entries.{Entries}
-use Rattle.taco_top.specs.Built.{IsToldText, IsToldFront, IsOperand, IsUnbuilt, IsTooLong, HasBadLine, names_of, AreOperands, AreRead, IsOpening, OpensFirst}
-use Rattle.taco_top.specs.Reads.{ReadsOperand, ReadsUnbuilt, MayOpen}
+use Rattle.taco_top.specs.Built.{IsOperand, names_of, AreOperands, AreRead, IsOpening, OpensFirst}
+use Rattle.taco_top.specs.Reads.{ReadsOperand, MayOpen}
 use Rattle.taco_top.specs.SmallCoords.{first_order}
 
 names-append : (files more : List (List ℕ × List ℕ)) → names_of (files ++ more) ≡ names_of files ++ names_of more

@@ -16,7 +16,6 @@ use Rattle.lists.proofs.Each.{each_get, all_from}
 use Rattle.taco_top.specs.SmallCoords.{first_order}
 use Rattle.taco_top.proofs.SmallCoords.{built_are_small, read_operands_fit}
 use Rattle.std.specs.List.{flat_map}
-use Rattle.std.proofs.Common.{length-append}
 use Rattle.numbers.specs.Arithmetic.{Arithmetic}
 use Rattle.numbers.specs.Ring.{ring}
 use Rattle.index_notation.specs.declared.syntax.Name.{Name}

@@ -1,5 +1,5 @@
 use Rattle.std.specs.Prelude.{◌≡◌, ℕ, List, [], ◌+◌, ◌∷◌, ◌++◌, length, map, Some, slice_get, refl}
-use Rattle.std.proofs.Common.{◌∙◌, sym, ap, arith, Bor, get_or, length-append}
+use Rattle.std.proofs.Common.{◌∙◌, sym, ap, Bor, get_or, length-append}
 use Rattle.std.proofs.lemmas.Option.{slice_get-get_or}
 use Rattle.std.proofs.lemmas.Result.{err_from_is_err_and}
 use Rattle.taco_top.specs.Answer.{answer_of_fault}
