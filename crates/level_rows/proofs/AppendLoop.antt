@@ -1,24 +1,19 @@
 -- The loop that appends rows: what holds of the level after each step, and when it is finished.
-use Rattle.std.specs.Prelude.{◌≡◌, ◌≢◌, ◌⊎◌, ℕ, suc, ◌+◌, ◌-◌, ◌≤◌, ◌<◌, nat_lt, Bool, true, false, if◌then◌else◌, List, length, take, slice_index, slice_set, refl}
+use Rattle.std.specs.Prelude.{◌≡◌, ◌≢◌, ◌⊎◌, ℕ, suc, ◌+◌, ◌-◌, ◌≤◌, ◌<◌, nat_lt, Bool, true, false, if◌then◌else◌, List, length, slice_index, slice_set, refl}
 use Rattle.std.proofs.Common.{◌∙◌, sym, ap, subst, arith, inl, inr}
 use Rattle.std.proofs.lemmas.Bool.{cases_lt}
 use Rattle.std.proofs.lemmas.Bool.Decides.{nat_tests}
-use Rattle.std.proofs.lemmas.List.{get_or-set_same, get_or-set_other, length-set, length_push, take_all}
+use Rattle.std.proofs.lemmas.List.{get_or-set_same, get_or-set_other, length-set, length_push}
 use Rattle.limits.specs.Limits.{greatest_position_count}
-use Rattle.level_core.specs.declared.span.Span.{Span}
-use Rattle.level_core.specs.Entries.{IsIn, one}
 use Rattle.level_core.specs.Kinds.{properties}
-use Rattle.level_core.specs.Logs.{total, IsLog, Rises, slice, MayAppend, MayAppendEdges, MayFinish, with_parents, with_edges, nothing_reserved}
+use Rattle.level_core.specs.Logs.{IsLog, MayAppend, MayAppendEdges, MayFinish, with_parents, with_edges, nothing_reserved}
 use Rattle.level_core.specs.Meaning.{Meaning, ChangesLog, Finishes}
 use Rattle.level_core.specs.Laws.{Laws}
-use Rattle.level_rows.specs.Rows.{Rows, begun, place, MayAppendRows, StandsFor, RiseIn}
-use Rattle.level_rows.specs.Taken.{Asked, AppendsRows}
+use Rattle.level_rows.specs.Rows.{Rows, begun, place, MayAppendRows}
+use Rattle.level_rows.specs.Taken.{AppendsRows}
 use Rattle.level_rows.specs.Appending.{Cursor, turned, turned_log, added, added_log, closed_log}
 use Rattle.level_rows.proofs.Progress.{Progress, Filled, Placing}
 use Rattle.level_rows.proofs.RowLaws.{begun_yes, begun_no, begun_upto}
-use Rattle.level_rows.proofs.Branchless.{place_is, all_begun}
-use Rattle.level_rows.proofs.Groups.{group_rises}
-use Rattle.level_rows.proofs.Finishing.{stands_for, stands_along}
 use Rattle.level_rows.proofs.Stored.{filled_stores}
 use Rattle.level_rows.proofs.AppendSteps.{Stands, stands_none, stands_more, none_done, may_turn, turns, turned_count, turned_last, turned_coords, may_add, adds, fills, may_finish}
 

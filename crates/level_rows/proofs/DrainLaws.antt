@@ -1,15 +1,14 @@
 -- What the code does that appends the rows of a workspace.
-use Rattle.std.specs.Prelude.{◌≡◌, ◌≢◌, ◌⊎◌, ℕ, zero, suc, ◌+◌, ◌-◌, ◌≤◌, ◌<◌, ◌^◌, ◌==◌, not, Bool, true, false, if◌then◌else◌, List, [], ◌∷◌, ◌++◌, length, slice_index, slice_set, slice_get, Option, Some, refl}
+use Rattle.std.specs.Prelude.{◌≡◌, ◌≢◌, ◌⊎◌, ℕ, zero, suc, ◌+◌, ◌-◌, ◌≤◌, ◌<◌, ◌^◌, ◌==◌, not, Bool, true, false, if◌then◌else◌, List, [], ◌∷◌, ◌++◌, length, slice_set, slice_get, Option, Some, refl}
 use Rattle.std.proofs.Common.{◌∙◌, sym, ap, subst, arith, inl, inr}
 use Rattle.std.proofs.lemmas.Bool.{cases_lt}
 use Rattle.std.proofs.lemmas.Bool.Decides.{nat_tests}
 use Rattle.std.proofs.lemmas.List.{length_push}
 use Rattle.std.proofs.lemmas.Option.{slice_get-get_or}
-use Rattle.limits.specs.Limits.{greatest_position_count}
 use Rattle.limits.proofs.Limits.{positions_are_small}
 use Rattle.kernel_code.proofs.ArrayNames.{same_arr_self}
 use Rattle.kernel_code.specs.Meaning.{Setting, State, value, word_of, set_var, set_array, one_turn, length_of}
-use Rattle.kernel_code.specs.Does.{Does, Never, Refusal, Turn, Goes}
+use Rattle.kernel_code.specs.Does.{Does, Never, Refusal, Goes}
 use Rattle.kernel_code.proofs.Does.{does_weaker, does_nothing, does_append, does_set, does_put, does_if_yes, does_if_no, does_while}
 use Rattle.kernel_code.specs.Keeps.{Leaves, NoVariable}
 use Rattle.kernel_code.proofs.Keeps.{this_var, other_var, this_array, other_array, leaves_set, leaves_array}
@@ -18,15 +17,15 @@ use Rattle.kernel_code.specs.declared.syntax.Arr.TheVariants.{Sums, ListPosition
 use Rattle.kernel_code.specs.declared.syntax.LoopKind.TheVariants.{Drain}
 use Rattle.kernel_code.specs.declared.syntax.Op.TheVariants.{Add, Sub, Less, NotEqual}
 use Rattle.kernel_code.specs.declared.syntax.KExpr.{KExpr, Num, Var, At, Len, Bin}
-use Rattle.kernel_code.specs.declared.syntax.KStmt.{KStmt, Set, Put, If, While}
+use Rattle.kernel_code.specs.declared.syntax.KStmt.{KStmt, Set, If}
 use Rattle.kernel_code.proofs.Words.{word_is, sum_is, difference_is, less_yes, less_no, binary_is}
 use Rattle.level_core.specs.declared.letter.Letter.{Letter}
 use Rattle.level_core.specs.Kinds.{properties}
 use Rattle.level_core.specs.Logs.{Log, IsLog, MayAppend, MayAppendEdges, with_coord, with_edges}
-use Rattle.level_core.specs.Fragments.{RefusedWithin, PassesLimit, PassesLimitWithin, turns_of}
+use Rattle.level_core.specs.Fragments.{RefusedWithin, PassesLimitWithin, turns_of}
 use Rattle.level_core.specs.Meaning.{Arrays}
 use Rattle.level_rows.specs.Rows.{Rows, begun, place, MayAppendRows}
-use Rattle.level_rows.specs.Appending.{Cursor, turned, turned_log, added_log}
+use Rattle.level_rows.specs.Appending.{turned_log, added_log}
 use Rattle.level_rows.specs.Draining.{turn_code, first_code, place_code, row_code, drain_code, Stays, TellsFirst, TellsCoord}
 use Rattle.level_rows.proofs.Progress.{Progress, Filled, Placing}
 use Rattle.level_rows.proofs.RowLaws.{begun_yes, begun_upto, begun_some, begun_few}
@@ -61,7 +60,6 @@ module _ (c : Setting) (letter : Letter) (size level base w g parents : ℕ) (te
     (may : MayAppendRows letter size parents rows)
     (tells : TellsFirst base level g test rows s0) (reads : TellsCoord base level g coord rows s0)
     (values : List ℕ) (values_are : s0.arrays (Sums w) ≡ Some values) (many : length values ≡ rows.count) (few : rows.count < 2 ^ 63) where
-
   -- the last parent is given its positions where the row has another
   does_turn : (done last begin : ℕ) (log : Log) (ps : List ℕ) (s : State) → done < rows.count → last ≤ rows.parent done → Progress letter parents done last begin rows log
       → Drained has level g base s0 (done + 1) done last begin (length log.coords) log ps s → s.vars (base + 4) ≡ Some (rows.parent done) → s.vars (base + 5) ≡ Some (word_of (rows.first done)) → (last == rows.parent done) ≡ false
@@ -70,27 +68,27 @@ module _ (c : Setting) (letter : Letter) (size level base w g parents : ℕ) (te
       does_append c edges (Set (base + 2) (Var (base + 1)) ∷ Set (base + 3) (Var (base + 4)) ∷ []) s _ _ _
       (does_weaker c edges s _ _ Never (DrainRefusal level rows s0) (code.gives last begin (length log.coords) log s may_give d.held d.parent d.from d.appended) (λ t k. k) (λ t a n z. absurd z))
       (λ t k.
-          let e = written has level g base s0 (done + 1) done last begin (length log.coords) log (with_edges letter last begin (length log.coords) log) ps s t d k.0 k.1 in
-          let t2 = set_var t (base + 2) (length log.coords) in
-          let t3 = set_var t2 (base + 3) (rows.parent done) in
-          does_set c (base + 2) (Var (base + 1)) (Set (base + 3) (Var (base + 4)) ∷ []) t (length log.coords) _ _ e.appended
-          (does_set c (base + 3) (Var (base + 4)) [] t2 (rows.parent done) _ _ (other_var t (base + 2) (base + 4) (length log.coords) (λ e. omega (arith, e)) ∙ k.0.below (base + 4) (omega arith) (λ m. m) ∙ parent)
-          (does_nothing c t3 _ _ (record {
-            begin = length log.coords;
-            log = with_edges letter last begin (length log.coords) log;
-            progress = step (λ b. code.is_log (with_edges letter last begin (length log.coords) log) t.arrays b k.1);
-            drained = record {
-              held = k.1;
-              at = other_var t2 (base + 3) base (rows.parent done) (λ e. omega (arith, e)) ∙ other_var t (base + 2) base (length log.coords) (λ e. omega (arith, e)) ∙ e.at;
-              appended = other_var t2 (base + 3) (base + 1) (rows.parent done) (λ e. omega (arith, e)) ∙ other_var t (base + 2) (base + 1) (length log.coords) (λ e. omega (arith, e)) ∙ e.appended ∙ ap Some (ap length (sym same));
-              from = other_var t2 (base + 3) (base + 2) (rows.parent done) (λ e. omega (arith, e)) ∙ this_var t (base + 2) (length log.coords);
-              parent = this_var t2 (base + 3) (rows.parent done);
-              places = e.places;
-              leaves = leaves_set NoVariable (Stays level g) base (turns_of Drain (done + 1)) s0 t2 (base + 3) (rows.parent done) (λ y l e. omega (arith, l, e))
-                  (leaves_set NoVariable (Stays level g) base (turns_of Drain (done + 1)) s0 t (base + 2) (length log.coords) (λ y l e. omega (arith, l, e)) e.leaves);
-            };
-            first = other_var t2 (base + 3) (base + 5) (rows.parent done) (λ e. omega (arith, e)) ∙ other_var t (base + 2) (base + 5) (length log.coords) (λ e. omega (arith, e)) ∙ k.0.below (base + 5) (omega arith) (λ m. m) ∙ first;
-          }))))
+      let e = written has level g base s0 (done + 1) done last begin (length log.coords) log (with_edges letter last begin (length log.coords) log) ps s t d k.0 k.1 in
+      let t2 = set_var t (base + 2) (length log.coords) in
+      let t3 = set_var t2 (base + 3) (rows.parent done) in
+      does_set c (base + 2) (Var (base + 1)) (Set (base + 3) (Var (base + 4)) ∷ []) t (length log.coords) _ _ e.appended
+      (does_set c (base + 3) (Var (base + 4)) [] t2 (rows.parent done) _ _ (other_var t (base + 2) (base + 4) (length log.coords) (λ e. omega (arith, e)) ∙ k.0.below (base + 4) (omega arith) (λ m. m) ∙ parent)
+      (does_nothing c t3 _ _ (record {
+        begin = length log.coords;
+        log = with_edges letter last begin (length log.coords) log;
+        progress = step (λ b. code.is_log (with_edges letter last begin (length log.coords) log) t.arrays b k.1);
+        drained = record {
+          held = k.1;
+          at = other_var t2 (base + 3) base (rows.parent done) (λ e. omega (arith, e)) ∙ other_var t (base + 2) base (length log.coords) (λ e. omega (arith, e)) ∙ e.at;
+          appended = other_var t2 (base + 3) (base + 1) (rows.parent done) (λ e. omega (arith, e)) ∙ other_var t (base + 2) (base + 1) (length log.coords) (λ e. omega (arith, e)) ∙ e.appended ∙ ap Some (ap length (sym same));
+          from = other_var t2 (base + 3) (base + 2) (rows.parent done) (λ e. omega (arith, e)) ∙ this_var t (base + 2) (length log.coords);
+          parent = this_var t2 (base + 3) (rows.parent done);
+          places = e.places;
+          leaves = leaves_set NoVariable (Stays level g) base (turns_of Drain (done + 1)) s0 t2 (base + 3) (rows.parent done) (λ y l e. omega (arith, l, e))
+              (leaves_set NoVariable (Stays level g) base (turns_of Drain (done + 1)) s0 t (base + 2) (length log.coords) (λ y l e. omega (arith, l, e)) e.leaves);
+        };
+        first = other_var t2 (base + 3) (base + 5) (rows.parent done) (λ e. omega (arith, e)) ∙ other_var t (base + 2) (base + 5) (length log.coords) (λ e. omega (arith, e)) ∙ k.0.below (base + 5) (omega arith) (λ m. m) ∙ first;
+      }))))
     where
       apart : last ≢ rows.parent done
       apart = grind (arith, nat_tests, other)
@@ -116,26 +114,26 @@ module _ (c : Setting) (letter : Letter) (size level base w g parents : ℕ) (te
       (does_weaker c append s _ _ _ (DrainRefusal level rows s0) (code.appends (rows.coord done) log s may_come d.held (reads s done h d.at d.leaves.arrays)) (λ t k. k)
       (λ t a n z. (refused_turns level g base s0 s (done + 1) rows.count t (omega (arith, h)) d.leaves z.0, (length log.coords + 1, z.1, room))))
       (λ t k.
-          let e = written has level g base s0 (done + 1) done (rows.parent done) begin (length log.coords) log (with_coord (rows.coord done) log) ps s t d k.0 k.1.0 in
-          let long : length (log.coords ++ rows.coord done ∷ []) ≡ length log.coords + 1 = length_push log.coords (rows.coord done) in
-          let within = k.1.1 in
-          let small = positions_are_small in
-          let t2 = set_var t (base + 1) (length log.coords + 1) in
-          does_set c (base + 1) (Bin Add (Var (base + 1)) (Num 1)) [] t (length log.coords + 1) _ _ (sum_is (Var (base + 1)) (Num 1) (length log.coords) 1 t e.appended refl (omega (arith, within, small)))
-          (does_nothing c t2 _ _ (record {
-            begin = begin;
-            log = with_coord (rows.coord done) log;
-            progress = step (λ b. code.is_log (with_coord (rows.coord done) log) t.arrays b k.1.0);
-            drained = record {
-              held = k.1.0;
-              at = other_var t (base + 1) base (length log.coords + 1) (λ e. omega (arith, e)) ∙ e.at;
-              appended = this_var t (base + 1) (length log.coords + 1) ∙ ap Some (sym long);
-              from = other_var t (base + 1) (base + 2) (length log.coords + 1) (λ e. omega (arith, e)) ∙ e.from;
-              parent = other_var t (base + 1) (base + 3) (length log.coords + 1) (λ e. omega (arith, e)) ∙ e.parent;
-              places = e.places;
-              leaves = leaves_set NoVariable (Stays level g) base (turns_of Drain (done + 1)) s0 t (base + 1) (length log.coords + 1) (λ y l e. omega (arith, l, e)) e.leaves;
-            };
-          })))
+      let e = written has level g base s0 (done + 1) done (rows.parent done) begin (length log.coords) log (with_coord (rows.coord done) log) ps s t d k.0 k.1.0 in
+      let long : length (log.coords ++ rows.coord done ∷ []) ≡ length log.coords + 1 = length_push log.coords (rows.coord done) in
+      let within = k.1.1 in
+      let small = positions_are_small in
+      let t2 = set_var t (base + 1) (length log.coords + 1) in
+      does_set c (base + 1) (Bin Add (Var (base + 1)) (Num 1)) [] t (length log.coords + 1) _ _ (sum_is (Var (base + 1)) (Num 1) (length log.coords) 1 t e.appended refl (omega (arith, within, small)))
+      (does_nothing c t2 _ _ (record {
+        begin = begin;
+        log = with_coord (rows.coord done) log;
+        progress = step (λ b. code.is_log (with_coord (rows.coord done) log) t.arrays b k.1.0);
+        drained = record {
+          held = k.1.0;
+          at = other_var t (base + 1) base (length log.coords + 1) (λ e. omega (arith, e)) ∙ e.at;
+          appended = this_var t (base + 1) (length log.coords + 1) ∙ ap Some (sym long);
+          from = other_var t (base + 1) (base + 2) (length log.coords + 1) (λ e. omega (arith, e)) ∙ e.from;
+          parent = other_var t (base + 1) (base + 3) (length log.coords + 1) (λ e. omega (arith, e)) ∙ e.parent;
+          places = e.places;
+          leaves = leaves_set NoVariable (Stays level g) base (turns_of Drain (done + 1)) s0 t (base + 1) (length log.coords + 1) (λ y l e. omega (arith, l, e)) e.leaves;
+        };
+      })))
     where
       may_come : MayAppend letter size (rows.coord done) log
       may_come = may_add letter size parents done begin rows log may h is p
@@ -341,18 +339,18 @@ module _ (c : Setting) (letter : Letter) (size level base w g parents : ℕ) (te
           does_if_yes c (Var (base + 1)) edges [] [] s n (AllDrained has level g base parents rows s0) _ _ (d.drained.appended ∙ ap Some is)
           (does_weaker c edges s _ _ Never (DrainRefusal level rows s0) (code.gives d.last d.begin (length d.log.coords) d.log s may_give d.drained.held d.drained.parent d.drained.from d.drained.appended)
           (λ t k.
-              let e = written has level g base s0 d.done d.done d.last d.begin (length d.log.coords) d.log (with_edges letter d.last d.begin (length d.log.coords) d.log) d.positions s t d.drained k.0 k.1 in
-              record {
-                log = with_edges letter d.last d.begin (length d.log.coords) d.log;
-                held = k.1;
-                filled = fills letter size parents (record { last = d.last; begin = d.begin; count = length d.log.coords }) true rows d.log may (λ i more. (refl, last_is i more)) (λ _. some) refl p
-                    (λ _ b. code.is_log (with_edges letter d.last d.begin (length d.log.coords) d.log) t.arrays b k.1);
-                positions = d.positions;
-                places = e.places;
-                placed = placed;
-                count = e.appended ∙ ap Some p.appended.many;
-                leaves = subst (λ n. Leaves NoVariable (Stays level g) base (turns_of Drain n) s0 t) done e.leaves;
-              })
+          let e = written has level g base s0 d.done d.done d.last d.begin (length d.log.coords) d.log (with_edges letter d.last d.begin (length d.log.coords) d.log) d.positions s t d.drained k.0 k.1 in
+          record {
+            log = with_edges letter d.last d.begin (length d.log.coords) d.log;
+            held = k.1;
+            filled = fills letter size parents (record { last = d.last; begin = d.begin; count = length d.log.coords }) true rows d.log may (λ i more. (refl, last_is i more)) (λ _. some) refl p
+                (λ _ b. code.is_log (with_edges letter d.last d.begin (length d.log.coords) d.log) t.arrays b k.1);
+            positions = d.positions;
+            places = e.places;
+            placed = placed;
+            count = e.appended ∙ ap Some p.appended.many;
+            leaves = subst (λ n. Leaves NoVariable (Stays level g) base (turns_of Drain n) s0 t) done e.leaves;
+          })
           (λ t a n z. absurd z)) (λ t a. does_nothing c t _ _ a)
         where
           some : 0 < rows.count

@@ -1,15 +1,12 @@
 -- The code that appends rows, made of the fragments of any kind of level that is appended to.
-use Rattle.std.specs.Prelude.{◌≡◌, ℕ, suc, ◌+◌, ◌≤◌, ◌<◌, ◌^◌, true, false, List, [], ◌∷◌, ◌++◌, length, slice_index, Some, refl}
+use Rattle.std.specs.Prelude.{◌≡◌, ℕ, ◌+◌, true, List, [], ◌∷◌, ◌++◌, length, slice_index, refl}
 use Rattle.std.proofs.Common.{◌∙◌, sym, ap, subst, arith}
-use Rattle.limits.specs.Limits.{greatest_position_count}
 use Rattle.limits.proofs.Limits.{positions_are_small}
-use Rattle.kernel_code.specs.Meaning.{Setting, State, value, length_of}
+use Rattle.kernel_code.specs.Meaning.{Setting, State, length_of}
 use Rattle.kernel_code.specs.Does.{Does}
 use Rattle.kernel_code.proofs.Does.{does_weaker, does_append}
-use Rattle.kernel_code.specs.Keeps.{Leaves, NoVariable, Below, no_turns}
-use Rattle.kernel_code.specs.declared.syntax.Arr.{Arr}
+use Rattle.kernel_code.specs.Keeps.{Leaves, NoVariable, no_turns}
 use Rattle.kernel_code.specs.declared.syntax.Arr.TheVariants.{Sums, ListPositions}
-use Rattle.kernel_code.specs.declared.syntax.LoopKind.{LoopKind}
 use Rattle.kernel_code.specs.declared.syntax.LoopKind.TheVariants.{Drain}
 use Rattle.kernel_code.specs.declared.syntax.KExpr.{KExpr, Var, Len}
 use Rattle.kernel_code.specs.declared.syntax.KStmt.{KStmt}
@@ -17,13 +14,13 @@ use Rattle.level_core.specs.declared.letter.Letter.{Letter}
 use Rattle.level_core.specs.declared.stage.Stage.TheVariants.{Fresh, Finished}
 use Rattle.level_core.specs.Kinds.{properties, capabilities}
 use Rattle.level_core.specs.Logs.{Log, IsLog, CodeMayReserve, MayAppend, MayAppendEdges, with_parents, with_coord, with_edges, nothing_reserved}
-use Rattle.level_core.specs.Fragments.{IsOf, IsOutside, RefusedWithin, PassesLimit, PassesLimitWithin, turns_of}
+use Rattle.level_core.specs.Fragments.{IsOutside, RefusedWithin, PassesLimit, PassesLimitWithin, turns_of}
 use Rattle.level_core.specs.Codes.{HoldsLog, ReserveCode, AppendCode, EdgesCode}
-use Rattle.level_core.specs.Meaning.{Arrays, Meaning, Finishes}
+use Rattle.level_core.specs.Meaning.{Arrays, Meaning}
 use Rattle.level_core.specs.Laws.{Laws}
-use Rattle.level_rows.specs.Rows.{Rows, begun, place, MayAppendRows}
-use Rattle.level_rows.specs.Draining.{drain_code, Stays, IsGiven, LeavesDrained, DrainsRows}
-use Rattle.level_rows.proofs.Progress.{Progress, Filled, Placing}
+use Rattle.level_rows.specs.Rows.{Rows, begun, MayAppendRows}
+use Rattle.level_rows.specs.Draining.{drain_code, IsGiven, LeavesDrained, DrainsRows}
+use Rattle.level_rows.proofs.Progress.{Filled}
 use Rattle.level_rows.proofs.AppendSteps.{none_done, may_finish}
 use Rattle.level_rows.proofs.Stored.{filled_stores}
 use Rattle.level_rows.proofs.DrainSteps.{Appends}
@@ -43,7 +40,6 @@ module _ {L : Type 0} (means : Meaning L) (laws : Laws means) (letter : Letter) 
     (appends : AppendCode means letter 0 level (coord ∷ []) (base + 6) append)
     (gives : EdgesCode means letter 0 level (Var (base + 3) ∷ Var (base + 2) ∷ Var (base + 1) ∷ []) (base + 6) edges)
     (able : (capabilities letter).append ≡ true) where
-
   -- the laws of the code, told of logs
   code_is : (c : Setting) (size : ℕ) → Appends c letter size level (base + 6) coord (Var (base + 3)) (Var (base + 2)) (Var (base + 1)) append edges (HasLog means letter size level)
   code_is c size = record {
@@ -52,24 +48,27 @@ module _ {L : Type 0} (means : Meaning L) (laws : Laws means) (letter : Letter) 
     appends = λ x log s may h v.
         does_weaker c append s _ _ _ _
         (appends able c h.left h.kind h.keeps x
-          (subst (λ k. MayAppend k (means.size h.left) x (means.log h.left)) (sym h.kind) (subst (λ n. MayAppend letter n x (means.log h.left)) (sym h.size_is) (subst (MayAppend letter size x) (sym h.log_is) may)))
-          s h.held (v, tt))
+        (subst (λ k. MayAppend k (means.size h.left) x (means.log h.left)) (sym h.kind) (subst (λ n. MayAppend letter n x (means.log h.left)) (sym h.size_is) (subst (MayAppend letter size x) (sym h.log_is) may)))
+        s h.held (v, tt))
         (λ t k.
-            let few = k.1.1 in
-            let sized = ap (λ l. length l.coords) h.log_is in
-            (k.0, (record { left = k.1.0.left; keeps = k.1.0.keeps; kind = k.1.0.kind ∙ h.kind; size_is = k.1.0.size ∙ h.size_is; log_is = k.1.0.log ∙ ap (with_coord x) h.log_is; held = k.1.0.held }, omega (arith, few, sized))))
+        let few = k.1.1 in
+        let sized = ap (λ l. length l.coords) h.log_is in
+        (k.0, (record { left = k.1.0.left; keeps = k.1.0.keeps; kind = k.1.0.kind ∙ h.kind; size_is = k.1.0.size ∙ h.size_is; log_is = k.1.0.log ∙ ap (with_coord x) h.log_is; held = k.1.0.held }, omega (arith, few, sized))))
         (λ t a n z. (z.0, subst (λ l. PassesLimit 0 level (length l.coords + 1) a n) h.log_is z.1));
     gives = λ parent from to log s may h p q r.
         does_weaker c edges s _ _ _ _
         (gives able c h.left h.kind h.keeps parent from to (subst (λ k. MayAppendEdges k parent from to (means.log h.left)) (sym h.kind) (subst (MayAppendEdges letter parent from to) (sym h.log_is) may)) s h.held (p, (q, (r, tt))))
-        (λ t k. (k.0, record {
+        (λ t k. (
+          k.0,
+          record {
             left = k.1.left;
             keeps = k.1.keeps;
             kind = k.1.kind ∙ h.kind;
             size_is = k.1.size ∙ h.size_is;
             log_is = k.1.log ∙ ap (λ j. with_edges j parent from to (means.log h.left)) h.kind ∙ ap (with_edges letter parent from to) h.log_is;
             held = k.1.held;
-          }))
+          },
+        ))
         (λ t a n z. z);
   }
 

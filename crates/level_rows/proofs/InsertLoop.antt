@@ -66,7 +66,7 @@ pub record Inserting {L : Type 0} (means : Meaning L) (parents most done at : �
 
 module _ {L : Type 0} (means : Meaning L) (laws : Laws means) (parents most : ℕ) (rows : Rows) (old : L) (may : MayInsertRows (means.size old) parents rows) (enough : (properties (means.kind old)).full ≡ false → (p : ℕ) → p < parents → begun_below rows p rows.count ≤ most) where
   pub begins : (positions : List ℕ) (l : L) → means.keeps old → MayPrepare (means.kind old) (means.width old) most → positions_for (means.kind old) (means.size old) parents most ≤ greatest_position_count
-      → means.prepared old parents most l → length positions ≡ rows.count → ((i : ℕ) → slice_index positions i ≡ rows.parent i) → Inserting means parents most 0 0 rows positions old l
+      → means.prepared old parents most l → length positions ≡ rows.count → ((i : ℕ) → i < rows.count → slice_index positions i ≡ rows.parent i) → Inserting means parents most 0 0 rows positions old l
   begins positions l keeps can within prepared many parents_are =
       let p = laws.prepares old l parents most keeps can within prepared in
       record {
@@ -82,7 +82,7 @@ module _ {L : Type 0} (means : Meaning L) (laws : Laws means) (parents most : �
         order = λ unordered q h. (keeps_order means laws).starts old l parents most q p (not_full (means.kind old) unordered) h;
         last = λ i h. absurd (omega (arith, h));
         many = many;
-        ahead = λ i from h. parents_are i;
+        ahead = λ i from h. parents_are i h;
         upto = omega arith;
       }
 

@@ -20,3 +20,6 @@ pub mod FillLaws
 pub mod DrainSteps
 pub mod DrainLaws
 pub mod EmitLaws
+pub mod FirstTests
+pub mod PlaceSteps
+pub mod CountSteps

@@ -1,5 +1,5 @@
 -- A level that is finished after its rows were appended stores them.
-use Rattle.std.specs.Prelude.{◌≡◌, ℕ, suc, ◌+◌, ◌≤◌, ◌<◌, true, take, length, refl}
+use Rattle.std.specs.Prelude.{◌≡◌, ℕ, suc, ◌+◌, ◌≤◌, ◌<◌, true, take}
 use Rattle.std.proofs.Common.{◌∙◌, sym, ap, subst, arith}
 use Rattle.std.proofs.lemmas.List.{take_all}
 use Rattle.level_core.specs.declared.letter.Letter.{Letter}
@@ -14,7 +14,7 @@ use Rattle.level_rows.specs.Taken.{Asked, Stores}
 use Rattle.level_rows.proofs.Progress.{Filled}
 use Rattle.level_rows.proofs.Branchless.{place_is, all_begun}
 use Rattle.level_rows.proofs.Groups.{group_rises}
-use Rattle.level_rows.proofs.Finishing.{Finished, stands_for, stands_along}
+use Rattle.level_rows.proofs.Finishing.{stands_for, stands_along}
 
 module _ {L : Type 0} (means : Meaning L) (laws : Laws means) (letter : Letter) (size parents : ℕ) (rows : Rows) (place_of : ℕ → ℕ) (given new : L)
     (may : MayAppendRows letter size parents rows) (kind : means.kind given ≡ letter) (all : Filled parents rows (means.log given)) (finishes : Finishes means parents given new)

@@ -48,7 +48,8 @@ Stays level g a = IsOutside 0 level a × (same_arr (ListPositions g) a ≡ false
 -- the expression tells whether a row begins a position, from the row, the parent of the row before, its own, and arrays that stay
 abbrev pub TellsFirst : ℕ → ℕ → ℕ → KExpr → Rows → State → Type 0
 TellsFirst base level g test rows s0 =
-    (t : State) (i last : ℕ) → i < rows.count → t.vars base ≡ Some i → t.vars (base + 3) ≡ Some last → t.vars (base + 4) ≡ Some (rows.parent i)
+    (t : State) (i last : ℕ) → i < rows.count → t.vars base ≡ Some i
+    → t.vars (base + 3) ≡ Some last → t.vars (base + 4) ≡ Some (rows.parent i)
     → ((j : ℕ) → i ≡ suc j → last ≡ rows.parent j) → ((a : Arr) → Stays level g a → t.arrays a ≡ s0.arrays a)
     → value test t ≡ Some (word_of (rows.first i))
 
@@ -85,7 +86,8 @@ pub record LeavesDrained {L : Type 0} (means : Meaning L) (l : L) (level g base 
   pub positions : List ℕ
   pub places : s.arrays (ListPositions g) ≡ Some positions
   pub numbered : (i : ℕ) → i < rows.count → slice_index positions i ≡ place rows.first i
-  pub stores : (done : L) → Finishes means parents left done → Stores means parents (begun rows.first rows.count) rows (slice_index positions) done
+  pub stores : (done : L) → Finishes means parents left done
+      → Stores means parents (begun rows.first rows.count) rows (slice_index positions) done
   pub count : s.vars (base + 1) ≡ Some (begun rows.first rows.count)
   pub leaves : Leaves NoVariable (Stays level g) base (turns_of Drain rows.count) s0 s
 
@@ -98,4 +100,4 @@ DrainsRows {L} means letter level base w g parents_is test coord code =
     → (rows : Rows) (parents : ℕ) → MayAppendRows letter (means.size l) parents rows
     → (s : State) → means.holds l 0 level s.arrays → IsGiven level base w g parents parents_is test coord rows s
     → Does c code s (LeavesDrained means l level g base parents rows s)
-      (RefusedWithin (turns_of Drain rows.count) s (PassesLimitWithin 0 level (begun rows.first rows.count)))
+    (RefusedWithin (turns_of Drain rows.count) s (PassesLimitWithin 0 level (begun rows.first rows.count)))

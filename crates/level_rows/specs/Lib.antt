@@ -7,3 +7,6 @@ pub mod Values
 pub mod Growing
 pub mod Filling
 pub mod Draining
+pub mod FirstTest
+pub mod Placing
+pub mod Counting

@@ -1,5 +1,8 @@
-//! Rows into levels: a level of a tensor's storage is filled from rows, each with a position of the level above
-//! and a coordinate. `specs/Rows.antt` says what rows are, `specs/Taken.antt` what a level is that was given them.
+//! Rows into levels: a level of a tensor's storage is filled from rows, each with a position of the level above and a
+//! coordinate, by calls (`fill_level`) or by code that a kernel runs (`emit_append_rows`, `emit_insert_rows`).
+//! `specs/Rows.antt` says what rows are, `specs/Taken.antt` what a level is that was given them, `specs/Stacks.antt` what
+//! levels one below another tell of their paths, and `specs/Growing.antt` how levels are added, each given the rows of a
+//! table. All of it is proved over the traits of `level_core` alone.
 #![tactic(auto)]
 
 mod appending;
@@ -8,14 +11,16 @@ mod emitting;
 mod filling;
 mod inserting;
 mod laws;
+mod placing;
 mod rows;
 mod values;
 
 pub use appending::append_rows;
 pub use counting::{greatest_below, positions_begun};
-pub use emitting::{DrainSite, emit_append_rows};
+pub use emitting::{DrainSite, emit_append_rows, first_of_rows};
 pub use filling::{FillRefusal, fill_level};
 pub use inserting::insert_rows;
 pub use laws::{levels_are_added, stacked_levels_tell_paths};
+pub use placing::{emit_greatest_below, emit_insert_rows};
 pub use rows::SortedRows;
 pub use values::{RowValues, store_values};

@@ -15,7 +15,7 @@ ended done long many h l is = omega (arith, h, l, is)
 pub loop-done-init : goal.loop-done-init
 loop-done-init g c =
     begins g.L.LevelKind.meaning g.met.L.LevelKind.laws c.args.parents c.args.most (rows_at (g.R.SortedRows.keys c.args.rows.now) c.args.positions.now) c.args.level.now c.requires.rows c.requires.most
-    c.args.positions.now c.prepare.new.self c.tell_rules.ensures c.requires.may c.requires.within c.in_ok-prepare.ensures.ok c.requires.many (λ i. refl)
+    c.args.positions.now c.prepare.new.self c.tell_rules.ensures c.requires.may c.requires.within c.in_ok-prepare.ensures.ok c.requires.many (λ i h. refl)
 
 pub insert_first-at-requires-clause-parent : goal.insert_first-at-requires-clause-parent
 insert_first-at-requires-clause-parent g c =
