@@ -93,7 +93,8 @@ const COSTS: Row = Row {
     greatest: Some(3),
 };
 
-fn assert_lines(rt: &impl Abort, entries: &Entries, wanted: &[Line], row: &str) {
+/// That the entries are these lines.
+pub fn assert_lines(rt: &impl Abort, entries: &Entries, wanted: &[Line], row: &str) {
     assert_eq!(rt; entries.len(), wanted.len(), "{row}");
     assert_eq!(rt; entries.is_empty(), wanted.is_empty(), "{row}");
     for (i, line) in wanted.iter().enumerate() {

@@ -1,8 +1,10 @@
-//! Tests alone: words and semirings, entries, kernels, and statements over dense operands, each public call once and
-//! each generic one over the ring and over a second semiring, costs. They stand apart from the crates that they try,
-//! so that no crate is proved a second time with them.
+//! Tests alone: words and semirings, entries, workspaces, kernels, and statements over dense operands, each public call
+//! once and each generic one over the ring and over a second semiring, costs. They stand apart from the crates that
+//! they try, so that no crate is proved a second time with them.
 #![tactic(auto)]
 
+#[cfg(test)]
+mod drains;
 #[cfg(test)]
 mod entries;
 #[cfg(test)]

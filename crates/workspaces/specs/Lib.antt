@@ -1,0 +1,3 @@
+pub mod Presence
+pub mod PresenceLaws
+pub mod Workspaces
