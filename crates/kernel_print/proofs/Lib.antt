@@ -1,3 +1,4 @@
+pub mod ArrayNames
 pub mod Equations
 pub mod Loops
 pub mod Pieces

@@ -1,2 +1,3 @@
+pub mod ArrayNames
 pub mod Prints
 pub mod Text

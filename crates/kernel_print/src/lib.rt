@@ -4,7 +4,11 @@
 mod exprs;
 mod indents;
 mod kernels;
+mod laws;
 mod names;
 mod statements;
+#[cfg(test)]
+mod tests;
 
 pub use kernels::put_kernel;
+pub use laws::names_tell_arrays;
