@@ -1,0 +1,4 @@
+pub mod ArrayNames
+pub mod Equations
+pub mod Loops
+pub mod Pieces

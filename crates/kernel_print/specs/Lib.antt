@@ -1,0 +1,3 @@
+pub mod ArrayNames
+pub mod Prints
+pub mod Text

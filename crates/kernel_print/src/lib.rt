@@ -1,0 +1,14 @@
+//! Kernels as text. `specs/Text.antt` has the text of a kernel by cases on its syntax, and `put_kernel` appends it.
+#![tactic(auto)]
+
+mod exprs;
+mod indents;
+mod kernels;
+mod laws;
+mod names;
+mod statements;
+#[cfg(test)]
+mod tests;
+
+pub use kernels::put_kernel;
+pub use laws::names_tell_arrays;
