@@ -16,6 +16,8 @@ mod least;
 #[cfg(test)]
 mod operands;
 #[cfg(test)]
+mod presences;
+#[cfg(test)]
 mod statements;
 #[cfg(test)]
 mod words;

@@ -13,7 +13,7 @@ use trees::{Boxed, Items};
 const LAST: u64 = u64::MAX;
 
 /// An expression step by step: each operator takes what was made last.
-enum Step {
+pub enum Step {
     Num(u64),
     Access(usize),
     Add,
@@ -286,7 +286,8 @@ fn names_of(alloc: Global, count: usize) -> Result<Items<Name>, AllocError> {
     Ok(names)
 }
 
-fn statement_of(
+/// A statement of these accesses on the right; access n is to tensor n + 1.
+pub fn statement_of(
     alloc: Global,
     vars: usize,
     left: &[usize],
