@@ -1,1 +1,4 @@
+pub mod Children
+pub mod Located
 pub mod OneKind
+pub mod Paths

@@ -1,2 +1,4 @@
+pub mod Children
 pub mod Laws
 pub mod Levels
+pub mod Storages
