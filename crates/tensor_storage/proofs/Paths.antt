@@ -2,6 +2,9 @@
 use Rattle.std.specs.Prelude.{◌≡◌, ℕ, zero, suc, ◌+◌, ◌<◌, List, [], ◌∷◌, length, map, drop, slice_index, Some, None, refl}
 use Rattle.std.proofs.Common.{◌∙◌, sym, ap, subst, arith, add-one, drop-cons, get_or}
 use Rattle.std.proofs.Math.Seq.{drop-length}
+use Rattle.std.proofs.Math.ListN.{get_or-map}
+use Rattle.std.proofs.lemmas.List.{length-map}
+use Rattle.format_spec.specs.Formats.{modes_of, IsFormat}
 use Rattle.level_core.specs.declared.span.Span.{Span}
 use Rattle.level_core.specs.declared.span.Entry.{Entry}
 use Rattle.level_core.specs.Entries.{StandsAt, one, span as the_span}
@@ -23,7 +26,7 @@ pub record Reached {L : Type 0} (means : Meaning L) (levels : List L) (xs : List
 pub none_reached : {L : Type 0} (means : Meaning L) (levels : List L) (xs : List ℕ) (positions : ℕ) → IsOpen means levels positions (one 0) → Reached means levels xs positions 0 (one 0)
 none_reached means levels xs positions o = record { opened = o; into = λ pos p. p; back = λ pos p. p }
 
-drop_map : {A : Type 0} (f : A → ℕ) (xs : List A) (i : ℕ) (d : A) → i < length xs → drop i (map f xs) ≡ f (get_or xs i d) ∷ drop (suc i) (map f xs)
+pub drop_map : {A B : Type 0} (f : A → B) (xs : List A) (i : ℕ) (d : A) → i < length xs → drop i (map f xs) ≡ f (get_or xs i d) ∷ drop (suc i) (map f xs)
 drop_map f [] i d h = absurd (omega (arith, h))
 drop_map f (x ∷ xs) zero d h = refl
 drop_map f (x ∷ xs) (suc i) d h = drop_map f xs i d (omega (arith, h))
@@ -80,3 +83,11 @@ path_ends means levels xs positions span long r =
     let o = subst (λ ls. IsOpen means ls positions span) last r.opened in
     let is : span ≡ one span.lo = ap (λ hi. the_span span.lo hi) o.0 in
     r.back span.lo (subst (λ ls. Path means ls span (drop (length levels) xs) span.lo) (sym last) (subst (λ ys. Path means [] span ys span.lo) (sym none) is))
+
+-- a format's modes are those of the tensor
+pub mode_below : (format : List FormatLevel) → IsFormat format → (k : ℕ) (d : FormatLevel) → k < length format → (get_or format k d).mode < length format
+mode_below format is k d h =
+    let long : length (modes_of format) ≡ length format = length-map format (λ level. level.mode) in
+    let same : get_or (modes_of format) k d.mode ≡ (get_or format k d).mode = get_or-map (λ level. level.mode) format k d in
+    let below = is.order.below k d.mode (omega (arith, long, h)) in
+    omega (arith, same, below)

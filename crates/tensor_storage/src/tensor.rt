@@ -1,8 +1,16 @@
-ghost use Rattle.std.specs.Prelude.{◌≡◌, ℕ, length, slice_index};
+ghost use Rattle.std.specs.Prelude.{◌≡◌, ◌≤◌, ℕ, All, length, slice_index, MatchResult};
+ghost use Rattle.limits.specs.Limits.{greatest_position_count};
+ghost use Rattle.level_rows.specs.Tables.{Increase};
+ghost use Rattle.tensor_storage.specs.Packed.{IsRefusal};
+ghost use Rattle.tensor_storage.specs.Tables.{AreBelow};
 
 use crate::finding::value_at;
 use crate::level::StorageLevel;
+use crate::packing::{PackRefusal, PackedLevels, pack_levels, zeros};
+use crate::table::{LevelRows, RowTable};
 use format_spec::{Format, FormatLevel};
+use level_rows::store_values;
+use std::alloc::Global;
 use std::marker::Model;
 use trees::Items;
 
@@ -25,7 +33,46 @@ impl Model for Tensor {
 }
 
 impl Tensor {
-    ghost use Rattle.tensor_storage.specs.Storages.{IsStorage, EndsAt};
+    ghost use Rattle.tensor_storage.specs.Stands.{IsPacked};
+    ghost use Rattle.tensor_storage.specs.Storages.{IsStorage, EndsAt, in_level_order};
+
+    /// Packs the rows of a table, which increase in the order of the format's levels: each is stored, those of value zero too.
+    /// `ranges` has the range of each mode. Refused for want of memory, or where a level would have more positions than may be.
+    pub fn pack<T: RowTable>(
+        alloc: Global,
+        format: Format,
+        ranges: &[u64],
+        table: &T,
+    ) -> Result<Tensor, PackRefusal>
+        requires ranges { length ranges.now ≡ length format }
+        requires small { All (λ range. range ≤ greatest_position_count) ranges.now }
+        requires order { Increase (T.table table.now).coords (length format) (T.table table.now).count }
+        requires below { AreBelow (T.table table.now) (in_level_order format ranges.now) }
+        ensures { MatchResult result (IsPacked format ranges.now (T.table table.now)) IsRefusal }
+    {
+        let Ok(mut places) = zeros(alloc, table.count()) else {
+            return Err(PackRefusal::Memory);
+        };
+        let packed = match pack_levels(alloc, format.levels(), ranges, table, &mut places) {
+            Ok(packed) => packed,
+            Err(refusal) => return Err(refusal),
+        };
+        let PackedLevels { levels, positions } = packed;
+        let Ok(mut values) = zeros(alloc, positions as usize) else {
+            return Err(PackRefusal::Memory);
+        };
+        let rows = LevelRows {
+            table,
+            level: 0,
+            through: 0,
+        };
+        store_values(&rows, &places, &mut values);
+        Ok(Tensor {
+            format,
+            levels,
+            values: Items::from_vec(values),
+        })
+    }
 
     /// The number of modes, and of levels.
     pub fn order(&self) -> usize
