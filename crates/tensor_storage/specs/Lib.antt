@@ -1,2 +1,9 @@
+pub mod Chains
+pub mod Children
 pub mod Laws
 pub mod Levels
+pub mod New
+pub mod Packed
+pub mod Stands
+pub mod Storages
+pub mod Tables

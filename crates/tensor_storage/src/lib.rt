@@ -1,10 +1,19 @@
-//! The storage of tensors: so far, a level of any kind.
+//! The storage of tensors: a level of any kind, and packed tensors, whose levels stand one below another with a value for
+//! each position of the last. `specs/Storages.antt` says what is stored of a tensor, and
+//! `specs/Stands.antt` for which table of named coordinates and values it stands.
 #![tactic(auto)]
 
 mod appending;
+mod finding;
 mod inserting;
 mod kind;
 mod level;
+mod packing;
 mod reading;
+mod table;
+mod tensor;
 
 pub use level::StorageLevel;
+pub use packing::PackRefusal;
+pub use table::RowTable;
+pub use tensor::Tensor;

@@ -1,0 +1,6 @@
+use Rattle.std.specs.Prelude.{◌≡◌}
+use Rattle.tensor_storage.specs.Tables.{agree}
+use Rattle.tensor_storage.proofs.table.rows_agree.Given as goal
+
+abbrev pub invariant-loop-level : goal.invariant-loop-level
+invariant-loop-level g l = l.same ≡ agree (g.T.RowTable.table l.table).coords l.level l.fn.row l.fn.other

@@ -1,0 +1,134 @@
+ghost use Rattle.std.specs.Prelude.{◌≡◌, ◌<◌, ◌≤◌, ◌+◌, All, length, drop, replicate, IfOk, MatchResult};
+ghost use Rattle.limits.specs.Limits.{greatest_position_count};
+ghost use Rattle.format_spec.specs.Formats.{letters_of, IsFormat};
+ghost use Rattle.level_rows.specs.Tables.{Increase};
+ghost use Rattle.tensor_storage.specs.Packed.{ArePacked, IsRefusal};
+ghost use Rattle.tensor_storage.specs.Storages.{in_level_order};
+ghost use Rattle.tensor_storage.specs.Tables.{AreBelow};
+ghost use Rattle.tensor_storage.specs.Chains.{chain_length};
+ghost use Rattle.tensor_storage.specs.Levels.{meaning};
+ghost use Rattle.tensor_storage.specs.New.{IsNew};
+
+use crate::level::StorageLevel;
+use crate::table::{LevelRows, RowTable};
+use compressed_level::CompressedLevel;
+use dense_level::DenseLevel;
+use format_spec::FormatLevel;
+use hashed_level::HashedLevel;
+use level_core::{Letter, props_of};
+use level_rows::{FillRefusal, fill_level};
+use singleton_level::SingletonLevel;
+use std::alloc::{AllocError, Global};
+use trees::Items;
+
+/// Why a tensor isn't packed.
+#[derive(Clone, Copy, Debug, PartialEq, Eq, Drop)]
+pub enum PackRefusal {
+    /// Memory was wanted.
+    Memory,
+    /// A level, of which the top one is number 1, would have so many positions, which pass the limit. Those above it don't.
+    SizeLimit { level: usize, count: u128 },
+}
+
+/// A level of this kind, for coordinates below `size`. Refused for want of memory alone.
+fn new_level(alloc: Global, letter: Letter, size: u64) -> Result<StorageLevel, AllocError>
+    requires { size ≤ greatest_position_count }
+    ensures { IfOk result (IsNew meaning letter size) }
+{
+    let level = match letter {
+        Letter::Dense => StorageLevel::Dense(DenseLevel::new(alloc, size)?),
+        Letter::Compressed => { StorageLevel::Compressed(CompressedLevel::new(alloc, size, true)?) }
+        Letter::CompressedGroups => {
+            StorageLevel::Compressed(CompressedLevel::new(alloc, size, false)?)
+        }
+        Letter::Singleton => StorageLevel::Singleton(SingletonLevel::new(alloc, size, true)?),
+        Letter::SingletonGroups => {
+            StorageLevel::Singleton(SingletonLevel::new(alloc, size, false)?)
+        }
+        Letter::Hashed => StorageLevel::Hashed(HashedLevel::new(alloc, size)?),
+    };
+    Ok(level)
+}
+
+/// Where the chain of levels with groups ends that a level stands in: the number of levels through the first unique one from
+/// there on.
+fn chain_end(format: &[FormatLevel], level: usize) -> usize
+    requires { level < length format.now }
+    ensures { result ≡ level + chain_length (drop level (letters_of format.now)) }
+{
+    let mut end = level;
+    while end < format.len() {
+        if props_of(format[end].letter).unique {
+            return end + 1;
+        }
+        end += 1;
+    }
+    end + 1
+}
+
+/// The levels of a format with the rows of a table, and how many positions the last one has.
+#[derive(Drop)]
+pub(crate) struct PackedLevels {
+    pub(crate) levels: Items<StorageLevel>,
+    pub(crate) positions: u64,
+}
+
+/// Packs the levels of a format one below another. `sizes` has the ranges of the modes; `places` has a zero for each row, and then
+/// its position at the last level.
+pub(crate) fn pack_levels<T: RowTable>(
+    alloc: Global,
+    format: &[FormatLevel],
+    ranges: &[u64],
+    table: &T,
+    places: &mut [u64],
+) -> Result<PackedLevels, PackRefusal>
+    requires format { IsFormat format.now }
+    requires ranges { length ranges.now ≡ length format.now }
+    requires small { All (λ range. range ≤ greatest_position_count) ranges.now }
+    requires order { Increase (T.table table.now).coords (length format.now) (T.table table.now).count }
+    requires below { AreBelow (T.table table.now) (in_level_order format.now ranges.now) }
+    requires places { places.old ≡ replicate (T.table table.now).count 0 }
+    ensures { MatchResult result
+        (λ packed. ArePacked meaning (letters_of format.now) (in_level_order format.now ranges.now) (T.table table.now)
+        (length format.now) packed.levels places.new packed.positions × (packed.positions ≤ greatest_position_count))
+        IsRefusal }
+{
+    let mut levels = Items::new(alloc);
+    let mut parents = 1;
+    for level in 0..format.len() {
+        let size = ranges[format[level].mode];
+        let Ok(mut stored) = new_level(alloc, format[level].letter, size) else {
+            return Err(PackRefusal::Memory);
+        };
+        let rows = LevelRows {
+            table,
+            level,
+            through: chain_end(format, level),
+        };
+        match fill_level(&mut stored, size, parents, &rows, places) {
+            Ok(count) => parents = count,
+            Err(FillRefusal::Memory) => return Err(PackRefusal::Memory),
+            Err(FillRefusal::TooMany(count)) => {
+                return Err(PackRefusal::SizeLimit {
+                    level: level + 1,
+                    count,
+                });
+            }
+        }
+        let Ok(()) = levels.push(stored) else {
+            return Err(PackRefusal::Memory);
+        };
+    }
+    Ok(PackedLevels {
+        levels,
+        positions: parents,
+    })
+}
+
+/// So many zeros. Refused for want of memory alone.
+pub(crate) fn zeros(alloc: Global, count: usize) -> Result<Vec<u64>, AllocError>
+    ensures { IfOk result (λ values. values.items ≡ replicate count 0) }
+{
+    let values = vec![in alloc; 0u64; count]?;
+    Ok(values)
+}

@@ -1,0 +1,72 @@
+ghost use Rattle.std.specs.Prelude.{◌≡◌, ◌<◌, ◌≤◌, ℕ};
+ghost use Rattle.tensor_storage.specs.Tables.{Table, agree, begins_at, keys_of};
+
+use level_rows::{RowValues, SortedRows};
+
+/// Rows that a tensor is packed from: of each its coordinates in the order of the levels, and its value.
+pub trait RowTable {
+    /// How many rows, their coordinates, and their values.
+    ghost table: { Self → Table };
+
+    /// How many rows there are.
+    fn count(&self) -> usize
+        ensures { result ≡ (table self.now).count };
+
+    /// The coordinate of a row at a level, counted from 0.
+    fn coord(&self, level: usize, row: usize) -> u64
+        requires { row < (table self.now).count }
+        ensures { result ≡ (table self.now).coords level row };
+
+    /// The value of a row.
+    fn value(&self, row: usize) -> u64
+        requires { row < (table self.now).count }
+        ensures { result ≡ (table self.now).values row };
+}
+
+/// Whether two rows have the same coordinates at the first levels.
+fn rows_agree<T: RowTable>(table: &T, levels: usize, row: usize, other: usize) -> bool
+    requires row { row < (T.table table.now).count }
+    requires other { other < (T.table table.now).count }
+    ensures { result ≡ agree (T.table table.now).coords levels row other }
+{
+    let mut same = true;
+    for level in 0..levels {
+        same = same && table.coord(level, row) == table.coord(level, other);
+    }
+    same
+}
+
+/// The rows of a table as a level takes them: its number, and how many of the first levels tell rows apart that begin positions.
+#[derive(Drop)]
+pub(crate) struct LevelRows<'a, T> {
+    pub(crate) table: &'a T,
+    pub(crate) level: usize,
+    pub(crate) through: usize,
+}
+
+impl<'a, T: RowTable> SortedRows for LevelRows<'a, T> {
+    ghost keys = { λ rows. keys_of (T.table rows.table.now) rows.level rows.through };
+
+    fn count(&self) -> usize {
+        self.table.count()
+    }
+
+    fn coord(&self, row: usize) -> u64 {
+        self.table.coord(self.level, row)
+    }
+
+    fn begins(&self, row: usize) -> bool {
+        if row == 0 {
+            return true;
+        }
+        !rows_agree(self.table, self.through, row - 1, row)
+    }
+}
+
+impl<'a, T: RowTable> RowValues for LevelRows<'a, T> {
+    ghost values = { λ rows. (T.table rows.table.now).values };
+
+    fn value(&self, row: usize) -> u64 {
+        self.table.value(row)
+    }
+}

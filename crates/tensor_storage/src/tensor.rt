@@ -1,0 +1,119 @@
+ghost use Rattle.std.specs.Prelude.{◌≡◌, ◌≤◌, ℕ, All, length, slice_index, MatchResult};
+ghost use Rattle.limits.specs.Limits.{greatest_position_count};
+ghost use Rattle.level_rows.specs.Tables.{Increase};
+ghost use Rattle.tensor_storage.specs.Packed.{IsRefusal};
+ghost use Rattle.tensor_storage.specs.Tables.{AreBelow};
+
+use crate::finding::value_at;
+use crate::level::StorageLevel;
+use crate::packing::{PackRefusal, PackedLevels, pack_levels, zeros};
+use crate::table::{LevelRows, RowTable};
+use format_spec::{Format, FormatLevel};
+use level_rows::store_values;
+use std::alloc::Global;
+use std::marker::Model;
+use trees::Items;
+
+/// A packed tensor: the levels of its format one below another, and a value for each position of the last one.
+#[derive(Drop)]
+pub struct Tensor {
+    format: Format,
+    levels: Items<StorageLevel>,
+    values: Items<u64>,
+}
+
+impl Model for Tensor {
+    ghost use Rattle.tensor_storage.specs.Storages.{Storage, IsStorage};
+
+    ghost Value = { Storage };
+
+    ghost view = { λ t. record { format = t.format; levels = t.levels; values = t.values } };
+
+    ghost invariant = { λ t. IsStorage (record { format = t.format; levels = t.levels; values = t.values }) };
+}
+
+impl Tensor {
+    ghost use Rattle.tensor_storage.specs.Stands.{IsPacked};
+    ghost use Rattle.tensor_storage.specs.Storages.{IsStorage, EndsAt, in_level_order};
+
+    /// Packs the rows of a table, which increase in the order of the format's levels: each is stored, those of value zero too.
+    /// `ranges` has the range of each mode. Refused for want of memory, or where a level would have more positions than may be.
+    pub fn pack<T: RowTable>(
+        alloc: Global,
+        format: Format,
+        ranges: &[u64],
+        table: &T,
+    ) -> Result<Tensor, PackRefusal>
+        requires ranges { length ranges.now ≡ length format }
+        requires small { All (λ range. range ≤ greatest_position_count) ranges.now }
+        requires order { Increase (T.table table.now).coords (length format) (T.table table.now).count }
+        requires below { AreBelow (T.table table.now) (in_level_order format ranges.now) }
+        ensures { MatchResult result (IsPacked format ranges.now (T.table table.now)) IsRefusal }
+    {
+        let Ok(mut places) = zeros(alloc, table.count()) else {
+            return Err(PackRefusal::Memory);
+        };
+        let packed = match pack_levels(alloc, format.levels(), ranges, table, &mut places) {
+            Ok(packed) => packed,
+            Err(refusal) => return Err(refusal),
+        };
+        let PackedLevels { levels, positions } = packed;
+        let Ok(mut values) = zeros(alloc, positions as usize) else {
+            return Err(PackRefusal::Memory);
+        };
+        let rows = LevelRows {
+            table,
+            level: 0,
+            through: 0,
+        };
+        store_values(&rows, &places, &mut values);
+        Ok(Tensor {
+            format,
+            levels,
+            values: Items::from_vec(values),
+        })
+    }
+
+    /// The number of modes, and of levels.
+    pub fn order(&self) -> usize
+        ensures { result ≡ length self.now.format }
+    {
+        self.format.order()
+    }
+
+    /// The kind and the mode of each level, from the top.
+    pub fn format(&self) -> &[FormatLevel]
+        ensures value { result.now ≡ self.now.format }
+        ensures storage { IsStorage self.now }
+    {
+        self.format.levels()
+    }
+
+    /// The levels, from the top.
+    pub fn levels(&self) -> &[StorageLevel]
+        ensures { result.now ≡ self.now.levels }
+    {
+        self.levels.as_slice()
+    }
+
+    /// The values at the positions of the last level, or the one value of a tensor of order 0.
+    pub fn values(&self) -> &[u64]
+        ensures { result.now ≡ self.now.values }
+    {
+        self.values.as_slice()
+    }
+
+    /// The value at the coordinates, one a mode: zero where nothing is stored there. It takes no memory.
+    pub fn at(&self, coords: &[u64]) -> u64
+        requires { length coords.now ≡ length self.now.format }
+        ensures stored { (pos : ℕ) → EndsAt self.now coords.now pos → result ≡ slice_index self.now.values pos }
+        ensures absent { ((pos : ℕ) → EndsAt self.now coords.now pos → ⊥) → result ≡ 0 }
+    {
+        value_at(
+            self.levels.as_slice(),
+            self.format.levels(),
+            self.values.as_slice(),
+            coords,
+        )
+    }
+}
