@@ -58,7 +58,12 @@ pub(crate) fn put_expr<S: Sink>(sink: &mut S, e: &KExpr) -> Result<(), Refusal>
 
 /// Appends an expression between two texts.
 #[cycle(exprs)]
-pub(crate) fn put_one<S: Sink>(sink: &mut S, before: &[u8], e: &KExpr, after: &[u8]) -> Result<(), Refusal>
+pub(crate) fn put_one<S: Sink>(
+    sink: &mut S,
+    before: &[u8],
+    e: &KExpr,
+    after: &[u8],
+) -> Result<(), Refusal>
     ensures { Prints (S.state sink.old) (S.state sink.new) (before.now ++ (expr_text e.now ++ after.now)) result }
 {
     put_all(sink, before)?;

@@ -45,7 +45,11 @@ fn put_lists<S: Sink>(sink: &mut S, count: u64) -> Result<(), Refusal>
 fn put_body<S: Sink>(sink: &mut S, kernel: &Kernel) -> Result<(), Refusal>
     ensures { Prints (S.state sink.old) (S.state sink.new) (statements_text 1 kernel.now.body ++ codes "}\n") result }
 {
-    put_statements(sink, &Indent::Within(&Indent::Margin), kernel.body.as_slice())?;
+    put_statements(
+        sink,
+        &Indent::Within(&Indent::Margin),
+        kernel.body.as_slice(),
+    )?;
     put_all(sink, b"}\n")
 }
 

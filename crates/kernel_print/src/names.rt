@@ -17,7 +17,12 @@ pub(crate) fn put_numbered<S: Sink>(sink: &mut S, before: &[u8], number: u64) ->
 }
 
 /// Appends a number between two texts.
-pub(crate) fn put_name<S: Sink>(sink: &mut S, before: &[u8], number: u64, after: &[u8]) -> Result<(), Refusal>
+pub(crate) fn put_name<S: Sink>(
+    sink: &mut S,
+    before: &[u8],
+    number: u64,
+    after: &[u8],
+) -> Result<(), Refusal>
     ensures { Prints (S.state sink.old) (S.state sink.new) (before.now ++ (decimal number ++ after.now)) result }
 {
     put_all(sink, before)?;

@@ -43,7 +43,13 @@ fn put_set<S: Sink>(sink: &mut S, x: u64, e: &KExpr) -> Result<(), Refusal>
 }
 
 /// Appends a statement that gives a variable the sum or the product of two values.
-fn put_combine<S: Sink>(sink: &mut S, x: u64, op: ValueOp, e: &KExpr, f: &KExpr) -> Result<(), Refusal>
+fn put_combine<S: Sink>(
+    sink: &mut S,
+    x: u64,
+    op: ValueOp,
+    e: &KExpr,
+    f: &KExpr,
+) -> Result<(), Refusal>
     ensures { Prints (S.state sink.old) (S.state sink.new) (codes "x" ++ (decimal x ++ (combining_text op ++ (expr_text e.now ++ (codes ", " ++ (expr_text f.now ++ codes ");\n")))))) result }
 {
     put_numbered(sink, b"x", x)?;
@@ -51,7 +57,13 @@ fn put_combine<S: Sink>(sink: &mut S, x: u64, op: ValueOp, e: &KExpr, f: &KExpr)
 }
 
 /// Appends a statement that writes a word of an array.
-fn put_write<S: Sink>(sink: &mut S, array: Arr, index: &KExpr, between: &[u8], e: &KExpr) -> Result<(), Refusal>
+fn put_write<S: Sink>(
+    sink: &mut S,
+    array: Arr,
+    index: &KExpr,
+    between: &[u8],
+    e: &KExpr,
+) -> Result<(), Refusal>
     ensures { Prints (S.state sink.old) (S.state sink.new) (array_text array ++ (codes "[" ++ (expr_text index.now ++ (between.now ++ (expr_text e.now ++ codes ";\n"))))) result }
 {
     put_array(sink, array)?;
@@ -114,7 +126,12 @@ fn put_statement<S: Sink>(sink: &mut S, indent: &Indent<'_>, s: &KStmt) -> Resul
 
 /// Appends the statements inside brackets and the line that closes these.
 #[cycle(statements)]
-fn put_block<S: Sink>(sink: &mut S, outer: &Indent<'_>, body: &[KStmt], closing: &[u8]) -> Result<(), Refusal>
+fn put_block<S: Sink>(
+    sink: &mut S,
+    outer: &Indent<'_>,
+    body: &[KStmt],
+    closing: &[u8],
+) -> Result<(), Refusal>
     ensures { Prints (S.state sink.old) (S.state sink.new) (statements_text (suc (depth_of outer.now)) body.now ++ (indentation (depth_of outer.now) ++ closing.now)) result }
 {
     put_statements(sink, &Indent::Within(&*outer), body)?;
@@ -124,7 +141,11 @@ fn put_block<S: Sink>(sink: &mut S, outer: &Indent<'_>, body: &[KStmt], closing:
 
 /// Appends statements, each on lines of its own.
 #[cycle(statements)]
-pub(crate) fn put_statements<S: Sink>(sink: &mut S, indent: &Indent<'_>, statements: &[KStmt]) -> Result<(), Refusal>
+pub(crate) fn put_statements<S: Sink>(
+    sink: &mut S,
+    indent: &Indent<'_>,
+    statements: &[KStmt],
+) -> Result<(), Refusal>
     ensures { Prints (S.state sink.old) (S.state sink.new) (statements_text (depth_of indent.now) statements.now) result }
 {
     for s in statements {
