@@ -1,6 +1,7 @@
 -- That each expression has a text of its own.
 use Rattle.std.specs.Prelude.{◌≡◌, List, ◌++◌, ℕ}
-use Rattle.kernel_code.specs.declared.syntax.KExpr.{KExpr, Num, Var, At', Len, Bin', Min', Width', Row_of-KExpr, end_of-KExpr, more_of-KExpr}
+use Rattle.kernel_code.specs.declared.syntax.KExpr.{KExpr, Num, Var, At', Len, Bin', Min', Width'}
+use Rattle.kernel_code.specs.declared.syntax.KExpr.{Row_of-KExpr, end_of-KExpr, more_of-KExpr}
 use Rattle.kernel_print.specs.ArrayNames.{IsWord, HasWords, BeginsWithoutDigit}
 use Rattle.kernel_print.specs.Text.{expr_text}
 
@@ -22,5 +23,6 @@ abbrev mutual
 -- where the texts of two expressions, and what stands behind each, are one text, they are one expression, with one text
 -- behind it
 abbrev pub TextsTellExprs : Type 0
-TextsTellExprs = (e f : KExpr) (behind behind' : List ℕ) → ExprHasWords e → ExprHasWords f → BeginsWithoutDigit behind → BeginsWithoutDigit behind'
+TextsTellExprs = (e f : KExpr) (behind behind' : List ℕ) → ExprHasWords e → ExprHasWords f → BeginsWithoutDigit behind
+    → BeginsWithoutDigit behind'
     → expr_text e ++ behind ≡ expr_text f ++ behind' → (e ≡ f) × (behind ≡ behind')
