@@ -1,5 +1,5 @@
 -- Arrays told by their names: a left inverse of the text of an array.
-use Rattle.std.specs.Prelude.{◌≡◌, ℕ, suc, ◌<◌, ◌^◌, ◌==◌, ◌&&◌, Bool, true, false, if◌then◌else◌, List, [], ◌∷◌, ◌++◌, codes, drop, length, nat_lt, slice_index_or, refl}
+use Rattle.std.specs.Prelude.{◌≡◌, ℕ, ◌<◌, ◌==◌, ◌&&◌, Bool, true, false, if◌then◌else◌, List, [], ◌∷◌, ◌++◌, codes, drop, length, refl}
 use Rattle.std.specs.Char.{is_ascii_digit}
 use Rattle.std.specs.Fmt.{decimal}
 use Rattle.std.specs.Str.{all_ascii_digits}
@@ -13,22 +13,22 @@ use Rattle.kernel_print.specs.ArrayNames.{IsWord, HasWords, BeginsWithoutDigit, 
 use Rattle.kernel_print.specs.Text.{array_text}
 
 -- the digits in front, and what stands behind them
-abbrev digits_in : List ℕ → List ℕ
+abbrev pub digits_in : List ℕ → List ℕ
 digits_in [] = []
 digits_in (byte ∷ text) = if is_ascii_digit byte then byte ∷ digits_in text else []
 
-abbrev behind_digits : List ℕ → List ℕ
+abbrev pub behind_digits : List ℕ → List ℕ
 behind_digits [] = []
 behind_digits (byte ∷ text) = if is_ascii_digit byte then behind_digits text else byte ∷ text
 
-abbrev number_in : List ℕ → ℕ
+abbrev pub number_in : List ℕ → ℕ
 number_in text = digits_value 10 (digits_in text)
 
 first_true : (a b : Bool) → (a && b) ≡ true → (a ≡ true) × (b ≡ true)
 first_true true b h = (refl, h)
 first_true false b h = absurd (cc)
 
-all_first : (byte : ℕ) (text : List ℕ) → all_ascii_digits (byte ∷ text) ≡ true → (is_ascii_digit byte ≡ true) × (all_ascii_digits text ≡ true)
+pub all_first : (byte : ℕ) (text : List ℕ) → all_ascii_digits (byte ∷ text) ≡ true → (is_ascii_digit byte ≡ true) × (all_ascii_digits text ≡ true)
 all_first byte text all = first_true (is_ascii_digit byte) (all_ascii_digits text) all
 
 none_first : (behind : List ℕ) → BeginsWithoutDigit behind → (digits_in behind ≡ []) × (behind_digits behind ≡ behind)
@@ -41,9 +41,10 @@ cut_digits : (digits behind : List ℕ) → all_ascii_digits digits ≡ true →
 cut_digits [] behind all plain = none_first behind plain
 cut_digits (byte ∷ digits) behind all plain =
     let first = all_first byte digits all in
-    let rest = cut_digits digits behind first.1 plain in
-    ( ap (λ (b : Bool). if b then byte ∷ digits_in (digits ++ behind) else []) first.0 ∙ ap (λ (t : List ℕ). byte ∷ t) rest.0,
-      ap (λ (b : Bool). if b then behind_digits (digits ++ behind) else byte ∷ (digits ++ behind)) first.0 ∙ rest.1)
+    let rest = cut_digits digits behind first.1 plain in (
+      ap (λ (b : Bool). if b then byte ∷ digits_in (digits ++ behind) else []) first.0 ∙ ap (λ (t : List ℕ). byte ∷ t) rest.0,
+      ap (λ (b : Bool). if b then behind_digits (digits ++ behind) else byte ∷ (digits ++ behind)) first.0 ∙ rest.1,
+    )
 
 -- a printed number and what stands behind it
 pub cut_number : (n : ℕ) (behind : List ℕ) → IsWord n → BeginsWithoutDigit behind
@@ -52,33 +53,32 @@ cut_number n behind word plain =
     let cut = cut_digits (decimal n) behind (digits_decimal digits_model n word) plain in
     (ap (digits_value 10) cut.0 ∙ digits_value-decimal digits_model n word, cut.1)
 
-
 -- what each part of a name tells of the array
-abbrev second_byte : List ℕ → ℕ
+abbrev pub second_byte : List ℕ → ℕ
 second_byte [] = 0
 second_byte (byte ∷ []) = 0
 second_byte (byte ∷ next ∷ text) = next
 
-abbrev level_array : ℕ → ℕ → ℕ → Arr
+abbrev pub level_array : ℕ → ℕ → ℕ → Arr
 level_array n level kind =
     if kind == 100 then array.Dimension n level else (if kind == 112 then array.Ends n level
     else (if kind == 99 then array.Coordinates n level else array.Width n level))
 
-abbrev level_told : ℕ → ℕ → List ℕ → Arr × List ℕ
+abbrev pub level_told : ℕ → ℕ → List ℕ → Arr × List ℕ
 level_told n level text = (level_array n level (second_byte text), drop 4 text)
 
-abbrev tensor_told : ℕ → List ℕ → Arr × List ℕ
+abbrev pub tensor_told : ℕ → List ℕ → Arr × List ℕ
 tensor_told n text =
     if is_ascii_digit (second_byte text) then level_told n (number_in (drop 1 text)) (behind_digits (drop 1 text)) else (array.Values n, drop 4 text)
 
-abbrev workspace_told : ℕ → List ℕ → Arr × List ℕ
+abbrev pub workspace_told : ℕ → List ℕ → Arr × List ℕ
 workspace_told n text =
     if second_byte text == 107 then (array.Key n (number_in (drop 4 text)), behind_digits (drop 4 text)) else (array.Sums n, drop 4 text)
 
-abbrev list_told : ℕ → List ℕ → Arr × List ℕ
+abbrev pub list_told : ℕ → List ℕ → Arr × List ℕ
 list_told n text = (if second_byte text == 99 then array.ListCoordinates n else array.ListPositions n, drop 4 text)
 
-abbrev told : List ℕ → Arr × List ℕ
+abbrev pub told : List ℕ → Arr × List ℕ
 told [] = (array.Range, [])
 told (byte ∷ text) =
     if byte == 114 then (array.Range, drop 4 text) else (if byte == 84 then tensor_told (number_in text) (behind_digits text)
@@ -92,17 +92,17 @@ with_number f n tail behind word plain =
     ap (λ (t : List ℕ). f (number_in t) (behind_digits t)) (append_assoc (decimal n) tail behind)
     ∙ ap (λ (m : ℕ). f m (behind_digits (decimal n ++ (tail ++ behind)))) cut.0 ∙ ap (f n) cut.1
 
-second_digit : (digits tail behind : List ℕ) → 0 < length digits → all_ascii_digits digits ≡ true
-    → is_ascii_digit (second_byte (95 ∷ ((digits ++ tail) ++ behind))) ≡ true
-second_digit [] tail behind some all = absurd (omega (arith, some))
-second_digit (byte ∷ digits) tail behind some all = (all_first byte digits all).0
+pub second_digit : (byte : ℕ) (digits tail behind : List ℕ) → 0 < length digits → all_ascii_digits digits ≡ true
+    → is_ascii_digit (second_byte (byte ∷ ((digits ++ tail) ++ behind))) ≡ true
+second_digit byte [] tail behind some all = absurd (omega (arith, some))
+second_digit byte (digit ∷ digits) tail behind some all = (all_first digit digits all).0
 
 level_begins : (n level : ℕ) (tail behind : List ℕ) → IsWord level → BeginsWithoutDigit (tail ++ behind)
     → tensor_told n (95 ∷ ((decimal level ++ tail) ++ behind)) ≡ level_told n level (tail ++ behind)
 level_begins n level tail behind word plain =
     let rest : List ℕ = (decimal level ++ tail) ++ behind in
     ap (λ (b : Bool). if b then level_told n (number_in rest) (behind_digits rest) else (array.Values n, drop 4 (95 ∷ rest)))
-      (second_digit (decimal level) tail behind (decimal_nonempty level word) (digits_decimal digits_model level word))
+    (second_digit 95 (decimal level) tail behind (decimal_nonempty level word) (digits_decimal digits_model level word))
     ∙ with_number (level_told n) level tail behind word plain
 
 -- the name of an array tells it

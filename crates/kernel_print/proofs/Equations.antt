@@ -56,9 +56,9 @@ pub if_text : (depth : ℕ) (e : KExpr) (first second : List KStmt)
 if_text depth e first second =
     if_pieces (expr_text e) (indentation depth) (row_text (suc depth) (hidden-the_row-KStmt-0 first)) (row_text (suc depth) (hidden-the_row-KStmt-0 second))
     ∙ ap (λ (a : List ℕ). (codes "if " ++ (expr_text e ++ codes " {\n")) ++ ((a ++ (indentation depth ++ codes "} else {\n"))
-        ++ (row_text (suc depth) (hidden-the_row-KStmt-0 second) ++ (indentation depth ++ codes "}\n")))) (held_is_list (suc depth) first)
+    ++ (row_text (suc depth) (hidden-the_row-KStmt-0 second) ++ (indentation depth ++ codes "}\n")))) (held_is_list (suc depth) first)
     ∙ ap (λ (b : List ℕ). (codes "if " ++ (expr_text e ++ codes " {\n")) ++ (block depth first (codes "} else {\n") ++ (b ++ (indentation depth ++ codes "}\n"))))
-      (held_is_list (suc depth) second)
+    (held_is_list (suc depth) second)
 
 pub while_text : (depth : ℕ) (k : LoopKind) (e : KExpr) (body : List KStmt)
     → statement_text depth (While k e body)
@@ -66,4 +66,4 @@ pub while_text : (depth : ℕ) (k : LoopKind) (e : KExpr) (body : List KStmt)
 while_text depth k e body =
     while_pieces (kind_text k) (expr_text e) (indentation depth) (row_text (suc depth) (hidden-the_row-KStmt-0 body))
     ∙ ap (λ (a : List ℕ). (codes "while " ++ (kind_text k ++ (codes " " ++ (expr_text e ++ codes " {\n")))) ++ (a ++ (indentation depth ++ codes "}\n")))
-      (held_is_list (suc depth) body)
+    (held_is_list (suc depth) body)

@@ -1,4 +1,5 @@
 pub mod ArrayNames
 pub mod Equations
+pub mod ExprTexts
 pub mod Loops
 pub mod Pieces

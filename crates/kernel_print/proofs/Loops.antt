@@ -1,9 +1,8 @@
 -- A text appended by a loop.
-use Rattle.std.specs.Prelude.{◌≡◌, ℕ, suc, ◌+◌, ◌-◌, ◌<◌, List, [], ◌∷◌, ◌++◌, length, codes, drop, slice_index_or, Result, Ok, Err, refl}
+use Rattle.std.specs.Prelude.{◌≡◌, ℕ, suc, ◌+◌, ◌-◌, ◌<◌, List, [], ◌++◌, length, codes, drop, slice_index_or, Result, refl}
 use Rattle.std.specs.Fmt.{decimal}
 use Rattle.std.proofs.Common.{◌∙◌, ap, sym, subst, add-one, append_assoc, append-nil, arith}
 use Rattle.std.proofs.Math.Seq.{drop-cons}
-use Rattle.outside.specs.Folder.{appended}
 use Rattle.outside.specs.Sink.{SinkState, Appends, AppendsSoFar}
 use Rattle.outside.specs.declared.refusal.Refusal.{Refusal}
 use Rattle.outside.proofs.Sinks.{appended-nil}
@@ -68,7 +67,7 @@ statements_step depth ss i s inside is =
 
 pub workspaces_step : (ws : List ℕ) (i keys : ℕ) → i < length ws → keys ≡ slice_index_or ws i 0
     → workspaces_text i (drop i ws)
-        ≡ (codes "  workspace w" ++ (decimal i ++ (codes " " ++ (decimal keys ++ codes ";\n")))) ++ workspaces_text (i + 1) (drop (i + 1) ws)
+    ≡ (codes "  workspace w" ++ (decimal i ++ (codes " " ++ (decimal keys ++ codes ";\n")))) ++ workspaces_text (i + 1) (drop (i + 1) ws)
 workspaces_step ws i keys inside is =
     let rest : List ℕ = workspaces_text (i + 1) (drop (i + 1) ws) in
     ap (workspaces_text i) (drop-cons ws i 0 inside)

@@ -28,5 +28,6 @@ BeginsWithoutDigit (byte ∷ text) = is_ascii_digit byte ≡ false
 
 -- where the names of two arrays, and what stands behind each, are one text, they are one array, with one text behind it
 abbrev pub NamesTellArrays : Type 0
-NamesTellArrays = (a b : Arr) (behind behind' : List ℕ) → HasWords a → HasWords b → BeginsWithoutDigit behind → BeginsWithoutDigit behind'
+NamesTellArrays = (a b : Arr) (behind behind' : List ℕ) → HasWords a → HasWords b → BeginsWithoutDigit behind
+    → BeginsWithoutDigit behind'
     → array_text a ++ behind ≡ array_text b ++ behind' → (a ≡ b) × (behind ≡ behind')

@@ -1,3 +1,4 @@
 pub mod ArrayNames
+pub mod ExprTexts
 pub mod Prints
 pub mod Text

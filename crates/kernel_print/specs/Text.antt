@@ -9,8 +9,10 @@ use Rattle.kernel_code.specs.declared.syntax.Op.{Op}
 use Rattle.kernel_code.specs.declared.syntax.Op.TheVariants as op
 use Rattle.kernel_code.specs.declared.syntax.ValueOp.{ValueOp}
 use Rattle.kernel_code.specs.declared.syntax.ValueOp.TheVariants as value_op
-use Rattle.kernel_code.specs.declared.syntax.KExpr.{KExpr, Num, Var, At', Len, Bin', Min', Width', Row_of-KExpr, end_of-KExpr, more_of-KExpr}
-use Rattle.kernel_code.specs.declared.syntax.KStmt.{KStmt, Set, Combine, Put, AddTo, Push, Extend, Cut, Sort, SortSum, If', While'}
+use Rattle.kernel_code.specs.declared.syntax.KExpr.{KExpr, Num, Var, At', Len}
+use Rattle.kernel_code.specs.declared.syntax.KExpr.{Bin', Min', Width', Row_of-KExpr, end_of-KExpr, more_of-KExpr}
+use Rattle.kernel_code.specs.declared.syntax.KStmt.{KStmt, Set, Combine, Put, AddTo, Push}
+use Rattle.kernel_code.specs.declared.syntax.KStmt.{Extend, Cut, Sort, SortSum, If', While'}
 use Rattle.kernel_code.specs.declared.syntax.KStmt.{Row_of-KStmt, end_of-KStmt, more_of-KStmt}
 use Rattle.kernel_code.specs.declared.syntax.Kernel.{Kernel}
 use Rattle.kernel_print.specs.declared.indents.Indent.{Indent, Margin, Within'}
@@ -19,9 +21,11 @@ use Rattle.kernel_print.specs.declared.indents.Indent.{Indent, Margin, Within'}
 abbrev pub array_text : Arr → List ℕ
 array_text array.Range = codes "range"
 array_text (array.Values n) = codes "T" ++ (decimal n ++ codes "_val")
-array_text (array.Dimension n level) = codes "T" ++ (decimal n ++ (codes "_" ++ (decimal level ++ codes "_dim")))
+array_text (array.Dimension n level) =
+    codes "T" ++ (decimal n ++ (codes "_" ++ (decimal level ++ codes "_dim")))
 array_text (array.Ends n level) = codes "T" ++ (decimal n ++ (codes "_" ++ (decimal level ++ codes "_pos")))
-array_text (array.Coordinates n level) = codes "T" ++ (decimal n ++ (codes "_" ++ (decimal level ++ codes "_crd")))
+array_text (array.Coordinates n level) =
+    codes "T" ++ (decimal n ++ (codes "_" ++ (decimal level ++ codes "_crd")))
 array_text (array.Width n level) = codes "T" ++ (decimal n ++ (codes "_" ++ (decimal level ++ codes "_wid")))
 array_text (array.Key n key) = codes "w" ++ (decimal n ++ (codes "_key" ++ decimal key))
 array_text (array.Sums n) = codes "w" ++ (decimal n ++ codes "_val")
@@ -83,16 +87,27 @@ abbrev mutual
   -- a statement within so many brackets, but for the indentation of its first line
   pub statement_text : ℕ → KStmt → List ℕ
   statement_text depth (Set x e) = codes "x" ++ (decimal x ++ (codes " = " ++ (expr_text e ++ codes ";\n")))
-  statement_text depth (Combine x o e f) = codes "x" ++ (decimal x ++ (combining_text o ++ (expr_text e ++ (codes ", " ++ (expr_text f ++ codes ");\n")))))
-  statement_text depth (Put a i e) = array_text a ++ (codes "[" ++ (expr_text i ++ (codes "] = " ++ (expr_text e ++ codes ";\n"))))
-  statement_text depth (AddTo a i e) = array_text a ++ (codes "[" ++ (expr_text i ++ (codes "] += " ++ (expr_text e ++ codes ";\n"))))
-  statement_text depth (Push a e) = codes "push(" ++ (array_text a ++ (codes ", " ++ (expr_text e ++ codes ");\n")))
-  statement_text depth (Extend a count e) = codes "extend(" ++ (array_text a ++ (codes ", " ++ (expr_text count ++ (codes ", " ++ (expr_text e ++ codes ");\n")))))
-  statement_text depth (Cut a e) = codes "cut(" ++ (array_text a ++ (codes ", " ++ (expr_text e ++ codes ");\n")))
+  statement_text depth (Combine x o e f) =
+      codes "x" ++ (decimal x ++ (combining_text o ++ (expr_text e ++ (codes ", " ++ (expr_text f ++ codes ");\n")))))
+  statement_text depth (Put a i e) =
+      array_text a ++ (codes "[" ++ (expr_text i ++ (codes "] = " ++ (expr_text e ++ codes ";\n"))))
+  statement_text depth (AddTo a i e) =
+      array_text a ++ (codes "[" ++ (expr_text i ++ (codes "] += " ++ (expr_text e ++ codes ";\n"))))
+  statement_text depth (Push a e) =
+      codes "push(" ++ (array_text a ++ (codes ", " ++ (expr_text e ++ codes ");\n")))
+  statement_text depth (Extend a count e) =
+      codes "extend(" ++ (array_text a ++ (codes ", " ++ (expr_text count ++ (codes ", "
+      ++ (expr_text e ++ codes ");\n")))))
+  statement_text depth (Cut a e) =
+      codes "cut(" ++ (array_text a ++ (codes ", " ++ (expr_text e ++ codes ");\n")))
   statement_text depth (Sort g) = codes "sort(g" ++ (decimal g ++ codes ");\n")
   statement_text depth (SortSum w) = codes "sort_sum(w" ++ (decimal w ++ codes ");\n")
-  statement_text depth (If' e p first q second) = codes "if " ++ (expr_text e ++ (codes " {\n" ++ (row_text (suc depth) first ++ (indentation depth ++ (codes "} else {\n" ++ (row_text (suc depth) second ++ (indentation depth ++ codes "}\n")))))))
-  statement_text depth (While' k e p body) = codes "while " ++ (kind_text k ++ (codes " " ++ (expr_text e ++ (codes " {\n" ++ (row_text (suc depth) body ++ (indentation depth ++ codes "}\n"))))))
+  statement_text depth (If' e p first q second) =
+      codes "if " ++ (expr_text e ++ (codes " {\n" ++ (row_text (suc depth) first ++ (indentation depth
+      ++ (codes "} else {\n" ++ (row_text (suc depth) second ++ (indentation depth ++ codes "}\n")))))))
+  statement_text depth (While' k e p body) =
+      codes "while " ++ (kind_text k ++ (codes " " ++ (expr_text e ++ (codes " {\n"
+      ++ (row_text (suc depth) body ++ (indentation depth ++ codes "}\n"))))))
 
   -- the statements of a list inside a statement
   pub row_text : {m : _} → ℕ → Row_of-KStmt m → List ℕ
@@ -107,7 +122,9 @@ statements_text depth (s ∷ rest) = indentation depth ++ (statement_text depth 
 -- a line for each workspace, of which the first has this number, with its number of keys
 abbrev pub workspaces_text : ℕ → List ℕ → List ℕ
 workspaces_text n [] = []
-workspaces_text n (keys ∷ rest) = codes "  workspace w" ++ (decimal n ++ (codes " " ++ (decimal keys ++ (codes ";\n" ++ workspaces_text (suc n) rest))))
+workspaces_text n (keys ∷ rest) =
+    codes "  workspace w" ++ (decimal n ++ (codes " " ++ (decimal keys
+    ++ (codes ";\n" ++ workspaces_text (suc n) rest))))
 
 -- a line for each of so many scratch lists, of which the first has this number
 abbrev pub lists_text : ℕ → ℕ → List ℕ
@@ -116,4 +133,6 @@ lists_text n (suc more) = codes "  scratch g" ++ (decimal n ++ (codes ";\n" ++ l
 
 -- a kernel: its workspaces, its scratch lists and its body
 abbrev pub kernel_text : Kernel → List ℕ
-kernel_text kernel = codes "kernel {\n" ++ (workspaces_text 0 kernel.workspaces ++ (lists_text 0 kernel.lists ++ (statements_text 1 kernel.body ++ codes "}\n")))
+kernel_text kernel =
+    codes "kernel {\n" ++ (workspaces_text 0 kernel.workspaces ++ (lists_text 0 kernel.lists
+    ++ (statements_text 1 kernel.body ++ codes "}\n")))

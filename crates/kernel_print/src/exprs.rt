@@ -58,7 +58,12 @@ pub(crate) fn put_expr<S: Sink>(sink: &mut S, e: &KExpr) -> Result<(), Refusal>
 
 /// Appends an expression between two texts.
 #[cycle(exprs)]
-pub(crate) fn put_one<S: Sink>(sink: &mut S, before: &[u8], e: &KExpr, after: &[u8]) -> Result<(), Refusal>
+pub(crate) fn put_one<S: Sink>(
+    sink: &mut S,
+    before: &[u8],
+    e: &KExpr,
+    after: &[u8],
+) -> Result<(), Refusal>
     ensures { Prints (S.state sink.old) (S.state sink.new) (before.now ++ (expr_text e.now ++ after.now)) result }
 {
     put_all(sink, before)?;
@@ -69,7 +74,8 @@ pub(crate) fn put_one<S: Sink>(sink: &mut S, before: &[u8], e: &KExpr, after: &[
 /// Appends the word of an array at an index.
 #[cycle(exprs)]
 fn put_word<S: Sink>(sink: &mut S, array: Arr, index: &KExpr) -> Result<(), Refusal>
-    ensures { Prints (S.state sink.old) (S.state sink.new) (array_text array ++ (codes "[" ++ (expr_text index.now ++ codes "]"))) result }
+    ensures { Prints (S.state sink.old) (S.state sink.new)
+        (array_text array ++ (codes "[" ++ (expr_text index.now ++ codes "]"))) result }
 {
     put_array(sink, array)?;
     put_one(sink, b"[", index, b"]")
@@ -84,7 +90,8 @@ pub(crate) fn put_two<S: Sink>(
     f: &KExpr,
     after: &[u8],
 ) -> Result<(), Refusal>
-    ensures { Prints (S.state sink.old) (S.state sink.new) (before.now ++ (expr_text e.now ++ (between.now ++ (expr_text f.now ++ after.now)))) result }
+    ensures { Prints (S.state sink.old) (S.state sink.new)
+        (before.now ++ (expr_text e.now ++ (between.now ++ (expr_text f.now ++ after.now)))) result }
 {
     put_all(sink, before)?;
     put_expr(sink, e)?;

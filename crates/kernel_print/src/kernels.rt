@@ -15,7 +15,8 @@ use text_lines::put_all;
 
 /// Appends the line of a workspace.
 fn put_workspace<S: Sink>(sink: &mut S, number: u64, keys: u64) -> Result<(), Refusal>
-    ensures { Prints (S.state sink.old) (S.state sink.new) (codes "  workspace w" ++ (decimal number ++ (codes " " ++ (decimal keys ++ codes ";\n")))) result }
+    ensures { Prints (S.state sink.old) (S.state sink.new)
+        (codes "  workspace w" ++ (decimal number ++ (codes " " ++ (decimal keys ++ codes ";\n")))) result }
 {
     put_numbered(sink, b"  workspace w", number)?;
     put_name(sink, b" ", keys, b";\n")
@@ -45,7 +46,11 @@ fn put_lists<S: Sink>(sink: &mut S, count: u64) -> Result<(), Refusal>
 fn put_body<S: Sink>(sink: &mut S, kernel: &Kernel) -> Result<(), Refusal>
     ensures { Prints (S.state sink.old) (S.state sink.new) (statements_text 1 kernel.now.body ++ codes "}\n") result }
 {
-    put_statements(sink, &Indent::Within(&Indent::Margin), kernel.body.as_slice())?;
+    put_statements(
+        sink,
+        &Indent::Within(&Indent::Margin),
+        kernel.body.as_slice(),
+    )?;
     put_all(sink, b"}\n")
 }
 

@@ -1,8 +1,15 @@
-//! What follows from the definitions, as a call whose contract is the law. It does nothing.
+//! What follows from the definitions, as calls whose contract is the law. They do nothing.
 ghost use Rattle.kernel_print.specs.ArrayNames.{NamesTellArrays};
+ghost use Rattle.kernel_print.specs.ExprTexts.{TextsTellExprs};
 
 /// An array is told by its name, also where a text goes on behind it without a digit.
 #[tactic(auto, using(crate::proofs::ArrayNames::names_tell_arrays))]
 pub fn names_tell_arrays()
     ensures { NamesTellArrays }
+{}
+
+/// An expression is told by its text, also where a text goes on behind it without a digit.
+#[tactic(auto, using(crate::proofs::ExprTexts::texts_tell_exprs))]
+pub fn texts_tell_exprs()
+    ensures { TextsTellExprs }
 {}

@@ -17,7 +17,12 @@ pub(crate) fn put_numbered<S: Sink>(sink: &mut S, before: &[u8], number: u64) ->
 }
 
 /// Appends a number between two texts.
-pub(crate) fn put_name<S: Sink>(sink: &mut S, before: &[u8], number: u64, after: &[u8]) -> Result<(), Refusal>
+pub(crate) fn put_name<S: Sink>(
+    sink: &mut S,
+    before: &[u8],
+    number: u64,
+    after: &[u8],
+) -> Result<(), Refusal>
     ensures { Prints (S.state sink.old) (S.state sink.new) (before.now ++ (decimal number ++ after.now)) result }
 {
     put_all(sink, before)?;
@@ -27,7 +32,8 @@ pub(crate) fn put_name<S: Sink>(sink: &mut S, before: &[u8], number: u64, after:
 
 /// Appends the name of an array of a level, but for what tells its kind in front.
 fn put_level<S: Sink>(sink: &mut S, tensor: u64, level: u64, kind: &[u8]) -> Result<(), Refusal>
-    ensures { Prints (S.state sink.old) (S.state sink.new) (codes "T" ++ (decimal tensor ++ (codes "_" ++ (decimal level ++ kind.now)))) result }
+    ensures { Prints (S.state sink.old) (S.state sink.new)
+        (codes "T" ++ (decimal tensor ++ (codes "_" ++ (decimal level ++ kind.now)))) result }
 {
     put_numbered(sink, b"T", tensor)?;
     put_name(sink, b"_", level, kind)
@@ -35,7 +41,8 @@ fn put_level<S: Sink>(sink: &mut S, tensor: u64, level: u64, kind: &[u8]) -> Res
 
 /// Appends the name of a key.
 fn put_key<S: Sink>(sink: &mut S, workspace: u64, key: u64) -> Result<(), Refusal>
-    ensures { Prints (S.state sink.old) (S.state sink.new) (codes "w" ++ (decimal workspace ++ (codes "_key" ++ decimal key))) result }
+    ensures { Prints (S.state sink.old) (S.state sink.new)
+        (codes "w" ++ (decimal workspace ++ (codes "_key" ++ decimal key))) result }
 {
     put_numbered(sink, b"w", workspace)?;
     put_numbered(sink, b"_key", key)

@@ -2,7 +2,8 @@
 ghost use Rattle.std.specs.Prelude.{◌≡◌, ◌++◌, codes, suc};
 ghost use Rattle.std.specs.Fmt.{decimal};
 ghost use Rattle.kernel_print.specs.Prints.{Prints};
-ghost use Rattle.kernel_print.specs.Text.{array_text, combining_text, depth_of, expr_text, indentation, kind_text, statement_text, statements_text};
+ghost use Rattle.kernel_print.specs.Text.{array_text, combining_text, depth_of, expr_text};
+ghost use Rattle.kernel_print.specs.Text.{indentation, kind_text, statement_text, statements_text};
 
 use crate::exprs::{put_one, put_two};
 use crate::indents::{Indent, put_indentation};
@@ -36,23 +37,39 @@ fn combining(op: ValueOp) -> &'static [u8]
 
 /// Appends a statement that gives a variable a value.
 fn put_set<S: Sink>(sink: &mut S, x: u64, e: &KExpr) -> Result<(), Refusal>
-    ensures { Prints (S.state sink.old) (S.state sink.new) (codes "x" ++ (decimal x ++ (codes " = " ++ (expr_text e.now ++ codes ";\n")))) result }
+    ensures { Prints (S.state sink.old) (S.state sink.new)
+        (codes "x" ++ (decimal x ++ (codes " = " ++ (expr_text e.now ++ codes ";\n")))) result }
 {
     put_numbered(sink, b"x", x)?;
     put_one(sink, b" = ", e, b";\n")
 }
 
 /// Appends a statement that gives a variable the sum or the product of two values.
-fn put_combine<S: Sink>(sink: &mut S, x: u64, op: ValueOp, e: &KExpr, f: &KExpr) -> Result<(), Refusal>
-    ensures { Prints (S.state sink.old) (S.state sink.new) (codes "x" ++ (decimal x ++ (combining_text op ++ (expr_text e.now ++ (codes ", " ++ (expr_text f.now ++ codes ");\n")))))) result }
+fn put_combine<S: Sink>(
+    sink: &mut S,
+    x: u64,
+    op: ValueOp,
+    e: &KExpr,
+    f: &KExpr,
+) -> Result<(), Refusal>
+    ensures { Prints (S.state sink.old) (S.state sink.new)
+        (codes "x" ++ (decimal x ++ (combining_text op ++ (expr_text e.now
+        ++ (codes ", " ++ (expr_text f.now ++ codes ");\n")))))) result }
 {
     put_numbered(sink, b"x", x)?;
     put_two(sink, combining(op), e, b", ", f, b");\n")
 }
 
 /// Appends a statement that writes a word of an array.
-fn put_write<S: Sink>(sink: &mut S, array: Arr, index: &KExpr, between: &[u8], e: &KExpr) -> Result<(), Refusal>
-    ensures { Prints (S.state sink.old) (S.state sink.new) (array_text array ++ (codes "[" ++ (expr_text index.now ++ (between.now ++ (expr_text e.now ++ codes ";\n"))))) result }
+fn put_write<S: Sink>(
+    sink: &mut S,
+    array: Arr,
+    index: &KExpr,
+    between: &[u8],
+    e: &KExpr,
+) -> Result<(), Refusal>
+    ensures { Prints (S.state sink.old) (S.state sink.new)
+        (array_text array ++ (codes "[" ++ (expr_text index.now ++ (between.now ++ (expr_text e.now ++ codes ";\n"))))) result }
 {
     put_array(sink, array)?;
     put_two(sink, b"[", index, between, e, b";\n")
@@ -60,7 +77,8 @@ fn put_write<S: Sink>(sink: &mut S, array: Arr, index: &KExpr, between: &[u8], e
 
 /// Appends a call on an array and an expression.
 fn put_call<S: Sink>(sink: &mut S, name: &[u8], array: Arr, e: &KExpr) -> Result<(), Refusal>
-    ensures { Prints (S.state sink.old) (S.state sink.new) (name.now ++ (array_text array ++ (codes ", " ++ (expr_text e.now ++ codes ");\n")))) result }
+    ensures { Prints (S.state sink.old) (S.state sink.new)
+        (name.now ++ (array_text array ++ (codes ", " ++ (expr_text e.now ++ codes ");\n")))) result }
 {
     put_all(sink, name)?;
     put_array(sink, array)?;
@@ -69,7 +87,9 @@ fn put_call<S: Sink>(sink: &mut S, name: &[u8], array: Arr, e: &KExpr) -> Result
 
 /// Appends a statement that appends copies of a word.
 fn put_extend<S: Sink>(sink: &mut S, array: Arr, count: &KExpr, e: &KExpr) -> Result<(), Refusal>
-    ensures { Prints (S.state sink.old) (S.state sink.new) (codes "extend(" ++ (array_text array ++ (codes ", " ++ (expr_text count.now ++ (codes ", " ++ (expr_text e.now ++ codes ");\n")))))) result }
+    ensures { Prints (S.state sink.old) (S.state sink.new)
+        (codes "extend(" ++ (array_text array ++ (codes ", " ++ (expr_text count.now
+        ++ (codes ", " ++ (expr_text e.now ++ codes ");\n")))))) result }
 {
     put_all(sink, b"extend(")?;
     put_array(sink, array)?;
@@ -78,7 +98,8 @@ fn put_extend<S: Sink>(sink: &mut S, array: Arr, count: &KExpr, e: &KExpr) -> Re
 
 /// Appends what stands before a loop's body.
 fn put_loop_head<S: Sink>(sink: &mut S, kind: LoopKind, e: &KExpr) -> Result<(), Refusal>
-    ensures { Prints (S.state sink.old) (S.state sink.new) (codes "while " ++ (kind_text kind ++ (codes " " ++ (expr_text e.now ++ codes " {\n")))) result }
+    ensures { Prints (S.state sink.old) (S.state sink.new)
+        (codes "while " ++ (kind_text kind ++ (codes " " ++ (expr_text e.now ++ codes " {\n")))) result }
 {
     put_all(sink, b"while ")?;
     put_all(sink, kind_word(kind))?;
@@ -114,8 +135,14 @@ fn put_statement<S: Sink>(sink: &mut S, indent: &Indent<'_>, s: &KStmt) -> Resul
 
 /// Appends the statements inside brackets and the line that closes these.
 #[cycle(statements)]
-fn put_block<S: Sink>(sink: &mut S, outer: &Indent<'_>, body: &[KStmt], closing: &[u8]) -> Result<(), Refusal>
-    ensures { Prints (S.state sink.old) (S.state sink.new) (statements_text (suc (depth_of outer.now)) body.now ++ (indentation (depth_of outer.now) ++ closing.now)) result }
+fn put_block<S: Sink>(
+    sink: &mut S,
+    outer: &Indent<'_>,
+    body: &[KStmt],
+    closing: &[u8],
+) -> Result<(), Refusal>
+    ensures { Prints (S.state sink.old) (S.state sink.new)
+        (statements_text (suc (depth_of outer.now)) body.now ++ (indentation (depth_of outer.now) ++ closing.now)) result }
 {
     put_statements(sink, &Indent::Within(&*outer), body)?;
     put_indentation(sink, outer)?;
@@ -124,8 +151,13 @@ fn put_block<S: Sink>(sink: &mut S, outer: &Indent<'_>, body: &[KStmt], closing:
 
 /// Appends statements, each on lines of its own.
 #[cycle(statements)]
-pub(crate) fn put_statements<S: Sink>(sink: &mut S, indent: &Indent<'_>, statements: &[KStmt]) -> Result<(), Refusal>
-    ensures { Prints (S.state sink.old) (S.state sink.new) (statements_text (depth_of indent.now) statements.now) result }
+pub(crate) fn put_statements<S: Sink>(
+    sink: &mut S,
+    indent: &Indent<'_>,
+    statements: &[KStmt],
+) -> Result<(), Refusal>
+    ensures { Prints (S.state sink.old) (S.state sink.new)
+        (statements_text (depth_of indent.now) statements.now) result }
 {
     for s in statements {
         put_indentation(sink, indent)?;

@@ -1,6 +1,4 @@
-use Rattle.std.specs.Prelude.{◌≡◌, ℕ, List, ◌++◌, codes}
-use Rattle.std.proofs.Common.{sym, ap}
-use Rattle.kernel_print.specs.declared.indents.Indent.{Indent}
+use Rattle.std.specs.Prelude.{codes}
 use Rattle.kernel_print.specs.Text.{depth_of, indentation}
 use Rattle.kernel_print.proofs.Pieces.{then_printed, refused}
 use Rattle.kernel_print.proofs.indents.+put_indentation.Goals as goal

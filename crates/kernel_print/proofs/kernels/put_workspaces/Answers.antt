@@ -1,9 +1,9 @@
-use Rattle.std.specs.Prelude.{◌≡◌, ℕ, ◌+◌, [], drop, length, ◌≤◌, slice_index_or, refl}
-use Rattle.std.proofs.Common.{ap, sym, arith}
+use Rattle.std.specs.Prelude.{ℕ, ◌+◌, drop, slice_index_or, refl}
+use Rattle.std.proofs.Common.{ap}
 use Rattle.std.proofs.lemmas.List.{drop_all}
 use Rattle.kernel_print.specs.Text.{workspaces_text}
 use Rattle.kernel_print.proofs.Loops.{none_so_far, more_so_far, all_so_far, rest_told, then_rest, workspaces_step}
-use Rattle.kernel_print.proofs.Pieces.{refused, retold}
+use Rattle.kernel_print.proofs.Pieces.{refused}
 use Rattle.kernel_print.proofs.kernels.put_workspaces.Goals as goal
 
 pub loop-number-init : goal.loop-number-init

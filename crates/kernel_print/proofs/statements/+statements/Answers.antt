@@ -1,4 +1,4 @@
-use Rattle.std.specs.Prelude.{◌≡◌, ℕ, suc, ◌+◌, List, [], ◌++◌, codes, drop}
+use Rattle.std.specs.Prelude.{◌≡◌, ℕ, suc, ◌+◌, List, ◌++◌, codes, drop}
 use Rattle.std.proofs.Common.{◌∙◌, ap, sym}
 use Rattle.std.proofs.lemmas.List.{drop_all}
 use Rattle.kernel_code.specs.declared.syntax.KStmt.{KStmt}
@@ -43,8 +43,8 @@ put_statement-returns-in_err-put_block-in-If g t c =
     let head : List ℕ = codes "if " ++ (expr_text s.e ++ codes " {\n") in
     let last : List ℕ = block depth s.second (codes "}\n") in
     let same : head ++ (block depth c.as_slice.result.now (codes "} else {\n") ++ last) ≡ statement_text depth c.args.s.now =
-      ap (λ (b : List KStmt). head ++ (block depth b (codes "} else {\n") ++ last)) c.as_slice.ensures
-      ∙ sym (if_text depth s.e s.first s.second) ∙ ap (statement_text depth) (sym s.is) in
+    ap (λ (b : List KStmt). head ++ (block depth b (codes "} else {\n") ++ last)) c.as_slice.ensures
+    ∙ sym (if_text depth s.e s.first s.second) ∙ ap (statement_text depth) (sym s.is) in
     retold _ _ _ _ _ same
     (then_printed _ _ _ _ head (block depth c.as_slice.result.now (codes "} else {\n") ++ last) c.in_ok-put_one-in-If.ensures
     (refused r.result c.in_err-put_block-in-If.field-0.0 _ _ (block depth c.as_slice.result.now (codes "} else {\n")) last r.ensures.1 c.in_err-put_block-in-If.ensures))
@@ -57,9 +57,9 @@ put_statement-returns-in_ok-put_block-in-If g t c =
     let first : List ℕ = block depth c.as_slice.result.now (codes "} else {\n") in
     let last : List ℕ = block depth c.as_slice-in-If.result.now (codes "}\n") in
     let same : head ++ (first ++ last) ≡ statement_text depth c.args.s.now =
-      ap (λ (b : List KStmt). head ++ (block depth b (codes "} else {\n") ++ last)) c.as_slice.ensures
-      ∙ ap (λ (b : List KStmt). head ++ (block depth s.first (codes "} else {\n") ++ block depth b (codes "}\n"))) c.as_slice-in-If.ensures
-      ∙ sym (if_text depth s.e s.first s.second) ∙ ap (statement_text depth) (sym s.is) in
+    ap (λ (b : List KStmt). head ++ (block depth b (codes "} else {\n") ++ last)) c.as_slice.ensures
+    ∙ ap (λ (b : List KStmt). head ++ (block depth s.first (codes "} else {\n") ++ block depth b (codes "}\n"))) c.as_slice-in-If.ensures
+    ∙ sym (if_text depth s.e s.first s.second) ∙ ap (statement_text depth) (sym s.is) in
     retold _ _ _ _ _ same
     (then_printed _ _ _ _ head (first ++ last) c.in_ok-put_one-in-If.ensures (then_printed _ _ _ _ first last c.in_ok-put_block-in-If.ensures c.put_block-in-If.ensures))
 
@@ -78,8 +78,8 @@ put_statement-returns-in_ok-put_loop_head-in-While g t c =
     let s = c.in-While in
     let head : List ℕ = codes "while " ++ (kind_text s.kind ++ (codes " " ++ (expr_text s.e ++ codes " {\n"))) in
     let same : head ++ block depth c.as_slice-in-While.result.now (codes "}\n") ≡ statement_text depth c.args.s.now =
-      ap (λ (b : List KStmt). head ++ block depth b (codes "}\n")) c.as_slice-in-While.ensures
-      ∙ sym (while_text depth s.kind s.e s.body) ∙ ap (statement_text depth) (sym s.is) in
+    ap (λ (b : List KStmt). head ++ block depth b (codes "}\n")) c.as_slice-in-While.ensures
+    ∙ sym (while_text depth s.kind s.e s.body) ∙ ap (statement_text depth) (sym s.is) in
     retold _ _ _ _ _ same
     (then_printed _ _ _ _ head (block depth c.as_slice-in-While.result.now (codes "}\n")) c.in_ok-put_loop_head-in-While.ensures c.put_block-in-While.ensures)
 
