@@ -15,10 +15,12 @@ use Rattle.tensor_storage.specs.declared.packing.PackRefusal.TheVariants.{Memory
 -- levels to be appended to stand below ordered ones alone
 abbrev pub MayFollow : Bool → List Letter → Type 0
 MayFollow ordered [] = Unit {0}
-MayFollow ordered (letter ∷ letters) = ((capabilities letter).append ≡ true → ordered ≡ true) × MayFollow (ordered && (properties letter).ordered) letters
+MayFollow ordered (letter ∷ letters) =
+    ((capabilities letter).append ≡ true → ordered ≡ true) × MayFollow (ordered && (properties letter).ordered) letters
 
 -- the first d levels are packed, and positions has the place of each row at the last of them
-pub record ArePacked {L : Type 0} (means : Meaning L) (letters : List Letter) (sizes : List ℕ) (table : Table) (d : ℕ) (levels : List L) (positions : List ℕ) (parents : ℕ) : Type 0 where
+pub record ArePacked {L : Type 0} (means : Meaning L) (letters : List Letter) (sizes : List ℕ) (table : Table)
+    (d : ℕ) (levels : List L) (positions : List ℕ) (parents : ℕ) : Type 0 where
   pub columns : List Column
   pub above : ℕ
   pub groups : Bool
