@@ -1,5 +1,5 @@
 -- Levels that are packed one below another, each given the rows of a table.
-use Rattle.std.specs.Prelude.{◌≡◌, ℕ, ◌+◌, ◌<◌, ◌&&◌, Bool, true, List, [], ◌∷◌, ◌++◌, length, map, drop, slice_index}
+use Rattle.std.specs.Prelude.{◌≡◌, ℕ, ◌+◌, ◌≤◌, ◌<◌, ◌&&◌, Bool, true, List, [], ◌∷◌, ◌++◌, length, map, drop, slice_index}
 use Rattle.limits.specs.Limits.{greatest_position_count}
 use Rattle.level_core.specs.declared.letter.Letter.{Letter}
 use Rattle.level_core.specs.Kinds.{properties, capabilities}
@@ -33,7 +33,7 @@ pub record ArePacked {L : Type 0} (means : Meaning L) (letters : List Letter) (s
   pub kinds : map means.kind levels ++ drop d letters ≡ letters
   pub ranges : map means.size levels ++ drop d sizes ≡ sizes
 
--- memory was wanted, or the count that is told passes the limit
-abbrev pub IsRefusal : PackRefusal → Type 0
-IsRefusal Memory = Unit {0}
-IsRefusal (SizeLimit level count) = greatest_position_count < count
+-- memory was wanted, or the count that is told of one of so many levels passes the limit
+abbrev pub IsRefusal : ℕ → PackRefusal → Type 0
+IsRefusal order Memory = Unit {0}
+IsRefusal order (SizeLimit level count) = (1 ≤ level) × (level ≤ order) × (greatest_position_count < count)
