@@ -1,5 +1,5 @@
 -- Levels that are packed one below another, each given the rows of a table.
-use Rattle.std.specs.Prelude.{◌≡◌, ℕ, ◌+◌, ◌<◌, ◌&&◌, Bool, true, List, [], ◌∷◌, ◌++◌, length, map, drop, slice_index}
+use Rattle.std.specs.Prelude.{◌≡◌, ℕ, ◌+◌, ◌≤◌, ◌<◌, ◌&&◌, Bool, true, List, [], ◌∷◌, ◌++◌, length, map, drop, slice_index}
 use Rattle.limits.specs.Limits.{greatest_position_count}
 use Rattle.level_core.specs.declared.letter.Letter.{Letter}
 use Rattle.level_core.specs.Kinds.{properties, capabilities}
@@ -15,10 +15,12 @@ use Rattle.tensor_storage.specs.declared.packing.PackRefusal.TheVariants.{Memory
 -- levels to be appended to stand below ordered ones alone
 abbrev pub MayFollow : Bool → List Letter → Type 0
 MayFollow ordered [] = Unit {0}
-MayFollow ordered (letter ∷ letters) = ((capabilities letter).append ≡ true → ordered ≡ true) × MayFollow (ordered && (properties letter).ordered) letters
+MayFollow ordered (letter ∷ letters) =
+    ((capabilities letter).append ≡ true → ordered ≡ true) × MayFollow (ordered && (properties letter).ordered) letters
 
 -- the first d levels are packed, and positions has the place of each row at the last of them
-pub record ArePacked {L : Type 0} (means : Meaning L) (letters : List Letter) (sizes : List ℕ) (table : Table) (d : ℕ) (levels : List L) (positions : List ℕ) (parents : ℕ) : Type 0 where
+pub record ArePacked {L : Type 0} (means : Meaning L) (letters : List Letter) (sizes : List ℕ) (table : Table)
+    (d : ℕ) (levels : List L) (positions : List ℕ) (parents : ℕ) : Type 0 where
   pub columns : List Column
   pub above : ℕ
   pub groups : Bool
@@ -31,7 +33,7 @@ pub record ArePacked {L : Type 0} (means : Meaning L) (letters : List Letter) (s
   pub kinds : map means.kind levels ++ drop d letters ≡ letters
   pub ranges : map means.size levels ++ drop d sizes ≡ sizes
 
--- memory was wanted, or the count that is told passes the limit
-abbrev pub IsRefusal : PackRefusal → Type 0
-IsRefusal Memory = Unit {0}
-IsRefusal (SizeLimit level count) = greatest_position_count < count
+-- memory was wanted, or the count that is told of one of so many levels passes the limit
+abbrev pub IsRefusal : ℕ → PackRefusal → Type 0
+IsRefusal order Memory = Unit {0}
+IsRefusal order (SizeLimit level count) = (1 ≤ level) × (level ≤ order) × (greatest_position_count < count)

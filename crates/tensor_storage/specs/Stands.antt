@@ -28,12 +28,16 @@ MakesPath table d _ _ begins _ = ⊥
 
 -- the paths of the levels are those that the rows make, each once; each row's value stands where its path ends, and zero at every
 -- position where no row's path ends
-pub record Stands {L : Type 0} (means : Meaning L) (letters : List Letter) (sizes : List ℕ) (table : Table) (levels : List L) (values : List ℕ) : Type 0 where
+pub record Stands {L : Type 0} (means : Meaning L) (letters : List Letter) (sizes : List ℕ)
+    (table : Table) (levels : List L) (values : List ℕ) : Type 0 where
   pub made : (xs : List ℕ) (pos : ℕ) → Path means levels (one 0) xs pos → MakesPath table 0 letters sizes (λ i. i < table.count) xs
   pub there : (xs : List ℕ) → MakesPath table 0 letters sizes (λ i. i < table.count) xs → (pos : ℕ) × Path means levels (one 0) xs pos
   pub once : (xs : List ℕ) (pos other : ℕ) → Path means levels (one 0) xs pos → Path means levels (one 0) xs other → pos ≡ other
-  pub stored : (i pos : ℕ) → i < table.count → Path means levels (one 0) (row_from table.coords i 0 letters) pos → slice_index values pos ≡ table.values i
-  pub zeros : (pos : ℕ) → pos < length values → ((i : ℕ) → i < table.count → Path means levels (one 0) (row_from table.coords i 0 letters) pos → ⊥) → slice_index values pos ≡ 0
+  pub stored : (i pos : ℕ) → i < table.count → Path means levels (one 0) (row_from table.coords i 0 letters) pos
+      → slice_index values pos ≡ table.values i
+  pub zeros : (pos : ℕ) → pos < length values
+      → ((i : ℕ) → i < table.count → Path means levels (one 0) (row_from table.coords i 0 letters) pos → ⊥)
+      → slice_index values pos ≡ 0
 
 -- the storage is of this format and these ranges of the modes, and stands for the table
 pub record IsPacked (format : List FormatLevel) (ranges : List ℕ) (table : Table) (storage : Storage) : Type 0 where

@@ -91,7 +91,7 @@ pub(crate) fn pack_levels<T: RowTable>(
     ensures { MatchResult result
         (λ packed. ArePacked meaning (letters_of format.now) (in_level_order format.now ranges.now) (T.table table.now)
         (length format.now) packed.levels places.new packed.positions × (packed.positions ≤ greatest_position_count))
-        IsRefusal }
+        (IsRefusal (length format.now)) }
 {
     let mut levels = Items::new(alloc);
     let mut parents = 1;

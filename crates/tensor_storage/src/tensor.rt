@@ -48,7 +48,7 @@ impl Tensor {
         requires small { All (λ range. range ≤ greatest_position_count) ranges.now }
         requires order { Increase (T.table table.now).coords (length format) (T.table table.now).count }
         requires below { AreBelow (T.table table.now) (in_level_order format ranges.now) }
-        ensures { MatchResult result (IsPacked format ranges.now (T.table table.now)) IsRefusal }
+        ensures { MatchResult result (IsPacked format ranges.now (T.table table.now)) (IsRefusal (length format)) }
     {
         let Ok(mut places) = zeros(alloc, table.count()) else {
             return Err(PackRefusal::Memory);
