@@ -1,10 +1,10 @@
 //! The text of one kernel, letter for letter.
 use crate::put_kernel;
-use kernel_code::{Arr, KExpr, KStmt, Kernel, LoopKind, Op, binary, one_statement, word_at};
+use kernel_code::*;
 use outside::MemSink;
 use std::alloc::{AllocError, Global};
 use std::test::Fail;
-use trees::Items;
+use trees::{Boxed, Items};
 
 const TEXT: &[u8] = b"kernel {
   workspace w0 2;
@@ -18,11 +18,17 @@ const TEXT: &[u8] = b"kernel {
     }
     x0 = (x0 + 1);
   }
+  x1 = plus(x0, 3);
+  T0_1_crd[min(x1, 5)] = width(x1);
+  push(T0_2_wid, 7);
+  cut(w0_val, range[1]);
+  sort(g0);
+  sort_sum(w0);
 }
 ";
 
-/// What `TEXT` is of.
-fn kernel(alloc: Global) -> Result<Kernel, AllocError> {
+/// The loop of `TEXT`.
+fn turns(alloc: Global) -> Result<KStmt, AllocError> {
     let word = word_at(alloc, Arr::Values(1), KExpr::Var(0))?;
     let mut turn = one_statement(alloc, KStmt::AddTo(Arr::Values(0), KExpr::Num(0), word))?;
     let key = word_at(alloc, Arr::Key(0, 0), KExpr::Var(0))?;
@@ -34,8 +40,25 @@ fn kernel(alloc: Global) -> Result<Kernel, AllocError> {
     let next = binary(alloc, Op::Add, KExpr::Var(0), KExpr::Num(1))?;
     turn.push(KStmt::Set(0, next))?;
     let more = binary(alloc, Op::Less, KExpr::Var(0), KExpr::Len(Arr::Values(1)))?;
+    Ok(KStmt::While(LoopKind::Merge, more, turn))
+}
+
+/// What `TEXT` is of.
+fn kernel(alloc: Global) -> Result<Kernel, AllocError> {
     let mut body = one_statement(alloc, KStmt::Set(0, KExpr::Num(0)))?;
-    body.push(KStmt::While(LoopKind::Merge, more, turn))?;
+    body.push(turns(alloc)?)?;
+    body.push(KStmt::Combine(1, ValueOp::Plus, KExpr::Var(0), KExpr::Num(3)))?;
+    let least = KExpr::Min(
+        Boxed::new(alloc, KExpr::Var(1))?,
+        Boxed::new(alloc, KExpr::Num(5))?,
+    );
+    let width = KExpr::Width(Boxed::new(alloc, KExpr::Var(1))?);
+    body.push(KStmt::Put(Arr::Coordinates(0, 1), least, width))?;
+    body.push(KStmt::Push(Arr::Width(0, 2), KExpr::Num(7)))?;
+    let range = word_at(alloc, Arr::Range, KExpr::Num(1))?;
+    body.push(KStmt::Cut(Arr::Sums(0), range))?;
+    body.push(KStmt::Sort(0))?;
+    body.push(KStmt::SortSum(0))?;
     let mut workspaces = Items::new(alloc);
     workspaces.push(2)?;
     Ok(Kernel {
