@@ -8,7 +8,7 @@ use Rattle.index_notation.specs.declared.syntax.Name.{Name}
 use Rattle.index_notation.specs.declared.sentence.Token.TheVariants.{Name as NameToken, Number as NumberToken}
 use Rattle.index_notation.specs.declared.symbol.PlacedSymbol.{PlacedSymbol}
 use Rattle.index_notation.specs.declared.symbol.Symbol.{Symbol}
-use Rattle.index_notation.specs.declared.symbol.Symbol.TheVariants.{Word}
+use Rattle.index_notation.specs.declared.symbol.Symbol.TheVariants.{Lexeme}
 use Rattle.index_notation.specs.declared.fault.Counted.TheVariants.{Order, Variables, Accesses, Operands}
 use Rattle.index_notation.specs.declared.fault.SymbolFault.{SymbolFault}
 use Rattle.index_notation.specs.declared.fault.SymbolFault.TheVariants.{BadNotation, TooDeep, TooMany, LiteralRange}
@@ -17,7 +17,7 @@ use Rattle.index_notation.specs.Grammar.{symbols, Begins}
 
 -- the variable that a symbol is, and how many accesses of the right side and operands
 abbrev pub variable_at : Role → Symbol → List Name
-variable_at (IsVariable n) (Word (NameToken name)) = name ∷ []
+variable_at (IsVariable n) (Lexeme (NameToken name)) = name ∷ []
 variable_at _ _ = []
 
 abbrev pub access_at : Role → ℕ
@@ -47,7 +47,7 @@ value_after n [] = n
 value_after n (digit ∷ digits) = value_after (n * 10 + (digit - 48)) digits
 
 abbrev pub number_of : Symbol → ℕ
-number_of (Word (NumberToken digits)) = value_after 0 digits
+number_of (Lexeme (NumberToken digits)) = value_after 0 digits
 number_of _ = 0
 
 -- the first of these limits that is passed: the second number of a pair is above the first

@@ -12,7 +12,7 @@ use Rattle.index_notation.specs.declared.sentence.Token.{Token}
 use Rattle.index_notation.specs.declared.sentence.Token.TheVariants.{Name as NameToken, Number as NumberToken, Mark as MarkToken}
 use Rattle.index_notation.specs.declared.sentence.WrittenAccess.{WrittenAccess}
 use Rattle.index_notation.specs.declared.symbol.Symbol.{Symbol}
-use Rattle.index_notation.specs.declared.symbol.Symbol.TheVariants.{Word, End}
+use Rattle.index_notation.specs.declared.symbol.Symbol.TheVariants.{Lexeme, End}
 
 -- trees keep brackets and prefix minuses
 mutual
@@ -51,7 +51,7 @@ pub record Written : Type 0 where
   pub role : Role
 
 abbrev pub written : Token → Role → Written
-written token role = record { symbol = Word token; role = role }
+written token role = record { symbol = Lexeme token; role = role }
 
 abbrev pub plain : Mark → Written
 plain mark = written (MarkToken mark) Plain

@@ -2,7 +2,7 @@
 use Rattle.std.specs.Prelude.{◌≡◌, ◌≢◌, ℕ, ◌-◌, List, [], ◌∷◌, length}
 use Rattle.index_notation.specs.declared.sentence.Token.{Token}
 use Rattle.index_notation.specs.declared.symbol.Symbol.{Symbol}
-use Rattle.index_notation.specs.declared.symbol.Symbol.TheVariants.{Word, End, Stray}
+use Rattle.index_notation.specs.declared.symbol.Symbol.TheVariants.{Lexeme, End, Stray}
 use Rattle.index_notation.specs.declared.symbol.PlacedSymbol.{PlacedSymbol}
 use Rattle.index_notation.specs.Tokens.{behind_blanks, IsNext}
 
@@ -16,7 +16,7 @@ first_byte size left = size - length (behind_blanks left)
 
 -- what is left of a text begins with the symbol: with a token, of whose rest `GoesOn` holds, or it ends there, by `Ends`
 abbrev pub StartsWith : List ℕ → (List ℕ → Type 0) → Type 0 → Symbol → Type 0
-StartsWith left GoesOn Ends (Word token) = (rest : List ℕ) × IsNext left token rest × GoesOn rest
+StartsWith left GoesOn Ends (Lexeme token) = (rest : List ℕ) × IsNext left token rest × GoesOn rest
 StartsWith left GoesOn Ends End = (behind_blanks left ≡ []) × Ends
 StartsWith left GoesOn Ends Stray = (behind_blanks left ≢ []) × BeginsNoToken left × Ends
 

@@ -3,7 +3,7 @@ use crate::sentence::Token;
 /// A terminal symbol of a statement's text: a token, the end of the text, or a byte that begins no token.
 #[derive(Debug, Drop)]
 pub enum Symbol {
-    Word(Token),
+    Lexeme(Token),
     End,
     Stray,
 }

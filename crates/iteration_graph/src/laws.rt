@@ -4,14 +4,14 @@ ghost use Rattle.iteration_graph.specs.Graphs.{IsLoopOrder, NamesCycle, has_edge
 
 /// A loop order has each variable once, and one that an edge leads from before the one that it leads to. There is one.
 pub fn edges_lead_forward()
-    ensures below { (n : ℕ) (edges : List (ℕ × ℕ)) (order : List ℕ) (k d : ℕ) → IsLoopOrder n edges order → k < n →
-        slice_index_or order k d < n }
-    ensures once { (n : ℕ) (edges : List (ℕ × ℕ)) (order : List ℕ) (j k d : ℕ) → IsLoopOrder n edges order → j < k → k < n →
-        slice_index_or order j d ≢ slice_index_or order k d }
-    ensures forward { (n : ℕ) (edges : List (ℕ × ℕ)) (order : List ℕ) (u k d : ℕ) → IsLoopOrder n edges order → k < n → u < n →
-        has_edge edges u (slice_index_or order k d) ≡ true → is_among (take k order) u ≡ true }
-    ensures one { (n : ℕ) (edges : List (ℕ × ℕ)) (order other : List ℕ) → IsLoopOrder n edges order → IsLoopOrder n edges other →
-        order ≡ other }
+    ensures below { (n : ℕ) (edges : List (ℕ × ℕ)) (loops : List ℕ) (k d : ℕ) → IsLoopOrder n edges loops → k < n →
+        slice_index_or loops k d < n }
+    ensures once { (n : ℕ) (edges : List (ℕ × ℕ)) (loops : List ℕ) (j k d : ℕ) → IsLoopOrder n edges loops → j < k → k < n →
+        slice_index_or loops j d ≢ slice_index_or loops k d }
+    ensures forward { (n : ℕ) (edges : List (ℕ × ℕ)) (loops : List ℕ) (u k d : ℕ) → IsLoopOrder n edges loops → k < n → u < n →
+        has_edge edges u (slice_index_or loops k d) ≡ true → is_among (take k loops) u ≡ true }
+    ensures one { (n : ℕ) (edges : List (ℕ × ℕ)) (loops other : List ℕ) → IsLoopOrder n edges loops → IsLoopOrder n edges other →
+        loops ≡ other }
 {}
 
 /// In the cycle that is named an edge leads from each variable to the next, and from the last to the first. There is one,
@@ -23,5 +23,5 @@ pub fn edges_lead_round_a_cycle()
         has_edge edges (slice_index_or cycle (length cycle - 1) d) (slice_index_or cycle 0 d) ≡ true }
     ensures one { (n : ℕ) (edges : List (ℕ × ℕ)) (cycle other : List ℕ) → NamesCycle n edges cycle → NamesCycle n edges other →
         cycle ≡ other }
-    ensures no_order { (n : ℕ) (edges : List (ℕ × ℕ)) (cycle order : List ℕ) → NamesCycle n edges cycle → IsLoopOrder n edges order → ⊥ }
+    ensures no_order { (n : ℕ) (edges : List (ℕ × ℕ)) (cycle loops : List ℕ) → NamesCycle n edges cycle → IsLoopOrder n edges loops → ⊥ }
 {}

@@ -6,7 +6,7 @@ use Rattle.index_notation.specs.declared.sentence.WrittenAccess.{WrittenAccess}
 use Rattle.index_notation.specs.declared.sentence.Mark.TheVariants.{Equals, Plus, Minus, Times, Open, Close, Comma}
 use Rattle.index_notation.specs.declared.sentence.Token.TheVariants.{Name as NameToken, Number as NumberToken, Mark as MarkToken}
 use Rattle.index_notation.specs.declared.symbol.Symbol.{Symbol}
-use Rattle.index_notation.specs.declared.symbol.Symbol.TheVariants.{Word, End}
+use Rattle.index_notation.specs.declared.symbol.Symbol.TheVariants.{Lexeme, End}
 use Rattle.index_notation.specs.Grammar.{Factor, Digits, Read, Bracketed, Negated, Product}
 use Rattle.index_notation.specs.TreeStatement.{accesses_of_factor, accesses_of_product, accesses_of_sum}
 use Rattle.notation_reader.specs.Machine.{SumPlace, OnTheRight, InBrackets, ProductPlace, First, BehindPlus, BehindMinus}
@@ -48,12 +48,12 @@ end_keeps (InBrackets at) place p next e h = nothing_leads next h
 
 -- a symbol behind a factor says nothing of the accesses
 behind_keeps : (place : ProductPlace) (p : Product) (t : Symbol) (next : State) → step_behind place p t ≡ Some next → accesses_so_far next ≡ accesses_so_far (Behind place p)
-behind_keeps place p (Word (MarkToken Times)) next e = from_equal (WantsFactor (BehindTimes place p)) next (accesses_so_far (Behind place p)) e refl
-behind_keeps place p (Word (MarkToken Plus)) next e =
+behind_keeps place p (Lexeme (MarkToken Times)) next e = from_equal (WantsFactor (BehindTimes place p)) next (accesses_so_far (Behind place p)) e refl
+behind_keeps place p (Lexeme (MarkToken Plus)) next e =
     from_equal (WantsFactor (FirstFactor (BehindPlus (its_sum place) (sum_with place p)))) next (accesses_so_far (Behind place p)) e (sum_accesses place p)
-behind_keeps place p (Word (MarkToken Minus)) next e =
+behind_keeps place p (Lexeme (MarkToken Minus)) next e =
     from_equal (WantsFactor (FirstFactor (BehindMinus (its_sum place) (sum_with place p)))) next (accesses_so_far (Behind place p)) e (sum_accesses place p)
-behind_keeps place p (Word (MarkToken Close)) next e = close_keeps (its_sum place) place p next refl e
+behind_keeps place p (Lexeme (MarkToken Close)) next e = close_keeps (its_sum place) place p next refl e
 behind_keeps place p End next e = end_keeps (its_sum place) place p next refl e
 behind_keeps place p _ next e = nothing_leads next e
 
@@ -65,54 +65,54 @@ abbrev Says : State → Type 0
 Says s = (t : Symbol) (next : State) (new : List WrittenAccess) → step s t ≡ Some next → Mentions t (lead_of (show s).stand t) (accesses_so_far s) new → accesses_so_far next ≡ new
 
 start_says : Says Start
-start_says (Word (NameToken name)) next new e w = from_equal (Named Left name) next new e (sym w)
+start_says (Lexeme (NameToken name)) next new e w = from_equal (Named Left name) next new e (sym w)
 start_says _ next new e w = nothing_leads next e
 
 left_name_says : (name : Name) → Says (Named Left name)
-left_name_says name (Word (MarkToken Open)) next new e w = from_equal (WantsVariable Left name []) next new e (sym w)
-left_name_says name (Word (MarkToken Equals)) next new e w = from_equal (WantsFactor (FirstFactor (First (OnTheRight (access_to name []))))) next new e (sym w)
+left_name_says name (Lexeme (MarkToken Open)) next new e w = from_equal (WantsVariable Left name []) next new e (sym w)
+left_name_says name (Lexeme (MarkToken Equals)) next new e w = from_equal (WantsFactor (FirstFactor (First (OnTheRight (access_to name []))))) next new e (sym w)
 left_name_says name _ next new e w = nothing_leads next e
 
 right_name_says : (place : FactorPlace) (name : Name) → Says (Named (Right place) name)
-right_name_says place name (Word (MarkToken Open)) next new e w = from_equal (WantsVariable (Right place) name []) next new e (sym w)
-right_name_says place name (Word (MarkToken Times)) next new e w = scalar_keeps place name (Word (MarkToken Times)) next new e w
-right_name_says place name (Word (MarkToken Plus)) next new e w = scalar_keeps place name (Word (MarkToken Plus)) next new e w
-right_name_says place name (Word (MarkToken Minus)) next new e w = scalar_keeps place name (Word (MarkToken Minus)) next new e w
-right_name_says place name (Word (MarkToken Close)) next new e w = scalar_keeps place name (Word (MarkToken Close)) next new e w
+right_name_says place name (Lexeme (MarkToken Open)) next new e w = from_equal (WantsVariable (Right place) name []) next new e (sym w)
+right_name_says place name (Lexeme (MarkToken Times)) next new e w = scalar_keeps place name (Lexeme (MarkToken Times)) next new e w
+right_name_says place name (Lexeme (MarkToken Plus)) next new e w = scalar_keeps place name (Lexeme (MarkToken Plus)) next new e w
+right_name_says place name (Lexeme (MarkToken Minus)) next new e w = scalar_keeps place name (Lexeme (MarkToken Minus)) next new e w
+right_name_says place name (Lexeme (MarkToken Close)) next new e w = scalar_keeps place name (Lexeme (MarkToken Close)) next new e w
 right_name_says place name End next new e w = scalar_keeps place name End next new e w
 right_name_says place name _ next new e w = nothing_leads next e
 
 wants_variable_says : (side : Side) (name : Name) (vars : List Name) → Says (WantsVariable side name vars)
-wants_variable_says Left name vars (Word (NameToken var)) next new e w = from_equal (BehindVariable Left name vars var) next new e (sym (w [] (access_to name vars) refl))
-wants_variable_says (Right place) name vars (Word (NameToken var)) next new e w = from_equal (BehindVariable (Right place) name vars var) next new e (sym (w (accesses_to place) (access_to name vars) refl))
+wants_variable_says Left name vars (Lexeme (NameToken var)) next new e w = from_equal (BehindVariable Left name vars var) next new e (sym (w [] (access_to name vars) refl))
+wants_variable_says (Right place) name vars (Lexeme (NameToken var)) next new e w = from_equal (BehindVariable (Right place) name vars var) next new e (sym (w (accesses_to place) (access_to name vars) refl))
 wants_variable_says Left name vars _ next new e w = nothing_leads next e
 wants_variable_says (Right place) name vars _ next new e w = nothing_leads next e
 
 variable_says : (side : Side) (name : Name) (vars : List Name) (var : Name) → Says (BehindVariable side name vars var)
-variable_says Left name vars var (Word (MarkToken Comma)) next new e w = from_equal (WantsVariable Left name (vars ++ (var ∷ []))) next new e (sym w)
-variable_says Left name vars var (Word (MarkToken Close)) next new e w = from_equal (BehindLeft (access_to name (vars ++ (var ∷ [])))) next new e (sym w)
+variable_says Left name vars var (Lexeme (MarkToken Comma)) next new e w = from_equal (WantsVariable Left name (vars ++ (var ∷ []))) next new e (sym w)
+variable_says Left name vars var (Lexeme (MarkToken Close)) next new e w = from_equal (BehindLeft (access_to name (vars ++ (var ∷ [])))) next new e (sym w)
 variable_says Left name vars var _ next new e w = nothing_leads next e
-variable_says (Right place) name vars var (Word (MarkToken Comma)) next new e w = from_equal (WantsVariable (Right place) name (vars ++ (var ∷ []))) next new e (sym w)
-variable_says (Right place) name vars var (Word (MarkToken Close)) next new e w =
+variable_says (Right place) name vars var (Lexeme (MarkToken Comma)) next new e w = from_equal (WantsVariable (Right place) name (vars ++ (var ∷ []))) next new e (sym w)
+variable_says (Right place) name vars var (Lexeme (MarkToken Close)) next new e w =
     from_equal (behind_factor place (Read (access_to name (vars ++ (var ∷ []))))) next new e (product_accesses place (Read (access_to name (vars ++ (var ∷ [])))) ∙ sym w)
 variable_says (Right place) name vars var _ next new e w = nothing_leads next e
 
 left_says : (access : WrittenAccess) → Says (BehindLeft access)
-left_says access (Word (MarkToken Equals)) next new e w = from_equal (WantsFactor (FirstFactor (First (OnTheRight access)))) next new e (sym w)
+left_says access (Lexeme (MarkToken Equals)) next new e w = from_equal (WantsFactor (FirstFactor (First (OnTheRight access)))) next new e (sym w)
 left_says access _ next new e w = nothing_leads next e
 
 wants_says : (place : FactorPlace) → Says (WantsFactor place)
-wants_says place (Word (NumberToken digits)) next new e w = from_equal (behind_factor place (Digits digits)) next new e (product_accesses place (Digits digits) ∙ append_none (accesses_to place) ∙ sym w)
-wants_says place (Word (NameToken name)) next new e w = from_equal (Named (Right place) name) next new e (sym w)
-wants_says place (Word (MarkToken Open)) next new e w = from_equal (WantsFactor (FirstFactor (First (InBrackets place)))) next new e (sym w)
-wants_says place (Word (MarkToken Minus)) next new e w = from_equal (WantsFactor (BehindSign place)) next new e (sym w)
+wants_says place (Lexeme (NumberToken digits)) next new e w = from_equal (behind_factor place (Digits digits)) next new e (product_accesses place (Digits digits) ∙ append_none (accesses_to place) ∙ sym w)
+wants_says place (Lexeme (NameToken name)) next new e w = from_equal (Named (Right place) name) next new e (sym w)
+wants_says place (Lexeme (MarkToken Open)) next new e w = from_equal (WantsFactor (FirstFactor (First (InBrackets place)))) next new e (sym w)
+wants_says place (Lexeme (MarkToken Minus)) next new e w = from_equal (WantsFactor (BehindSign place)) next new e (sym w)
 wants_says place _ next new e w = nothing_leads next e
 
 behind_says : (place : ProductPlace) (p : Product) → Says (Behind place p)
-behind_says place p (Word (MarkToken Times)) next new e w = behind_keeps place p (Word (MarkToken Times)) next e ∙ sym w
-behind_says place p (Word (MarkToken Plus)) next new e w = behind_keeps place p (Word (MarkToken Plus)) next e ∙ sym w
-behind_says place p (Word (MarkToken Minus)) next new e w = behind_keeps place p (Word (MarkToken Minus)) next e ∙ sym w
-behind_says place p (Word (MarkToken Close)) next new e w = behind_keeps place p (Word (MarkToken Close)) next e ∙ sym w
+behind_says place p (Lexeme (MarkToken Times)) next new e w = behind_keeps place p (Lexeme (MarkToken Times)) next e ∙ sym w
+behind_says place p (Lexeme (MarkToken Plus)) next new e w = behind_keeps place p (Lexeme (MarkToken Plus)) next e ∙ sym w
+behind_says place p (Lexeme (MarkToken Minus)) next new e w = behind_keeps place p (Lexeme (MarkToken Minus)) next e ∙ sym w
+behind_says place p (Lexeme (MarkToken Close)) next new e w = behind_keeps place p (Lexeme (MarkToken Close)) next e ∙ sym w
 behind_says place p End next new e w = behind_keeps place p End next e ∙ sym w
 behind_says place p _ next new e w = nothing_leads next e
 

@@ -10,7 +10,7 @@ use Rattle.notation_reader.specs.declared.builder.Builder.{Builder}
 use Rattle.index_notation.specs.declared.sentence.Mark.TheVariants.{Equals, Plus, Minus, Times, Open, Close, Comma}
 use Rattle.index_notation.specs.declared.sentence.Token.TheVariants.{Name as NameToken, Number as NumberToken, Mark as MarkToken}
 use Rattle.index_notation.specs.declared.symbol.Symbol.{Symbol}
-use Rattle.index_notation.specs.declared.symbol.Symbol.TheVariants.{Word, End}
+use Rattle.index_notation.specs.declared.symbol.Symbol.TheVariants.{Lexeme, End}
 use Rattle.notation_reader.specs.declared.position.Lead.{Lead}
 use Rattle.notation_reader.specs.declared.position.Lead.TheVariants as lead
 use Rattle.index_notation.specs.Grammar.{Factor, Digits, Read, Bracketed, Negated, Product}
@@ -126,10 +126,10 @@ BehindBuilds b t lead.End new = new ≡ at_the_end b
 BehindBuilds b t _ new = Unit {0}
 
 behind_equal : (place : ProductPlace) (p : Product) (t : Symbol) (next : State) (new b : Builder) → step_behind place p t ≡ Some next → b ≡ built (Behind place p) → BehindBuilds b t (behind_leads t) new → built next ≡ new
-behind_equal place p (Word (MarkToken Times)) next new b e k w = from_equal (WantsFactor (BehindTimes place p)) next new e (times_built place p ∙ sym k ∙ sym w)
-behind_equal place p (Word (MarkToken Plus)) next new b e k w = from_equal (WantsFactor (FirstFactor (BehindPlus (its_sum place) (sum_with place p)))) next new e (plus_built place p ∙ ap (λ (x : Builder). joined_with x false) (sym k) ∙ sym w)
-behind_equal place p (Word (MarkToken Minus)) next new b e k w = from_equal (WantsFactor (FirstFactor (BehindMinus (its_sum place) (sum_with place p)))) next new e (minus_built place p ∙ ap (λ (x : Builder). joined_with x true) (sym k) ∙ sym w)
-behind_equal place p (Word (MarkToken Close)) next new b e k w = close_equal (its_sum place) place p next new b refl e k w
+behind_equal place p (Lexeme (MarkToken Times)) next new b e k w = from_equal (WantsFactor (BehindTimes place p)) next new e (times_built place p ∙ sym k ∙ sym w)
+behind_equal place p (Lexeme (MarkToken Plus)) next new b e k w = from_equal (WantsFactor (FirstFactor (BehindPlus (its_sum place) (sum_with place p)))) next new e (plus_built place p ∙ ap (λ (x : Builder). joined_with x false) (sym k) ∙ sym w)
+behind_equal place p (Lexeme (MarkToken Minus)) next new b e k w = from_equal (WantsFactor (FirstFactor (BehindMinus (its_sum place) (sum_with place p)))) next new e (minus_built place p ∙ ap (λ (x : Builder). joined_with x true) (sym k) ∙ sym w)
+behind_equal place p (Lexeme (MarkToken Close)) next new b e k w = close_equal (its_sum place) place p next new b refl e k w
 behind_equal place p End next new b e k w = end_equal (its_sum place) place p next new b refl e k w
 behind_equal place p _ next new b e k w = nothing_leads next e
 
@@ -143,53 +143,53 @@ abbrev Equal : State → Type 0
 Equal s = (t : Symbol) (next : State) (new : Builder) → step s t ≡ Some next → BuildsAs s t next new
 
 start_equal : Equal Start
-start_equal (Word (NameToken name)) next new e w = from_equal (Named Left name) next new e (sym w)
+start_equal (Lexeme (NameToken name)) next new e w = from_equal (Named Left name) next new e (sym w)
 start_equal _ next new e w = nothing_leads next e
 
 left_name_equal : (name : Name) → Equal (Named Left name)
-left_name_equal name (Word (MarkToken Open)) next new e w = from_equal (WantsVariable Left name []) next new e (sym w)
-left_name_equal name (Word (MarkToken Equals)) next new e w = from_equal (WantsFactor (FirstFactor (First (OnTheRight (record { name = name; vars = [] }))))) next new e (sym w)
+left_name_equal name (Lexeme (MarkToken Open)) next new e w = from_equal (WantsVariable Left name []) next new e (sym w)
+left_name_equal name (Lexeme (MarkToken Equals)) next new e w = from_equal (WantsFactor (FirstFactor (First (OnTheRight (record { name = name; vars = [] }))))) next new e (sym w)
 left_name_equal name _ next new e w = nothing_leads next e
 
 right_name_equal : (place : FactorPlace) (name : Name) → Equal (Named (Right place) name)
-right_name_equal place name (Word (MarkToken Open)) next new e w = from_equal (WantsVariable (Right place) name []) next new e (sym w)
-right_name_equal place name (Word (MarkToken Times)) next new e w = scalar_equal place name (Word (MarkToken Times)) next new e w
-right_name_equal place name (Word (MarkToken Plus)) next new e w = scalar_equal place name (Word (MarkToken Plus)) next new e w
-right_name_equal place name (Word (MarkToken Minus)) next new e w = scalar_equal place name (Word (MarkToken Minus)) next new e w
-right_name_equal place name (Word (MarkToken Close)) next new e w = scalar_equal place name (Word (MarkToken Close)) next new e w
+right_name_equal place name (Lexeme (MarkToken Open)) next new e w = from_equal (WantsVariable (Right place) name []) next new e (sym w)
+right_name_equal place name (Lexeme (MarkToken Times)) next new e w = scalar_equal place name (Lexeme (MarkToken Times)) next new e w
+right_name_equal place name (Lexeme (MarkToken Plus)) next new e w = scalar_equal place name (Lexeme (MarkToken Plus)) next new e w
+right_name_equal place name (Lexeme (MarkToken Minus)) next new e w = scalar_equal place name (Lexeme (MarkToken Minus)) next new e w
+right_name_equal place name (Lexeme (MarkToken Close)) next new e w = scalar_equal place name (Lexeme (MarkToken Close)) next new e w
 right_name_equal place name End next new e w = scalar_equal place name End next new e w
 right_name_equal place name _ next new e w = nothing_leads next e
 
 wants_variable_equal : (side : Side) (name : Name) (vars : List Name) → Equal (WantsVariable side name vars)
-wants_variable_equal Left name vars (Word (NameToken var)) next new e w = from_equal (BehindVariable Left name vars var) next new e (sym w)
-wants_variable_equal (Right place) name vars (Word (NameToken var)) next new e w = from_equal (BehindVariable (Right place) name vars var) next new e (sym w)
+wants_variable_equal Left name vars (Lexeme (NameToken var)) next new e w = from_equal (BehindVariable Left name vars var) next new e (sym w)
+wants_variable_equal (Right place) name vars (Lexeme (NameToken var)) next new e w = from_equal (BehindVariable (Right place) name vars var) next new e (sym w)
 wants_variable_equal Left name vars _ next new e w = nothing_leads next e
 wants_variable_equal (Right place) name vars _ next new e w = nothing_leads next e
 
 variable_equal : (side : Side) (name : Name) (vars : List Name) (var : Name) → Equal (BehindVariable side name vars var)
-variable_equal Left name vars var (Word (MarkToken Comma)) next new e w = from_equal (WantsVariable Left name (vars ++ (var ∷ []))) next new e (sym w)
-variable_equal Left name vars var (Word (MarkToken Close)) next new e w = from_equal (BehindLeft (record { name = name; vars = vars ++ (var ∷ []) })) next new e (sym w)
+variable_equal Left name vars var (Lexeme (MarkToken Comma)) next new e w = from_equal (WantsVariable Left name (vars ++ (var ∷ []))) next new e (sym w)
+variable_equal Left name vars var (Lexeme (MarkToken Close)) next new e w = from_equal (BehindLeft (record { name = name; vars = vars ++ (var ∷ []) })) next new e (sym w)
 variable_equal Left name vars var _ next new e w = nothing_leads next e
-variable_equal (Right place) name vars var (Word (MarkToken Comma)) next new e w = from_equal (WantsVariable (Right place) name (vars ++ (var ∷ []))) next new e (sym w)
-variable_equal (Right place) name vars var (Word (MarkToken Close)) next new e w = from_equal (behind_factor place (Read (record { name = name; vars = vars ++ (var ∷ []) }))) next new e (access_built place (record { name = name; vars = vars ++ (var ∷ []) }) ∙ sym w)
+variable_equal (Right place) name vars var (Lexeme (MarkToken Comma)) next new e w = from_equal (WantsVariable (Right place) name (vars ++ (var ∷ []))) next new e (sym w)
+variable_equal (Right place) name vars var (Lexeme (MarkToken Close)) next new e w = from_equal (behind_factor place (Read (record { name = name; vars = vars ++ (var ∷ []) }))) next new e (access_built place (record { name = name; vars = vars ++ (var ∷ []) }) ∙ sym w)
 variable_equal (Right place) name vars var _ next new e w = nothing_leads next e
 
 left_equal : (access : WrittenAccess) → Equal (BehindLeft access)
-left_equal access (Word (MarkToken Equals)) next new e w = from_equal (WantsFactor (FirstFactor (First (OnTheRight access)))) next new e (sym w)
+left_equal access (Lexeme (MarkToken Equals)) next new e w = from_equal (WantsFactor (FirstFactor (First (OnTheRight access)))) next new e (sym w)
 left_equal access _ next new e w = nothing_leads next e
 
 wants_equal : (place : FactorPlace) → Equal (WantsFactor place)
-wants_equal place (Word (NumberToken digits)) next new e w = from_equal (behind_factor place (Digits digits)) next new e (factor_built place (Digits digits) ∙ sym w)
-wants_equal place (Word (NameToken name)) next new e w = from_equal (Named (Right place) name) next new e (name_equal place name ∙ sym w)
-wants_equal place (Word (MarkToken Open)) next new e w = from_equal (WantsFactor (FirstFactor (First (InBrackets place)))) next new e (sym w)
-wants_equal place (Word (MarkToken Minus)) next new e w = from_equal (WantsFactor (BehindSign place)) next new e (sym w)
+wants_equal place (Lexeme (NumberToken digits)) next new e w = from_equal (behind_factor place (Digits digits)) next new e (factor_built place (Digits digits) ∙ sym w)
+wants_equal place (Lexeme (NameToken name)) next new e w = from_equal (Named (Right place) name) next new e (name_equal place name ∙ sym w)
+wants_equal place (Lexeme (MarkToken Open)) next new e w = from_equal (WantsFactor (FirstFactor (First (InBrackets place)))) next new e (sym w)
+wants_equal place (Lexeme (MarkToken Minus)) next new e w = from_equal (WantsFactor (BehindSign place)) next new e (sym w)
 wants_equal place _ next new e w = nothing_leads next e
 
 behind_factor_equal : (place : ProductPlace) (p : Product) → Equal (Behind place p)
-behind_factor_equal place p (Word (MarkToken Times)) next new e w = behind_equal place p (Word (MarkToken Times)) next new (built (Behind place p)) e refl w
-behind_factor_equal place p (Word (MarkToken Plus)) next new e w = behind_equal place p (Word (MarkToken Plus)) next new (built (Behind place p)) e refl w
-behind_factor_equal place p (Word (MarkToken Minus)) next new e w = behind_equal place p (Word (MarkToken Minus)) next new (built (Behind place p)) e refl w
-behind_factor_equal place p (Word (MarkToken Close)) next new e w = behind_equal place p (Word (MarkToken Close)) next new (built (Behind place p)) e refl w
+behind_factor_equal place p (Lexeme (MarkToken Times)) next new e w = behind_equal place p (Lexeme (MarkToken Times)) next new (built (Behind place p)) e refl w
+behind_factor_equal place p (Lexeme (MarkToken Plus)) next new e w = behind_equal place p (Lexeme (MarkToken Plus)) next new (built (Behind place p)) e refl w
+behind_factor_equal place p (Lexeme (MarkToken Minus)) next new e w = behind_equal place p (Lexeme (MarkToken Minus)) next new (built (Behind place p)) e refl w
+behind_factor_equal place p (Lexeme (MarkToken Close)) next new e w = behind_equal place p (Lexeme (MarkToken Close)) next new (built (Behind place p)) e refl w
 behind_factor_equal place p End next new e w = behind_equal place p End next new (built (Behind place p)) e refl w
 behind_factor_equal place p _ next new e w = nothing_leads next e
 

@@ -6,7 +6,7 @@ use Rattle.index_notation.specs.declared.sentence.Mark.TheVariants.{Equals, Plus
 use Rattle.index_notation.specs.declared.sentence.Token.TheVariants.{Name as NameToken, Number as NumberToken, Mark as MarkToken}
 use Rattle.index_notation.specs.declared.sentence.WrittenAccess.{WrittenAccess}
 use Rattle.index_notation.specs.declared.symbol.Symbol.{Symbol}
-use Rattle.index_notation.specs.declared.symbol.Symbol.TheVariants.{Word, End}
+use Rattle.index_notation.specs.declared.symbol.Symbol.TheVariants.{Lexeme, End}
 use Rattle.index_notation.specs.Grammar.{Digits, Read, Bracketed, Product, Sum, Role, NamesLeft, NamesRight, IsVariable, IsNumber, Opens, Plain, Written}
 use Rattle.notation_reader.specs.Machine.{SumPlace, OnTheRight, InBrackets, ProductPlace, First, BehindPlus, BehindMinus, FactorPlace, FirstFactor, BehindTimes, BehindSign, levels, its_product, product_with, its_sum, sum_with, Side, Left, Right, State, Start, Named, WantsVariable, BehindVariable, BehindLeft, WantsFactor, Behind, Ended, behind_factor, closed, ended, step_behind, step, count_on, before, role, read}
 use Rattle.limits.specs.Limits.{greatest_order, greatest_variables, greatest_accesses, greatest_operands, greatest_literal}
@@ -44,7 +44,7 @@ count_is n [] = omega arith
 count_is n (var ∷ vars) = let h = count_is (suc n) vars in omega (arith, h)
 
 abbrev OrdersAs : State → Symbol → State → ℕ → Lead → Type 0
-OrdersAs s t next n (lead.Variable at) = OrderIs next (n + 1) × (role s t ≡ IsVariable (n + 1)) × ((name : Name) × (t ≡ Word (NameToken name)))
+OrdersAs s t next n (lead.Variable at) = OrderIs next (n + 1) × (role s t ≡ IsVariable (n + 1)) × ((name : Name) × (t ≡ Lexeme (NameToken name)))
 OrdersAs s t next n lead.Name = OrderIs next 0
 OrdersAs s t next n _ = OrderIs next n
 
@@ -63,10 +63,10 @@ ended_order (OnTheRight left) s next n e = order_to n (Ended (record { left = le
 ended_order (InBrackets place) s next n e = nothing_leads next e
 
 behind_order : (place : ProductPlace) (p : Product) (t : Symbol) (next : State) (n : ℕ) → step_behind place p t ≡ Some next → OrderIs next n
-behind_order place p (Word (MarkToken Times)) next n e = order_to n (WantsFactor (BehindTimes place p)) next e tt
-behind_order place p (Word (MarkToken Plus)) next n e = order_to n (WantsFactor (FirstFactor (BehindPlus (its_sum place) (sum_with place p)))) next e tt
-behind_order place p (Word (MarkToken Minus)) next n e = order_to n (WantsFactor (FirstFactor (BehindMinus (its_sum place) (sum_with place p)))) next e tt
-behind_order place p (Word (MarkToken Close)) next n e = closed_order (its_sum place) (sum_with place p) next n e
+behind_order place p (Lexeme (MarkToken Times)) next n e = order_to n (WantsFactor (BehindTimes place p)) next e tt
+behind_order place p (Lexeme (MarkToken Plus)) next n e = order_to n (WantsFactor (FirstFactor (BehindPlus (its_sum place) (sum_with place p)))) next e tt
+behind_order place p (Lexeme (MarkToken Minus)) next n e = order_to n (WantsFactor (FirstFactor (BehindMinus (its_sum place) (sum_with place p)))) next e tt
+behind_order place p (Lexeme (MarkToken Close)) next n e = closed_order (its_sum place) (sum_with place p) next n e
 behind_order place p End next n e = ended_order (its_sum place) (sum_with place p) next n e
 behind_order place p _ next n e = nothing_leads next e
 
@@ -74,29 +74,29 @@ abbrev Ordered : State → Type 0
 Ordered s = (t : Symbol) (next : State) (n : ℕ) → step s t ≡ Some next → OrderIs s n → OrdersAs s t next n (lead_of (show s).stand t)
 
 start_order : Ordered Start
-start_order (Word (NameToken name)) next n e h = order_to n (Named Left name) next e h
+start_order (Lexeme (NameToken name)) next n e h = order_to n (Named Left name) next e h
 start_order _ next n e h = nothing_leads next e
 
 left_name_order : (name : Name) → Ordered (Named Left name)
-left_name_order name (Word (MarkToken Open)) next n e h = order_to n (WantsVariable Left name []) next e h
-left_name_order name (Word (MarkToken Equals)) next n e h = order_to n (WantsFactor (FirstFactor (First (OnTheRight (record { name = name; vars = [] }))))) next e tt
+left_name_order name (Lexeme (MarkToken Open)) next n e h = order_to n (WantsVariable Left name []) next e h
+left_name_order name (Lexeme (MarkToken Equals)) next n e h = order_to n (WantsFactor (FirstFactor (First (OnTheRight (record { name = name; vars = [] }))))) next e tt
 left_name_order name _ next n e h = nothing_leads next e
 
 right_name_order : (place : FactorPlace) (name : Name) → Ordered (Named (Right place) name)
-right_name_order place name (Word (MarkToken Open)) next n e h = order_to n (WantsVariable (Right place) name []) next e h
-right_name_order place name (Word (MarkToken Times)) next n e h = behind_order (its_product place) (product_with place (Read (record { name = name; vars = [] }))) (Word (MarkToken Times)) next n e
-right_name_order place name (Word (MarkToken Plus)) next n e h = behind_order (its_product place) (product_with place (Read (record { name = name; vars = [] }))) (Word (MarkToken Plus)) next n e
-right_name_order place name (Word (MarkToken Minus)) next n e h = behind_order (its_product place) (product_with place (Read (record { name = name; vars = [] }))) (Word (MarkToken Minus)) next n e
-right_name_order place name (Word (MarkToken Close)) next n e h = behind_order (its_product place) (product_with place (Read (record { name = name; vars = [] }))) (Word (MarkToken Close)) next n e
+right_name_order place name (Lexeme (MarkToken Open)) next n e h = order_to n (WantsVariable (Right place) name []) next e h
+right_name_order place name (Lexeme (MarkToken Times)) next n e h = behind_order (its_product place) (product_with place (Read (record { name = name; vars = [] }))) (Lexeme (MarkToken Times)) next n e
+right_name_order place name (Lexeme (MarkToken Plus)) next n e h = behind_order (its_product place) (product_with place (Read (record { name = name; vars = [] }))) (Lexeme (MarkToken Plus)) next n e
+right_name_order place name (Lexeme (MarkToken Minus)) next n e h = behind_order (its_product place) (product_with place (Read (record { name = name; vars = [] }))) (Lexeme (MarkToken Minus)) next n e
+right_name_order place name (Lexeme (MarkToken Close)) next n e h = behind_order (its_product place) (product_with place (Read (record { name = name; vars = [] }))) (Lexeme (MarkToken Close)) next n e
 right_name_order place name End next n e h = behind_order (its_product place) (product_with place (Read (record { name = name; vars = [] }))) End next n e
 right_name_order place name _ next n e h = nothing_leads next e
 
-variable_order : (side : Side) (name : Name) (vars : List Name) (var : Name) (next : State) (n : ℕ) → step (WantsVariable side name vars) (Word (NameToken var)) ≡ Some next → n ≡ length vars → OrderIs next (n + 1) × (IsVariable (count_on 1 vars) ≡ IsVariable (n + 1)) × ((other : Name) × (◌≡◌ {A = Symbol} (Word (NameToken var)) (Word (NameToken other))))
+variable_order : (side : Side) (name : Name) (vars : List Name) (var : Name) (next : State) (n : ℕ) → step (WantsVariable side name vars) (Lexeme (NameToken var)) ≡ Some next → n ≡ length vars → OrderIs next (n + 1) × (IsVariable (count_on 1 vars) ≡ IsVariable (n + 1)) × ((other : Name) × (◌≡◌ {A = Symbol} (Lexeme (NameToken var)) (Lexeme (NameToken other))))
 variable_order side name vars var next n e h = (order_to (n + 1) (BehindVariable side name vars var) next e (omega (arith, h)), ap (λ k. IsVariable k) (let c = count_is 1 vars in let k : count_on 1 vars ≡ n + 1 = omega (arith, c, h) in k), (var, refl))
 
 wants_variable_order : (side : Side) (name : Name) (vars : List Name) → Ordered (WantsVariable side name vars)
-wants_variable_order Left name vars (Word (NameToken var)) next n e h = variable_order Left name vars var next n e h
-wants_variable_order (Right place) name vars (Word (NameToken var)) next n e h = variable_order (Right place) name vars var next n e h
+wants_variable_order Left name vars (Lexeme (NameToken var)) next n e h = variable_order Left name vars var next n e h
+wants_variable_order (Right place) name vars (Lexeme (NameToken var)) next n e h = variable_order (Right place) name vars var next n e h
 wants_variable_order Left name vars _ next n e h = nothing_leads next e
 wants_variable_order (Right place) name vars _ next n e h = nothing_leads next e
 
@@ -104,29 +104,29 @@ more_order : (vars : List Name) (var : Name) (n : ℕ) → n ≡ length vars + 1
 more_order vars var n h = let k = length-append vars (var ∷ []) in omega (arith, k, h)
 
 behind_variable_order : (side : Side) (name : Name) (vars : List Name) (var : Name) → Ordered (BehindVariable side name vars var)
-behind_variable_order Left name vars var (Word (MarkToken Comma)) next n e h = order_to n (WantsVariable Left name (vars ++ (var ∷ []))) next e (more_order vars var n h)
-behind_variable_order Left name vars var (Word (MarkToken Close)) next n e h = order_to n (BehindLeft (record { name = name; vars = vars ++ (var ∷ []) })) next e tt
+behind_variable_order Left name vars var (Lexeme (MarkToken Comma)) next n e h = order_to n (WantsVariable Left name (vars ++ (var ∷ []))) next e (more_order vars var n h)
+behind_variable_order Left name vars var (Lexeme (MarkToken Close)) next n e h = order_to n (BehindLeft (record { name = name; vars = vars ++ (var ∷ []) })) next e tt
 behind_variable_order Left name vars var _ next n e h = nothing_leads next e
-behind_variable_order (Right place) name vars var (Word (MarkToken Comma)) next n e h = order_to n (WantsVariable (Right place) name (vars ++ (var ∷ []))) next e (more_order vars var n h)
-behind_variable_order (Right place) name vars var (Word (MarkToken Close)) next n e h = order_to n (behind_factor place (Read (record { name = name; vars = vars ++ (var ∷ []) }))) next e tt
+behind_variable_order (Right place) name vars var (Lexeme (MarkToken Comma)) next n e h = order_to n (WantsVariable (Right place) name (vars ++ (var ∷ []))) next e (more_order vars var n h)
+behind_variable_order (Right place) name vars var (Lexeme (MarkToken Close)) next n e h = order_to n (behind_factor place (Read (record { name = name; vars = vars ++ (var ∷ []) }))) next e tt
 behind_variable_order (Right place) name vars var _ next n e h = nothing_leads next e
 
 left_order : (access : WrittenAccess) → Ordered (BehindLeft access)
-left_order access (Word (MarkToken Equals)) next n e h = order_to n (WantsFactor (FirstFactor (First (OnTheRight access)))) next e tt
+left_order access (Lexeme (MarkToken Equals)) next n e h = order_to n (WantsFactor (FirstFactor (First (OnTheRight access)))) next e tt
 left_order access _ next n e h = nothing_leads next e
 
 wants_order : (place : FactorPlace) → Ordered (WantsFactor place)
-wants_order place (Word (NumberToken digits)) next n e h = order_to n (behind_factor place (Digits digits)) next e tt
-wants_order place (Word (NameToken name)) next n e h = order_to 0 (Named (Right place) name) next e refl
-wants_order place (Word (MarkToken Open)) next n e h = order_to n (WantsFactor (FirstFactor (First (InBrackets place)))) next e tt
-wants_order place (Word (MarkToken Minus)) next n e h = order_to n (WantsFactor (BehindSign place)) next e tt
+wants_order place (Lexeme (NumberToken digits)) next n e h = order_to n (behind_factor place (Digits digits)) next e tt
+wants_order place (Lexeme (NameToken name)) next n e h = order_to 0 (Named (Right place) name) next e refl
+wants_order place (Lexeme (MarkToken Open)) next n e h = order_to n (WantsFactor (FirstFactor (First (InBrackets place)))) next e tt
+wants_order place (Lexeme (MarkToken Minus)) next n e h = order_to n (WantsFactor (BehindSign place)) next e tt
 wants_order place _ next n e h = nothing_leads next e
 
 behind_factor_order : (place : ProductPlace) (p : Product) → Ordered (Behind place p)
-behind_factor_order place p (Word (MarkToken Times)) next n e h = behind_order place p (Word (MarkToken Times)) next n e
-behind_factor_order place p (Word (MarkToken Plus)) next n e h = behind_order place p (Word (MarkToken Plus)) next n e
-behind_factor_order place p (Word (MarkToken Minus)) next n e h = behind_order place p (Word (MarkToken Minus)) next n e
-behind_factor_order place p (Word (MarkToken Close)) next n e h = behind_order place p (Word (MarkToken Close)) next n e
+behind_factor_order place p (Lexeme (MarkToken Times)) next n e h = behind_order place p (Lexeme (MarkToken Times)) next n e
+behind_factor_order place p (Lexeme (MarkToken Plus)) next n e h = behind_order place p (Lexeme (MarkToken Plus)) next n e
+behind_factor_order place p (Lexeme (MarkToken Minus)) next n e h = behind_order place p (Lexeme (MarkToken Minus)) next n e
+behind_factor_order place p (Lexeme (MarkToken Close)) next n e h = behind_order place p (Lexeme (MarkToken Close)) next n e
 behind_factor_order place p End next n e h = behind_order place p End next n e
 behind_factor_order place p _ next n e h = nothing_leads next e
 
@@ -235,7 +235,7 @@ number_judged s t next c d fault e h k r o =
       operands = ap (λ x. c.operands + operand_at x) (sym r);
     })
 
-variable_judged : (s : State) (t : Symbol) (next : State) (c d : Counts) (fault : Option SymbolFault) (name : Name) → step s t ≡ Some next → IsCounted s c → CountsAs (variable_fault c name) (with_variable name c) fault d → role s t ≡ IsVariable (c.order + 1) → t ≡ Word (NameToken name) → OrderIs next (c.order + 1) → IsJudged s t next fault d
+variable_judged : (s : State) (t : Symbol) (next : State) (c d : Counts) (fault : Option SymbolFault) (name : Name) → step s t ≡ Some next → IsCounted s c → CountsAs (variable_fault c name) (with_variable name c) fault d → role s t ≡ IsVariable (c.order + 1) → t ≡ Lexeme (NameToken name) → OrderIs next (c.order + 1) → IsJudged s t next fault d
 variable_judged s t next c d fault name e h k r is o =
     let all = before s ++ (read s t ∷ []) in
     let one : variable_at (role s t) t ≡ name ∷ [] = λ i. variable_at (r i) (is i) in

@@ -2,7 +2,7 @@
 use Rattle.std.specs.Prelude.{◌≡◌, ℕ, Bool, true, false, MatchBool, Option, Some, None, List, [], ◌∷◌, ◌++◌, refl}
 use Rattle.std.proofs.Common.{sym, ◌∙◌, ap, subst}
 use Rattle.index_notation.specs.declared.symbol.Symbol.{Symbol}
-use Rattle.index_notation.specs.declared.symbol.Symbol.TheVariants.{Word, End, Stray}
+use Rattle.index_notation.specs.declared.symbol.Symbol.TheVariants.{Lexeme, End, Stray}
 use Rattle.index_notation.specs.Grammar.{Read, Sum, Tree, Role, symbols}
 use Rattle.notation_reader.specs.Machine.{SumPlace, OnTheRight, InBrackets, its_product, product_with, its_sum, sum_with, Left, Right, State, Start, Named, WantsVariable, BehindVariable, BehindLeft, WantsFactor, Behind, Ended, ended, step, run, before, role}
 use Rattle.index_notation.specs.declared.fault.SymbolFault.{SymbolFault}
@@ -120,7 +120,7 @@ stray_so (Ended tree) next e = nothing_leads next e
 last_so : (t : Symbol) (s next : State) → IsLast t → step s t ≡ Some next → (w : Tree) × (next ≡ Ended w)
 last_so End s next h e = end_so s next e
 last_so Stray s next h e = stray_so s next e
-last_so (Word token) s next h e = absurd h
+last_so (Lexeme token) s next h e = absurd h
 
 pub tree_found : (ts : List Symbol) (r : Position) (c : Counts) → HasLast ts → Comes ts r c → (w : Tree) × IsTreeOf ts w
 tree_found ts r c l h =

@@ -7,7 +7,7 @@ use Rattle.index_notation.specs.declared.sentence.Mark.TheVariants.{Equals, Plus
 use Rattle.index_notation.specs.declared.sentence.Token.TheVariants.{Name as NameToken, Number as NumberToken, Mark as MarkToken}
 use Rattle.index_notation.specs.declared.sentence.WrittenAccess.{WrittenAccess}
 use Rattle.index_notation.specs.declared.symbol.Symbol.{Symbol}
-use Rattle.index_notation.specs.declared.symbol.Symbol.TheVariants.{Word, End}
+use Rattle.index_notation.specs.declared.symbol.Symbol.TheVariants.{Lexeme, End}
 use Rattle.index_notation.specs.Grammar.{Factor, Digits, Read, Bracketed, Negated, Product, Sum, Role, NamesLeft, NamesRight, IsVariable, Opens, Plain, Written, written, plain, the_end, access_of, factor_of, product_of, sum_of, more_variables, in_brackets}
 use Rattle.notation_reader.specs.Machine.{SumPlace, OnTheRight, InBrackets, ProductPlace, First, BehindPlus, BehindMinus, FactorPlace, FirstFactor, BehindTimes, BehindSign, sum_levels, product_levels, levels, before_sum, before_product, before_factor, its_product, product_with, its_sum, sum_with, Side, Left, Right, State, Start, Named, WantsVariable, BehindVariable, BehindLeft, WantsFactor, Behind, Ended, behind_factor, behind_access, closed, ended, step_behind, step, count_on, with_commas, named, before, read}
 
@@ -81,15 +81,15 @@ ended_grows (OnTheRight left) s next e = ap before (sym (some_is (Ended (record 
 ended_grows (InBrackets place) s next e = nothing_leads next e
 
 behind_grows : (place : ProductPlace) (p : Product) (t : Symbol) (next : State) → step_behind place p t ≡ Some next → Grows (Behind place p) t next
-behind_grows place p (Word (MarkToken Times)) next e = leads (Behind place p) (Word (MarkToken Times)) (WantsFactor (BehindTimes place p)) next e refl
-behind_grows place p (Word (MarkToken Plus)) next e = leads (Behind place p) (Word (MarkToken Plus)) (WantsFactor (FirstFactor (BehindPlus (its_sum place) (sum_with place p)))) next e (ap (λ (ms : List Written). ms ++ (plain Plus ∷ [])) (sum_behind place p))
-behind_grows place p (Word (MarkToken Minus)) next e = leads (Behind place p) (Word (MarkToken Minus)) (WantsFactor (FirstFactor (BehindMinus (its_sum place) (sum_with place p)))) next e (ap (λ (ms : List Written). ms ++ (plain Minus ∷ [])) (sum_behind place p))
-behind_grows place p (Word (MarkToken Close)) next e = closed_grows (its_sum place) (sum_with place p) next e ∙ ap (λ (ms : List Written). ms ++ (plain Close ∷ [])) (sum_behind place p)
+behind_grows place p (Lexeme (MarkToken Times)) next e = leads (Behind place p) (Lexeme (MarkToken Times)) (WantsFactor (BehindTimes place p)) next e refl
+behind_grows place p (Lexeme (MarkToken Plus)) next e = leads (Behind place p) (Lexeme (MarkToken Plus)) (WantsFactor (FirstFactor (BehindPlus (its_sum place) (sum_with place p)))) next e (ap (λ (ms : List Written). ms ++ (plain Plus ∷ [])) (sum_behind place p))
+behind_grows place p (Lexeme (MarkToken Minus)) next e = leads (Behind place p) (Lexeme (MarkToken Minus)) (WantsFactor (FirstFactor (BehindMinus (its_sum place) (sum_with place p)))) next e (ap (λ (ms : List Written). ms ++ (plain Minus ∷ [])) (sum_behind place p))
+behind_grows place p (Lexeme (MarkToken Close)) next e = closed_grows (its_sum place) (sum_with place p) next e ∙ ap (λ (ms : List Written). ms ++ (plain Close ∷ [])) (sum_behind place p)
 behind_grows place p End next e = ended_grows (its_sum place) (sum_with place p) next e ∙ ap (λ (ms : List Written). ms ++ (the_end ∷ [])) (sum_behind place p)
 behind_grows place p _ next e = nothing_leads next e
 
 left_grows : (access : WrittenAccess) (t : Symbol) (next : State) → step (BehindLeft access) t ≡ Some next → Grows (BehindLeft access) t next
-left_grows access (Word (MarkToken Equals)) next e = leads (BehindLeft access) (Word (MarkToken Equals)) (WantsFactor (FirstFactor (First (OnTheRight access)))) next e refl
+left_grows access (Lexeme (MarkToken Equals)) next e = leads (BehindLeft access) (Lexeme (MarkToken Equals)) (WantsFactor (FirstFactor (First (OnTheRight access)))) next e refl
 left_grows access _ next e = nothing_leads next e
 
 abbrev scalar : Name → WrittenAccess
@@ -100,19 +100,19 @@ scalar_grows place name t next e =
     behind_grows (its_product place) (product_with place (Read (scalar name))) t next e
     ∙ ap (λ (ms : List Written). ms ++ (record { symbol = t; role = Plain } ∷ [])) (factor_behind place (Read (scalar name)))
 
-named_opens : (side : Side) (name : Name) → Grows (Named side name) (Word (MarkToken Open)) (WantsVariable side name [])
+named_opens : (side : Side) (name : Name) → Grows (Named side name) (Lexeme (MarkToken Open)) (WantsVariable side name [])
 named_opens side name = append_none (named side name ++ (plain Open ∷ []))
 
 named_grows : (side : Side) (name : Name) (t : Symbol) (next : State) → step (Named side name) t ≡ Some next → Grows (Named side name) t next
-named_grows side name (Word (MarkToken Open)) next e = leads (Named side name) (Word (MarkToken Open)) (WantsVariable side name []) next e (named_opens side name)
+named_grows side name (Lexeme (MarkToken Open)) next e = leads (Named side name) (Lexeme (MarkToken Open)) (WantsVariable side name []) next e (named_opens side name)
 named_grows Left name t next e = left_grows (scalar name) t next e
 named_grows (Right place) name t next e = scalar_grows place name t next e
 
-variable_closes : (side : Side) (name : Name) (vars : List Name) (var : Name) → Grows (BehindVariable side name vars var) (Word (MarkToken Close)) (behind_access side (record { name = name; vars = vars ++ (var ∷ []) }))
+variable_closes : (side : Side) (name : Name) (vars : List Name) (var : Name) → Grows (BehindVariable side name vars var) (Lexeme (MarkToken Close)) (behind_access side (record { name = name; vars = vars ++ (var ∷ []) }))
 variable_closes Left name vars var = access_behind [] NamesLeft name vars var
 variable_closes (Right place) name vars var = factor_behind place (Read (record { name = name; vars = vars ++ (var ∷ []) })) ∙ access_behind (before_factor place) NamesRight name vars var
 
-variable_goes_on : (side : Side) (name : Name) (vars : List Name) (var : Name) → Grows (BehindVariable side name vars var) (Word (MarkToken Comma)) (WantsVariable side name (vars ++ (var ∷ [])))
+variable_goes_on : (side : Side) (name : Name) (vars : List Name) (var : Name) → Grows (BehindVariable side name vars var) (Lexeme (MarkToken Comma)) (WantsVariable side name (vars ++ (var ∷ [])))
 variable_goes_on side name vars var =
     let front = named side name ++ (plain Open ∷ []) in
     let v = written (NameToken var) (IsVariable (count_on 1 vars)) in
@@ -120,23 +120,23 @@ variable_goes_on side name vars var =
     ∙ sym (append_assoc (front ++ with_commas 1 vars) (v ∷ []) (plain Comma ∷ []) ∙ append_assoc front (with_commas 1 vars) (v ∷ plain Comma ∷ []))
 
 variable_grows : (side : Side) (name : Name) (vars : List Name) (var : Name) (t : Symbol) (next : State) → step (BehindVariable side name vars var) t ≡ Some next → Grows (BehindVariable side name vars var) t next
-variable_grows side name vars var (Word (MarkToken Comma)) next e = leads (BehindVariable side name vars var) (Word (MarkToken Comma)) (WantsVariable side name (vars ++ (var ∷ []))) next e (variable_goes_on side name vars var)
-variable_grows side name vars var (Word (MarkToken Close)) next e = leads (BehindVariable side name vars var) (Word (MarkToken Close)) (behind_access side (record { name = name; vars = vars ++ (var ∷ []) })) next e (variable_closes side name vars var)
+variable_grows side name vars var (Lexeme (MarkToken Comma)) next e = leads (BehindVariable side name vars var) (Lexeme (MarkToken Comma)) (WantsVariable side name (vars ++ (var ∷ []))) next e (variable_goes_on side name vars var)
+variable_grows side name vars var (Lexeme (MarkToken Close)) next e = leads (BehindVariable side name vars var) (Lexeme (MarkToken Close)) (behind_access side (record { name = name; vars = vars ++ (var ∷ []) })) next e (variable_closes side name vars var)
 variable_grows side name vars var _ next e = nothing_leads next e
 
 wants_variable_grows : (side : Side) (name : Name) (vars : List Name) (t : Symbol) (next : State) → step (WantsVariable side name vars) t ≡ Some next → Grows (WantsVariable side name vars) t next
-wants_variable_grows side name vars (Word (NameToken var)) next e = leads (WantsVariable side name vars) (Word (NameToken var)) (BehindVariable side name vars var) next e refl
+wants_variable_grows side name vars (Lexeme (NameToken var)) next e = leads (WantsVariable side name vars) (Lexeme (NameToken var)) (BehindVariable side name vars var) next e refl
 wants_variable_grows side name vars _ next e = nothing_leads next e
 
 start_grows : (t : Symbol) (next : State) → step Start t ≡ Some next → Grows Start t next
-start_grows (Word (NameToken name)) next e = leads Start (Word (NameToken name)) (Named Left name) next e refl
+start_grows (Lexeme (NameToken name)) next e = leads Start (Lexeme (NameToken name)) (Named Left name) next e refl
 start_grows _ next e = nothing_leads next e
 
 factor_grows : (place : FactorPlace) (t : Symbol) (next : State) → step (WantsFactor place) t ≡ Some next → Grows (WantsFactor place) t next
-factor_grows place (Word (NumberToken digits)) next e = leads (WantsFactor place) (Word (NumberToken digits)) (behind_factor place (Digits digits)) next e (factor_behind place (Digits digits))
-factor_grows place (Word (NameToken name)) next e = leads (WantsFactor place) (Word (NameToken name)) (Named (Right place) name) next e refl
-factor_grows place (Word (MarkToken Open)) next e = leads (WantsFactor place) (Word (MarkToken Open)) (WantsFactor (FirstFactor (First (InBrackets place)))) next e refl
-factor_grows place (Word (MarkToken Minus)) next e = leads (WantsFactor place) (Word (MarkToken Minus)) (WantsFactor (BehindSign place)) next e refl
+factor_grows place (Lexeme (NumberToken digits)) next e = leads (WantsFactor place) (Lexeme (NumberToken digits)) (behind_factor place (Digits digits)) next e (factor_behind place (Digits digits))
+factor_grows place (Lexeme (NameToken name)) next e = leads (WantsFactor place) (Lexeme (NameToken name)) (Named (Right place) name) next e refl
+factor_grows place (Lexeme (MarkToken Open)) next e = leads (WantsFactor place) (Lexeme (MarkToken Open)) (WantsFactor (FirstFactor (First (InBrackets place)))) next e refl
+factor_grows place (Lexeme (MarkToken Minus)) next e = leads (WantsFactor place) (Lexeme (MarkToken Minus)) (WantsFactor (BehindSign place)) next e refl
 factor_grows place _ next e = nothing_leads next e
 
 -- what has been read grows by each symbol that leads on

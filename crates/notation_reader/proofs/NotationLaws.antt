@@ -3,7 +3,7 @@ use Rattle.std.specs.Prelude.{◌≡◌, ℕ, ◌<◌, ◌≤◌, List, [], ◌�
 use Rattle.std.proofs.Common.{sym, ◌∙◌, ap, subst, arith}
 use Rattle.limits.specs.Limits.{greatest_text_bytes}
 use Rattle.index_notation.specs.declared.symbol.Symbol.{Symbol}
-use Rattle.index_notation.specs.declared.symbol.Symbol.TheVariants.{Word, End, Stray}
+use Rattle.index_notation.specs.declared.symbol.Symbol.TheVariants.{Lexeme, End, Stray}
 use Rattle.index_notation.specs.declared.symbol.PlacedSymbol.{PlacedSymbol}
 use Rattle.index_notation.specs.declared.syntax.Statement.{Statement}
 use Rattle.index_notation.specs.declared.sentence.WrittenAccess.{WrittenAccess}
@@ -24,15 +24,15 @@ abbrev Once : ℕ → List PlacedSymbol → List PlacedSymbol → Type 0
 Once size ps qs = (rest : List ℕ) → AreSymbols size rest ps → AreSymbols size rest qs → ps ≡ qs
 
 starts_once : (size : ℕ) (text : List ℕ) (ps qs : List PlacedSymbol) (t u : Symbol) → Once size ps qs → StartsWith text (λ rest. AreSymbols size rest ps) (ps ≡ []) t → StartsWith text (λ rest. AreSymbols size rest qs) (qs ≡ []) u → (t ≡ u) × (ps ≡ qs)
-starts_once size text ps qs (Word t) (Word u) once h k =
+starts_once size text ps qs (Lexeme t) (Lexeme u) once h k =
     let same = next_once text t u h.0 k.0 h.1 k.1 in
-    (ap Word same.0, once k.0 (subst (λ (r : List ℕ). AreSymbols size r ps) same.1 h.2) k.2)
-starts_once size text ps qs (Word t) End once h k = absurd (token_full t h.0 h.1.stands (sym h.1.spelled ∙ k.0))
-starts_once size text ps qs (Word t) Stray once h k = absurd (k.1 t h.0 h.1)
-starts_once size text ps qs End (Word u) once h k = absurd (token_full u k.0 k.1.stands (sym k.1.spelled ∙ h.0))
+    (ap Lexeme same.0, once k.0 (subst (λ (r : List ℕ). AreSymbols size r ps) same.1 h.2) k.2)
+starts_once size text ps qs (Lexeme t) End once h k = absurd (token_full t h.0 h.1.stands (sym h.1.spelled ∙ k.0))
+starts_once size text ps qs (Lexeme t) Stray once h k = absurd (k.1 t h.0 h.1)
+starts_once size text ps qs End (Lexeme u) once h k = absurd (token_full u k.0 k.1.stands (sym k.1.spelled ∙ h.0))
 starts_once size text ps qs End End once h k = (refl, h.1 ∙ sym k.1)
 starts_once size text ps qs End Stray once h k = absurd (k.0 h.0)
-starts_once size text ps qs Stray (Word u) once h k = absurd (h.1 u k.0 k.1)
+starts_once size text ps qs Stray (Lexeme u) once h k = absurd (h.1 u k.0 k.1)
 starts_once size text ps qs Stray End once h k = absurd (h.0 k.0)
 starts_once size text ps qs Stray Stray once h k = (refl, h.2 ∙ sym k.2)
 

@@ -7,7 +7,7 @@ use Rattle.index_notation.specs.declared.sentence.Mark.TheVariants.{Equals, Plus
 use Rattle.index_notation.specs.declared.sentence.Token.TheVariants.{Name as NameToken, Number as NumberToken, Mark as MarkToken}
 use Rattle.index_notation.specs.declared.sentence.WrittenAccess.{WrittenAccess}
 use Rattle.index_notation.specs.declared.symbol.Symbol.{Symbol}
-use Rattle.index_notation.specs.declared.symbol.Symbol.TheVariants.{Word, End}
+use Rattle.index_notation.specs.declared.symbol.Symbol.TheVariants.{Lexeme, End}
 use Rattle.index_notation.specs.Grammar.{Factor, Digits, Read, Bracketed, Negated, Product, Lone, Multiplied, Sum, Alone, Added, Taken, Tree, NamesLeft, Written, plain, the_end, access_of, factor_of, product_of, sum_of, left_of, sentence_of, more_variables, in_brackets, symbols, Begins}
 use Rattle.notation_reader.specs.Machine.{SumPlace, OnTheRight, InBrackets, ProductPlace, First, BehindPlus, BehindMinus, FactorPlace, FirstFactor, BehindTimes, BehindSign, its_sum, sum_with, Side, Left, Right, State, Start, Named, WantsVariable, BehindVariable, BehindLeft, WantsFactor, Behind, Ended, behind_factor, behind_access, closed, ended, step, run, before, read}
 use Rattle.notation_reader.proofs.MachineLaws.{grows}
@@ -15,7 +15,7 @@ use Rattle.notation_reader.proofs.MachineLaws.{grows}
 -- a symbol follows, and opens no bracket
 abbrev pub Follows : List Symbol → Type 0
 Follows [] = ⊥
-Follows (Word (MarkToken Open) ∷ rest) = ⊥
+Follows (Lexeme (MarkToken Open) ∷ rest) = ⊥
 Follows (t ∷ rest) = Unit {0}
 
 abbrev scalar : Name → WrittenAccess
@@ -23,12 +23,12 @@ scalar name = record { name = name; vars = [] }
 
 left_scalar_read : (name : Name) (rest : List Symbol) → Follows rest → run (Named Left name) rest ≡ run (behind_access Left (scalar name)) rest
 left_scalar_read name [] h = absurd h
-left_scalar_read name (Word (MarkToken Open) ∷ rest) h = absurd h
+left_scalar_read name (Lexeme (MarkToken Open) ∷ rest) h = absurd h
 left_scalar_read name (t ∷ rest) h = refl
 
 right_scalar_read : (place : FactorPlace) (name : Name) (rest : List Symbol) → Follows rest → run (Named (Right place) name) rest ≡ run (behind_access (Right place) (scalar name)) rest
 right_scalar_read place name [] h = absurd h
-right_scalar_read place name (Word (MarkToken Open) ∷ rest) h = absurd h
+right_scalar_read place name (Lexeme (MarkToken Open) ∷ rest) h = absurd h
 right_scalar_read place name (t ∷ rest) h = refl
 
 scalar_read : (side : Side) (name : Name) (rest : List Symbol) → Follows rest → run (Named side name) rest ≡ run (behind_access side (scalar name)) rest
@@ -54,17 +54,17 @@ behind_sum place (Alone p) = Behind (First place) p
 behind_sum place (Added s p) = Behind (BehindPlus place s) p
 behind_sum place (Taken s p) = Behind (BehindMinus place s) p
 
-sum_adds : (place : SumPlace) (s : Sum) → step (behind_sum place s) (Word (MarkToken Plus)) ≡ Some (WantsFactor (FirstFactor (BehindPlus place s)))
+sum_adds : (place : SumPlace) (s : Sum) → step (behind_sum place s) (Lexeme (MarkToken Plus)) ≡ Some (WantsFactor (FirstFactor (BehindPlus place s)))
 sum_adds place (Alone p) = refl
 sum_adds place (Added s p) = refl
 sum_adds place (Taken s p) = refl
 
-sum_takes : (place : SumPlace) (s : Sum) → step (behind_sum place s) (Word (MarkToken Minus)) ≡ Some (WantsFactor (FirstFactor (BehindMinus place s)))
+sum_takes : (place : SumPlace) (s : Sum) → step (behind_sum place s) (Lexeme (MarkToken Minus)) ≡ Some (WantsFactor (FirstFactor (BehindMinus place s)))
 sum_takes place (Alone p) = refl
 sum_takes place (Added s p) = refl
 sum_takes place (Taken s p) = refl
 
-sum_closes : (place : SumPlace) (s : Sum) → step (behind_sum place s) (Word (MarkToken Close)) ≡ closed place s
+sum_closes : (place : SumPlace) (s : Sum) → step (behind_sum place s) (Lexeme (MarkToken Close)) ≡ closed place s
 sum_closes place (Alone p) = refl
 sum_closes place (Added s p) = refl
 sum_closes place (Taken s p) = refl
@@ -87,7 +87,7 @@ mutual
   factor_read (Bracketed s) n place rest h =
       ap (read_on (WantsFactor (FirstFactor (First (InBrackets place))))) (append_assoc (sum_of (suc n) s) (plain Close ∷ []) rest)
       ∙ sum_read s (suc n) (InBrackets place) (plain Close ∷ rest) tt
-      ∙ stepped (behind_sum (InBrackets place) s) (Word (MarkToken Close)) (Some (behind_factor place (Bracketed s))) (symbols rest) (sum_closes (InBrackets place) s)
+      ∙ stepped (behind_sum (InBrackets place) s) (Lexeme (MarkToken Close)) (Some (behind_factor place (Bracketed s))) (symbols rest) (sum_closes (InBrackets place) s)
   factor_read (Negated f) n place rest h = factor_read f (suc n) (BehindSign place) rest h
 
   product_read : (p : Product) (n : ℕ) (place : ProductPlace) (rest : List Written) → Follows (symbols rest) → run (WantsFactor (FirstFactor place)) (symbols (product_of n p ++ rest)) ≡ run (Behind place p) (symbols rest)
@@ -102,12 +102,12 @@ mutual
   sum_read (Added s p) n place rest h =
       ap (read_on (WantsFactor (FirstFactor (First place)))) (append_assoc (sum_of n s) (plain Plus ∷ product_of n p) rest)
       ∙ sum_read s n place (plain Plus ∷ (product_of n p ++ rest)) tt
-      ∙ stepped (behind_sum place s) (Word (MarkToken Plus)) (Some (WantsFactor (FirstFactor (BehindPlus place s)))) (symbols (product_of n p ++ rest)) (sum_adds place s)
+      ∙ stepped (behind_sum place s) (Lexeme (MarkToken Plus)) (Some (WantsFactor (FirstFactor (BehindPlus place s)))) (symbols (product_of n p ++ rest)) (sum_adds place s)
       ∙ product_read p n (BehindPlus place s) rest h
   sum_read (Taken s p) n place rest h =
       ap (read_on (WantsFactor (FirstFactor (First place)))) (append_assoc (sum_of n s) (plain Minus ∷ product_of n p) rest)
       ∙ sum_read s n place (plain Minus ∷ (product_of n p ++ rest)) tt
-      ∙ stepped (behind_sum place s) (Word (MarkToken Minus)) (Some (WantsFactor (FirstFactor (BehindMinus place s)))) (symbols (product_of n p ++ rest)) (sum_takes place s)
+      ∙ stepped (behind_sum place s) (Lexeme (MarkToken Minus)) (Some (WantsFactor (FirstFactor (BehindMinus place s)))) (symbols (product_of n p ++ rest)) (sum_takes place s)
       ∙ product_read p n (BehindMinus place s) rest h
 
 -- a sentence is read to its end
@@ -134,7 +134,7 @@ mutual
   ends_sum (OnTheRight left) place p e =
       let next = Ended (record { left = left; right = sum_with place p }) in
       ends_from (Behind place p) End next (ap (λ (x : SumPlace). ended x (sum_with place p)) e) (record { rest = []; tree = record { left = left; right = sum_with place p }; is = refl })
-  ends_sum (InBrackets at) place p e = ends_from (Behind place p) (Word (MarkToken Close)) (behind_factor at (Bracketed (sum_with place p))) (ap (λ (x : SumPlace). closed x (sum_with place p)) e) (ends_factor at (Bracketed (sum_with place p)))
+  ends_sum (InBrackets at) place p e = ends_from (Behind place p) (Lexeme (MarkToken Close)) (behind_factor at (Bracketed (sum_with place p))) (ap (λ (x : SumPlace). closed x (sum_with place p)) e) (ends_factor at (Bracketed (sum_with place p)))
 
   ends_product : (place : ProductPlace) (p : Product) → Ends (Behind place p)
   ends_product (First at) p = ends_sum at (First at) p refl
@@ -148,29 +148,29 @@ mutual
 
 -- the number 0, and the name a
 ends_place : (place : FactorPlace) → Ends (WantsFactor place)
-ends_place place = ends_from (WantsFactor place) (Word (NumberToken (48 ∷ []))) (behind_factor place (Digits (48 ∷ []))) refl (ends_factor place (Digits (48 ∷ [])))
+ends_place place = ends_from (WantsFactor place) (Lexeme (NumberToken (48 ∷ []))) (behind_factor place (Digits (48 ∷ []))) refl (ends_factor place (Digits (48 ∷ [])))
 
 abbrev a_name : Name
 a_name = record { bytes = 97 ∷ [] }
 
 ends_left : (access : WrittenAccess) → Ends (BehindLeft access)
-ends_left access = ends_from (BehindLeft access) (Word (MarkToken Equals)) (WantsFactor (FirstFactor (First (OnTheRight access)))) refl (ends_place (FirstFactor (First (OnTheRight access))))
+ends_left access = ends_from (BehindLeft access) (Lexeme (MarkToken Equals)) (WantsFactor (FirstFactor (First (OnTheRight access)))) refl (ends_place (FirstFactor (First (OnTheRight access))))
 
 ends_access : (side : Side) (access : WrittenAccess) → Ends (behind_access side access)
 ends_access Left access = ends_left access
 ends_access (Right place) access = ends_factor place (Read access)
 
 ends_variable : (side : Side) (name : Name) (vars : List Name) (var : Name) → Ends (BehindVariable side name vars var)
-ends_variable side name vars var = ends_from (BehindVariable side name vars var) (Word (MarkToken Close)) (behind_access side (record { name = name; vars = vars ++ (var ∷ []) })) refl (ends_access side (record { name = name; vars = vars ++ (var ∷ []) }))
+ends_variable side name vars var = ends_from (BehindVariable side name vars var) (Lexeme (MarkToken Close)) (behind_access side (record { name = name; vars = vars ++ (var ∷ []) })) refl (ends_access side (record { name = name; vars = vars ++ (var ∷ []) }))
 
 ends_variables : (side : Side) (name : Name) (vars : List Name) → Ends (WantsVariable side name vars)
-ends_variables side name vars = ends_from (WantsVariable side name vars) (Word (NameToken a_name)) (BehindVariable side name vars a_name) refl (ends_variable side name vars a_name)
+ends_variables side name vars = ends_from (WantsVariable side name vars) (Lexeme (NameToken a_name)) (BehindVariable side name vars a_name) refl (ends_variable side name vars a_name)
 
 ends_named : (side : Side) (name : Name) → Ends (Named side name)
-ends_named side name = ends_from (Named side name) (Word (MarkToken Open)) (WantsVariable side name []) refl (ends_variables side name [])
+ends_named side name = ends_from (Named side name) (Lexeme (MarkToken Open)) (WantsVariable side name []) refl (ends_variables side name [])
 
 pub ends : (s : State) → Ends s
-ends Start = ends_from Start (Word (NameToken a_name)) (Named Left a_name) refl (ends_named Left a_name)
+ends Start = ends_from Start (Lexeme (NameToken a_name)) (Named Left a_name) refl (ends_named Left a_name)
 ends (Named side name) = ends_named side name
 ends (WantsVariable side name vars) = ends_variables side name vars
 ends (BehindVariable side name vars var) = ends_variable side name vars var

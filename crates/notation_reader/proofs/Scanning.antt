@@ -6,7 +6,7 @@ use Rattle.std.specs.List.{between}
 use Rattle.std.proofs.lemmas.Slice.{between_to_end}
 use Rattle.index_notation.specs.declared.sentence.Token.{Token}
 use Rattle.index_notation.specs.declared.symbol.Symbol.{Symbol}
-use Rattle.index_notation.specs.declared.symbol.Symbol.TheVariants.{Word, End, Stray}
+use Rattle.index_notation.specs.declared.symbol.Symbol.TheVariants.{Lexeme, End, Stray}
 use Rattle.index_notation.specs.declared.symbol.PlacedSymbol.{PlacedSymbol}
 use Rattle.index_notation.specs.Tokens.{behind_blanks, IsNext}
 use Rattle.lists.specs.Blanks.{is_blank}
@@ -38,7 +38,7 @@ no_blank_before first behind e = elim (is_blank first) as (λ b. is_blank first 
 
 -- blanks before a text don't change its symbols
 starts_same : (text other : List ℕ) (G : List ℕ → Type 0) (E : Type 0) (t : Symbol) → behind_blanks text ≡ behind_blanks other → StartsWith text G E t → StartsWith other G E t
-starts_same text other G E (Word token) e h = (h.0, record { spelled = sym e ∙ h.1.spelled; stands = h.1.stands }, h.2)
+starts_same text other G E (Lexeme token) e h = (h.0, record { spelled = sym e ∙ h.1.spelled; stands = h.1.stands }, h.2)
 starts_same text other G E End e h = (sym e ∙ h.0, h.1)
 starts_same text other G E Stray e h = (λ k. h.0 (e ∙ k), λ token rest n. h.1 token rest (record { spelled = e ∙ n.spelled; stands = n.stands }), h.2)
 
@@ -66,14 +66,14 @@ placed_at size at rest b e = e ∙ ap (λ (left : List ℕ). size - length left)
 abbrev pub placed : Symbol → ℕ → PlacedSymbol
 placed symbol at = record { symbol = symbol; at = at }
 
-pub scan_steps : (size : ℕ) (text rest next : List ℕ) (done now : List PlacedSymbol) (token : Token) (used at : ℕ) → Scans size text done rest → IsNext rest token (drop used rest) → at ≡ size - length rest → now ≡ done ++ (placed (Word token) at ∷ []) → next ≡ behind_blanks (between used (length rest) rest) → Scans size text now next
+pub scan_steps : (size : ℕ) (text rest next : List ℕ) (done now : List PlacedSymbol) (token : Token) (used at : ℕ) → Scans size text done rest → IsNext rest token (drop used rest) → at ≡ size - length rest → now ≡ done ++ (placed (Lexeme token) at ∷ []) → next ≡ behind_blanks (between used (length rest) rest) → Scans size text now next
 scan_steps size text rest next done now token used at s n a d e =
     let behind : next ≡ behind_blanks (drop used rest) = e ∙ ap behind_blanks (between_to_end rest used (length rest) (omega arith)) in
     let next_same : behind_blanks next ≡ behind_blanks (drop used rest) = ap behind_blanks behind ∙ behind_twice (drop used rest) in
     record {
       joins = λ more h.
-          rw d (subst (AreSymbols size text) (sym (append_assoc done (placed (Word token) at ∷ []) more))
-          (s.joins (placed (Word token) at ∷ more) (placed_at size at rest s.no_blank a, (drop used rest, n, symbols_same size next (drop used rest) more next_same h))));
+          rw d (subst (AreSymbols size text) (sym (append_assoc done (placed (Lexeme token) at ∷ []) more))
+          (s.joins (placed (Lexeme token) at ∷ more) (placed_at size at rest s.no_blank a, (drop used rest, n, symbols_same size next (drop used rest) more next_same h))));
       no_blank = behind_again (drop used rest) next behind;
       within =
           let short = behind_is_short (drop used rest) in
@@ -102,7 +102,7 @@ lone_last : (t : Symbol) (ps : List PlacedSymbol) → IsLast t → ps ≡ [] →
 lone_last t ps h e = record { front = []; last = t; is = ap (λ (more : List PlacedSymbol). t ∷ symbols_of more) e; ends = h }
 
 last_behind : (size : ℕ) (text : List ℕ) (p : PlacedSymbol) (t : Symbol) (ps : List PlacedSymbol) → ((rest : List ℕ) → AreSymbols size rest ps → HasLast (symbols_of ps)) → StartsWith text (λ rest. AreSymbols size rest ps) (ps ≡ []) t → HasLast (t ∷ symbols_of ps)
-last_behind size text p (Word token) ps more h = last_more (Word token) (symbols_of ps) (more h.0 h.2)
+last_behind size text p (Lexeme token) ps more h = last_more (Lexeme token) (symbols_of ps) (more h.0 h.2)
 last_behind size text p End ps more h = lone_last End ps tt h.1
 last_behind size text p Stray ps more h = lone_last Stray ps tt h.2
 

@@ -6,7 +6,7 @@ use Rattle.index_notation.specs.declared.sentence.Mark.TheVariants.{Equals, Plus
 use Rattle.index_notation.specs.declared.sentence.Token.TheVariants.{Name as NameToken, Number as NumberToken, Mark as MarkToken}
 use Rattle.index_notation.specs.declared.sentence.WrittenAccess.{WrittenAccess}
 use Rattle.index_notation.specs.declared.symbol.Symbol.{Symbol}
-use Rattle.index_notation.specs.declared.symbol.Symbol.TheVariants.{Word, End, Stray}
+use Rattle.index_notation.specs.declared.symbol.Symbol.TheVariants.{Lexeme, End, Stray}
 use Rattle.index_notation.specs.Grammar.{Factor, Digits, Read, Bracketed, Product, Sum, Tree, Opens, Plain}
 use Rattle.notation_reader.specs.Machine.{SumPlace, OnTheRight, InBrackets, ProductPlace, First, BehindPlus, BehindMinus, FactorPlace, FirstFactor, BehindTimes, BehindSign, sum_levels, product_levels, levels, its_product, product_with, its_sum, sum_with, Side, Left, Right, State, Start, Named, WantsVariable, BehindVariable, BehindLeft, WantsFactor, Behind, Ended, behind_factor, closed, ended, step_behind, step, count_on, role}
 use Rattle.notation_reader.specs.declared.position.Stand.{Stand}
@@ -71,7 +71,7 @@ ended_does (InBrackets place) s r k = ((λ none. full (outer_of place) (minuses_
 
 -- what a symbol does behind a factor
 abbrev pub behind_leads : Symbol → Lead
-behind_leads (Word (MarkToken mark)) = factor_leads mark
+behind_leads (Lexeme (MarkToken mark)) = factor_leads mark
 behind_leads End = lead.End
 behind_leads _ = lead.Nowhere
 
@@ -79,10 +79,10 @@ joined : (l k : ℕ) (o q : List ℕ) → l ≡ k → o ≡ q → ◌≡◌ {A =
 joined l k o q e f = reader_of stand.Operator l k 0 o q e f
 
 behind_does : (place : ProductPlace) (p : Product) (t : Symbol) (r : Position) → r.levels - r.minuses ≡ product_levels place → r.outer ≡ outer_of_product place → Does (step_behind place p t) r Plain (behind_leads t)
-behind_does place p (Word (MarkToken Times)) r e k = ((WantsFactor (BehindTimes place p), refl, joined (product_levels place) (r.levels - r.minuses) (outer_of_product place) r.outer (sym e) (sym k)), tt)
-behind_does place p (Word (MarkToken Plus)) r e k = ((WantsFactor (FirstFactor (BehindPlus (its_sum place) (sum_with place p))), refl, joined (sum_levels (its_sum place)) (r.levels - r.minuses) (outer_of_sum (its_sum place)) r.outer (sym (e ∙ sum_levels_stay place)) (sym (k ∙ sum_outer_stays place))), tt)
-behind_does place p (Word (MarkToken Minus)) r e k = ((WantsFactor (FirstFactor (BehindMinus (its_sum place) (sum_with place p))), refl, joined (sum_levels (its_sum place)) (r.levels - r.minuses) (outer_of_sum (its_sum place)) r.outer (sym (e ∙ sum_levels_stay place)) (sym (k ∙ sum_outer_stays place))), tt)
-behind_does place p (Word (MarkToken Close)) r e k = closed_does (its_sum place) (sum_with place p) r (e ∙ sum_levels_stay place) (k ∙ sum_outer_stays place)
+behind_does place p (Lexeme (MarkToken Times)) r e k = ((WantsFactor (BehindTimes place p), refl, joined (product_levels place) (r.levels - r.minuses) (outer_of_product place) r.outer (sym e) (sym k)), tt)
+behind_does place p (Lexeme (MarkToken Plus)) r e k = ((WantsFactor (FirstFactor (BehindPlus (its_sum place) (sum_with place p))), refl, joined (sum_levels (its_sum place)) (r.levels - r.minuses) (outer_of_sum (its_sum place)) r.outer (sym (e ∙ sum_levels_stay place)) (sym (k ∙ sum_outer_stays place))), tt)
+behind_does place p (Lexeme (MarkToken Minus)) r e k = ((WantsFactor (FirstFactor (BehindMinus (its_sum place) (sum_with place p))), refl, joined (sum_levels (its_sum place)) (r.levels - r.minuses) (outer_of_sum (its_sum place)) r.outer (sym (e ∙ sum_levels_stay place)) (sym (k ∙ sum_outer_stays place))), tt)
+behind_does place p (Lexeme (MarkToken Close)) r e k = closed_does (its_sum place) (sum_with place p) r (e ∙ sum_levels_stay place) (k ∙ sum_outer_stays place)
 behind_does place p End r e k = ended_does (its_sum place) (sum_with place p) r (k ∙ sum_outer_stays place)
 behind_does place p _ r e k = refl
 
@@ -93,59 +93,59 @@ abbrev DoesAs : State → Symbol → Type 0
 DoesAs s t = Does (step s t) (show s) (role s t) (lead_of (show s).stand t)
 
 start_does : (t : Symbol) → DoesAs Start t
-start_does (Word (NameToken name)) = ((Named Left name, refl, refl), tt)
+start_does (Lexeme (NameToken name)) = ((Named Left name, refl, refl), tt)
 start_does _ = refl
 
 left_name_does : (name : Name) (t : Symbol) → DoesAs (Named Left name) t
-left_name_does name (Word (MarkToken Open)) = ((WantsVariable Left name [], refl, refl), tt)
-left_name_does name (Word (MarkToken Equals)) = ((WantsFactor (FirstFactor (First (OnTheRight (record { name = name; vars = [] })))), refl, refl), tt)
+left_name_does name (Lexeme (MarkToken Open)) = ((WantsVariable Left name [], refl, refl), tt)
+left_name_does name (Lexeme (MarkToken Equals)) = ((WantsFactor (FirstFactor (First (OnTheRight (record { name = name; vars = [] })))), refl, refl), tt)
 left_name_does name _ = refl
 
 right_name_does : (place : FactorPlace) (name : Name) (t : Symbol) → DoesAs (Named (Right place) name) t
-right_name_does place name (Word (MarkToken Open)) = ((WantsVariable (Right place) name [], refl, refl), tt)
-right_name_does place name (Word (MarkToken Times)) = scalar_does place name (Word (MarkToken Times))
-right_name_does place name (Word (MarkToken Plus)) = scalar_does place name (Word (MarkToken Plus))
-right_name_does place name (Word (MarkToken Minus)) = scalar_does place name (Word (MarkToken Minus))
-right_name_does place name (Word (MarkToken Close)) = scalar_does place name (Word (MarkToken Close))
+right_name_does place name (Lexeme (MarkToken Open)) = ((WantsVariable (Right place) name [], refl, refl), tt)
+right_name_does place name (Lexeme (MarkToken Times)) = scalar_does place name (Lexeme (MarkToken Times))
+right_name_does place name (Lexeme (MarkToken Plus)) = scalar_does place name (Lexeme (MarkToken Plus))
+right_name_does place name (Lexeme (MarkToken Minus)) = scalar_does place name (Lexeme (MarkToken Minus))
+right_name_does place name (Lexeme (MarkToken Close)) = scalar_does place name (Lexeme (MarkToken Close))
 right_name_does place name End = scalar_does place name End
 right_name_does place name _ = refl
 
 wants_variable_does : (side : Side) (name : Name) (vars : List Name) (t : Symbol) → DoesAs (WantsVariable side name vars) t
-wants_variable_does Left name vars (Word (NameToken var)) = ((BehindVariable Left name vars var, refl, refl), (count_on 1 vars, refl))
-wants_variable_does (Right place) name vars (Word (NameToken var)) = ((BehindVariable (Right place) name vars var, refl, refl), (count_on 1 vars, refl))
+wants_variable_does Left name vars (Lexeme (NameToken var)) = ((BehindVariable Left name vars var, refl, refl), (count_on 1 vars, refl))
+wants_variable_does (Right place) name vars (Lexeme (NameToken var)) = ((BehindVariable (Right place) name vars var, refl, refl), (count_on 1 vars, refl))
 wants_variable_does Left name vars _ = refl
 wants_variable_does (Right place) name vars _ = refl
 
 variable_does : (side : Side) (name : Name) (vars : List Name) (var : Name) (t : Symbol) → DoesAs (BehindVariable side name vars var) t
-variable_does Left name vars var (Word (MarkToken Comma)) = ((WantsVariable Left name (vars ++ (var ∷ [])), refl, refl), tt)
-variable_does Left name vars var (Word (MarkToken Close)) = ((BehindLeft (record { name = name; vars = vars ++ (var ∷ []) }), refl, refl), tt)
+variable_does Left name vars var (Lexeme (MarkToken Comma)) = ((WantsVariable Left name (vars ++ (var ∷ [])), refl, refl), tt)
+variable_does Left name vars var (Lexeme (MarkToken Close)) = ((BehindLeft (record { name = name; vars = vars ++ (var ∷ []) }), refl, refl), tt)
 variable_does Left name vars var _ = refl
-variable_does (Right place) name vars var (Word (MarkToken Comma)) = ((WantsVariable (Right place) name (vars ++ (var ∷ [])), refl, refl), tt)
-variable_does (Right place) name vars var (Word (MarkToken Close)) = ((behind_factor place (Read (record { name = name; vars = vars ++ (var ∷ []) })), refl, factor_shows place (Read (record { name = name; vars = vars ++ (var ∷ []) })) stand.Variable), tt)
+variable_does (Right place) name vars var (Lexeme (MarkToken Comma)) = ((WantsVariable (Right place) name (vars ++ (var ∷ [])), refl, refl), tt)
+variable_does (Right place) name vars var (Lexeme (MarkToken Close)) = ((behind_factor place (Read (record { name = name; vars = vars ++ (var ∷ []) })), refl, factor_shows place (Read (record { name = name; vars = vars ++ (var ∷ []) })) stand.Variable), tt)
 variable_does (Right place) name vars var _ = refl
 
 left_does : (access : WrittenAccess) (t : Symbol) → DoesAs (BehindLeft access) t
-left_does access (Word (MarkToken Equals)) = ((WantsFactor (FirstFactor (First (OnTheRight access))), refl, refl), tt)
+left_does access (Lexeme (MarkToken Equals)) = ((WantsFactor (FirstFactor (First (OnTheRight access))), refl, refl), tt)
 left_does access _ = refl
 
 wants_does : (place : FactorPlace) (t : Symbol) → DoesAs (WantsFactor place) t
-wants_does place (Word (NumberToken digits)) = ((behind_factor place (Digits digits), refl, factor_shows place (Digits digits) stand.Operator), refl)
-wants_does place (Word (NameToken name)) = ((Named (Right place) name, refl, refl), refl)
-wants_does place (Word (MarkToken Open)) = ((WantsFactor (FirstFactor (First (InBrackets place))), refl, joined (suc (levels place)) (levels place + 1) (outer_of_sum (InBrackets place)) (outer_of_sum (InBrackets place)) (omega arith) refl), ap (λ n. Opens n) (let h : suc (levels place) ≡ levels place + 1 = omega arith in h))
-wants_does place (Word (MarkToken Minus)) = ((WantsFactor (BehindSign place), refl, reader_of stand.Operator (suc (levels place)) (levels place + 1) (minuses_of place + 1) (outer_of place) (outer_of place) (omega arith) refl), ap (λ n. Opens n) (let h : suc (levels place) ≡ levels place + 1 = omega arith in h))
+wants_does place (Lexeme (NumberToken digits)) = ((behind_factor place (Digits digits), refl, factor_shows place (Digits digits) stand.Operator), refl)
+wants_does place (Lexeme (NameToken name)) = ((Named (Right place) name, refl, refl), refl)
+wants_does place (Lexeme (MarkToken Open)) = ((WantsFactor (FirstFactor (First (InBrackets place))), refl, joined (suc (levels place)) (levels place + 1) (outer_of_sum (InBrackets place)) (outer_of_sum (InBrackets place)) (omega arith) refl), ap (λ n. Opens n) (let h : suc (levels place) ≡ levels place + 1 = omega arith in h))
+wants_does place (Lexeme (MarkToken Minus)) = ((WantsFactor (BehindSign place), refl, reader_of stand.Operator (suc (levels place)) (levels place + 1) (minuses_of place + 1) (outer_of place) (outer_of place) (omega arith) refl), ap (λ n. Opens n) (let h : suc (levels place) ≡ levels place + 1 = omega arith in h))
 wants_does place _ = refl
 
 behind_factor_does : (place : ProductPlace) (p : Product) (t : Symbol) → DoesAs (Behind place p) t
-behind_factor_does place p (Word (NameToken name)) = refl
-behind_factor_does place p (Word (NumberToken digits)) = refl
-behind_factor_does place p (Word (MarkToken mark)) = behind_does place p (Word (MarkToken mark)) (show (Behind place p)) (omega arith) refl
+behind_factor_does place p (Lexeme (NameToken name)) = refl
+behind_factor_does place p (Lexeme (NumberToken digits)) = refl
+behind_factor_does place p (Lexeme (MarkToken mark)) = behind_does place p (Lexeme (MarkToken mark)) (show (Behind place p)) (omega arith) refl
 behind_factor_does place p End = behind_does place p End (show (Behind place p)) (omega arith) refl
 behind_factor_does place p Stray = refl
 
 ended_state_does : (tree : Tree) (t : Symbol) → DoesAs (Ended tree) t
-ended_state_does tree (Word (NameToken name)) = refl
-ended_state_does tree (Word (NumberToken digits)) = refl
-ended_state_does tree (Word (MarkToken mark)) = refl
+ended_state_does tree (Lexeme (NameToken name)) = refl
+ended_state_does tree (Lexeme (NumberToken digits)) = refl
+ended_state_does tree (Lexeme (MarkToken mark)) = refl
 ended_state_does tree End = refl
 ended_state_does tree Stray = refl
 

@@ -4,7 +4,7 @@ use Rattle.index_notation.specs.declared.syntax.Name.{Name}
 use Rattle.index_notation.specs.declared.sentence.Token.TheVariants.{Name as NameToken}
 use Rattle.index_notation.specs.declared.sentence.WrittenAccess.{WrittenAccess}
 use Rattle.index_notation.specs.declared.symbol.Symbol.{Symbol}
-use Rattle.index_notation.specs.declared.symbol.Symbol.TheVariants.{Word}
+use Rattle.index_notation.specs.declared.symbol.Symbol.TheVariants.{Lexeme}
 use Rattle.index_notation.specs.TreeStatement.{accesses_of_product, accesses_of_sum, accesses_of_tree}
 use Rattle.notation_reader.specs.declared.position.Lead.{Lead}
 use Rattle.notation_reader.specs.declared.position.Lead.TheVariants as lead
@@ -53,6 +53,6 @@ Extends var old new =
 
 -- what a symbol that leads so does to the accesses
 abbrev pub Mentions : Symbol → Lead → List WrittenAccess → List WrittenAccess → Type 0
-Mentions (Word (NameToken var)) (lead.Variable at) old new = Extends var old new
-Mentions (Word (NameToken name)) _ old new = new ≡ old ++ (access_to name [] ∷ [])
+Mentions (Lexeme (NameToken var)) (lead.Variable at) old new = Extends var old new
+Mentions (Lexeme (NameToken name)) _ old new = new ≡ old ++ (access_to name [] ∷ [])
 Mentions _ _ old new = new ≡ old

@@ -4,7 +4,7 @@ use Rattle.index_notation.specs.declared.syntax.Expr.{Expr, Num, Access as Acces
 use Rattle.index_notation.specs.declared.sentence.Mark.TheVariants.{Plus, Minus}
 use Rattle.index_notation.specs.declared.sentence.Token.TheVariants.{Mark as MarkToken}
 use Rattle.index_notation.specs.declared.symbol.Symbol.{Symbol}
-use Rattle.index_notation.specs.declared.symbol.Symbol.TheVariants.{Word}
+use Rattle.index_notation.specs.declared.symbol.Symbol.TheVariants.{Lexeme}
 use Rattle.notation_reader.specs.declared.position.Stand.{Stand}
 use Rattle.notation_reader.specs.declared.position.Stand.TheVariants as stand
 use Rattle.notation_reader.specs.declared.position.Lead.{Lead}
@@ -159,8 +159,8 @@ settled stand.Name b = with_last_access b
 settled _ b = b
 
 abbrev pub by_operator : Builder → Symbol → Builder
-by_operator b (Word (MarkToken Plus)) = joined_with b false
-by_operator b (Word (MarkToken Minus)) = joined_with b true
+by_operator b (Lexeme (MarkToken Plus)) = joined_with b false
+by_operator b (Lexeme (MarkToken Minus)) = joined_with b true
 by_operator b _ = b
 
 -- what a bracket that closes builds

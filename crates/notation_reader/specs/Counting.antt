@@ -6,7 +6,7 @@ use Rattle.index_notation.specs.Numbering.{distinct}
 use Rattle.index_notation.specs.declared.syntax.Name.{Name}
 use Rattle.index_notation.specs.declared.sentence.Token.TheVariants.{Name as NameToken}
 use Rattle.index_notation.specs.declared.symbol.Symbol.{Symbol}
-use Rattle.index_notation.specs.declared.symbol.Symbol.TheVariants.{Word}
+use Rattle.index_notation.specs.declared.symbol.Symbol.TheVariants.{Lexeme}
 use Rattle.index_notation.specs.declared.fault.Counted.TheVariants.{Order, Variables, Accesses, Operands}
 use Rattle.index_notation.specs.declared.fault.SymbolFault.{SymbolFault}
 use Rattle.index_notation.specs.declared.fault.SymbolFault.TheVariants.{TooDeep, TooMany, LiteralRange}
@@ -70,7 +70,7 @@ abbrev pub CountsSymbol : Counts → ℕ → Symbol → Lead → Option SymbolFa
 CountsSymbol c levels symbol lead.Bracket fault new = CountsAs (level_fault levels) c fault new
 CountsSymbol c levels symbol lead.Minus fault new = CountsAs (level_fault levels) c fault new
 CountsSymbol c levels symbol (lead.Variable at) fault new =
-    (name : Name) → symbol ≡ Word (NameToken name) → CountsAs (variable_fault c name) (with_variable name c) fault new
+    (name : Name) → symbol ≡ Lexeme (NameToken name) → CountsAs (variable_fault c name) (with_variable name c) fault new
 CountsSymbol c levels symbol lead.Name fault new = CountsAs (access_fault c) (with_access c) fault new
 CountsSymbol c levels symbol lead.Number fault new = CountsAs (number_fault c symbol) (with_number c) fault new
 CountsSymbol c levels symbol _ fault new = CountsAs None c fault new

@@ -1,7 +1,7 @@
 -- What a judgement of a symbol tells.
 use Rattle.std.specs.Prelude.{◌≡◌, Option, Some, None, List, [], ◌∷◌, ◌++◌}
 use Rattle.index_notation.specs.declared.symbol.Symbol.{Symbol}
-use Rattle.index_notation.specs.declared.symbol.Symbol.TheVariants.{Word, End, Stray}
+use Rattle.index_notation.specs.declared.symbol.Symbol.TheVariants.{Lexeme, End, Stray}
 use Rattle.index_notation.specs.declared.fault.SymbolFault.{SymbolFault}
 use Rattle.index_notation.specs.declared.fault.SymbolFault.TheVariants.{BadNotation}
 use Rattle.index_notation.specs.Faults.{limit_passed}
@@ -33,7 +33,7 @@ Judges s t (Some f) r c = IsRefused s t f
 abbrev pub IsLast : Symbol → Type 0
 IsLast End = Unit {0}
 IsLast Stray = Unit {0}
-IsLast (Word token) = ⊥
+IsLast (Lexeme token) = ⊥
 
 pub record HasLast (ts : List Symbol) : Type 0 where
   pub front : List Symbol

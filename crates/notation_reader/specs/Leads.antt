@@ -3,7 +3,7 @@ use Rattle.index_notation.specs.declared.sentence.Mark.{Mark}
 use Rattle.index_notation.specs.declared.sentence.Mark.TheVariants.{Equals, Plus, Minus, Times, Open, Close, Comma}
 use Rattle.index_notation.specs.declared.sentence.Token.TheVariants.{Name as NameToken, Number as NumberToken, Mark as MarkToken}
 use Rattle.index_notation.specs.declared.symbol.Symbol.{Symbol}
-use Rattle.index_notation.specs.declared.symbol.Symbol.TheVariants.{Word, End, Stray}
+use Rattle.index_notation.specs.declared.symbol.Symbol.TheVariants.{Lexeme, End, Stray}
 use Rattle.notation_reader.specs.declared.position.Stand.{Stand}
 use Rattle.notation_reader.specs.declared.position.Stand.TheVariants as stand
 use Rattle.notation_reader.specs.declared.position.Lead.{Lead}
@@ -75,8 +75,8 @@ end_leads stand.Factor = lead.End
 end_leads _ = lead.Nowhere
 
 abbrev pub lead_of : Stand → Symbol → Lead
-lead_of at (Word (NameToken name)) = name_token_leads at
-lead_of at (Word (NumberToken digits)) = number_leads at
-lead_of at (Word (MarkToken mark)) = mark_leads at mark
+lead_of at (Lexeme (NameToken name)) = name_token_leads at
+lead_of at (Lexeme (NumberToken digits)) = number_leads at
+lead_of at (Lexeme (MarkToken mark)) = mark_leads at mark
 lead_of at End = end_leads at
 lead_of at Stray = lead.Nowhere

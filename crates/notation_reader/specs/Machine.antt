@@ -5,7 +5,7 @@ use Rattle.index_notation.specs.declared.sentence.Mark.TheVariants.{Equals, Plus
 use Rattle.index_notation.specs.declared.sentence.Token.TheVariants.{Name as NameToken, Number as NumberToken, Mark as MarkToken}
 use Rattle.index_notation.specs.declared.sentence.WrittenAccess.{WrittenAccess}
 use Rattle.index_notation.specs.declared.symbol.Symbol.{Symbol}
-use Rattle.index_notation.specs.declared.symbol.Symbol.TheVariants.{Word, End}
+use Rattle.index_notation.specs.declared.symbol.Symbol.TheVariants.{Lexeme, End}
 use Rattle.index_notation.specs.Grammar.{Factor, Digits, Read, Bracketed, Negated, Product, Lone, Multiplied, Sum, Alone, Added, Taken}
 use Rattle.index_notation.specs.Grammar.{Tree, Role, NamesLeft, NamesRight, IsVariable, IsNumber, Opens, Plain, Written, written}
 use Rattle.index_notation.specs.Grammar.{plain, access_of, product_of, sum_of, left_of, sentence_of}
@@ -111,14 +111,14 @@ ended (OnTheRight left) sum = Some (Ended (record { left = left; right = sum }))
 ended (InBrackets place) sum = None
 
 abbrev pub step_behind_left : WrittenAccess → Symbol → Option State
-step_behind_left access (Word (MarkToken Equals)) = Some (WantsFactor (FirstFactor (First (OnTheRight access))))
+step_behind_left access (Lexeme (MarkToken Equals)) = Some (WantsFactor (FirstFactor (First (OnTheRight access))))
 step_behind_left access _ = None
 
 abbrev pub step_behind : ProductPlace → Product → Symbol → Option State
-step_behind place product (Word (MarkToken Times)) = Some (WantsFactor (BehindTimes place product))
-step_behind place product (Word (MarkToken Plus)) = Some (WantsFactor (FirstFactor (BehindPlus (its_sum place) (sum_with place product))))
-step_behind place product (Word (MarkToken Minus)) = Some (WantsFactor (FirstFactor (BehindMinus (its_sum place) (sum_with place product))))
-step_behind place product (Word (MarkToken Close)) = closed (its_sum place) (sum_with place product)
+step_behind place product (Lexeme (MarkToken Times)) = Some (WantsFactor (BehindTimes place product))
+step_behind place product (Lexeme (MarkToken Plus)) = Some (WantsFactor (FirstFactor (BehindPlus (its_sum place) (sum_with place product))))
+step_behind place product (Lexeme (MarkToken Minus)) = Some (WantsFactor (FirstFactor (BehindMinus (its_sum place) (sum_with place product))))
+step_behind place product (Lexeme (MarkToken Close)) = closed (its_sum place) (sum_with place product)
 step_behind place product End = ended (its_sum place) (sum_with place product)
 step_behind place product _ = None
 
@@ -128,28 +128,28 @@ step_scalar (Right place) name symbol =
     step_behind (its_product place) (product_with place (Read (record { name = name; vars = [] }))) symbol
 
 abbrev pub step_named : Side → Name → Symbol → Option State
-step_named side name (Word (MarkToken Open)) = Some (WantsVariable side name [])
+step_named side name (Lexeme (MarkToken Open)) = Some (WantsVariable side name [])
 step_named side name symbol = step_scalar side name symbol
 
 abbrev pub step_start : Symbol → Option State
-step_start (Word (NameToken name)) = Some (Named Left name)
+step_start (Lexeme (NameToken name)) = Some (Named Left name)
 step_start _ = None
 
 abbrev pub step_wants_variable : Side → Name → List Name → Symbol → Option State
-step_wants_variable side name vars (Word (NameToken var)) = Some (BehindVariable side name vars var)
+step_wants_variable side name vars (Lexeme (NameToken var)) = Some (BehindVariable side name vars var)
 step_wants_variable side name vars _ = None
 
 abbrev pub step_behind_variable : Side → Name → List Name → Name → Symbol → Option State
-step_behind_variable side name vars var (Word (MarkToken Comma)) = Some (WantsVariable side name (vars ++ (var ∷ [])))
-step_behind_variable side name vars var (Word (MarkToken Close)) =
+step_behind_variable side name vars var (Lexeme (MarkToken Comma)) = Some (WantsVariable side name (vars ++ (var ∷ [])))
+step_behind_variable side name vars var (Lexeme (MarkToken Close)) =
     Some (behind_access side (record { name = name; vars = vars ++ (var ∷ []) }))
 step_behind_variable side name vars var _ = None
 
 abbrev pub step_wants_factor : FactorPlace → Symbol → Option State
-step_wants_factor place (Word (NumberToken digits)) = Some (behind_factor place (Digits digits))
-step_wants_factor place (Word (NameToken name)) = Some (Named (Right place) name)
-step_wants_factor place (Word (MarkToken Open)) = Some (WantsFactor (FirstFactor (First (InBrackets place))))
-step_wants_factor place (Word (MarkToken Minus)) = Some (WantsFactor (BehindSign place))
+step_wants_factor place (Lexeme (NumberToken digits)) = Some (behind_factor place (Digits digits))
+step_wants_factor place (Lexeme (NameToken name)) = Some (Named (Right place) name)
+step_wants_factor place (Lexeme (MarkToken Open)) = Some (WantsFactor (FirstFactor (First (InBrackets place))))
+step_wants_factor place (Lexeme (MarkToken Minus)) = Some (WantsFactor (BehindSign place))
 step_wants_factor place _ = None
 
 -- where a symbol leads
@@ -202,8 +202,8 @@ role_of_name Left = NamesLeft
 role_of_name (Right place) = NamesRight
 
 abbrev pub role_of_factor : FactorPlace → Symbol → Role
-role_of_factor place (Word (NumberToken digits)) = IsNumber
-role_of_factor place (Word (NameToken name)) = NamesRight
+role_of_factor place (Lexeme (NumberToken digits)) = IsNumber
+role_of_factor place (Lexeme (NameToken name)) = NamesRight
 role_of_factor place _ = Opens (suc (levels place))
 
 -- the role of a symbol that leads on

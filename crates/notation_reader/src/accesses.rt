@@ -29,7 +29,7 @@ pub fn mention(
 ) -> Result<(), AllocError>
     ensures { OnOk result (Mentions symbol.now lead accesses.old accesses.new) }
 {
-    let Symbol::Word(Token::Name(name)) = symbol else {
+    let Symbol::Lexeme(Token::Name(name)) = symbol else {
         return Ok(());
     };
     let name = copy_name(alloc, name)?;

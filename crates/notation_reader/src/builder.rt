@@ -190,8 +190,8 @@ impl Builder {
         ensures { IfOk result (λ b. b ≡ by_sign self symbol.now) }
     {
         match symbol {
-            Symbol::Word(Token::Mark(Mark::Plus)) => self.join(alloc, false),
-            Symbol::Word(Token::Mark(Mark::Minus)) => self.join(alloc, true),
+            Symbol::Lexeme(Token::Mark(Mark::Plus)) => self.join(alloc, false),
+            Symbol::Lexeme(Token::Mark(Mark::Minus)) => self.join(alloc, true),
             _ => Ok(self),
         }
     }

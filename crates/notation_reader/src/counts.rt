@@ -110,7 +110,7 @@ impl Counts {
             Lead::Bracket => Ok(level_fault(levels)),
             Lead::Minus => Ok(level_fault(levels)),
             Lead::Variable(_) => match symbol {
-                Symbol::Word(Token::Name(name)) => self.count_variable(alloc, name),
+                Symbol::Lexeme(Token::Name(name)) => self.count_variable(alloc, name),
                 _ => Ok(None),
             },
             Lead::Name => Ok(self.count_access()),

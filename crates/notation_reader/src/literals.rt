@@ -26,7 +26,7 @@ pub fn is_past_literals(symbol: &Symbol) -> bool
     ensures { result ≡ nat_lt greatest_literal (number_of symbol.now) }
 {
     match symbol {
-        Symbol::Word(Token::Number(digits)) => value_of(digits.as_slice()).is_none(),
+        Symbol::Lexeme(Token::Number(digits)) => value_of(digits.as_slice()).is_none(),
         _ => false,
     }
 }
@@ -37,7 +37,7 @@ pub fn number(symbol: &Symbol) -> u64
     ensures { result ≡ number_of symbol.now }
 {
     match symbol {
-        Symbol::Word(Token::Number(digits)) => value_of(digits.as_slice()).unwrap_or(0),
+        Symbol::Lexeme(Token::Number(digits)) => value_of(digits.as_slice()).unwrap_or(0),
         _ => 0,
     }
 }

@@ -122,18 +122,18 @@ pub fn lead_at(stand: Stand, symbol: &Symbol) -> Lead
     ensures { result ≡ lead_of stand symbol.now }
 {
     match symbol {
-        Symbol::Word(Token::Name(_)) => match stand {
+        Symbol::Lexeme(Token::Name(_)) => match stand {
             Stand::Nothing => Lead::To(Stand::LeftName),
             Stand::LeftOpen => Lead::Variable(Stand::LeftVariable),
             Stand::Operator => Lead::Name,
             Stand::Open => Lead::Variable(Stand::Variable),
             _ => Lead::Nowhere,
         },
-        Symbol::Word(Token::Number(_)) => match stand {
+        Symbol::Lexeme(Token::Number(_)) => match stand {
             Stand::Operator => Lead::Number,
             _ => Lead::Nowhere,
         },
-        Symbol::Word(Token::Mark(mark)) => lead_of_mark(stand, *mark),
+        Symbol::Lexeme(Token::Mark(mark)) => lead_of_mark(stand, *mark),
         Symbol::End => match stand {
             Stand::Name => Lead::End,
             Stand::Factor => Lead::End,

@@ -105,7 +105,7 @@ pub fn symbols_of(alloc: Global, text: &[u8]) -> Result<Items<PlacedSymbol>, All
         let at = text.len() - rest.len();
         match front_token(alloc, *first, rest)? {
             Some((token, used)) => {
-                let symbol = Symbol::Word(token);
+                let symbol = Symbol::Lexeme(token);
                 symbols.push(PlacedSymbol { symbol, at })?;
                 rest = skip_blanks(&rest[used..]);
             }

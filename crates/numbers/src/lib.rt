@@ -73,7 +73,7 @@ pub fn ring_keeps_laws()
 {}
 
 /// What a machine computes of two words is what the ring says.
-#[tactic(auto, using(crate::proofs::WordLaws::sum_is_plus, crate::proofs::WordLaws::difference_is_plus, crate::proofs::WordLaws::product_is_times))]
+#[tactic(auto, using(crate::proofs::WordLaws::word_laws))]
 pub fn machine_words_are_the_ring()
     ensures sums { (x y : ℕ) → word_sum x y ≡ ring.plus x y }
     ensures differences { (x y : ℕ) → y < 2 ^ 64 → word_difference x y ≡ ring.plus x (ring.times ring.minus_one y) }

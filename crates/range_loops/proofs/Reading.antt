@@ -19,3 +19,6 @@ read_behind first others tensor apart h = at h.place h.stands
     at : (place : ℕ) → slice_get (first ∷ others) place ≡ Some h.access → IsRead others tensor
     at zero e = absurd (apart (let same : first ≡ h.access = cc in ap (λ (a : Access). a.tensor) same ∙ h.tensor_is))
     at (suc place) e = record { place = place; access = h.access; stands = e; tensor_is = h.tensor_is }
+
+-- what accesses read
+pub ruleset reading_laws = (read_here, read_later, read_in_none, read_behind)

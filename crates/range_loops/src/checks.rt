@@ -8,7 +8,7 @@ use index_notation::{Access, Statement};
 use tensor_map::Entries;
 
 /// Whether one of these accesses reads the tensor.
-#[tactic(auto, using(crate::proofs::Reading::read_here, crate::proofs::Reading::read_later, crate::proofs::Reading::read_in_none, crate::proofs::Reading::read_behind))]
+#[tactic(auto, using(crate::proofs::Reading::reading_laws))]
 fn is_read(accesses: &[Access], tensor: usize) -> bool
     ensures told { IsTrue result → IsRead accesses.now tensor }
     ensures found { IsRead accesses.now tensor → IsTrue result }

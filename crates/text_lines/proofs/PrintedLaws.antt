@@ -63,3 +63,6 @@ high_line line all = record {
     | inr past ↦ (let none : slice_index line (length line - 1) ≡ 0 = get_or_past line (length line - 1) 0 past in omega (arith, none, e))
   ];
 }
+
+-- printed numbers are short tokens
+pub ruleset printed_laws = (decimal_is_token, decimal_short, signed_decimal_is_token, signed_short)

@@ -30,7 +30,7 @@ pub fn printed_numbers_are_read_back()
 {}
 
 /// Each such text is one token, and short.
-#[tactic(auto, using(crate::proofs::PrintedLaws::decimal_is_token, crate::proofs::PrintedLaws::decimal_short, crate::proofs::PrintedLaws::signed_decimal_is_token, crate::proofs::PrintedLaws::signed_short))]
+#[tactic(auto, using(crate::proofs::PrintedLaws::printed_laws))]
 pub fn printed_numbers_are_tokens()
     ensures unsigned { (n : ℕ) → n < 2 ^ 64 → IsToken (decimal n) }
     ensures unsigned_short { (n : ℕ) → n < 2 ^ 64 → length (decimal n) ≤ 20 }

@@ -78,3 +78,6 @@ coords_increase (n ∷ ns) i j h g =
             absurd (omega arith))
       ]
     ]
+
+-- positions number coordinates
+pub ruleset position_laws = (position_below, position_injective, coords_below, position_of_coords, coords_of_position, coords_increase)

@@ -11,7 +11,7 @@ ghost use Rattle.tns_io.specs.Text.{IsTnsText};
 ghost use Rattle.tns_io.specs.WrittenLaws.{StandsFor};
 
 /// Coordinates below the sizes and positions below their product are the same thing, in the same order.
-#[tactic(auto, using(crate::proofs::PositionLaws::position_below, crate::proofs::PositionLaws::position_injective, crate::proofs::PositionLaws::coords_below, crate::proofs::PositionLaws::position_of_coords, crate::proofs::PositionLaws::coords_of_position, crate::proofs::PositionLaws::coords_increase))]
+#[tactic(auto, using(crate::proofs::PositionLaws::position_laws))]
 pub fn positions_number_coordinates()
     ensures below { (sizes coords : List ℕ) → IsBelow sizes coords → position sizes coords < product sizes }
     ensures injective { (sizes xs ys : List ℕ) → IsBelow sizes xs → IsBelow sizes ys → position sizes xs ≡ position sizes ys → xs ≡ ys }
