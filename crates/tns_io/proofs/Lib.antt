@@ -1,5 +1,6 @@
 pub mod EntryLaws
 pub mod FieldLaws
 pub mod PositionLaws
+pub mod PrintLaws
 pub mod TextLaws
 pub mod WrittenLaws

@@ -7,6 +7,7 @@ mod entry_lines;
 mod file_fault;
 mod laws;
 mod line_kind;
+mod printing;
 mod tns_reader;
 
 pub use file_fault::FileFault;
@@ -15,4 +16,5 @@ pub use laws::{
     written_texts_stand_for_their_tensor,
 };
 pub use line_kind::LineKind;
+pub use printing::put_tns;
 pub use tns_reader::TnsReader;
