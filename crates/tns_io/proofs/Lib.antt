@@ -1,4 +1,5 @@
 pub mod EntryLaws
+pub mod EntryTexts
 pub mod FieldLaws
 pub mod PositionLaws
 pub mod PrintLaws
