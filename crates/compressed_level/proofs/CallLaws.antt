@@ -28,27 +28,36 @@ use Rattle.std.proofs.lemmas.Option.{same_Some}
 
 -- the rules don't speak of the room
 with_spare : (l : CompressedLevel) (n : ℕ) → KeepsRules l → KeepsRules (record l { spare = n })
-with_spare l n k = record { small = k.small; few = k.few; parents = k.parents; below = k.below; rise = k.rise; given = k.given; ahead =
-    k.ahead; all_given = k.all_given }
+with_spare l n k = record {
+  small = k.small;
+  few = k.few;
+  parents = k.parents;
+  below = k.below;
+  rise = k.rise;
+  given = k.given;
+  ahead =
+      k.ahead;
+  all_given = k.all_given;
+}
 
 pub push_keeps : (size : ℕ) (unique : Bool) (stage : Stage) (ends coords : List ℕ) (next spare more x : ℕ) (pushed : List ℕ)
     (now : CompressedLevel) → stored size unique stage ends coords next spare ≡ now
-        → KeepsRules (stored size unique stage ends coords next spare)
+    → KeepsRules (stored size unique stage ends coords next spare)
     → MayAppend (letter_of now.unique) now.size x now.log → length now.log.coords < greatest_position_count → pushed ≡ coords ++ x ∷ []
-        → KeepsRules (stored size unique stage ends pushed next more)
+    → KeepsRules (stored size unique stage ends pushed next more)
 push_keeps size unique stage ends coords next spare more x pushed now is k may room items =
     let l = stored size unique stage ends coords next spare in
     let may_here : MayAppend (letter_of unique) size x (log_in stage ends coords next) =
-        subst (λ n. MayAppend (letter_of n.unique) n.size x n.log) (sym is) may in
+    subst (λ n. MayAppend (letter_of n.unique) n.size x n.log) (sym is) may in
     let room_here : length coords < greatest_position_count = subst (λ n. length n.log.coords < greatest_position_count) (sym is) room in
     subst (λ xs. KeepsRules (stored size unique stage ends xs next more)) (sym items)
-        (with_spare (logged l (with_coord x l.log)) more (keeps_coord l x k may_here (omega (arith, room_here))))
+    (with_spare (logged l (with_coord x l.log)) more (keeps_coord l x k may_here (omega (arith, room_here))))
 
 pub parents_keep : (size : ℕ) (unique : Bool) (stage : Stage) (ends coords : List ℕ) (next spare room parents more : ℕ) (pushed : List ℕ)
     (now : CompressedLevel) → stored size unique stage ends coords next spare ≡ now
-        → KeepsRules (stored size unique stage ends coords next spare)
+    → KeepsRules (stored size unique stage ends coords next spare)
     → IsStored stage ends → MayReserve parents now.log → more ≡ parents - (length ends - 1) → pushed ≡ ends ++ replicate more 0
-        → KeepsRules (stored size unique Unfinished pushed coords next room) × IsStored Unfinished pushed
+    → KeepsRules (stored size unique Unfinished pushed coords next room) × IsStored Unfinished pushed
 parents_keep size unique stage ends coords next spare room parents more pushed now is k s may count items =
     let l = stored size unique stage ends coords next spare in
     let may_here : MayReserve parents (log_in stage ends coords next) = subst (λ n. MayReserve parents n.log) (sym is) may in
@@ -62,25 +71,25 @@ parents_keep size unique stage ends coords next spare room parents more pushed n
 pub parents_logged : (size : ℕ) (unique : Bool) (stage : Stage) (ends coords : List ℕ) (next spare parents more : ℕ) (pushed : List ℕ)
     (now : CompressedLevel) → stored size unique stage ends coords next spare ≡ now
     → IsStored stage ends → MayReserve parents now.log → more ≡ parents - (length ends - 1) → pushed ≡ ends ++ replicate more 0
-        → log_in Unfinished pushed coords next ≡ with_parents (letter_of now.unique) parents now.log
+    → log_in Unfinished pushed coords next ≡ with_parents (letter_of now.unique) parents now.log
 parents_logged size unique stage ends coords next spare parents more pushed now is s may count items =
     let may_here : MayReserve parents (log_in stage ends coords next) = subst (λ n. MayReserve parents n.log) (sym is) may in
     ap (λ xs. log_in Unfinished xs coords next) items
-        ∙ log_of_parents unique stage ends coords next parents more s may_here.reservable count
-            ∙ ap (λ n. with_parents (letter_of n.unique) parents n.log) is
+    ∙ log_of_parents unique stage ends coords next parents more s may_here.reservable count
+    ∙ ap (λ n. with_parents (letter_of n.unique) parents n.log) is
 
 pub giving : (size : ℕ) (unique : Bool) (stage : Stage) (ends coords : List ℕ) (next spare parent begin end : ℕ) (now : CompressedLevel)
     → stored size unique stage ends coords next spare ≡ now → KeepsRules (stored size unique stage ends coords next spare)
-        → IsStored stage ends
+    → IsStored stage ends
     → MayAppendEdges (letter_of now.unique) parent begin end now.log
-        → (stage ≡ Unfinished) × Giving size unique ends coords next spare parent begin end
+    → (stage ≡ Unfinished) × Giving size unique ends coords next spare parent begin end
 giving size unique stage ends coords next spare parent begin end now is k s m =
     let here : MayAppendEdges (letter_of unique) parent begin end (log_in stage ends coords next) =
-        subst (λ n. MayAppendEdges (letter_of n.unique) parent begin end n.log) (sym is) m in (
+    subst (λ n. MayAppendEdges (letter_of n.unique) parent begin end n.log) (sym is) m in (
       here.unfinished,
       subst
           (λ t. IsStored t ends → MayAppendEdges (letter_of unique) parent begin end (log_in t ends coords next)
-              → KeepsRules (stored size unique t ends coords next spare) → Giving size unique ends coords next spare parent begin end)
+          → KeepsRules (stored size unique t ends coords next spare) → Giving size unique ends coords next spare parent begin end)
           (sym here.unfinished)
           (λ s m k.
           let g = m.gives (never_branchless unique) in
@@ -91,8 +100,16 @@ giving size unique stage ends coords next spare parent begin end now is k s m =
           let given = k.given in
           let few = k.few in
           let parents = k.parents in
-          record { place = omega (arith, headed, reserved); small = omega (arith, reserved, parents, positions_are_small); order =
-              omega (arith, begins, ends_at, given); few = omega (arith, ends_at, few); stored_ends = s; may = m; keeps = k })
+          record {
+            place = omega (arith, headed, reserved);
+            small = omega (arith, reserved, parents, positions_are_small);
+            order =
+                omega (arith, begins, ends_at, given);
+            few = omega (arith, ends_at, few);
+            stored_ends = s;
+            may = m;
+            keeps = k;
+          })
           s here k,
     )
 
@@ -116,14 +133,14 @@ edges_logged size unique ends coords next spare parent begin end set g items = a
 
 pub finishing : (size : ℕ) (unique : Bool) (stage : Stage) (ends coords : List ℕ) (next spare parents : ℕ) (now : CompressedLevel)
     → stored size unique stage ends coords next spare ≡ now → KeepsRules (stored size unique stage ends coords next spare)
-        → IsStored stage ends
+    → IsStored stage ends
     → MayFinish parents now.log → (stage ≡ Unfinished) × Finishing size unique ends coords next spare parents
 finishing size unique stage ends coords next spare parents now is k s m =
     let here : MayFinish parents (log_in stage ends coords next) = subst (λ n. MayFinish parents n.log) (sym is) m in (
       here.unfinished,
       subst
           (λ t. IsStored t ends → MayFinish parents (log_in t ends coords next) → KeepsRules (stored size unique t ends coords next spare)
-              → Finishing size unique ends coords next spare parents)
+          → Finishing size unique ends coords next spare parents)
           (sym here.unfinished)
           (λ s m k.
           let headed : total ends ≡ 0 + total (counts_in Unfinished ends) = ap total s in
@@ -147,20 +164,20 @@ finish_keeps size unique ends coords next spare parents sums f items =
 
 pub finish_logged : (size : ℕ) (unique : Bool) (ends coords : List ℕ) (next spare parents : ℕ) (sums : List ℕ)
     → Finishing size unique ends coords next spare parents → sums ≡ running 0 ends
-        → log_in Finished sums coords next ≡ finished (log_in Unfinished ends coords next)
+    → log_in Finished sums coords next ≡ finished (log_in Unfinished ends coords next)
 finish_logged size unique ends coords next spare parents sums f items = ap (λ xs. log_in Finished xs coords next) items
     ∙ log_of_finished ends coords next f.stored_ends
 
 pub finish_is : (size : ℕ) (unique : Bool) (stage : Stage) (ends coords : List ℕ) (next spare parents : ℕ) (sums : List ℕ)
     (now : CompressedLevel) → stored size unique stage ends coords next spare ≡ now
-        → KeepsRules (stored size unique stage ends coords next spare) → IsStored stage ends
+    → KeepsRules (stored size unique stage ends coords next spare) → IsStored stage ends
     → MayFinish parents now.log → sums ≡ running 0 ends → Finishes meaning parents now (stored size unique Finished sums coords next spare)
 finish_is size unique stage ends coords next spare parents sums now is k s m items =
     let v = stored size unique stage ends coords next spare in
     let f = finishing size unique stage ends coords next spare parents now is k s m in
     let may : MayFinish parents v.log = subst (λ n. MayFinish parents n.log) (sym is) m in
     let log : log_in Finished sums coords next ≡ finished v.log = finish_logged size unique ends coords next spare parents sums f.1 items
-        ∙ ap (λ t. finished (log_in t ends coords next)) (sym f.0) in
+    ∙ ap (λ t. finished (log_in t ends coords next)) (sym f.0) in
     subst (λ n. Finishes meaning parents n (stored size unique Finished sums coords next spare)) is
     (subst (λ g. Finishes meaning parents v (logged v g)) (sym log) (finished_level v parents k may))
 
@@ -174,15 +191,15 @@ get_inside (y ∷ xs) (suc i) x h = let k = get_inside xs i x h in omega (arith,
 
 pub reading : (size : ℕ) (unique : Bool) (stage : Stage) (ends coords : List ℕ) (next spare : ℕ) (parent : Span) (now : CompressedLevel)
     → stored size unique stage ends coords next spare ≡ now → IsStored stage ends → IsAllowed now parent
-        → Reading ends (segment_of now parent) parent
+    → Reading ends (segment_of now parent) parent
 reading size unique stage ends coords next spare parent now is s ok =
     let l = stored size unique stage ends coords next spare in
     let here : IsAllowed l parent = subst (λ n. IsAllowed n parent) (sym is) ok in
     let single = here.single in
     let lo : slice_get ends parent.lo ≡ Some (segment_of l parent).lo = ap (λ xs. slice_get xs parent.lo) s
-        ∙ end_is l parent parent.lo here (omega (arith, single)) in
+    ∙ end_is l parent parent.lo here (omega (arith, single)) in
     let hi : slice_get ends parent.hi ≡ Some (segment_of l parent).hi = ap (λ xs. slice_get xs parent.hi) s
-        ∙ end_is l parent parent.hi here (omega arith) in
+    ∙ end_is l parent parent.hi here (omega arith) in
     subst (λ n. Reading ends (segment_of n parent) parent) is (record {
       lo = lo;
       hi = hi;
@@ -207,13 +224,13 @@ coord_inside coords pos now parent is ok i =
 
 pub coord_read : (coords : List ℕ) (pos x : ℕ) (now : CompressedLevel) (parent : Span) → coords ≡ now.log.coords
     → slice_get coords pos ≡ Some x → IsAllowed now parent → IsIn pos (segment_of now parent)
-        → Some x ≡ coord_at (entries_of now parent) pos
+    → Some x ≡ coord_at (entries_of now parent) pos
 coord_read coords pos x now parent is h ok i = sym (coord_is now parent pos ok i ∙ ap (λ xs. slice_get xs pos) (sym is) ∙ h)
 
 -- the first position of a group stands in its segment
 pub child_first : (coords : List ℕ) (pos : ℕ) (segment : Span) (now : CompressedLevel) (parent : Span) (e : Entry)
     → coords ≡ now.log.coords → IsAllowed now parent → segment_of now parent ≡ segment → StandsAt pos e (entries_of now parent)
-        → (pos < segment.hi) × (segment.hi ≤ length coords)
+    → (pos < segment.hi) × (segment.hi ≤ length coords)
 child_first coords pos segment now parent e is ok same stands =
     let g = group_in now parent pos e ok stands in
     let at = stands_where (entries_of now parent) e pos stands in
@@ -227,9 +244,9 @@ child_first coords pos segment now parent e is ok same stands =
 pub child_read : (coords : List ℕ) (pos found : ℕ) (segment : Span) (now : CompressedLevel) (parent : Span) (e : Entry)
     → coords ≡ now.log.coords → segment_of now parent ≡ segment → StandsAt pos e (entries_of now parent)
     → ((s : Span) (f : Entry) → s.hi ≡ segment.hi → StandsAt pos f (entries_between coords s) → found ≡ f.child.hi)
-        → record { lo = pos; hi = found } ≡ e.child
+    → record { lo = pos; hi = found } ≡ e.child
 child_read coords pos found segment now parent e is same stands find =
     let at = stands_where (entries_of now parent) e pos stands in
     let end = find (segment_of now parent) e (ap (λ s. s.hi) same)
-        (subst (λ xs. StandsAt pos e (entries_between xs (segment_of now parent))) (sym is) stands) in
+    (subst (λ xs. StandsAt pos e (entries_between xs (segment_of now parent))) (sym is) stands) in
     ap (λ n. record { lo = n; hi = found }) (sym at) ∙ ap (λ n. record { lo = e.child.lo; hi = n }) end

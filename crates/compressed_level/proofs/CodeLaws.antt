@@ -55,9 +55,9 @@ segment_does c l tensor level free parent args a b s first second below ok held 
     let single = ok.single in
     span_set c free (segment_of l parent) (At (Ends tensor level) a) (At (Ends tensor level) b) s
     (word_is (Ends tensor level) a (ends_of l.log.stage l.log.counts) parent.lo (total (take parent.lo l.log.counts)) s held.ends x.0
-        (end_is l parent parent.lo ok (omega (arith, single))))
+    (end_is l parent parent.lo ok (omega (arith, single))))
     (word_is (Ends tensor level) b (ends_of l.log.stage l.log.counts) parent.hi (total (take parent.hi l.log.counts)) s held.ends y.0
-        (end_is l parent parent.hi ok (omega arith)))
+    (end_is l parent parent.hi ok (omega arith)))
     (mentions_at (λ y. y < free) EveryArray (Ends tensor level) b tt y.1)
 
 outside_ends : (level : ℕ) (a : Arr) → IsOutside 0 level a → same_arr (Ends 0 level) a ≡ false
@@ -83,7 +83,7 @@ ends_length l f = ap length (ends_are l.log.stage l.log.counts f) ∙ omega arit
 -- the state that keeps the level with room for more parents
 reserves : (l : CompressedLevel) (level parents more : ℕ) (s : State) (xs : List ℕ)
     → xs ≡ ends_of l.log.stage l.log.counts ++ replicate more 0 → more ≡ parents - length l.log.counts → parents ≤ greatest_position_count
-        → l.log.stage ≢ Finished → KeepsRules l
+    → l.log.stage ≢ Finished → KeepsRules l
     → s.arrays (Ends 0 level) ≡ Some xs → s.arrays (Coordinates 0 level) ≡ Some l.log.coords → Reserves l parents 0 level s
 reserves l level parents more s xs are count within reservable k ends coords = (
   record {
@@ -115,17 +115,23 @@ more_ends c l level free parents e s k reservable held fewer more_is =
     let size : length xs + more ≡ parents + 1 = omega (arith, long, fewer) in
     does_extend c (Ends 0 level) e (Num 0) [] s more 0 xs _ R more_is refl refl held.ends
     (λ may. let some = ends_within level (length xs + more) may in
-        does_nothing c (set_array s (Ends 0 level) (xs ++ replicate more 0)) _ R (
+    does_nothing c (set_array s (Ends 0 level) (xs ++ replicate more 0)) _ R (
       leaves_array _ (IsOutside 0 level) free no_turns s s (Ends 0 level) (xs
           ++ replicate more 0) (outside_ends level) (leaves_none _ (IsOutside 0 level) free no_turns s),
       reserves l level parents more (set_array s (Ends 0 level) (xs ++ replicate more 0)) (xs
           ++ replicate more 0) refl refl (omega (arith, some, size)) reservable k
-              (this_array s (Ends 0 level) (Ends 0 level) (xs ++ replicate more 0) (same_arr_self (Ends 0 level)))
-                  (other_array s (Ends 0 level) (Coordinates 0 level) (xs ++ replicate more 0) refl ∙ held.coords),
+          (this_array s (Ends 0 level) (Ends 0 level) (xs ++ replicate more 0) (same_arr_self (Ends 0 level)))
+          (other_array s (Ends 0 level) (Coordinates 0 level) (xs ++ replicate more 0) refl ∙ held.coords),
     ))
-    (λ no. let many = ends_beyond level (length xs + more) no in
-    (λ k. omega arith, record { array = (refl, refl); told = ap word_count (ap (λ n. n - 1) size ∙ omega arith); above =
-        omega (arith, many, size) }))
+    (λ no. let many = ends_beyond level (length xs + more) no in (
+      λ k. omega arith,
+      record {
+        array = (refl, refl);
+        told = ap word_count (ap (λ n. n - 1) size ∙ omega arith);
+        above =
+            omega (arith, many, size);
+      },
+    ))
 
 pub reserve_does : (c : Setting) (l : CompressedLevel) (level free n parents : ℕ) (args : List KExpr) (p : KExpr) (s : State)
     → slice_get args 1 ≡ Some p → AreBelow free args
@@ -154,19 +160,21 @@ reserve_does c l level free n parents args p s second below k m held values = by
     by_test true is =
         let enough : parents ≤ length l.log.counts = grind (arith, nat_tests, is) in
         let same : ends_of l.log.stage l.log.counts ≡ ends_of l.log.stage l.log.counts
-            ++ replicate 0 0 = sym (append-nil (ends_of l.log.stage l.log.counts)) in
+        ++ replicate 0 0 = sym (append-nil (ends_of l.log.stage l.log.counts)) in
         does_if_yes c (Bin Less p (Len (Ends 0 level))) [] _ [] s 0 _ _ (RefusedWithin no_turns s (PassesLimit 0 level parents))
         (less_yes p (Len (Ends 0 level)) parents (length l.log.counts + 1) s at long (omega (arith, enough)))
-        (does_nothing c s _ (RefusedWithin no_turns s (PassesLimit 0 level parents))
-            (leaves_none _ (IsOutside 0 level) free no_turns s, reserves l level parents 0 s (ends_of l.log.stage l.log.counts) same
-                (omega (arith, enough)) (omega (arith, enough, few)) m.reservable k held.ends held.coords))
+        (does_nothing c s _ (RefusedWithin no_turns s (PassesLimit 0 level parents)) (
+          leaves_none _ (IsOutside 0 level) free no_turns s,
+          reserves l level parents 0 s (ends_of l.log.stage l.log.counts) same
+              (omega (arith, enough)) (omega (arith, enough, few)) m.reservable k held.ends held.coords,
+        ))
         (λ t h. does_nothing c t _ (RefusedWithin no_turns s (PassesLimit 0 level parents)) h)
     by_test false is =
         let fewer : length l.log.counts < parents = grind (arith, nat_tests, is) in
         does_if_no c (Bin Less p (Len (Ends 0 level))) [] _ [] s _ _ (RefusedWithin no_turns s (PassesLimit 0 level parents))
         (less_no p (Len (Ends 0 level)) parents (length l.log.counts + 1) s at long (omega (arith, fewer)))
         (more_ends c l level free parents (Bin Sub p (Bin Sub (Len (Ends 0 level)) (Num 1))) s k m.reservable held (omega (arith, fewer))
-            (difference_is p (Bin Sub (Len (Ends 0 level)) (Num 1)) parents (length l.log.counts) s at there word (omega (arith, fewer))))
+        (difference_is p (Bin Sub (Len (Ends 0 level)) (Num 1)) parents (length l.log.counts) s at there word (omega (arith, fewer))))
         (λ t h. does_nothing c t _ (RefusedWithin no_turns s (PassesLimit 0 level parents)) h)
 
 abbrev given : CompressedLevel → ℕ → ℕ → ℕ → CompressedLevel
@@ -174,10 +182,10 @@ given l parent begin end = logged l (with_edges (letter_of l.unique) parent begi
 
 given_ends : (l : CompressedLevel) (parent begin end : ℕ) → l.log.stage ≡ Unfinished
     → slice_set (ends_of l.log.stage l.log.counts) (parent + 1) (end - begin) ≡ ends_of (given l parent begin end).log.stage
-        (given l parent begin end).log.counts
+    (given l parent begin end).log.counts
 given_ends l parent begin end u =
     ap (λ xs. slice_set xs (parent + 1) (end - begin)) (ends_are l.log.stage l.log.counts (unfinished_ends l.log.stage u))
-        ∙ set_behind l.log.counts parent (end - begin)
+    ∙ set_behind l.log.counts parent (end - begin)
     ∙ sym (ends_are l.log.stage (slice_set l.log.counts parent (end - begin)) (unfinished_ends l.log.stage u))
     ∙ ap (λ log. ends_of log.stage log.counts) (sym (edges_are l.unique parent begin end l.log))
 
@@ -188,9 +196,9 @@ given_coords false parent begin end log = refl
 pub edges_does : (c : Setting) (l : CompressedLevel) (level free parent begin end : ℕ) (args : List KExpr) (p b e : KExpr) (s : State)
     → slice_get args 0 ≡ Some p → slice_get args 1 ≡ Some b → slice_get args 2 ≡ Some e → AreBelow free args
     → KeepsRules l → MayAppendEdges (letter_of l.unique) parent begin end l.log → Holds l 0 level s.arrays
-        → ValuesAre args s (parent ∷ begin ∷ end ∷ [])
+    → ValuesAre args s (parent ∷ begin ∷ end ∷ [])
     → Writes c (edges_code level p b e) free 0 level no_turns s
-        (HoldsLog meaning l (with_edges (letter_of l.unique) parent begin end l.log) 0 level)
+    (HoldsLog meaning l (with_edges (letter_of l.unique) parent begin end l.log) 0 level)
 edges_does c l level free parent begin end args p b e s first second third below k m held values =
     let x = argument_is args p free 0 parent (parent ∷ begin ∷ end ∷ []) s first refl below values in
     let y = argument_is args b free 1 begin (parent ∷ begin ∷ end ∷ []) s second refl below values in
@@ -212,9 +220,16 @@ edges_does c l level free parent begin end args p b e s first second third below
     (does_nothing c (set_array s (Ends 0 level) xs) _ Never (
       leaves_array _ (IsOutside 0 level) free no_turns s s (Ends 0 level) xs (outside_ends level)
           (leaves_none _ (IsOutside 0 level) free no_turns s),
-      record { left = given l parent begin end; keeps = keeps_edges l parent begin end k m; kind = refl; size = refl; log = refl; held =
-          holds_ends l (given l parent begin end) level s xs held (given_ends l parent begin end m.unfinished)
-              (given_coords l.unique parent begin end l.log) },
+      record {
+        left = given l parent begin end;
+        keeps = keeps_edges l parent begin end k m;
+        kind = refl;
+        size = refl;
+        log = refl;
+        held =
+            holds_ends l (given l parent begin end) level s xs held (given_ends l parent begin end m.unfinished)
+            (given_coords l.unique parent begin end l.log);
+      },
     ))
 
 -- the letters of two levels tell whether they are unique
@@ -239,7 +254,7 @@ pub append_does : (c : Setting) (l : CompressedLevel) (level free x : ℕ) (code
     → MayAppend (letter_of l.unique) l.size x l.log → Holds l 0 level s.arrays
     → Grows c code free 0 level no_turns s (Appended level x l.log.coords s) (PassesLimit 0 level (length l.log.coords + 1))
     → Grows c code free 0 level no_turns s (λ t. HoldsLog meaning l (with_coord x l.log) 0 level t
-        × (length l.log.coords + 1 ≤ greatest_position_count)) (PassesLimit 0 level (length l.log.coords + 1))
+    × (length l.log.coords + 1 ≤ greatest_position_count)) (PassesLimit 0 level (length l.log.coords + 1))
 append_does c l level free x code s k may held d =
     let R = RefusedWithin no_turns s (PassesLimit 0 level (length l.log.coords + 1)) in
     does_weaker c code s _ _ R R d

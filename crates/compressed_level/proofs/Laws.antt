@@ -24,8 +24,11 @@ use Rattle.compressed_level.proofs.PartLaws.{end_at, parts_push, parts_give, tot
 use Rattle.compressed_level.specs.Laws.{logged, never_branchless, ungiven_is, ends_are, within_coords, rises_below}
 
 pub edges_are : (unique : Bool) (parent begin end : ℕ) (log : Log)
-    → with_edges (letter_of unique) parent begin end log ≡ record log { counts = slice_set log.counts parent (end - begin); next =
-        parent + 1 }
+    → with_edges (letter_of unique) parent begin end log ≡ record log {
+      counts = slice_set log.counts parent (end - begin);
+      next =
+          parent + 1;
+    }
 edges_are true parent begin end log = refl
 edges_are false parent begin end log = refl
 
@@ -45,7 +48,7 @@ keeps_coord l x k m room =
       below = below_push l.size x l.log.coords k.below m.below;
       rise = parts_push l.unique l.log.counts l.log.coords x k.given k.rise
           (subst (λ u. Rises u 0 (drop (total l.log.counts) l.log.coords ++ x ∷ []))
-              (unique_is Compressed CompressedGroups l.unique refl refl) (m.rises (never_branchless l.unique)));
+          (unique_is Compressed CompressedGroups l.unique refl refl) (m.rises (never_branchless l.unique)));
       given = omega (arith, long, given);
       ahead = k.ahead;
       all_given = λ h. absurd (h m.unfinished);
@@ -82,7 +85,7 @@ pub keeps_edges : (l : CompressedLevel) (parent begin end : ℕ) → KeepsRules 
     → KeepsRules (logged l (with_edges (letter_of l.unique) parent begin end l.log))
 keeps_edges l parent begin end k m =
     subst (λ log. KeepsRules (logged l log)) (sym (edges_are l.unique parent begin end l.log))
-        (keeps_given l parent begin end k m.unfinished (m.gives (never_branchless l.unique)))
+    (keeps_given l parent begin end k m.unfinished (m.gives (never_branchless l.unique)))
 
 -- so are those that are stored
 pub stored_is : (stage : Stage) (ends : List ℕ) → IsStored stage ends → stage ≢ Finished → ends ≡ 0 ∷ counts_in stage ends
@@ -97,7 +100,7 @@ log_of_parents unique stage ends coords next parents more s h is =
     let long : length ends ≡ length (counts_in stage ends) + 1 = omega (arith, headed) in
     let count : more ≡ parents - length (counts_in stage ends) = omega (arith, is, long) in
     let counts : drop 1 (ends ++ replicate more 0) ≡ counts_in stage ends
-        ++ replicate more 0 = ap (λ xs. drop 1 (xs ++ replicate more 0)) behind in
+    ++ replicate more 0 = ap (λ xs. drop 1 (xs ++ replicate more 0)) behind in
     ap (λ ns. record { stage = Unfinished; coords = coords; counts = ns; next = next }) (
     counts ∙ ap (λ n. counts_in stage ends ++ replicate n 0) count
     ∙ ap (λ z. counts_in stage ends ++ replicate (parents - length (counts_in stage ends)) z) (sym (ungiven_is unique))
@@ -115,24 +118,24 @@ set_behind xs parent v = let same : parent + 1 ≡ suc parent = omega arith in a
 
 pub log_of_edges : (unique : Bool) (ends coords : List ℕ) (next parent begin end : ℕ) → IsStored Unfinished ends
     → log_in Unfinished (slice_set ends (parent + 1) (end - begin)) coords (parent + 1) ≡ with_edges (letter_of unique) parent begin end
-        (log_in Unfinished ends coords next)
+    (log_in Unfinished ends coords next)
 log_of_edges unique ends coords next parent begin end s =
     let behind : ends ≡ 0 ∷ drop 1 ends = s in
     let counts : drop 1 (slice_set ends (parent + 1) (end - begin)) ≡ slice_set (drop 1 ends) parent (end - begin) =
-        ap (λ xs. drop 1 (slice_set xs (parent + 1) (end - begin))) behind ∙ ap (drop 1) (set_behind (drop 1 ends) parent (end - begin)) in
+    ap (λ xs. drop 1 (slice_set xs (parent + 1) (end - begin))) behind ∙ ap (drop 1) (set_behind (drop 1 ends) parent (end - begin)) in
     ap (λ ns. record { stage = Unfinished; coords = coords; counts = ns; next = parent + 1 }) counts
-        ∙ sym (edges_are unique parent begin end (log_in Unfinished ends coords next))
+    ∙ sym (edges_are unique parent begin end (log_in Unfinished ends coords next))
 
 pub stored_edges : (ends : List ℕ) (parent v : ℕ) → IsStored Unfinished ends → IsStored Unfinished (slice_set ends (parent + 1) v)
 stored_edges ends parent v s =
     subst (λ xs. IsStored Unfinished (slice_set xs (parent + 1) v)) (sym s)
-        (subst (IsStored Unfinished) (sym (set_behind (drop 1 ends) parent v)) refl)
+    (subst (IsStored Unfinished) (sym (set_behind (drop 1 ends) parent v)) refl)
 
 pub log_of_finished : (ends coords : List ℕ) (next : ℕ) → IsStored Unfinished ends
     → log_in Finished (running 0 ends) coords next ≡ finished (log_in Unfinished ends coords next)
 log_of_finished ends coords next s =
     let counts : counts_in Finished (running 0 ends) ≡ drop 1 ends = ap (λ xs. counts_in Finished (running 0 xs)) s
-        ∙ differences_of_sums (drop 1 ends) in
+    ∙ differences_of_sums (drop 1 ends) in
     ap (λ ns. record { stage = Finished; coords = coords; counts = ns; next = next }) counts
 
 pub stored_finished : (ends : List ℕ) → IsStored Unfinished ends → IsStored Finished (running 0 ends)

@@ -55,7 +55,7 @@ parts_push unique (n ∷ ns) xs x l p r =
       subst (Rises unique 0) (sym (take_more n xs (x ∷ []) le)) p.0,
       subst (PartsRise unique ns) (sym (drop_more n xs (x ∷ []) le))
           (parts_push unique ns (drop n xs) x (omega (arith, l, drop_length n xs)) p.1
-              (subst (λ ys. Rises unique 0 (ys ++ x ∷ [])) (sym (drop_drop n (total ns) xs)) r)),
+          (subst (λ ys. Rises unique 0 (ys ++ x ∷ [])) (sym (drop_drop n (total ns) xs)) r)),
     )
 
 -- where no parent has positions, all coordinates rise in one row
@@ -88,9 +88,11 @@ parts_give unique zero (n ∷ ns) xs l g z p =
       subst (PartsRise unique ns) (sym (drop_whole xs)) (parts_none unique ns z.1),
     )
 parts_give unique (suc parent) (n ∷ ns) xs l g z p =
-    let same : length (drop n xs) - total ns ≡ length xs - total (n ∷ ns) = omega (arith, drop_length n xs) in
-    (p.0, subst (λ m. PartsRise unique (slice_set ns parent m) (drop n xs)) same
-        (parts_give unique parent ns (drop n xs) (omega (arith, l)) (omega (arith, g, drop_length n xs)) z p.1))
+    let same : length (drop n xs) - total ns ≡ length xs - total (n ∷ ns) = omega (arith, drop_length n xs) in (
+      p.0,
+      subst (λ m. PartsRise unique (slice_set ns parent m) (drop n xs)) same
+          (parts_give unique parent ns (drop n xs) (omega (arith, l)) (omega (arith, g, drop_length n xs)) z p.1),
+    )
 
 pub total_give : (parent m : ℕ) (ns : List ℕ) → parent < length ns → NoneFrom parent ns → total (slice_set ns parent m) ≡ total ns + m
 total_give parent m [] l z = absurd (omega (arith, l))

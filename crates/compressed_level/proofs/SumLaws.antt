@@ -23,7 +23,7 @@ partly_set before (y ∷ old) zero x h = let same : before + 0 + x ≡ before + 
 partly_set before (y ∷ old) (suc i) x h =
     let same : before + (y + total (take i old)) + x ≡ before + y + total (take i old) + x = omega arith in
     ap (λ n. (before + y) ∷ slice_set (partly (before + y) old i) i n) same
-        ∙ ap (λ ns. (before + y) ∷ ns) (partly_set (before + y) old i x h)
+    ∙ ap (λ ns. (before + y) ∷ ns) (partly_set (before + y) old i x h)
 
 total_next : (old : List ℕ) (i x : ℕ) → slice_get old i ≡ Some x → total (take (suc i) old) ≡ total (take i old) + x
 total_next [] i x h = absurd (none_is x h)

@@ -11,7 +11,7 @@ use Rattle.level_core.specs.Logs.{total, segment_in}
 pub same_words : (xs ys : List ℕ) → length xs ≡ length ys → ((q : ℕ) → q < length xs → slice_get xs q ≡ slice_get ys q) → xs ≡ ys
 same_words xs ys long same = ext_get_or 0 xs ys long (λ q h.
     same_Some (slice_index xs q) (slice_index ys q) (sym (slice_get-get_or xs q 0 h) ∙ same q h
-        ∙ slice_get-get_or ys q 0 (omega (arith, h, long))))
+    ∙ slice_get-get_or ys q 0 (omega (arith, h, long))))
 
 -- a parent's number of positions is the length of its segment
 count_at : (ns : List ℕ) (p : ℕ) → p < length ns → slice_index ns p ≡ (segment_in ns (one p)).hi - (segment_in ns (one p)).lo

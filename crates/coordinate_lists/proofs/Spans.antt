@@ -41,7 +41,7 @@ pub slice_coord : (coords : List ℕ) (s : Span) (q : ℕ) → IsIn q s → slic
 slice_coord coords s q i =
     let same : s.lo + (q - s.lo) ≡ q = omega (arith, i.0) in
     take_get (s.hi - s.lo) (drop s.lo coords) (q - s.lo) (omega (arith, i.0, i.1)) ∙ drop_get s.lo coords (q - s.lo)
-        ∙ ap (slice_get coords) same
+    ∙ ap (slice_get coords) same
 
 below_take : (n m : ℕ) (xs : List ℕ) → CoordsBelow n xs → CoordsBelow n (take m xs)
 below_take n zero xs b = tt
@@ -154,7 +154,7 @@ group_ends coords s e pos next x l h some inside equal whole =
     let g = entry_is_group coords s e pos l h in
     let at = stands_where (entries_between coords s) e pos h in
     let same : x ≡ e.coord = same_Some x e.coord (sym (equal pos (omega arith) some)
-        ∙ g.equal pos (omega (arith, at)) (omega (arith, at, g.some))) in
+    ∙ g.equal pos (omega (arith, at)) (omega (arith, at, g.some))) in
     elim (cases_order next e.child.hi) [
       | inl is ↦ is
       | inr (inl early) ↦ absurd (whole (omega (arith, early, g.inside)) (g.equal next (omega (arith, at, some)) early

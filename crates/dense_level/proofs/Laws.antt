@@ -33,7 +33,7 @@ from_coord (suc count) x pos q h g = by_test (from_coord count (x + 1) (pos + 1)
         → (b : Bool) → (pos == q) ≡ b → coord_at (entries_from (suc count) x pos) q ≡ Some (x + (q - pos))
     by_test again true is = let same : pos ≡ q =
         grind (arith, nat_tests, is) in coord_here entry (entries_from count (x + 1) (pos + 1)) q h (omega (arith, same))
-            ∙ ap Some (omega (arith, same))
+        ∙ ap Some (omega (arith, same))
     by_test again false is =
         let apart : pos ≢ q = grind (arith, nat_tests, is) in
         coord_past entry (entries_from count (x + 1) (pos + 1)) q (omega (arith, h, apart))
@@ -87,4 +87,4 @@ pub coord_is : (n pos : ℕ) (parent : Span) → IsAllowed n parent → IsIn pos
     → coord_at (entries_of n parent) pos ≡ Some (pos - parent.lo * n)
 coord_is n pos parent ok h = let end =
     segment_end n parent.lo parent.hi ok.one_parent in from_coord n 0 (parent.lo * n) pos h.0 (omega (arith, h.1, end))
-        ∙ ap Some (omega arith)
+    ∙ ap Some (omega arith)

@@ -39,7 +39,7 @@ first_rules levels first inside here others = (rules, below)
       where
         not_before : (i : ℕ) → i < length levels
             → slice_index_or (letters_of levels) i d ≡ (slice_index_or levels i (record { letter = d; mode = 0 })).letter → (e : Letter)
-                → slice_index_or (letters_of levels) i d ≡ Hashed → (i < first) ⊎ (first ≤ i) → first ≤ i
+            → slice_index_or (letters_of levels) i d ≡ Hashed → (i < first) ⊎ (first ≤ i) → first ≤ i
         not_before i within same e is (inl before) =
             absurd (others i (record { letter = d; mode = 0 }) (omega arith) before (sym same ∙ is))
         not_before i within same e is (inr from) = from
@@ -50,7 +50,7 @@ first_rules levels first inside here others = (rules, below)
         let left = length-drop (first + 1) levels in
         let within : first + 1 + k < length levels = omega (arith, h, left) in
         let hashed : slice_index_or (letters_of levels) first d.letter ≡ Hashed = letter_at levels first d.letter inside
-            ∙ here (record { letter = d.letter; mode = 0 }) in
+        ∙ here (record { letter = d.letter; mode = 0 }) in
         let inserts = rule first (first + 1 + k) d.letter (omega arith) (omega (arith, within, count)) hashed in
         let same = get_or-drop (first + 1) levels k d in
         let at = get_or-map (λ level. level.letter) levels (first + 1 + k) d d.letter within in

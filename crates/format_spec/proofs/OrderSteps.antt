@@ -33,12 +33,12 @@ pub agree : (count n : ℕ) (text : List ℕ) (so_far : SmallVec ℕ) (modes : L
     → text ≡ mode_text modes → count ≤ n → k < count → slice_index_or so_far.items k d ≡ slice_index_or modes k d
 agree count n text so_far modes k d s order is within h =
     same_digit (slice_index_or so_far.items k d) (slice_index_or modes k d) (sym (s.digits k d h)
-        ∙ has_digit n text modes k d order is (omega (arith, h, within)))
+    ∙ has_digit n text modes k d order is (omega (arith, h, within)))
 
 -- what stands at the next place of a text of modes is a mode that isn't among those so far
 pub next_is_new : (count n : ℕ) (text : List ℕ) (so_far : SmallVec ℕ) (modes : List ℕ) (mode : ℕ) → Started count n text so_far
     → IsOrder n modes → text ≡ mode_text modes → count < n → slice_get text (2 * count) ≡ Some (48 + mode)
-        → (mode < n) × All (λ other. other ≢ mode) so_far.items
+    → (mode < n) × All (λ other. other ≢ mode) so_far.items
 next_is_new count n text so_far modes mode s order is within at =
     let long = order.count in
     let same = same_digit mode (slice_index_or modes count 0) (sym at ∙ has_digit n text modes count 0 order is within) in
@@ -54,7 +54,7 @@ next_is_new count n text so_far modes mode s order is within at =
 -- with one mode more
 pub one_more : (count n : ℕ) (text : List ℕ) (old new : SmallVec ℕ) (mode : ℕ) → Started count n text old → mode < n
     → All (λ other. other ≢ mode) old.items → slice_get text (2 * count) ≡ Some (48 + mode) → new.items ≡ old.items ++ mode ∷ []
-        → new.capacity ≡ old.capacity → Started (count + 1) n text new
+    → new.capacity ≡ old.capacity → Started (count + 1) n text new
 one_more count n text old new mode s small fresh at pushed kept = record {
   length_is = longer;
   below = λ k d h. low k d h (cases_lt k count);
@@ -74,7 +74,7 @@ one_more count n text old new mode s small fresh at pushed kept = record {
     at_end k d is =
         let last : k ≡ length old.items = is ∙ sym s.length_is in
         ap (λ ms. slice_index_or ms k d) pushed ∙ ap (λ n. slice_index_or (old.items ++ mode ∷ []) n d) last
-            ∙ get_or-append_seam old.items mode [] d
+        ∙ get_or-append_seam old.items mode [] d
 
     low : (k d : ℕ) → k < length new.items → (k < count) ⊎ (count ≤ k) → slice_index_or new.items k d < n
     low k d h (inl earlier) =

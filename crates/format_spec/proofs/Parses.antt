@@ -25,11 +25,11 @@ abbrev pub Stands : List FormatLevel → Result (List FormatLevel) FormatFault �
 Stands levels r = MatchResult r
     (λ format. (format ≡ levels) × Chained false (letters_of levels) × InsertedBelowHashed (letters_of levels))
     (λ fault. ((fault ≡ BadChain) × (Chained false (letters_of levels) → ⊥)) ⊎ ((fault ≡ BelowHashed) × Chained false (letters_of levels)
-        × (InsertedBelowHashed (letters_of levels) → ⊥)))
+    × (InsertedBelowHashed (letters_of levels) → ⊥)))
 
 pub answered : (letters : List ℕ) (order : Option (List ℕ)) (n : ℕ) (levels : List FormatLevel)
     (r : Result (List FormatLevel) FormatFault) → Reads letters order n (letters_of levels) (modes_of levels) → Stands levels r
-        → Answers letters order n r
+    → Answers letters order n r
 answered letters order n levels (Ok format) reads stands =
     subst (λ f. Answers letters order n (Ok f)) (sym stands.0) (reads, stands.1, stands.2)
 answered letters order n levels (Err fault) reads (inl chain) =

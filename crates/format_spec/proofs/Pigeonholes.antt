@@ -24,7 +24,7 @@ all_apart zero m g below apart = omega arith
 all_apart (suc n) zero g below apart = let no = below n (omega arith) in absurd (omega (arith, no))
 all_apart (suc n) (suc m) g below apart =
     let fewer = all_apart n m (another g m n) (λ i h. small i h (another_is g m n i))
-        (λ i j before h. differ i j before h (another_is g m n i) (another_is g m n j)) in
+    (λ i j before h. differ i j before h (another_is g m n i) (another_is g m n j)) in
     omega (arith, fewer)
   where
     small : (i : ℕ) → i < n → Another g m n i (another g m n i) → another g m n i < m

@@ -68,8 +68,8 @@ same_levels (level ∷ levels) (other ∷ others) h g =
     let letters : letters_of levels ≡ letters_of others = cc in
     let modes : modes_of levels ≡ modes_of others = cc in
     ap (λ l. record { letter = l; mode = level.mode } ∷ levels) letter
-        ∙ ap (λ m. record { letter = other.letter; mode = m } ∷ levels) mode
-            ∙ ap (λ ls. other ∷ ls) (same_levels levels others letters modes)
+    ∙ ap (λ m. record { letter = other.letter; mode = m } ∷ levels) mode
+    ∙ ap (λ ls. other ∷ ls) (same_levels levels others letters modes)
 
 -- the place of a fault among those that are looked for
 abbrev rank : FormatFault → ℕ
@@ -104,24 +104,59 @@ no_less a b h g = absurd (omega (arith, h, g))
 good_levels : (letters : List ℕ) (order : Option (List ℕ)) (n : ℕ) (levels : List FormatLevel) → Answers letters order n (Ok levels)
     → Good letters order n 5
 good_levels letters order n levels x =
-    record { kinds = letters_of levels; letters_are = x.0.letters_are; count = λ _. x.0.count; modes =
-        λ _. (modes_of levels, x.0.modes_are); chained = λ _. x.1; inserted = λ _. x.2 }
+    record {
+      kinds = letters_of levels;
+      letters_are = x.0.letters_are;
+      count = λ _. x.0.count;
+      modes =
+          λ _. (modes_of levels, x.0.modes_are);
+      chained = λ _. x.1;
+      inserted = λ _. x.2;
+    }
 
 good_before : (letters : List ℕ) (order : Option (List ℕ)) (n : ℕ) (fault : FormatFault) → Answers letters order n (Err fault)
     → 0 < rank fault → Good letters order n (rank fault)
 good_before letters order n BadLetter x h = absurd (omega (arith, h))
 good_before letters order n BadLength x h =
-    record { kinds = x.0; letters_are = x.1; count = no_less 1 1 (omega arith); modes = no_less 2 1 (omega arith); chained =
-        no_less 3 1 (omega arith); inserted = no_less 4 1 (omega arith) }
+    record {
+      kinds = x.0;
+      letters_are = x.1;
+      count = no_less 1 1 (omega arith);
+      modes = no_less 2 1 (omega arith);
+      chained =
+          no_less 3 1 (omega arith);
+      inserted = no_less 4 1 (omega arith);
+    }
 good_before letters order n BadOrder x h =
-    record { kinds = x.0; letters_are = x.1; count = λ _. x.2; modes = no_less 2 2 (omega arith); chained =
-        no_less 3 2 (omega arith); inserted = no_less 4 2 (omega arith) }
+    record {
+      kinds = x.0;
+      letters_are = x.1;
+      count = λ _. x.2;
+      modes = no_less 2 2 (omega arith);
+      chained =
+          no_less 3 2 (omega arith);
+      inserted = no_less 4 2 (omega arith);
+    }
 good_before letters order n BadChain x h =
-    record { kinds = x.0; letters_are = x.2.letters_are; count = λ _. x.2.count; modes = λ _. (x.1, x.2.modes_are); chained =
-        no_less 3 3 (omega arith); inserted = no_less 4 3 (omega arith) }
+    record {
+      kinds = x.0;
+      letters_are = x.2.letters_are;
+      count = λ _. x.2.count;
+      modes = λ _. (x.1, x.2.modes_are);
+      chained =
+          no_less 3 3 (omega arith);
+      inserted = no_less 4 3 (omega arith);
+    }
 good_before letters order n BelowHashed x h =
-    record { kinds = x.0; letters_are = x.2.letters_are; count = λ _. x.2.count; modes = λ _. (x.1, x.2.modes_are); chained =
-        λ _. x.3; inserted = no_less 4 4 (omega arith) }
+    record {
+      kinds = x.0;
+      letters_are = x.2.letters_are;
+      count = λ _. x.2.count;
+      modes = λ _. (x.1, x.2.modes_are);
+      chained =
+          λ _. x.3;
+      inserted = no_less 4 4 (omega arith);
+    }
 
 -- a fault isn't answered where more is good
 not_before : (letters : List ℕ) (order : Option (List ℕ)) (n place : ℕ) (fault : FormatFault) → Answers letters order n (Err fault)
@@ -145,7 +180,7 @@ pub one_answer : (letters : List ℕ) (order : Option (List ℕ)) (n : ℕ) (a b
     → Answers letters order n a → Answers letters order n b → a ≡ b
 one_answer letters order n (Ok levels) (Ok others) x y =
     ap Ok (same_levels levels others (one_list_of_kinds letters (letters_of levels) (letters_of others) x.0.letters_are y.0.letters_are)
-        (one_order order n (modes_of levels) (modes_of others) x.0.modes_are y.0.modes_are))
+    (one_order order n (modes_of levels) (modes_of others) x.0.modes_are y.0.modes_are))
 one_answer letters order n (Ok levels) (Err fault) x y =
     absurd (not_before letters order n 5 fault y (below_five fault) (good_levels letters order n levels x))
 one_answer letters order n (Err fault) (Ok levels) x y =

@@ -47,13 +47,13 @@ one_allowed l parent ok = record { rules = ok.rules; one_parent = refl; prepared
 below_base : (free tensor level : ℕ) (e : KExpr) → Below free e → Below free (base_word tensor level e)
 below_base free tensor level e b =
     mentions_bin (λ y. y < free) EveryArray Mul e (width_word tensor level) b
-        (mentions_at (λ y. y < free) EveryArray (WidthArray tensor level) (Num 0) tt tt)
+    (mentions_at (λ y. y < free) EveryArray (WidthArray tensor level) (Num 0) tt tt)
 
 pub segment_does : (c : Setting) (l : Hashed) (tensor level free : ℕ) (args : List KExpr) (lo hi : KExpr) (parent : Span) (s : State)
     → slice_get args 0 ≡ Some lo → slice_get args 1 ≡ Some hi → AreBelow free args → IsAllowed l parent → Holds l tensor level s.arrays
-        → ValuesAre args s (parent.lo ∷ parent.hi ∷ [])
-            → Reads c (two_code free (base_word tensor level lo) (base_word tensor level hi)) free no_turns s
-                (SpanLeft free (segment_of l parent))
+    → ValuesAre args s (parent.lo ∷ parent.hi ∷ [])
+    → Reads c (two_code free (base_word tensor level lo) (base_word tensor level hi)) free no_turns s
+    (SpanLeft free (segment_of l parent))
 segment_does c l tensor level free args lo hi parent s first second below ok held values =
     let start = argument_is args lo free 0 parent.lo (parent.lo ∷ parent.hi ∷ []) s first refl below values in
     let end = argument_is args hi free 1 parent.hi (parent.lo ∷ parent.hi ∷ []) s second refl below values in
@@ -61,15 +61,15 @@ segment_does c l tensor level free args lo hi parent s first second below ok hel
     let small = positions_are_small in
     let next : parent.hi * block_width l ≡ base_of l parent.lo + block_width l = ap (λ k. k * block_width l) ok.one_parent ∙ grind arith in
     let last = product_is hi (width_word tensor level) parent.hi (block_width l) s end.0
-        (width_is l parent.lo tensor level s (one_allowed l parent ok) held) (omega (arith, next, inside, small)) in
+    (width_is l parent.lo tensor level s (one_allowed l parent ok) held) (omega (arith, next, inside, small)) in
     span_set c free (segment_of l parent) (base_word tensor level lo) (base_word tensor level hi) s
-        (base_is l parent.lo tensor level lo s (one_allowed l parent ok) held start.0) (last
-            ∙ ap Some next) (below_base free tensor level hi end.1)
+    (base_is l parent.lo tensor level lo s (one_allowed l parent ok) held start.0) (last
+    ∙ ap Some next) (below_base free tensor level hi end.1)
 
 pub coord_does : (c : Setting) (l : Hashed) (tensor level free : ℕ) (args : List KExpr) (pos : KExpr) (parent : Span) (q : ℕ) (s : State)
     → slice_get args 0 ≡ Some pos → AreBelow free args → IsAllowed l parent → IsIn q (segment_of l parent) → Holds l tensor level s.arrays
-        → ValuesAre args s (q ∷ [])
-            → Reads c (coord_code tensor level pos free) free no_turns s (OptionLeft free (coord_at (entries_of l parent) q))
+    → ValuesAre args s (q ∷ [])
+    → Reads c (coord_code tensor level pos free) free no_turns s (OptionLeft free (coord_at (entries_of l parent) q))
 coord_does c l tensor level free args pos parent q s first below ok inside held values =
     let at = argument_is args pos free 0 q (q ∷ []) s first refl below values in
     let word = At (Coordinates tensor level) pos in
@@ -79,38 +79,38 @@ coord_does c l tensor level free args pos parent q s first below ok inside held 
       | inl k ↦ subst (λ o. Reads c (coord_code tensor level pos free) free no_turns s (OptionLeft free o))
           (sym (coord_is l q parent inside ∙ coord_none x k.1))
           (does_if_no c (filled_test tensor level pos) (two_code free (Num 1) word) (one_code free (Num 0)) [] s _ _ Never
-              (differ_no word (Num empty_slot) x empty_slot s read refl k.1) (none_set c free s) (λ t h. does_nothing c t _ Never h))
+          (differ_no word (Num empty_slot) x empty_slot s read refl k.1) (none_set c free s) (λ t h. does_nothing c t _ Never h))
       | inr k ↦ subst (λ o. Reads c (coord_code tensor level pos free) free no_turns s (OptionLeft free o))
           (sym (coord_is l q parent inside ∙ coord_some x k.1))
           (does_if_yes c (filled_test tensor level pos) (two_code free (Num 1) word) (one_code free (Num 0)) [] s 0 _ _ Never
-              (differ_yes word (Num empty_slot) x empty_slot s read refl k.1)
-                  (some_set c free x word s read (mentions_at (λ y. y < free) EveryArray (Coordinates tensor level) pos tt at.1))
-                      (λ t h. does_nothing c t _ Never h))
+          (differ_yes word (Num empty_slot) x empty_slot s read refl k.1)
+          (some_set c free x word s read (mentions_at (λ y. y < free) EveryArray (Coordinates tensor level) pos tt at.1))
+          (λ t h. does_nothing c t _ Never h))
     ]
 
 pub child_does : (c : Setting) (l : Hashed) (free : ℕ) (args : List KExpr) (pos : KExpr) (parent : Span) (e : Entry) (vs : List ℕ)
     (s : State) → slice_get args 0 ≡ Some pos → AreBelow free args → IsAllowed l parent → StandsAt e.child.lo e (entries_of l parent)
-        → ValuesAre args s (e.child.lo ∷ vs) → Reads c (position_and_next free pos) free no_turns s (SpanLeft free e.child)
+    → ValuesAre args s (e.child.lo ∷ vs) → Reads c (position_and_next free pos) free no_turns s (SpanLeft free e.child)
 child_does c l free args pos parent e vs s first below ok stands values =
     let at = argument_is args pos free 0 e.child.lo (e.child.lo ∷ vs) s first refl below values in
     let child = child_is l e.child.lo parent e ok stands in
     let small = positions_are_small in
     subst (λ span. Reads c (position_and_next free pos) free no_turns s (SpanLeft free span)) (sym child.0)
-        (position_set c free e.child.lo pos s at.0 (omega (arith, child.1, small)) at.1)
+    (position_set c free e.child.lo pos s at.0 (omega (arith, child.1, small)) at.1)
 
 pub locate_does : (c : Setting) (l : Hashed) (tensor level free : ℕ) (args : List KExpr) (g e : KExpr) (p x : ℕ) (s : State)
     → slice_get args 0 ≡ Some g → slice_get args 1 ≡ Some e → AreBelow free args → (ok : IsAllowed l (one p))
-        → (held : Holds l tensor level s.arrays) → (values : ValuesAre args s (p ∷ x ∷ [])) → (xv : value e s ≡ Some x)
-            → (xb : Below free e) → Does c (locate_code tensor level g e free) s (Located c l tensor level free p x e s ok held xv xb) Never
+    → (held : Holds l tensor level s.arrays) → (values : ValuesAre args s (p ∷ x ∷ [])) → (xv : value e s ≡ Some x)
+    → (xb : Below free e) → Does c (locate_code tensor level g e free) s (Located c l tensor level free p x e s ok held xv xb) Never
 locate_does c l tensor level free args g e p x s first second below ok held values xv xb =
     let parent = argument_is args g free 0 p (p ∷ x ∷ []) s first refl below values in
     locate_runs c l tensor level free p x e s ok held xv xb g parent.0
 
 pub insert_does : (c : Setting) (l : Hashed) (tensor level free : ℕ) (args : List KExpr) (g e : KExpr) (p x : ℕ) (s : State) → tensor ≡ 0
     → slice_get args 0 ≡ Some g → slice_get args 1 ≡ Some e → AreBelow free args → (ok : IsAllowed l (one p))
-        → MayInsert HashedLetter l.size (segment_of l (one p)) (entries_of l (one p)) x → (held : Holds l tensor level s.arrays)
-            → (values : ValuesAre args s (p ∷ x ∷ [])) → (xv : value e s ≡ Some x) → (xb : Below free e)
-                → Does c (insert_code tensor level g e free) s (Stored c l tensor level free p x e s ok held xv xb) Never
+    → MayInsert HashedLetter l.size (segment_of l (one p)) (entries_of l (one p)) x → (held : Holds l tensor level s.arrays)
+    → (values : ValuesAre args s (p ∷ x ∷ [])) → (xv : value e s ≡ Some x) → (xb : Below free e)
+    → Does c (insert_code tensor level g e free) s (Stored c l tensor level free p x e s ok held xv xb) Never
 insert_does c l tensor level free args g e p x s result first second below ok may held values xv xb =
     let parent = argument_is args g free 0 p (p ∷ x ∷ []) s first refl below values in
     insert_runs c l tensor level free p x e s ok held xv xb g parent.0 result may
@@ -159,7 +159,7 @@ asked_all parents most within = elim (within_or_beyond parents greatest_position
   | inr beyond ↦ (
       let wide = slot_width_wide most in
       let many : (greatest_position_count + 1) * 1 ≤ (greatest_position_count + 1) * slot_width most =
-          mul-le-mul_left (greatest_position_count + 1) (omega (arith, wide)) in
+      mul-le-mul_left (greatest_position_count + 1) (omega (arith, wide)) in
       let is : asked_slots parents most ≡ (greatest_position_count + 1) * slot_width most = ap (λ k. k * slot_width most) beyond in
       absurd (omega (arith, within, is, many)))
 ]
@@ -177,10 +177,10 @@ true_is_false b h g = cc
 stored : (c : Setting) (l : Hashed) (tensor level free parents most : ℕ) (s u : State) (R : Refusal) → tensor ≡ 0 → KeepsRules l
     → MayPrepare HashedLetter l.width most → positions_for HashedLetter l.size parents most ≤ greatest_position_count
     → Leaves NoVariable (IsOutside tensor level) free no_turns s u → u.vars free ≡ Some (slot_width most)
-        → u.arrays (WidthArray tensor level) ≡ Some []
-            → u.arrays (Coordinates tensor level) ≡ Some (replicate (parents * slot_width most) empty_slot)
+    → u.arrays (WidthArray tensor level) ≡ Some []
+    → u.arrays (Coordinates tensor level) ≡ Some (replicate (parents * slot_width most) empty_slot)
     → Does c (Extend (WidthArray tensor level) (Num 1) (Var free)
-        ∷ []) u (λ t. Leaves NoVariable (IsOutside tensor level) free no_turns s t × Made l tensor level parents most t) R
+    ∷ []) u (λ t. Leaves NoVariable (IsOutside tensor level) free no_turns s t × Made l tensor level parents most t) R
 stored c l tensor level free parents most s u R result rules may within left wide none slots =
     let w = slot_width most in
     let width_written : may_write (WidthArray tensor level) ≡ true = grind (arith, nat_tests) in
@@ -209,11 +209,11 @@ stored c l tensor level free parents most s u R result rules may within left wid
 made_slots : (c : Setting) (l : Hashed) (tensor level free parents most : ℕ) (s u : State) → tensor ≡ 0 → KeepsRules l
     → MayPrepare HashedLetter l.width most → Holds l tensor level u.arrays
     → Leaves NoVariable (IsOutside tensor level) free no_turns s u → u.vars free ≡ Some (slot_width most)
-        → u.vars (free + 1) ≡ Some (min parents (greatest_position_count + 1))
+    → u.vars (free + 1) ≡ Some (min parents (greatest_position_count + 1))
     → Does c (Extend (Coordinates tensor level) (Bin Mul (Var (free + 1)) (Var free)) (Num empty_slot)
-        ∷ Extend (WidthArray tensor level) (Num 1) (Var free) ∷ []) u (λ t. Leaves NoVariable (IsOutside tensor level) free no_turns s t
-            × Made l tensor level parents most t)
-                (RefusedWithin no_turns s (PassesLimitWithin tensor level (positions_for HashedLetter l.size parents most)))
+    ∷ Extend (WidthArray tensor level) (Num 1) (Var free) ∷ []) u (λ t. Leaves NoVariable (IsOutside tensor level) free no_turns s t
+    × Made l tensor level parents most t)
+    (RefusedWithin no_turns s (PassesLimitWithin tensor level (positions_for HashedLetter l.size parents most)))
 made_slots c l tensor level free parents most s u result rules may held left wide fewer =
     let w = slot_width most in
     let n = asked_slots parents most in
@@ -224,37 +224,47 @@ made_slots c l tensor level free parents most s u result rules may held left wid
     let xs : List ℕ = l.slots ++ replicate n empty_slot in
     let t = set_array u (Coordinates tensor level) xs in
     let product = product_is (Var (free + 1)) (Var free) (min parents (greatest_position_count + 1)) w u fewer wide
-        (asked_word parents most may.coordinates) in
+    (asked_word parents most may.coordinates) in
     does_extend c (Coordinates tensor level) (Bin Mul (Var (free + 1)) (Var free)) (Num empty_slot)
-        (Extend (WidthArray tensor level) (Num 1) (Var free) ∷ []) u n empty_slot l.slots _ R product refl coordinates_written held.slots
+    (Extend (WidthArray tensor level) (Num 1) (Var free) ∷ []) u n empty_slot l.slots _ R product refl coordinates_written held.slots
     (λ some.
     let few : n ≤ greatest_position_count = let long = slots_within tensor level (length l.slots + n) some in omega (arith, long, size) in
     let all : n ≡ parents * w = asked_all parents most few in
     stored c l tensor level free parents most s t R result rules may (omega (arith, few, all))
     (leaves_array NoVariable (IsOutside tensor level) free no_turns s u (Coordinates tensor level) xs
-        (λ b out. outside_apart tensor level (Coordinates tensor level) b (refl, refl) out) left)
+    (λ b out. outside_apart tensor level (Coordinates tensor level) b (refl, refl) out) left)
     wide
     (other_array u (Coordinates tensor level) (WidthArray tensor level) xs refl ∙ held.width
-        ∙ ap (λ o. Some (width_words o)) may.unprepared)
+    ∙ ap (λ o. Some (width_words o)) may.unprepared)
     (this_array u (Coordinates tensor level) (Coordinates tensor level) xs (same_arr_self (Coordinates tensor level))
-        ∙ ap (λ ys. Some (ys ++ replicate n empty_slot)) none ∙ ap (λ k. Some (replicate k empty_slot)) all))
+    ∙ ap (λ ys. Some (ys ++ replicate n empty_slot)) none ∙ ap (λ k. Some (replicate k empty_slot)) all))
     (λ over.
-    let long = slots_beyond tensor level (length l.slots + n) over in
-    (left.turns, (n, record { array = (refl, refl); told = ap word_count size; above =
-        omega (arith, long, size) }, fewer_slots parents most)))
+    let long = slots_beyond tensor level (length l.slots + n) over in (
+      left.turns,
+      (
+        n,
+        record {
+          array = (refl, refl);
+          told = ap word_count size;
+          above =
+              omega (arith, long, size);
+        },
+        fewer_slots parents most,
+      ),
+    ))
 
 pub prepare_does : (c : Setting) (l : Hashed) (tensor level free : ℕ) (args : List KExpr) (g e : KExpr) (parents most : ℕ) (s : State)
     → tensor ≡ 0 → slice_get args 0 ≡ Some g → slice_get args 1 ≡ Some e → AreBelow free args → KeepsRules l
-        → MayPrepare HashedLetter l.width most → Holds l tensor level s.arrays → ValuesAre args s (parents ∷ most ∷ [])
-            → Grows c (prepare_code tensor level g e free) free tensor level no_turns s (Made l tensor level parents most)
-                (PassesLimitWithin tensor level (positions_for HashedLetter l.size parents most))
+    → MayPrepare HashedLetter l.width most → Holds l tensor level s.arrays → ValuesAre args s (parents ∷ most ∷ [])
+    → Grows c (prepare_code tensor level g e free) free tensor level no_turns s (Made l tensor level parents most)
+    (PassesLimitWithin tensor level (positions_for HashedLetter l.size parents most))
 prepare_does c l tensor level free args g e parents most s result first second below rules may held values =
     let w = slot_width most in
     let R = RefusedWithin no_turns s (PassesLimitWithin tensor level (positions_for HashedLetter l.size parents most)) in
     let bound = greatest_position_count + 1 in
     let fewer = min parents bound in
     let rest = Extend (Coordinates tensor level) (Bin Mul (Var (free + 1)) (Var free)) (Num empty_slot)
-        ∷ Extend (WidthArray tensor level) (Num 1) (Var free) ∷ [] in
+    ∷ Extend (WidthArray tensor level) (Num 1) (Var free) ∷ [] in
     let small = positions_are_small in
     let few = may.coordinates in
     let parent = argument_is args g free 0 parents (parents ∷ most ∷ []) s first refl below values in
@@ -263,12 +273,12 @@ prepare_does c l tensor level free args g e parents most s result first second b
     let s2 = set_var s1 (free + 1) fewer in
     let wide : value (Width e) s ≡ Some w = value_width e s ∙ ap width_of each.0 ∙ width_is_slot_width most (omega (arith, few, small)) in
     let kept : value g s1 ≡ Some parents =
-        below_kept free g s s1 parent.1 (λ y h. other_var s free y w (λ is. omega (arith, h, is))) (λ a. refl) ∙ parent.0 in
+    below_kept free g s s1 parent.1 (λ y h. other_var s free y w (λ is. omega (arith, h, is))) (λ a. refl) ∙ parent.0 in
     let least : value (Min g (Num bound)) s1 ≡ Some fewer = value_min g (Num bound) s1 ∙ ap (λ o. apply_each min o (Some bound)) kept in
     let left = leaves_set NoVariable (IsOutside tensor level) free no_turns s s1 (free + 1) fewer (λ y h is. omega (arith, h, is))
-        (leaves_set NoVariable (IsOutside tensor level) free no_turns s s free w (λ y h is. omega (arith, h, is))
-            (leaves_none NoVariable (IsOutside tensor level) free no_turns s)) in
+    (leaves_set NoVariable (IsOutside tensor level) free no_turns s s free w (λ y h is. omega (arith, h, is))
+    (leaves_none NoVariable (IsOutside tensor level) free no_turns s)) in
     does_set c free (Width e) (Set (free + 1) (Min g (Num bound)) ∷ rest) s w _ R wide
     (does_set c (free + 1) (Min g (Num bound)) rest s1 fewer _ R least
     (made_slots c l tensor level free parents most s s2 result rules may held left
-        (other_var s1 (free + 1) free fewer (λ is. omega (arith, is)) ∙ this_var s free w) (this_var s1 (free + 1) fewer)))
+    (other_var s1 (free + 1) free fewer (λ is. omega (arith, is)) ∙ this_var s free w) (this_var s1 (free + 1) fewer)))

@@ -41,13 +41,13 @@ never_passes l p x slots w base same width begin may pass =
 -- it stops at the first empty slot
 pub stops_first : (l : Hashed) (p x slot : ℕ) (slots : List ℕ) (w base : ℕ) → slots ≡ l.slots → w ≡ block_width l → base ≡ base_of l p
     → IsAllowed l (one p) → MayInsert HashedLetter l.size (segment_of l (one p)) (entries_of l (one p)) x
-        → Stops (slice_index slots) w base x slot → FirstEmpty (slice_index l.slots) (block_width l) (base_of l p) x slot
+    → Stops (slice_index slots) w base x slot → FirstEmpty (slice_index l.slots) (block_width l) (base_of l p) x slot
 stops_first l p x slot slots w base same width begin ok may stop =
     let first = subst (λ xs. Stops (slice_index xs) w base x slot) same stop in
     let second = subst (λ v. Stops (slice_index l.slots) v base x slot) width first in
     let third = subst (λ b. Stops (slice_index l.slots) (block_width l) b x slot) begin second in
     absent_first (slice_index l.slots) (block_width l) (base_of l p) x slot third (coordinate_filled l x ok.rules may.below)
-        (insert_absent l p x may)
+    (insert_absent l p x may)
 
 -- the child of an entry, which is within the segment
 pub child_is : (l : Hashed) (pos : ℕ) (parent : Span) (e : Entry) → IsAllowed l parent → StandsAt pos e (entries_of l parent)
@@ -65,10 +65,10 @@ coord_is l pos parent h = filled_coord (slice_index l.slots) (block_width l) (ba
 -- an insertion makes at most one entry more
 pub inserted_longer : (l m : Hashed) (p x slot : ℕ) → IsAllowed l (one p)
     → MayInsert HashedLetter l.size (segment_of l (one p)) (entries_of l (one p)) x → Inserted l p x slot m
-        → length (entries_of m (one p)) ≤ length (entries_of l (one p)) + 1
+    → length (entries_of m (one p)) ≤ length (entries_of l (one p)) + 1
 inserted_longer l m p x slot ok may is =
     let inside = block_within l p ok.rules ok.prepared in
     let there = first_inside (slice_index l.slots) (block_width l) (base_of l p) x slot is.first in
     subst (λ k. length (entries_of k (one p)) ≤ length (entries_of l (one p)) + 1) (sym is.level)
     (filled_longer (slice_index l.slots) (slice_index (slice_set l.slots slot x)) slot x (block_width l) (base_of l p)
-        (set_puts l.slots slot x (omega (arith, inside, there.1))))
+    (set_puts l.slots slot x (omega (arith, inside, there.1))))

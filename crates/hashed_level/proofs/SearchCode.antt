@@ -65,9 +65,9 @@ wrapped_is l p tensor level n e t ok held is =
     let small = width_small l p ok in
     let wide = ok.rules.wide in
     let mask = difference_is (width_word tensor level) (Num 1) (block_width l) 1 t (width_is l p tensor level t ok held) refl
-        (omega (arith, small)) (omega (arith, wide)) in
+    (omega (arith, small)) (omega (arith, wide)) in
     binary_is BitAnd e (Bin Sub (width_word tensor level) (Num 1)) n (block_width l - 1) t is mask
-        ∙ ap Some (masked n (block_width l) ok.rules.power)
+    ∙ ap Some (masked n (block_width l) ok.rules.power)
 
 pub base_is : (l : Hashed) (p tensor level : ℕ) (e : KExpr) (t : State) → IsAllowed l (one p) → Holds l tensor level t.arrays
     → value e t ≡ Some p → value (base_word tensor level e) t ≡ Some (base_of l p)
@@ -82,7 +82,7 @@ pub slot_read : (l : Hashed) (p tensor level q : ℕ) (e : KExpr) (t : State) �
 slot_read l p tensor level q e t ok held is below =
     let inside = block_within l p ok.rules ok.prepared in
     word_is (Coordinates tensor level) e l.slots q (slice_index l.slots q) t held.slots is
-        (slice_get-get_or l.slots q 0 (omega (arith, inside, below)))
+    (slice_get-get_or l.slots q 0 (omega (arith, inside, below)))
 
 pub differ_yes : (e f : KExpr) (x y : ℕ) (t : State) → value e t ≡ Some x → value f t ≡ Some y → x ≢ y → value (Bin NotEqual e f) t ≡ Some 1
 differ_yes e f x y t h g n = let is : (x == y) ≡ false = grind (arith, nat_tests) in binary_is NotEqual e f x y t h g
@@ -103,8 +103,11 @@ second_no e f t h g = binary_is And e f 1 0 t h g
 
 pub held_kept : (l : Hashed) (tensor level free : ℕ) (most : LoopKind → ℕ) (s t : State) → Leaves NoVariable EveryArray free most s t
     → Holds l tensor level s.arrays → Holds l tensor level t.arrays
-held_kept l tensor level free most s t leaves held = record { width = leaves.arrays (WidthArray tensor level) tt
-    ∙ held.width; slots = leaves.arrays (Coordinates tensor level) tt ∙ held.slots }
+held_kept l tensor level free most s t leaves held = record {
+  width = leaves.arrays (WidthArray tensor level) tt
+      ∙ held.width;
+  slots = leaves.arrays (Coordinates tensor level) tt ∙ held.slots;
+}
 
 pub turns_more : (a b : ℕ) → a ≤ b → (k : LoopKind) → turns_of Probe a k ≤ turns_of Probe b k
 turns_more a b h k = elim (same_kind Probe k) as (λ t. (if t then a else 0) ≤ (if t then b else 0)) [ true ↦ h | false ↦ omega arith ]
@@ -173,13 +176,13 @@ module _ (c : Setting) (l : Hashed) (tensor level free p x : ℕ) (e : KExpr) (s
       → f n ≢ empty_slot → value (filled_test tensor level g) t ≡ Some 1
   filled_yes n g t stored is below e =
       differ_yes (At (Coordinates tensor level) g) (Num empty_slot) (f n) empty_slot t
-          (slot_read l p tensor level n g t ok stored is below) refl e
+      (slot_read l p tensor level n g t ok stored is below) refl e
 
   filled_no : (n : ℕ) (g : KExpr) (t : State) → Holds l tensor level t.arrays → value g t ≡ Some n → n < base_of l p + w
       → f n ≡ empty_slot → value (filled_test tensor level g) t ≡ Some 0
   filled_no n g t stored is below e =
       differ_no (At (Coordinates tensor level) g) (Num empty_slot) (f n) empty_slot t
-          (slot_read l p tensor level n g t ok stored is below) refl e
+      (slot_read l p tensor level n g t ok stored is below) refl e
 
   more_yes : (steps : ℕ) (t : State) → Holds l tensor level t.arrays → t.vars (free + 2) ≡ Some steps → steps < w
       → value (more_test tensor level free) t ≡ Some 1
@@ -223,20 +226,29 @@ module _ (c : Setting) (l : Hashed) (tensor level free p x : ℕ) (e : KExpr) (s
       let other = other_test tensor level (slot_word free) e in
       let filled = filled_test tensor level (slot_word free) in
       elim (eqb_tells (f (q steps)) empty_slot) [
-        | inl k ↦ inl (second_no (more_test tensor level free) (Bin And filled other) t more
-            (first_no filled other t (filled_no (q steps) (slot_word free) t stored slot (below_q steps) k.1)), found_at steps t less h
-                (inl k.1))
+        | inl k ↦ inl (
+          second_no (more_test tensor level free) (Bin And filled other) t more
+              (first_no filled other t (filled_no (q steps) (slot_word free) t stored slot (below_q steps) k.1)),
+          found_at steps t less h
+              (inl k.1),
+        )
         | inr k ↦
             let yes = filled_yes (q steps) (slot_word free) t stored slot (below_q steps) k.1 in
             elim (eqb_tells (f (q steps)) x) [
-              | inl m ↦ inl (second_no (more_test tensor level free) (Bin And filled other) t more
-                  (second_no filled other t yes
-                      (differ_no (At (Coordinates tensor level) (slot_word free)) e (f (q steps)) x t read coordinate m.1)), found_at
-                          steps t less h (inr m.1))
-              | inr m ↦ inr (both_yes (more_test tensor level free) (Bin And filled other) t more
-                  (both_yes filled other t yes
-                      (differ_yes (At (Coordinates tensor level) (slot_word free)) e (f (q steps)) x t read coordinate m.1)), passes_more
-                          f w (base_of l p) x steps h.passes k.1 m.1)
+              | inl m ↦ inl (
+                second_no (more_test tensor level free) (Bin And filled other) t more
+                    (second_no filled other t yes
+                    (differ_no (At (Coordinates tensor level) (slot_word free)) e (f (q steps)) x t read coordinate m.1)),
+                found_at
+                    steps t less h (inr m.1),
+              )
+              | inr m ↦ inr (
+                both_yes (more_test tensor level free) (Bin And filled other) t more
+                    (both_yes filled other t yes
+                    (differ_yes (At (Coordinates tensor level) (slot_word free)) e (f (q steps)) x t read coordinate m.1)),
+                passes_more
+                    f w (base_of l p) x steps h.passes k.1 m.1,
+              )
             ]
       ]
 
@@ -247,14 +259,14 @@ module _ (c : Setting) (l : Hashed) (tensor level free p x : ℕ) (e : KExpr) (s
       let v = (x + (steps + 1)) % w in
       let t2 = set_var t1 (free + 1) v in
       let turned = leaves_wider NoVariable NoVariable EveryArray EveryArray free (λ k. turns_of Probe steps k + turn_of Probe k)
-          (turns_of Probe (steps + 1)) s t1 (λ y m. m) (λ a m. m) (turns_add steps)
-              (leaves_then NoVariable EveryArray free (turns_of Probe steps) (turn_of Probe) s t t1 h.leaves
-                  (leaves_turn NoVariable EveryArray free t Probe)) in
+      (turns_of Probe (steps + 1)) s t1 (λ y m. m) (λ a m. m) (turns_add steps)
+      (leaves_then NoVariable EveryArray free (turns_of Probe steps) (turn_of Probe) s t t1 h.leaves
+      (leaves_turn NoVariable EveryArray free t Probe)) in
       record {
         leaves = leaves_set NoVariable EveryArray free (turns_of Probe (steps + 1)) s t2 (free + 2) (steps + 1)
             (λ y g is. omega (arith, g, is))
-                (leaves_set NoVariable EveryArray free (turns_of Probe (steps + 1)) s t1 (free + 1) v
-                    (λ y g is. omega (arith, g, is)) turned);
+            (leaves_set NoVariable EveryArray free (turns_of Probe (steps + 1)) s t1 (free + 1) v
+            (λ y g is. omega (arith, g, is)) turned);
         base = other_var t2 (free + 2) free (steps + 1) (λ is. omega (arith, is))
             ∙ other_var t1 (free + 1) free v (λ is. omega (arith, is)) ∙ h.base;
         at = other_var t2 (free + 2) (free + 1) (steps + 1) (λ is. omega (arith, is)) ∙ this_var t1 (free + 1) v;
@@ -265,7 +277,7 @@ module _ (c : Setting) (l : Hashed) (tensor level free p x : ℕ) (e : KExpr) (s
 
   step_does : (steps : ℕ) (t : State) (P : State → Type 0) → steps < w → Seeking l free p x s steps t
       → P (set_var (set_var (one_turn t Probe) (free + 1) ((x + (steps + 1)) % w)) (free + 2) (steps + 1))
-          → Does c (search_step tensor level free) (one_turn t Probe) P Never
+      → Does c (search_step tensor level free) (one_turn t Probe) P Never
   step_does steps t P less h done =
       let t1 = one_turn t Probe in
       let v = (x + (steps + 1)) % w in
@@ -276,11 +288,11 @@ module _ (c : Setting) (l : Hashed) (tensor level free p x : ℕ) (e : KExpr) (s
       let within : (x + steps) % w < w = mod_below (x + steps) w (omega (arith, wide)) in
       let next = sum_is (Var (free + 1)) (Num 1) ((x + steps) % w) 1 t1 h.at refl (omega (arith, within, small)) in
       let wrapped = wrapped_is l p tensor level ((x + steps) % w + 1) (Bin Add (Var (free + 1)) (Num 1)) t1 ok stored next
-          ∙ ap Some (place_next w x steps) in
+      ∙ ap Some (place_next w x steps) in
       let counted = sum_is (Var (free + 2)) (Num 1) steps 1 t2 (other_var t1 (free + 1) (free + 2) v (λ is. omega (arith, is))
-          ∙ h.count) refl (omega (arith, less, small)) in
+      ∙ h.count) refl (omega (arith, less, small)) in
       does_set c (free + 1) (wrapped_word tensor level (Bin Add (Var (free + 1)) (Num 1)))
-          (Set (free + 2) (Bin Add (Var (free + 2)) (Num 1)) ∷ []) t1 v P Never wrapped
+      (Set (free + 2) (Bin Add (Var (free + 2)) (Num 1)) ∷ []) t1 v P Never wrapped
       (does_set c (free + 2) (Bin Add (Var (free + 2)) (Num 1)) [] t2 (steps + 1) P Never counted
       (does_nothing c (set_var t2 (free + 2) (steps + 1)) P Never done))
 
@@ -299,8 +311,8 @@ module _ (c : Setting) (l : Hashed) (tensor level free p x : ℕ) (e : KExpr) (s
       let all = i.all in
       let stored = held_kept l tensor level free (turns_of Probe i.steps) s t h.leaves held in
       first_no (more_test tensor level free)
-          (Bin And (filled_test tensor level (slot_word free)) (other_test tensor level (slot_word free) e)) t
-              (more_no i.steps t stored h.count (omega (arith, all)))
+      (Bin And (filled_test tensor level (slot_word free)) (other_test tensor level (slot_word free) e)) t
+      (more_no i.steps t stored h.count (omega (arith, all)))
 
   missed_at : (steps : ℕ) (t : State) → steps ≡ w → Seeking l free p x s steps t → Missed l free p x s t
   missed_at steps t is h = record {
@@ -313,7 +325,7 @@ module _ (c : Setting) (l : Hashed) (tensor level free p x : ℕ) (e : KExpr) (s
   ends zero t i v = let all = i.all in inr (missed_at i.steps t (omega (arith, all)) i.seeking)
   ends (suc n) t i v = let all =
       i.all in elim (look i.steps t (omega (arith, all)) i.seeking)
-          [ inl k ↦ inl k.1 | inr k ↦ absurd (one_is_none (value (search_test tensor level e free) t) k.0 v) ]
+      [ inl k ↦ inl k.1 | inr k ↦ absurd (one_is_none (value (search_test tensor level e free) t) k.0 v) ]
 
   turns : (n : ℕ) (t : State) → Left (suc n) t
       → Turn c Probe (search_test tensor level e free) (search_step tensor level free) t (Left n) (Sought l free p x s) Never
@@ -331,7 +343,7 @@ module _ (c : Setting) (l : Hashed) (tensor level free p x : ℕ) (e : KExpr) (s
       let s3 = set_var s2 (free + 2) 0 in
       let most = turns_of Probe 0 in
       let left1 = leaves_set NoVariable EveryArray free most s s free (base_of l p) (λ y h is. omega (arith, h, is))
-          (leaves_none NoVariable EveryArray free most s) in
+      (leaves_none NoVariable EveryArray free most s) in
       let left2 = leaves_set NoVariable EveryArray free most s s1 (free + 1) (x % w) (λ y h is. omega (arith, h, is)) left1 in
       let left3 = leaves_set NoVariable EveryArray free most s s2 (free + 2) 0 (λ y h is. omega (arith, h, is)) left2 in
       let start : Seeking l free p x s 0 s3 = record {
@@ -344,15 +356,15 @@ module _ (c : Setting) (l : Hashed) (tensor level free p x : ℕ) (e : KExpr) (s
         passes = record { filled = λ k h. absurd (omega (arith, h)); passed = λ k h. absurd (omega (arith, h)) };
       } in
       does_set c free (base_word tensor level g) (Set (free + 1) (wrapped_word tensor level e) ∷ Set (free + 2) (Num 0)
-          ∷ While Probe (search_test tensor level e free) (search_step tensor level free)
-              ∷ []) s (base_of l p) _ Never (base_is l p tensor level g s ok held gv)
+      ∷ While Probe (search_test tensor level e free) (search_step tensor level free)
+      ∷ []) s (base_of l p) _ Never (base_is l p tensor level g s ok held gv)
       (does_set c (free + 1) (wrapped_word tensor level e) (Set (free + 2) (Num 0)
-          ∷ While Probe (search_test tensor level e free) (search_step tensor level free)
-              ∷ []) s1 (x % w) _ Never (wrapped_is l p tensor level x e s1 ok held (x_kept most s1 left1))
+      ∷ While Probe (search_test tensor level e free) (search_step tensor level free)
+      ∷ []) s1 (x % w) _ Never (wrapped_is l p tensor level x e s1 ok held (x_kept most s1 left1))
       (does_set c (free + 2) (Num 0) (While Probe (search_test tensor level e free) (search_step tensor level free) ∷ []) s2 0 _ Never refl
       (does_while c Probe (search_test tensor level e free) (search_step tensor level free) [] Left (Sought l free p x s)
-          (Sought l free p x s) Never ends_none ends turns w s3 (record { steps = 0; all = omega arith; seeking = start })
-              (λ t h. does_nothing c t (Sought l free p x s) Never h))))
+      (Sought l free p x s) Never ends_none ends turns w s3 (record { steps = 0; all = omega arith; seeking = start })
+      (λ t h. does_nothing c t (Sought l free p x s) Never h))))
 
   slot_found : (t : State) (h : Found l free p x s t) → (u : State) → u.vars free ≡ t.vars free → u.vars (free + 1) ≡ t.vars (free + 1)
       → value (slot_word free) u ≡ Some h.slot
@@ -362,7 +374,7 @@ module _ (c : Setting) (l : Hashed) (tensor level free p x : ℕ) (e : KExpr) (s
       let below = h.inside in
       let position = h.position in
       sum_is (Var free) (Var (free + 1)) (base_of l p) h.within u (first ∙ h.base) (second
-          ∙ h.at) (omega (arith, inside, small, below, position)) ∙ ap Some h.position
+      ∙ h.at) (omega (arith, inside, small, below, position)) ∙ ap Some h.position
 
   abbrev pub Located : State → Type 0
   Located u = Leaves NoVariable EveryArray free (turns_of Probe (base_of l p + w - base_of l p)) s u
@@ -372,7 +384,7 @@ module _ (c : Setting) (l : Hashed) (tensor level free p x : ℕ) (e : KExpr) (s
       → Leaves NoVariable EveryArray free (turns_of Probe (base_of l p + w - base_of l p)) s t
   wider t leaves = leaves_wider NoVariable NoVariable EveryArray EveryArray free (turns_of Probe w)
       (turns_of Probe (base_of l p + w - base_of l p)) s t (λ y m. m) (λ a m. m)
-          (turns_more w (base_of l p + w - base_of l p) (omega arith)) leaves
+      (turns_more w (base_of l p + w - base_of l p) (omega arith)) leaves
 
   none_left : (t : State) → Leaves NoVariable EveryArray free (turns_of Probe w) s t → position_of (entries_of l (one p)) x ≡ None
       → Does c (one_code free (Num 0)) t Located Never
@@ -380,9 +392,11 @@ module _ (c : Setting) (l : Hashed) (tensor level free p x : ℕ) (e : KExpr) (s
       let most = turns_of Probe (base_of l p + w - base_of l p) in
       let u = set_var t free 0 in
       does_set c free (Num 0) [] t 0 Located Never refl
-      (does_nothing c u Located Never
-          (leaves_set NoVariable EveryArray free most s t free 0 (λ y h is. omega (arith, h, is)) (wider t leaves), subst
-              (λ o. OptionLeft free o u) (sym none) (this_var t free 0)))
+      (does_nothing c u Located Never (
+        leaves_set NoVariable EveryArray free most s t free 0 (λ y h is. omega (arith, h, is)) (wider t leaves),
+        subst
+            (λ o. OptionLeft free o u) (sym none) (this_var t free 0),
+      ))
 
   some_left : (t : State) (h : Found l free p x s t) → position_of (entries_of l (one p)) x ≡ Some h.slot
       → Does c (found_code free) t Located Never
@@ -395,8 +409,11 @@ module _ (c : Setting) (l : Hashed) (tensor level free p x : ℕ) (e : KExpr) (s
       (does_nothing c u Located Never (
         leaves_set NoVariable EveryArray free most s t1 free 1 (λ y g is. omega (arith, g, is))
             (leaves_set NoVariable EveryArray free most s t (free + 1) h.slot (λ y g is. omega (arith, g, is)) (wider t h.leaves)),
-        subst (λ o. OptionLeft free o u) (sym some) (this_var t1 free 1, other_var t1 free (free + 1) 1 (λ is. omega (arith, is))
-            ∙ this_var t (free + 1) h.slot),
+        subst (λ o. OptionLeft free o u) (sym some) (
+          this_var t1 free 1,
+          other_var t1 free (free + 1) 1 (λ is. omega (arith, is))
+              ∙ this_var t (free + 1) h.slot,
+        ),
       )))
 
   located_end : (t : State) → Sought l free p x s t
@@ -408,27 +425,27 @@ module _ (c : Setting) (l : Hashed) (tensor level free p x : ℕ) (e : KExpr) (s
       elim (eqb_tells (f h.slot) empty_slot) [
         | inl k ↦ does_if_no c (found_test tensor level free) (found_code free) (one_code free (Num 0)) [] t Located Located Never
             (second_no (more_test tensor level free) (filled_test tensor level (slot_word free)) t more
-                (filled_no h.slot (slot_word free) t stored slot h.inside k.1))
-                    (none_left t h.leaves (not_there f l.size w (base_of l p) x h.slot (ok.rules.blocks p ok.prepared) h.stops k.1))
-                        (λ u g. does_nothing c u Located Never g)
+            (filled_no h.slot (slot_word free) t stored slot h.inside k.1))
+            (none_left t h.leaves (not_there f l.size w (base_of l p) x h.slot (ok.rules.blocks p ok.prepared) h.stops k.1))
+            (λ u g. does_nothing c u Located Never g)
         | inr k ↦ does_if_yes c (found_test tensor level free) (found_code free) (one_code free (Num 0)) [] t 0 Located Located Never
             (both_yes (more_test tensor level free) (filled_test tensor level (slot_word free)) t more
-                (filled_yes h.slot (slot_word free) t stored slot h.inside k.1))
-                    (some_left t h (found_filled f l.size w (base_of l p) x h.slot (ok.rules.blocks p ok.prepared) h.stops k.1))
-                        (λ u g. does_nothing c u Located Never g)
+            (filled_yes h.slot (slot_word free) t stored slot h.inside k.1))
+            (some_left t h (found_filled f l.size w (base_of l p) x h.slot (ok.rules.blocks p ok.prepared) h.stops k.1))
+            (λ u g. does_nothing c u Located Never g)
       ]
   located_end t (inr h) =
       let stored = held_kept l tensor level free (turns_of Probe w) s t h.leaves held in
       does_if_no c (found_test tensor level free) (found_code free) (one_code free (Num 0)) [] t Located Located Never
-          (first_no (more_test tensor level free) (filled_test tensor level (slot_word free)) t
-              (more_no w t stored h.count (omega arith))) (none_left t h.leaves (nowhere f w (base_of l p) x h.passes))
-                  (λ u g. does_nothing c u Located Never g)
+      (first_no (more_test tensor level free) (filled_test tensor level (slot_word free)) t
+      (more_no w t stored h.count (omega arith))) (none_left t h.leaves (nowhere f w (base_of l p) x h.passes))
+      (λ u g. does_nothing c u Located Never g)
 
   -- the code of `locate` leaves the position
   pub locate_runs : (g : KExpr) → value g s ≡ Some p → Does c (locate_code tensor level g e free) s Located Never
   locate_runs g gv = does_append c (search_code tensor level g e free)
       (If (found_test tensor level free) (found_code free) (one_code free (Num 0))
-          ∷ []) s (Sought l free p x s) Located Never (search_does g gv) located_end
+      ∷ []) s (Sought l free p x s) Located Never (search_does g gv) located_end
 
   abbrev pub Stored : State → Type 0
   Stored u = Leaves NoVariable (IsOutside tensor level) free (turns_of Probe (base_of l p + w - base_of l p)) s u
@@ -436,7 +453,7 @@ module _ (c : Setting) (l : Hashed) (tensor level free p x : ℕ) (e : KExpr) (s
 
   put_end : (t : State) → tensor ≡ 0 → MayInsert HashedLetter l.size (segment_of l (one p)) (entries_of l (one p)) x
       → (h : Found l free p x s t) → FirstEmpty f w (base_of l p) x h.slot
-          → Does c (Put (Coordinates tensor level) (slot_word free) e ∷ Set free (slot_word free) ∷ []) t Stored Never
+      → Does c (Put (Coordinates tensor level) (slot_word free) e ∷ Set free (slot_word free) ∷ []) t Stored Never
   put_end t result may h first =
       let most = turns_of Probe (base_of l p + w - base_of l p) in
       let stored = held_kept l tensor level free (turns_of Probe w) s t h.leaves held in
@@ -447,22 +464,25 @@ module _ (c : Setting) (l : Hashed) (tensor level free p x : ℕ) (e : KExpr) (s
       let t1 = set_array t (Coordinates tensor level) xs in
       let u = set_var t1 free h.slot in
       does_put c (Coordinates tensor level) (slot_word free) e (Set free (slot_word free)
-          ∷ []) t h.slot x l.slots Stored Never (slot_found t h t refl refl) (x_kept (turns_of Probe w) t h.leaves) written stored.slots
-              (omega (arith, inside, below))
+      ∷ []) t h.slot x l.slots Stored Never (slot_found t h t refl refl) (x_kept (turns_of Probe w) t h.leaves) written stored.slots
+      (omega (arith, inside, below))
       (does_set c free (slot_word free) [] t1 h.slot Stored Never (slot_found t h t1 refl refl)
       (does_nothing c u Stored Never (
         leaves_set NoVariable (IsOutside tensor level) free most s t1 free h.slot (λ y g is. omega (arith, g, is))
             (leaves_array NoVariable (IsOutside tensor level) free most s t (Coordinates tensor level) xs
-                (λ b out. outside_apart tensor level (Coordinates tensor level) b (refl, refl) out)
+            (λ b out. outside_apart tensor level (Coordinates tensor level) b (refl, refl) out)
             (leaves_wider NoVariable NoVariable EveryArray (IsOutside tensor level) free most most s t (λ y m. m) (λ a m. tt)
-                (λ k. omega arith) (wider t h.leaves))),
+            (λ k. omega arith) (wider t h.leaves))),
         record {
           left = with_coordinate l x h.slot;
           slot = h.slot;
           keeps = inserted_keeps l p x h.slot ok may first;
           inserted = record { first = first; level = refl };
-          held = record { width = stored.width; slots =
-              this_array t (Coordinates tensor level) (Coordinates tensor level) xs (same_arr_self (Coordinates tensor level)) };
+          held = record {
+            width = stored.width;
+            slots =
+                this_array t (Coordinates tensor level) (Coordinates tensor level) xs (same_arr_self (Coordinates tensor level));
+          };
           answer = this_var t1 free h.slot;
         },
       )))
@@ -476,7 +496,7 @@ module _ (c : Setting) (l : Hashed) (tensor level free p x : ℕ) (e : KExpr) (s
   -- the code of `insert_coord` puts the coordinate where it belongs
   pub insert_runs : (g : KExpr) → value g s ≡ Some p → tensor ≡ 0
       → MayInsert HashedLetter l.size (segment_of l (one p)) (entries_of l (one p)) x
-          → Does c (insert_code tensor level g e free) s Stored Never
+      → Does c (insert_code tensor level g e free) s Stored Never
   insert_runs g gv result may =
       does_append c (search_code tensor level g e free) (Put (Coordinates tensor level) (slot_word free) e ∷ Set free (slot_word free)
-          ∷ []) s (Sought l free p x s) Stored Never (search_does g gv) (λ t h. inserted_end t result may h)
+      ∷ []) s (Sought l free p x s) Stored Never (search_does g gv) (λ t h. inserted_end t result may h)

@@ -67,7 +67,7 @@ not_there f n w base x slot b s empty = filled_none f x w base (λ q l m e same.
     let is : f (base + (q - base)) ≡ x = ap f at ∙ same in
     let r = b.reached (q - base) (omega (arith, l, m)) (λ z. e (ap f (sym at) ∙ z)) in
     no_two f w base x slot (q - base) r.steps s.steps is (λ z. e (same ∙ z)) (ap (λ y. (y + r.steps) % w) (sym is)
-        ∙ r.at) (subst (λ y. FilledBefore f w base y r.steps) is r.filled) s.at empty s.passed (three_ways r.steps s.steps))
+    ∙ r.at) (subst (λ y. FilledBefore f w base y r.steps) is r.filled) s.at empty s.passed (three_ways r.steps s.steps))
 
 -- one that has passed all slots, too
 pub nowhere : (f : ℕ → ℕ) (w base x : ℕ) → Passes f w base x w → position_of (filled f w base) x ≡ None
@@ -91,10 +91,16 @@ free_stops f w base x r filled =
 pub passes_more : (f : ℕ → ℕ) (w base x d : ℕ) → Passes f w base x d → f (place w base x d) ≢ empty_slot → f (place w base x d) ≢ x
     → Passes f w base x (d + 1)
 passes_more f w base x d p e n = record {
-  filled = λ k h. elim (eqb_tells k d) [ inl m ↦ λ z. e (ap (λ j. f (place w base x j)) (sym m.1)
-      ∙ z) | inr m ↦ p.filled k (omega (arith, h, m.1)) ];
-  passed = λ k h. elim (eqb_tells k d) [ inl m ↦ λ z. n (ap (λ j. f (place w base x j)) (sym m.1)
-      ∙ z) | inr m ↦ p.passed k (omega (arith, h, m.1)) ];
+  filled = λ k h. elim (eqb_tells k d) [
+    | inl m ↦ λ z. e (ap (λ j. f (place w base x j)) (sym m.1)
+        ∙ z)
+    | inr m ↦ p.filled k (omega (arith, h, m.1))
+  ];
+  passed = λ k h. elim (eqb_tells k d) [
+    | inl m ↦ λ z. n (ap (λ j. f (place w base x j)) (sym m.1)
+        ∙ z)
+    | inr m ↦ p.passed k (omega (arith, h, m.1))
+  ];
 }
 
 stops_filled : (f : ℕ → ℕ) (x slot : ℕ) → (f slot ≡ empty_slot) ⊎ (f slot ≡ x) → f slot ≢ empty_slot → f slot ≡ x

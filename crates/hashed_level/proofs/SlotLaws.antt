@@ -52,9 +52,9 @@ longer_slot v u pos es = slot_cases (λ fs. length fs ≤ length (with_slot u po
 longer_behind : (v pos : ℕ) (es fs : List Entry) → length es ≤ length fs + 1 → length (with_slot v pos es) ≤ length (with_slot v pos fs) + 1
 longer_behind v pos es fs h =
     elim (v == empty_slot) as (λ b. length (if b then es else entry_at v pos ∷ es) ≤ length (if b then fs else entry_at v pos ∷ fs) + 1) [
-  | true ↦ h
-  | false ↦ omega (arith, h)
-]
+      | true ↦ h
+      | false ↦ omega (arith, h)
+    ]
 
 -- at most one entry more
 pub filled_longer : (f g : ℕ → ℕ) (slot x count pos : ℕ) → Puts f g slot x → length (filled g count pos) ≤ length (filled f count pos) + 1
@@ -63,11 +63,11 @@ filled_longer f g slot x (suc count) pos p = elim (eqb_tells pos slot) [
   | inl k ↦
       let here = k.1 in
       let rest : filled g count (pos + 1) ≡ filled f count (pos + 1) =
-          filled_same f g count (pos + 1) (λ q l m. p.others q (λ is. omega (arith, l, is, here))) in
+      filled_same f g count (pos + 1) (λ q l m. p.others q (λ is. omega (arith, l, is, here))) in
       subst (λ es. length (with_slot (g pos) pos es) ≤ length (with_slot (f pos) pos (filled f count (pos + 1))) + 1) (sym rest)
-          (longer_slot (g pos) (f pos) pos (filled f count (pos + 1)))
+      (longer_slot (g pos) (f pos) pos (filled f count (pos + 1)))
   | inr k ↦
       subst (λ v. length (with_slot v pos (filled g count (pos + 1))) ≤ length (with_slot (f pos) pos (filled f count (pos + 1))) + 1)
-          (sym (p.others pos k.1))
-              (longer_behind (f pos) pos (filled g count (pos + 1)) (filled f count (pos + 1)) (filled_longer f g slot x count (pos + 1) p))
+      (sym (p.others pos k.1))
+      (longer_behind (f pos) pos (filled g count (pos + 1)) (filled f count (pos + 1)) (filled_longer f g slot x count (pos + 1) p))
 ]

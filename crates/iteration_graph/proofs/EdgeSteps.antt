@@ -32,7 +32,7 @@ more (v ∷ w ∷ rest) (suc k) d h = ap (λ es. (v, w) ∷ es) (more (w ∷ res
 pub next_edge : (levels : List FormatLevel) (vars : List ℕ) (level upper lower : ℕ) → 1 ≤ level → level < length levels
     → slice_get (modes_of levels) (level - 1) ≡ Some upper → slice_get (modes_of levels) level ≡ Some lower
     → neighbours (take (level + 1) (by_level levels vars)) ≡ neighbours (take level (by_level levels vars))
-        ++ (slice_index vars upper, slice_index vars lower) ∷ []
+    ++ (slice_index vars upper, slice_index vars lower) ∷ []
 next_edge levels vars level upper lower first last above below =
     let k = level - 1 in
     let here : level ≡ suc k = omega (arith, first) in
@@ -43,7 +43,7 @@ next_edge levels vars level upper lower first last above below =
     let bottom = stands levels vars (suc k) lower (ap (slice_get (modes_of levels)) (sym here) ∙ below) in
     ap (λ n. neighbours (take n (by_level levels vars))) next ∙ there
     ∙ ap (λ es. es ++ (slice_index_or (by_level levels vars) k 0, slice_index_or (by_level levels vars) (suc k) 0)
-        ∷ []) (ap (λ n. neighbours (take n (by_level levels vars))) (sym here))
+    ∷ []) (ap (λ n. neighbours (take n (by_level levels vars))) (sym here))
     ∙ ap (λ u. neighbours (take level (by_level levels vars)) ++ (u, slice_index_or (by_level levels vars) (suc k) 0) ∷ []) top
     ∙ ap (λ w. neighbours (take level (by_level levels vars)) ++ (slice_index vars upper, w) ∷ []) bottom
   where
@@ -61,8 +61,8 @@ pub dense_gives_none : (levels : List FormatLevel) (vars : List ℕ) → All (λ
     → access_edges levels vars ≡ []
 dense_gives_none levels vars all =
     ap (λ t. if t then [] else neighbours (by_level levels vars))
-        (list_all-from_AllPass (λ level. (properties level.letter).full) levels
-            (λ k d h. ap (λ letter. (properties letter).full) (all k d h)))
+    (list_all-from_AllPass (λ level. (properties level.letter).full) levels
+    (λ k d h. ap (λ letter. (properties letter).full) (all k d h)))
 
 pub sparse_gives_all : (levels : List FormatLevel) (vars : List ℕ) → (All (λ level. level.letter ≡ Dense) levels → ⊥)
     → access_edges levels vars ≡ neighbours (by_level levels vars)
@@ -72,5 +72,5 @@ sparse_gives_all levels vars some = by_test (list_all (λ level. (properties lev
         → access_edges levels vars ≡ neighbours (by_level levels vars)
     by_test true is = absurd
         (some (λ k d h. dense_is (slice_index_or levels k d).letter
-            (AllPass-from_list_all (λ level. (properties level.letter).full) levels is k d h)))
+        (AllPass-from_list_all (λ level. (properties level.letter).full) levels is k d h)))
     by_test false is = ap (λ t. if t then [] else neighbours (by_level levels vars)) is

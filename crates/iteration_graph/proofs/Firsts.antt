@@ -16,12 +16,22 @@ found_from passes k (suc count) v h = by_test (passes k) refl h (found_from pass
         → (first_from passes (k + 1) count ≡ Some v → IsFirst passes (k + 1) (k + 1 + count) v) → IsFirst passes k (k + suc count) v
     by_test true is h later =
         let same : k ≡ v = cc in
-        record { here = omega (arith, same); within = omega (arith, same); passes_it = subst (λ u. passes u ≡ true) same is; others =
-            λ u g l. absurd (omega (arith, same, g, l)) }
+        record {
+          here = omega (arith, same);
+          within = omega (arith, same);
+          passes_it = subst (λ u. passes u ≡ true) same is;
+          others =
+              λ u g l. absurd (omega (arith, same, g, l));
+        }
     by_test false is h later =
         let f = later h in
-        record { here = omega (arith, f.here); within = omega (arith, f.within); passes_it = f.passes_it; others =
-            λ u g l. before f u g l (cases_lt k u) }
+        record {
+          here = omega (arith, f.here);
+          within = omega (arith, f.within);
+          passes_it = f.passes_it;
+          others =
+              λ u g l. before f u g l (cases_lt k u);
+        }
       where
         before : IsFirst passes (k + 1) (k + 1 + count) v → (u : ℕ) → k ≤ u → u < v → (k < u) ⊎ (u ≤ k) → passes u ≡ false
         before f u g l (inl later) = f.others u (omega (arith, later)) l

@@ -26,7 +26,7 @@ below_or_here j i h = grind arith
 -- one more name that isn't this one
 pub before_more : (ws : List Words) (i : ℕ) (a : Arr) (w : Words) → i < length ws → same_arr (slice_index_or ws i w).name a ≡ false
     → ((j : ℕ) (d : Words) → j < i → same_arr (slice_index_or ws j d).name a ≡ false) → (j : ℕ) (d : Words) → j < i + 1
-        → same_arr (slice_index_or ws j d).name a ≡ false
+    → same_arr (slice_index_or ws j d).name a ≡ false
 before_more ws i a w l h before j d lt = elim (below_or_here j i lt) [
   | inl below ↦ before j d below
   | inr here ↦ ap (λ k. same_arr (slice_index_or ws k d).name a) here ∙ ap (λ v. same_arr v.name a) (at_any ws i d w l) ∙ h
@@ -72,7 +72,7 @@ replaced (w ∷ ws) zero a b new d l n h e =
 replaced (w ∷ ws) (suc i) a b new d l n h e =
     ap (chosen (same_arr w.name b) (Some w.words.items)) (replaced ws i a b new d (omega arith) n (λ j lt. h (suc j) (omega arith)) e)
     ∙ sym (chosen_apart (same_arr a b) (same_arr w.name b) (Some new.words.items) (Some w.words.items) (array_of ws b)
-        (not_both w.name a b (h 0 (omega arith))))
+    (not_both w.name a b (h 0 (omega arith))))
 
 -- an array replaced at the place of its name
 pub array_of_set : (ws : List Words) (a : Arr) (i : ℕ) (new : Words) → IsPlaceOf ws a i → new.name ≡ a

@@ -34,7 +34,7 @@ does_nothing c s P R h = record { enough = 0; outcome = Ended s; reached = λ m 
 
 then_assoc : (c : Setting) (n : ℕ) (a b : List KStmt) (o : Outcome)
     → ((s : State) → run_list c n (a ++ b) s ≡ then_run (run_list c n a s) (run_list c n b))
-        → then_run o (run_list c n (a ++ b)) ≡ then_run (then_run o (run_list c n a)) (run_list c n b)
+    → then_run o (run_list c n (a ++ b)) ≡ then_run (then_run o (run_list c n a)) (run_list c n b)
 then_assoc c n a b (Ended s') h = h s'
 then_assoc c n a b (Stuck t) h = refl
 then_assoc c n a b (Over t x count) h = refl
@@ -122,7 +122,7 @@ pub does_combine : (c : Setting) (x : ℕ) (o : ValueOp) (e f : KExpr) (rest : L
 does_combine c x o e f rest s v w P R he hf d =
     does_ended c (Combine x o e f) rest s (set_var s x (combined c.arithmetic o v w)) P R
     (λ m. ap (λ u. set_outcome s x (apply_each (combined c.arithmetic o) u (value f s))) he
-        ∙ ap (λ u. set_outcome s x (apply_each (combined c.arithmetic o) (Some v) u)) hf) d
+    ∙ ap (λ u. set_outcome s x (apply_each (combined c.arithmetic o) (Some v) u)) hf) d
 
 pub does_put : (c : Setting) (a : Arr) (i e : KExpr) (rest : List KStmt) (s : State) (j v : ℕ) (xs : List ℕ) (P : State
     → Type 0) (R : Refusal) → value i s ≡ Some j → value e s ≡ Some v → may_write a ≡ true → s.arrays a ≡ Some xs → j < length xs
@@ -130,7 +130,7 @@ pub does_put : (c : Setting) (a : Arr) (i e : KExpr) (rest : List KStmt) (s : St
 does_put c a i e rest s j v xs P R hi he w ha l d =
     does_ended c (Put a i e) rest s (set_array s a (slice_set xs j v)) P R
     (λ m. ap (λ o. put_outcome s a o (value e s)) hi ∙ ap (put_outcome s a (Some j)) he
-        ∙ with_array_is s a xs (changed s a j (λ old. v)) w ha ∙ changed_is s a j (λ old. v) xs l) d
+    ∙ with_array_is s a xs (changed s a j (λ old. v)) w ha ∙ changed_is s a j (λ old. v) xs l) d
 
 pub does_add_to : (c : Setting) (a : Arr) (i e : KExpr) (rest : List KStmt) (s : State) (j v : ℕ) (xs : List ℕ) (P : State
     → Type 0) (R : Refusal) → value i s ≡ Some j → value e s ≡ Some v → may_write a ≡ true → s.arrays a ≡ Some xs → j < length xs
@@ -138,14 +138,14 @@ pub does_add_to : (c : Setting) (a : Arr) (i e : KExpr) (rest : List KStmt) (s :
 does_add_to c a i e rest s j v xs P R hi he w ha l d =
     does_ended c (AddTo a i e) rest s (set_array s a (slice_set xs j (sum_in c.arithmetic a (slice_index xs j) v))) P R
     (λ m. ap (λ o. add_outcome c.arithmetic s a o (value e s)) hi ∙ ap (add_outcome c.arithmetic s a (Some j)) he
-        ∙ with_array_is s a xs (changed s a j (λ old. sum_in c.arithmetic a old v)) w ha
-            ∙ changed_is s a j (λ old. sum_in c.arithmetic a old v) xs l) d
+    ∙ with_array_is s a xs (changed s a j (λ old. sum_in c.arithmetic a old v)) w ha
+    ∙ changed_is s a j (λ old. sum_in c.arithmetic a old v) xs l) d
 
 -- a growth that is allowed goes on, and one that isn't is refused
 grows : (c : Setting) (k : KStmt) (rest : List KStmt) (s : State) (a : Arr) (count : ℕ) (xs more : List ℕ) (P : State
     → Type 0) (R : Refusal) (b : Bool) → may_have a count ≡ b → ((m : ℕ) → run c m k s ≡ grown s a count xs more)
     → (may_have a count ≡ true → Does c rest (set_array s a (xs ++ more)) P R)
-        → (may_have a count ≡ false → R s.turns a (told_count a count)) → Does c (k ∷ rest) s P R
+    → (may_have a count ≡ false → R s.turns a (told_count a count)) → Does c (k ∷ rest) s P R
 grows c k rest s a count xs more P R true is h go over = does_ended c k rest s (set_array s a (xs ++ more)) P R (λ m. h m
     ∙ grown_is s a count xs more is) (go is)
 grows c k rest s a count xs more P R false is h go over = does_over c k rest s s.turns a (told_count a count) P R (λ m. h m
@@ -168,24 +168,24 @@ pub does_extend : (c : Setting) (a : Arr) (n e : KExpr) (rest : List KStmt) (s :
 does_extend c a n e rest s k v xs P R hn he w ha go over =
     grows c (Extend a n e) rest s a (length xs + k) xs (replicate k v) P R (may_have a (length xs + k)) refl
     (λ m. ap (λ o. extend_outcome s a o (value e s)) hn ∙ ap (extend_outcome s a (Some k)) he
-        ∙ with_array_is s a xs (λ xs. grown s a (length xs + k) xs (replicate k v)) w ha) go over
+    ∙ with_array_is s a xs (λ xs. grown s a (length xs + k) xs (replicate k v)) w ha) go over
 
 pub does_cut : (c : Setting) (a : Arr) (e : KExpr) (rest : List KStmt) (s : State) (n : ℕ) (xs : List ℕ) (P : State
     → Type 0) (R : Refusal) → value e s ≡ Some n → may_write a ≡ true → s.arrays a ≡ Some xs → Does c rest (set_array s a (take n xs)) P R
-        → Does c (Cut a e ∷ rest) s P R
+    → Does c (Cut a e ∷ rest) s P R
 does_cut c a e rest s n xs P R he w ha d =
     does_ended c (Cut a e) rest s (set_array s a (take n xs)) P R (λ m. ap (cut_outcome s a) he
-        ∙ with_array_is s a xs (λ xs. Ended (set_array s a (take n xs))) w ha) d
+    ∙ with_array_is s a xs (λ xs. Ended (set_array s a (take n xs))) w ha) d
 
 -- a sort that ends: the equation computes from the lists that the arrays hold
 pub does_sort : (c : Setting) (g : ℕ) (rest : List KStmt) (s s' : State) (P : State → Type 0) (R : Refusal)
     → sort_outcome s g (s.arrays (ListCoordinates g)) (s.arrays (ListPositions g)) ≡ Ended s' → Does c rest s' P R
-        → Does c (Sort g ∷ rest) s P R
+    → Does c (Sort g ∷ rest) s P R
 does_sort c g rest s s' P R h d = does_ended c (Sort g) rest s s' P R (λ m. h) d
 
 pub does_sort_sum : (c : Setting) (w : ℕ) (rest : List KStmt) (s s' : State) (P : State → Type 0) (R : Refusal)
     → sort_sum_outcome c.arithmetic s w (slice_get c.workspaces w) (s.arrays (Sums w)) ≡ Ended s' → Does c rest s' P R
-        → Does c (SortSum w ∷ rest) s P R
+    → Does c (SortSum w ∷ rest) s P R
 does_sort_sum c w rest s s' P R h d = does_ended c (SortSum w) rest s s' P R (λ m. h) d
 
 alone : (c : Setting) (m : ℕ) (k : KStmt) (s : State) → run_list c m (k ∷ []) s ≡ run c m k s
@@ -212,14 +212,14 @@ pub does_if_yes : (c : Setting) (e : KExpr) (first second rest : List KStmt) (s 
 does_if_yes c e first second rest s n P Q R h d next =
     does_then c (If e first second) rest s P Q R
     (as_code c (If e first second) first s P R (λ m. run_if c m e first second s
-        ∙ ap (λ v. choice s v (run_list c m first s) (run_list c m second s)) h) d) next
+    ∙ ap (λ v. choice s v (run_list c m first s) (run_list c m second s)) h) d) next
 
 pub does_if_no : (c : Setting) (e : KExpr) (first second rest : List KStmt) (s : State) (P Q : State → Type 0) (R : Refusal)
     → value e s ≡ Some 0 → Does c second s P R → ((s' : State) → P s' → Does c rest s' Q R) → Does c (If e first second ∷ rest) s Q R
 does_if_no c e first second rest s P Q R h d next =
     does_then c (If e first second) rest s P Q R
     (as_code c (If e first second) second s P R (λ m. run_if c m e first second s
-        ∙ ap (λ v. choice s v (run_list c m first s) (run_list c m second s)) h) d) next
+    ∙ ap (λ v. choice s v (run_list c m first s) (run_list c m second s)) h) d) next
 
 -- the turns of a loop, of which at most n are made
 record Loops (c : Setting) (k : LoopKind) (e : KExpr) (body : List KStmt) (n : ℕ) (s : State) (P : State
@@ -251,7 +251,7 @@ after_turn c k e body n s v Less P R h enough (Ended s') reached kept next =
         | zero ↦ λ le lj. absurd (omega arith)
         | suc j ↦ λ le lj. run_turns_go k e (run_list c m body) s j v h
             ∙ ap (λ o. then_run o (run_turns j k (value e) (run_list c m body))) (reached m (omega arith))
-                ∙ d.reached m j (omega arith) (omega arith)
+            ∙ d.reached m j (omega arith) (omega arith)
       ];
       kept = d.kept;
     }

@@ -40,7 +40,7 @@ pub run_if : (c : Setting) (n : ℕ) (e : KExpr) (first second : List KStmt) (s 
     → run c n (If e first second) s ≡ choice s (value e s) (run_list c n first s) (run_list c n second s)
 run_if c n e first second s =
     ap (λ go. choice s (value e s) (go s) (run_row c n (hidden-the_row-KStmt-0 second) s)) (held_is_list c n first)
-        ∙ ap (λ go. choice s (value e s) (run_list c n first s) (go s)) (held_is_list c n second)
+    ∙ ap (λ go. choice s (value e s) (run_list c n first s) (go s)) (held_is_list c n second)
 
 pub run_while : (c : Setting) (n : ℕ) (k : LoopKind) (e : KExpr) (body : List KStmt) (s : State)
     → run c n (While k e body) s ≡ run_turns n k (value e) (run_list c n body) s

@@ -115,7 +115,7 @@ leaves_then mine kept top p q s t u a b = record {
 
 pub leaves_wider : (mine yours : ℕ → Type 0) (kept still : Arr → Type 0) (top : ℕ) (p q : LoopKind → ℕ) (s t : State)
     → ((y : ℕ) → mine y → yours y) → ((a : Arr) → still a → kept a) → ((k : LoopKind) → p k ≤ q k) → Leaves mine kept top p s t
-        → Leaves yours still top q s t
+    → Leaves yours still top q s t
 leaves_wider mine yours kept still top p q s t f g h a = record {
   below = λ y l m. a.below y l (λ n. m (f y n));
   arrays = λ y k. a.arrays y (g y k);

@@ -25,16 +25,16 @@ choice_more s (Some (suc v)) f f' g g' a b k = a k
 
 turns_more : (n m : ℕ) (k : LoopKind) (test : State → Option ℕ) (body more : State → Outcome) → n ≤ m
     → ((s : State) → Settled (body s) → more s ≡ body s) → (s : State) → Settled (run_turns n k test body s)
-        → run_turns m k test more s ≡ run_turns n k test body s
+    → run_turns m k test more s ≡ run_turns n k test body s
 turns_more zero zero k test body more l h s d = choice_more s (test s) More More (Ended s) (Ended s) (λ e. absurd e) (λ e. refl) d
 turns_more zero (suc m) k test body more l h s d =
     choice_more s (test s) More (then_run (more (one_turn s k)) (run_turns m k test more)) (Ended s) (Ended s) (λ e. absurd e) (λ e. refl) d
 turns_more (suc n) zero k test body more l h s d = absurd (omega arith)
 turns_more (suc n) (suc m) k test body more l h s d =
     choice_more s (test s) (then_run (body (one_turn s k)) (run_turns n k test body))
-        (then_run (more (one_turn s k)) (run_turns m k test more)) (Ended s) (Ended s)
+    (then_run (more (one_turn s k)) (run_turns m k test more)) (Ended s) (Ended s)
     (then_more (body (one_turn s k)) (more (one_turn s k)) (run_turns n k test body) (run_turns m k test more) (h (one_turn s k))
-        (turns_more n m k test body more (omega arith) h))
+    (turns_more n m k test body more (omega arith) h))
     (λ e. refl) d
 
 mutual
@@ -50,7 +50,7 @@ mutual
   run_more c n m (SortSum w) st l d = refl
   run_more c n m (If' e p first q second) st l d =
       choice_more st (value e st) (run_row c n first st) (run_row c m first st) (run_row c n second st) (run_row c m second st)
-          (row_more c n m first st l) (row_more c n m second st l) d
+      (row_more c n m first st l) (row_more c n m second st l) d
   run_more c n m (While' k e p body) st l d =
       turns_more n m k (value e) (λ s'. run_row c n body s') (λ s'. run_row c m body s') l (λ s'. row_more c n m body s' l) st d
 
@@ -59,14 +59,14 @@ mutual
   row_more c n m end_of-KStmt st l d = refl
   row_more c n m (more_of-KStmt s rest) st l d =
       then_more (run c n s st) (run c m s st) (λ st'. run_row c n rest st') (λ st'. run_row c m rest st') (run_more c n m s st l)
-          (λ st'. row_more c n m rest st' l) d
+      (λ st'. row_more c n m rest st' l) d
 
 pub list_more : (c : Setting) (n m : ℕ) (code : List KStmt) (st : State) → n ≤ m → Settled (run_list c n code st)
     → run_list c m code st ≡ run_list c n code st
 list_more c n m [] st l d = refl
 list_more c n m (s ∷ rest) st l d =
     then_more (run c n s st) (run c m s st) (run_list c n rest) (run_list c m rest) (run_more c n m s st l)
-        (λ st'. list_more c n m rest st' l) d
+    (λ st'. list_more c n m rest st' l) d
 
 kept_if : (b c : Bool) (o : Outcome) → (b ≡ true → c ≡ true) → Settled (if b then o else More)
     → (if c then o else More) ≡ (if b then o else More)
@@ -110,4 +110,4 @@ pub goes_on : GoesOn
 goes_on arithmetic order k given n m l h =
     let c : Setting = record { arithmetic = arithmetic; workspaces = k.workspaces } in
     ap (told order) (told_within_more c n m k.body (start_state k given) l
-        (finished_settled order (within n (run_list c n k.body (start_state k given))) h))
+    (finished_settled order (within n (run_list c n k.body (start_state k given))) h))

@@ -99,12 +99,12 @@ loop_stuck n j k test body s h l = sym (ap (within n) (turns_stuck j k test body
 -- a loop would make a turn too many
 pub loop_more : (n j : ℕ) (k : LoopKind) (test : State → Option ℕ) (body : State → Outcome) (s : State) (v : ℕ)
     → ((s : State) → AtLeast (all_turns s.turns) (body s)) → test s ≡ Some v → 0 < v → n ≤ all_turns s.turns → 0 < j
-        → More ≡ within n (run_turns j k test body s)
+    → More ≡ within n (run_turns j k test body s)
 loop_more n zero k test body s v g h p l j = absurd (omega arith)
 loop_more n (suc j) k test body s v g h p l q =
     sym (ap (within n) (turns_go j k test body s v h p)
     ∙ within_beyond n (all_turns (one_turn s k).turns) (then_run (body (one_turn s k)) (run_turns j k test body))
-        (omega (arith, one_turn_more s k))
+    (omega (arith, one_turn_more s k))
     (at_least_after_turn j k test body g s))
 
 -- a turn of a loop, and the rest
@@ -124,4 +124,4 @@ pub if_yes : (c : Setting) (n : ℕ) (e : KExpr) (first second : List KStmt) (s 
     → run_list c n first s ≡ run c n (If e first second) s
 if_yes c n e first second s v h p = sym (run_if c n e first second s
     ∙ ap (λ v. choice s v (run_list c n first s) (run_list c n second s)) h
-        ∙ chosen_first s v (run_list c n first s) (run_list c n second s) p)
+    ∙ chosen_first s v (run_list c n first s) (run_list c n second s) p)

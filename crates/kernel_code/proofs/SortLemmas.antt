@@ -28,9 +28,11 @@ none_before lt x (y ∷ ys) h = (h 0 y (omega arith), none_before lt x ys (λ j 
 sorted_from : {X : Type 0} (lt : X → X → Bool) (xs : List X)
     → ((i j : ℕ) (d : X) → i ≤ j → j < length xs → lt (slice_index_or xs j d) (slice_index_or xs i d) ≡ false) → Sorted lt xs
 sorted_from lt [] h = tt
-sorted_from lt (x ∷ xs) h =
-    (none_before lt x xs (λ j d l. h 0 (suc j) d (omega arith) (omega arith)), sorted_from lt xs
-        (λ i j d a b. h (suc i) (suc j) d (omega arith) (omega arith)))
+sorted_from lt (x ∷ xs) h = (
+  none_before lt x xs (λ j d l. h 0 (suc j) d (omega arith) (omega arith)),
+  sorted_from lt xs
+      (λ i j d a b. h (suc i) (suc j) d (omega arith) (omega arith)),
+)
 
 -- facts on tests
 not_true : (b : Bool) → (b ≡ true → ⊥) → b ≡ false
@@ -98,7 +100,7 @@ not_ahead : {X : Type 0} (lt : X → X → Bool) (o : IsStrictWeakOrder lt) (y z
     → ((x : X) → filter (ties lt x) (y ∷ ys) ≡ filter (ties lt x) (z ∷ zs)) → lt y z ≡ false
 not_ahead lt o y z ys zs n h =
     not_true (lt y z) (λ e. cons_not_empty y (filter (ties lt y) ys) (sym (first_kept lt o y ys) ∙ h y
-        ∙ none_tie lt o y z (z ∷ zs) e (not_self lt o z, n)))
+    ∙ none_tie lt o y z (z ∷ zs) e (not_self lt o z, n)))
 
 heads_same : {X : Type 0} (lt : X → X → Bool) (o : IsStrictWeakOrder lt) (y z : X) (ys zs : List X) → lt y z ≡ false → lt z y ≡ false
     → ((x : X) → filter (ties lt x) (y ∷ ys) ≡ filter (ties lt x) (z ∷ zs)) → y ≡ z
@@ -115,7 +117,7 @@ one_order lt o (y ∷ ys) (z ∷ zs) s t h =
     let b = not_ahead lt o z y zs ys s.0 (λ x. sym (h x)) in
     let e = heads_same lt o y z ys zs a b h in
     let rest = one_order lt o ys zs s.1 t.1 (λ x. same_rest (ties lt x y) y (filter (ties lt x) ys) (filter (ties lt x) zs) (h x
-        ∙ ap (λ w. cond (ties lt x w) (w ∷ filter (ties lt x) zs) (filter (ties lt x) zs)) (sym e))) in
+    ∙ ap (λ w. cond (ties lt x w) (w ∷ filter (ties lt x) zs) (filter (ties lt x) zs)) (sym e))) in
     ap (λ w. w ∷ ys) e ∙ ap (λ ws. z ∷ ws) rest
 
 -- insertion keeps the order
@@ -129,7 +131,7 @@ none_before_insert : {X : Type 0} (lt : X → X → Bool) (w r : X) (qs : List X
 none_before_insert lt w r [] h n = (h, tt)
 none_before_insert lt w r (q ∷ qs) h n =
     chosen_sorted (NoneBefore lt w) (lt q r) (q ∷ insert_by lt r qs) (r
-        ∷ (q ∷ qs)) (λ e. (n.0, none_before_insert lt w r qs h n.1)) (λ e. (h, (n.0, n.1)))
+    ∷ (q ∷ qs)) (λ e. (n.0, none_before_insert lt w r qs h n.1)) (λ e. (h, (n.0, n.1)))
 
 none_before_all : {X : Type 0} (lt : X → X → Bool) (o : IsStrictWeakOrder lt) (r q : X) (qs : List X) → lt q r ≡ false
     → NoneBefore lt q qs → NoneBefore lt r qs
@@ -175,7 +177,7 @@ pub stable_sort_is : {X : Type 0} (lt : X → X → Bool) (o : IsStrictWeakOrder
     → ys ≡ sorted_by lt xs
 stable_sort_is lt o xs ys s t =
     one_order lt o ys (sorted_by lt xs) (sorted_from lt ys (sorted_far lt o ys s)) (all_sorted lt o xs) (λ x. t x
-        ∙ sym (all_ties lt o x xs))
+    ∙ sym (all_ties lt o x xs))
 
 compare_lt : (m n : ℕ) → is_lt (nat_cmp m n) ≡ nat_lt m n
 compare_lt m n = grind (arith, nat_tests)
@@ -187,7 +189,7 @@ by_numbers {X} key xs = ap (λ (lt : X → X → Bool). sorted_by lt xs) (λ i x
 -- one row more
 pub list_rows_more : (cs ps : List ℕ) (i : ℕ) → i < length cs → i < length ps
     → list_rows (take (suc i) cs) (take (suc i) ps) ≡ list_rows (take i cs) (take i ps)
-        ++ record { coordinate = slice_index cs i; position = slice_index ps i } ∷ []
+    ++ record { coordinate = slice_index cs i; position = slice_index ps i } ∷ []
 list_rows_more [] ps i l m = absurd (omega arith)
 list_rows_more (c ∷ cs) [] i l m = absurd (omega arith)
 list_rows_more (c ∷ cs) (p ∷ ps) zero l m = refl
@@ -196,11 +198,11 @@ list_rows_more (c ∷ cs) (p ∷ ps) (suc i) l m =
 
 pub sort_done : (s t : State) (g : ℕ) (cs ps : List ℕ) (xs ys : Option (List ℕ)) → xs ≡ Some cs → ys ≡ Some ps → length cs ≡ length ps
     → t ≡ set_array (set_array s (ListCoordinates g) (map (λ r. r.coordinate) (sorted_rows (list_rows cs ps)))) (ListPositions g)
-        (map (λ r. r.position) (sorted_rows (list_rows cs ps)))
+    (map (λ r. r.position) (sorted_rows (list_rows cs ps)))
     → Ended t ≡ sort_outcome s g xs ys
 sort_done s t g cs ps xs ys x y l e =
     let same : (length cs == length ps) ≡ true = grind (arith, nat_tests) in
     ap Ended e ∙ sym (ap (λ xs. sort_outcome s g xs ys) x ∙ ap (sort_outcome s g (Some cs)) y
     ∙ ap (λ b. if b then Ended
-        (set_array (set_array s (ListCoordinates g) (map (λ r. r.coordinate) (sorted_rows (list_rows cs ps)))) (ListPositions g)
-            (map (λ r. r.position) (sorted_rows (list_rows cs ps)))) else Stuck s.turns) same)
+    (set_array (set_array s (ListCoordinates g) (map (λ r. r.coordinate) (sorted_rows (list_rows cs ps)))) (ListPositions g)
+    (map (λ r. r.position) (sorted_rows (list_rows cs ps)))) else Stuck s.turns) same)

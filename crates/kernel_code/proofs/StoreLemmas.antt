@@ -45,7 +45,7 @@ pub state_of_replaced : (m : Machine) (a : Arr) (i : ℕ) (w new : Words) → St
     → state_of (replaced m i new) ≡ set_array (state_of m) a new.words.items
 state_of_replaced m a i w new s n =
     ap (λ f. record (state_of m) { arrays = f }) (array_of_set m.arrays.items a i new s.writable.0 (n ∙ ap (λ v. v.name) s.is
-        ∙ s.writable.0.name w))
+    ∙ s.writable.0.name w))
 
 pub with_array_at : (m : Machine) (a : Arr) (i : ℕ) (w : Words) (next : List ℕ → Outcome) → Stands m a i w
     → with_array (state_of m) a next ≡ next w.words.items
@@ -62,14 +62,14 @@ changed_at m a i w new j f s l n e =
     ∙ ap (λ xs. Ended (set_array (state_of m) a xs)) e
     ∙ sym (with_array_at m a i w (changed (state_of m) a j f) s
     ∙ ap (λ b. if b then Ended (set_array (state_of m) a (slice_set w.words.items j (f (slice_index w.words.items j)))) else Stuck
-        (state_of m).turns) (test_below j (length w.words.items) l))
+    (state_of m).turns) (test_below j (length w.words.items) l))
 
 pub not_changed_at : (m : Machine) (a : Arr) (i : ℕ) (w : Words) (j : ℕ) (f : ℕ → ℕ) → Stands m a i w → length w.words.items ≤ j
     → Stuck (state_of m).turns ≡ with_array (state_of m) a (changed (state_of m) a j f)
 not_changed_at m a i w j f s l =
     sym (with_array_at m a i w (changed (state_of m) a j f) s
     ∙ ap (λ b. if b then Ended (set_array (state_of m) a (slice_set w.words.items j (f (slice_index w.words.items j)))) else Stuck
-        (state_of m).turns) (test_not_below j (length w.words.items) l))
+    (state_of m).turns) (test_not_below j (length w.words.items) l))
 
 pub grown_at : (m : Machine) (a : Arr) (i : ℕ) (w new : Words) (count : List ℕ → ℕ) (more : List ℕ) → Stands m a i w
     → may_have a (count w.words.items) ≡ true → new.name ≡ w.name → new.words.items ≡ w.words.items ++ more
@@ -79,16 +79,16 @@ grown_at m a i w new count more s b n e =
     ∙ ap (λ xs. Ended (set_array (state_of m) a xs)) e
     ∙ sym (with_array_at m a i w (λ xs. grown (state_of m) a (count xs) xs more) s
     ∙ ap (λ b. if b then Ended (set_array (state_of m) a (w.words.items ++ more)) else Over (state_of m).turns a
-        (told_count a (count w.words.items))) b)
+    (told_count a (count w.words.items))) b)
 
 pub not_grown_at : (m : Machine) (a : Arr) (i : ℕ) (w : Words) (count : List ℕ → ℕ) (more : List ℕ) → Stands m a i w
     → may_have a (count w.words.items) ≡ false
     → Over (state_of m).turns a (told_count a (count w.words.items)) ≡ with_array (state_of m) a
-        (λ xs. grown (state_of m) a (count xs) xs more)
+    (λ xs. grown (state_of m) a (count xs) xs more)
 not_grown_at m a i w count more s b =
     sym (with_array_at m a i w (λ xs. grown (state_of m) a (count xs) xs more) s
     ∙ ap (λ b. if b then Ended (set_array (state_of m) a (w.words.items ++ more)) else Over (state_of m).turns a
-        (told_count a (count w.words.items))) b)
+    (told_count a (count w.words.items))) b)
 
 pub set_at : (m : Machine) (a : Arr) (i : ℕ) (w new : Words) (f : List ℕ → List ℕ) → Stands m a i w → new.name ≡ w.name
     → new.words.items ≡ f w.words.items
@@ -108,7 +108,7 @@ append_array : (ws : List Words) (w : Words) (b : Arr) → array_of ws b ≡ Non
 append_array [] w b h = refl
 append_array (v ∷ ws) w b h =
     passed_over (same_arr v.name b) v.words.items (array_of ws b) (array_of (ws ++ w ∷ []) b)
-        (if same_arr w.name b then Some w.words.items else None) h (append_array ws w b)
+    (if same_arr w.name b then Some w.words.items else None) h (append_array ws w b)
 
 before_last : (ws : List Words) (w : Words) (b : Arr) → same_arr w.name b ≡ false → array_of (ws ++ w ∷ []) b ≡ array_of ws b
 before_last [] w b h = ap (λ t. if t then Some w.words.items else None) h

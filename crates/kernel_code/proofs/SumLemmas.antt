@@ -24,7 +24,7 @@ read columns = map (λ c. c.now) columns
 pub compare_from : (columns : List (Bor (List ℕ))) (n i j : ℕ) (d : Bor (List ℕ)) → n < length columns
     → compare_keys (keys_at (read (drop n columns)) i) (keys_at (read (drop n columns)) j)
     ≡ ordering_then (nat_cmp (slice_index (slice_index_or columns n d).now i) (slice_index (slice_index_or columns n d).now j))
-        (compare_keys (keys_at (read (drop (suc n) columns)) i) (keys_at (read (drop (suc n) columns)) j))
+    (compare_keys (keys_at (read (drop (suc n) columns)) i) (keys_at (read (drop (suc n) columns)) j))
 compare_from [] n i j d l = absurd (omega arith)
 compare_from (c ∷ cs) zero i j d l = refl
 compare_from (c ∷ cs) (suc n) i j d l = compare_from cs n i j d (omega arith)
@@ -42,7 +42,7 @@ undecided Greater p h = cc
 -- one row more
 pub rows_from_more : (columns : List (List ℕ)) (k i j : ℕ) (vs : List ℕ) → i < length vs → j ≡ k + i
     → rows_from columns k (take (suc i) vs) ≡ rows_from columns k (take i vs)
-        ++ record { keys = keys_at columns j; value = slice_index vs i } ∷ []
+    ++ record { keys = keys_at columns j; value = slice_index vs i } ∷ []
 rows_from_more columns k i j [] l e = absurd (omega arith)
 rows_from_more columns k zero j (v ∷ vs) l e = let here : k ≡ j =
     omega arith in ap (λ n. record { keys = keys_at columns n; value = v } ∷ []) here
@@ -78,7 +78,7 @@ pub map_reverse : {X Y : Type 0} (f : X → Y) (xs : List X) → map f (reverse 
 map_reverse f [] = refl
 map_reverse f (x ∷ xs) =
     ap (map f) (reverse-append (x ∷ []) xs) ∙ map-append f (reverse xs) (x ∷ []) ∙ ap (λ ys. ys ++ f x ∷ []) (map_reverse f xs)
-        ∙ sym (reverse-append (f x ∷ []) (map f xs))
+    ∙ sym (reverse-append (f x ∷ []) (map f xs))
 
 pub joins : (a : Arithmetic) (r q : Row) (qs : List Row) → is_eq (compare_keys r.keys q.keys) ≡ true
     → record { keys = q.keys; value = a.plus r.value q.value } ∷ qs ≡ join_row a r (q ∷ qs)
@@ -119,7 +119,7 @@ pub no_column : (s : State) (w count k keys : ℕ) (columns : List (List ℕ)) �
     → s.arrays (Key w k) ≡ None → k < keys → key_columns s w count keys ≡ None
 no_column s w count k keys columns h g l =
     none_stays s w count (suc k) keys (omega arith) (ap (λ cs. one_more_column count cs (s.arrays (Key w k))) h
-        ∙ ap (one_more_column count (Some columns)) g)
+    ∙ ap (one_more_column count (Some columns)) g)
 
 other_length : (m n : ℕ) → (m ≡ n → ⊥) → (m == n) ≡ false
 other_length m n h = grind (arith, nat_tests)
@@ -129,14 +129,14 @@ pub other_column : (s : State) (w count k keys : ℕ) (columns : List (List ℕ)
 other_column s w count k keys columns xs h g n l =
     none_stays s w count (suc k) keys (omega arith)
     (ap (λ cs. one_more_column count cs (s.arrays (Key w k))) h ∙ ap (one_more_column count (Some columns)) g
-        ∙ ap (λ b. if b then Some (columns ++ xs ∷ []) else None) (other_length (length xs) count n))
+    ∙ ap (λ b. if b then Some (columns ++ xs ∷ []) else None) (other_length (length xs) count n))
 
 pub next_column : (s : State) (w count k : ℕ) (columns : List (List ℕ)) (xs : List ℕ) → key_columns s w count k ≡ Some columns
     → s.arrays (Key w k) ≡ Some xs → length xs ≡ count → key_columns s w count (suc k) ≡ Some (columns ++ xs ∷ [])
 next_column s w count k columns xs h g n =
     let same : (length xs == count) ≡ true = grind (arith, nat_tests) in
     ap (λ cs. one_more_column count cs (s.arrays (Key w k))) h ∙ ap (one_more_column count (Some columns)) g
-        ∙ ap (λ b. if b then Some (columns ++ xs ∷ []) else None) same
+    ∙ ap (λ b. if b then Some (columns ++ xs ∷ []) else None) same
 
 pub read_more : (columns : List (Bor (List ℕ))) (c : Bor (List ℕ)) → read (columns ++ c ∷ []) ≡ read columns ++ c.now ∷ []
 read_more columns c = map-append (λ (c : Bor (List ℕ)). c.now) columns (c ∷ [])
@@ -189,7 +189,7 @@ column_is s w count (suc n) columns k h l =
           ∙ sym (ap (λ cs. slice_index_or cs k []) m.is ∙ at_before m.before m.last k [] (omega arith))
       | inr here ↦ ap (λ j. unwrap_or (s.arrays (Key w j)) []) here ∙ ap (λ xs. unwrap_or xs []) m.last_is
           ∙ sym (ap (λ cs. slice_index_or cs k []) m.is ∙ ap (λ j. slice_index_or (m.before ++ m.last ∷ []) j []) (here ∙ sym long)
-              ∙ at_last m.before m.last [])
+          ∙ at_last m.before m.last [])
     ]
 
 -- columns that aren't replaced yet
@@ -200,7 +200,7 @@ pub column_kept : (s : State) (w : ℕ) (rows : List Row) (n k : ℕ) → n ≤ 
 column_kept s w rows zero k l = refl
 column_kept s w rows (suc n) k l =
     ap (λ b. if b then Some (column_of n rows) else (set_columns s w rows n).arrays (Key w k)) (other_key w n k (omega arith))
-        ∙ column_kept s w rows n k (omega arith)
+    ∙ column_kept s w rows n k (omega arith)
 
 -- a column at the places of rows
 key_at : (columns : List (List ℕ)) (i k : ℕ) → slice_index (slice_index_or columns k []) i ≡ slice_index (keys_at columns i) k
@@ -221,7 +221,7 @@ values_of_places columns (p ∷ ps) = ap (λ vs. p.value ∷ vs) (values_of_plac
 pub sum_done : (a : Arithmetic) (s t : State) (w keys : ℕ) (vs : List ℕ) (columns : List (List ℕ)) (ks : Option ℕ) (xs : Option (List ℕ))
     → ks ≡ Some keys → xs ≡ Some vs → key_columns s w (length vs) keys ≡ Some columns
     → t ≡ set_array (set_columns s w (summed_rows a (rows_from columns 0 vs)) keys) (Sums w)
-        (map (λ r. r.value) (summed_rows a (rows_from columns 0 vs)))
+    (map (λ r. r.value) (summed_rows a (rows_from columns 0 vs)))
     → Ended t ≡ sort_sum_outcome a s w ks xs
 sum_done a s t w keys vs columns ks xs k x h e = ap Ended e
     ∙ sym (ap (λ ks. sort_sum_outcome a s w ks xs) k ∙ ap (sort_sum_outcome a s w (Some keys)) x ∙ ap (summed a s w keys vs) h)

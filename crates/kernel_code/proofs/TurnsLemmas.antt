@@ -110,18 +110,18 @@ at_least_turns zero k test body h s =
     at_least_choice (all_turns s.turns) s (test s) More (Ended s) (le_self (all_turns s.turns)) tt (le_self (all_turns s.turns))
 at_least_turns (suc n) k test body h s =
     at_least_choice (all_turns s.turns) s (test s) (then_run (body (one_turn s k)) (run_turns n k test body)) (Ended s)
-        (le_self (all_turns s.turns))
+    (le_self (all_turns s.turns))
     (at_least_turn s k (then_run (body (one_turn s k)) (run_turns n k test body))
-        (at_least_then (all_turns (one_turn s k).turns) (body (one_turn s k)) (run_turns n k test body) (h (one_turn s k))
-            (at_least_turns n k test body h)))
+    (at_least_then (all_turns (one_turn s k).turns) (body (one_turn s k)) (run_turns n k test body) (h (one_turn s k))
+    (at_least_turns n k test body h)))
     (le_self (all_turns s.turns))
 
 pub at_least_after_turn : (n : ℕ) (k : LoopKind) (test : State → Option ℕ) (body : State → Outcome)
     → ((s : State) → AtLeast (all_turns s.turns) (body s)) → (s : State)
-        → AtLeast (all_turns (one_turn s k).turns) (then_run (body (one_turn s k)) (run_turns n k test body))
+    → AtLeast (all_turns (one_turn s k).turns) (then_run (body (one_turn s k)) (run_turns n k test body))
 at_least_after_turn n k test body h s =
     at_least_then (all_turns (one_turn s k).turns) (body (one_turn s k)) (run_turns n k test body) (h (one_turn s k))
-        (at_least_turns n k test body h)
+    (at_least_turns n k test body h)
 
 mutual
   -- a statement leaves at least the turns that it starts with
@@ -131,21 +131,21 @@ mutual
       at_least_value st (apply_each (combined c.arithmetic o) (value e st) (value f st)) _ (λ v. le_self (all_turns st.turns))
   at_least_run c n (Put a i e) st =
       at_least_value st (value i st) _
-          (λ i. at_least_value st (value e st) _ (λ v. at_least_array st a _ (at_least_changed st a i (λ old. v))))
+      (λ i. at_least_value st (value e st) _ (λ v. at_least_array st a _ (at_least_changed st a i (λ old. v))))
   at_least_run c n (AddTo a i e) st =
       at_least_value st (value i st) _
-          (λ i. at_least_value st (value e st) _
-              (λ v. at_least_array st a _ (at_least_changed st a i (λ old. sum_in c.arithmetic a old v))))
+      (λ i. at_least_value st (value e st) _
+      (λ v. at_least_array st a _ (at_least_changed st a i (λ old. sum_in c.arithmetic a old v))))
   at_least_run c n (Push a e) st = at_least_value st (value e st) _ (λ v. at_least_array st a _ (λ xs. at_least_grown st a _ xs _))
   at_least_run c n (Extend a count e) st =
       at_least_value st (value count st) _
-          (λ m. at_least_value st (value e st) _ (λ v. at_least_array st a _ (λ xs. at_least_grown st a _ xs _)))
+      (λ m. at_least_value st (value e st) _ (λ v. at_least_array st a _ (λ xs. at_least_grown st a _ xs _)))
   at_least_run c n (Cut a e) st = at_least_value st (value e st) _ (λ m. at_least_array st a _ (λ xs. le_self (all_turns st.turns)))
   at_least_run c n (Sort g) st = at_least_sort st g (st.arrays (ListCoordinates g)) (st.arrays (ListPositions g))
   at_least_run c n (SortSum w) st = at_least_sort_sum c.arithmetic st w (slice_get c.workspaces w) (st.arrays (Sums w))
   at_least_run c n (If' e p first q second) st =
       at_least_choice (all_turns st.turns) st (value e st) (run_row c n first st) (run_row c n second st) (le_self (all_turns st.turns))
-          (at_least_row c n first st) (at_least_row c n second st)
+      (at_least_row c n first st) (at_least_row c n second st)
   at_least_run c n (While' k e p body) st = at_least_turns n k (value e) (λ s'. run_row c n body s') (at_least_row c n body) st
 
   pub at_least_row : {m : _} (c : Setting) (n : ℕ) (row : Row_of-KStmt m) (st : State) → AtLeast (all_turns st.turns) (run_row c n row st)

@@ -34,9 +34,9 @@ operator_told text =
     let sign : ℕ = second_byte text in
     if sign == 43 then (op.Add, drop 3 text) else (if sign == 45 then (op.Sub, drop 3 text) else (if sign == 42 then (op.Mul, drop 3 text)
     else (if sign == 60 then (op.Less, drop 3 text) else
-        (if sign == 61 then (op.Equal, drop 4 text) else (if sign == 33 then (op.NotEqual, drop 4 text)
+    (if sign == 61 then (op.Equal, drop 4 text) else (if sign == 33 then (op.NotEqual, drop 4 text)
     else (if sign == 124 then (op.Or, drop 4 text) else
-        (if second_byte (drop 1 text) == 38 then (op.And, drop 4 text) else (op.BitAnd, drop 3 text))))))))
+    (if second_byte (drop 1 text) == 38 then (op.And, drop 4 text) else (op.BitAnd, drop 3 text))))))))
 
 operator_is_told : (o : Op) (behind : List ℕ) → operator_told (operator_text o ++ behind) ≡ (o, behind)
 operator_is_told op.Add behind = refl
@@ -96,7 +96,7 @@ other_told read byte text =
     if byte == 120 then (Var (number_in text), behind_digits text) else (if byte == 40 then bin_first read (read text)
     else (if byte == 108 then len_told (told (drop 3 text)) else (if byte == 109 then min_first read (read (drop 3 text))
     else (if byte == 119 then
-        (if is_ascii_digit (second_byte (byte ∷ text)) then at_told read (told (byte ∷ text)) else width_end (read (drop 5 text)))
+    (if is_ascii_digit (second_byte (byte ∷ text)) then at_told read (told (byte ∷ text)) else width_end (read (drop 5 text)))
     else at_told read (told (byte ∷ text))))))
 
 -- the expression in front of a text, nested so deep at most
@@ -140,7 +140,7 @@ digits_begin : (n : ℕ) (digits behind : List ℕ) → 0 < length digits → al
 digits_begin n [] behind some all = absurd (omega (arith, some))
 digits_begin n (byte ∷ digits) behind some all =
     ap (λ (b : Bool). if b then number_told (byte ∷ (digits ++ behind)) else other_told (expr_told n) byte (digits ++ behind))
-        (all_first byte digits all).0
+    (all_first byte digits all).0
 
 num_told : (k fuel : ℕ) (behind : List ℕ) → 1 ≤ fuel → IsWord k → BeginsWithoutDigit behind
     → expr_told fuel (decimal k ++ behind) ≡ (Num k, behind)
@@ -196,7 +196,7 @@ len_case : (a : Arr) (fuel : ℕ) (behind : List ℕ) → 1 ≤ fuel → HasWord
 len_case a zero behind small words plain = absurd (none_small 0 small)
 len_case a (suc n) behind small words plain =
     ap (λ (t : List ℕ). len_told (told t)) (append_assoc (array_text a) (41 ∷ []) behind)
-        ∙ ap len_told (told_name a (41 ∷ behind) words refl)
+    ∙ ap len_told (told_name a (41 ∷ behind) words refl)
 
 bin_pieces : (a o b behind : List ℕ) → (a ++ (o ++ (b ++ (41 ∷ [])))) ++ behind ≡ a ++ (o ++ (b ++ (41 ∷ behind)))
 bin_pieces a o b behind = simp append_assoc

@@ -73,9 +73,9 @@ workspaces_step ws i keys inside is =
     let rest : List ℕ = workspaces_text (i + 1) (drop (i + 1) ws) in
     ap (workspaces_text i) (drop-cons ws i 0 inside)
     ∙ ap (λ (x : ℕ). codes "  workspace w"
-        ++ (decimal i ++ (codes " " ++ (decimal x ++ (codes ";\n" ++ workspaces_text (suc i) (drop (suc i) ws)))))) (sym is)
+    ++ (decimal i ++ (codes " " ++ (decimal x ++ (codes ";\n" ++ workspaces_text (suc i) (drop (suc i) ws)))))) (sym is)
     ∙ ap (λ (k : ℕ). codes "  workspace w"
-        ++ (decimal i ++ (codes " " ++ (decimal keys ++ (codes ";\n" ++ workspaces_text k (drop k ws)))))) (sym (add-one i))
+    ++ (decimal i ++ (codes " " ++ (decimal keys ++ (codes ";\n" ++ workspaces_text k (drop k ws)))))) (sym (add-one i))
     ∙ ap (λ (t : List ℕ). codes "  workspace w" ++ (decimal i ++ (codes " " ++ t))) (sym (append_assoc (decimal keys) (codes ";\n") rest))
     ∙ ap (λ (t : List ℕ). codes "  workspace w" ++ t) (sym (append_assoc (decimal i) (codes " " ++ (decimal keys ++ codes ";\n")) rest))
 

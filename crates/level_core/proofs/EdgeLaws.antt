@@ -58,13 +58,13 @@ edges_tell letter parent begin end log b is m =
     let given = is.given in
     let next : suc parent ≡ parent + 1 = omega arith in
     let through_next : total (take (parent + 1) (slice_set log.counts parent (end - begin))) ≡ total (take parent log.counts) +
-        (end - begin) = subst
-            (λ n. total (take n (slice_set log.counts parent (end - begin))) ≡ total (take parent log.counts) + (end - begin)) next
-                through in
+    (end - begin) = subst
+    (λ n. total (take n (slice_set log.counts parent (end - begin))) ≡ total (take parent log.counts) + (end - begin)) next
+    through in
     ap (λ ns. segment_in ns (one parent)) counts
     ∙ spans_are (total (take parent (slice_set log.counts parent (end - begin))))
-        (total (take (parent + 1) (slice_set log.counts parent (end - begin)))) begin end (omega (arith, before, all, begins))
-            (omega (arith, through_next, all, begins, ends, given))
+    (total (take (parent + 1) (slice_set log.counts parent (end - begin)))) begin end (omega (arith, before, all, begins))
+    (omega (arith, through_next, all, begins, ends, given))
 
 -- and parents before it keep theirs
 pub edges_keep : (letter : Letter) (p parent begin end : ℕ) (log : Log) → (properties letter).branchless ≡ false → p < parent
@@ -72,9 +72,9 @@ pub edges_keep : (letter : Letter) (p parent begin end : ℕ) (log : Log) → (p
 edges_keep letter p parent begin end log b h =
     ap (λ ns. segment_in ns (one p)) (counts_are letter parent begin end log b)
     ∙ spans_are (total (take p (slice_set log.counts parent (end - begin))))
-        (total (take (p + 1) (slice_set log.counts parent (end - begin)))) (total (take p log.counts)) (total (take (p + 1) log.counts))
+    (total (take (p + 1) (slice_set log.counts parent (end - begin)))) (total (take p log.counts)) (total (take (p + 1) log.counts))
     (total_set_before p parent (end - begin) log.counts (omega (arith, h)))
-        (total_set_before (p + 1) parent (end - begin) log.counts (omega (arith, h)))
+    (total_set_before (p + 1) parent (end - begin) log.counts (omega (arith, h)))
 
 total_of_none : (p : ℕ) (ns : List ℕ) → NoneFrom p ns → total (take p ns) ≡ total (take (p + 1) ns)
 total_of_none p ns z = total_before p ns z ∙ sym (total_before (p + 1) ns (none_later p (p + 1) ns (omega arith) z))

@@ -64,7 +64,7 @@ pub coord_after : (lo pos q : ℕ) (done rest : List Entry) → Placed lo pos do
 coord_after lo pos q [] rest p h = refl
 coord_after lo pos q (e ∷ done) rest p h =
     coord_past e (done ++ rest) q (let k = placed_within e.child.hi pos done p.2 in omega (arith, k, h))
-        ∙ coord_after e.child.hi pos q done rest p.2 h
+    ∙ coord_after e.child.hi pos q done rest p.2 h
 
 none_before : (pos lo hi : ℕ) (es : List Entry) → Placed lo hi es → pos < lo → coord_at es pos ≡ None
 none_before pos lo hi [] p h = refl
@@ -80,11 +80,11 @@ begins_by pos hi x e es true is p h = record {
   at = grind (arith, nat_tests, is, p.0);
   coord = same_Some e.coord x
       (sym (coord_here e es pos (grind (arith, nat_tests, is)) (let k : e.child.lo ≤ pos =
-          grind (arith, nat_tests, is) in omega (arith, k, p.0, p.1))) ∙ h);
+      grind (arith, nat_tests, is) in omega (arith, k, p.0, p.1))) ∙ h);
 }
 begins_by pos hi x e es false is p h = let far : pos < e.child.lo =
     grind (arith, nat_tests, is) in
-        absurd (none_is x (sym (coord_before e es pos far ∙ none_before pos e.child.hi hi es p.2 (omega (arith, far, p.1))) ∙ h))
+    absurd (none_is x (sym (coord_before e es pos far ∙ none_before pos e.child.hi hi es p.2 (omega (arith, far, p.1))) ∙ h))
   where
     none_is : (x : ℕ) → None ≡ Some x → ⊥
     none_is x h = cc

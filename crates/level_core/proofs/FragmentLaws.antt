@@ -47,7 +47,7 @@ pub one_set : (c : Setting) (free v : ℕ) (e : KExpr) (s : State) (P : State �
 one_set c free v e s P h p =
     does_set c free e [] s v _ Never h
     (does_nothing c (set_var s free v) _ Never
-        (record { below = λ y l z. other_var s free y v (λ k. omega (arith, l, k)); arrays = λ a t. refl; turns = λ k. omega arith }, p))
+    (record { below = λ y l z. other_var s free y v (λ k. omega (arith, l, k)); arrays = λ a t. refl; turns = λ k. omega arith }, p))
 
 pub number_set : (c : Setting) (free v : ℕ) (e : KExpr) (s : State) → value e s ≡ Some v
     → Reads c (one_code free e) free no_turns s (NumberLeft free v)
@@ -60,10 +60,14 @@ two_set c free v w e f s h g b =
     let t = set_var s free v in
     does_set c free e (Set (free + 1) f ∷ []) s v _ Never h
     (does_set c (free + 1) f [] t w _ Never (below_kept free f s t b (λ y l. other_var s free y v (λ k. omega (arith, l, k))) (λ a. refl)
-        ∙ g)
+    ∙ g)
     (does_nothing c (set_var t (free + 1) w) _ Never (
-      record { below = λ y l z. other_var t (free + 1) y w (λ k. omega (arith, l, k))
-          ∙ other_var s free y v (λ k. omega (arith, l, k)); arrays = λ a q. refl; turns = λ k. omega arith },
+      record {
+        below = λ y l z. other_var t (free + 1) y w (λ k. omega (arith, l, k))
+            ∙ other_var s free y v (λ k. omega (arith, l, k));
+        arrays = λ a q. refl;
+        turns = λ k. omega arith;
+      },
       record { first = other_var t (free + 1) free w (λ k. omega (arith, k)) ∙ this_var s free v; second = this_var t (free + 1) w },
     )))
 
@@ -72,22 +76,22 @@ pub reads_more : (c : Setting) (code : List KStmt) (free : ℕ) (most more : Loo
     → ((k : LoopKind) → most k ≤ more k) → ((t : State) → P t → Q t) → Reads c code free most s P → Reads c code free more s Q
 reads_more c code free most more s P Q l f d =
     does_weaker c code s _ _ Never Never d
-        (λ t h. (leaves_wider NoVariable NoVariable EveryArray EveryArray free most more s t (λ y m. m) (λ a m. m) l h.0, f t h.1))
-            (λ t a n z. z)
+    (λ t h. (leaves_wider NoVariable NoVariable EveryArray EveryArray free most more s t (λ y m. m) (λ a m. m) l h.0, f t h.1))
+    (λ t a n z. z)
 
 -- a span left in two variables
 pub span_set : (c : Setting) (free : ℕ) (span : Span) (e f : KExpr) (s : State) → value e s ≡ Some span.lo → value f s ≡ Some span.hi
     → Below free f → Reads c (two_code free e f) free no_turns s (SpanLeft free span)
 span_set c free span e f s h g b =
     reads_more c (two_code free e f) free no_turns no_turns s (TwoLeft free span.lo span.hi) (SpanLeft free span) (λ k. omega arith)
-        (λ t l. record { lo = l.first; hi = l.second }) (two_set c free span.lo span.hi e f s h g b)
+    (λ t l. record { lo = l.first; hi = l.second }) (two_set c free span.lo span.hi e f s h g b)
 
 -- an option that is there, left as 1 and the number
 pub some_set : (c : Setting) (free v : ℕ) (f : KExpr) (s : State) → value f s ≡ Some v → Below free f
     → Reads c (two_code free (Num 1) f) free no_turns s (OptionLeft free (Some v))
 some_set c free v f s g b =
     reads_more c (two_code free (Num 1) f) free no_turns no_turns s (TwoLeft free 1 v) (OptionLeft free (Some v)) (λ k. omega arith)
-        (λ t l. (l.first, l.second)) (two_set c free 1 v (Num 1) f s refl g b)
+    (λ t l. (l.first, l.second)) (two_set c free 1 v (Num 1) f s refl g b)
 
 -- one that isn't, left as 0
 pub none_set : (c : Setting) (free : ℕ) (s : State) → Reads c (one_code free (Num 0)) free no_turns s (OptionLeft free None)
@@ -98,4 +102,4 @@ pub position_set : (c : Setting) (free q : ℕ) (e : KExpr) (s : State) → valu
     → Reads c (position_and_next free e) free no_turns s (SpanLeft free (one q))
 position_set c free q e s h l b =
     span_set c free (one q) e (Bin Add e (Num 1)) s h (sum_is e (Num 1) q 1 s h refl l)
-        (mentions_bin (λ y. y < free) EveryArray Add e (Num 1) b tt)
+    (mentions_bin (λ y. y < free) EveryArray Add e (Num 1) b tt)

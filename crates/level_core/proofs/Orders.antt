@@ -126,9 +126,12 @@ greater_by segment es fs x slot d s p first gains below old y pos h = elim (eqb_
         at = o.at;
         smaller = λ j l.
             let z = o.smaller j l in
-            let smaller = z.2 in
-            (z.0, still_there x slot z.0 (sought_at segment y j) segment.lo segment.hi es fs d s p gains
-                (λ e. omega (arith, e, smaller, less)) z.1, smaller);
+            let smaller = z.2 in (
+              z.0,
+              still_there x slot z.0 (sought_at segment y j) segment.lo segment.hi es fs d s p gains
+                  (λ e. omega (arith, e, smaller, less)) z.1,
+              smaller,
+            );
       }
 ]
 
@@ -142,12 +145,12 @@ keeps_order {L} means laws = record {
       let same = is.segments p ok in
       let single = are.properties.unique (unique_without_order (means.kind l) unordered) in
       subst (λ segment. (y pos : ℕ) → position_of (means.entries m (one p)) y ≡ Some pos
-          → IsAfterSmaller segment (means.entries m (one p)) y pos) (sym same)
+      → IsAfterSmaller segment (means.entries m (one p)) y pos) (sym same)
       (greater_by (means.segment_of l (one p)) (means.entries l (one p)) (means.entries m (one p)) x slot are.distinct single
       (subst (λ segment. Placed segment.lo segment.hi (means.entries m (one p))) same now.placed) (is.first unordered) is.gains below old);
   others = λ l m p q x slot ok apart is old.
       subst (λ segment. (y pos : ℕ) → position_of (means.entries m (one q)) y ≡ Some pos
-          → IsAfterSmaller segment (means.entries m (one q)) y pos) (sym (is.segments q ok))
+      → IsAfterSmaller segment (means.entries m (one q)) y pos) (sym (is.segments q ok))
       (subst (λ es. (y pos : ℕ) → position_of es y ≡ Some pos
-          → IsAfterSmaller (means.segment_of l (one q)) es y pos) (sym (is.others q ok apart)) old);
+      → IsAfterSmaller (means.segment_of l (one q)) es y pos) (sym (is.others q ok apart)) old);
 }

@@ -37,11 +37,11 @@ below_some allowed segment_of parents zero pos a h g =
     let start = a.row.first (one 0) (a.each 0 h) refl in (0, h, (omega (arith, start), g))
 below_some allowed segment_of parents (suc last) pos a h g =
     by_order (λ before. below_some allowed segment_of parents last pos a (omega (arith, h)) before)
-        (cases_lt pos (segment_of (one (suc last))).lo)
+    (cases_lt pos (segment_of (one (suc last))).lo)
   where
     by_order : (pos < (segment_of (one last)).hi → (p : ℕ) × (p < parents) × IsIn pos (segment_of (one p)))
         → (pos < (segment_of (one (suc last))).lo) ⊎ ((segment_of (one (suc last))).lo ≤ pos)
-            → (p : ℕ) × (p < parents) × IsIn pos (segment_of (one p))
+        → (p : ℕ) × (p < parents) × IsIn pos (segment_of (one p))
     by_order earlier (inl before) =
         let meet = a.row.next (one last) (one (suc last)) (a.each last (omega (arith, h))) (a.each (suc last) h) (omega arith) in
         earlier (omega (arith, before, meet))

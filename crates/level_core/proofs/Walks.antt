@@ -66,12 +66,12 @@ pub record Stepped (lo pos hi : ℕ) (child : Span) (pushed all : List Entry) : 
 
 pub walk_stepped : (lo pos hi x : ℕ) (done all pushed : List Entry) (child : Span) → Walking lo pos hi done all
     → coord_at all pos ≡ Some x → ((e : Entry) → StandsAt pos e all → child ≡ e.child)
-        → pushed ≡ done ++ record { coord = x; child = child } ∷ [] → Stepped lo pos hi child pushed all
+    → pushed ≡ done ++ record { coord = x; child = child } ∷ [] → Stepped lo pos hi child pushed all
 walk_stepped lo pos hi x done all pushed child w h found is =
     let s = walk_steps lo pos hi x done all w h in
     let same : child ≡ s.entry.child = found s.entry s.stands in
     let entry : record { coord = x; child = child } ≡ s.entry = ap (λ n. record { coord = n; child = child }) (sym s.coord)
-        ∙ ap (λ c. record { coord = s.entry.coord; child = c }) same in
+    ∙ ap (λ c. record { coord = s.entry.coord; child = c }) same in
     let all_done : pushed ≡ done ++ s.entry ∷ [] = is ∙ ap (λ e. done ++ e ∷ []) entry in
     record {
       walks = subst (λ es. Walking lo child.hi hi es all) (sym all_done)

@@ -58,20 +58,20 @@ behind_keeps place p (Lexeme (MarkToken Times)) next e =
     from_equal (WantsFactor (BehindTimes place p)) next (accesses_so_far (Behind place p)) e refl
 behind_keeps place p (Lexeme (MarkToken Plus)) next e =
     from_equal (WantsFactor (FirstFactor (BehindPlus (its_sum place) (sum_with place p)))) next (accesses_so_far (Behind place p)) e
-        (sum_accesses place p)
+    (sum_accesses place p)
 behind_keeps place p (Lexeme (MarkToken Minus)) next e =
     from_equal (WantsFactor (FirstFactor (BehindMinus (its_sum place) (sum_with place p)))) next (accesses_so_far (Behind place p)) e
-        (sum_accesses place p)
+    (sum_accesses place p)
 behind_keeps place p (Lexeme (MarkToken Close)) next e = close_keeps (its_sum place) place p next refl e
 behind_keeps place p End next e = end_keeps (its_sum place) place p next refl e
 behind_keeps place p _ next e = nothing_leads next e
 
 scalar_keeps : (place : FactorPlace) (name : Name) (t : Symbol) (next : State) (new : List WrittenAccess)
     → step_behind (its_product place) (product_with place (Read (access_to name []))) t ≡ Some next
-        → new ≡ accesses_so_far (Named (Right place) name) → accesses_so_far next ≡ new
+    → new ≡ accesses_so_far (Named (Right place) name) → accesses_so_far next ≡ new
 scalar_keeps place name t next new e w =
     behind_keeps (its_product place) (product_with place (Read (access_to name []))) t next e
-        ∙ product_accesses place (Read (access_to name [])) ∙ sym w
+    ∙ product_accesses place (Read (access_to name [])) ∙ sym w
 
 abbrev Says : State → Type 0
 Says s = (t : Symbol) (next : State) (new : List WrittenAccess) → step s t ≡ Some next
@@ -114,7 +114,7 @@ variable_says (Right place) name vars var (Lexeme (MarkToken Comma)) next new e 
     from_equal (WantsVariable (Right place) name (vars ++ (var ∷ []))) next new e (sym w)
 variable_says (Right place) name vars var (Lexeme (MarkToken Close)) next new e w =
     from_equal (behind_factor place (Read (access_to name (vars ++ (var ∷ []))))) next new e
-        (product_accesses place (Read (access_to name (vars ++ (var ∷ [])))) ∙ sym w)
+    (product_accesses place (Read (access_to name (vars ++ (var ∷ [])))) ∙ sym w)
 variable_says (Right place) name vars var _ next new e w = nothing_leads next e
 
 left_says : (access : WrittenAccess) → Says (BehindLeft access)
@@ -125,7 +125,7 @@ left_says access _ next new e w = nothing_leads next e
 wants_says : (place : FactorPlace) → Says (WantsFactor place)
 wants_says place (Lexeme (NumberToken digits)) next new e w =
     from_equal (behind_factor place (Digits digits)) next new e (product_accesses place (Digits digits) ∙ append_none (accesses_to place)
-        ∙ sym w)
+    ∙ sym w)
 wants_says place (Lexeme (NameToken name)) next new e w = from_equal (Named (Right place) name) next new e (sym w)
 wants_says place (Lexeme (MarkToken Open)) next new e w =
     from_equal (WantsFactor (FirstFactor (First (InBrackets place)))) next new e (sym w)

@@ -59,7 +59,7 @@ fresh_standing (first ∷ found) name names h = elim (tested (is_same first name
       ∙ ap (λ n. without n (without name names)) same ∙ without_twice name names ∙ ap (λ n. without n names) (sym same)))
   | no e ↦ (
       ap (fresh found) (without_keeps first name (without name names) e
-          ∙ ap (λ (ns : List Name). name ∷ ns) (without_swap first name names))
+      ∙ ap (λ (ns : List Name). name ∷ ns) (without_swap first name names))
       ∙ fresh_standing found name (without first names) (stands_behind name first found e h))
 ]
 
@@ -70,7 +70,7 @@ fresh_new (first ∷ found) name names h = elim (tested (is_same first name)) [
   | yes e ↦ absurd (h (stands_here name first found e))
   | no e ↦ (
       ap (fresh found) (without_keeps first name (without name names) e
-          ∙ ap (λ (ns : List Name). name ∷ ns) (without_swap first name names))
+      ∙ ap (λ (ns : List Name). name ∷ ns) (without_swap first name names))
       ∙ fresh_new found name (without first names) (λ s. h (stands_later name first found s)))
 ]
 
@@ -113,10 +113,10 @@ distinct_more names name = sym (added_are_distinct (names ++ name ∷ [])) ∙ a
 -- the variables of one more access
 pub variables_step : (accesses : List WrittenAccess) (i : ℕ) (access : WrittenAccess) (names now : List Name) → i < length accesses
     → access ≡ get_or accesses i access → now ≡ with_names names access.vars
-        → with_names names (variables_of (drop i accesses)) ≡ with_names now (variables_of (drop (i + 1) accesses))
+    → with_names names (variables_of (drop i accesses)) ≡ with_names now (variables_of (drop (i + 1) accesses))
 variables_step accesses i access names now h e f =
     ap (λ (row : List WrittenAccess). with_names names (variables_of row)) (drop_more accesses i access h
-        ∙ ap (λ (a : WrittenAccess). a ∷ drop (i + 1) accesses) (sym e))
+    ∙ ap (λ (a : WrittenAccess). a ∷ drop (i + 1) accesses) (sym e))
     ∙ added_join names access.vars (variables_of (drop (i + 1) accesses))
     ∙ ap (λ (ns : List Name). with_names ns (variables_of (drop (i + 1) accesses))) (sym f)
 

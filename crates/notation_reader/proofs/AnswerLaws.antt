@@ -43,11 +43,11 @@ none_at e (x ∷ a) t r h = subst (λ (z : List Symbol). HasNoFault z t) (append
 past_once : (a : List Symbol) (t : Symbol) (f g : SymbolFault) → PastLimit a t f → PastLimit a t g → f ≡ g
 past_once a t f g p q =
     let whole : p.front ++ (p.last ∷ []) ≡ q.front
-        ++ (q.last ∷ []) = one_reading (p.front ++ (p.last ∷ [])) (q.front ++ (q.last ∷ [])) p.begins q.begins (p.symbols_are
-            ∙ sym q.symbols_are) in
+    ++ (q.last ∷ []) = one_reading (p.front ++ (p.last ∷ [])) (q.front ++ (q.last ∷ [])) p.begins q.begins (p.symbols_are
+    ∙ sym q.symbols_are) in
     let last : p.last ≡ q.last = (last_once p.front q.front p.last q.last whole).1 in
     let limits : limit_passed p.last.role p.last.symbol (p.front ++ (p.last ∷ [])) ≡ limit_passed q.last.role q.last.symbol (q.front
-        ++ (q.last ∷ [])) = λ i. limit_passed (last i).role (last i).symbol (whole i) in
+    ++ (q.last ∷ [])) = λ i. limit_passed (last i).role (last i).symbol (whole i) in
     let both : ◌≡◌ {A = Option SymbolFault} (Some f) (Some g) = sym p.passed ∙ limits ∙ q.passed in
     cc
 
@@ -75,7 +75,7 @@ first_once ps at by f g h k = elim (places h.earlier k.earlier h.faulty k.faulty
     sym h.place ∙ ap (λ (p : PlacedSymbol). p.at) s ∙ k.place,
     fault_once (symbols_of k.earlier) k.faulty.symbol f g
         (subst (λ (x : PlacedSymbol). FaultAt (symbols_of k.earlier) x.symbol f) s
-            (subst (λ (l : List PlacedSymbol). FaultAt (symbols_of l) h.faulty.symbol f) e h.is)) k.is,
+        (subst (λ (l : List PlacedSymbol). FaultAt (symbols_of l) h.faulty.symbol f) e h.is)) k.is,
   )
   | before c e ↦ never_earlier h.earlier k.earlier c h.faulty f e h.is k.none_before
   | behind c e ↦ never_earlier k.earlier h.earlier c k.faulty g e k.is h.none_before

@@ -42,17 +42,17 @@ frames_stay (BehindSign place) = frames_stay place
 -- the product of which a factor is the last
 product_built : (place : FactorPlace) (f : Factor)
     → product_expr (reads_to_product (its_product place)) (product_with place f) ≡ times (product_before place)
-        (negated (minuses_of place) (factor_expr (reads_to place) f))
+    (negated (minuses_of place) (factor_expr (reads_to place) f))
 product_built (FirstFactor place) f = refl
 product_built (BehindTimes place p) f = refl
 product_built (BehindSign place) f =
     product_built place (Negated f)
     ∙ ap (λ (n : ℕ). times (product_before place) (negated n (factor_expr (reads_to place) f)))
-        (let h : suc (minuses_of place) ≡ minuses_of place + 1 = omega arith in h)
+    (let h : suc (minuses_of place) ≡ minuses_of place + 1 = omega arith in h)
 
 builder_of : (n m : ℕ) (o q : List Frame) (s : Option Joined) (a b : Expr) → n ≡ m → o ≡ q → a ≡ b
     → ◌≡◌ {A = Builder} (record { reads = n; outer = o; frame = record { sum = s; product = Some a; minuses = 0 }; result = None })
-        (record { reads = m; outer = q; frame = record { sum = s; product = Some b; minuses = 0 }; result = None })
+    (record { reads = m; outer = q; frame = record { sum = s; product = Some b; minuses = 0 }; result = None })
 builder_of n m o q s a b e f g =
     λ i. record { reads = e i; outer = f i; frame = record { sum = s; product = Some (g i); minuses = 0 }; result = None }
 
@@ -63,7 +63,7 @@ factor_built place f = builder_of
     (reads_to_product (its_product place) + reads_in_product (product_with place f)) (reads_to place + reads_in_factor f)
     (frames_of_product (its_product place)) (frames_of place) (sum_before (its_product place))
     (product_expr (reads_to_product (its_product place)) (product_with place f))
-        (times (product_before place) (negated (minuses_of place) (factor_expr (reads_to place) f)))
+    (times (product_before place) (negated (minuses_of place) (factor_expr (reads_to place) f)))
     (reads_behind place f) (frames_stay place) (product_built place f)
 
 -- the sum of which a product is the last
@@ -85,12 +85,22 @@ sum_frames (BehindPlus place s) = refl
 sum_frames (BehindMinus place s) = refl
 
 joined_of : (n m : ℕ) (o q : List Frame) (a b : Expr) (minus : Bool) → n ≡ m → o ≡ q → a ≡ b
-    → ◌≡◌ {A = Builder} (record { reads = n; outer = o; frame =
-        record { sum = Some (joined_by minus a); product = None; minuses = 0 }; result = None })
-            (record { reads = m; outer = q; frame = record { sum = Some (joined_by minus b); product = None; minuses = 0 }; result = None })
+    → ◌≡◌ {A = Builder} (record {
+      reads = n;
+      outer = o;
+      frame =
+          record { sum = Some (joined_by minus a); product = None; minuses = 0 };
+      result = None;
+    })
+    (record { reads = m; outer = q; frame = record { sum = Some (joined_by minus b); product = None; minuses = 0 }; result = None })
 joined_of n m o q a b minus e f g =
-    λ i. record { reads = e i; outer = f i; frame = record { sum = Some (joined_by minus (g i)); product = None; minuses = 0 }; result =
-        None }
+    λ i. record {
+      reads = e i;
+      outer = f i;
+      frame = record { sum = Some (joined_by minus (g i)); product = None; minuses = 0 };
+      result =
+          None;
+    }
 
 zero_more : (n m : ℕ) → n ≡ m → n + 0 ≡ m
 zero_more n m e = omega (arith, e)
@@ -99,26 +109,26 @@ pub plus_built : (place : ProductPlace) (p : Product)
     → built (WantsFactor (FirstFactor (BehindPlus (its_sum place) (sum_with place p)))) ≡ joined_with (built (Behind place p)) false
 plus_built place p = joined_of ((reads_to_sum (its_sum place) + reads_in_sum (sum_with place p)) + 0)
     (reads_to_product place + reads_in_product p) (frames_of_sum (its_sum place)) (frames_of_product place)
-        (sum_expr (reads_to_sum (its_sum place)) (sum_with place p)) (whole_sum (frame_behind place p)) false
+    (sum_expr (reads_to_sum (its_sum place)) (sum_with place p)) (whole_sum (frame_behind place p)) false
     (zero_more _ _ (sum_reads place p)) (sym (sum_frames place)) (sum_built place p)
 
 pub minus_built : (place : ProductPlace) (p : Product)
     → built (WantsFactor (FirstFactor (BehindMinus (its_sum place) (sum_with place p)))) ≡ joined_with (built (Behind place p)) true
 minus_built place p = joined_of ((reads_to_sum (its_sum place) + reads_in_sum (sum_with place p)) + 0)
     (reads_to_product place + reads_in_product p) (frames_of_sum (its_sum place)) (frames_of_product place)
-        (sum_expr (reads_to_sum (its_sum place)) (sum_with place p)) (whole_sum (frame_behind place p)) true
+    (sum_expr (reads_to_sum (its_sum place)) (sum_with place p)) (whole_sum (frame_behind place p)) true
     (zero_more _ _ (sum_reads place p)) (sym (sum_frames place)) (sum_built place p)
 
 -- a bracket that closes: its frame goes behind what it holds
 pub bracket_built : (place : FactorPlace) (at : ProductPlace) (p : Product) → its_sum at ≡ InBrackets place
     → built (behind_factor place (Bracketed (sum_with at p))) ≡ finished_by
-        (record { reads = reads_to_product at + reads_in_product p; outer = frames_of place; frame = frame_of place; result = None })
-            (whole_sum (frame_behind at p))
+    (record { reads = reads_to_product at + reads_in_product p; outer = frames_of place; frame = frame_of place; result = None })
+    (whole_sum (frame_behind at p))
 bracket_built place at p e =
     let reads : reads_to place + reads_in_sum (sum_with at p) ≡ reads_to_product at + reads_in_product p =
-        ap (λ (x : SumPlace). reads_to_sum x + reads_in_sum (sum_with at p)) (sym e) ∙ sum_reads at p in
+    ap (λ (x : SumPlace). reads_to_sum x + reads_in_sum (sum_with at p)) (sym e) ∙ sum_reads at p in
     let expr : sum_expr (reads_to place) (sum_with at p) ≡ whole_sum (frame_behind at p) =
-        ap (λ (x : SumPlace). sum_expr (reads_to_sum x) (sum_with at p)) (sym e) ∙ sum_built at p in
+    ap (λ (x : SumPlace). sum_expr (reads_to_sum x) (sum_with at p)) (sym e) ∙ sum_built at p in
     factor_built place (Bracketed (sum_with at p))
     ∙ (λ i. finished_by (record { reads = reads i; outer = frames_of place; frame = frame_of place; result = None }) (expr i))
 
@@ -135,9 +145,14 @@ abbrev BuildsAs : State → Symbol → State → Builder → Type 0
 BuildsAs s t next new = Builds (built s) (show s).stand t (lead_of (show s).stand t) new → built next ≡ new
 
 times_built : (place : ProductPlace) (p : Product) → built (WantsFactor (BehindTimes place p)) ≡ built (Behind place p)
-times_built place p = λ i. record { reads =
-    zero_more (reads_to_product place + reads_in_product p) (reads_to_product place + reads_in_product p) refl i; outer =
-        frames_of_product place; frame = frame_behind place p; result = None }
+times_built place p = λ i. record {
+  reads =
+      zero_more (reads_to_product place + reads_in_product p) (reads_to_product place + reads_in_product p) refl i;
+  outer =
+      frames_of_product place;
+  frame = frame_behind place p;
+  result = None;
+}
 
 close_equal : (at : SumPlace) (place : ProductPlace) (p : Product) (next : State) (new b : Builder) → its_sum place ≡ at
     → closed at (sum_with place p) ≡ Some next → b ≡ built (Behind place p) → closes_so b new → built next ≡ new
@@ -153,8 +168,13 @@ end_equal : (at : SumPlace) (place : ProductPlace) (p : Product) (next : State) 
     → ended at (sum_with place p) ≡ Some next → b ≡ built (Behind place p) → new ≡ at_the_end b → built next ≡ new
 end_equal (OnTheRight left) place p next new b e h k w =
     from_equal (Ended (record { left = left; right = sum_with place p })) next new h
-    ((λ i. record { reads = 0; outer = []; frame = no_frame; result =
-        Some ((ap (λ (x : SumPlace). sum_expr (reads_to_sum x) (sum_with place p)) (sym e) ∙ sum_built place p) i) })
+    ((λ i. record {
+      reads = 0;
+      outer = [];
+      frame = no_frame;
+      result =
+          Some ((ap (λ (x : SumPlace). sum_expr (reads_to_sum x) (sum_with place p)) (sym e) ∙ sum_built place p) i);
+    })
     ∙ ap at_the_end (sym k) ∙ sym w)
 end_equal (InBrackets at) place p next new b e h k w = nothing_leads next h
 
@@ -171,25 +191,30 @@ behind_equal place p (Lexeme (MarkToken Times)) next new b e k w =
     from_equal (WantsFactor (BehindTimes place p)) next new e (times_built place p ∙ sym k ∙ sym w)
 behind_equal place p (Lexeme (MarkToken Plus)) next new b e k w =
     from_equal (WantsFactor (FirstFactor (BehindPlus (its_sum place) (sum_with place p)))) next new e (plus_built place p
-        ∙ ap (λ (x : Builder). joined_with x false) (sym k) ∙ sym w)
+    ∙ ap (λ (x : Builder). joined_with x false) (sym k) ∙ sym w)
 behind_equal place p (Lexeme (MarkToken Minus)) next new b e k w =
     from_equal (WantsFactor (FirstFactor (BehindMinus (its_sum place) (sum_with place p)))) next new e (minus_built place p
-        ∙ ap (λ (x : Builder). joined_with x true) (sym k) ∙ sym w)
+    ∙ ap (λ (x : Builder). joined_with x true) (sym k) ∙ sym w)
 behind_equal place p (Lexeme (MarkToken Close)) next new b e k w = close_equal (its_sum place) place p next new b refl e k w
 behind_equal place p End next new b e k w = end_equal (its_sum place) place p next new b refl e k w
 behind_equal place p _ next new b e k w = nothing_leads next e
 
 scalar_equal : (place : FactorPlace) (name : Name) (t : Symbol) (next : State) (new : Builder)
     → step_behind (its_product place) (product_with place (Read (record { name = name; vars = [] }))) t ≡ Some next
-        → BehindBuilds (with_last_access (at_factor 1 place)) t (behind_leads t) new → built next ≡ new
+    → BehindBuilds (with_last_access (at_factor 1 place)) t (behind_leads t) new → built next ≡ new
 scalar_equal place name t next new e w =
     behind_equal (its_product place) (product_with place (Read (record { name = name; vars = [] }))) t next new
-        (with_last_access (at_factor 1 place)) e (sym (access_built place (record { name = name; vars = [] }))) w
+    (with_last_access (at_factor 1 place)) e (sym (access_built place (record { name = name; vars = [] }))) w
 
 name_equal : (place : FactorPlace) (name : Name) → built (Named (Right place) name) ≡ with_read (at_factor 0 place)
 name_equal place name =
-    λ i. record { reads = (let h : reads_to place + 1 ≡ (reads_to place + 0) + 1 = omega arith in h) i; outer = frames_of place; frame =
-        frame_of place; result = None }
+    λ i. record {
+      reads = (let h : reads_to place + 1 ≡ (reads_to place + 0) + 1 = omega arith in h) i;
+      outer = frames_of place;
+      frame =
+          frame_of place;
+      result = None;
+    }
 
 abbrev Equal : State → Type 0
 Equal s = (t : Symbol) (next : State) (new : Builder) → step s t ≡ Some next → BuildsAs s t next new
@@ -231,7 +256,7 @@ variable_equal (Right place) name vars var (Lexeme (MarkToken Comma)) next new e
     from_equal (WantsVariable (Right place) name (vars ++ (var ∷ []))) next new e (sym w)
 variable_equal (Right place) name vars var (Lexeme (MarkToken Close)) next new e w =
     from_equal (behind_factor place (Read (record { name = name; vars = vars ++ (var ∷ []) }))) next new e
-        (access_built place (record { name = name; vars = vars ++ (var ∷ []) }) ∙ sym w)
+    (access_built place (record { name = name; vars = vars ++ (var ∷ []) }) ∙ sym w)
 variable_equal (Right place) name vars var _ next new e w = nothing_leads next e
 
 left_equal : (access : WrittenAccess) → Equal (BehindLeft access)

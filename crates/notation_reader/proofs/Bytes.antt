@@ -41,9 +41,9 @@ pub behind_twice : (xs : List ℕ) → behind_blanks (behind_blanks xs) ≡ behi
 behind_twice [] = refl
 behind_twice (x ∷ xs) = elim (is_blank x) as (λ b. is_blank x ≡ b
     → behind_blanks (cond b (behind_blanks xs) (x ∷ xs)) ≡ cond b (behind_blanks xs) (x ∷ xs)) [
-  | true ↦ (λ e. behind_twice xs)
-  | false ↦ (λ e. no_blank_first x xs e)
-] refl
+      | true ↦ (λ e. behind_twice xs)
+      | false ↦ (λ e. no_blank_first x xs e)
+    ] refl
 
 pub behind_again : (xs ys : List ℕ) → ys ≡ behind_blanks xs → behind_blanks ys ≡ ys
 behind_again xs ys e = ap behind_blanks e ∙ behind_twice xs ∙ sym e

@@ -110,11 +110,14 @@ right_name_order place name _ next n e h = nothing_leads next e
 
 variable_order : (side : Side) (name : Name) (vars : List Name) (var : Name) (next : State) (n : ℕ)
     → step (WantsVariable side name vars) (Lexeme (NameToken var)) ≡ Some next → n ≡ length vars
-        → OrderIs next (n + 1) × (IsVariable (count_on 1 vars) ≡ IsVariable (n + 1))
-            × ((other : Name) × (◌≡◌ {A = Symbol} (Lexeme (NameToken var)) (Lexeme (NameToken other))))
-variable_order side name vars var next n e h =
-    (order_to (n + 1) (BehindVariable side name vars var) next e (omega (arith, h)), ap (λ k. IsVariable k) (let c =
-        count_is 1 vars in let k : count_on 1 vars ≡ n + 1 = omega (arith, c, h) in k), (var, refl))
+    → OrderIs next (n + 1) × (IsVariable (count_on 1 vars) ≡ IsVariable (n + 1))
+    × ((other : Name) × (◌≡◌ {A = Symbol} (Lexeme (NameToken var)) (Lexeme (NameToken other))))
+variable_order side name vars var next n e h = (
+  order_to (n + 1) (BehindVariable side name vars var) next e (omega (arith, h)),
+  ap (λ k. IsVariable k) (let c =
+      count_is 1 vars in let k : count_on 1 vars ≡ n + 1 = omega (arith, c, h) in k),
+  (var, refl),
+)
 
 wants_variable_order : (side : Side) (name : Name) (vars : List Name) → Ordered (WantsVariable side name vars)
 wants_variable_order Left name vars (Lexeme (NameToken var)) next n e h = variable_order Left name vars var next n e h
@@ -223,7 +226,7 @@ pub record IsJudged (s : State) (t : Symbol) (next : State) (fault : Option Symb
 
 judged : (s : State) (t : Symbol) (next : State) (c after d : Counts) (due fault : Option SymbolFault) → step s t ≡ Some next
     → IsCounted s c → CountsAs due after fault d → limit_passed (role s t) t (before s ++ (read s t ∷ [])) ≡ due → Adds s t next c after
-        → IsJudged s t next fault d
+    → IsJudged s t next fault d
 judged s t next c after d due fault e h k l a = record {
   fault_is = l ∙ sym k.0;
   counted = λ none. subst (IsCounted next) (sym (k.1 (sym k.0 ∙ none))) (adds_counted s t next c after e h a);
@@ -234,11 +237,11 @@ uncounted_judged : (s : State) (t : Symbol) (next : State) (c d : Counts) (fault
 uncounted_judged s t next c d fault e h k u o =
     let a = uncounted_adds (role s t) t u in
     judged s t next c c d None fault e h k (uncounted_passes (role s t) t (before s ++ (read s t ∷ [])) u)
-        (adds_none s t next c h o a.0 a.1 a.2)
+    (adds_none s t next c h o a.0 a.1 a.2)
 
 level_judged : (s : State) (t : Symbol) (next : State) (c d : Counts) (fault : Option SymbolFault) (levels : ℕ) → step s t ≡ Some next
     → IsCounted s c → CountsAs (level_fault levels) c fault d → role s t ≡ Opens (levels + 1) → OrderIs next c.order
-        → IsJudged s t next fault d
+    → IsJudged s t next fault d
 level_judged s t next c d fault levels e h k r o =
     judged s t next c c d (level_fault levels) fault e h k (ap (λ x. limit_passed x t (before s ++ (read s t ∷ []))) r)
     (adds_none s t next c h o (ap (λ x. variable_at x t) r) (ap access_at r) (ap operand_at r))
@@ -251,7 +254,7 @@ name_judged s t next c d fault e h k r o =
     let operands : operands_in all ≡ c.operands + 1 = operands_more (before s) (read s t) ∙ (λ i. sym h.operands i + operand_at (r i)) in
     judged s t next c (with_access c) d (access_fault c) fault e h k
     (ap (λ x. limit_passed x t all) r
-        ∙ (λ i. above greatest_accesses (accesses i) (TooMany Accesses) (above greatest_operands (operands i) (TooMany Operands) None)))
+    ∙ (λ i. above greatest_accesses (accesses i) (TooMany Accesses) (above greatest_operands (operands i) (TooMany Operands) None)))
     (record {
       order = o;
       vars = h.vars ∙ ap distinct (sym (append_none (variables_in (before s)))
@@ -267,7 +270,7 @@ number_judged s t next c d fault e h k r o =
     let operands : operands_in all ≡ c.operands + 1 = operands_more (before s) (read s t) ∙ (λ i. sym h.operands i + operand_at (r i)) in
     judged s t next c (with_number c) d (number_fault c t) fault e h k
     (ap (λ x. limit_passed x t all) r
-        ∙ (λ i. above greatest_operands (operands i) (TooMany Operands) (above greatest_literal (number_of t) LiteralRange None)))
+    ∙ (λ i. above greatest_operands (operands i) (TooMany Operands) (above greatest_literal (number_of t) LiteralRange None)))
     (record {
       order = o;
       vars = h.vars ∙ ap distinct (sym (append_none (variables_in (before s)))
@@ -278,18 +281,18 @@ number_judged s t next c d fault e h k r o =
 
 variable_judged : (s : State) (t : Symbol) (next : State) (c d : Counts) (fault : Option SymbolFault) (name : Name) → step s t ≡ Some next
     → IsCounted s c → CountsAs (variable_fault c name) (with_variable name c) fault d → role s t ≡ IsVariable (c.order + 1)
-        → t ≡ Lexeme (NameToken name) → OrderIs next (c.order + 1) → IsJudged s t next fault d
+    → t ≡ Lexeme (NameToken name) → OrderIs next (c.order + 1) → IsJudged s t next fault d
 variable_judged s t next c d fault name e h k r is o =
     let all = before s ++ (read s t ∷ []) in
     let one : variable_at (role s t) t ≡ name ∷ [] = λ i. variable_at (r i) (is i) in
     let vars : distinct (variables_in (before s) ++ variable_at (role s t) t) ≡ with_name c.vars name =
     ap (λ (ns : List Name). distinct (variables_in (before s) ++ ns)) one ∙ distinct_more (variables_in (before s)) name
-        ∙ ap (λ (ns : List Name). with_name ns name) (sym h.vars) in
+    ∙ ap (λ (ns : List Name). with_name ns name) (sym h.vars) in
     let whole : distinct (variables_in all) ≡ with_name c.vars name = ap distinct (variables_more (before s) (read s t)) ∙ vars in
     judged s t next c (with_variable name c) d (variable_fault c name) fault e h k
     (ap (λ x. limit_passed x t all) r
-        ∙ ap (λ (ns : List Name). above greatest_order (c.order + 1) (TooMany Order)
-            (above greatest_variables (length ns) (TooMany Variables) None)) whole)
+    ∙ ap (λ (ns : List Name). above greatest_order (c.order + 1) (TooMany Order)
+    (above greatest_variables (length ns) (TooMany Variables) None)) whole)
     (record {
       order = o;
       vars = sym vars;
@@ -299,7 +302,7 @@ variable_judged s t next c d fault name e h k r is o =
 
 by_lead : (at : Lead) (s : State) (t : Symbol) (next : State) (c d : Counts) (fault : Option SymbolFault) → step s t ≡ Some next
     → IsCounted s c → CountsSymbol c (show s).levels t at fault d → Does (step s t) (show s) (role s t) at → OrdersAs s t next c.order at
-        → IsJudged s t next fault d
+    → IsJudged s t next fault d
 by_lead lead.Nowhere s t next c d fault e h k w o = nothing_leads next (sym w ∙ e)
 by_lead (lead.To at) s t next c d fault e h k w o = uncounted_judged s t next c d fault e h k w.1 o
 by_lead (lead.Variable at) s t next c d fault e h k w o = variable_judged s t next c d fault o.2.0 e h (k o.2.0 o.2.1) o.1 o.2.1 o.0

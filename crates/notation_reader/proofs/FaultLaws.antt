@@ -78,13 +78,13 @@ past_no_more earlier t s next fault e h none p =
     let b = begun_stands (p.front ++ (p.last ∷ [])) p.begins in
     let ran : run Start (earlier ++ (t ∷ [])) ≡ Some b.0 = ap (run Start) (sym p.symbols_are) ∙ b.1.0 in
     let there : next ≡ b.0 = (let both : ◌≡◌ {A = Option State} (Some next) (Some b.0) = sym h
-        ∙ last_step earlier t Start s b.0 e ran in cc) in
+    ∙ last_step earlier t Start s b.0 e ran in cc) in
     let whole : before s ++ (read s t ∷ []) ≡ p.front ++ (p.last ∷ []) = sym (grows s t next h) ∙ ap before there ∙ b.1.1 in
     let last : read s t ≡ p.last = (last_once (before s) p.front (read s t) p.last whole).1 in
     let same : limit_passed (read s t).role t (before s ++ (read s t ∷ [])) ≡ limit_passed p.last.role p.last.symbol (p.front
-        ++ (p.last ∷ [])) =
+    ++ (p.last ∷ [])) =
     ap (λ (m : Written). limit_passed m.role m.symbol (before s ++ (read s t ∷ []))) last
-        ∙ ap (λ (ms : List Written). limit_passed p.last.role p.last.symbol ms) whole in
+    ∙ ap (λ (ms : List Written). limit_passed p.last.role p.last.symbol ms) whole in
     let no : ◌≡◌ {A = Option SymbolFault} None (Some fault) = sym none ∙ same ∙ p.passed in
     cc
 
@@ -98,6 +98,8 @@ taken_has_no_fault earlier t s next e h none fault f = elim f [
 pub faultless_on : (earlier ts : List Symbol) (t : Symbol) → HaveNoFault earlier ts → HasNoFault (earlier ++ ts) t
     → HaveNoFault earlier (ts ++ (t ∷ []))
 faultless_on earlier [] t h k = (subst (λ (xs : List Symbol). HasNoFault xs t) (append_none earlier) k, tt)
-faultless_on earlier (u ∷ ts) t h k =
-    (h.0, faultless_on (earlier
-        ++ (u ∷ [])) ts t h.1 (subst (λ (xs : List Symbol). HasNoFault xs t) (sym (append_assoc earlier (u ∷ []) ts)) k))
+faultless_on earlier (u ∷ ts) t h k = (
+  h.0,
+  faultless_on (earlier
+      ++ (u ∷ [])) ts t h.1 (subst (λ (xs : List Symbol). HasNoFault xs t) (sym (append_assoc earlier (u ∷ []) ts)) k),
+)

@@ -54,12 +54,12 @@ pub counted_refused : (s : State) (r : Position) (t : Symbol) (c d : Counts) (f 
 counted_refused s r t c d f e h k =
     let at = lead_of (show s).stand t in
     let counts : CountsSymbol c (show s).levels t at (Some f) d =
-        subst (λ (x : Position). CountsSymbol c x.levels t (lead_of x.stand t) (Some f) d) (sym e) k in
+    subst (λ (x : Position). CountsSymbol c x.levels t (lead_of x.stand t) (Some f) d) (sym e) k in
     refused_by at s t c d f (leads_on at (step s t) (show s) (role s t) c d (show s).levels t f (does s t) counts) h counts
 
 moved_judged : (s : State) (t : Symbol) (c d : Counts) (q : Position) (b : Bool) → IsCounted s c
     → CountsSymbol c (show s).levels t (lead_of (show s).stand t) None d → Tells b (step s t) q
-        → MatchBool b (IsTaken s t q d) (IsRefused s t BadNotation)
+    → MatchBool b (IsTaken s t q d) (IsRefused s t BadNotation)
 moved_judged s t c d q true h k w =
     let j = symbol_judged s t w.0 c d None w.1 h k in
     record { next = w.0; steps = w.1; within = j.fault_is; shows = w.2; counted = j.counted refl }
@@ -67,7 +67,7 @@ moved_judged s t c d q false h k w = nowhere refl w
 
 pub moved : (s : State) (r : Position) (t : Symbol) (c d : Counts) (q : Position) (b : Bool) → show s ≡ r → IsCounted s c
     → CountsSymbol c r.levels t (lead_of r.stand t) None d → Moves r (lead_of r.stand t) b q
-        → MatchBool b (IsTaken s t q d) (IsRefused s t BadNotation)
+    → MatchBool b (IsTaken s t q d) (IsRefused s t BadNotation)
 moved s r t c d q b e h k m =
     let counts = subst (λ (x : Position). CountsSymbol c x.levels t (lead_of x.stand t) None d) (sym e) k in
     let moves = subst (λ (x : Position). Moves x (lead_of x.stand t) b q) (sym e) m in
@@ -82,8 +82,14 @@ pub record Comes (ts : List Symbol) (r : Position) (c : Counts) : Type 0 where
   pub faultless : HaveNoFault [] ts
 
 pub comes_first : Comes [] (on_the_left stand.Nothing) (record { order = 0; vars = []; accesses = 0; operands = 0 })
-comes_first = record { state = Start; runs = refl; shows = refl; counted =
-    record { order = refl; vars = refl; accesses = refl; operands = refl }; faultless = tt }
+comes_first = record {
+  state = Start;
+  runs = refl;
+  shows = refl;
+  counted =
+      record { order = refl; vars = refl; accesses = refl; operands = refl };
+  faultless = tt;
+}
 
 pub comes_on : (ts : List Symbol) (t : Symbol) (r q : Position) (c d : Counts) → Comes ts r c
     → ((s : State) → show s ≡ r → IsCounted s c → IsTaken s t q d) → Comes (ts ++ (t ∷ [])) q d
@@ -112,7 +118,7 @@ end_so Start next e = nothing_leads next e
 end_so (Named Left name) next e = nothing_leads next e
 end_so (Named (Right place) name) next e =
     ended_so (its_sum (its_product place))
-        (sum_with (its_product place) (product_with place (Read (record { name = name; vars = [] })))) next e
+    (sum_with (its_product place) (product_with place (Read (record { name = name; vars = [] })))) next e
 end_so (WantsVariable side name vars) next e = nothing_leads next e
 end_so (BehindVariable side name vars var) next e = nothing_leads next e
 end_so (BehindLeft access) next e = nothing_leads next e

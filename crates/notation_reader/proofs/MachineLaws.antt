@@ -38,12 +38,12 @@ factor_behind (BehindTimes place p) f =
     regrouped (before_product place) (product_of (product_levels place) p) (factor_of (product_levels place) f) (plain Times)
 factor_behind (BehindSign place) f = factor_behind place (Negated f)
     ∙ sym (append_assoc (before_factor place) (written (MarkToken Minus) (Opens (suc (levels place)))
-        ∷ []) (factor_of (suc (levels place)) f))
+    ∷ []) (factor_of (suc (levels place)) f))
 
 -- a product behind its place is the last of a sum
 sum_behind : (place : ProductPlace) (p : Product)
     → before_sum (its_sum place) ++ sum_of (sum_levels (its_sum place)) (sum_with place p) ≡ before_product place
-        ++ product_of (product_levels place) p
+    ++ product_of (product_levels place) p
 sum_behind (First place) p = refl
 sum_behind (BehindPlus place s) p =
     regrouped (before_sum place) (sum_of (sum_levels place) s) (product_of (sum_levels place) p) (plain Plus)
@@ -57,21 +57,21 @@ commas n (v ∷ vars) var = ap (λ (ms : List Written). written (NameToken v) (I
 
 more_closed : (n : ℕ) (vars : List Name) (var : Name)
     → more_variables n (vars ++ (var ∷ [])) ≡ plain Comma
-        ∷ (with_commas n vars ++ (written (NameToken var) (IsVariable (count_on n vars)) ∷ plain Close ∷ []))
+    ∷ (with_commas n vars ++ (written (NameToken var) (IsVariable (count_on n vars)) ∷ plain Close ∷ []))
 more_closed n [] var = refl
 more_closed n (v ∷ vars) var =
     ap (λ (ms : List Written). plain Comma ∷ written (NameToken v) (IsVariable n) ∷ ms) (more_closed (suc n) vars var)
 
 brackets_closed : (vars : List Name) (var : Name)
     → in_brackets (vars ++ (var ∷ [])) ≡ plain Open
-        ∷ (with_commas 1 vars ++ (written (NameToken var) (IsVariable (count_on 1 vars)) ∷ plain Close ∷ []))
+    ∷ (with_commas 1 vars ++ (written (NameToken var) (IsVariable (count_on 1 vars)) ∷ plain Close ∷ []))
 brackets_closed [] var = refl
 brackets_closed (v ∷ vars) var = ap (λ (ms : List Written). plain Open ∷ written (NameToken v) (IsVariable 1) ∷ ms) (more_closed 2 vars var)
 
 -- one after another
 step_by_step : (front vars : List Written) (name opens var closes : Written)
     → front ++ (name ∷ opens ∷ (vars ++ (var ∷ closes ∷ []))) ≡ ((((front ++ (name ∷ [])) ++ (opens ∷ [])) ++ vars) ++ (var ∷ []))
-        ++ (closes ∷ [])
+    ++ (closes ∷ [])
 step_by_step front vars name opens var closes = sym (
     append_assoc (((front ++ (name ∷ [])) ++ (opens ∷ [])) ++ vars) (var ∷ []) (closes ∷ [])
     ∙ append_assoc ((front ++ (name ∷ [])) ++ (opens ∷ [])) vars (var ∷ closes ∷ [])
@@ -80,12 +80,12 @@ step_by_step front vars name opens var closes = sym (
 
 access_behind : (front : List Written) (r : Role) (name : Name) (vars : List Name) (var : Name)
     → front ++ access_of r (record { name = name; vars = vars ++ (var ∷ []) }) ≡
-        ((((front ++ (written (NameToken name) r ∷ [])) ++ (plain Open ∷ [])) ++ with_commas 1 vars)
-            ++ (written (NameToken var) (IsVariable (count_on 1 vars)) ∷ [])) ++ (plain Close ∷ [])
+    ((((front ++ (written (NameToken name) r ∷ [])) ++ (plain Open ∷ [])) ++ with_commas 1 vars)
+    ++ (written (NameToken var) (IsVariable (count_on 1 vars)) ∷ [])) ++ (plain Close ∷ [])
 access_behind front r name vars var =
     ap (λ (ms : List Written). front ++ (written (NameToken name) r ∷ ms)) (brackets_closed vars var)
     ∙ step_by_step front (with_commas 1 vars) (written (NameToken name) r) (plain Open)
-        (written (NameToken var) (IsVariable (count_on 1 vars))) (plain Close)
+    (written (NameToken var) (IsVariable (count_on 1 vars))) (plain Close)
 
 -- a state is led to by a symbol
 abbrev pub Grows : State → Symbol → State → Type 0
@@ -102,7 +102,7 @@ closed_grows (InBrackets place) s next e =
     ap before (sym (some_is (behind_factor place (Bracketed s)) next e))
     ∙ factor_behind place (Bracketed s)
     ∙ sym (append_assoc (before_factor place ++ (opens ∷ [])) (sum_of (suc (levels place)) s) (plain Close ∷ [])
-        ∙ append_assoc (before_factor place) (opens ∷ []) (sum_of (suc (levels place)) s ++ (plain Close ∷ [])))
+    ∙ append_assoc (before_factor place) (opens ∷ []) (sum_of (suc (levels place)) s ++ (plain Close ∷ [])))
 
 ended_grows : (place : SumPlace) (s : Sum) (next : State) → ended place s ≡ Some next
     → before next ≡ (before_sum place ++ sum_of (sum_levels place) s) ++ (the_end ∷ [])
@@ -115,10 +115,10 @@ behind_grows place p (Lexeme (MarkToken Times)) next e =
     leads (Behind place p) (Lexeme (MarkToken Times)) (WantsFactor (BehindTimes place p)) next e refl
 behind_grows place p (Lexeme (MarkToken Plus)) next e =
     leads (Behind place p) (Lexeme (MarkToken Plus)) (WantsFactor (FirstFactor (BehindPlus (its_sum place) (sum_with place p)))) next e
-        (ap (λ (ms : List Written). ms ++ (plain Plus ∷ [])) (sum_behind place p))
+    (ap (λ (ms : List Written). ms ++ (plain Plus ∷ [])) (sum_behind place p))
 behind_grows place p (Lexeme (MarkToken Minus)) next e =
     leads (Behind place p) (Lexeme (MarkToken Minus)) (WantsFactor (FirstFactor (BehindMinus (its_sum place) (sum_with place p)))) next e
-        (ap (λ (ms : List Written). ms ++ (plain Minus ∷ [])) (sum_behind place p))
+    (ap (λ (ms : List Written). ms ++ (plain Minus ∷ [])) (sum_behind place p))
 behind_grows place p (Lexeme (MarkToken Close)) next e = closed_grows (its_sum place) (sum_with place p) next e
     ∙ ap (λ (ms : List Written). ms ++ (plain Close ∷ [])) (sum_behind place p)
 behind_grows place p End next e = ended_grows (its_sum place) (sum_with place p) next e
@@ -136,7 +136,7 @@ scalar name = record { name = name; vars = [] }
 
 scalar_grows : (place : FactorPlace) (name : Name) (t : Symbol) (next : State)
     → step_behind (its_product place) (product_with place (Read (scalar name))) t ≡ Some next
-        → before next ≡ before (Named (Right place) name) ++ (record { symbol = t; role = Plain } ∷ [])
+    → before next ≡ before (Named (Right place) name) ++ (record { symbol = t; role = Plain } ∷ [])
 scalar_grows place name t next e =
     behind_grows (its_product place) (product_with place (Read (scalar name))) t next e
     ∙ ap (λ (ms : List Written). ms ++ (record { symbol = t; role = Plain } ∷ [])) (factor_behind place (Read (scalar name)))
@@ -153,7 +153,7 @@ named_grows (Right place) name t next e = scalar_grows place name t next e
 
 variable_closes : (side : Side) (name : Name) (vars : List Name) (var : Name)
     → Grows (BehindVariable side name vars var) (Lexeme (MarkToken Close))
-        (behind_access side (record { name = name; vars = vars ++ (var ∷ []) }))
+    (behind_access side (record { name = name; vars = vars ++ (var ∷ []) }))
 variable_closes Left name vars var = access_behind [] NamesLeft name vars var
 variable_closes (Right place) name vars var = factor_behind place (Read (record { name = name; vars = vars ++ (var ∷ []) }))
     ∙ access_behind (before_factor place) NamesRight name vars var
@@ -165,16 +165,16 @@ variable_goes_on side name vars var =
     let v = written (NameToken var) (IsVariable (count_on 1 vars)) in
     ap (λ (ms : List Written). front ++ ms) (commas 1 vars var)
     ∙ sym (append_assoc (front ++ with_commas 1 vars) (v ∷ []) (plain Comma ∷ [])
-        ∙ append_assoc front (with_commas 1 vars) (v ∷ plain Comma ∷ []))
+    ∙ append_assoc front (with_commas 1 vars) (v ∷ plain Comma ∷ []))
 
 variable_grows : (side : Side) (name : Name) (vars : List Name) (var : Name) (t : Symbol) (next : State)
     → step (BehindVariable side name vars var) t ≡ Some next → Grows (BehindVariable side name vars var) t next
 variable_grows side name vars var (Lexeme (MarkToken Comma)) next e =
     leads (BehindVariable side name vars var) (Lexeme (MarkToken Comma)) (WantsVariable side name (vars ++ (var ∷ []))) next e
-        (variable_goes_on side name vars var)
+    (variable_goes_on side name vars var)
 variable_grows side name vars var (Lexeme (MarkToken Close)) next e =
     leads (BehindVariable side name vars var) (Lexeme (MarkToken Close))
-        (behind_access side (record { name = name; vars = vars ++ (var ∷ []) })) next e (variable_closes side name vars var)
+    (behind_access side (record { name = name; vars = vars ++ (var ∷ []) })) next e (variable_closes side name vars var)
 variable_grows side name vars var _ next e = nothing_leads next e
 
 wants_variable_grows : (side : Side) (name : Name) (vars : List Name) (t : Symbol) (next : State)
@@ -190,7 +190,7 @@ start_grows _ next e = nothing_leads next e
 factor_grows : (place : FactorPlace) (t : Symbol) (next : State) → step (WantsFactor place) t ≡ Some next → Grows (WantsFactor place) t next
 factor_grows place (Lexeme (NumberToken digits)) next e =
     leads (WantsFactor place) (Lexeme (NumberToken digits)) (behind_factor place (Digits digits)) next e
-        (factor_behind place (Digits digits))
+    (factor_behind place (Digits digits))
 factor_grows place (Lexeme (NameToken name)) next e =
     leads (WantsFactor place) (Lexeme (NameToken name)) (Named (Right place) name) next e refl
 factor_grows place (Lexeme (MarkToken Open)) next e =

@@ -45,16 +45,16 @@ scalar_read (Right place) name rest h = right_scalar_read place name rest h
 
 variables_read : (side : Side) (name : Name) (vars : List Name) (var : Name) (more : List Name) (n : ℕ) (rest : List Written)
     → run (BehindVariable side name vars var) (symbols (more_variables n more ++ rest)) ≡ run
-        (behind_access side (record { name = name; vars = vars ++ (var ∷ more) })) (symbols rest)
+    (behind_access side (record { name = name; vars = vars ++ (var ∷ more) })) (symbols rest)
 variables_read side name vars var [] n rest = refl
 variables_read side name vars var (next ∷ more) n rest =
     variables_read side name (vars ++ (var ∷ [])) next more (suc n) rest
     ∙ ap (λ (all : List Name). run (behind_access side (record { name = name; vars = all })) (symbols rest))
-        (append_assoc vars (var ∷ []) (next ∷ more))
+    (append_assoc vars (var ∷ []) (next ∷ more))
 
 access_parts_read : (side : Side) (name : Name) (vars : List Name) (rest : List Written) → Follows (symbols rest)
     → run (Named side name) (symbols (in_brackets vars ++ rest)) ≡ run (behind_access side (record { name = name; vars = vars }))
-        (symbols rest)
+    (symbols rest)
 access_parts_read side name [] rest h = scalar_read side name (symbols rest) h
 access_parts_read side name (var ∷ vars) rest h = variables_read side name [] var vars 2 rest
 
@@ -106,7 +106,7 @@ mutual
       ap (read_on (WantsFactor (FirstFactor (First (InBrackets place))))) (append_assoc (sum_of (suc n) s) (plain Close ∷ []) rest)
       ∙ sum_read s (suc n) (InBrackets place) (plain Close ∷ rest) tt
       ∙ stepped (behind_sum (InBrackets place) s) (Lexeme (MarkToken Close)) (Some (behind_factor place (Bracketed s))) (symbols rest)
-          (sum_closes (InBrackets place) s)
+      (sum_closes (InBrackets place) s)
   factor_read (Negated f) n place rest h = factor_read f (suc n) (BehindSign place) rest h
 
   product_read : (p : Product) (n : ℕ) (place : ProductPlace) (rest : List Written) → Follows (symbols rest)
@@ -124,13 +124,13 @@ mutual
       ap (read_on (WantsFactor (FirstFactor (First place)))) (append_assoc (sum_of n s) (plain Plus ∷ product_of n p) rest)
       ∙ sum_read s n place (plain Plus ∷ (product_of n p ++ rest)) tt
       ∙ stepped (behind_sum place s) (Lexeme (MarkToken Plus)) (Some (WantsFactor (FirstFactor (BehindPlus place s))))
-          (symbols (product_of n p ++ rest)) (sum_adds place s)
+      (symbols (product_of n p ++ rest)) (sum_adds place s)
       ∙ product_read p n (BehindPlus place s) rest h
   sum_read (Taken s p) n place rest h =
       ap (read_on (WantsFactor (FirstFactor (First place)))) (append_assoc (sum_of n s) (plain Minus ∷ product_of n p) rest)
       ∙ sum_read s n place (plain Minus ∷ (product_of n p ++ rest)) tt
       ∙ stepped (behind_sum place s) (Lexeme (MarkToken Minus)) (Some (WantsFactor (FirstFactor (BehindMinus place s))))
-          (symbols (product_of n p ++ rest)) (sum_takes place s)
+      (symbols (product_of n p ++ rest)) (sum_takes place s)
       ∙ product_read p n (BehindMinus place s) rest h
 
 -- a sentence is read to its end
@@ -157,10 +157,10 @@ mutual
   ends_sum (OnTheRight left) place p e =
       let next = Ended (record { left = left; right = sum_with place p }) in
       ends_from (Behind place p) End next (ap (λ (x : SumPlace). ended x (sum_with place p)) e)
-          (record { rest = []; tree = record { left = left; right = sum_with place p }; is = refl })
+      (record { rest = []; tree = record { left = left; right = sum_with place p }; is = refl })
   ends_sum (InBrackets at) place p e =
       ends_from (Behind place p) (Lexeme (MarkToken Close)) (behind_factor at (Bracketed (sum_with place p)))
-          (ap (λ (x : SumPlace). closed x (sum_with place p)) e) (ends_factor at (Bracketed (sum_with place p)))
+      (ap (λ (x : SumPlace). closed x (sum_with place p)) e) (ends_factor at (Bracketed (sum_with place p)))
 
   ends_product : (place : ProductPlace) (p : Product) → Ends (Behind place p)
   ends_product (First at) p = ends_sum at (First at) p refl
@@ -191,13 +191,13 @@ ends_access (Right place) access = ends_factor place (Read access)
 ends_variable : (side : Side) (name : Name) (vars : List Name) (var : Name) → Ends (BehindVariable side name vars var)
 ends_variable side name vars var =
     ends_from (BehindVariable side name vars var) (Lexeme (MarkToken Close))
-        (behind_access side (record { name = name; vars = vars ++ (var ∷ []) })) refl
-            (ends_access side (record { name = name; vars = vars ++ (var ∷ []) }))
+    (behind_access side (record { name = name; vars = vars ++ (var ∷ []) })) refl
+    (ends_access side (record { name = name; vars = vars ++ (var ∷ []) }))
 
 ends_variables : (side : Side) (name : Name) (vars : List Name) → Ends (WantsVariable side name vars)
 ends_variables side name vars =
     ends_from (WantsVariable side name vars) (Lexeme (NameToken a_name)) (BehindVariable side name vars a_name) refl
-        (ends_variable side name vars a_name)
+    (ends_variable side name vars a_name)
 
 ends_named : (side : Side) (name : Name) → Ends (Named side name)
 ends_named side name = ends_from (Named side name) (Lexeme (MarkToken Open)) (WantsVariable side name []) refl (ends_variables side name [])
@@ -279,7 +279,7 @@ StandsBehind ms s = (run Start (symbols ms) ≡ Some s) × (before s ≡ ms)
 pub begun_stands : (ms : List Written) → Begins ms → (s : State) × StandsBehind ms s
 begun_stands ms h =
     let all : run Start (symbols ms ++ symbols h.rest) ≡ Some (Ended h.tree) = ap (run Start) (sym (symbols_join ms h.rest)
-        ∙ ap symbols h.is) ∙ sentence_read h.tree in
+    ∙ ap symbols h.is) ∙ sentence_read h.tree in
     let p = run_parts (symbols ms) (symbols h.rest) Start (Ended h.tree) all in
     let to = way (symbols ms) Start p.0 p.1 in
     let from = way (symbols h.rest) p.0 (Ended h.tree) p.2 in

@@ -44,7 +44,7 @@ not_above true f o e = absurd (let no = e in cc)
 pub number_small : (c : Counts) (t : Symbol) → None ≡ number_fault c t → number_of t ≤ greatest_literal
 number_small c t e =
     let first = not_above (nat_lt greatest_operands (c.operands + 1)) (TooMany Operands)
-        (above greatest_literal (number_of t) LiteralRange None) (sym e) in
+    (above greatest_literal (number_of t) LiteralRange None) (sym e) in
     let second = not_above (nat_lt greatest_literal (number_of t)) LiteralRange None first.1 in
     ltb-false greatest_literal (number_of t) second.0
 
@@ -86,7 +86,7 @@ shown_so ts r h = record { position = h.comes.shows; counted = h.comes.counted; 
 -- a symbol is taken, its accesses kept, and its expression built
 pub taken_by : (s : State) (t : Symbol) (r q : Reader) → Shows s r → IsTaken s t q.position q.counts
     → Mentions t (lead_of r.position.stand t) r.accesses q.accesses
-        → Builds r.builder r.position.stand t (lead_of r.position.stand t) q.builder → IsTakenBy s t q
+    → Builds r.builder r.position.stand t (lead_of r.position.stand t) q.builder → IsTakenBy s t q
 taken_by s t r q h k m w =
     let mentioned : Mentions t (lead_of (show s).stand t) (accesses_so_far s) q.accesses =
     subst (λ (x : List WrittenAccess). Mentions t (lead_of (show s).stand t) x q.accesses) (sym h.accesses)
@@ -152,7 +152,7 @@ one_more : (i : ℕ) (xs : List PlacedSymbol) (x : PlacedSymbol) → i < length 
 one_more i xs x h e =
     let n : i + 1 ≡ suc i = omega arith in
     ap symbols_of (ap (λ k. take k xs) n ∙ take-suc xs i x h ∙ ap (λ (y : PlacedSymbol). take i xs ++ (y ∷ [])) (sym e))
-        ∙ symbols_append (take i xs) (x ∷ [])
+    ∙ symbols_append (take i xs) (x ∷ [])
 
 -- one symbol further
 pub read_more : (i : ℕ) (xs : List PlacedSymbol) (x : PlacedSymbol) (r q : Reader) → i < length xs → x ≡ get_or xs i x

@@ -47,9 +47,11 @@ starts_same text other G E Stray e h =
 symbols_same : (size : ℕ) (text other : List ℕ) (ps : List PlacedSymbol) → behind_blanks text ≡ behind_blanks other
     → AreSymbols size text ps → AreSymbols size other ps
 symbols_same size text other [] e h = absurd h
-symbols_same size text other (p ∷ more) e h =
-    (h.0 ∙ ap (λ (left : List ℕ). size - length left) e, starts_same text other (λ rest. AreSymbols size rest more)
-        (more ≡ []) p.symbol e h.1)
+symbols_same size text other (p ∷ more) e h = (
+  h.0 ∙ ap (λ (left : List ℕ). size - length left) e,
+  starts_same text other (λ rest. AreSymbols size rest more)
+      (more ≡ []) p.symbol e h.1,
+)
 
 -- the symbols that were scanned, before those of what is left, are those of the whole text of `size` bytes
 pub record Scans (size : ℕ) (text : List ℕ) (done : List PlacedSymbol) (rest : List ℕ) : Type 0 where
@@ -74,7 +76,7 @@ placed symbol at = record { symbol = symbol; at = at }
 
 pub scan_steps : (size : ℕ) (text rest next : List ℕ) (done now : List PlacedSymbol) (token : Token) (used at : ℕ)
     → Scans size text done rest → IsNext rest token (drop used rest) → at ≡ size - length rest
-        → now ≡ done ++ (placed (Lexeme token) at ∷ []) → next ≡ behind_blanks (between used (length rest) rest) → Scans size text now next
+    → now ≡ done ++ (placed (Lexeme token) at ∷ []) → next ≡ behind_blanks (between used (length rest) rest) → Scans size text now next
 scan_steps size text rest next done now token used at s n a d e =
     let behind : next ≡ behind_blanks (drop used rest) = e ∙ ap behind_blanks (between_to_end rest used (length rest) (omega arith)) in
     let next_same : behind_blanks next ≡ behind_blanks (drop used rest) = ap behind_blanks behind ∙ behind_twice (drop used rest) in
@@ -82,8 +84,10 @@ scan_steps size text rest next done now token used at s n a d e =
       joins = λ more h.
           rw d (subst (AreSymbols size text) (sym (append_assoc done (placed (Lexeme token) at ∷ []) more))
           (s.joins (placed (Lexeme token) at
-              ∷ more) (placed_at size at rest s.no_blank a,
-                  (drop used rest, n, symbols_same size next (drop used rest) more next_same h))));
+          ∷ more) (
+            placed_at size at rest s.no_blank a,
+            (drop used rest, n, symbols_same size next (drop used rest) more next_same h),
+          )));
       no_blank = behind_again (drop used rest) next behind;
       within =
           let short = behind_is_short (drop used rest) in
@@ -95,7 +99,7 @@ scan_steps size text rest next done now token used at s n a d e =
 
 pub scan_strays : (size : ℕ) (text rest : List ℕ) (done now : List PlacedSymbol) (first : ℕ) (behind : List ℕ) (at : ℕ)
     → Scans size text done rest → rest ≡ first ∷ behind → BeginsNoToken rest → at ≡ size - length rest
-        → now ≡ done ++ (placed Stray at ∷ []) → AreSymbols size text now
+    → now ≡ done ++ (placed Stray at ∷ []) → AreSymbols size text now
 scan_strays size text rest done now first behind at s f none a d =
     let some : behind_blanks rest ≢ [] = λ k. let no : first ∷ behind ≡ [] = sym f ∙ sym s.no_blank ∙ k in cc in
     rw d (s.joins (placed Stray at ∷ []) (placed_at size at rest s.no_blank a, (some, none, refl)))
@@ -116,7 +120,7 @@ lone_last t ps h e = record { front = []; last = t; is = ap (λ (more : List Pla
 
 last_behind : (size : ℕ) (text : List ℕ) (p : PlacedSymbol) (t : Symbol) (ps : List PlacedSymbol)
     → ((rest : List ℕ) → AreSymbols size rest ps → HasLast (symbols_of ps))
-        → StartsWith text (λ rest. AreSymbols size rest ps) (ps ≡ []) t → HasLast (t ∷ symbols_of ps)
+    → StartsWith text (λ rest. AreSymbols size rest ps) (ps ≡ []) t → HasLast (t ∷ symbols_of ps)
 last_behind size text p (Lexeme token) ps more h = last_more (Lexeme token) (symbols_of ps) (more h.0 h.2)
 last_behind size text p End ps more h = lone_last End ps tt h.1
 last_behind size text p Stray ps more h = lone_last Stray ps tt h.2
@@ -131,6 +135,6 @@ pub scan_shortens : (rest next : List ℕ) (used : ℕ) → 0 < used → used �
 scan_shortens rest next used some within e =
     let short = behind_is_short (drop used rest) in
     let long : length next ≡ length (behind_blanks (drop used rest)) = ap length (e
-        ∙ ap behind_blanks (between_to_end rest used (length rest) (omega arith))) in
+    ∙ ap behind_blanks (between_to_end rest used (length rest) (omega arith))) in
     let left = length-drop used rest in
     omega arith

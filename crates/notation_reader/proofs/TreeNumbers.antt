@@ -70,8 +70,8 @@ OrdersWithin ms = Each (λ m. OrderWithin m.role) ms
 order_within : (r : Role) (t : Symbol) (all : List Written) → limit_passed r t all ≡ None → OrderWithin r
 order_within (IsVariable n) t all e =
     ltb-false greatest_order n
-        (not_above (nat_lt greatest_order n) (TooMany Order)
-            (above greatest_variables (length (distinct (variables_in all))) (TooMany Variables) None) e).0
+    (not_above (nat_lt greatest_order n) (TooMany Order)
+    (above greatest_variables (length (distinct (variables_in all))) (TooMany Variables) None) e).0
 order_within NamesLeft t all e = tt
 order_within NamesRight t all e = tt
 order_within IsNumber t all e = tt
@@ -195,7 +195,7 @@ FewVariables ms = length (distinct (variables_in ms)) ≤ greatest_variables
 few_still : (done : List Written) (m : Written) → variable_at m.role m.symbol ≡ [] → FewVariables done → FewVariables (done ++ (m ∷ []))
 few_still done m e h =
     let same : variables_in (done ++ (m ∷ [])) ≡ variables_in done = variables_more done m
-        ∙ ap (λ (vars : List Name). variables_in done ++ vars) e ∙ append_none (variables_in done) in
+    ∙ ap (λ (vars : List Name). variables_in done ++ vars) e ∙ append_none (variables_in done) in
     subst (λ (vars : List Name). length (distinct vars) ≤ greatest_variables) (sym same) h
 
 few_more : (done : List Written) (t : Symbol) (r : Role) → limit_passed r t (done ++ (record { symbol = t; role = r } ∷ [])) ≡ None
@@ -264,10 +264,10 @@ tree_is_numbered w h =
     let vars = distinct (variables_of all) in
     let orders = tree_orders w (orders_within [] (sentence_of w) within) in
     let stand = numbered_are_accesses tensors vars all (λ name s. stands_distinct name (map name_of all) s)
-        (λ name s. stands_distinct name (variables_of all) s) orders in
+    (λ name s. stands_distinct name (variables_of all) s) orders in
     let none : FewVariables [] = omega arith in
     let count : length (map (numbered tensors vars) (accesses_of_sum w.right)) ≡ length (accesses_of_sum w.right) =
-        length-map (accesses_of_sum w.right) (numbered tensors vars) in
+    length-map (accesses_of_sum w.right) (numbered tensors vars) in
     let reads = sum_reads w.right in
     record {
       left = stand.0;

@@ -71,17 +71,34 @@ feeds_end {r} {s} {t} {a} {b} {d} {m} {n} p q z =
 -- what stops behind pieces that were fed stops the whole
 pub stops_after : {E : Type 0} (eaten : E → List ℕ) (refused : E → List ℕ → E
     → Type 0) (r s t : FolderState) (old mid new : E) (n left budget : ℕ) (stop : ReadStop) → Feeds r s (eaten old) (eaten mid) n
-        → budget ≡ n + left → Stops eaten refused s t left mid new stop → Stops eaten refused r t budget old new stop
+    → budget ≡ n + left → Stops eaten refused s t left mid new stop → Stops eaten refused r t budget old new stop
 stops_after eaten refused r s t old mid new n left budget ReadFault p b h =
     record { mid = h.mid; n = n + h.n; within = omega (arith, h.within, b); feeds = feeds_then p h.feeds; fails = h.fails }
 stops_after eaten refused r s t old mid new n left budget FileBytes p b h =
-    record { mid = h.mid; n = n + h.n; feeds = feeds_then p h.feeds; buffer = h.buffer; m = h.m; reads = h.reads; over =
-        omega (arith, h.over, b) }
+    record {
+      mid = h.mid;
+      n = n + h.n;
+      feeds = feeds_then p h.feeds;
+      buffer = h.buffer;
+      m = h.m;
+      reads = h.reads;
+      over =
+          omega (arith, h.over, b);
+    }
 stops_after eaten refused r s t old mid new n left budget (Memory e) p b (inl h) =
     inl (record { mid = h.mid; n = n + h.n; feeds = feeds_then p h.feeds; wants = h.wants })
 stops_after eaten refused r s t old mid new n left budget (Memory e) p b (inr h) =
-    inr (record { mid = h.mid; before = h.before; n = n + h.n; feeds = feeds_then p h.feeds; buffer = h.buffer; m = h.m; reads =
-        h.reads; refuses = h.refuses })
+    inr (record {
+      mid = h.mid;
+      before = h.before;
+      n = n + h.n;
+      feeds = feeds_then p h.feeds;
+      buffer = h.buffer;
+      m = h.m;
+      reads =
+          h.reads;
+      refuses = h.refuses;
+    })
 
 all_at_end : (r s : Option (List ℕ)) (bytes : List ℕ) → r ≡ before_rest bytes s → IsAtEnd s → IsAll r bytes
 all_at_end None s bytes e h = tt
@@ -146,8 +163,16 @@ front_before {r} {s} {t} {u} {name} buffer m p q last = record {
   more = take m buffer;
   rest = u.rest;
   eaten_is = q.eaten_is;
-  taken_is = omega (arith, last.taken_is, q.taken_is, p.taken_is, q.count_is, length-append q.fed
-      (take m buffer), length_taken m buffer last.within);
+  taken_is = omega (
+    arith,
+    last.taken_is,
+    q.taken_is,
+    p.taken_is,
+    q.count_is,
+    length-append q.fed
+        (take m buffer),
+    length_taken m buffer last.within,
+  );
   given_is = last.given_is ∙ ap (λ w. extended w (take m buffer)) (q.given_is ∙ ap (λ w. extended w q.fed) p.given_is)
       ∙ extended-append (opened r.given name) q.fed (take m buffer) ∙ extended-opened r.given name (q.fed ++ take m buffer);
   told_is = told_before buffer m p q last;
@@ -156,7 +181,7 @@ front_before {r} {s} {t} {u} {name} buffer m p q last = record {
 -- a file that was opened, and how its reading stopped
 pub stops_reading : {E : Type 0} (eaten : E → List ℕ) (refused : E → List ℕ → E
     → Type 0) (r s t : FolderState) (name : List ℕ) (budget : ℕ) (old new : E) (stop : ReadStop) → Opens r s name
-        → Stops eaten refused s t budget old new stop → StopsReading eaten refused r t name budget old new stop
+    → Stops eaten refused s t budget old new stop → StopsReading eaten refused r t name budget old new stop
 stops_reading eaten refused r s t name budget old new ReadFault p h =
     let mid = h.mid in
     record {
@@ -212,7 +237,7 @@ stops_reading eaten refused r s t name budget old new (Memory e) p (inr h) = rec
 -- a file that couldn't be opened
 pub refused_to_open : {E : Type 0} (eaten : E → List ℕ) (refused : E → List ℕ → E
     → Type 0) (r s : FolderState) (name : List ℕ) (budget : ℕ) (eater : E) (why : Refusal) → RefusesToOpen r s name why
-        → StopsReading eaten refused r s name budget eater eater (stop_of why)
+    → StopsReading eaten refused r s name budget eater eater (stop_of why)
 refused_to_open eaten refused r s name budget eater why.Failed p = record {
   cause = inl (record { rose = p.rises.rose; faulted_is = p.faulted_is });
   feeds = inl (record { eaten_is = refl; given_is = p.given_is });
@@ -239,7 +264,7 @@ refused_to_open eaten refused r s name budget eater (why.Memory e) p = record {
 -- a first piece that couldn't be read
 pub refused_to_read : {E : Type 0} (eaten : E → List ℕ) (refused : E → List ℕ → E
     → Type 0) (r s : FolderState) (budget : ℕ) (eater : E) (why : Refusal) → RefusesToRead r s why
-        → Stops eaten refused r s budget eater eater (stop_of why)
+    → Stops eaten refused r s budget eater eater (stop_of why)
 refused_to_read eaten refused r s budget eater why.Failed p =
     record { mid = r; n = 0; within = omega arith; feeds = feeds_none r (eaten eater); fails = p }
 refused_to_read eaten refused r s budget eater why.Absent p = absurd p
@@ -249,6 +274,6 @@ refused_to_read eaten refused r s budget eater (why.Memory e) p =
 -- how the reading of a file that was opened ended
 pub whole_of : (r s t : FolderState) (name eaten eaten' : List ℕ) (budget : ℕ) (result : Result ℕ ReadStop) → Opens r s name
     → IfOk result (Feeds s t eaten eaten') → IfOk result (λ n. n ≤ budget) → OnOk result (IsAtEnd t.rest)
-        → IfOk result (FeedsWhole r t name budget eaten eaten')
+    → IfOk result (FeedsWhole r t name budget eaten eaten')
 whole_of r s t name eaten eaten' budget (Ok n) p fed within at_end = feeds_whole p fed within at_end
 whole_of r s t name eaten eaten' budget (Err stop) p fed within at_end = tt

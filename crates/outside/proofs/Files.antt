@@ -16,7 +16,7 @@ told_bytes-grown (Bytes bytes) piece = refl
 
 pub told_written-grown : (old new : FolderState) (piece : List ℕ)
     → ((name : List ℕ) → old.writing ≡ Some name → new.holds name ≡ grown (old.holds name) piece) → (file : Option (List ℕ))
-        → old.writing ≡ file → told_written file new.holds ≡ appended (told_written file old.holds) piece
+    → old.writing ≡ file → told_written file new.holds ≡ appended (told_written file old.holds) piece
 told_written-grown old new piece h None e = refl
 told_written-grown old new piece h (Some name) e = ap told_bytes (h name e) ∙ told_bytes-grown (old.holds name) piece
 

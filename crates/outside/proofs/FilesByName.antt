@@ -48,7 +48,7 @@ told_first (x ∷ fs) zero name f h e =
     told-same x fs name named ∙ ap (λ (y : MemoryFile). Bytes y.bytes.items) is
 told_first (x ∷ fs) (suc i) name f h e =
     told-other x fs name (other_front x fs name i h.before)
-        ∙ told_first fs i name f (record { named = h.named; before = other_later x fs name i h.before }) e
+    ∙ told_first fs i name f (record { named = h.named; before = other_later x fs name i h.before }) e
 
 -- a new file at the end
 pub told_new : (fs : List MemoryFile) (name : List ℕ) (f : MemoryFile) → IsNewName fs (length fs) name → string_bytes f.name ≡ name
@@ -70,7 +70,7 @@ told_changed [] i name f h n = let e : None ≡ Some name = h.named in cc
 told_changed (x ∷ fs) zero name f h n = told-same f fs name n
 told_changed (x ∷ fs) (suc i) name f h n =
     told-other x (set fs i f) name (other_front x fs name i h.before)
-        ∙ told_changed fs i name f (record { named = h.named; before = other_later x fs name i h.before }) n
+    ∙ told_changed fs i name f (record { named = h.named; before = other_later x fs name i h.before }) n
 
 pub told_changed_other : (fs : List MemoryFile) (i : ℕ) (name : List ℕ) (f : MemoryFile) (other : List ℕ) → name_at fs i ≡ Some name
     → string_bytes f.name ≡ name → other ≢ name → told (set fs i f) other ≡ told fs other
@@ -154,7 +154,7 @@ changes_at fs i name x f h e n =
 
 pub grows_at : (fs : List MemoryFile) (i : ℕ) (name piece : List ℕ) (x f : MemoryFile) → IsFirst fs i name → x ≡ get_or fs i x
     → string_bytes f.name ≡ string_bytes x.name → f.bytes.items ≡ x.bytes.items ++ piece
-        → Changes fs (set fs i f) name (grown (told fs name) piece)
+    → Changes fs (set fs i f) name (grown (told fs name) piece)
 grows_at fs i name piece x f h e n g =
     let b : i < length fs = name_at_within fs i name h.named in
     let was : told fs name ≡ Bytes x.bytes.items = told_first fs i name x h (slice_get_read fs (length fs) i x refl b e) in
@@ -210,7 +210,7 @@ pub emptied-told : (fs : List MemoryFile) (name : List ℕ) → emptied (told fs
 emptied-told [] name = refl
 emptied-told (x ∷ fs) name =
     elim (bytes_eq (string_bytes x.name) name) as
-        (λ b. emptied (if b then Bytes x.bytes.items else told fs name) ≡ Bytes []) [ true ↦ refl | false ↦ emptied-told fs name ]
+    (λ b. emptied (if b then Bytes x.bytes.items else told fs name) ≡ Bytes []) [ true ↦ refl | false ↦ emptied-told fs name ]
 
 rest_parts : (text : List ℕ) (t n : ℕ) → drop t text ≡ take n (drop t text) ++ drop (t + n) text
 rest_parts text t n = sym (take-append-drop n (drop t text)) ∙ ap (λ w. take n (drop t text) ++ w) (drop-drop n t text)

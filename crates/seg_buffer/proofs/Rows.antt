@@ -22,13 +22,19 @@ module _ {X : Type 0} where
   spread_cut k n xs =
       let rest = replicate (n - length xs) None in
       ap (λ l. map Some l ++ rest) (sym (take-append-drop k xs)) ∙ ap (λ l. l ++ rest) (map-append Some (take k xs) (drop k xs))
-          ∙ append_assoc (map Some (take k xs)) (map Some (drop k xs)) rest
+      ∙ append_assoc (map Some (take k xs)) (map Some (drop k xs)) rest
 
   pub length-tail_of : (k n : ℕ) (xs : List X) → k ≤ length xs → length xs ≤ n → length (tail_of k n xs) ≡ n - k
   length-tail_of k n xs le fits =
       let rest : List (Option X) = replicate (n - length xs) None in let none : Option X = None in
-      omega (arith, length-append (map Some (drop k xs)) rest, length-map (drop k xs) Some, length-drop k xs, length-replicate
-          (n - length xs) none)
+      omega (
+        arith,
+        length-append (map Some (drop k xs)) rest,
+        length-map (drop k xs) Some,
+        length-drop k xs,
+        length-replicate
+            (n - length xs) none,
+      )
 
   pub length-spread : (n : ℕ) (xs : List X) → length xs ≤ n → length (spread n xs) ≡ n
   length-spread n xs fits =
@@ -45,14 +51,14 @@ module _ {X : Type 0} where
       let long : length (take k xs ++ x ∷ []) ≡ suc k = omega (arith, length-append (take k xs) (x ∷ []), length-take k xs) in
       let rest : ℕ → List (Option X) = λ j. replicate (n - j) None in
       sym (append_assoc (map Some (take k xs)) (Some x ∷ []) (rest (suc k)))
-          ∙ (λ i. sym (map-append Some (take k xs) (x ∷ [])) i ++ rest (sym long i))
+      ∙ (λ i. sym (map-append Some (take k xs) (x ∷ [])) i ++ rest (sym long i))
 
   -- ws in the place of the first k values
   pub spread_over : (k n : ℕ) (xs ws : List X) → k ≤ length xs → length ws ≡ k → map Some ws ++ tail_of k n xs ≡ spread n (ws ++ drop k xs)
   spread_over k n xs ws le same =
       let long : length xs ≡ length (ws ++ drop k xs) = omega (arith, length-append ws (drop k xs), length-drop k xs) in
       sym (append_assoc (map Some ws) (map Some (drop k xs)) (replicate (n - length xs) None))
-          ∙ ap (λ l. l ++ replicate (n - length xs) None) (sym (map-append Some ws (drop k xs)))
+      ∙ ap (λ l. l ++ replicate (n - length xs) None) (sym (map-append Some ws (drop k xs)))
       ∙ ap (λ j. map Some (ws ++ drop k xs) ++ replicate (n - j) None) long
 
 module _ (i : ℕ) (Y : RattleType) (L : Laws Y) {M : Type 1} {𝓤 : Ura M} (𝓛 : Logic 𝓤) where
@@ -61,7 +67,7 @@ module _ (i : ℕ) (Y : RattleType) (L : Laws Y) {M : Type 1} {𝓤 : Ura M} (�
   -- a value in memory is a machine value there, and what that owns
   value_out : (x : Y.Denot) (b o : ℕ)
       → ent 𝓤 (sem 𝓛 (part_at (param i Y) full_share x b o))
-          (ex 𝓤 (λ (v : Val). sep 𝓤 (H.at full_share (layout Y) b o v) (sem 𝓛 (Y.own_val x (v ∷ [])))))
+      (ex 𝓤 (λ (v : Val). sep 𝓤 (H.at full_share (layout Y) b o v) (sem 𝓛 (Y.own_val x (v ∷ [])))))
   value_out x b o = part_out 𝓛 (param i Y) refl full_share x b o
 
   pub value_in : (x : Y.Denot) (b o : ℕ) (v : Val)
@@ -72,7 +78,7 @@ module _ (i : ℕ) (Y : RattleType) (L : Laws Y) {M : Type 1} {𝓤 : Ura M} (�
   pub value_forgotten : (x : Y.Denot) (b o : ℕ) → ent 𝓤 (sem 𝓛 (part_at (param i Y) full_share x b o)) (H.room (layout Y) b o)
   value_forgotten x b o = qed 𝓛 (‵ (part_at (param i Y) full_share x b o) ∷ []) ∵
       use1 𝓛 (some (λ (v : Val). ‵ (fat full_share (layout Y) b o v) ⊛ ‵ (Y.own_val x (v ∷ [])))) (value_out x b o) $ pick !
-          (λ v. split ! $ keep ! (0 ∷ []) $ by ! (𝓛.laws.at_room (layout Y) b o v))
+      (λ v. split ! $ keep ! (0 ∷ []) $ by ! (𝓛.laws.at_room (layout Y) b o v))
 
 module _ (E : El) {M : Type 1} {𝓤 : Ura M} (𝓛 : Logic 𝓤) (b : ℕ) where
   open 𝓛 use {H}
@@ -90,7 +96,7 @@ module _ (E : El) {M : Type 1} {𝓤 : Ura M} (𝓛 : Logic 𝓤) (b : ℕ) wher
   cut (c ∷ cs) ds o at e = let more : at ≡ suc (length cs) * s + o =
       e in qed 𝓛 (‵ (Row o (c ∷ cs ++ ds)) ∷ []) ∵ fsplit ! $ move ! (1 ∷ []) $
       use1 𝓛 (‵ (Row (o + s) cs) ⊛ ‵ (Row at ds)) (cut cs ds (o + s) at (omega (arith, suc-mul (length cs) s))) $ split ! $ move ! (2 ∷ 0
-          ∷ []) $ fjoin ! $ done !
+      ∷ []) $ fjoin ! $ done !
 
   glue : (cs ds : List (Option (el_x E))) (o at : ℕ) → at ≡ length cs * s + o
       → ent 𝓤 (sep 𝓤 (sem 𝓛 (Row o cs)) (sem 𝓛 (Row at ds))) (sem 𝓛 (Row o (cs ++ ds)))
@@ -99,14 +105,14 @@ module _ (E : El) {M : Type 1} {𝓤 : Ura M} (𝓛 : Logic 𝓤) (b : ℕ) wher
   glue (c ∷ cs) ds o at e = let more : at ≡ suc (length cs) * s + o =
       e in qed 𝓛 (‵ (Row o (c ∷ cs)) ∷ ‵ (Row at ds) ∷ []) ∵ fsplit ! $ move ! (1 ∷ 2 ∷ []) $
       use2 𝓛 (‵ (Row (o + s) (cs ++ ds))) (glue cs ds (o + s) at (omega (arith, suc-mul (length cs) s))) $ move ! (1 ∷ 0
-          ∷ []) $ fjoin ! $ done !
+      ∷ []) $ fjoin ! $ done !
 
   -- whatever the places hold is forgotten
   emptied_one : (c : Option (el_x E)) (o : ℕ) → ent 𝓤 (sem 𝓛 (place (R E) b o c)) (sem 𝓛 (place (R E) b o None))
   emptied_one None o = id⊢ 𝓤 _
   emptied_one (Some x) o =
       qed 𝓛 (‵ (place (R E) b o (Some x))
-          ∷ []) ∵ use1 𝓛 (‵ (froom (elτ E) b o)) (value_forgotten 0 E.row E.laws 𝓛 x b o) $ by ! (𝓛.laws.room-raw (elτ E) b o)
+      ∷ []) ∵ use1 𝓛 (‵ (froom (elτ E) b o)) (value_forgotten 0 E.row E.laws 𝓛 x b o) $ by ! (𝓛.laws.room-raw (elτ E) b o)
 
   pub emptied : (cs : List (Option (el_x E))) (o : ℕ) → ent 𝓤 (sem 𝓛 (Row o cs)) (sem 𝓛 (Row o (replicate (length cs) None)))
   emptied [] o = id⊢ 𝓤 _
@@ -149,9 +155,9 @@ module _ (E : El) {M : Type 1} {𝓤 : Ura M} (𝓛 : Logic 𝓤) (b : ℕ) wher
         let tail = tail_of k n xs in let count : length tail ≡ suc (n - suc k) = omega (arith, length-tail_of k n xs le fits) in
         qed 𝓛 (‵ (Row o (spread n xs)) ∷ []) ∵ rewrite ! 0 (λ (l : List (Option (el_x E))). ‵ (Row o l)) (spread_cut k n xs) refl $
         use1 𝓛 (‵ (Row o (map Some (take k xs))) ⊛ ‵ (Row (k * s + o) tail))
-            (cut (map Some (take k xs)) tail o (k * s + o) far) $ split ! $ move ! (1 ∷ []) $
+        (cut (map Some (take k xs)) tail o (k * s + o) far) $ split ! $ move ! (1 ∷ []) $
         use1 𝓛 (‵ (Row (k * s + o) (replicate (length tail) None))) (emptied tail (k * s + o)) $ rewrite ! 0
-            (λ (j : ℕ). ‵ (Row (k * s + o) (replicate j None))) count refl $
+        (λ (j : ℕ). ‵ (Row (k * s + o) (replicate j None))) count refl $
         fsplit ! $ move ! (2 ∷ 1 ∷ []) $ fjoin ! $ move ! (1 ∷ 0 ∷ []) $ done !
 
     pub put_at : (x : el_x E)
@@ -159,7 +165,7 @@ module _ (E : El) {M : Type 1} {𝓤 : Ura M} (𝓛 : Logic 𝓤) (b : ℕ) wher
     put_at x = qed 𝓛 (‵ (place (R E) b (k * s + o) (Some x)) ∷ ‵ Beside ∷ []) ∵ move ! (1 ∷ []) $ fsplit ! $ move ! (2 ∷ 1
         ∷ []) $ fjoin ! $ move ! (1 ∷ 0 ∷ []) $
         use2 𝓛 (‵ (Row o (map Some (take k xs) ++ Some x ∷ replicate (n - suc k) None)))
-            (glue (map Some (take k xs)) (Some x ∷ replicate (n - suc k) None) o (k * s + o) far) $
+        (glue (map Some (take k xs)) (Some x ∷ replicate (n - suc k) None) o (k * s + o) far) $
         rewrite ! 0 (λ (l : List (Option (el_x E))). ‵ (Row o l)) (spread_put k n xs x le) refl $ done !
 
     -- the places after the first k
@@ -169,7 +175,7 @@ module _ (E : El) {M : Type 1} {𝓤 : Ura M} (𝓛 : Logic 𝓤) (b : ℕ) wher
     pub first_out : ent 𝓤 (sem 𝓛 (Row o (spread n xs))) (sep 𝓤 (sem 𝓛 (cells (mem (R E)) (take k xs) b o)) (sem 𝓛 After_first))
     first_out = qed 𝓛 (‵ (Row o (spread n xs)) ∷ []) ∵ rewrite ! 0 (λ (l : List (Option (el_x E))). ‵ (Row o l)) (spread_cut k n xs) refl $
         use1 𝓛 (‵ (Row o (map Some (take k xs))) ⊛ ‵ After_first)
-            (cut (map Some (take k xs)) (tail_of k n xs) o (k * s + o) far) $ split ! $
+        (cut (map Some (take k xs)) (tail_of k n xs) o (k * s + o) far) $ split ! $
         use1 𝓛 (‵ (cells (mem (R E)) (take k xs) b o)) (to_cells (take k xs) o) $ done !
 
     pub first_in : (ws : List (el_x E)) → length ws ≡ k
@@ -191,4 +197,4 @@ module _ (E : El) {M : Type 1} {𝓤 : Ura M} (𝓛 : Logic 𝓤) (b : ℕ) wher
         → ent 𝓤 (sem 𝓛 (values_lent (R E) b o xs κ)) (sem 𝓛 (elements_shared (R E) (take k xs) b o κ))
     first_lent k o xs = qed 𝓛 (‵ (values_lent (R E) b o xs κ)
         ∷ []) ∵ rewrite ! 0 (λ (l : List (el_x E)). ‵ (values_lent (R E) b o l κ)) (sym (take-append-drop k xs)) refl $ by !
-            (these_lent (take k xs) (drop k xs) o)
+        (these_lent (take k xs) (drop k xs) o)

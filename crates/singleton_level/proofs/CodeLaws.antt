@@ -39,31 +39,54 @@ child_turns_are false e = refl
 pub reserve_does : (c : Setting) (l : SingletonLevel) (tensor level free parents : ℕ) (s : State) → KeepsRules l
     → CodeMayReserve (letter_of l.unique) parents (log_of l) → Holds l tensor level s.arrays
     → Grows c [] free tensor level no_turns s
-        (λ t. HoldsLog meaning l (with_parents (letter_of l.unique) parents (log_of l)) tensor level t
-            × (parents ≤ greatest_position_count)) (PassesLimit tensor level parents)
+    (λ t. HoldsLog meaning l (with_parents (letter_of l.unique) parents (log_of l)) tensor level t
+    × (parents ≤ greatest_position_count)) (PassesLimit tensor level parents)
 reserve_does c l tensor level free parents s k may held = does_nothing c s _ _ (
   leaves_none NoVariable (IsOutside tensor level) free no_turns s,
-  (record { left = reserved parents l; keeps = reserved_keeps l parents l.spare k; kind = refl; size = refl; log =
-      reserved_logs l parents; held = held }, may.within (branchless l.unique)),
+  (
+    record {
+      left = reserved parents l;
+      keeps = reserved_keeps l parents l.spare k;
+      kind = refl;
+      size = refl;
+      log =
+          reserved_logs l parents;
+      held = held;
+    },
+    may.within (branchless l.unique),
+  ),
 )
 
 pub append_does : (c : Setting) (l : SingletonLevel) (level free x : ℕ) (code : List KStmt) (s : State) → KeepsRules l
     → MayAppend (letter_of l.unique) l.size x (log_of l)
     → Grows c code free 0 level no_turns s (Appended level x l.coords s) (PassesLimit 0 level (length l.coords + 1))
     → Grows c code free 0 level no_turns s (λ t. HoldsLog meaning l (with_coord x (log_of l)) 0 level t
-        × (length l.coords + 1 ≤ greatest_position_count)) (PassesLimit 0 level (length l.coords + 1))
+    × (length l.coords + 1 ≤ greatest_position_count)) (PassesLimit 0 level (length l.coords + 1))
 append_does c l level free x code s k may d =
     let R = RefusedWithin no_turns s (PassesLimit 0 level (length l.coords + 1)) in
     does_weaker c code s _ _ R R d
-    (λ t h. (h.0, (record { left = record l { coords = l.coords ++ x ∷ [] }; keeps = appended_keeps l x l.spare k may h.1.within; kind =
-        refl; size = refl; log = refl; held = h.1.array }, h.1.within)))
+    (λ t h. (
+      h.0,
+      (
+        record {
+          left = record l { coords = l.coords ++ x ∷ [] };
+          keeps = appended_keeps l x l.spare k may h.1.within;
+          kind =
+              refl;
+          size = refl;
+          log = refl;
+          held = h.1.array;
+        },
+        h.1.within,
+      ),
+    ))
     (λ t a n z. z)
 
 -- no code, since nothing is to be given
 pub edges_does : (c : Setting) (l : SingletonLevel) (tensor level free parent begin end : ℕ) (s : State) → KeepsRules l
     → Holds l tensor level s.arrays
     → Writes c [] free tensor level no_turns s
-        (HoldsLog meaning l (with_edges (letter_of l.unique) parent begin end (log_of l)) tensor level)
+    (HoldsLog meaning l (with_edges (letter_of l.unique) parent begin end (log_of l)) tensor level)
 edges_does c l tensor level free parent begin end s k held = does_nothing c s _ Never (
   leaves_none NoVariable (IsOutside tensor level) free no_turns s,
   record { left = l; keeps = k; kind = refl; size = refl; log = edges_log l.unique parent begin end (log_of l); held = held },

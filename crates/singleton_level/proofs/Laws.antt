@@ -69,16 +69,16 @@ pub reserve_logs : (v old : SingletonLevel) (coords : List ℕ) (known parents :
     → known ≡ max v.parents parents → log_with Unfinished coords known ≡ with_parents (letter_of old.unique) parents (log_of old)
 reserve_logs v old coords known parents is same more =
     ap (λ xs. log_with Unfinished xs known) same ∙ ap (log_with Unfinished v.coords) more ∙ reserved_logs v parents
-        ∙ ap (λ l. with_parents (letter_of l.unique) parents (log_of l)) is
+    ∙ ap (λ l. with_parents (letter_of l.unique) parents (log_of l)) is
 
 pub push_keeps : (v old : SingletonLevel) (coords : List ℕ) (x spare : ℕ) → v ≡ old → KeepsRules v
     → MayAppend (letter_of old.unique) old.size x (log_of old) → length old.coords < greatest_position_count → coords ≡ v.coords ++ x ∷ []
-        → KeepsRules (record v { coords = coords; spare = spare })
+    → KeepsRules (record v { coords = coords; spare = spare })
 push_keeps v old coords x spare is k may room pushed =
     let may_here = subst (λ l. MayAppend (letter_of l.unique) l.size x (log_of l)) (sym is) may in
     let room_here : length v.coords < greatest_position_count = subst (λ l. length l.coords < greatest_position_count) (sym is) room in
     subst (λ xs. KeepsRules (record v { coords = xs; spare = spare })) (sym pushed)
-        (appended_keeps v x spare k may_here (omega (arith, room_here)))
+    (appended_keeps v x spare k may_here (omega (arith, room_here)))
 
 pub rises_where_unique : (l : SingletonLevel) (parent : Span) → IsAllowed l parent → l.unique ≡ true → Rises true 0 (slice l.coords parent)
 rises_where_unique l parent ok u = subst (λ b. Rises b 0 (slice l.coords parent)) u ok.rise
@@ -100,7 +100,7 @@ child_first coords pos segment l parent e is ok same h =
     let g = entry_is_group l.coords parent e pos ok.within.inside h in
     let at = stands_where (entries_between l.coords parent) e pos h in
     subst (λ s. (pos < s.hi)
-        × (s.hi ≤ length coords)) same (omega (arith, at, g.some, g.inside), subst (λ xs. parent.hi ≤ length xs) (sym is) ok.within.inside)
+    × (s.hi ≤ length coords)) same (omega (arith, at, g.some, g.inside), subst (λ xs. parent.hi ≤ length xs) (sym is) ok.within.inside)
 
 pub child_read : (coords : List ℕ) (pos end : ℕ) (segment : Span) (l : SingletonLevel) (parent : Span) (e : Entry) → coords ≡ l.coords
     → parent ≡ segment → StandsAt pos e (entries_of l parent)
@@ -108,7 +108,7 @@ pub child_read : (coords : List ℕ) (pos end : ℕ) (segment : Span) (l : Singl
 child_read coords pos end segment l parent e is same h found =
     let at = stands_where (entries_between l.coords parent) e pos h in
     let ends = found parent e (subst (λ s. parent.hi ≡ s.hi) same refl)
-        (subst (λ xs. StandsAt pos e (entries_between xs parent)) (sym is) h) in
+    (subst (λ xs. StandsAt pos e (entries_between xs parent)) (sym is) h) in
     spans_are pos end e.child at ends
   where
     spans_are : (lo hi : ℕ) (s : Span) → s.lo ≡ lo → hi ≡ s.hi → span lo hi ≡ s

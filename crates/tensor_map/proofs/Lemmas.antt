@@ -59,7 +59,7 @@ module _ (a : Arithmetic) (laws : Laws a) where
   value_append coords (entry ∷ front) back = elim (tested entry.coords coords) [
     | same is e ↦ value_here a coords entry (front ++ back) e ∙ ap (a.plus entry.value) (value_append coords front back)
         ∙ sym (laws.plus_assoc entry.value (value_at a front coords) (value_at a back coords))
-            ∙ sym (ap (λ v. a.plus v (value_at a back coords)) (value_here a coords entry front e))
+        ∙ sym (ap (λ v. a.plus v (value_at a back coords)) (value_here a coords entry front e))
     | other isnt e ↦ value_elsewhere a coords entry (front ++ back) e ∙ value_append coords front back
         ∙ sym (ap (λ v. a.plus v (value_at a back coords)) (value_elsewhere a coords entry front e))
   ]
@@ -89,14 +89,14 @@ module _ (a : Arithmetic) (laws : Laws a) where
     where
       by : (b : Bool) → nat_eq entry.value a.zero ≡ b → value_at a (filter (is_nonzero a) entries) coords ≡ value_at a entries coords
           → value_at a (cond (not b) (entry ∷ filter (is_nonzero a) entries) (filter (is_nonzero a) entries)) coords ≡ value_at a (entry
-              ∷ entries) coords
+          ∷ entries) coords
       by true e rest = rest ∙ sym (value_of_zero coords entry entries (eqb-true entry.value a.zero e))
       by false e rest = value_cons coords entry (filter (is_nonzero a) entries) entries rest
 
 -- listed in one of two rows
 listed_more : (coords : List ℕ) (entry : Entry) (front back : List Entry)
     → (Listed (front ++ back) coords ↔ (Listed front coords ⊎ Listed back coords))
-        → (Listed (entry ∷ front ++ back) coords ↔ (Listed (entry ∷ front) coords ⊎ Listed back coords))
+    → (Listed (entry ∷ front ++ back) coords ↔ (Listed (entry ∷ front) coords ⊎ Listed back coords))
 listed_more coords entry front back rest = (forth, back_again)
   where
     forth : Listed (entry ∷ front ++ back) coords → Listed (entry ∷ front) coords ⊎ Listed back coords
@@ -135,7 +135,7 @@ module _ (a : Arithmetic) (laws : Laws a) where
   -- in an increasing row the value at an entry's coordinates is the entry's
   pub value_of_entry : (entries : List Entry) (k : ℕ) (d : Entry) → StrictlyIncreasing entries → k < length entries
       → (slice_index_or entries k d).value < 2 ^ 64
-          → value_at a entries (slice_index_or entries k d).coords ≡ (slice_index_or entries k d).value
+      → value_at a entries (slice_index_or entries k d).coords ≡ (slice_index_or entries k d).value
   value_of_entry [] k d up h fits = absurd (omega arith)
   value_of_entry (entry ∷ entries) zero d up h fits =
       value_here a entry.coords entry entries (at_itself entry.coords)
@@ -144,7 +144,7 @@ module _ (a : Arithmetic) (laws : Laws a) where
   value_of_entry (entry ∷ entries) (suc k) d up h fits =
       let before : IsBefore entry.coords (slice_index_or entries k d).coords = before_at entry.coords entries k d up.0 (omega arith) in
       let away : pointwise nat_eq entry.coords (slice_index_or entries k d).coords ≡ false =
-          elim (tested entry.coords (slice_index_or entries k d).coords) [
+      elim (tested entry.coords (slice_index_or entries k d).coords) [
         | same is t ↦ absurd (before_irreflexive entry.coords (subst (IsBefore entry.coords) (sym is) before))
         | other isnt t ↦ t
       ] in
@@ -184,21 +184,21 @@ module _ (a : Arithmetic) (laws : Laws a) where
   -- the first entry's coordinates are before all of another row's, or not: then the values differ there
   never_before : (entry : Entry) (entries others : List Entry) → IsBeforeAll entry.coords (coords_of entries) → entry.value < 2 ^ 64
       → entry.value ≢ a.zero → IsBeforeAll entry.coords (coords_of others)
-          → value_at a (entry ∷ entries) entry.coords ≡ value_at a others entry.coords → ⊥
+      → value_at a (entry ∷ entries) entry.coords ≡ value_at a others entry.coords → ⊥
   never_before entry entries others up fits some before e =
       some (sym (first_value entry entries up fits) ∙ e
-          ∙ value_unlisted a laws entry.coords others (unlisted_before entry.coords others before))
+      ∙ value_unlisted a laws entry.coords others (unlisted_before entry.coords others before))
 
   -- after entries at the same coordinates the rest has the same values
   rest_same : (first second : Entry) (entries others : List Entry) → first.coords ≡ second.coords
       → IsBeforeAll first.coords (coords_of entries) → IsBeforeAll second.coords (coords_of others)
       → ((coords : List ℕ) → value_at a (first ∷ entries) coords ≡ value_at a (second ∷ others) coords) → (coords : List ℕ)
-          → value_at a entries coords ≡ value_at a others coords
+      → value_at a entries coords ≡ value_at a others coords
   rest_same first second entries others is up up' same_everywhere coords = elim (tested first.coords coords) [
     | same here t ↦ value_unlisted a laws coords entries (subst (λ xs. Listed entries xs
         → ⊥) here (unlisted_before first.coords entries up))
         ∙ sym (value_unlisted a laws coords others (subst (λ xs. Listed others xs
-            → ⊥) (sym is ∙ here) (unlisted_before second.coords others up')))
+        → ⊥) (sym is ∙ here) (unlisted_before second.coords others up')))
     | other away t ↦ sym (value_elsewhere a coords first entries t) ∙ same_everywhere coords
         ∙ value_elsewhere a coords second others (sym (ap (λ xs. pointwise nat_eq xs coords) is) ∙ t)
   ]
@@ -212,31 +212,34 @@ module _ (a : Arithmetic) (laws : Laws a) where
   one_row (first ∷ entries) [] up up' some some' e = absurd (never_before first entries [] up.0 some.0 some.1 tt (e first.coords))
   one_row (first ∷ entries) (second ∷ others) up up' some some' e =
       by (slice_cmp nat_cmp first.coords second.coords)
-          (compared_as first.coords second.coords (slice_cmp nat_cmp first.coords second.coords) refl)
+      (compared_as first.coords second.coords (slice_cmp nat_cmp first.coords second.coords) refl)
       (λ is. one_row entries others up.1 up'.1 some.2 some'.2 (rest_same first second entries others is up.0 up'.0 e))
     where
       by : (r : Ordering) → MatchOrdering r (IsBefore first.coords second.coords) (first.coords ≡ second.coords)
           (IsBefore second.coords first.coords) → (first.coords ≡ second.coords → entries ≡ others) → first ∷ entries ≡ second ∷ others
       by Less before rest = absurd
           (never_before first entries (second
-              ∷ others) up.0 some.0 some.1 (before, before_all_trans first.coords second.coords (coords_of others) before up'.0)
-                  (e first.coords))
+          ∷ others) up.0 some.0 some.1 (before, before_all_trans first.coords second.coords (coords_of others) before up'.0)
+          (e first.coords))
       by Greater before rest =
           absurd (never_before second others (first
-              ∷ entries) up'.0 some'.0 some'.1 (before, before_all_trans second.coords first.coords (coords_of entries) before up.0)
-                  (sym (e second.coords)))
+          ∷ entries) up'.0 some'.0 some'.1 (before, before_all_trans second.coords first.coords (coords_of entries) before up.0)
+          (sym (e second.coords)))
       by Equal is rest =
           let values : first.value ≡ second.value = sym (first_value first entries up.0 some.0) ∙ e first.coords
-              ∙ ap (value_at a (second ∷ others)) is ∙ first_value second others up'.0 some'.0 in
+          ∙ ap (value_at a (second ∷ others)) is ∙ first_value second others up'.0 some'.0 in
           let entry : first ≡ second = λ i. record { coords = is i; value = values i } in
           λ i. entry i ∷ rest is i
 
 pub all_nonzero : (a : Arithmetic) (order : ℕ) (entries : List Entry) → All (IsEntry order) entries → NoneIsZero a entries
     → AllNonzero a entries
 all_nonzero a order [] each some = tt
-all_nonzero a order (entry ∷ entries) each some =
-    ((each 0 entry (omega arith)).word, some 0 entry (omega arith), all_nonzero a order entries
-        (All-tail (IsEntry order) entry entries each) (All-tail (λ e. e.value ≢ a.zero) entry entries some))
+all_nonzero a order (entry ∷ entries) each some = (
+  (each 0 entry (omega arith)).word,
+  some 0 entry (omega arith),
+  all_nonzero a order entries
+      (All-tail (IsEntry order) entry entries each) (All-tail (λ e. e.value ≢ a.zero) entry entries some),
+)
 
 module _ (a : Arithmetic) (laws : Laws a) where
   -- in an increasing row without zeros the listed coordinates are those where the value isn't zero
@@ -279,4 +282,4 @@ nonzero_is a entry false e h is = cc (e, eq-eqb entry.value a.zero is)
 pub none_zero_filter : (a : Arithmetic) (entries : List Entry) → NoneIsZero a (filter (is_nonzero a) entries)
 none_zero_filter a entries k d h =
     nonzero_is a (slice_index_or (filter (is_nonzero a) entries) k d)
-        (nat_eq (slice_index_or (filter (is_nonzero a) entries) k d).value a.zero) refl (filter_passes (is_nonzero a) entries k d h)
+    (nat_eq (slice_index_or (filter (is_nonzero a) entries) k d).value a.zero) refl (filter_passes (is_nonzero a) entries k d h)

@@ -27,7 +27,7 @@ before_trans (x ∷ xs) (y ∷ ys) (z ∷ zs) (inr p) (inr q) = inr (p.0 ∙ q.0
 
 compared_step : (x y : ℕ) (xs ys : List ℕ) (r s : Ordering) → MatchOrdering r (x < y) (x ≡ y) (y < x)
     → MatchOrdering s (IsBefore xs ys) (xs ≡ ys) (IsBefore ys xs)
-        → MatchOrdering (ordering_then r s) (IsBefore (x ∷ xs) (y ∷ ys)) (x ∷ xs ≡ y ∷ ys) (IsBefore (y ∷ ys) (x ∷ xs))
+    → MatchOrdering (ordering_then r s) (IsBefore (x ∷ xs) (y ∷ ys)) (x ∷ xs ≡ y ∷ ys) (IsBefore (y ∷ ys) (x ∷ xs))
 compared_step x y xs ys Less s h g = inl h
 compared_step x y xs ys Greater s h g = inl h
 compared_step x y xs ys Equal Less h g = inr (h, g)

@@ -127,8 +127,8 @@ module _ (a : Arithmetic) (laws : Laws a) where
       → value_at a moved coords ≡ value_at a entries coords
   value_permutation entries moved is coords =
       sym (shared coords moved)
-          ∙ total_permutation (map (share coords) entries) (map (share coords) moved) (IsPermutation-map (share coords) entries moved is)
-              ∙ shared coords entries
+      ∙ total_permutation (map (share coords) entries) (map (share coords) moved) (IsPermutation-map (share coords) entries moved is)
+      ∙ shared coords entries
 
 listed_place : (coords : List ℕ) (entries : List Entry) (k : ℕ) → k < length (coords_of entries)
     → get_or (coords_of entries) k coords ≡ coords → Listed entries coords
@@ -140,7 +140,7 @@ listed_place coords (entry ∷ entries) (suc k) h is = inr (listed_place coords 
 moved_listed : (entries moved : List Entry) → IsPermutation entries moved → (coords : List ℕ) → Listed entries coords → Listed moved coords
 moved_listed entries moved is coords listed =
     let there = Contains-permutation (coords_of entries) (coords_of moved) coords
-        (IsPermutation-map (λ (entry : Entry). entry.coords) entries moved is) (place_of coords entries listed) in
+    (IsPermutation-map (λ (entry : Entry). entry.coords) entries moved is) (place_of coords entries listed) in
     listed_place coords moved there.0 there.1 there.2
 
 pub listed_permutation : (entries moved : List Entry) → IsPermutation entries moved → (coords : List ℕ)

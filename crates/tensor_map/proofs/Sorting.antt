@@ -36,7 +36,7 @@ not_before xs ys Greater e h = inl (compared_as xs ys Greater e)
 
 not_after_from : (coords : List ℕ) (entries : List Entry)
     → ((k : ℕ) (d : Entry) → k < length entries → is_lt (slice_cmp nat_cmp (slice_index_or entries k d).coords coords) ≡ false)
-        → IsNotAfterAll coords entries
+    → IsNotAfterAll coords entries
 not_after_from coords [] h = tt
 not_after_from coords (entry ∷ entries) h = (
   not_before entry.coords coords (slice_cmp nat_cmp entry.coords coords) refl (h 0 entry (omega arith)),
@@ -45,7 +45,7 @@ not_after_from coords (entry ∷ entries) h = (
 
 never_falls_from : (entries : List Entry)
     → ((i j : ℕ) (d : Entry) → i ≤ j → j < length entries → is_before (slice_index_or entries j d) (slice_index_or entries i d) ≡ false)
-        → NeverFalls entries
+    → NeverFalls entries
 never_falls_from [] h = tt
 never_falls_from (entry ∷ entries) h = (
   not_after_from entry.coords entries (λ k d i. h 0 (suc k) d (omega arith) (omega arith)),
@@ -67,9 +67,9 @@ ties_at : (coords : List ℕ) (value : ℕ) (entry : Entry)
 ties_at coords value entry = elim (tested entry.coords coords) [
   | same is t ↦ (
       let level : slice_cmp nat_cmp coords entry.coords ≡ Equal = ap (slice_cmp nat_cmp coords) is
-          ∙ tied_itself nat_list_cmp_total coords in
+      ∙ tied_itself nat_list_cmp_total coords in
       let back : slice_cmp nat_cmp entry.coords coords ≡ Equal = ap (λ xs. slice_cmp nat_cmp xs coords) is
-          ∙ tied_itself nat_list_cmp_total coords in
+      ∙ tied_itself nat_list_cmp_total coords in
       (λ i. not (is_lt (level i)) && not (is_lt (back i))) ∙ sym t)
   | other isnt t ↦ (
       (λ i. not (is_lt (slice_cmp nat_cmp coords entry.coords)) && not (is_lt (nat_list_cmp_total.antisymm entry.coords coords i)))
@@ -79,10 +79,10 @@ ties_at coords value entry = elim (tested entry.coords coords) [
 -- so a stable sort keeps the entries at each coordinate list, in their order
 pub same_at : (coords : List ℕ) (old sorted : List Entry)
     → ((x : Entry) → filter (ties is_before x) sorted ≡ filter (ties is_before x) old)
-        → filter (is_at coords) sorted ≡ filter (is_at coords) old
+    → filter (is_at coords) sorted ≡ filter (is_at coords) old
 same_at coords old sorted stable =
     (λ i. filter (λ entry. sym (ties_at coords 0 entry) i) sorted) ∙ stable (record { coords = coords; value = 0 })
-        ∙ (λ i. filter (λ entry. ties_at coords 0 entry i) old)
+    ∙ (λ i. filter (λ entry. ties_at coords 0 entry i) old)
 
 pub same_values : (old sorted : List Entry) → ((x : Entry) → filter (ties is_before x) sorted ≡ filter (ties is_before x) old)
     → (coords : List ℕ) → values_at sorted coords ≡ values_at old coords
@@ -129,7 +129,7 @@ module _ (a : Arithmetic) (laws : Laws a) (order : ℕ) where
         (all_summed_from (joined a entry next) others (joined_entry entry next is) (All-tail (IsEntry order) next others all))
     | other e t ↦ subst (All (IsEntry order)) (sym (summed_other a entry next others t))
         (All-cons (IsEntry order) entry (summed_from a next others) is
-            (all_summed_from next others (all 0 next (omega arith)) (All-tail (IsEntry order) next others all)))
+        (all_summed_from next others (all 0 next (omega arith)) (All-tail (IsEntry order) next others all)))
   ]
 
   pub all_summed : (entries : List Entry) → All (IsEntry order) entries → All (IsEntry order) (summed a entries)

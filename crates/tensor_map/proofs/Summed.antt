@@ -56,12 +56,12 @@ module _ (a : Arithmetic) where
   listed_from coords entry (next ∷ others) h = elim (tested next.coords entry.coords) [
     | same is t ↦ (elim (listed_from coords (joined a entry next) others
         (subst (λ es. Listed es coords) (summed_same a entry next others t) h)) [
-      | inl here ↦ inl here
-      | inr more ↦ inr (inr more)
-    ])
+          | inl here ↦ inl here
+          | inr more ↦ inr (inr more)
+        ])
     | other isnt t ↦ (
         let h' : Listed (entry ∷ summed_from a next others) coords =
-            subst (λ es. Listed es coords) (summed_other a entry next others t) h in
+        subst (λ es. Listed es coords) (summed_other a entry next others t) h in
         elim h' [ inl here ↦ inl here | inr more ↦ inr (listed_from coords next others more) ])
   ]
 
@@ -129,9 +129,11 @@ module _ (a : Arithmetic) where
         (increasing_summed_from (joined a entry next) others first.1 rising.1)
     | other isnt t ↦ (
         let before : IsBefore entry.coords next.coords = elim first.0 [ inl less ↦ less | inr is ↦ absurd (isnt (sym is)) ] in
-        subst StrictlyIncreasing (sym (summed_other a entry next others t))
-        (before_summed entry.coords next others before
-            (before_then entry.coords next.coords others before rising.0), increasing_summed_from next others rising.0 rising.1))
+        subst StrictlyIncreasing (sym (summed_other a entry next others t)) (
+          before_summed entry.coords next others before
+              (before_then entry.coords next.coords others before rising.0),
+          increasing_summed_from next others rising.0 rising.1,
+        ))
   ]
 
   -- a sorted row is then increasing

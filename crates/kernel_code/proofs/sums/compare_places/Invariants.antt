@@ -7,4 +7,4 @@ use Rattle.kernel_code.proofs.sums.compare_places.Given as goal
 abbrev pub invariant-loop-column : goal.invariant-loop-column
 invariant-loop-column l =
     compare_keys (keys_at (read (drop l.column-index l.columns)) l.i) (keys_at (read (drop l.column-index l.columns)) l.j) ≡ compare_keys
-        (keys_at (read l.columns) l.i) (keys_at (read l.columns) l.j)
+    (keys_at (read l.columns) l.i) (keys_at (read l.columns) l.j)

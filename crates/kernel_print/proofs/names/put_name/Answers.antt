@@ -8,8 +8,8 @@ returns-in_err-put_all g c =
 pub returns-in_err-put_u64 : goal.returns-in_err-put_u64
 returns-in_err-put_u64 g c =
     then_printed _ _ _ _ _ _ c.in_ok-put_all.ensures.whole
-        (refused c.from_residual-in_err-put_u64.result c.in_err-put_u64.field-0.0 _ _ _ _ c.from_residual-in_err-put_u64.ensures.1
-            c.in_err-put_u64.ensures.part)
+    (refused c.from_residual-in_err-put_u64.result c.in_err-put_u64.field-0.0 _ _ _ _ c.from_residual-in_err-put_u64.ensures.1
+    c.in_err-put_u64.ensures.part)
 
 pub returns : goal.returns
 returns g c = then_printed _ _ _ _ _ _ c.in_ok-put_all.ensures.whole

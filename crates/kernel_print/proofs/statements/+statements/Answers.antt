@@ -12,7 +12,7 @@ pub put_block-returns-in_err-put_statements : goal.put_block-returns-in_err-put_
 put_block-returns-in_err-put_statements g t c =
     let depth = depth_of c.args.outer.now in
     refused c.from_residual.result c.in_err-put_statements.field-0.0 _ _ (statements_text (suc depth) c.args.body.now) (indentation depth
-        ++ c.args.closing.now)
+    ++ c.args.closing.now)
     c.from_residual.ensures.1 c.in_err-put_statements.ensures
 
 pub put_block-returns-in_err-put_indentation : goal.put_block-returns-in_err-put_indentation
@@ -20,17 +20,17 @@ put_block-returns-in_err-put_indentation g t c =
     let depth = depth_of c.args.outer.now in
     let r = c.from_residual-in_err-put_indentation in
     then_printed _ _ _ _ (statements_text (suc depth) c.args.body.now) (indentation depth
-        ++ c.args.closing.now) c.in_ok-put_statements.ensures
+    ++ c.args.closing.now) c.in_ok-put_statements.ensures
     (refused r.result c.in_err-put_indentation.field-0.0 _ _
-        (indentation depth) c.args.closing.now r.ensures.1 c.in_err-put_indentation.ensures)
+    (indentation depth) c.args.closing.now r.ensures.1 c.in_err-put_indentation.ensures)
 
 pub put_block-returns : goal.put_block-returns
 put_block-returns g t c =
     let depth = depth_of c.args.outer.now in
     then_printed _ _ _ _ (statements_text (suc depth) c.args.body.now) (indentation depth
-        ++ c.args.closing.now) c.in_ok-put_statements.ensures
+    ++ c.args.closing.now) c.in_ok-put_statements.ensures
     (then_printed _ _ _ _ (indentation depth) c.args.closing.now c.in_ok-put_indentation.ensures
-        (printed _ _ _ _ c.put_all.ensures.whole c.put_all.ensures.part))
+    (printed _ _ _ _ c.put_all.ensures.whole c.put_all.ensures.part))
 
 pub put_statement-returns-in_err-put_one-in-If : goal.put_statement-returns-in_err-put_one-in-If
 put_statement-returns-in_err-put_one-in-If g t c =
@@ -39,7 +39,7 @@ put_statement-returns-in_err-put_one-in-If g t c =
     retold _ _ _ _ _ (sym (if_text depth s.e s.first s.second) ∙ ap (statement_text depth) (sym s.is))
     (refused c.from_residual.result c.in_err-put_one-in-If.field-0.0 _ _ (codes "if " ++ (expr_text s.e ++ codes " {\n"))
     (block depth s.first (codes "} else {\n") ++ block depth s.second (codes "}\n")) c.from_residual.ensures.1
-        c.in_err-put_one-in-If.ensures)
+    c.in_err-put_one-in-If.ensures)
 
 pub put_statement-returns-in_err-put_block-in-If : goal.put_statement-returns-in_err-put_block-in-If
 put_statement-returns-in_err-put_block-in-If g t c =
@@ -54,7 +54,7 @@ put_statement-returns-in_err-put_block-in-If g t c =
     retold _ _ _ _ _ same
     (then_printed _ _ _ _ head (block depth c.as_slice.result.now (codes "} else {\n") ++ last) c.in_ok-put_one-in-If.ensures
     (refused r.result c.in_err-put_block-in-If.field-0.0 _ _
-        (block depth c.as_slice.result.now (codes "} else {\n")) last r.ensures.1 c.in_err-put_block-in-If.ensures))
+    (block depth c.as_slice.result.now (codes "} else {\n")) last r.ensures.1 c.in_err-put_block-in-If.ensures))
 
 pub put_statement-returns-in_ok-put_block-in-If : goal.put_statement-returns-in_ok-put_block-in-If
 put_statement-returns-in_ok-put_block-in-If g t c =
@@ -69,7 +69,7 @@ put_statement-returns-in_ok-put_block-in-If g t c =
     ∙ sym (if_text depth s.e s.first s.second) ∙ ap (statement_text depth) (sym s.is) in
     retold _ _ _ _ _ same
     (then_printed _ _ _ _ head (first
-        ++ last) c.in_ok-put_one-in-If.ensures (then_printed _ _ _ _ first last c.in_ok-put_block-in-If.ensures c.put_block-in-If.ensures))
+    ++ last) c.in_ok-put_one-in-If.ensures (then_printed _ _ _ _ first last c.in_ok-put_block-in-If.ensures c.put_block-in-If.ensures))
 
 pub put_statement-returns-in_err-put_loop_head-in-While : goal.put_statement-returns-in_err-put_loop_head-in-While
 put_statement-returns-in_err-put_loop_head-in-While g t c =
@@ -78,7 +78,7 @@ put_statement-returns-in_err-put_loop_head-in-While g t c =
     let r = c.from_residual-in_err-put_loop_head-in-While in
     retold _ _ _ _ _ (sym (while_text depth s.kind s.e s.body) ∙ ap (statement_text depth) (sym s.is))
     (refused r.result c.in_err-put_loop_head-in-While.field-0.0 _ _ (codes "while "
-        ++ (kind_text s.kind ++ (codes " " ++ (expr_text s.e ++ codes " {\n"))))
+    ++ (kind_text s.kind ++ (codes " " ++ (expr_text s.e ++ codes " {\n"))))
     (block depth s.body (codes "}\n")) r.ensures.1 c.in_err-put_loop_head-in-While.ensures)
 
 pub put_statement-returns-in_ok-put_loop_head-in-While : goal.put_statement-returns-in_ok-put_loop_head-in-While
@@ -91,7 +91,7 @@ put_statement-returns-in_ok-put_loop_head-in-While g t c =
     ∙ sym (while_text depth s.kind s.e s.body) ∙ ap (statement_text depth) (sym s.is) in
     retold _ _ _ _ _ same
     (then_printed _ _ _ _ head (block depth c.as_slice-in-While.result.now (codes "}\n")) c.in_ok-put_loop_head-in-While.ensures
-        c.put_block-in-While.ensures)
+    c.put_block-in-While.ensures)
 
 pub put_statements-loop-s-init : goal.put_statements-loop-s-init
 put_statements-loop-s-init g t c = none_so_far _ (statements_text (depth_of c.args.indent.now) c.args.statements.now)
@@ -104,7 +104,7 @@ put_statements-returns-in_err-put_indentation g t c =
     let s = c.s-item.result in
     then_rest _ _ _ _ _ _ (rest_told _ _ _ _ _ (statements_step depth ss i s c.loop-s-test.true c.s-item.is) c.loop-s.invariant)
     (refused c.from_residual.result c.in_err-put_indentation.field-0.0 _ _ (indentation depth) (statement_text depth s
-        ++ statements_text depth (drop (i + 1) ss))
+    ++ statements_text depth (drop (i + 1) ss))
     c.from_residual.ensures.1 c.in_err-put_indentation.ensures)
 
 pub put_statements-returns-in_err-put_statement : goal.put_statements-returns-in_err-put_statement
@@ -116,9 +116,9 @@ put_statements-returns-in_err-put_statement g t c =
     let r = c.from_residual-in_err-put_statement in
     then_rest _ _ _ _ _ _ (rest_told _ _ _ _ _ (statements_step depth ss i s c.loop-s-test.true c.s-item.is) c.loop-s.invariant)
     (then_printed _ _ _ _ (indentation depth) (statement_text depth s
-        ++ statements_text depth (drop (i + 1) ss)) c.in_ok-put_indentation.ensures
+    ++ statements_text depth (drop (i + 1) ss)) c.in_ok-put_indentation.ensures
     (refused r.result c.in_err-put_statement.field-0.0 _ _ (statement_text depth s)
-        (statements_text depth (drop (i + 1) ss)) r.ensures.1 c.in_err-put_statement.ensures))
+    (statements_text depth (drop (i + 1) ss)) r.ensures.1 c.in_err-put_statement.ensures))
 
 pub put_statements-loop-s-preserved : goal.put_statements-loop-s-preserved
 put_statements-loop-s-preserved g t c =
@@ -129,7 +129,7 @@ put_statements-loop-s-preserved g t c =
     more_so_far _ _ _ _ (statement_text depth s) (statements_text depth (drop (i + 1) ss))
     (more_so_far _ _ _ _ (indentation depth) (statement_text depth s ++ statements_text depth (drop (i + 1) ss))
     (rest_told _ _ _ _ _ (statements_step depth ss i s c.loop-s-test.true c.s-item.is) c.loop-s.invariant)
-        c.in_ok-put_indentation.ensures) c.in_ok-put_statement.ensures
+    c.in_ok-put_indentation.ensures) c.in_ok-put_statement.ensures
 
 pub put_statements-returns : goal.put_statements-returns
 put_statements-returns g t c =

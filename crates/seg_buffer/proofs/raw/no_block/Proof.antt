@@ -81,17 +81,17 @@ module _ (E : El) (Z : Al) {M : Type 1} {𝓤 : Ura M} (𝓛 : Logic 𝓤) (at_m
       sets ! (agg ! (and_then ! (get ! refl) (and_then ! (get ! refl) (and_then ! (get ! refl) (no_more !))))) refl typed $
       nothing ! $ use0 𝓛 (‵ ((Mark E).own_val (tt, tt) (mark ∷ []))) (mark_made E 𝓛) $ fjoin ! $
       nothing ! $ flt_i ! (0 * s) (2 ^ 63) (subst (λ (k : ℕ). k < 2 ^ 63) (sym (zero-mul s)) (lit< tt)) $ fjoin ! $ use0 𝓛
-          (‵ ((Mark E).own_val (tt, tt) (mark ∷ []))) (mark_made E 𝓛) $ fjoin ! $ base_made ! p $
+      (‵ ((Mark E).own_val (tt, tt) (mark ∷ []))) (mark_made E 𝓛) $ fjoin ! $ base_made ! p $
       use3 𝓛 (‵ ((Three E Z).own_val (base, places, deed) (made ∷ [])))
-          (three_made 𝓛 (Bs E) (Pl E) (Dd E Z) base places deed (word p) mark mark) $
+      (three_made 𝓛 (Bs E) (Pl E) (Dd E Z) base places deed (word p) mark mark) $
       returns ! (look_at ! 0 refl) $ free_all ! refl $ keep ! (0 ∷ 1 ∷ 2
-          ∷ []) $ by ! (exits (base, places, deed) made (refl, refl, refl, refl, refl, refl)))
+      ∷ []) $ by ! (exits (base, places, deed) made (refl, refl, refl, refl, refl, refl)))
 
   entry : ent 𝓤 (on_entry 𝓛 (ended E Z).signature (κ, (κ₁, (κ₂, tt))) (q, (q₁, (q₂, tt))) (self, tt) (us0, tt))
       (WpFn 𝓤 H C Λ (function E Z) (us0 ++ []) Post)
   entry =
       qed 𝓛 ((‵ (flft κ q) ⊛ others) ∷ ‵ (owns (ShrRef (named 0) κ (P E Z) ∷ []) (self, tt) (us0, tt)) ∷ []) ∵ split ! $ move ! (2
-          ∷ []) $ fsplit ! $ fsplit ! $ feq_l ! (λ e0.
+      ∷ []) $ fsplit ! $ fsplit ! $ feq_l ! (λ e0.
       keep ! (2 ∷ 3 ∷ []) $
       by ! (subst (λ (ws : List Val). ent 𝓤 (⋆ 𝓛 Had) (WpFn 𝓤 H C Λ (function E Z) (ws ++ []) Post)) (sym e0) walk))
 
@@ -111,5 +111,5 @@ no_block_spec 𝓤 𝓛 𝓜 𝓡 wired X W LX LW g d dd met md =
     let Z : Al = record { row = W; laws = LW; g = g; d = d; drops = dd } in
     let 𝓣 : Tables 𝓤 𝓛.H = tables_of 𝓤 𝓛.H 𝓜 (tables 𝓤 𝓛.H 𝓜 𝓡 𝓡.env) in
     entered 𝓤 𝓛.H (triple_of 𝓛 (ended E Z).signature (F.spec X W g d dd 𝓛 𝓜.mem 𝓡.returns)) 𝓣.C 𝓣.Λ (#self (args E Z)) (function E Z)
-        (code.unfolded 𝓤 𝓛.H 𝓜 𝓡 wired (X, (W, tt)) d dd)
+    (code.unfolded 𝓤 𝓛.H 𝓜 𝓡 wired (X, (W, tt)) d dd)
     (meets E Z 𝓛 𝓜.mem 𝓡.returns 𝓣)

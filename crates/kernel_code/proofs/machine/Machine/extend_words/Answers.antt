@@ -17,7 +17,7 @@ returns-then-not-may_grow-clause-is c =
     let long : may_have c.args.a (c.len-length.result + c.args.n) ≡ false = cc in
     ap (Over (state_of c.args.self.now).turns c.args.a) (c.count_told-count.ensures ∙ ap (told_count c.args.a) n)
     ∙ not_grown_at c.args.self.now c.args.a c.in-Some.place c.index_mut.result.now count (replicate c.args.n c.args.value)
-        (record { writable = c.in-Some.ensures; is = c.index_mut.ensures.value }) (ap (may_have c.args.a) (sym n) ∙ long)
+    (record { writable = c.in-Some.ensures; is = c.index_mut.ensures.value }) (ap (may_have c.args.a) (sym n) ∙ long)
 
 pub returns-clause-is : goal.returns-clause-is
 returns-clause-is c =
@@ -25,5 +25,5 @@ returns-clause-is c =
     let n : c.len-length.result + c.args.n ≡ length c.index_mut.result.now.words.items + c.args.n = omega arith in
     let long : may_have c.args.a (c.len-length.result + c.args.n) ≡ true = cc in
     grown_at c.args.self.now c.args.a c.in-Some.place c.index_mut.result.now _ count (replicate c.args.n c.args.value)
-        (record { writable = c.in-Some.ensures; is = c.index_mut.ensures.value }) (ap (may_have c.args.a) (sym n)
-            ∙ long) refl c.in_ok-append_copies.ensures
+    (record { writable = c.in-Some.ensures; is = c.index_mut.ensures.value }) (ap (may_have c.args.a) (sym n)
+    ∙ long) refl c.in_ok-append_copies.ensures

@@ -16,7 +16,7 @@ returns-then-not-may_grow-clause-is c =
     let long : may_have c.args.a (c.len-length.result + 1) ≡ false = cc in
     ap (Over (state_of c.args.self.now).turns c.args.a) (c.count_told-count.ensures ∙ ap (told_count c.args.a) n)
     ∙ not_grown_at c.args.self.now c.args.a c.in-Some.place c.index_mut.result.now count (c.args.value
-        ∷ []) (record { writable = c.in-Some.ensures; is = c.index_mut.ensures.value }) (ap (may_have c.args.a) (sym n) ∙ long)
+    ∷ []) (record { writable = c.in-Some.ensures; is = c.index_mut.ensures.value }) (ap (may_have c.args.a) (sym n) ∙ long)
 
 pub returns-clause-is : goal.returns-clause-is
 returns-clause-is c =
@@ -24,5 +24,5 @@ returns-clause-is c =
     let n : c.len-length.result + 1 ≡ length c.index_mut.result.now.words.items + 1 = omega arith in
     let long : may_have c.args.a (c.len-length.result + 1) ≡ true = cc in
     grown_at c.args.self.now c.args.a c.in-Some.place c.index_mut.result.now _ count (c.args.value
-        ∷ []) (record { writable = c.in-Some.ensures; is = c.index_mut.ensures.value }) (ap (may_have c.args.a) (sym n)
-            ∙ long) refl c.in_ok-push.ensures.items
+    ∷ []) (record { writable = c.in-Some.ensures; is = c.index_mut.ensures.value }) (ap (may_have c.args.a) (sym n)
+    ∙ long) refl c.in_ok-push.ensures.items

@@ -22,20 +22,34 @@ module _ (E : El) where
   function = inst_fn (args E) code.function
 
   abbrev ended : Ended
-  ended = record { signature =
-      record { lifetimes = 1; outlives = []; params = RefOf (0 ∷ []) tt (plain (λ _. Pl E)) (λ _. tt) ∷ plain (λ _. Bs E)
-          ∷ plain (λ _. usize) ∷ []; result = SliceRefOf (0 ∷ []) tt (plain (λ _. R E)) (λ _. tt) }; kept = (yes, (no, (no, tt))) }
+  ended = record {
+    signature =
+        record {
+          lifetimes = 1;
+          outlives = [];
+          params = RefOf (0 ∷ []) tt (plain (λ _. Pl E)) (λ _. tt) ∷ plain (λ _. Bs E)
+              ∷ plain (λ _. usize) ∷ [];
+          result = SliceRefOf (0 ∷ []) tt (plain (λ _. R E)) (λ _. tt);
+        };
+    kept = (yes, (no, (no, tt)));
+  }
 
   abbrev stayed : Stays ended.signature.params ended.kept
-  stayed = (stay_dropped (RefOf (0 ∷ []) tt (plain (λ _. Pl E)) (λ _. tt)) yes,
-      (stay_dropped (plain (λ _. Bs E)) no, (stay_dropped (plain (λ _. usize)) no, tt)))
+  stayed = (
+    stay_dropped (RefOf (0 ∷ []) tt (plain (λ _. Pl E)) (λ _. tt)) yes,
+    (stay_dropped (plain (λ _. Bs E)) no, (stay_dropped (plain (λ _. usize)) no, tt)),
+  )
 
   abbrev Asks : (Pl E).Denot → (Bs E).Denot → ℕ → Type 0
   Asks d base len = (base.ptr ≡ d.at) × (len ≤ length d.values) × (length d.values ≤ d.room)
 
   abbrev spec : {M : Type 1} {𝓤 : Ura M} (𝓛 : Logic 𝓤) → Clauses 𝓤 ended
-  spec {𝓤 = 𝓤} 𝓛 κs a = record { ghost = Unit {0}; requires = λ _. fact 𝓤 (Asks a.0.now a.1.0 a.1.1.0); ensures =
-      λ _ r w. fact 𝓤 (r.now ≡ take a.1.1.0 a.0.now.values) }
+  spec {𝓤 = 𝓤} 𝓛 κs a = record {
+    ghost = Unit {0};
+    requires = λ _. fact 𝓤 (Asks a.0.now a.1.0 a.1.1.0);
+    ensures =
+        λ _ r w. fact 𝓤 (r.now ≡ take a.1.1.0 a.0.now.values);
+  }
 
 module _ (E : El) {M : Type 1} {𝓤 : Ura M} (𝓛 : Logic 𝓤) (C : Calls 𝓤 𝓛.H) (Λ : Loops 𝓤 𝓛.H) (κ : Lft) (q : Share) (rb ro : ℕ)
     (d : (Pl E).Denot) (base : (Bs E).Denot) (len : ℕ) (us0 us1 us2 : List Val) where
@@ -56,7 +70,7 @@ module _ (E : El) {M : Type 1} {𝓤 : Ura M} (𝓛 : Logic 𝓤) (C : Calls �
       qed 𝓛 (‵ (flft κ q) ∷ ‵ ((ShrSlice (named 0) κ (R E)).own_val r (v ∷ [])) ∷ []) ∵
       suffices ! _ (ends_at 𝓛 (ended E) (stayed E) (spec E 𝓛) bound v r (tt, (tt, (tt, tt))) (tt, (tt, (tt, tt)))) $ says ! e $
       nothing ! $ move ! (1 ∷ 0
-          ∷ []) $ join ! $ frame ! $ nothing ! $ nothing ! $ fjoin ! $ nothing ! $ fjoin ! $ nothing ! $ fjoin ! $ done !
+      ∷ []) $ join ! $ frame ! $ nothing ! $ nothing ! $ fjoin ! $ nothing ! $ fjoin ! $ nothing ! $ fjoin ! $ done !
 
   abbrev Had : List (Item 𝓤)
   Had = ‵ (hidden_shr (Pl E) κ d rb ro) ∷ ‵ (flft κ q) ∷ []
@@ -66,43 +80,44 @@ module _ (E : El) {M : Type 1} {𝓤 : Ura M} (𝓛 : Logic 𝓤) (C : Calls �
   walk asked fits =
       let s = type_size (R E) in let xs = take len d.values in let long : length xs ≡ len = omega (arith, length-take len d.values) in
       qed 𝓛 Had ∵ enter ! C Λ (function E) (vptr rb ro ∷ word base.ptr ∷ vint w64 len
-          ∷ []) _ $ alloc_all ! (λ l. pass_all ! refl ((tt, tt), (word-Good [] base.ptr, ((tt, record { fits = fits }), tt))) $
+      ∷ []) _ $ alloc_all ! (λ l. pass_all ! refl ((tt, tt), (word-Good [] base.ptr, ((tt, record { fits = fits }), tt))) $
       let En : Env 𝓤 H = env (function E).locals l in
       unhide ! $ fsplit ! $ skip ! $ in_a_block ! d.at (λ p. places_lent (R E) p d.room d.values κ) (id⊢ 𝓤 (never 𝓤))
-          (λ b o e. fsplit ! $ flt_l ! (λ small.
+      (λ b o e. fsplit ! $ flt_l ! (λ small.
       take_at ! 2 $ rewrite ! 0 (λ (p : Ptr). ‵ (fat full_share (layout (Bs E)) (l 2) 0 (word p))) (asked.0
-          ∙ e) refl $ give_at ! 2 $ first ! $ blocks ! $
+      ∙ e) refl $ give_at ! 2 $ first ! $ blocks ! $
       use1 𝓛 (‵ (elements_shared (R E) xs b o κ)) (first_lent E 𝓛 b κ len o d.values) $ hide ! $
       sets_last ! (agg ! (and_then ! (get_in ! (fld ! refl (stop !)) (sub ! 0 refl (whole !))) (and_then ! (get ! refl) (no_more !))))
-          refl (tt, (tt, (record { fits = fits }, tt))) $
+      refl (tt, (tt, (record { fits = fits }, tt))) $
       exec ! C Λ En (after 1 (function E).body) (at_ret En Post) $ sets ! (of_opd ! (get ! refl)) refl
-          (tt, (tt, (record { fits = fits }, tt))) $
+      (tt, (tt, (record { fits = fits }, tt))) $
       flt_i ! (length xs * s) (2 ^ 63) (times_below (length xs) d.room s (2 ^ 63) (omega arith) small) $ flt_i ! (length xs) (2 ^ 64)
-          (omega arith) $ fjoin ! $
+      (omega arith) $ fjoin ! $
       feq_i ! (List Val) (slice_val (b, o) len ∷ []) (slice_val (b, o) (length xs)
-          ∷ []) (ap (λ j. slice_val (b, o) j ∷ []) (sym long)) $ fjoin ! $ fjoin ! $
+      ∷ []) (ap (λ j. slice_val (b, o) j ∷ []) (sym long)) $ fjoin ! $ fjoin ! $
       returns ! (look_at ! 0 refl) $ free_all ! refl $ keep ! (1 ∷ 0
-          ∷ []) $ by ! (exits (record { ref_ptr = (b, o); now = xs }) (slice_val (b, o) len) refl))))
+      ∷ []) $ by ! (exits (record { ref_ptr = (b, o); now = xs }) (slice_val (b, o) len) refl))))
 
   entry : Asks E d base len
       → ent 𝓤 (on_entry 𝓛 (ended E).signature (κ, tt) (q, tt) (self, (base, (len, tt))) (us0, (us1, (us2, tt))))
-          (WpFn 𝓤 H C Λ (function E) (us0 ++ (us1 ++ (us2 ++ []))) Post)
+      (WpFn 𝓤 H C Λ (function E) (us0 ++ (us1 ++ (us2 ++ []))) Post)
   entry asked =
       qed 𝓛 ((‵ (flft κ q) ⊛ ‵ ftrue)
-          ∷ ‵ (owns (ShrRef (named 0) κ (Pl E) ∷ Bs E ∷ usize ∷ []) (self, (base, (len, tt))) (us0, (us1, (us2, tt)))) ∷ []) ∵
+      ∷ ‵ (owns (ShrRef (named 0) κ (Pl E) ∷ Bs E ∷ usize ∷ []) (self, (base, (len, tt))) (us0, (us1, (us2, tt)))) ∷ []) ∵
       split ! $ move ! (2 ∷ []) $ fsplit ! $ fsplit ! $ feq_l ! (λ e0. move ! (1 ∷ []) $ fsplit ! $ base_had ! base.ptr us1 (λ e1.
       fsplit ! $ fsplit ! $ feq_l ! (λ e2. flt_l ! (λ fits. keep ! (1 ∷ 2 ∷ []) $
       by ! (subst (λ (ws : List Val × List Val
-          × List Val). ent 𝓤 (⋆ 𝓛 Had) (WpFn 𝓤 H C Λ (function E) (ws.0 ++ (ws.1 ++ (ws.2 ++ []))) Post))
-              (λ j. (sym e0 j, sym e1 j, sym e2 j)) (walk asked fits))))))
+      × List Val). ent 𝓤 (⋆ 𝓛 Had) (WpFn 𝓤 H C Λ (function E) (ws.0 ++ (ws.1 ++ (ws.2 ++ []))) Post))
+      (λ j. (sym e0 j, sym e1 j, sym e2 j)) (walk asked fits))))))
 
 meets : (E : El) {M : Type 1} {𝓤 : Ura M} (𝓛 : Logic 𝓤) (𝓣 : Tables 𝓤 𝓛.H)
     → Meets 𝓛 (ended E).signature (WpFn 𝓤 𝓛.H 𝓣.C 𝓣.Λ (function E)) (closing 𝓛 (ended E) (spec E 𝓛))
 meets E {𝓤 = 𝓤} 𝓛 𝓣 =
-    walk_Meets 𝓛 (ended E) (stayed E)
-        (Goes-dropped 𝓛 1 (RefOf (0 ∷ []) tt (plain (λ _. Pl E)) (λ _. tt)) yes (λ κs x f. refl),
-            (Goes-dropped 𝓛 1 (plain (λ _. Bs E)) no (λ κs x f. refl), (Goes-dropped 𝓛 1 (plain (λ _. usize)) no (λ κs x f. refl), tt)))
-                (spec E 𝓛)
+    walk_Meets 𝓛 (ended E) (stayed E) (
+      Goes-dropped 𝓛 1 (RefOf (0 ∷ []) tt (plain (λ _. Pl E)) (λ _. tt)) yes (λ κs x f. refl),
+      (Goes-dropped 𝓛 1 (plain (λ _. Bs E)) no (λ κs x f. refl), (Goes-dropped 𝓛 1 (plain (λ _. usize)) no (λ κs x f. refl), tt)),
+    )
+    (spec E 𝓛)
     (WpFn 𝓤 𝓛.H 𝓣.C 𝓣.Λ (function E)) (WpFn-mono 𝓤 𝓛.H 𝓛.laws 𝓣 (function E))
     (λ z. let κ = z.0.0.0 in let q = z.0.1.0 in let a = z.0.3 in let us = z.0.4 in
     needs 𝓤 (Asks E a.0.now a.1.0 a.1.1.0) _ (entry E 𝓛 𝓣.C 𝓣.Λ κ q a.0.ref_ptr.0 a.0.ref_ptr.1 a.0.now a.1.0 a.1.1.0 us.0 us.1.0 us.1.1.0))
@@ -115,5 +130,5 @@ slice_spec 𝓤 𝓛 𝓜 𝓡 wired X LX y =
     let key = #self (args E) in
     spared 𝓛 (ended E).signature (𝓡.run (𝓡.env key)) (run_framed 𝓤 𝓛.H 𝓜 𝓡 (𝓡.env key)) 1 (X.lives, tt) (closing 𝓛 (ended E) (spec E 𝓛))
     (entered 𝓤 𝓛.H (triple_of 𝓛 (ended E).signature (closing 𝓛 (ended E) (spec E 𝓛))) 𝓣.C 𝓣.Λ key (function E)
-        (code.unfolded 𝓤 𝓛.H 𝓜 𝓡 wired (X, tt)) (meets E 𝓛 𝓣))
+    (code.unfolded 𝓤 𝓛.H 𝓜 𝓡 wired (X, tt)) (meets E 𝓛 𝓣))
     ((y.0.0, y.0.1, tt, y.0.3, y.0.4), y.1)

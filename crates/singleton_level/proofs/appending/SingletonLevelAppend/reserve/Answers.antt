@@ -9,5 +9,5 @@ returns-clause-log c = record {
   size = ap (λ l. l.size) c.self.view_is;
   log = reserve_logs (stored c.self.inside.size c.self.inside.unique c.self.inside.stage c.self.inside.parents c.self.inside.coords.items
       c.self.inside.coords.spare) c.args.self.now c.reserve.new.self.items c.max-self-inside.result c.args.parents c.self.view_is
-          c.in_ok-reserve.ensures.items c.max-self-inside.ensures;
+      c.in_ok-reserve.ensures.items c.max-self-inside.ensures;
 }

@@ -26,8 +26,8 @@ returns-clause-values g c = rw (← c.self.view_is) (λ coords. ap (λ es. value
 pub returns-clause-increasing : goal.returns-clause-increasing
 returns-clause-increasing g c =
     rw (← c.self.view_is)
-        (λ up. subst StrictlyIncreasing (sym (kept g c))
-            (increasing_filter (is_nonzero g.S.Semiring.arithmetic) c.self.inside.list.items up))
+    (λ up. subst StrictlyIncreasing (sym (kept g c))
+    (increasing_filter (is_nonzero g.S.Semiring.arithmetic) c.self.inside.list.items up))
 
 pub returns-clause-none : goal.returns-clause-none
 returns-clause-none g c =
