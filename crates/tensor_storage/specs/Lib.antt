@@ -1,5 +1,7 @@
+pub mod Built
 pub mod Chains
 pub mod Children
+pub mod Counts
 pub mod Laws
 pub mod Levels
 pub mod New

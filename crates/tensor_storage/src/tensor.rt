@@ -1,15 +1,16 @@
 ghost use Rattle.std.specs.Prelude.{◌≡◌, ◌≤◌, ℕ, All, length, slice_index, MatchResult};
 ghost use Rattle.limits.specs.Limits.{greatest_position_count};
 ghost use Rattle.level_rows.specs.Tables.{Increase};
+ghost use Rattle.tensor_storage.specs.Counts.{positions_of};
 ghost use Rattle.tensor_storage.specs.Packed.{IsRefusal};
 ghost use Rattle.tensor_storage.specs.Tables.{AreBelow};
 
 use crate::finding::value_at;
 use crate::level::StorageLevel;
-use crate::packing::{PackRefusal, PackedLevels, pack_levels, zeros};
-use crate::table::{LevelRows, RowTable};
+use crate::packing::{PackRefusal, PackedTable, pack_table};
+use crate::table::RowTable;
 use format_spec::{Format, FormatLevel};
-use level_rows::store_values;
+use numbers::Semiring;
 use std::alloc::Global;
 use std::marker::Model;
 use trees::Items;
@@ -37,8 +38,9 @@ impl Tensor {
     ghost use Rattle.tensor_storage.specs.Storages.{IsStorage, EndsAt, in_level_order};
 
     /// Packs the rows of a table, which increase in the order of the format's levels: each is stored, those of value zero too.
-    /// `ranges` has the range of each mode. Refused for want of memory, or where a level would have more positions than may be.
-    pub fn pack<T: RowTable>(
+    /// Every other value is the zero of `S`. `ranges` has the range of each mode. Refused for want of memory, or exactly where a
+    /// level would have more positions than may be: the first such level is told, and nothing is stored of it.
+    pub fn pack_rows<S: Semiring, T: RowTable>(
         alloc: Global,
         format: Format,
         ranges: &[u64],
@@ -48,29 +50,18 @@ impl Tensor {
         requires small { All (λ range. range ≤ greatest_position_count) ranges.now }
         requires order { Increase (T.table table.now).coords (length format) (T.table table.now).count }
         requires below { AreBelow (T.table table.now) (in_level_order format ranges.now) }
-        ensures { MatchResult result (IsPacked format ranges.now (T.table table.now)) (IsRefusal (length format)) }
+        ensures { MatchResult result (IsPacked S.arithmetic.zero format ranges.now (T.table table.now))
+            (IsRefusal (positions_of format ranges.now (T.table table.now))) }
     {
-        let Ok(mut places) = zeros(alloc, table.count()) else {
-            return Err(PackRefusal::Memory);
-        };
-        let packed = match pack_levels(alloc, format.levels(), ranges, table, &mut places) {
+        let packed = match pack_table::<S, T>(alloc, format.levels(), ranges, table) {
             Ok(packed) => packed,
             Err(refusal) => return Err(refusal),
         };
-        let PackedLevels { levels, positions } = packed;
-        let Ok(mut values) = zeros(alloc, positions as usize) else {
-            return Err(PackRefusal::Memory);
-        };
-        let rows = LevelRows {
-            table,
-            level: 0,
-            through: 0,
-        };
-        store_values(&rows, &places, &mut values);
+        let PackedTable { levels, values } = packed;
         Ok(Tensor {
             format,
             levels,
-            values: Items::from_vec(values),
+            values,
         })
     }
 
@@ -103,17 +94,18 @@ impl Tensor {
         self.values.as_slice()
     }
 
-    /// The value at the coordinates, one a mode: zero where nothing is stored there. It takes no memory.
-    pub fn at(&self, coords: &[u64]) -> u64
+    /// The value at the coordinates, one a mode: the zero of `S` where nothing is stored there. It takes no memory.
+    pub fn at<S: Semiring>(&self, coords: &[u64]) -> u64
         requires { length coords.now ≡ length self.now.format }
         ensures stored { (pos : ℕ) → EndsAt self.now coords.now pos → result ≡ slice_index self.now.values pos }
-        ensures absent { ((pos : ℕ) → EndsAt self.now coords.now pos → ⊥) → result ≡ 0 }
+        ensures absent { ((pos : ℕ) → EndsAt self.now coords.now pos → ⊥) → result ≡ S.arithmetic.zero }
     {
         value_at(
             self.levels.as_slice(),
             self.format.levels(),
             self.values.as_slice(),
             coords,
+            S::zero(),
         )
     }
 }
