@@ -1,3 +1,4 @@
+pub mod Arranging
 pub mod Chains
 pub mod Children
 pub mod Counts

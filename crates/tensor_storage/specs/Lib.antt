@@ -1,3 +1,4 @@
+pub mod Arranged
 pub mod Built
 pub mod Chains
 pub mod Children

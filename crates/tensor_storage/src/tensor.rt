@@ -3,8 +3,10 @@ ghost use Rattle.limits.specs.Limits.{greatest_position_count};
 ghost use Rattle.level_rows.specs.Tables.{Increase};
 ghost use Rattle.tensor_storage.specs.Counts.{positions_of};
 ghost use Rattle.tensor_storage.specs.Packed.{IsRefusal};
+ghost use Rattle.tensor_map.specs.Entries.{StrictlyIncreasing};
 ghost use Rattle.tensor_storage.specs.Tables.{AreBelow};
 
+use crate::entries::{EntryRows, arrange};
 use crate::finding::value_at;
 use crate::level::StorageLevel;
 use crate::packing::{PackRefusal, PackedTable, pack_table};
@@ -13,6 +15,7 @@ use format_spec::{Format, FormatLevel};
 use numbers::Semiring;
 use std::alloc::Global;
 use std::marker::Model;
+use tensor_map::{Entries, Shape};
 use trees::Items;
 
 /// A packed tensor: the levels of its format one below another, and a value for each position of the last one.
@@ -34,8 +37,51 @@ impl Model for Tensor {
 }
 
 impl Tensor {
+    ghost use Rattle.tensor_storage.specs.Arranged.{AreInside, IsPackedFrom, IsRefusalOf};
     ghost use Rattle.tensor_storage.specs.Stands.{IsPacked};
     ghost use Rattle.tensor_storage.specs.Storages.{IsStorage, EndsAt, in_level_order};
+
+    /// Packs the entries of a tensor, which increase in the order of the modes: each is stored, those of value zero too. Every other
+    /// value is the zero of `S`. Refused for want of memory, or exactly where a level would have more positions than may be: the first
+    /// such level is told, and nothing is stored of it. No entry is copied: where their order by the levels is another, their
+    /// numbers are sorted.
+    pub fn pack<S: Semiring>(
+        alloc: Global,
+        format: Format,
+        shape: &Shape,
+        entries: &Entries,
+    ) -> Result<Tensor, PackRefusal>
+        requires shape { length shape.now ≡ length format }
+        requires order { entries.now.order ≡ length format }
+        requires increasing { StrictlyIncreasing entries.now.list }
+        requires inside { AreInside shape.now entries.now.list }
+        ensures { MatchResult result (IsPackedFrom S.arithmetic.zero format shape.now entries.now.list)
+            (IsRefusalOf format shape.now entries.now.list) }
+    {
+        let Ok(numbers) = arrange(alloc, format.levels(), entries) else {
+            return Err(PackRefusal::Memory);
+        };
+        let rows = EntryRows {
+            format: format.levels(),
+            entries,
+            numbers: &numbers,
+        };
+        let packed = match pack_table::<S, EntryRows>(
+            alloc,
+            format.levels(),
+            shape.ranges(),
+            &rows,
+        ) {
+            Ok(packed) => packed,
+            Err(refusal) => return Err(refusal),
+        };
+        let PackedTable { levels, values } = packed;
+        Ok(Tensor {
+            format,
+            levels,
+            values,
+        })
+    }
 
     /// Packs the rows of a table, which increase in the order of the format's levels: each is stored, those of value zero too.
     /// Every other value is the zero of `S`. `ranges` has the range of each mode. Refused for want of memory, or exactly where a
