@@ -1,5 +1,7 @@
+pub mod Arranging
 pub mod Chains
 pub mod Children
+pub mod Counts
 pub mod Located
 pub mod OneKind
 pub mod PackSteps

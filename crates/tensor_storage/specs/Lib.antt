@@ -1,5 +1,8 @@
+pub mod Arranged
+pub mod Built
 pub mod Chains
 pub mod Children
+pub mod Counts
 pub mod Laws
 pub mod Levels
 pub mod New

@@ -4,6 +4,7 @@
 #![tactic(auto)]
 
 mod appending;
+mod entries;
 mod finding;
 mod inserting;
 mod kind;
