@@ -1,3 +1,5 @@
+pub mod EntryLaws
+pub mod FieldLaws
 pub mod PositionLaws
 pub mod TextLaws
 pub mod WrittenLaws

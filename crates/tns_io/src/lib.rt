@@ -3,11 +3,16 @@
 //! and the functions of `laws` state what follows.
 #![tactic(auto)]
 
+mod entry_lines;
+mod file_fault;
 mod laws;
 mod line_kind;
+mod tns_reader;
 
+pub use file_fault::FileFault;
 pub use laws::{
     lines_are_entries_or_bad, positions_number_coordinates, tensors_have_one_text,
     written_texts_stand_for_their_tensor,
 };
 pub use line_kind::LineKind;
+pub use tns_reader::TnsReader;
