@@ -1,0 +1,6 @@
+pub mod Banner
+pub mod Entry
+pub mod Fields
+pub mod Matrix
+pub mod Places
+pub mod Size

@@ -1,0 +1,15 @@
+//! What Matrix Market files (`.mtx`) say and what is written into them: `specs/Matrix.antt` defines what a text stands
+//! for, by the banner (`specs/Banner.antt`), the size line (`specs/Size.antt`) and the entry lines (`specs/Entry.antt`).
+#![tactic(auto)]
+
+mod banner;
+mod header;
+mod laws;
+mod line_kind;
+mod place;
+
+pub use banner::{Banner, Layout, Symmetry};
+pub use header::Header;
+pub use laws::texts_are_matrices_or_bad;
+pub use line_kind::LineKind;
+pub use place::Place;
