@@ -16,6 +16,7 @@ use Rattle.mtx_io.specs.declared.header.Header.{Header}
 use Rattle.mtx_io.specs.declared.line_kind.LineKind.{LineKind}
 use Rattle.mtx_io.specs.declared.line_kind.LineKind.TheVariants.{Fields, NotNumber, NotWhole, NumRange, ZeroCoordinate, CoordRange, SkewDiagonal}
 use Rattle.mtx_io.specs.declared.place.Place.{Place}
+pub use Rattle.mtx_io.specs.declared.place.PlacedValue.{PlacedValue}
 
 -- a row or a column, counted from 0, of so many: the token counts from 1
 abbrev pub index_from : ℕ → Option ℕ → Result ℕ LineKind
@@ -38,18 +39,13 @@ value_of token = value_from (read_whole_of token)
 
 -- the diagonal of a skew-symmetric matrix is zero and is not told
 abbrev pub place_at : Symmetry → ℕ → ℕ → Result Place LineKind
-place_at symmetry row column = if needs_minus symmetry && (row == column) then Err SkewDiagonal else Ok (record { row = row; column = column })
+place_at which row column = if needs_minus which && (row == column) then Err SkewDiagonal else Ok (record { row = row; column = column })
 
 -- the row first, and then the column
 abbrev pub place_from : Symmetry → Result ℕ LineKind → Result ℕ LineKind → Result Place LineKind
-place_from symmetry (Err kind) column = Err kind
-place_from symmetry (Ok row) (Err kind) = Err kind
-place_from symmetry (Ok row) (Ok column) = place_at symmetry row column
-
--- the place that a line tells, and the value there
-pub record PlacedValue : Type 0 where
-  pub place : Place
-  pub value : ℕ
+place_from which (Err kind) column = Err kind
+place_from which (Ok row) (Err kind) = Err kind
+place_from which (Ok row) (Ok column) = place_at which row column
 
 -- the place first, and then the value
 abbrev pub placed : Result Place LineKind → Result ℕ LineKind → Result PlacedValue LineKind

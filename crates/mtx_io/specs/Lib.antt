@@ -1,4 +1,5 @@
 pub mod Banner
+pub mod Due
 pub mod Entry
 pub mod Fields
 pub mod Matrix

@@ -40,13 +40,13 @@ abbrev pub number_to : ℕ → List ℕ → Option ℕ
 number_to greatest token = result_ok (read_index_of greatest token)
 
 abbrev pub header_from : ℕ → Symmetry → Option ℕ → Option ℕ → Option Header
-header_from order symmetry None columns = None
-header_from order symmetry (Some rows) None = None
-header_from order symmetry (Some rows) (Some columns) =
-    if agree symmetry rows columns && suits order columns then Some (record { order = order; symmetry = symmetry; rows = rows; columns = columns }) else None
+header_from order which None columns = None
+header_from order which (Some rows) None = None
+header_from order which (Some rows) (Some columns) =
+    if agree which rows columns && suits order columns then Some (record { order = order; symmetry = which; rows = rows; columns = columns }) else None
 
 abbrev pub header_of : ℕ → Symmetry → List ℕ → List ℕ → Option Header
-header_of order symmetry rows columns = header_from order symmetry (number_to greatest_matrix_size rows) (number_to greatest_matrix_size columns)
+header_of order which rows columns = header_from order which (number_to greatest_matrix_size rows) (number_to greatest_matrix_size columns)
 
 -- so many entries, each on a line that tells its place
 abbrev pub entries_due : Option Header → Option ℕ → Option Sized
@@ -59,13 +59,13 @@ abbrev pub values_due : Header → Sized
 values_due header = record { header = header; slots = map At (places header.symmetry header.rows header.columns) }
 
 abbrev pub coordinate_size : ℕ → Symmetry → Option (List ℕ × List ℕ × List ℕ) → Option Sized
-coordinate_size order symmetry None = None
-coordinate_size order symmetry (Some words) =
-    entries_due (header_of order symmetry words.0 words.1) (number_to greatest_matrix_entries words.2)
+coordinate_size order which None = None
+coordinate_size order which (Some words) =
+    entries_due (header_of order which words.0 words.1) (number_to greatest_matrix_entries words.2)
 
 abbrev pub array_size : ℕ → Symmetry → Option (List ℕ × List ℕ) → Option Sized
-array_size order symmetry None = None
-array_size order symmetry (Some words) = option_map values_due (header_of order symmetry words.0 words.1)
+array_size order which None = None
+array_size order which (Some words) = option_map values_due (header_of order which words.0 words.1)
 
 abbrev pub size_by : ℕ → Symmetry → Layout → List (List ℕ) → Option Sized
 size_by order symmetry Coordinate tokens = coordinate_size order symmetry (three_tokens tokens)

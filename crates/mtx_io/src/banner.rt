@@ -1,6 +1,13 @@
+ghost use Rattle.std.specs.Prelude.{◌≡◌};
+ghost use Rattle.std.specs.Str.{str_eq_ignore_ascii_case};
+ghost use Rattle.mtx_io.specs.Banner.{layout_of, symmetry_of, begins_integers, banner_of, needs_minus};
+ghost use Rattle.text_lines.specs.Tokens.{tokens};
+
+use crate::fields::five_tokens;
+
 /// How the entries of a matrix are told.
 #[derive(Clone, Copy, Debug, PartialEq, Eq)]
-pub enum Layout {
+pub(crate) enum Layout {
     /// Each with its row and column.
     Coordinate,
     /// By their values alone, column by column.
@@ -9,7 +16,7 @@ pub enum Layout {
 
 /// What the entries on one side of the diagonal say of the other.
 #[derive(Clone, Copy, Debug, PartialEq, Eq)]
-pub enum Symmetry {
+pub(crate) enum Symmetry {
     /// Nothing.
     General,
     /// The same values stand there.
@@ -20,9 +27,73 @@ pub enum Symmetry {
 
 /// What the first line of a file says of the matrix.
 #[derive(Clone, Copy, Debug, PartialEq, Eq)]
-pub struct Banner {
+pub(crate) struct Banner {
     /// How its entries are told.
-    pub layout: Layout,
+    pub(crate) layout: Layout,
     /// Which entries have a mirror image.
-    pub symmetry: Symmetry,
+    pub(crate) symmetry: Symmetry,
+}
+
+/// Whether the token is the word, in capital or small letters.
+fn is_word(token: &[u8], word: &[u8]) -> bool
+    ensures { result ≡ str_eq_ignore_ascii_case token.now word.now }
+{
+    token.eq_ignore_ascii_case(word)
+}
+
+/// How the entries are told, by the banner's word.
+fn read_layout(token: &[u8]) -> Option<Layout>
+    ensures { result ≡ layout_of token.now }
+{
+    if is_word(token, b"coordinate") {
+        Some(Layout::Coordinate)
+    } else if is_word(token, b"array") {
+        Some(Layout::Array)
+    } else {
+        None
+    }
+}
+
+/// Which entries have a mirror image, by the banner's word.
+fn read_symmetry(token: &[u8]) -> Option<Symmetry>
+    ensures { result ≡ symmetry_of token.now }
+{
+    if is_word(token, b"general") {
+        Some(Symmetry::General)
+    } else if is_word(token, b"symmetric") {
+        Some(Symmetry::Symmetric)
+    } else if is_word(token, b"skew-symmetric") {
+        Some(Symmetry::SkewSymmetric)
+    } else {
+        None
+    }
+}
+
+/// Whether these are the mark of the format and the words for a matrix of integers.
+fn are_words_for_integers(mark: &[u8], object: &[u8], field: &[u8]) -> bool
+    ensures { result ≡ begins_integers mark.now object.now field.now }
+{
+    mark == b"%%MatrixMarket".as_slice() && is_word(object, b"matrix") && is_word(field, b"integer")
+}
+
+/// What a banner says. None where the line is no banner of a matrix of integers.
+pub(crate) fn read_banner(line: &[u8]) -> Option<Banner>
+    ensures { result ≡ banner_of (tokens line.now) }
+{
+    let (mark, object, layout, field, symmetry) = five_tokens(line)?;
+    if !are_words_for_integers(mark, object, field) {
+        return None;
+    }
+    let layout = read_layout(layout)?;
+    let symmetry = read_symmetry(symmetry)?;
+    Some(Banner { layout, symmetry })
+}
+
+impl Symmetry {
+    /// Whether mirror images are negated.
+    pub(crate) fn needs_minus(self) -> bool
+        ensures { result ≡ needs_minus self }
+    {
+        self == Symmetry::SkewSymmetric
+    }
 }

@@ -3,13 +3,12 @@
 #![tactic(auto)]
 
 mod banner;
+mod due;
+mod fields;
 mod header;
 mod laws;
 mod line_kind;
 mod place;
 
-pub use banner::{Banner, Layout, Symmetry};
-pub use header::Header;
 pub use laws::texts_are_matrices_or_bad;
 pub use line_kind::LineKind;
-pub use place::Place;
