@@ -4,4 +4,5 @@ pub mod Entry
 pub mod Fields
 pub mod Matrix
 pub mod Places
+pub mod Progress
 pub mod Size

@@ -1,6 +1,6 @@
 -- What a Matrix Market file says, as NISTIR 5935 describes it: the banner on its first line, then the size line, then the
 -- entry lines. Comments and lines without a token may stand anywhere behind the banner.
-use Rattle.std.specs.Prelude.{ℕ, ◌+◌, Bool, ◌||◌, ◌&&◌, not, ◌==◌, nat_lt, List, [], ◌∷◌, ◌++◌, length, filter, Option, Some, None, Result, Ok, Err}
+use Rattle.std.specs.Prelude.{ℕ, ◌+◌, Bool, ◌||◌, ◌&&◌, not, ◌==◌, nat_lt, List, [], ◌∷◌, ◌++◌, length, filter, drop, Option, Some, None, Result, Ok, Err}
 use Rattle.std.specs.Prelude.{if◌then◌else◌, slice_index}
 use Rattle.limits.specs.Limits.{greatest_line_bytes}
 use Rattle.numbers.specs.Arithmetic.{Arithmetic}
@@ -73,12 +73,13 @@ banner_line has_minus line = unless_long line (banner_within has_minus (or_fault
 abbrev pub size_line : ℕ → Banner → List ℕ → Result Sized LineKind
 size_line order banner line = unless_long line (or_fault BadSize (size_of order banner (tokens line)))
 
-abbrev pub entry_line : Header → Slot → List ℕ → Result PlacedValue LineKind
-entry_line header slot line = unless_long line (entry_of header slot (tokens line))
+-- what is due on an entry line, or that none is
+abbrev pub entry_due : Header → List Slot → List (List ℕ) → Result PlacedValue LineKind
+entry_due header [] tokens = Err Extra
+entry_due header (slot ∷ slots) tokens = entry_of header slot tokens
 
--- what a line behind the last entry is
-abbrev pub extra_line : List ℕ → LineKind
-extra_line line = if is_long line then LongLine else Extra
+abbrev pub entry_line : Header → List Slot → List ℕ → Result PlacedValue LineKind
+entry_line header slots line = unless_long line (entry_due header slots (tokens line))
 
 -- the entries of a line before those of the lines behind it
 abbrev pub before_others : Arithmetic → Header → ℕ → Result PlacedValue LineKind → Result (List Entry) BadLine → Result (List Entry) BadLine
@@ -86,14 +87,17 @@ before_others a header number (Err kind) others = Err (record { number = number;
 before_others a header number (Ok told) (Err bad) = Err bad
 before_others a header number (Ok told) (Ok entries) = Ok (entries_of a header told ++ entries)
 
--- the entries of these lines, one line for each slot, or the first fault: a line that is bad, one too many, or the end of
--- the file, which comes at the number `end`, with some still due
+-- the file ends at the line number `end`, where these entry lines are still due
+abbrev pub entries_at_end : ℕ → List Slot → Result (List Entry) BadLine
+entries_at_end end [] = Ok []
+entries_at_end end (slot ∷ slots) = Err (record { number = end; kind = Truncated })
+
+-- the entries of these lines, one line for each slot, or the first fault: a line that is bad or one too many, or the end of
+-- the file before the last entry
 abbrev pub entries_from : Arithmetic → Header → ℕ → List Slot → List NumberedLine → Result (List Entry) BadLine
-entries_from a header end [] [] = Ok []
-entries_from a header end [] (line ∷ more) = Err (record { number = line.number; kind = extra_line line.bytes })
-entries_from a header end (slot ∷ slots) [] = Err (record { number = end; kind = Truncated })
-entries_from a header end (slot ∷ slots) (line ∷ more) =
-    before_others a header line.number (entry_line header slot line.bytes) (entries_from a header end slots more)
+entries_from a header end slots [] = entries_at_end end slots
+entries_from a header end slots (line ∷ more) =
+    before_others a header line.number (entry_line header slots line.bytes) (entries_from a header end (drop 1 slots) more)
 
 abbrev pub matrix_with : Header → Result (List Entry) BadLine → Result Matrix BadLine
 matrix_with header (Err bad) = Err bad
@@ -108,16 +112,16 @@ abbrev pub sized_from : Arithmetic → ℕ → ℕ → Banner → List NumberedL
 sized_from a order end banner [] = Err (record { number = end; kind = Truncated })
 sized_from a order end banner (line ∷ more) = behind_size a end line.number (size_line order banner line.bytes) more
 
-abbrev pub behind_banner : Arithmetic → ℕ → ℕ → Result Banner LineKind → List NumberedLine → Result Matrix BadLine
-behind_banner a order end (Err kind) more = Err (record { number = 1; kind = kind })
-behind_banner a order end (Ok banner) more = sized_from a order end banner (kept more)
+abbrev pub behind_banner : Arithmetic → ℕ → ℕ → ℕ → Result Banner LineKind → List NumberedLine → Result Matrix BadLine
+behind_banner a order end number (Err kind) more = Err (record { number = number; kind = kind })
+behind_banner a order end number (Ok banner) more = sized_from a order end banner (kept more)
 
--- what these lines say for a tensor of this order, or the first bad line
-abbrev pub matrix_of_lines : Arithmetic → Bool → ℕ → List (List ℕ) → Result Matrix BadLine
-matrix_of_lines a has_minus order [] = Err (record { number = 1; kind = BadBanner })
-matrix_of_lines a has_minus order (line ∷ more) =
-    behind_banner a order (length more + 2) (banner_line has_minus line) (numbered 2 more)
+-- what a file of these lines says for a tensor of this order, or the first bad line. The first line has this number
+abbrev pub matrix_from : Arithmetic → Bool → ℕ → ℕ → List (List ℕ) → Result Matrix BadLine
+matrix_from a has_minus order number [] = Err (record { number = number; kind = BadBanner })
+matrix_from a has_minus order number (line ∷ more) =
+    behind_banner a order (number + length (line ∷ more)) number (banner_line has_minus line) (numbered (number + 1) more)
 
 -- what the text of a file says
 abbrev pub matrix_of_text : Arithmetic → Bool → ℕ → List ℕ → Result Matrix BadLine
-matrix_of_text a has_minus order text = matrix_of_lines a has_minus order (lines text)
+matrix_of_text a has_minus order text = matrix_from a has_minus order 1 (lines text)

@@ -9,6 +9,7 @@ mod header;
 mod laws;
 mod line_kind;
 mod place;
+mod stage;
 
 pub use laws::texts_are_matrices_or_bad;
 pub use line_kind::LineKind;
