@@ -1,5 +1,5 @@
 -- The entry lines that are still due while a file is read.
-use Rattle.std.specs.Prelude.{ℕ, ◌+◌, ◌-◌, ◌<◌, List, [], ◌++◌, map, replicate, Option, Some, None}
+use Rattle.std.specs.Prelude.{ℕ, ◌+◌, ◌-◌, ◌<◌, Bool, true, false, List, [], ◌∷◌, ◌++◌, map, replicate, Option, Some, None}
 use Rattle.mtx_io.specs.Places.{column_from, columns_from}
 use Rattle.mtx_io.specs.Size.{Slot, Anywhere, At}
 use Rattle.mtx_io.specs.declared.due.Due.{Due}
@@ -30,3 +30,7 @@ abbrev pub IsInside : Header → Due → Type 0
 IsInside header (Entries count) = Unit {0}
 IsInside header (Values None) = Unit {0}
 IsInside header (Values (Some place)) = IsWithin header place
+
+abbrev pub is_nothing : List Slot → Bool
+is_nothing [] = true
+is_nothing (slot ∷ slots) = false

@@ -1,15 +1,18 @@
 //! The entry lines that are still due.
-ghost use Rattle.std.specs.Prelude.{◌≡◌, ◌<◌, ◌-◌, ◌^◌, [], ◌∷◌, MatchOption};
-ghost use Rattle.mtx_io.specs.Due.{IsWithin, places_left};
+ghost use Rattle.std.specs.Prelude.{◌≡◌, ◌<◌, ◌-◌, ◌^◌, [], ◌∷◌, drop, MatchOption};
+ghost use Rattle.mtx_io.specs.Due.{IsWithin, places_left, is_nothing};
+ghost use Rattle.mtx_io.specs.Matrix.{entry_due};
 ghost use Rattle.mtx_io.specs.Places.{first_row, columns_from};
 ghost use Rattle.mtx_io.specs.Fields.{two_tokens as two, three_tokens as three};
 ghost use Rattle.mtx_io.specs.Size.{header_of, number_to, size_of, coordinate_size, array_size};
 ghost use Rattle.text_lines.specs.Tokens.{tokens};
 
 use crate::banner::{Banner, Layout, Symmetry};
+use crate::entry::{read_entry, read_value_at};
 use crate::fields::{three_tokens, two_tokens};
 use crate::header::Header;
-use crate::place::Place;
+use crate::line_kind::LineKind;
+use crate::place::{Place, PlacedValue};
 use limits::{greatest_entries_of_matrix, greatest_size_of_matrix};
 use std::marker::Model;
 use text_lines::read_index;
@@ -122,6 +125,42 @@ impl EntryLines {
         match banner.layout {
             Layout::Coordinate => entries_due(order, banner.symmetry, line),
             Layout::Array => values_due(order, banner.symmetry, line),
+        }
+    }
+
+    /// What the first lines of the file say.
+    pub(crate) fn header(&self) -> Header
+        ensures { result ≡ self.now.header }
+    {
+        self.header
+    }
+
+    /// Whether no entry line is due any more.
+    pub(crate) fn are_complete(&self) -> bool
+        ensures { result ≡ is_nothing self.now.slots }
+    {
+        matches!(self.due, Due::Entries(0) | Due::Values(None))
+    }
+
+    /// What an entry line tells, or what is wrong with it: it is then no longer due.
+    pub(crate) fn take(&mut self, line: &[u8]) -> Result<PlacedValue, LineKind>
+        ensures told { result ≡ entry_due self.old.header self.old.slots (tokens line.now) }
+        ensures header { self.new.header ≡ self.old.header }
+        ensures left { self.new.slots ≡ drop 1 self.old.slots }
+    {
+        match self.due {
+            Due::Entries(count) => {
+                if count == 0 {
+                    return Err(LineKind::Extra);
+                }
+                self.due = Due::Entries(count - 1);
+                read_entry(&self.header, line)
+            }
+            Due::Values(None) => Err(LineKind::Extra),
+            Due::Values(Some(place)) => {
+                self.due = Due::Values(place_behind(&self.header, place));
+                read_value_at(place, line)
+            }
         }
     }
 }

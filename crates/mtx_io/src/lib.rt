@@ -4,6 +4,7 @@
 
 mod banner;
 mod due;
+mod entry;
 mod fields;
 mod header;
 mod laws;
