@@ -1,5 +1,5 @@
 -- What a file says that was read up to some line: what was learned of it so far, and the lines that are left.
-use Rattle.std.specs.Prelude.{◌≡◌, ℕ, ◌+◌, ◌-◌, ◌^◌, ◌⊎◌, min, Bool, true, List, ◌∷◌, ◌++◌, length, Result, Ok, Err}
+use Rattle.std.specs.Prelude.{◌≡◌, ℕ, ◌+◌, ◌-◌, ◌^◌, ◌⊎◌, min, Bool, true, List, [], ◌∷◌, ◌++◌, length, Result, Ok, Err}
 use Rattle.numbers.specs.Arithmetic.{Arithmetic}
 use Rattle.tensor_map.specs.declared.entries.Entry.{Entry}
 use Rattle.mtx_io.specs.Banner.{needs_minus}
@@ -40,9 +40,17 @@ Follows a has_minus order count line entries stage entries' stage' =
 abbrev pub IsMatrixOrder : ℕ → Type 0
 IsMatrixOrder order = (order ≡ 1) ⊎ (order ≡ 2)
 
--- a skew-symmetric matrix has passed where there is a minus, and the header is of this order
-abbrev pub IsStage : Bool → ℕ → Stage → Type 0
-IsStage has_minus order First = Unit {0}
-IsStage has_minus order (Begun banner) = needs_minus banner.symmetry ≡ true → has_minus ≡ true
-IsStage has_minus order (Sized sized) = (needs_minus sized.header.symmetry ≡ true → has_minus ≡ true) × (sized.header.order ≡ order)
-IsStage has_minus order (Bad line kind) = Unit {0}
+-- no entry was read before the size line, a skew-symmetric matrix has passed where there is a minus, and the header is of
+-- this order
+abbrev pub IsStage : Bool → ℕ → List Entry → Stage → Type 0
+IsStage has_minus order entries First = entries ≡ []
+IsStage has_minus order entries (Begun banner) = (entries ≡ []) × (needs_minus banner.symmetry ≡ true → has_minus ≡ true)
+IsStage has_minus order entries (Sized sized) = (needs_minus sized.header.symmetry ≡ true → has_minus ≡ true) × (sized.header.order ≡ order)
+IsStage has_minus order entries (Bad line kind) = Unit {0}
+
+-- entry lines are due, or were all read
+abbrev pub IsSized : Stage → Type 0
+IsSized First = ⊥
+IsSized (Begun banner) = ⊥
+IsSized (Sized sized) = Unit {0}
+IsSized (Bad line kind) = ⊥

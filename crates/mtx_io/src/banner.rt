@@ -1,9 +1,12 @@
-ghost use Rattle.std.specs.Prelude.{◌≡◌};
+ghost use Rattle.std.specs.Prelude.{◌≡◌, true, false, IfOk};
 ghost use Rattle.std.specs.Str.{str_eq_ignore_ascii_case};
 ghost use Rattle.mtx_io.specs.Banner.{layout_of, symmetry_of, begins_integers, banner_of, needs_minus};
+ghost use Rattle.mtx_io.specs.Matrix.{is_long, banner_line};
 ghost use Rattle.text_lines.specs.Tokens.{tokens};
 
 use crate::fields::five_tokens;
+use crate::line_kind::LineKind;
+use numbers::Semiring;
 
 /// How the entries of a matrix are told.
 #[derive(Clone, Copy, Debug, PartialEq, Eq)]
@@ -87,6 +90,21 @@ pub(crate) fn read_banner(line: &[u8]) -> Option<Banner>
     let layout = read_layout(layout)?;
     let symmetry = read_symmetry(symmetry)?;
     Some(Banner { layout, symmetry })
+}
+
+/// What a first line that isn't too long says. A skew-symmetric matrix asks for a minus of `S`.
+pub(crate) fn read_first_line<S: Semiring>(line: &[u8]) -> Result<Banner, LineKind>
+    requires { is_long line.now ≡ false }
+    ensures line { result ≡ banner_line S.has_minus line.now }
+    ensures minus { IfOk result (λ banner. needs_minus banner.symmetry ≡ true → S.has_minus ≡ true) }
+{
+    let Some(banner) = read_banner(line) else {
+        return Err(LineKind::BadBanner);
+    };
+    if banner.symmetry.needs_minus() && S::minus_one().is_none() {
+        return Err(LineKind::NoMinus);
+    }
+    Ok(banner)
 }
 
 impl Symmetry {

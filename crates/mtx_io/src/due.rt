@@ -1,5 +1,5 @@
 //! The entry lines that are still due.
-ghost use Rattle.std.specs.Prelude.{◌≡◌, ◌<◌, ◌-◌, ◌^◌, [], ◌∷◌, drop, MatchOption};
+ghost use Rattle.std.specs.Prelude.{◌≡◌, ◌<◌, ◌-◌, ◌^◌, [], ◌∷◌, drop, IfSome, MatchOption};
 ghost use Rattle.mtx_io.specs.Due.{IsWithin, places_left, is_nothing};
 ghost use Rattle.mtx_io.specs.Matrix.{entry_due};
 ghost use Rattle.mtx_io.specs.Places.{first_row, columns_from};
@@ -95,7 +95,9 @@ fn place_behind(header: &Header, place: Place) -> Option<Place>
 
 /// The sizes of a matrix. None where a token is no size, or where they don't go with the symmetry or the order.
 fn read_sizes(order: usize, symmetry: Symmetry, rows: &[u8], columns: &[u8]) -> Option<Header>
-    ensures { result ≡ header_of order symmetry rows.now columns.now }
+    ensures sizes { result ≡ header_of order symmetry rows.now columns.now }
+    ensures order { IfSome result (λ header. header.order ≡ order) }
+    ensures symmetry { IfSome result (λ header. header.symmetry ≡ symmetry) }
 {
     let rows = number_up_to(rows, greatest_size_of_matrix())?;
     let columns = number_up_to(columns, greatest_size_of_matrix())?;
@@ -120,7 +122,9 @@ fn number_up_to(token: &[u8], greatest: u64) -> Option<u64>
 impl EntryLines {
     /// What a size line says is due. None where the line is none.
     pub(crate) fn read(order: usize, banner: Banner, line: &[u8]) -> Option<EntryLines>
-        ensures { result ≡ size_of order banner (tokens line.now) }
+        ensures size { result ≡ size_of order banner (tokens line.now) }
+        ensures order { IfSome result (λ sized. sized.header.order ≡ order) }
+        ensures symmetry { IfSome result (λ sized. sized.header.symmetry ≡ banner.symmetry) }
     {
         match banner.layout {
             Layout::Coordinate => entries_due(order, banner.symmetry, line),
@@ -167,7 +171,9 @@ impl EntryLines {
 
 /// The entries that the size line of a coordinate file says are due.
 fn entries_due(order: usize, symmetry: Symmetry, line: &[u8]) -> Option<EntryLines>
-    ensures { result ≡ coordinate_size order symmetry (three (tokens line.now)) }
+    ensures size { result ≡ coordinate_size order symmetry (three (tokens line.now)) }
+    ensures order { IfSome result (λ sized. sized.header.order ≡ order) }
+    ensures symmetry { IfSome result (λ sized. sized.header.symmetry ≡ symmetry) }
 {
     let (rows, columns, count) = three_tokens(line)?;
     let header = read_sizes(order, symmetry, rows, columns)?;
@@ -180,7 +186,9 @@ fn entries_due(order: usize, symmetry: Symmetry, line: &[u8]) -> Option<EntryLin
 
 /// The values that the size line of an array says are due.
 fn values_due(order: usize, symmetry: Symmetry, line: &[u8]) -> Option<EntryLines>
-    ensures { result ≡ array_size order symmetry (two (tokens line.now)) }
+    ensures size { result ≡ array_size order symmetry (two (tokens line.now)) }
+    ensures order { IfSome result (λ sized. sized.header.order ≡ order) }
+    ensures symmetry { IfSome result (λ sized. sized.header.symmetry ≡ symmetry) }
 {
     let (rows, columns) = two_tokens(line)?;
     let header = read_sizes(order, symmetry, rows, columns)?;

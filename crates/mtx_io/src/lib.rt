@@ -11,6 +11,7 @@ mod laws;
 mod line_kind;
 mod place;
 mod stage;
+mod step;
 
 pub use laws::texts_are_matrices_or_bad;
 pub use line_kind::LineKind;
