@@ -1,3 +1,5 @@
+pub mod Buffering
+pub mod CuttingLaws
 pub mod DecimalLaws
 pub mod LineLaws
 pub mod NumberLaws
