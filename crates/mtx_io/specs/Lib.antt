@@ -5,4 +5,5 @@ pub mod Fields
 pub mod Matrix
 pub mod Places
 pub mod Progress
+pub mod Reader
 pub mod Size

@@ -6,6 +6,8 @@ mod banner;
 mod due;
 mod entry;
 mod fields;
+mod file_fault;
+mod finish;
 mod header;
 mod laws;
 mod line_kind;
