@@ -2,4 +2,3 @@ pub mod FieldLaws
 pub mod PlaceLaws
 pub mod SlotLaws
 pub mod ProgressLaws
-pub mod ReaderLaws
