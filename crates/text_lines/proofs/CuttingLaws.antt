@@ -1,10 +1,10 @@
 -- Lemmas about what specs/Cutting.antt defines.
 use Rattle.std.specs.Prelude.{◌≡◌, ◌≢◌, ℕ, zero, suc, ◌+◌, ◌-◌, ◌<◌, ◌≤◌, ◌==◌, ◌||◌, Bool, true, false, not, cond, nat_lt, List, [], ◌∷◌, ◌++◌, length, map, take, drop, Option, Some, None, slice_index, slice_index_or, refl}
-use Rattle.std.specs.List.{All, slice_split, onto_first, list_any, before_first, position, position_or_len}
+use Rattle.std.specs.List.{All, slice_split, onto_first, list_any, before_first, after_first, position, position_or_len}
 use Rattle.std.specs.Str.Lines.{strip_carriage_return}
-use Rattle.std.proofs.Common.{arith, ap, subst, sym, ◌∙◌, append_assoc, append-nil, length-append}
+use Rattle.std.proofs.Common.{arith, ap, subst, sym, ◌∙◌, append-nil, length-append, get_or}
 use Rattle.std.proofs.lemmas.Bool.{ne_eqb, ltb-true, ltb-false, eqb-true}
-use Rattle.std.proofs.lemmas.List.Sums.{fails_before_first, passes_at_first}
+use Rattle.std.proofs.lemmas.List.Sums.{fails_before_first, passes_at_first, split_at_first}
 use Rattle.std.proofs.Math.Seq.{take-length}
 use Rattle.std.proofs.lemmas.List.{map-append, get_or-take, length-take, length-take-le, take_more}
 use Rattle.std.proofs.lemmas.List.Elements.{All-append}
@@ -13,7 +13,7 @@ use Rattle.std.proofs.lemmas.List.Splits.{slice_split-cons_no, slice_split_none,
 use Rattle.limits.specs.Limits.{greatest_line_bytes}
 use Rattle.text_lines.specs.Parts.{parts_behind}
 use Rattle.text_lines.specs.Lines.{is_line_feed, without_empty_last, lines}
-use Rattle.text_lines.specs.Cutting.{without_last, last_part, ended_lines, begun_line, is_long, has_long_line, told_lines}
+use Rattle.text_lines.specs.Cutting.{without_last, last_part, ended_lines, begun_line, is_long, has_long_line, told_lines, BreaksOff}
 use Rattle.text_lines.proofs.Parts.{first_part, place_found, place_missed}
 use Rattle.text_lines.proofs.LineLaws.{lines_first}
 
@@ -364,3 +364,63 @@ last_told text line short line_is some =
     lines_told text short
     ∙ ap (λ ps. told_lines text ++ ps) (lines_free (begun_line text) (begun_free text) ∙ ap (λ b. cond b [] (strip_carriage_return (begun_line text) ∷ [])) (ne_eqb (length (begun_line text)) 0 (λ e. omega (arith, ap length line_is))))
     )
+
+-- where no line is too long, a text that goes on has the lines that were told in front
+pub lines_go_on : (text more : List ℕ) → has_long_line text ≡ false → lines (text ++ more) ≡ told_lines text ++ lines (begun_line text ++ more)
+lines_go_on text more short =
+    lines_append text more ∙ ap (λ ps. ps ++ lines (begun_line text ++ more)) (sym (all_told (ended_lines text) (short_now text short).0))
+
+-- the lines before the first one that is too long are told
+before_long : (text : List ℕ) → has_long_line text ≡ true → before_first is_long (lines text) ≡ told_lines text
+before_long text long =
+    ap (before_first is_long) (lines_now text) ∙ by (list_any is_long (ended_lines text)) refl (sym (long_now text) ∙ long)
+  where
+    alone : (b : Bool) → is_long (strip_carriage_return (begun_line text)) ≡ true
+        → before_first is_long (cond b [] (strip_carriage_return (begun_line text) ∷ [])) ≡ []
+    alone true e = refl
+    alone false e = ap (λ b. take (cond (not b) (1 + position_or_len is_long []) 0) (strip_carriage_return (begun_line text) ∷ [])) e
+
+    by : (b : Bool) → list_any is_long (ended_lines text) ≡ b
+        → (list_any is_long (ended_lines text) || is_long (strip_carriage_return (begun_line text))) ≡ true
+        → before_first is_long (ended_lines text ++ lines (begun_line text)) ≡ told_lines text
+    by true e h = told_before (ended_lines text) (lines (begun_line text)) e
+    by false e h =
+        told_front (ended_lines text) (lines (begun_line text)) e
+        ∙ ap (λ ps. ended_lines text ++ before_first is_long ps) (lines_free (begun_line text) (begun_free text))
+        ∙ ap (λ ps. ended_lines text ++ ps) (alone _ (sym (ap (λ b. b || is_long (strip_carriage_return (begun_line text))) e) ∙ h))
+        ∙ append-nil (ended_lines text)
+        ∙ sym (all_told (ended_lines text) e)
+
+long_place : (ps : List (List ℕ)) → list_any is_long ps ≡ true → position_or_len is_long ps < length ps
+long_place [] e = absurd (cc)
+long_place (part ∷ ps) e = by (is_long part) e (long_place ps)
+  where
+    by : (b : Bool) → (b || list_any is_long ps) ≡ true → (list_any is_long ps ≡ true → position_or_len is_long ps < length ps)
+        → cond (not b) (1 + position_or_len is_long ps) 0 < length (part ∷ ps)
+    by true h rest = omega arith
+    by false h rest = omega (arith, rest h)
+
+pub breaks_off : (text : List ℕ) → has_long_line text ≡ true → BreaksOff text
+breaks_off text long =
+    let place = long_place (lines text) long in
+    record {
+      line = get_or (lines text) (position_or_len is_long (lines text)) [];
+      behind = after_first is_long (lines text);
+      long = passes_at_first is_long (lines text) [] place;
+      lines_are = split_at_first is_long (lines text) [] place ∙ ap (λ ps. ps ++ get_or (lines text) (position_or_len is_long (lines text)) [] ∷ after_first is_long (lines text)) (before_long text long);
+    }
+
+-- a line that was told last is short
+pub told_line_short : (text line : List ℕ) (before : List (List ℕ)) → has_long_line text ≡ false → told_lines text ≡ before ++ line ∷ [] → is_long line ≡ false
+told_line_short text line before short told =
+    let now : list_any is_long (told_lines text) ≡ false = ap (list_any is_long) (all_told (ended_lines text) (short_now text short).0) ∙ (short_now text short).0 in
+    let both = or_none _ _ (sym (list_any-append is_long before (line ∷ [])) ∙ sym (ap (list_any is_long) told) ∙ now) in
+    (or_none _ _ both.1).0
+
+pub long_stays_long : (text more : List ℕ) → has_long_line text ≡ true → has_long_line (text ++ more) ≡ true
+long_stays_long text more long = (long_stays text more long).0
+
+pub long_stays_told : (text more : List ℕ) → has_long_line text ≡ true → told_lines (text ++ more) ≡ told_lines text
+long_stays_told text more long = (long_stays text more long).1
+
+pub ruleset cutting_laws = (lines_go_on, breaks_off, long_stays_long, long_stays_told)

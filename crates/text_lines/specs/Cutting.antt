@@ -1,5 +1,5 @@
 -- The lines of a text of which more may come: those that have ended, and the one that has begun.
-use Rattle.std.specs.Prelude.{ℕ, Bool, nat_lt, List, [], ◌∷◌, length, map}
+use Rattle.std.specs.Prelude.{◌≡◌, ℕ, Bool, true, nat_lt, List, [], ◌∷◌, ◌++◌, length, map}
 use Rattle.std.specs.List.{slice_split, list_any, before_first}
 use Rattle.std.specs.Str.Lines.{strip_carriage_return}
 use Rattle.limits.specs.Limits.{greatest_line_bytes}
@@ -34,3 +34,10 @@ has_long_line text = list_any is_long (lines text)
 -- the lines that have ended before the first one that is too long
 abbrev pub told_lines : List ℕ → List (List ℕ)
 told_lines text = before_first is_long (ended_lines text)
+
+-- the first line of the text that is too long, behind those that are told
+pub record BreaksOff (text : List ℕ) : Type 0 where
+  pub line : List ℕ
+  pub behind : List (List ℕ)
+  pub long : is_long line ≡ true
+  pub lines_are : lines text ≡ told_lines text ++ line ∷ behind

@@ -18,7 +18,7 @@ pub use fed::Fed;
 pub use index::read_index;
 pub use laws::{
     joined_lines_are_cut_back, joined_tokens_are_cut_back, printed_numbers_are_read_back,
-    printed_numbers_are_tokens, tokens_are_whole_numbers_or_not,
+    printed_numbers_are_tokens, tokens_are_whole_numbers_or_not, told_lines_stay,
 };
 pub use line_reader::LineReader;
 pub use num_fault::NumFault;
