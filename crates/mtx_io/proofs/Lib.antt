@@ -2,3 +2,4 @@ pub mod FieldLaws
 pub mod PlaceLaws
 pub mod SlotLaws
 pub mod ProgressLaws
+pub mod ReaderLaws

@@ -1,7 +1,7 @@
 -- The entry lines that are still due, one after another.
-use Rattle.std.specs.Prelude.{◌≡◌, ◌≢◌, ℕ, zero, suc, ◌-◌, List, ◌∷◌, replicate, refl}
-use Rattle.std.proofs.Common.{arith, ap, sym}
-use Rattle.mtx_io.specs.Size.{Slot, Anywhere}
+use Rattle.std.specs.Prelude.{◌≡◌, ◌≢◌, ℕ, zero, suc, ◌-◌, ◌∷◌, replicate, refl}
+use Rattle.std.proofs.Common.{arith, ap}
+use Rattle.mtx_io.specs.Size.{Anywhere}
 
 -- of some entries that are due one is the first
 pub one_of_entries : (count : ℕ) → count ≢ 0 → replicate count Anywhere ≡ Anywhere ∷ replicate (count - 1) Anywhere

@@ -1,6 +1,6 @@
 -- The first line of a Matrix Market file, as NISTIR 5935 describes it: what kind of matrix follows. Only matrices of
 -- integers are read here.
-use Rattle.std.specs.Prelude.{ℕ, Bool, true, false, ◌&&◌, not, List, Option, Some, None, Result, Ok, Err, if◌then◌else◌, codes}
+use Rattle.std.specs.Prelude.{ℕ, Bool, true, false, ◌&&◌, List, Option, Some, None, if◌then◌else◌, codes}
 use Rattle.std.specs.Str.{bytes_eq, str_eq_ignore_ascii_case}
 use Rattle.mtx_io.specs.Fields.{five_tokens}
 use Rattle.mtx_io.specs.declared.banner.Banner.{Banner}

@@ -1,5 +1,5 @@
 -- The entry lines that are still due while a file is read.
-use Rattle.std.specs.Prelude.{ℕ, ◌+◌, ◌-◌, ◌<◌, Bool, true, false, List, [], ◌∷◌, ◌++◌, map, replicate, Option, Some, None}
+use Rattle.std.specs.Prelude.{◌+◌, ◌-◌, ◌<◌, Bool, true, false, List, [], ◌∷◌, ◌++◌, map, replicate, Option, Some, None}
 use Rattle.mtx_io.specs.Places.{column_from, columns_from}
 use Rattle.mtx_io.specs.Size.{Slot, Anywhere, At}
 use Rattle.mtx_io.specs.declared.due.Due.{Due}

@@ -1,10 +1,10 @@
 -- What a Matrix Market file says, as NISTIR 5935 describes it: the banner on its first line, then the size line, then the
 -- entry lines. Comments and lines without a token may stand anywhere behind the banner.
-use Rattle.std.specs.Prelude.{ℕ, ◌+◌, Bool, ◌||◌, ◌&&◌, not, ◌==◌, nat_lt, List, [], ◌∷◌, ◌++◌, length, filter, drop, Option, Some, None, Result, Ok, Err}
+use Rattle.std.specs.Prelude.{ℕ, ◌+◌, Bool, ◌||◌, ◌&&◌, not, ◌==◌, List, [], ◌∷◌, ◌++◌, length, filter, drop, Option, Some, None, Result, Ok, Err}
 use Rattle.std.specs.Prelude.{if◌then◌else◌, slice_index}
-use Rattle.limits.specs.Limits.{greatest_line_bytes}
 use Rattle.numbers.specs.Arithmetic.{Arithmetic}
 use Rattle.tensor_map.specs.declared.entries.Entry.{Entry}
+use Rattle.text_lines.specs.Cutting.{is_long}
 use Rattle.text_lines.specs.Lines.{lines}
 use Rattle.text_lines.specs.Tokens.{tokens}
 use Rattle.mtx_io.specs.Banner.{banner_of, needs_minus}
@@ -24,11 +24,7 @@ abbrev pub numbered : ℕ → List (List ℕ) → List NumberedLine
 numbered number [] = []
 numbered number (line ∷ more) = record { number = number; bytes = line } ∷ numbered (number + 1) more
 
--- no line may be too long, comments neither
-abbrev pub is_long : List ℕ → Bool
-is_long line = nat_lt greatest_line_bytes (length line)
-
--- `%` begins a comment; comments and lines without a token are skipped
+-- `%` begins a comment; comments and lines without a token are skipped, but no line may be too long
 abbrev pub is_skipped : List ℕ → Bool
 is_skipped line = not (is_long line) && ((slice_index line 0 == 37) || (length (tokens line) == 0))
 

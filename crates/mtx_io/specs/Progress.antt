@@ -4,8 +4,6 @@ use Rattle.numbers.specs.Arithmetic.{Arithmetic}
 use Rattle.tensor_map.specs.declared.entries.Entry.{Entry}
 use Rattle.mtx_io.specs.Banner.{needs_minus}
 use Rattle.mtx_io.specs.Matrix.{BadLine, Matrix, numbered, kept, entries_from, matrix_with, sized_from, matrix_from}
-use Rattle.mtx_io.specs.declared.banner.Banner.{Banner}
-use Rattle.mtx_io.specs.declared.banner.Symmetry.{Symmetry}
 use Rattle.mtx_io.specs.declared.stage.Stage.{Stage}
 use Rattle.mtx_io.specs.declared.stage.Stage.TheVariants.{First, Begun, Sized, Bad}
 

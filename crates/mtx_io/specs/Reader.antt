@@ -1,9 +1,10 @@
 -- What contracts see of a reader of Matrix Market files, and what it keeps.
-use Rattle.std.specs.Prelude.{◌≡◌, ℕ, ◌+◌, ◌<◌, Bool, true, false, not, List, [], ◌∷◌, ◌++◌, length, drop, filter, Result, Ok, Err}
+use Rattle.std.specs.Prelude.{◌≡◌, ℕ, ◌+◌, Bool, true, false, List, ◌++◌, length, Result, Ok, Err}
 use Rattle.numbers.specs.Arithmetic.{Arithmetic}
 use Rattle.tensor_map.specs.Entries.{Entries}
 use Rattle.tensor_map.specs.declared.entries.Entry.{Entry}
 use Rattle.text_lines.specs.Cutting.{has_long_line, told_lines}
+use Rattle.text_lines.specs.LineReader.{LineReader}
 use Rattle.mtx_io.specs.Matrix.{BadLine, Matrix, matrix_from, matrix_of_text}
 use Rattle.mtx_io.specs.Progress.{told, rest_of, IsStage, IsMatrixOrder}
 use Rattle.mtx_io.specs.declared.file_fault.FileFault.{FileFault}
@@ -48,3 +49,15 @@ is_bad First = false
 is_bad (Begun banner) = false
 is_bad (Sized sized) = false
 is_bad (Bad line kind) = true
+
+-- memory is wanted
+abbrev pub WantsMemory : Result (Entries × ℕ × ℕ) FileFault → Type 0
+WantsMemory (Ok read) = ⊥
+WantsMemory (Err (Line line kind)) = ⊥
+WantsMemory (Err (Memory e)) = Unit {0}
+
+-- how far a reader is: where it never wanted memory, it has read what it was fed
+pub record IsReading (a : Arithmetic) (has_minus : Bool) (entries : Entries) (fed : List ℕ) (lines : LineReader) (reached : Stage) (is_starved : Bool) : Type 0 where
+  pub order : IsMatrixOrder entries.order
+  pub stage : is_starved ≡ false → IsStage has_minus entries.order entries.list reached
+  pub read : is_starved ≡ false → IsRead a has_minus entries.order fed lines.text entries.list reached

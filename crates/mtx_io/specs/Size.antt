@@ -1,6 +1,6 @@
 -- The size line of a Matrix Market file: rows, columns and, for the coordinate form, the number of entries. With the
 -- banner it tells which entry lines follow.
-use Rattle.std.specs.Prelude.{ℕ, Bool, true, false, ◌&&◌, ◌||◌, not, ◌==◌, List, map, replicate, Option, Some, None, Result, if◌then◌else◌}
+use Rattle.std.specs.Prelude.{ℕ, Bool, true, ◌&&◌, ◌||◌, not, ◌==◌, List, map, replicate, Option, Some, None, if◌then◌else◌}
 use Rattle.std.specs.Option.{option_map}
 use Rattle.std.specs.Result.{result_ok}
 use Rattle.limits.specs.Limits.{greatest_matrix_size, greatest_matrix_entries}

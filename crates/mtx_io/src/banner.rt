@@ -1,7 +1,8 @@
 ghost use Rattle.std.specs.Prelude.{◌≡◌, true, false, IfOk};
 ghost use Rattle.std.specs.Str.{str_eq_ignore_ascii_case};
 ghost use Rattle.mtx_io.specs.Banner.{layout_of, symmetry_of, begins_integers, banner_of, needs_minus};
-ghost use Rattle.mtx_io.specs.Matrix.{is_long, banner_line};
+ghost use Rattle.mtx_io.specs.Matrix.{banner_line};
+ghost use Rattle.text_lines.specs.Cutting.{is_long};
 ghost use Rattle.text_lines.specs.Tokens.{tokens};
 
 use crate::fields::five_tokens;

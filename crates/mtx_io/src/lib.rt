@@ -11,9 +11,13 @@ mod finish;
 mod header;
 mod laws;
 mod line_kind;
+mod mtx_reader;
+mod pieces;
 mod place;
 mod stage;
 mod step;
 
+pub use file_fault::FileFault;
 pub use laws::texts_are_matrices_or_bad;
 pub use line_kind::LineKind;
+pub use mtx_reader::MtxReader;

@@ -1,7 +1,8 @@
 //! A file, line by line. No line that comes here is too long.
 ghost use Rattle.std.specs.Prelude.{◌≡◌, ℕ, Bool, [], true, false, IfOk, OnErr};
 ghost use Rattle.numbers.specs.Arithmetic.{Arithmetic};
-ghost use Rattle.mtx_io.specs.Matrix.{is_long, is_skipped};
+ghost use Rattle.mtx_io.specs.Matrix.{is_skipped};
+ghost use Rattle.text_lines.specs.Cutting.{is_long};
 ghost use Rattle.mtx_io.specs.Progress.{Follows, IsStage, IsMatrixOrder, IsSized};
 ghost use Rattle.mtx_io.specs.declared.stage.Stage.TheVariants.{First, Begun, Sized};
 

@@ -1,4 +1,4 @@
-use Rattle.std.proofs.Common.{◌≤◌, ◌<◌, ◌^◌, ◌-◌, arith, subst}
+use Rattle.std.proofs.Common.{◌≤◌, arith, subst}
 use Rattle.mtx_io.specs.Places.{first_row}
 use Rattle.mtx_io.proofs.PlaceLaws.{columns_end}
 use Rattle.mtx_io.proofs.due.first_from_column.Goals as goal

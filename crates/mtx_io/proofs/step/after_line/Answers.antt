@@ -1,7 +1,7 @@
 use Rattle.std.proofs.Common.{◌≡◌, [], subst, sym, refl}
 use Rattle.mtx_io.specs.Progress.{IsStage}
 use Rattle.mtx_io.specs.declared.stage.Stage.{Stage}
-use Rattle.mtx_io.specs.declared.stage.Stage.TheVariants.{First, Begun}
+use Rattle.mtx_io.specs.declared.stage.Stage.TheVariants.{Begun}
 use Rattle.mtx_io.proofs.step.after_line.Goals as goal
 
 pub returns-in-First-clause-stage : goal.returns-in-First-clause-stage
