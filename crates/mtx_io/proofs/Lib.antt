@@ -1,0 +1,5 @@
+pub mod FieldLaws
+pub mod PlaceLaws
+pub mod SlotLaws
+pub mod ProgressLaws
+pub mod ReaderLaws
