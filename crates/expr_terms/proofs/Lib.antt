@@ -7,6 +7,7 @@ pub mod NameLaws
 pub mod NameOnce
 pub mod PointLaws
 pub mod ProductLaws
+pub mod PushedTerms
 pub mod RangeLaws
 pub mod SetPoint
 pub mod TermLaws
