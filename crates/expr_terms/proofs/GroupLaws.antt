@@ -14,10 +14,10 @@ use Rattle.expr_terms.specs.Terms.{Term, terms, own_variables, term_value, term_
 use Rattle.expr_terms.specs.Groups.{firsts, group_in, groups, group_sum}
 
 -- what a test keeps
-kept : {X : Type 0} (p : X → Bool) (x : X) (xs : List X) → p x ≡ true → filter p (x ∷ xs) ≡ x ∷ filter p xs
+pub kept : {X : Type 0} (p : X → Bool) (x : X) (xs : List X) → p x ≡ true → filter p (x ∷ xs) ≡ x ∷ filter p xs
 kept p x xs e = ap (λ b. cond b (x ∷ filter p xs) (filter p xs)) e
 
-dropped : {X : Type 0} (p : X → Bool) (x : X) (xs : List X) → p x ≡ false → filter p (x ∷ xs) ≡ filter p xs
+pub dropped : {X : Type 0} (p : X → Bool) (x : X) (xs : List X) → p x ≡ false → filter p (x ∷ xs) ≡ filter p xs
 dropped p x xs e = ap (λ b. cond b (x ∷ filter p xs) (filter p xs)) e
 
 all_kept : {X : Type 0} (xs : List X) → filter (λ x. true) xs ≡ xs
@@ -59,10 +59,10 @@ filtered_twice p q (x ∷ xs) = elim (p x) as (λ b. p x ≡ b → filter q (fil
 ] refl
 
 -- a list of numbers is another one
-abbrev apart_from : List ℕ → List ℕ → Bool
+abbrev pub apart_from : List ℕ → List ℕ → Bool
 apart_from vs ws = not (pointwise nat_eq ws vs)
 
-turned : (vs ws : List ℕ) → vs ≢ ws → pointwise nat_eq ws vs ≡ false
+pub turned : (vs ws : List ℕ) → vs ≢ ws → pointwise nat_eq ws vs ≡ false
 turned vs ws apart = elim (tested ws vs) [
   | same is e ↦ absurd (apart (sym is))
   | other is e ↦ e

@@ -1,5 +1,6 @@
 pub mod Equations
 pub mod GroupLaws
+pub mod Grouped
 pub mod Heights
 pub mod Made
 pub mod Meanings

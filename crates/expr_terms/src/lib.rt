@@ -3,6 +3,7 @@
 #![tactic(auto)]
 
 mod group;
+mod grouping;
 mod laws;
 mod lookups;
 mod minus;
@@ -13,6 +14,7 @@ mod term;
 mod value;
 
 pub use group::{Group, Groups};
+pub use grouping::groups;
 pub use laws::{
     groups_add_up, products_are_one_sum, ranges_without_words, results_have_the_left_ranges,
     sums_change_places, terms_add_up, values_are_words, values_depend_on_little,

@@ -1,8 +1,6 @@
 use Rattle.std.specs.Prelude.{◌≡◌, List, OnOk}
-use Rattle.std.proofs.Common.{◌∙◌, ap, subst}
-use Rattle.index_notation.specs.declared.syntax.Expr.{Expr}
+use Rattle.std.proofs.Common.{subst}
 use Rattle.expr_terms.specs.Terms.{Term}
-use Rattle.expr_terms.specs.Signs.{signed_terms}
 use Rattle.expr_terms.proofs.PushedTerms.{pushed_sum, pushed_difference, pushed_negation}
 use Rattle.expr_terms.proofs.term.+push_terms.Goals as goal
 
