@@ -10,6 +10,7 @@ pub mod PointLaws
 pub mod ProductLaws
 pub mod PushedTerms
 pub mod RangeLaws
+pub mod RangesFound
 pub mod SetPoint
 pub mod TermLaws
 pub mod TermSums

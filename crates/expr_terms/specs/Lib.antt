@@ -11,5 +11,6 @@ pub mod Result
 pub mod Signs
 pub mod TermLaws
 pub mod Terms
+pub mod Told
 pub mod Value
 pub mod ValueLaws

@@ -2,6 +2,7 @@
 //! as `specs/` define them. `value_at` computes the value plainly and slowly, straight from the definition.
 #![tactic(auto)]
 
+mod bound;
 mod group;
 mod grouping;
 mod laws;
@@ -9,10 +10,12 @@ mod lookups;
 mod minus;
 mod names;
 mod products;
-mod ranges;
+mod range;
+mod range_fault;
 mod term;
 mod value;
 
+pub use bound::{Bound, Place};
 pub use group::{Group, Groups};
 pub use grouping::groups;
 pub use laws::{
@@ -23,6 +26,7 @@ pub use lookups::coords_at;
 pub use minus::has_meaning;
 pub use names::{NameFault, check_names, checked_statements_are_well_named, one_fault_of_names};
 pub use products::is_product;
-pub use ranges::{Bound, RangeFault};
+pub use range::ranges;
+pub use range_fault::RangeFault;
 pub use term::{Term, own_variables, stands_in, terms};
 pub use value::{set_point, value_at};
