@@ -30,7 +30,7 @@ among_others k v apart (w ∷ ks) = elim (tested w k) [
       ap (among v) (kept (apart_from k) w ks (ap not e)) ∙ ap (λ b. pointwise nat_eq w v || b) (among_others k v apart ks)
 ]
 
-among_firsts : (v : List ℕ) (ks : List (List ℕ)) → among v (firsts ks) ≡ among v ks
+pub among_firsts : (v : List ℕ) (ks : List (List ℕ)) → among v (firsts ks) ≡ among v ks
 among_firsts v [] = refl
 among_firsts v (k ∷ ks) = elim (tested k v) [
   | same is e ↦ ap (λ b. b || among v (filter (apart_from k) (firsts ks))) e ∙ sym (ap (λ b. b || among v ks) e)

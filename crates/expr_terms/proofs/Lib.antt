@@ -6,6 +6,7 @@ pub mod Made
 pub mod Meanings
 pub mod NameLaws
 pub mod NameOnce
+pub mod OneGroup
 pub mod PointLaws
 pub mod ProductLaws
 pub mod PushedTerms

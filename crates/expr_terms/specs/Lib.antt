@@ -1,3 +1,4 @@
+pub mod GroupLaws
 pub mod Groups
 pub mod Minus
 pub mod Names

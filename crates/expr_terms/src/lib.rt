@@ -19,8 +19,9 @@ pub use bound::{Bound, Place};
 pub use group::{Group, Groups};
 pub use grouping::groups;
 pub use laws::{
-    groups_add_up, products_are_one_sum, ranges_without_words, results_have_the_left_ranges,
-    sums_change_places, terms_add_up, values_are_words, values_depend_on_little,
+    each_term_is_in_one_group, groups_add_up, products_are_one_sum, ranges_without_words,
+    results_have_the_left_ranges, sums_change_places, terms_add_up, values_are_words,
+    values_depend_on_little,
 };
 pub use lookups::coords_at;
 pub use minus::has_meaning;
