@@ -26,7 +26,8 @@ orders_small tensors vars [] each tensor = omega arith
 orders_small tensors vars (access ∷ accesses) each tensor =
     by_tensor (access.tensor == tensor) (orders_small tensors vars accesses each.1 tensor)
   where
-    by_tensor : (b : Bool) → order_in accesses tensor ≤ greatest_order → cond b (length access.vars) (order_in accesses tensor) ≤ greatest_order
+    by_tensor : (b : Bool) → order_in accesses tensor ≤ greatest_order
+        → cond b (length access.vars) (order_in accesses tensor) ≤ greatest_order
     by_tensor true later = each.0.order
     by_tensor false later = later
 
@@ -56,7 +57,8 @@ formats_on s words count formats format before here = record {
         let there : slice_index_or (formats ++ format ∷ []) tensor d ≡ format = grind (arith, common_steps) in
         subst (λ f. FormatIs s words tensor (Ok f)) (sym there) (subst (λ n. FormatIs s words n (Ok format)) (sym at) here)
     by_place tensor d lt false apart =
-        let other : tensor ≡ count → ⊥ = λ same. let yes : (tensor == count) ≡ true = ap (λ n. tensor == n) (sym same) ∙ number_same tensor in cc in
+        let other : tensor ≡ count
+        → ⊥ = λ same. let yes : (tensor == count) ≡ true = ap (λ n. tensor == n) (sym same) ∙ number_same tensor in cc in
         let long : length formats ≡ count = before.long in
         let below : tensor < count = omega (arith, lt, other) in
         let there : slice_index_or (formats ++ format ∷ []) tensor d ≡ slice_index_or formats tensor d = grind (arith, common_steps) in
@@ -64,11 +66,14 @@ formats_on s words count formats format before here = record {
 
 -- the answer for the text that is bound to a tensor
 pub format_here : (s : Statement) (words : List (List ℕ)) (bound : Bound) (tensor order : ℕ) (text d : Option FormatText)
-    (answer : Result (List FormatLevel) FormatFault) → IsBound s words bound → tensor < length s.tensors → (items : List (Option FormatText))
-    → items ≡ bound.texts.items → text ≡ slice_index_or items tensor d → order ≡ order_of s tensor → HasFormat (option_map text_in text) order answer
+    (answer : Result (List FormatLevel) FormatFault) → IsBound s words bound → tensor < length s.tensors
+    → (items : List (Option FormatText))
+    → items ≡ bound.texts.items → text ≡ slice_index_or items tensor d → order ≡ order_of s tensor
+    → HasFormat (option_map text_in text) order answer
     → FormatIs s words tensor answer
 format_here s words bound tensor order text d answer is within items same there orders has =
-    let says : option_map text_in text ≡ first_in (format_in s tensor) words = ap (option_map text_in) (there ∙ ap (λ l. slice_index_or l tensor d) same)
+    let says : option_map text_in text ≡ first_in (format_in s tensor) words = ap (option_map text_in) (there
+    ∙ ap (λ l. slice_index_or l tensor d) same)
     ∙ is.texts tensor d within in
     subst (λ n. HasFormat (first_in (format_in s tensor) words) n answer) orders
     (subst (λ t. HasFormat t order answer) says has)

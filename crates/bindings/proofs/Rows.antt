@@ -35,12 +35,14 @@ fault_here s words at text d fault lt there is = is
     ∙ ap₂ (λ before t. fault_of s before (said_of t)) (sym (take_texts words at)) (there ∙ sym (text_at words at d lt))
 
 -- one more word is sound
-pub sound_more : (s : Statement) (words : List (List ℕ)) (at : ℕ) → AreSound s words at → fault_at s words at ≡ None → AreSound s words (at + 1)
+pub sound_more : (s : Statement) (words : List (List ℕ)) (at : ℕ) → AreSound s words at → fault_at s words at ≡ None
+    → AreSound s words (at + 1)
 sound_more s words at before here k lt = by_place (k == at) refl
   where
     by_place : (b : Bool) → (k == at) ≡ b → fault_at s words k ≡ None
     by_place true same = ap (fault_at s words) (same_number k at same) ∙ here
-    by_place false apart = before k (let other : k ≢ at = λ same. let yes : (k == at) ≡ true = ap (λ n. k == n) (sym same) ∙ number_same k in cc in omega (arith, lt, other))
+    by_place false apart = before k (let other : k ≢ at = λ same. let yes : (k == at) ≡ true = ap (λ n. k == n) (sym same)
+        ∙ number_same k in cc in omega (arith, lt, other))
 
 -- the words so far, with the next one
 pub texts_more : (words : List (Bor (List ℕ))) (at : ℕ) (text : List ℕ) (d : Bor (List ℕ)) → at < length words
@@ -59,4 +61,5 @@ files_on s words tensor before here k first lt = by_place (k == tensor) refl
   where
     by_place : (b : Bool) → (k == tensor) ≡ b → has_file s words k ≡ true
     by_place true same = ap (has_file s words) (same_number k tensor same) ∙ here
-    by_place false apart = before k first (let other : k ≢ tensor = λ same. let yes : (k == tensor) ≡ true = ap (λ n. k == n) (sym same) ∙ number_same k in cc in omega (arith, lt, other))
+    by_place false apart = before k first (let other : k ≢ tensor = λ same. let yes : (k == tensor) ≡ true = ap (λ n. k == n) (sym same)
+        ∙ number_same k in cc in omega (arith, lt, other))

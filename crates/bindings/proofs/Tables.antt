@@ -50,7 +50,8 @@ first_in_kept pick words word none = first_in_more pick words word ∙ ap (or_la
     ∙ or_later_none (first_in pick words)
 
 -- the files, with one word more
-files_more : (s : Statement) (said : Option Said) (files more : List (ℕ × List ℕ)) → with_file s said (files ++ more) ≡ with_file s said files ++ more
+files_more : (s : Statement) (said : Option Said) (files more : List (ℕ × List ℕ))
+    → with_file s said (files ++ more) ≡ with_file s said files ++ more
 files_more s None files more = refl
 files_more s (Some (SaysFormat name text)) files more = refl
 files_more s (Some (SaysFile name path)) files more = refl
@@ -96,7 +97,8 @@ found_in_view n [] = refl
 found_in_view n (file ∷ files) = by_key (n == file.0) (found_in_view n files)
   where
     by_key : (b : Bool) → found n files ≡ found n (map file_in files)
-        → is_some (cond b (Some file.1) (lookup (λ k. n == k) files)) ≡ is_some (cond b (Some file.1.now) (lookup (λ k. n == k) (map file_in files)))
+        → is_some (cond b (Some file.1) (lookup (λ k. n == k) files)) ≡ is_some
+        (cond b (Some file.1.now) (lookup (λ k. n == k) (map file_in files)))
     by_key true later = refl
     by_key false later = later
 
@@ -180,7 +182,8 @@ no_file_more s words word files are none =
 elsewhere : (place at : ℕ) → at ≢ place → (place == at) ≡ false
 elsewhere place at other = number_apart place at (λ same. other (sym same))
 
-module _ (s : Statement) (words : List (List ℕ)) (text : List ℕ) (bound : Bound) (number : ℕ) (name : List ℕ) (is : IsBound s words bound) where
+module _ (s : Statement) (words : List (List ℕ)) (text : List ℕ) (bound : Bound) (number : ℕ) (name : List ℕ)
+    (is : IsBound s words bound) where
   -- the text of a format is bound
   pub format_bound : (format : FormatText) → number ≡ place_of s.tensors (record { bytes = name }) → number < length s.tensors
       → said_of text ≡ Some (SaysFormat name (text_in format)) → fault_of_said s words (SaysFormat name (text_in format)) ≡ None
@@ -225,14 +228,16 @@ module _ (s : Statement) (words : List (List ℕ)) (text : List ℕ) (bound : Bo
       let same_long : length (slice_set bound.ranges.items number range) ≡ length s.vars = grind (arith, common_steps) in
       record {
         places = record { tensors = is.places.tensors; variables = same_long };
-        texts = kept (option_map text_in) bound.texts.items (format_in s) words text (length s.tensors) is.texts (λ at. ap (format_in s at) said);
+        texts = kept (option_map text_in) bound.texts.items (format_in s) words text (length s.tensors) is.texts
+            (λ at. ap (format_in s at) said);
         files = no_file_more s words text _ is.files (ap (λ o. with_file s o []) said);
         ranges = λ at d lt. filled (λ o. o) bound.ranges.items number range (range_in s) words text
             (λ k e l. is.ranges k e (omega (arith, l, long))) (omega (arith, within, long)) new here others at d (omega (arith, lt, long));
       }
 
   -- the file of a tensor is bound
-  pub file_bound : (path : Bor (List ℕ)) (files : List (ℕ × Bor (List ℕ))) (now : Bound) → number ≡ place_of s.tensors (record { bytes = name })
+  pub file_bound : (path : Bor (List ℕ)) (files : List (ℕ × Bor (List ℕ))) (now : Bound)
+      → number ≡ place_of s.tensors (record { bytes = name })
       → said_of text ≡ Some (SaysFile name path.now) → files ≡ bound.files.entries ++ (number, path) ∷ []
       → now.files.entries ≡ files → now.texts ≡ bound.texts → now.ranges ≡ bound.ranges
       → IsBound s (words ++ text ∷ []) now
@@ -248,13 +253,15 @@ module _ (s : Statement) (words : List (List ℕ)) (text : List ℕ) (bound : Bo
           variables = ap (λ v. length v.items) ranges ∙ is.places.variables;
         };
         texts = λ at d lt. ap (λ v. option_map text_in (slice_index_or v.items at d)) texts
-            ∙ kept (option_map text_in) bound.texts.items (format_in s) words text (length s.tensors) is.texts (λ k. ap (format_in s k) said) at d lt;
+            ∙ kept (option_map text_in) bound.texts.items (format_in s) words text (length s.tensors) is.texts
+            (λ k. ap (format_in s k) said) at d lt;
         files = all;
         ranges = λ at d lt. ap (λ v. slice_index_or v.items at d) ranges
             ∙ kept (λ o. o) bound.ranges.items (range_in s) words text (length s.vars) is.ranges (λ k. ap (range_in s k) said) at d lt;
       }
 
-  pub file_is_new : (path : List ℕ) → number ≡ place_of s.tensors (record { bytes = name }) → fault_of_said s words (SaysFile name path) ≡ None
+  pub file_is_new : (path : List ℕ) → number ≡ place_of s.tensors (record { bytes = name })
+      → fault_of_said s words (SaysFile name path) ≡ None
       → lookup (λ k. number == k) bound.files.entries ≡ None
   file_is_new path place sound = none_if_absent _ (file_found s words number bound.files.entries is.files
       ∙ ap (λ n. is_some (first_in (path_in s n) words)) place ∙ is_new s words (SaysFile name path) sound)

@@ -56,7 +56,8 @@ said_at name mark rest word named ends is =
     let behind : after_first ends_name whole ≡ rest = ap (λ n. drop (n + 1) whole) place ∙ behind_front name (mark ∷ rest) 1 in
     let passes : is_name (before_first ends_name whole) ≡ true = ap is_name front ∙ named in
     ap said_of is ∙ ap (λ b. cond b
-    (said_behind (before_first ends_name whole) (slice_get whole (position_or_len ends_name whole)) (after_first ends_name whole)) None) passes
+    (said_behind (before_first ends_name whole) (slice_get whole (position_or_len ends_name whole)) (after_first ends_name whole)) None)
+    passes
     ∙ ap₂ (λ a b. said_behind a b (after_first ends_name whole)) front there ∙ ap (said_behind name (Some mark)) behind
 
 -- no name stands before this mark

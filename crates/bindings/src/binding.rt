@@ -1,10 +1,12 @@
 // What all words bind.
-ghost use Rattle.std.specs.Prelude.{◌≡◌, ◌<◌, ◌≤◌, ◌+◌, ℕ, List, Some, None, Ok, Err, map, length, take, All, IfOk, MatchResult, MatchOption, IsTrue};
+ghost use Rattle.std.specs.Prelude.{◌≡◌, ◌<◌, ◌≤◌, ◌+◌, ℕ, List, Some, None, Ok, Err, map, length, take, All, IfOk, MatchResult};
+ghost use Rattle.std.specs.Prelude.{MatchOption, IsTrue};
 ghost use Rattle.std.specs.Prelude.{true, OnOk, ◌++◌, ◌∷◌, [], option_map};
 ghost use Rattle.limits.specs.Limits.{greatest_order};
 ghost use Rattle.index_notation.specs.Statement.{IsNumbered};
 ghost use Rattle.bindings.specs.Bindings.{AreSound, IsFirstFault};
-ghost use Rattle.bindings.specs.Outcome.{HasFormat, HaveFiles, AreFormats, IsWithoutFile, IsFileRefused, IsWordRefused, IsFormatRefused, Binds, IsRefused};
+ghost use Rattle.bindings.specs.Outcome.{HasFormat, HaveFiles, AreFormats, IsWithoutFile, IsFileRefused, IsWordRefused, IsFormatRefused};
+ghost use Rattle.bindings.specs.Outcome.{Binds, IsRefused};
 ghost use Rattle.bindings.specs.Tables.{IsBound, file_in};
 ghost use Rattle.bindings.specs.Views.{text_in};
 
@@ -134,7 +136,8 @@ pub fn bind<'a>(
 ) -> Result<Bindings<'a>, BindingFault>
     requires { IsNumbered statement.now }
     ensures { MatchResult result
-        (λ b. Binds statement.now (map (λ word. word.now) words.now) need_files b.formats.items (map file_in b.files.entries) b.ranges.items)
+        (λ b. Binds statement.now (map (λ word. word.now) words.now) need_files b.formats.items
+        (map file_in b.files.entries) b.ranges.items)
         (IsRefused statement.now (map (λ word. word.now) words.now) need_files) }
 {
     let bound = bind_words(alloc, statement, words)?;

@@ -1,5 +1,6 @@
 // What the words so far bind.
-ghost use Rattle.std.specs.Prelude.{◌≡◌, ◌<◌, ◌++◌, ◌∷◌, [], ℕ, List, Some, None, true, false, IfOk, OnOk, IsTrue, length, replicate, nat_lt};
+ghost use Rattle.std.specs.Prelude.{◌≡◌, ◌<◌, ◌++◌, ◌∷◌, [], ℕ, List, Some, None, true, false, IfOk, OnOk, IsTrue, length, replicate};
+ghost use Rattle.std.specs.Prelude.{nat_lt};
 ghost use Rattle.index_notation.specs.Numbering.{place_of};
 ghost use Rattle.bindings.specs.Words.{said_of};
 ghost use Rattle.bindings.specs.Bindings.{number_in, names_for, is_bound, is_no_matrix, is_above_limit, fault_of_said, fault_of, order_in};
@@ -130,7 +131,8 @@ impl<'a> Bound<'a> {
         requires places { HasPlaces statement.now self.now }
         requires number { number ≡ number_in statement.now (said_in word.now) }
         requires within { number < length (names_for statement.now (said_in word.now)) }
-        ensures { (words : List (List ℕ)) → IsBound statement.now words self.now → result ≡ is_bound statement.now words (said_in word.now) }
+        ensures { (words : List (List ℕ)) → IsBound statement.now words self.now
+            → result ≡ is_bound statement.now words (said_in word.now) }
     {
         match word {
             Word::Format { .. } => self.texts[number].is_some(),

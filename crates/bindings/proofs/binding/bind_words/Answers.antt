@@ -31,6 +31,7 @@ loop-at-preserved c =
 pub returns : goal.returns
 returns c =
     let words = c.args.words.now in (
-      subst (λ row. IsBound c.args.statement.now row c.loop-at.bound) (ap texts (take_all c.loop-at.at words c.loop-at-test.false)) c.loop-at.invariant.0,
+      subst (λ row. IsBound c.args.statement.now row c.loop-at.bound)
+          (ap texts (take_all c.loop-at.at words c.loop-at-test.false)) c.loop-at.invariant.0,
       λ k lt. c.loop-at.invariant.1 k (omega (arith, lt, c.loop-at-test.false)),
     )

@@ -9,7 +9,8 @@ returns-in-Some-clause-said c =
     ∙ sym (said_at c.in-Some.name.now 58 c.in-Some.text.now c.args.word.now c.in-Some.ensures.0 refl c.in-Some.ensures.1)
 
 pub returns-in-Some-split_name-clause-said : goal.returns-in-Some-split_name-clause-said
-returns-in-Some-split_name-clause-said c = c.file_word.ensures.said ∙ sym (said_at c.in-Some-split_name.name.now 61 c.in-Some-split_name.path.now
+returns-in-Some-split_name-clause-said c = c.file_word.ensures.said
+    ∙ sym (said_at c.in-Some-split_name.name.now 61 c.in-Some-split_name.path.now
     c.args.word.now c.in-Some-split_name.ensures.0 refl c.in-Some-split_name.ensures.1)
 
 pub returns-in-Some-split_name-2-clause-said : goal.returns-in-Some-split_name-2-clause-said
@@ -17,4 +18,5 @@ returns-in-Some-split_name-2-clause-said c = c.range_word.ensures.said ∙ sym (
     c.in-Some-split_name-2.digits.now c.args.word.now c.in-Some-split_name-2.ensures.0 refl c.in-Some-split_name-2.ensures.1)
 
 pub returns-clause-said : goal.returns-clause-said
-returns-clause-said c = sym (says_nothing c.args.word.now c.in_default.ensures c.in_default-split_name.ensures c.in_default-split_name-2.ensures)
+returns-clause-said c =
+    sym (says_nothing c.args.word.now c.in_default.ensures c.in_default-split_name.ensures c.in_default-split_name-2.ensures)
