@@ -1,6 +1,6 @@
 -- Numbers of entries that are sorted by their coordinates arrange the entries.
-use Rattle.std.specs.Prelude.{◌≡◌, ◌≢◌, ◌⊎◌, ℕ, zero, suc, ◌+◌, ◌≤◌, ◌<◌, ◌==◌, Bool, true, false, List, [], ◌∷◌, ◌++◌, length, map, drop, All, AllPairs, slice_index, IsPermutation, refl}
-use Rattle.std.specs.List.{IsDistinct, range_with_len}
+use Rattle.std.specs.Prelude.{◌≡◌, ◌≢◌, ◌⊎◌, ℕ, zero, suc, ◌+◌, ◌≤◌, ◌<◌, ◌==◌, Bool, false, List, [], ◌∷◌, ◌++◌, length, drop, All, AllPairs, slice_index, IsPermutation, refl}
+use Rattle.std.specs.List.{range_with_len}
 use Rattle.std.specs.declared.cmp.Ordering.{Ordering}
 use Rattle.std.specs.declared.cmp.Ordering.TheVariants.{Less, Equal, Greater}
 use Rattle.std.specs.Ordering.{nat_cmp, is_lt, ordering_then}
@@ -9,7 +9,7 @@ use Rattle.std.specs.Cmp.Lexicographic.{slice_cmp, nat_list_cmp_total}
 use Rattle.std.specs.List.Sorted.{IsSortedBy}
 use Rattle.std.proofs.Common.{◌∙◌, sym, ap, subst, arith, inl, inr, get_or, add-one, drop-cons, drop_of_length-le}
 use Rattle.std.proofs.Math.ListN.{get_or-eq_default}
-use Rattle.std.proofs.lemmas.Bool.{cases_lt, cases_order}
+use Rattle.std.proofs.lemmas.Bool.{cases_order}
 use Rattle.std.proofs.lemmas.Bool.Decides.{Decides-eqb}
 use Rattle.std.proofs.lemmas.Grind.{same_number_lists}
 use Rattle.std.proofs.lemmas.List.{length-map, get_or-map}
@@ -18,10 +18,10 @@ use Rattle.std.proofs.lemmas.List.Sorted.{ranks_by, All-permutation, length_perm
 use Rattle.std.proofs.lemmas.Map.Keys.{IsDistinct-IsPermutation}
 use Rattle.std.proofs.lemmas.Map.Made.{AllPairs-from_IsDistinct, IsDistinct-from_AllPairs}
 use Rattle.format_spec.specs.declared.format.FormatLevel.{FormatLevel}
-use Rattle.format_spec.specs.Formats.{modes_of, IsOrder, IsFormat}
+use Rattle.format_spec.specs.Formats.{modes_of, IsFormat}
 use Rattle.format_spec.proofs.Pigeonholes.{each_mode_stands}
 use Rattle.level_core.specs.declared.letter.Letter.TheVariants.{Dense}
-use Rattle.level_rows.specs.Tables.{Agree, IsBefore, Increase}
+use Rattle.level_rows.specs.Tables.{IsBefore, Increase}
 use Rattle.tensor_map.specs.Order.{IsBefore as IsListBefore}
 use Rattle.tensor_map.specs.declared.entries.Entry.{Entry}
 use Rattle.tensor_map.specs.Entries.{IsEntry, StrictlyIncreasing}

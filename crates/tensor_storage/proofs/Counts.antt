@@ -1,9 +1,9 @@
 -- The number of positions that rows in order begin is that of their different coordinates.
-use Rattle.std.specs.Prelude.{◌≡◌, ◌≢◌, ◌⊎◌, ℕ, zero, suc, ◌+◌, ◌≤◌, ◌<◌, ◌==◌, ◌&&◌, ◌||◌, not, max, Bool, true, false, if◌then◌else◌, List, slice_index, refl}
+use Rattle.std.specs.Prelude.{◌≡◌, ◌⊎◌, ℕ, zero, suc, ◌+◌, ◌≤◌, ◌<◌, ◌==◌, ◌&&◌, ◌||◌, not, Bool, true, false, if◌then◌else◌, List, slice_index, refl}
 use Rattle.std.proofs.Common.{◌∙◌, sym, ap, subst, arith, inl, inr}
 use Rattle.std.proofs.lemmas.Bool.{cases_lt, cases_order}
 use Rattle.std.proofs.lemmas.Bool.Decides.{nat_tests}
-use Rattle.level_rows.specs.Rows.{Rows, rows_at, begun, begun_below, IsGreatestBelow}
+use Rattle.level_rows.specs.Rows.{rows_at, begun, begun_below, IsGreatestBelow}
 use Rattle.level_rows.specs.Tables.{Agree, Increase, ShareBy}
 use Rattle.level_rows.proofs.TableLaws.{agree_sym, after}
 use Rattle.tensor_storage.specs.Counts.{is_met, different, different_below, greatest_below}

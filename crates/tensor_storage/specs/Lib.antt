@@ -7,6 +7,8 @@ pub mod Laws
 pub mod Levels
 pub mod New
 pub mod Packed
+pub mod Routes
 pub mod Stands
 pub mod Storages
 pub mod Tables
+pub mod Walks

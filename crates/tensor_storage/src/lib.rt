@@ -9,6 +9,7 @@ mod finding;
 mod inserting;
 mod kind;
 mod level;
+mod listing;
 mod packing;
 mod reading;
 mod table;

@@ -1,4 +1,4 @@
-ghost use Rattle.std.specs.Prelude.{◌≡◌, ◌≤◌, ℕ, All, length, slice_index, MatchResult};
+ghost use Rattle.std.specs.Prelude.{◌≡◌, ◌≤◌, ℕ, All, length, slice_index, IfOk, MatchResult};
 ghost use Rattle.limits.specs.Limits.{greatest_position_count};
 ghost use Rattle.level_rows.specs.Tables.{Increase};
 ghost use Rattle.tensor_storage.specs.Counts.{positions_of};
@@ -9,11 +9,13 @@ ghost use Rattle.tensor_storage.specs.Tables.{AreBelow};
 use crate::entries::{EntryRows, arrange};
 use crate::finding::value_at;
 use crate::level::StorageLevel;
+use crate::listing::{append_paths, levels_of_modes, sort_entries};
 use crate::packing::{PackRefusal, PackedTable, pack_table};
 use crate::table::RowTable;
 use format_spec::{Format, FormatLevel};
+use level_core::Span;
 use numbers::Semiring;
-use std::alloc::Global;
+use std::alloc::{AllocError, Global};
 use std::marker::Model;
 use tensor_map::{Entries, Shape};
 use trees::Items;
@@ -38,6 +40,7 @@ impl Model for Tensor {
 
 impl Tensor {
     ghost use Rattle.tensor_storage.specs.Arranged.{AreInside, IsPackedFrom, IsRefusalOf};
+    ghost use Rattle.tensor_storage.specs.Routes.{ListsPaths};
     ghost use Rattle.tensor_storage.specs.Stands.{IsPacked};
     ghost use Rattle.tensor_storage.specs.Storages.{IsStorage, EndsAt, in_level_order};
 
@@ -153,5 +156,30 @@ impl Tensor {
             coords,
             S::zero(),
         )
+    }
+
+    /// The paths as entries that increase, those of value zero too, with the values where they end. `S` is what the values are
+    /// added by, but no two paths have the same coordinates. Refused for want of memory alone.
+    pub fn to_entries<S: Semiring>(&self, alloc: Global) -> Result<Entries, AllocError>
+        ensures { IfOk result (ListsPaths S.arithmetic self.now) }
+    {
+        let places = levels_of_modes(alloc, self.format.levels())?;
+        let mut path = Vec::new(alloc);
+        let mut entries = Entries::new(alloc, self.format.order())?;
+        let top = Span { lo: 0, hi: 1 };
+        let levels = self.levels.as_slice();
+        let values = self.values.as_slice();
+        append_paths(
+            alloc,
+            levels,
+            0,
+            top,
+            values,
+            &places,
+            &mut path,
+            &mut entries,
+        )?;
+        sort_entries::<S>(&mut entries)?;
+        Ok(entries)
     }
 }

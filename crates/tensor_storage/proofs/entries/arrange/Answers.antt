@@ -1,4 +1,4 @@
-use Rattle.std.specs.Prelude.{ℕ, All, length, IsPermutation}
+use Rattle.std.specs.Prelude.{All, length, IsPermutation}
 use Rattle.std.specs.List.{range_with_len}
 use Rattle.std.proofs.Common.{◌∙◌, sym, ap, subst, rules}
 use Rattle.std.proofs.lemmas.Fn.{always_returns_same}

@@ -1,7 +1,7 @@
-use Rattle.std.specs.Prelude.{◌≡◌, suc, ◌+◌, drop, slice_index}
+use Rattle.std.specs.Prelude.{◌≡◌, drop, slice_index}
 use Rattle.std.specs.Ordering.{nat_cmp}
 use Rattle.std.specs.Cmp.Lexicographic.{slice_cmp}
-use Rattle.std.proofs.Common.{◌∙◌, sym, ap, subst, add-one}
+use Rattle.std.proofs.Common.{◌∙◌, sym, ap, add-one}
 use Rattle.tensor_storage.specs.Arranged.{level_coords}
 use Rattle.tensor_storage.proofs.Arranging.{level_drop, compare_past, compare_here, compare_ends}
 use Rattle.tensor_storage.proofs.entries.compare_entries.Goals as goal

@@ -1,15 +1,14 @@
-use Rattle.std.specs.Prelude.{◌≡◌, List, ℕ, length}
+use Rattle.std.specs.Prelude.{length}
 use Rattle.std.proofs.Common.{◌∙◌, sym, ap, subst}
 use Rattle.format_spec.specs.Formats.{IsFormat}
 use Rattle.level_rows.specs.Tables.{Increase}
-use Rattle.tensor_storage.specs.Arranged.{table_of, AreArranged, AreInside}
+use Rattle.tensor_storage.specs.Arranged.{table_of, AreInside}
 use Rattle.tensor_storage.specs.Counts.{positions_of}
 use Rattle.tensor_storage.specs.Packed.{IsRefusal}
 use Rattle.tensor_storage.specs.Stands.{IsPacked}
 use Rattle.tensor_storage.specs.Storages.{IsStorage, storage_of, in_level_order}
 use Rattle.tensor_storage.specs.Tables.{AreBelow}
 use Rattle.tensor_storage.proofs.Arranging.{same_arranged, rows_below, refused}
-use Rattle.tensor_storage.proofs.tensor.Tensor.pack.Given as given
 use Rattle.tensor_storage.proofs.tensor.Tensor.pack.Goals as goal
 
 pub pack_table-requires-clause-order : goal.pack_table-requires-clause-order
