@@ -185,6 +185,12 @@ module _ (order : ℕ) (start piece : List ℕ) (lines_ lines' : LineReader) (re
             ∙ append_assoc (ended_lines start ++ reads.ended) (lines'.line ∷ []) behind
             ∙ append_assoc (ended_lines start) reads.ended (lines'.line ∷ behind);
         reads = read;
+        list = list;
+        good =
+            ap (entries_from order 1) (
+              sym (reads.told ∙ ap (λ ls. ls ++ reads.ended) (all_told (ended_lines start) (short_now start reads.start_short).0))
+            )
+            ∙ reads.so_far.read;
       }
 
 -- a line of the piece is too long
@@ -226,6 +232,8 @@ module _ (order : ℕ) (lines_ lines' : LineReader) (list : List Entry) (so_far 
             ∙ tells.told
             ∙ ap (λ ls. ls ++ lines'.line ∷ []) (all_told (ended_lines lines_.text) (short_now lines_.text so_far.short).0);
         reads = read;
+        list = list;
+        good = ap (entries_from order 1) (append-nil (ended_lines lines_.text) ∙ sym (all_told (ended_lines lines_.text) (short_now lines_.text so_far.short).0)) ∙ so_far.read;
       })
 
 -- what is known of a text that is refused

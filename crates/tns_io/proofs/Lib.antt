@@ -1,5 +1,7 @@
 pub mod EntryLaws
+pub mod EntryTexts
 pub mod FieldLaws
 pub mod PositionLaws
+pub mod PrintLaws
 pub mod TextLaws
 pub mod WrittenLaws

@@ -3,7 +3,7 @@ use Rattle.std.specs.Prelude.{◌≡◌, ℕ, min, Bool, true, false, List, [], 
 use Rattle.tensor_map.specs.Entries.{Entries}
 use Rattle.tensor_map.specs.declared.entries.Entry.{Entry}
 use Rattle.text_lines.specs.Cutting.{ended_lines}
-use Rattle.tns_io.specs.Reading.{reading, entries_of_text}
+use Rattle.tns_io.specs.Reading.{reading, entries_from, entries_of_text}
 use Rattle.tns_io.specs.Reading.Reading.{Read}
 use Rattle.tns_io.specs.declared.line_kind.LineKind.{LineKind}
 use Rattle.tns_io.specs.declared.file_fault.FileFault.{FileFault}
@@ -21,7 +21,7 @@ pub record TnsReader : Type 0 where
 abbrev pub given_to : TnsReader → List ℕ
 given_to reader = reader.order ∷ reader.text
 
--- a line of the piece that is an entry ends in the piece, or began before it
+-- an entry's line, which may have begun before the piece, ends in it, and no line before that is bad
 pub record EndsEntry (order : ℕ) (text piece : List ℕ) : Type 0 where
   pub before : List (List ℕ)
   pub line : List ℕ
@@ -29,6 +29,8 @@ pub record EndsEntry (order : ℕ) (text piece : List ℕ) : Type 0 where
   pub entry : Entry
   pub lines_are : ended_lines (text ++ piece) ≡ ended_lines text ++ (before ++ line ∷ behind)
   pub reads : reading order line ≡ Read entry
+  pub list : List Entry
+  pub good : entries_from order 1 (ended_lines text ++ before) ≡ Ok list
 
 -- a piece was refused: memory was wanted before, or an entry's line ends in it
 pub record WantsMemory (old : TnsReader) (piece : List ℕ) (new : TnsReader) : Type 0 where
