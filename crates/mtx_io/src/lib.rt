@@ -14,6 +14,7 @@ mod line_kind;
 mod mtx_reader;
 mod pieces;
 mod place;
+mod printing;
 mod stage;
 mod step;
 
@@ -21,3 +22,4 @@ pub use file_fault::FileFault;
 pub use laws::texts_are_matrices_or_bad;
 pub use line_kind::LineKind;
 pub use mtx_reader::MtxReader;
+pub use printing::put_mtx;
