@@ -5,3 +5,4 @@ pub mod ProgressLaws
 pub mod ReaderLaws
 pub mod PrintedPieces
 pub mod WrittenEntries
+pub mod WrittenLaws

@@ -9,3 +9,4 @@ pub mod Progress
 pub mod Reader
 pub mod Size
 pub mod Text
+pub mod WrittenLaws

@@ -72,7 +72,11 @@ fn count_nonzero<S: Semiring>(entries: &Entries) -> u64
 }
 
 /// Appends the line of one of the entries, unless its value is zero.
-fn put_if_nonzero<S: Semiring, K: Sink>(sink: &mut K, entries: &Entries, i: usize) -> Result<(), Refusal>
+fn put_if_nonzero<S: Semiring, K: Sink>(
+    sink: &mut K,
+    entries: &Entries,
+    i: usize,
+) -> Result<(), Refusal>
     requires index { i < length entries.now.list }
     requires order { IsMatrixOrder entries.now.order }
     requires small { All (λ entry. AreSmall entry.coords) entries.now.list }
@@ -114,7 +118,11 @@ fn columns_in(ranges: &[u64]) -> u64
 }
 
 /// Appends the text of the tensor.
-fn put_matrix<S: Semiring, K: Sink>(sink: &mut K, shape: &Shape, entries: &Entries) -> Result<(), Refusal>
+fn put_matrix<S: Semiring, K: Sink>(
+    sink: &mut K,
+    shape: &Shape,
+    entries: &Entries,
+) -> Result<(), Refusal>
     requires order { IsMatrixOrder entries.now.order }
     requires same { length shape.now ≡ entries.now.order }
     requires below { All (λ entry. IsBelow shape.now entry.coords) entries.now.list }
@@ -130,7 +138,11 @@ fn put_matrix<S: Semiring, K: Sink>(sink: &mut K, shape: &Shape, entries: &Entri
 /// Appends the Matrix Market text of the tensor that the entries stand for, over this shape: its values that aren't zero, as
 /// `S` says. A tensor of order 1 is written as a matrix of one column. After a refusal a part of the text at its front was
 /// appended. It takes no memory but what the sink takes.
-pub fn put_mtx<S: Semiring, K: Sink>(sink: &mut K, shape: &Shape, entries: &Entries) -> Result<(), Refusal>
+pub fn put_mtx<S: Semiring, K: Sink>(
+    sink: &mut K,
+    shape: &Shape,
+    entries: &Entries,
+) -> Result<(), Refusal>
     requires order { IsMatrixOrder entries.now.order }
     requires same { length shape.now ≡ entries.now.order }
     requires below { All (λ entry. IsBelow shape.now entry.coords) entries.now.list }

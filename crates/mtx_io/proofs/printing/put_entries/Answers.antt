@@ -24,4 +24,4 @@ returns-in_err-put_if_nonzero g c =
     let within : c.loop-i.i < length list = omega (arith, c.loop-i-test.true, c.len-i-end.ensures.value) in
     then_rest _ _ _ _ _ _ (rest_told _ _ _ _ _ (left_is a list c.loop-i.i d within) c.loop-i.invariant)
     (refused c.from_residual.result c.in_err-put_if_nonzero.field-0.0 _ _ (entries_text (filter (is_nonzero a) (slice_index_or list c.loop-i.i d ∷ []))) (entries_text (filter (is_nonzero a) (drop (c.loop-i.i + 1) list)))
-      c.from_residual.ensures.1 (c.in_err-put_if_nonzero.ensures d))
+    c.from_residual.ensures.1 (c.in_err-put_if_nonzero.ensures d))

@@ -1,4 +1,4 @@
-use Rattle.std.proofs.Common.{◌≡◌, List, ℕ, ◌++◌, length, ap, ◌∙◌}
+use Rattle.std.proofs.Common.{List, ℕ, ◌++◌, length, ap, ◌∙◌}
 use Rattle.std.specs.Prelude.{filter}
 use Rattle.std.specs.Fmt.{decimal}
 use Rattle.tensor_map.specs.Entries.{is_nonzero}

@@ -1,8 +1,7 @@
-use Rattle.std.proofs.Common.{◌≡◌, ◌++◌, ap, ◌∙◌, w64, to_z, of_z, rules}
+use Rattle.std.proofs.Common.{◌++◌, ap, ◌∙◌, w64, rules}
 use Rattle.std.specs.Prelude.{codes}
 use Rattle.std.specs.Fmt.{signed_decimal}
 use Rattle.std.proofs.lemmas.Int.{to_z-of_z}
-use Rattle.numbers.specs.Signed.{signed_of}
 use mir.Val.{SFits}
 use Rattle.mtx_io.proofs.PrintedPieces.{printed, then_printed, refused, retold}
 use Rattle.mtx_io.proofs.printing.put_value.Goals as goal
