@@ -4,6 +4,9 @@ pub mod Entry
 pub mod Fields
 pub mod Matrix
 pub mod Places
+pub mod Prints
 pub mod Progress
 pub mod Reader
 pub mod Size
+pub mod Text
+pub mod WrittenLaws

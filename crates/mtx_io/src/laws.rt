@@ -1,7 +1,14 @@
 //! What follows from the definitions, as calls whose contract is the law. They do nothing.
-ghost use Rattle.std.specs.Prelude.{◌≡◌, ◌-◌, ◌^◌, ◌++◌, ◌∷◌, [], codes, true, false, Ok, Err};
+ghost use Rattle.std.specs.Prelude.{◌≡◌, ℕ, ◌≤◌, Bool, List, All, length, filter, ◌-◌, ◌^◌, ◌++◌, ◌∷◌, [], codes, true, false, Ok, Err};
 ghost use Rattle.mtx_io.specs.Matrix.{matrix_of_text};
+ghost use Rattle.limits.specs.Limits.{greatest_matrix_size, greatest_file_coordinate, greatest_matrix_entries};
+ghost use Rattle.numbers.specs.Arithmetic.{Arithmetic, Laws};
 ghost use Rattle.numbers.specs.Ring.{ring};
+ghost use Rattle.tensor_map.specs.Entries.{IsEntry, StrictlyIncreasing, is_nonzero, value_at};
+ghost use Rattle.tensor_map.specs.declared.entries.Entry.{Entry};
+ghost use Rattle.mtx_io.specs.Progress.{IsMatrixOrder};
+ghost use Rattle.mtx_io.specs.Text.{IsBelow, IsMatrixText, matrix_text};
+ghost use Rattle.mtx_io.specs.WrittenLaws.{StandsFor};
 ghost use Rattle.mtx_io.specs.declared.line_kind.LineKind.TheVariants.{BadBanner, NoMinus, BadSize, Extra, Truncated, CoordRange, SkewDiagonal};
 
 /// What small texts stand for: an entry and its mirror image, the places of an array, and the first bad line.
@@ -36,4 +43,26 @@ pub fn texts_are_matrices_or_bad()
         ≡ Err (record { number = 3; kind = CoordRange }) }
     ensures diagonal { matrix_of_text ring true 2 (codes "%%MatrixMarket matrix coordinate integer skew-symmetric\n2 2 1\n1 1 x\n")
         ≡ Err (record { number = 3; kind = SkewDiagonal }) }
+{}
+
+/// What `put_mtx` writes of entries is the text of the tensor that they stand for.
+pub fn written_entries_are_texts_of_their_tensor()
+    ensures { (a : Arithmetic) → Laws a → (ranges : List ℕ) (entries : List Entry) → All (IsEntry (length ranges)) entries
+        → All (λ entry. IsBelow ranges entry.coords) entries → StrictlyIncreasing entries
+        → IsMatrixText a ranges (value_at a entries) (matrix_text ranges (filter (is_nonzero a) entries)) }
+{}
+
+/// A tensor has one text at most.
+pub fn tensors_have_one_text()
+    ensures { (a : Arithmetic) → Laws a → (ranges : List ℕ) (value : List ℕ → ℕ) (first second : List ℕ)
+        → IsMatrixText a ranges value first → IsMatrixText a ranges value second → first ≡ second }
+{}
+
+/// A written text, read for its order, stands for the tensor that was written: where the ranges are such as a file may
+/// have, and the values that aren't zero are no more than a file may announce.
+pub fn written_texts_stand_for_their_tensor()
+    ensures { (a : Arithmetic) (has_minus : Bool) (ranges : List ℕ) (value : List ℕ → ℕ) (text : List ℕ)
+        (is : IsMatrixText a ranges value text) → IsMatrixOrder (length ranges)
+        → All (λ range. range ≤ greatest_matrix_size) ranges → All (λ range. range ≤ greatest_file_coordinate) ranges
+        → length is.entries ≤ greatest_matrix_entries → StandsFor a ranges value (matrix_of_text a has_minus (length ranges) text) }
 {}

@@ -14,10 +14,15 @@ mod line_kind;
 mod mtx_reader;
 mod pieces;
 mod place;
+mod printing;
 mod stage;
 mod step;
 
 pub use file_fault::FileFault;
-pub use laws::texts_are_matrices_or_bad;
+pub use laws::{
+    tensors_have_one_text, texts_are_matrices_or_bad, written_entries_are_texts_of_their_tensor,
+    written_texts_stand_for_their_tensor,
+};
 pub use line_kind::LineKind;
 pub use mtx_reader::MtxReader;
+pub use printing::put_mtx;
