@@ -12,3 +12,4 @@ pub mod RouteLaws
 pub mod Standing
 pub mod Tables
 pub mod WalkLaws
+pub mod TellLaws

@@ -11,4 +11,5 @@ pub mod Routes
 pub mod Stands
 pub mod Storages
 pub mod Tables
+pub mod Told
 pub mod Walks
