@@ -188,7 +188,7 @@ module _ (order : ℕ) (start piece : List ℕ) (lines_ lines' : LineReader) (re
         list = list;
         good =
             ap (entries_from order 1) (
-              sym (reads.told ∙ ap (λ ls. ls ++ reads.ended) (all_told (ended_lines start) (short_now start reads.start_short).0))
+            sym (reads.told ∙ ap (λ ls. ls ++ reads.ended) (all_told (ended_lines start) (short_now start reads.start_short).0))
             )
             ∙ reads.so_far.read;
       }

@@ -62,8 +62,7 @@ entries_are_text a laws ranges entries up each below =
       increasing = kept_up;
       exact = λ coords. (
         λ among.
-            let listed : Listed kept coords = among_listed kept coords among in
-            (
+            let listed : Listed kept coords = among_listed kept coords among in (
               listed_below ranges entries coords below (kept_listed (is_nonzero a) coords entries listed),
               λ zero'. (listed_nonzero a laws kept kept_up some coords).0 listed (same coords ∙ zero'),
             ),

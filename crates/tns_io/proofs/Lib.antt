@@ -3,5 +3,6 @@ pub mod EntryTexts
 pub mod FieldLaws
 pub mod PositionLaws
 pub mod PrintLaws
+pub mod ReadLaws
 pub mod TextLaws
 pub mod WrittenLaws

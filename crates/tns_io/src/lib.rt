@@ -12,8 +12,9 @@ mod tns_reader;
 
 pub use file_fault::FileFault;
 pub use laws::{
-    lines_are_entries_or_bad, positions_number_coordinates, tensors_have_one_text,
-    texts_of_entries_are_their_tensors, written_texts_stand_for_their_tensor,
+    entries_of_files_may_be_written, lines_are_entries_or_bad, positions_number_coordinates,
+    tensors_have_one_text, texts_of_entries_are_their_tensors,
+    written_texts_stand_for_their_tensor,
 };
 pub use line_kind::LineKind;
 pub use printing::put_tns;
