@@ -6,3 +6,4 @@ pub mod ReaderLaws
 pub mod PrintedPieces
 pub mod WrittenEntries
 pub mod WrittenLaws
+pub mod EndedEntries

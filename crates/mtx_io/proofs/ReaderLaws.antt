@@ -11,7 +11,7 @@ use Rattle.text_lines.specs.Cutting.{begun_line, has_long_line, is_long, told_li
 use Rattle.text_lines.proofs.CuttingLaws.{lines_go_on, breaks_off, long_stays_long, long_stays_told}
 use Rattle.mtx_io.specs.Matrix.{matrix_from, matrix_of_text, behind_banner, behind_size, sized_from, entries_from, matrix_with, before_others, kept, numbered, unless_long}
 use Rattle.mtx_io.specs.Progress.{counted, told, rest_of, behind_entries, Follows}
-use Rattle.mtx_io.specs.Reader.{Leaves, ReadsOn, IsRead, is_bad}
+use Rattle.mtx_io.specs.Reader.{IsKnown, Leaves, ReadsOn, IsRead, is_bad}
 use Rattle.mtx_io.specs.declared.line_kind.LineKind.{LineKind}
 use Rattle.mtx_io.specs.declared.line_kind.LineKind.TheVariants.{LongLine}
 use Rattle.mtx_io.specs.declared.stage.Stage.{Stage}
@@ -34,11 +34,12 @@ module _ (a : Arithmetic) (has_minus : Bool) (order : ℕ) where
   text_says text more entries stage short leaves =
       ap (λ all. told (matrix_from a has_minus order 1 all)) (lines_go_on text more short) ∙ leaves (lines (begun_line text ++ more))
 
-  pub is_read : (text : List ℕ) (entries : List Entry) (stage : Stage) → has_long_line text ≡ false → Leaves a has_minus order (told_lines text) entries stage → IsRead a has_minus order text text entries stage
-  is_read text entries First short leaves = (refl, short, leaves)
-  is_read text entries (Begun banner) short leaves = (refl, short, leaves)
-  is_read text entries (Sized sized) short leaves = (refl, short, leaves)
-  is_read text entries (Bad line kind) short leaves = λ more. text_says text more entries (Bad line kind) short leaves
+  pub is_read : (text : List ℕ) (entries : List Entry) (stage : Stage) → has_long_line text ≡ false → Leaves a has_minus order (told_lines text) entries stage → IsKnown stage (told_lines text)
+      → IsRead a has_minus order text text entries stage
+  is_read text entries First short leaves known = (refl, short, leaves, known)
+  is_read text entries (Begun banner) short leaves known = (refl, short, leaves, known)
+  is_read text entries (Sized sized) short leaves known = (refl, short, leaves, known)
+  is_read text entries (Bad line kind) short leaves known = λ more. text_says text more entries (Bad line kind) short leaves
 
   -- a line that is too long is bad
   long_kept : (number : ℕ) (line : List ℕ) (more : List (List ℕ)) → is_long line ≡ true → kept (numbered number (line ∷ more)) ≡ record { number = number; bytes = line } ∷ kept (numbered (number + 1) more)
@@ -89,27 +90,31 @@ module _ (a : Arithmetic) (has_minus : Bool) (order : ℕ) where
   reads_on fed text entries (Sized sized) e read = read
   reads_on fed text entries (Bad line kind) e read = absurd (cc)
 
-  pub read_on : (fed text : List ℕ) (entries : List Entry) (stage : Stage) → text ≡ fed → has_long_line text ≡ false → Leaves a has_minus order (told_lines text) entries stage → IsRead a has_minus order fed text entries stage
-  read_on fed text entries stage same short leaves = subst (λ all. IsRead a has_minus order all text entries stage) same (is_read text entries stage short leaves)
+  pub read_on : (fed text : List ℕ) (entries : List Entry) (stage : Stage) → text ≡ fed → has_long_line text ≡ false → Leaves a has_minus order (told_lines text) entries stage → IsKnown stage (told_lines text)
+      → IsRead a has_minus order fed text entries stage
+  read_on fed text entries stage same short leaves known =
+      subst (λ all. IsRead a has_minus order all text entries stage) same (is_read text entries stage short leaves known)
 
   -- one step of reading: a line was told, more is needed, or a line is too long
   pub line_read : (fed : List ℕ) (old new : LineReader) (bytes : List ℕ) (entries entries' : List Entry) (stage stage' : Stage) (count : ℕ) → is_bad stage ≡ false
       → new.text ≡ old.text ++ bytes → TellsLine old new → count ≡ count_of (told_lines new.text) → Follows a has_minus order count new.line entries stage entries' stage'
+      → ((taken : List (List ℕ)) → IsKnown stage taken → IsKnown stage' (taken ++ new.line ∷ []))
       → IsRead a has_minus order fed old.text entries stage → IsRead a has_minus order (fed ++ bytes) new.text entries' stage'
-  line_read fed old new bytes entries entries' stage stage' count good grows tells counts follows read =
+  line_read fed old new bytes entries entries' stage stage' count good grows tells counts follows knows read =
       let on = reads_on fed old.text entries stage good read in
       let long : length (told_lines new.text) ≡ length (told_lines old.text) + 1 = ap length tells.told ∙ length-append (told_lines old.text) (new.line ∷ []) in
       let leaves : Leaves a has_minus order (told_lines new.text) entries' stage' =
       subst (λ all. Leaves a has_minus order all entries' stage') (sym tells.told)
       (leaves_more (told_lines old.text) new.line entries entries' stage stage' count (ap counted (sym long) ∙ sym counts) on.2 follows) in
       read_on (fed ++ bytes) new.text entries' stage' (grows ∙ ap (λ all. all ++ bytes) on.0) tells.short leaves
+      (subst (IsKnown stage') (sym tells.told) (knows (told_lines old.text) on.3))
 
   pub more_read : (fed : List ℕ) (old new : LineReader) (bytes : List ℕ) (entries : List Entry) (stage : Stage) → is_bad stage ≡ false → new.text ≡ old.text ++ bytes → NeedsMore old new
       → IsRead a has_minus order fed old.text entries stage → IsRead a has_minus order (fed ++ bytes) new.text entries stage
   more_read fed old new bytes entries stage good grows needs read =
       let on = reads_on fed old.text entries stage good read in
       read_on (fed ++ bytes) new.text entries stage (grows ∙ ap (λ all. all ++ bytes) on.0) needs.short
-      (subst (λ all. Leaves a has_minus order all entries stage) (sym needs.told) on.2)
+      (subst (λ all. Leaves a has_minus order all entries stage) (sym needs.told) on.2) (subst (IsKnown stage) (sym needs.told) on.3)
 
   pub long_read : (fed : List ℕ) (old new : LineReader) (bytes : List ℕ) (entries : List Entry) (stage : Stage) (count : ℕ) → is_bad stage ≡ false → new.text ≡ old.text ++ bytes → IsTooLong old new
       → count ≡ counted (length (told_lines new.text) + 1)

@@ -1,11 +1,11 @@
 -- What contracts see of a reader of Matrix Market files, and what it keeps.
-use Rattle.std.specs.Prelude.{◌≡◌, ℕ, ◌+◌, Bool, true, false, List, ◌++◌, length, Result, Ok, Err}
+use Rattle.std.specs.Prelude.{not, drop, filter, ◌<◌, ◌≡◌, ℕ, ◌+◌, Bool, true, false, List, ◌++◌, length, Result, Ok, Err}
 use Rattle.numbers.specs.Arithmetic.{Arithmetic}
 use Rattle.tensor_map.specs.Entries.{Entries}
 use Rattle.tensor_map.specs.declared.entries.Entry.{Entry}
-use Rattle.text_lines.specs.Cutting.{has_long_line, told_lines}
+use Rattle.text_lines.specs.Cutting.{ended_lines, has_long_line, told_lines}
 use Rattle.text_lines.specs.LineReader.{LineReader}
-use Rattle.mtx_io.specs.Matrix.{BadLine, Matrix, matrix_from, matrix_of_text}
+use Rattle.mtx_io.specs.Matrix.{BadLine, Matrix, is_skipped, matrix_from, matrix_of_text}
 use Rattle.mtx_io.specs.Progress.{told, rest_of, IsStage, IsMatrixOrder}
 use Rattle.mtx_io.specs.declared.file_fault.FileFault.{FileFault}
 use Rattle.mtx_io.specs.declared.file_fault.FileFault.TheVariants.{Line, Memory}
@@ -31,9 +31,29 @@ abbrev pub Leaves : Arithmetic → Bool → ℕ → List (List ℕ) → List Ent
 Leaves a has_minus order taken entries stage =
     (more : List (List ℕ)) → told (matrix_from a has_minus order 1 (taken ++ more)) ≡ told (rest_of a has_minus order entries stage (length taken + 1) more)
 
+-- of these lines those behind the banner that aren't skipped
+abbrev pub kept_lines : List (List ℕ) → List (List ℕ)
+kept_lines taken = filter (λ line. not (is_skipped line)) (drop 1 taken)
+
+-- the entry lines: they come behind the size line
+abbrev pub entry_lines : List (List ℕ) → List (List ℕ)
+entry_lines taken = drop 1 (kept_lines taken)
+
+-- an entry line of the text ends in its next piece
+abbrev pub EndsEntry : List ℕ → List ℕ → Type 0
+EndsEntry text piece = length (entry_lines (ended_lines text)) < length (entry_lines (ended_lines (text ++ piece)))
+
+-- lines that were read before a stage: the banner, and the size line
+abbrev pub IsKnown : Stage → List (List ℕ) → Type 0
+IsKnown First taken = Unit {0}
+IsKnown (Begun banner) taken = 0 < length taken
+IsKnown (Sized sized) taken = (0 < length taken) × (0 < length (kept_lines taken))
+IsKnown (Bad line kind) taken = Unit {0}
+
 -- no line is bad so far
 abbrev pub ReadsOn : Arithmetic → Bool → ℕ → List ℕ → List ℕ → List Entry → Stage → Type 0
-ReadsOn a has_minus order fed text entries stage = (text ≡ fed) × (has_long_line text ≡ false) × Leaves a has_minus order (told_lines text) entries stage
+ReadsOn a has_minus order fed text entries stage =
+    (text ≡ fed) × (has_long_line text ≡ false) × Leaves a has_minus order (told_lines text) entries stage × IsKnown stage (told_lines text)
 
 -- what was fed is read as far as it goes, or has a bad line, however it goes on
 abbrev pub IsRead : Arithmetic → Bool → ℕ → List ℕ → List ℕ → List Entry → Stage → Type 0

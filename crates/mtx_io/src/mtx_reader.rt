@@ -84,7 +84,8 @@ impl<S: Semiring> MtxReader<S> {
 }
 
 impl<S: Semiring> Eater for MtxReader<S> {
-    ghost use Rattle.std.specs.Prelude.{◌≡◌, ◌++◌, true, false, OnOk, OnErr};
+    ghost use Rattle.std.specs.Prelude.{◌≡◌, ◌++◌, ◌⊎◌, true, false, OnOk, OnErr};
+    ghost use Rattle.mtx_io.specs.Reader.{EndsEntry};
 
     ghost eaten = { λ r. r.text };
 
@@ -97,6 +98,7 @@ impl<S: Semiring> Eater for MtxReader<S> {
         ensures order { self.new.order ≡ self.old.order }
         ensures fed { OnOk result (self.new.is_starved ≡ false) }
         ensures starved { self.old.is_starved ≡ true → OnOk result ⊥ }
+        ensures memory { OnErr result ((self.old.is_starved ≡ true) ⊎ EndsEntry self.old.text piece.now) }
     {
         if self.is_starved {
             return Err(AllocError);

@@ -3,7 +3,7 @@ ghost use Rattle.std.specs.Prelude.{◌≡◌, ℕ, ◌<◌, ◌≤◌, ◌+◌,
 ghost use Rattle.mtx_io.specs.Matrix.{matrix_of_text};
 ghost use Rattle.mtx_io.specs.Progress.{told, rest_of, IsStage, IsMatrixOrder};
 ghost use Rattle.text_lines.specs.Cutting.{told_lines};
-ghost use Rattle.mtx_io.specs.Reader.{IsRead, is_bad};
+ghost use Rattle.mtx_io.specs.Reader.{EndsEntry, IsRead, is_bad};
 
 use crate::stage::{Stage, long_line_behind};
 use crate::step::after_line;
@@ -29,6 +29,8 @@ fn take_step<S: Semiring>(
     ensures progress { IfOk result (λ taken. 0 < taken.0) }
     ensures read { IfOk result (λ taken. (fed : List ℕ) → IsRead S.arithmetic S.has_minus entries.old.order fed lines.old.text entries.old.list stage
         → IsRead S.arithmetic S.has_minus entries.old.order (fed ++ take taken.0 piece.now) lines.new.text entries.new.list taken.1) }
+    ensures ended { OnErr result ((fed : List ℕ) → IsRead S.arithmetic S.has_minus entries.old.order fed lines.old.text entries.old.list stage
+        → EndsEntry fed piece.now) }
 {
     let (n, step) = lines.feed(piece);
     match step {
@@ -55,6 +57,8 @@ pub(crate) fn take_piece<S: Semiring>(
     ensures stage { IfOk result (λ after. IsStage S.has_minus entries.old.order entries.new.list after) }
     ensures read { IfOk result (λ after. (fed : List ℕ) → IsRead S.arithmetic S.has_minus entries.old.order fed lines.old.text entries.old.list stage
         → IsRead S.arithmetic S.has_minus entries.old.order (fed ++ piece.now) lines.new.text entries.new.list after) }
+    ensures ended { OnErr result ((fed : List ℕ) → IsRead S.arithmetic S.has_minus entries.old.order fed lines.old.text entries.old.list stage
+        → EndsEntry fed piece.now) }
 {
     let mut stage = stage;
     let mut rest = piece;

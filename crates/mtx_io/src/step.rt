@@ -1,9 +1,10 @@
 //! A file, line by line. No line that comes here is too long.
-ghost use Rattle.std.specs.Prelude.{◌≡◌, ℕ, Bool, [], true, false, IfOk, OnErr};
+ghost use Rattle.std.specs.Prelude.{◌≡◌, ◌<◌, ◌++◌, ◌∷◌, ℕ, Bool, List, length, [], true, false, IfOk, OnErr};
 ghost use Rattle.numbers.specs.Arithmetic.{Arithmetic};
 ghost use Rattle.mtx_io.specs.Matrix.{is_skipped};
 ghost use Rattle.text_lines.specs.Cutting.{is_long};
 ghost use Rattle.mtx_io.specs.Progress.{Follows, IsStage, IsMatrixOrder, IsSized};
+ghost use Rattle.mtx_io.specs.Reader.{IsKnown};
 ghost use Rattle.mtx_io.specs.declared.stage.Stage.TheVariants.{First, Begun, Sized};
 
 use crate::banner::{Banner, read_first_line};
@@ -32,6 +33,7 @@ fn after_first<S: Semiring>(line: &[u8], number: u64) -> Stage
     requires { is_long line.now ≡ false }
     ensures stage { (order : ℕ) → IsStage S.has_minus order [] result }
     ensures follows { (order : ℕ) → Follows S.arithmetic S.has_minus order number line.now [] First [] result }
+    ensures known { (taken : List (List ℕ)) → IsKnown result (taken ++ line.now ∷ []) }
 {
     match read_first_line::<S>(line) {
         Ok(banner) => Stage::Begun(banner),
@@ -45,6 +47,7 @@ fn after_size(order: usize, banner: Banner, line: &[u8], number: u64) -> Stage
     requires kept { is_skipped line.now ≡ false }
     ensures stage { (has_minus : Bool) → IsStage has_minus order [] (Begun banner) → IsStage has_minus order [] result }
     ensures follows { (a : Arithmetic) (has_minus : Bool) → Follows a has_minus order number line.now [] (Begun banner) [] result }
+    ensures known { (taken : List (List ℕ)) → 0 < length taken → IsKnown result (taken ++ line.now ∷ []) }
 {
     match EntryLines::read(order, banner, line) {
         Some(lines) => Stage::Sized(lines),
@@ -69,6 +72,7 @@ fn after_entry<S: Semiring>(
     ensures order { entries.new.order ≡ entries.old.order }
     ensures stage { IfOk result (λ stage. IsStage S.has_minus entries.old.order entries.new.list stage) }
     ensures follows { IfOk result (λ stage. Follows S.arithmetic S.has_minus entries.old.order number line.now entries.old.list (Sized lines) entries.new.list stage) }
+    ensures known { IfOk result (λ stage. (taken : List (List ℕ)) → IsKnown (Sized lines) taken → IsKnown stage (taken ++ line.now ∷ [])) }
 {
     let mut lines = lines;
     match lines.take(line) {
@@ -93,6 +97,7 @@ pub(crate) fn after_line<S: Semiring>(
     ensures order { entries.new.order ≡ entries.old.order }
     ensures stage { IfOk result (λ after. IsStage S.has_minus entries.old.order entries.new.list after) }
     ensures follows { IfOk result (λ after. Follows S.arithmetic S.has_minus entries.old.order number line.now entries.old.list stage entries.new.list after) }
+    ensures known { IfOk result (λ after. (taken : List (List ℕ)) → IsKnown stage taken → IsKnown after (taken ++ line.now ∷ [])) }
     ensures sized { OnErr result (IsSized stage) }
     ensures kept { OnErr result (is_skipped line.now ≡ false) }
 {

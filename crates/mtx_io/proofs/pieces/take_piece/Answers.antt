@@ -2,7 +2,8 @@ use Rattle.std.proofs.Common.{◌≡◌, ℕ, List, [], ◌++◌, take, drop, le
 use Rattle.std.proofs.lemmas.Bool.{eqb-true}
 use Rattle.std.proofs.lemmas.List.{take-append-drop}
 use Rattle.mtx_io.specs.Progress.{IsStage}
-use Rattle.mtx_io.specs.Reader.{IsRead}
+use Rattle.mtx_io.specs.Reader.{EndsEntry, IsRead}
+use Rattle.mtx_io.proofs.EndedEntries.{ends_behind, on_err}
 use Rattle.mtx_io.proofs.ReaderLaws.{bad_passes}
 use Rattle.mtx_io.proofs.pieces.take_piece.Goals as goal
 
@@ -53,3 +54,18 @@ returns-clause-read g c = λ fed read.
     let whole : taken ≡ c.args.piece.now = sym (c.loop-rest.invariant.read.1 ∙ ap (λ (back : List ℕ). taken ++ back) none ∙ append-nil taken) in
     subst (λ (all : List ℕ). IsRead a has_minus c.args.entries.now.order (fed ++ all) c.loop-rest.lines.text c.loop-rest.entries.list c.loop-rest.stage) whole
     (c.loop-rest.invariant.read.2 fed read)
+
+pub returns-in_err-n-clause-ended : goal.returns-in_err-n-clause-ended
+returns-in_err-n-clause-ended g c =
+    let a = g.S.Semiring.arithmetic in
+    let has_minus = g.S.Semiring.has_minus in
+    let order = c.args.entries.now.order in
+    let taken = c.loop-rest.invariant.read.0 in
+    let rest = c.loop-rest.rest.now in
+    let text = c.loop-rest.lines.text in
+    let entries = c.loop-rest.entries.list in
+    let ended : (fed : List ℕ) → IsRead a has_minus order fed c.args.lines.now.text c.args.entries.now.list c.args.stage → EndsEntry fed c.args.piece.now = λ fed read.
+    let so_far = subst (λ (k : ℕ). IsRead a has_minus k (fed ++ taken) text entries c.loop-rest.stage) (sym c.loop-rest.invariant.order) (c.loop-rest.invariant.read.2 fed read) in
+    let ends = ends_behind fed taken rest (c.in_err-n.ensures.ended (fed ++ taken) so_far) in
+    subst (λ (all : List ℕ). EndsEntry fed all) (sym c.loop-rest.invariant.read.1) ends in
+    on_err _ _ ended
