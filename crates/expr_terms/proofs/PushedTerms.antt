@@ -13,13 +13,17 @@ pub pushed_sum : (b : Bool) (whole e f e' f' : Expr) (old between : List Term) �
     → between ≡ old ++ signed_terms b e' → between ++ signed_terms b f' ≡ old ++ signed_terms b whole
 pushed_sum b whole e f e' f' old between is first second before =
     behind old between (signed_terms b e') (signed_terms b f') (signed_terms b whole) before
-    (ap (signed_terms b) is ∙ signed_add b e f ∙ ap (λ ts. ts ++ signed_terms b f) (ap (signed_terms b) (sym first)) ∙ ap (λ ts. signed_terms b e' ++ ts) (ap (signed_terms b) (sym second)))
+    (ap (signed_terms b) is ∙ signed_add b e f ∙ ap (λ ts. ts ++ signed_terms b f) (ap (signed_terms b) (sym first))
+    ∙ ap (λ ts. signed_terms b e' ++ ts) (ap (signed_terms b) (sym second)))
 
 pub pushed_difference : (b : Bool) (whole e f e' f' : Expr) (old between : List Term) → whole ≡ Sub e f → e' ≡ e → f' ≡ f
     → between ≡ old ++ signed_terms b e' → between ++ signed_terms (not b) f' ≡ old ++ signed_terms b whole
 pushed_difference b whole e f e' f' old between is first second before =
     behind old between (signed_terms b e') (signed_terms (not b) f') (signed_terms b whole) before
-    (ap (signed_terms b) is ∙ signed_sub b e f ∙ ap (λ ts. ts ++ signed_terms (not b) f) (ap (signed_terms b) (sym first)) ∙ ap (λ ts. signed_terms b e' ++ ts) (ap (signed_terms (not b)) (sym second)))
+    (ap (signed_terms b) is ∙ signed_sub b e f ∙ ap (λ ts. ts ++ signed_terms (not b) f) (ap (signed_terms b) (sym first))
+    ∙ ap (λ ts. signed_terms b e' ++ ts) (ap (signed_terms (not b)) (sym second)))
 
-pub pushed_negation : (b : Bool) (whole e e' : Expr) (old : List Term) → whole ≡ Neg e → e' ≡ e → old ++ signed_terms (not b) e' ≡ old ++ signed_terms b whole
-pushed_negation b whole e e' old is inner = ap (λ ts. old ++ ts) (ap (signed_terms (not b)) inner ∙ sym (signed_neg b e) ∙ ap (signed_terms b) (sym is))
+pub pushed_negation : (b : Bool) (whole e e' : Expr) (old : List Term) → whole ≡ Neg e → e' ≡ e
+    → old ++ signed_terms (not b) e' ≡ old ++ signed_terms b whole
+pushed_negation b whole e e' old is inner =
+    ap (λ ts. old ++ ts) (ap (signed_terms (not b)) inner ∙ sym (signed_neg b e) ∙ ap (signed_terms b) (sym is))

@@ -17,7 +17,7 @@ pub enum Bound {
 
 /// A mode of a tensor.
 #[derive(Debug, Clone, Copy)]
-pub struct Place {
+pub(crate) struct Place {
     pub tensor: usize,
     pub mode: usize,
 }

@@ -10,6 +10,7 @@ loop-var-preserved c =
     let test = is_own c.args.statement.now c.args.expr.now in
     let var : ℕ = c.loop-var.var in
     elim c.if-is_own.branch [
-      | then-is_own+in_ok-push w ↦ w.own-is ∙ w.in_ok-push.ensures.ok ∙ ap (λ ns. ns ++ var ∷ []) c.loop-var.invariant ∙ sym (next_passes test var (sym c.is_own.ensures ∙ w.if-is_own.true))
+      | then-is_own+in_ok-push w ↦ w.own-is ∙ w.in_ok-push.ensures.ok ∙ ap (λ ns. ns ++ var ∷ []) c.loop-var.invariant
+          ∙ sym (next_passes test var (sym c.is_own.ensures ∙ w.if-is_own.true))
       | else-is_own w ↦ w.own-is ∙ c.loop-var.invariant ∙ sym (next_fails test var (sym c.is_own.ensures ∙ w.if-is_own.false))
     ]
