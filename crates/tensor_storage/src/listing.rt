@@ -1,5 +1,6 @@
 // The paths of a storage as entries.
-ghost use Rattle.std.specs.Prelude.{◌≡◌, ◌≤◌, ◌<◌, ◌+◌, ◌-◌, ◌++◌, length, map, drop, All, List, slice_index, slice_index_or, IfOk, OnOk, MatchOption, true};
+ghost use Rattle.std.specs.Prelude.{◌≡◌, ◌≤◌, ◌<◌, ◌++◌, length, map, drop, true};
+ghost use Rattle.std.specs.Prelude.{All, List, slice_index, IfOk, OnOk, MatchOption};
 ghost use Rattle.limits.specs.Limits.{greatest_order};
 ghost use Rattle.format_spec.specs.Formats.{IsFormat, modes_of};
 ghost use Rattle.level_core.specs.declared.span.Entry.{Entry as LevelEntry};
