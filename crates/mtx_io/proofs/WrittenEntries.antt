@@ -1,5 +1,6 @@
 -- The entries that are written, one by one.
-use Rattle.std.specs.Prelude.{◌≡◌, ◌≢◌, ℕ, suc, ◌+◌, ◌^◌, ◌<◌, ◌≤◌, All, Bool, true, false, cond, not, nat_eq, ◌==◌, List, [], ◌∷◌, ◌++◌, length, take, drop, filter, slice_index_or, refl}
+use Rattle.std.specs.Prelude.{◌≡◌, ◌≢◌, ℕ, suc, ◌+◌, ◌^◌, ◌<◌, ◌≤◌, All, Bool, true, false, cond, not, nat_eq, ◌==◌, List, [], ◌∷◌}
+use Rattle.std.specs.Prelude.{◌++◌, length, take, drop, filter, slice_index_or, refl}
 use Rattle.std.proofs.Common.{arith, ap, sym, ◌∙◌, append-nil, add-one, lit≤}
 use Rattle.std.proofs.Math.Seq.{drop-cons}
 use Rattle.std.proofs.lemmas.Bool.{ne_eqb, eq-eqb}
@@ -12,12 +13,14 @@ use Rattle.tensor_map.specs.Entries.{is_nonzero}
 use Rattle.tensor_map.specs.declared.entries.Entry.{Entry}
 use Rattle.mtx_io.specs.Text.{AreSmall, IsBelow, entry_text, entries_text}
 
-module _ (a : Arithmetic) (entries : List Entry) (i : ℕ) (d : Entry) (value : ℕ) (is : value ≡ (slice_index_or entries i d).value) (within : i < length entries) where
+module _ (a : Arithmetic) (entries : List Entry) (i : ℕ) (d : Entry) (value : ℕ) (is : value ≡ (slice_index_or entries i d).value)
+    (within : i < length entries) where
   test_is : (value == a.zero) ≡ nat_eq (slice_index_or entries i d).value a.zero
   test_is = ap (λ v. nat_eq v a.zero) is
 
   -- how many there are
-  pub count_more : value ≢ a.zero → length (filter (is_nonzero a) (take (i + 1) entries)) ≡ length (filter (is_nonzero a) (take i entries)) + 1
+  pub count_more : value ≢ a.zero
+      → length (filter (is_nonzero a) (take (i + 1) entries)) ≡ length (filter (is_nonzero a) (take i entries)) + 1
   count_more some =
       length-filter_more (is_nonzero a) entries i d within
       ∙ ap (λ b. length (filter (is_nonzero a) (take i entries)) + cond (not b) 1 0) (sym test_is ∙ ne_eqb value a.zero some)
@@ -30,16 +33,19 @@ module _ (a : Arithmetic) (entries : List Entry) (i : ℕ) (d : Entry) (value : 
 
 -- what is left to be written
 pub left_is : (a : Arithmetic) (entries : List Entry) (i : ℕ) (d : Entry) → i < length entries
-    → entries_text (filter (is_nonzero a) (drop i entries)) ≡ entries_text (filter (is_nonzero a) (slice_index_or entries i d ∷ [])) ++ entries_text (filter (is_nonzero a) (drop (i + 1) entries))
+    → entries_text (filter (is_nonzero a) (drop i entries)) ≡ entries_text (filter (is_nonzero a) (slice_index_or entries i d ∷ []))
+    ++ entries_text (filter (is_nonzero a) (drop (i + 1) entries))
 left_is a entries i d within =
     ap (λ es. entries_text (filter (is_nonzero a) es)) (drop-cons entries i d within)
     ∙ by (is_nonzero a (slice_index_or entries i d))
-    ∙ ap (λ n. entries_text (filter (is_nonzero a) (slice_index_or entries i d ∷ [])) ++ entries_text (filter (is_nonzero a) (drop n entries))) (sym (add-one i))
+    ∙ ap (λ n. entries_text (filter (is_nonzero a) (slice_index_or entries i d ∷ [])) ++ entries_text
+    (filter (is_nonzero a) (drop n entries))) (sym (add-one i))
   where
     others : List Entry
     others = filter (is_nonzero a) (drop (suc i) entries)
 
-    by : (b : Bool) → entries_text (cond b (slice_index_or entries i d ∷ others) others) ≡ entries_text (cond b (slice_index_or entries i d ∷ []) []) ++ entries_text others
+    by : (b : Bool) → entries_text (cond b (slice_index_or entries i d ∷ others) others) ≡ entries_text
+        (cond b (slice_index_or entries i d ∷ []) []) ++ entries_text others
     by true = ap (λ t. t ++ entries_text others) (sym (append-nil (entry_text (slice_index_or entries i d))))
     by false = refl
 

@@ -20,7 +20,8 @@ layout_of token =
 abbrev pub symmetry_of : List ℕ → Option Symmetry
 symmetry_of token =
     if is_word token (codes "general") then Some General else (
-    if is_word token (codes "symmetric") then Some Symmetric else (if is_word token (codes "skew-symmetric") then Some SkewSymmetric else None)
+    if is_word token (codes "symmetric") then Some Symmetric else
+    (if is_word token (codes "skew-symmetric") then Some SkewSymmetric else None)
     )
 
 abbrev pub banner_from : Option Layout → Option Symmetry → Option Banner

@@ -14,7 +14,8 @@ use Rattle.mtx_io.specs.declared.banner.Symmetry.{Symmetry}
 use Rattle.mtx_io.specs.declared.banner.Symmetry.TheVariants.{General, Symmetric, SkewSymmetric}
 use Rattle.mtx_io.specs.declared.header.Header.{Header}
 use Rattle.mtx_io.specs.declared.line_kind.LineKind.{LineKind}
-use Rattle.mtx_io.specs.declared.line_kind.LineKind.TheVariants.{Fields, NotNumber, NotWhole, NumRange, ZeroCoordinate, CoordRange, SkewDiagonal}
+use Rattle.mtx_io.specs.declared.line_kind.LineKind.TheVariants.{Fields, NotNumber, NotWhole, NumRange, ZeroCoordinate, CoordRange}
+use Rattle.mtx_io.specs.declared.line_kind.LineKind.TheVariants.{SkewDiagonal}
 use Rattle.mtx_io.specs.declared.place.Place.{Place}
 pub use Rattle.mtx_io.specs.declared.place.PlacedValue.{PlacedValue}
 
@@ -22,7 +23,8 @@ pub use Rattle.mtx_io.specs.declared.place.PlacedValue.{PlacedValue}
 abbrev pub index_from : ℕ → Option ℕ → Result ℕ LineKind
 index_from size None = Err NotNumber
 index_from size (Some zero) = Err ZeroCoordinate
-index_from size (Some (suc i)) = if nat_lt i greatest_file_coordinate then (if nat_lt i size then Ok i else Err CoordRange) else Err NumRange
+index_from size (Some (suc i)) =
+    if nat_lt i greatest_file_coordinate then (if nat_lt i size then Ok i else Err CoordRange) else Err NumRange
 
 abbrev pub index_of : ℕ → List ℕ → Result ℕ LineKind
 index_of size token = index_from size (number_of token)
@@ -83,7 +85,8 @@ mirror_image order told value = record { coords = coords_of order told.place.col
 abbrev pub entries_by : Arithmetic → Symmetry → ℕ → PlacedValue → List Entry
 entries_by a General order told = own_entry order told ∷ []
 entries_by a Symmetric order told =
-    if told.place.row == told.place.column then own_entry order told ∷ [] else own_entry order told ∷ mirror_image order told told.value ∷ []
+    if told.place.row == told.place.column then own_entry order told ∷ [] else own_entry order told ∷ mirror_image order told told.value
+    ∷ []
 entries_by a SkewSymmetric order told = own_entry order told ∷ mirror_image order told (a.times a.minus_one told.value) ∷ []
 
 abbrev pub entries_of : Arithmetic → Header → PlacedValue → List Entry

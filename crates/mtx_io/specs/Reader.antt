@@ -29,7 +29,8 @@ Tells what order (Err (Memory e)) = Unit {0}
 -- the lines told so far leave this to be read
 abbrev pub Leaves : Arithmetic → Bool → ℕ → List (List ℕ) → List Entry → Stage → Type 0
 Leaves a has_minus order taken entries stage =
-    (more : List (List ℕ)) → told (matrix_from a has_minus order 1 (taken ++ more)) ≡ told (rest_of a has_minus order entries stage (length taken + 1) more)
+    (more : List (List ℕ))
+    → told (matrix_from a has_minus order 1 (taken ++ more)) ≡ told (rest_of a has_minus order entries stage (length taken + 1) more)
 
 -- of these lines those behind the banner that aren't skipped
 abbrev pub kept_lines : List (List ℕ) → List (List ℕ)
@@ -77,7 +78,8 @@ WantsMemory (Err (Line line kind)) = ⊥
 WantsMemory (Err (Memory e)) = Unit {0}
 
 -- how far a reader is: where it never wanted memory, it has read what it was fed
-pub record IsReading (a : Arithmetic) (has_minus : Bool) (entries : Entries) (fed : List ℕ) (lines : LineReader) (reached : Stage) (is_starved : Bool) : Type 0 where
+pub record IsReading (a : Arithmetic) (has_minus : Bool) (entries : Entries) (fed : List ℕ) (lines : LineReader) (reached : Stage)
+    (is_starved : Bool) : Type 0 where
   pub order : IsMatrixOrder entries.order
   pub stage : is_starved ≡ false → IsStage has_minus entries.order entries.list reached
   pub read : is_starved ≡ false → IsRead a has_minus entries.order fed lines.text entries.list reached

@@ -43,7 +43,8 @@ abbrev pub header_from : ℕ → Symmetry → Option ℕ → Option ℕ → Opti
 header_from order which None columns = None
 header_from order which (Some rows) None = None
 header_from order which (Some rows) (Some columns) =
-    if agree which rows columns && suits order columns then Some (record { order = order; symmetry = which; rows = rows; columns = columns }) else None
+    if agree which rows columns && suits order columns then Some
+    (record { order = order; symmetry = which; rows = rows; columns = columns }) else None
 
 abbrev pub header_of : ℕ → Symmetry → List ℕ → List ℕ → Option Header
 header_of order which rows columns = header_from order which (number_to greatest_matrix_size rows) (number_to greatest_matrix_size columns)

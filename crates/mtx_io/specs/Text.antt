@@ -38,7 +38,8 @@ size_text ranges count = line_of (decimal (rows_of ranges)) (decimal (columns_of
 
 -- row and column are counted from 1
 abbrev pub entry_text : Entry → List ℕ
-entry_text entry = line_of (decimal (row_of entry.coords + 1)) (decimal (column_of entry.coords + 1)) (signed_decimal (signed_of entry.value))
+entry_text entry = line_of (decimal (row_of entry.coords + 1)) (decimal (column_of entry.coords + 1))
+    (signed_decimal (signed_of entry.value))
 
 abbrev pub entries_text : List Entry → List ℕ
 entries_text entries = flat_map entry_text entries

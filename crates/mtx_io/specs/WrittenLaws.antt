@@ -13,4 +13,5 @@ bare_line first second third = (first ++ codes " ") ++ ((second ++ codes " ") ++
 abbrev pub StandsFor : Arithmetic → List ℕ → (List ℕ → ℕ) → Result Matrix BadLine → Type 0
 StandsFor a ranges value (Err bad) = ⊥
 StandsFor a ranges value (Ok matrix) =
-    (matrix.rows ≡ rows_of ranges) × (matrix.columns ≡ columns_of ranges) × ((coords : List ℕ) → value_at a matrix.entries coords ≡ value coords)
+    (matrix.rows ≡ rows_of ranges) × (matrix.columns ≡ columns_of ranges) ×
+    ((coords : List ℕ) → value_at a matrix.entries coords ≡ value coords)

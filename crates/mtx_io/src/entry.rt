@@ -82,7 +82,8 @@ pub(crate) fn read_value_at(place: Place, line: &[u8]) -> Result<PlacedValue, Li
 fn push_at(entries: &mut Entries, row: u64, column: u64, value: u64) -> Result<(), AllocError>
     requires { IsMatrixOrder entries.old.order }
     ensures order { entries.new.order ≡ entries.old.order }
-    ensures ok { OnOk result (entries.new.list ≡ entries.old.list ++ record { coords = coords_of entries.old.order row column; value = value } ∷ []) }
+    ensures ok { OnOk result
+        (entries.new.list ≡ entries.old.list ++ record { coords = coords_of entries.old.order row column; value = value } ∷ []) }
 {
     if entries.order() == 1 {
         entries.push(&[row], value)

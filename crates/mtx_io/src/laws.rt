@@ -9,12 +9,14 @@ ghost use Rattle.tensor_map.specs.declared.entries.Entry.{Entry};
 ghost use Rattle.mtx_io.specs.Progress.{IsMatrixOrder};
 ghost use Rattle.mtx_io.specs.Text.{IsBelow, IsMatrixText, matrix_text};
 ghost use Rattle.mtx_io.specs.WrittenLaws.{StandsFor};
-ghost use Rattle.mtx_io.specs.declared.line_kind.LineKind.TheVariants.{BadBanner, NoMinus, BadSize, Extra, Truncated, CoordRange, SkewDiagonal};
+ghost use Rattle.mtx_io.specs.declared.line_kind.LineKind.TheVariants.{BadBanner, NoMinus, BadSize, Extra, Truncated, CoordRange};
+ghost use Rattle.mtx_io.specs.declared.line_kind.LineKind.TheVariants.{SkewDiagonal};
 
 /// What small texts stand for: an entry and its mirror image, the places of an array, and the first bad line.
 #[tactic(auto, unfolding(limits::specs::Limits::greatest_line_bytes, limits::specs::Limits::greatest_file_coordinate, limits::specs::Limits::greatest_matrix_size, limits::specs::Limits::greatest_matrix_entries, numbers::specs::Ring::ring, numbers::specs::Ring::word_product))]
 pub fn texts_are_matrices_or_bad()
-    ensures symmetric { matrix_of_text ring true 2 (codes "%%MatrixMarket MATRIX Coordinate Integer Symmetric\n%\n2 2 2\n\n1 2 3\r\n2 2 4\n% end")
+    ensures symmetric { matrix_of_text ring true 2
+        (codes "%%MatrixMarket MATRIX Coordinate Integer Symmetric\n%\n2 2 2\n\n1 2 3\r\n2 2 4\n% end")
         ≡ Ok (record {
           rows = 2;
           columns = 2;
@@ -30,11 +32,17 @@ pub fn texts_are_matrices_or_bad()
               ∷ record { coords = 2 ∷ 1 ∷ []; value = 0 } ∷ record { coords = 1 ∷ 2 ∷ []; value = 0 } ∷ [];
         }) }
     ensures general_array { matrix_of_text ring true 1 (codes "%%MatrixMarket matrix array integer general\n2 1\n7\n-1")
-        ≡ Ok (record { rows = 2; columns = 1; entries = record { coords = 0 ∷ []; value = 7 } ∷ record { coords = 1 ∷ []; value = 2 ^ 64 - 1 } ∷ [] }) }
+        ≡ Ok (record {
+          rows = 2;
+          columns = 1;
+          entries =
+              record { coords = 0 ∷ []; value = 7 } ∷ record { coords = 1 ∷ []; value = 2 ^ 64 - 1 } ∷ [];
+        }) }
     ensures empty { matrix_of_text ring true 2 [] ≡ Err (record { number = 1; kind = BadBanner }) }
     ensures without_minus { matrix_of_text ring false 2 (codes "%%MatrixMarket matrix array integer skew-symmetric\n")
         ≡ Err (record { number = 1; kind = NoMinus }) }
-    ensures no_size { matrix_of_text ring true 2 (codes "%%MatrixMarket matrix coordinate integer general\n2 2\n") ≡ Err (record { number = 2; kind = BadSize }) }
+    ensures no_size { matrix_of_text ring true 2 (codes "%%MatrixMarket matrix coordinate integer general\n2 2\n") ≡ Err
+        (record { number = 2; kind = BadSize }) }
     ensures truncated { matrix_of_text ring true 2 (codes "%%MatrixMarket matrix coordinate integer general\n2 2 2\n1 1 0\n%\n")
         ≡ Err (record { number = 5; kind = Truncated }) }
     ensures extra { matrix_of_text ring true 2 (codes "%%MatrixMarket matrix coordinate integer general\n2 2 1\n1 1 0\n% \n0\n")

@@ -27,9 +27,11 @@ fn take_step<S: Semiring>(
     ensures stage { IfOk result (λ taken. IsStage S.has_minus entries.old.order entries.new.list taken.1) }
     ensures within { IfOk result (λ taken. taken.0 ≤ length piece.now) }
     ensures progress { IfOk result (λ taken. 0 < taken.0) }
-    ensures read { IfOk result (λ taken. (fed : List ℕ) → IsRead S.arithmetic S.has_minus entries.old.order fed lines.old.text entries.old.list stage
+    ensures read { IfOk result
+        (λ taken. (fed : List ℕ) → IsRead S.arithmetic S.has_minus entries.old.order fed lines.old.text entries.old.list stage
         → IsRead S.arithmetic S.has_minus entries.old.order (fed ++ take taken.0 piece.now) lines.new.text entries.new.list taken.1) }
-    ensures ended { OnErr result ((fed : List ℕ) → IsRead S.arithmetic S.has_minus entries.old.order fed lines.old.text entries.old.list stage
+    ensures ended { OnErr result
+        ((fed : List ℕ) → IsRead S.arithmetic S.has_minus entries.old.order fed lines.old.text entries.old.list stage
         → EndsEntry fed piece.now) }
 {
     let (n, step) = lines.feed(piece);
@@ -55,9 +57,11 @@ pub(crate) fn take_piece<S: Semiring>(
     requires stage { IsStage S.has_minus entries.old.order entries.old.list stage }
     ensures order { entries.new.order ≡ entries.old.order }
     ensures stage { IfOk result (λ after. IsStage S.has_minus entries.old.order entries.new.list after) }
-    ensures read { IfOk result (λ after. (fed : List ℕ) → IsRead S.arithmetic S.has_minus entries.old.order fed lines.old.text entries.old.list stage
+    ensures read { IfOk result
+        (λ after. (fed : List ℕ) → IsRead S.arithmetic S.has_minus entries.old.order fed lines.old.text entries.old.list stage
         → IsRead S.arithmetic S.has_minus entries.old.order (fed ++ piece.now) lines.new.text entries.new.list after) }
-    ensures ended { OnErr result ((fed : List ℕ) → IsRead S.arithmetic S.has_minus entries.old.order fed lines.old.text entries.old.list stage
+    ensures ended { OnErr result
+        ((fed : List ℕ) → IsRead S.arithmetic S.has_minus entries.old.order fed lines.old.text entries.old.list stage
         → EndsEntry fed piece.now) }
 {
     let mut stage = stage;
@@ -82,7 +86,8 @@ pub(crate) fn take_end<S: Semiring>(
     requires order { IsMatrixOrder entries.old.order }
     requires stage { IsStage S.has_minus entries.old.order entries.old.list stage }
     ensures order { entries.new.order ≡ entries.old.order }
-    ensures read { IfOk result (λ after. (fed : List ℕ) → IsRead S.arithmetic S.has_minus entries.old.order fed lines.old.text entries.old.list stage
+    ensures read { IfOk result
+        (λ after. (fed : List ℕ) → IsRead S.arithmetic S.has_minus entries.old.order fed lines.old.text entries.old.list stage
         → told (matrix_of_text S.arithmetic S.has_minus entries.old.order fed)
         ≡ told (rest_of S.arithmetic S.has_minus entries.old.order entries.new.list after (length (told_lines lines.new.text) + 1) [])) }
 {

@@ -126,7 +126,8 @@ fn put_matrix<S: Semiring, K: Sink>(
     requires order { IsMatrixOrder entries.now.order }
     requires same { length shape.now ≡ entries.now.order }
     requires below { All (λ entry. IsBelow shape.now entry.coords) entries.now.list }
-    ensures { Prints (K.state sink.old) (K.state sink.new) (matrix_text shape.now (filter (is_nonzero S.arithmetic) entries.now.list)) result }
+    ensures { Prints (K.state sink.old) (K.state sink.new) (matrix_text shape.now (filter (is_nonzero S.arithmetic) entries.now.list))
+        result }
 {
     let ranges = shape.ranges();
     let count = count_nonzero::<S>(entries);
@@ -147,8 +148,10 @@ pub fn put_mtx<S: Semiring, K: Sink>(
     requires same { length shape.now ≡ entries.now.order }
     requires below { All (λ entry. IsBelow shape.now entry.coords) entries.now.list }
     requires increasing { StrictlyIncreasing entries.now.list }
-    ensures whole { OnOk result (Appends (K.state sink.old) (K.state sink.new) (matrix_text shape.now (filter (is_nonzero S.arithmetic) entries.now.list))) }
-    ensures part { IfErr result (AppendsPart (K.state sink.old) (K.state sink.new) (matrix_text shape.now (filter (is_nonzero S.arithmetic) entries.now.list))) }
+    ensures whole { OnOk result
+        (Appends (K.state sink.old) (K.state sink.new) (matrix_text shape.now (filter (is_nonzero S.arithmetic) entries.now.list))) }
+    ensures part { IfErr result
+        (AppendsPart (K.state sink.old) (K.state sink.new) (matrix_text shape.now (filter (is_nonzero S.arithmetic) entries.now.list))) }
 {
     put_matrix::<S, K>(sink, shape, entries)
 }

@@ -71,7 +71,9 @@ fn after_entry<S: Semiring>(
     requires stage { IsStage S.has_minus entries.old.order entries.old.list (Sized lines) }
     ensures order { entries.new.order ≡ entries.old.order }
     ensures stage { IfOk result (λ stage. IsStage S.has_minus entries.old.order entries.new.list stage) }
-    ensures follows { IfOk result (λ stage. Follows S.arithmetic S.has_minus entries.old.order number line.now entries.old.list (Sized lines) entries.new.list stage) }
+    ensures follows { IfOk result
+        (λ stage. Follows S.arithmetic S.has_minus entries.old.order number line.now entries.old.list (Sized lines) entries.new.list
+        stage) }
     ensures known { IfOk result (λ stage. (taken : List (List ℕ)) → IsKnown (Sized lines) taken → IsKnown stage (taken ++ line.now ∷ [])) }
 {
     let mut lines = lines;
@@ -96,7 +98,8 @@ pub(crate) fn after_line<S: Semiring>(
     requires stage { IsStage S.has_minus entries.old.order entries.old.list stage }
     ensures order { entries.new.order ≡ entries.old.order }
     ensures stage { IfOk result (λ after. IsStage S.has_minus entries.old.order entries.new.list after) }
-    ensures follows { IfOk result (λ after. Follows S.arithmetic S.has_minus entries.old.order number line.now entries.old.list stage entries.new.list after) }
+    ensures follows { IfOk result
+        (λ after. Follows S.arithmetic S.has_minus entries.old.order number line.now entries.old.list stage entries.new.list after) }
     ensures known { IfOk result (λ after. (taken : List (List ℕ)) → IsKnown stage taken → IsKnown after (taken ++ line.now ∷ [])) }
     ensures sized { OnErr result (IsSized stage) }
     ensures kept { OnErr result (is_skipped line.now ≡ false) }

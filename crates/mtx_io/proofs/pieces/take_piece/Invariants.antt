@@ -9,7 +9,8 @@ invariant-loop-rest g l = record {
   order : l.entries.order ≡ l.fn.entries.order;
   stage : IsStage g.S.Semiring.has_minus l.fn.entries.order l.entries.list l.stage;
   read : (taken : List ℕ) × (l.fn.piece ≡ taken ++ l.rest)
-      × ((fed : List ℕ) → IsRead g.S.Semiring.arithmetic g.S.Semiring.has_minus l.fn.entries.order fed l.fn.lines.text l.fn.entries.list l.fn.stage
+      × ((fed : List ℕ) → IsRead g.S.Semiring.arithmetic g.S.Semiring.has_minus l.fn.entries.order fed l.fn.lines.text l.fn.entries.list
+      l.fn.stage
       → IsRead g.S.Semiring.arithmetic g.S.Semiring.has_minus l.fn.entries.order (fed ++ taken) l.lines.text l.entries.list l.stage);
 }
 

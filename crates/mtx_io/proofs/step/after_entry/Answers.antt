@@ -11,5 +11,6 @@ returns-in_ok-push_entries-in-Ok-clause-follows g c =
     let order = sym c.requires.stage.1 in
     let pushed : c.push_entries.new.entries.list ≡ c.args.entries.now.list ++ entries_of a c.args.lines.header c.in-Ok.told =
     c.in_ok-push_entries-in-Ok.ensures.ok ∙ (λ i. c.args.entries.now.list ++ entries_by a (symmetry i) (order i) c.in-Ok.told) in
-    entry_taken a g.S.Semiring.has_minus c.args.entries.now.order c.args.number c.args.line.now c.args.entries.now.list c.push_entries.new.entries.list c.args.lines c.take.new.self c.in-Ok.told
+    entry_taken a g.S.Semiring.has_minus c.args.entries.now.order c.args.number c.args.line.now c.args.entries.now.list
+    c.push_entries.new.entries.list c.args.lines c.take.new.self c.in-Ok.told
     c.requires.short c.requires.kept c.in-Ok.ensures.told pushed c.in-Ok.ensures.header c.in-Ok.ensures.left

@@ -17,6 +17,7 @@ returns-in-Ok-clause-matrix g c =
     let counts : c.saturating_add.result ≡ counted (c.number.result + 1) = search rules in
     let read = c.in-Ok.ensures.read inside.fed.bytes (c.self.invariant.read c.if-is_starved.false) in
     let tells = c.answer_at_end.ensures a has_minus number (counts ∙ counts_behind text c.number.result c.number.ensures) in
-    let so = subst (λ (n : ℕ). Tells (told (rest_of a has_minus n entries.list c.in-Ok.stage number [])) n c.answer_at_end.result) c.in-Ok.ensures.order tells in
+    let so = subst (λ (n : ℕ). Tells (told (rest_of a has_minus n entries.list c.in-Ok.stage number [])) n c.answer_at_end.result)
+    c.in-Ok.ensures.order tells in
     subst (λ (r : MtxReader). Tells (told (matrix_of_text a has_minus r.order r.text)) r.order c.answer_at_end.result) c.self.view_is
     (subst (λ (w : Result Matrix BadLine). Tells w inside.entries.order c.answer_at_end.result) (sym read) so)

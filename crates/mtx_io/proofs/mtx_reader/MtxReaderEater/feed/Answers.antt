@@ -17,7 +17,8 @@ invariant_of-self g c =
       order = subst IsMatrixOrder same c.self.invariant.order;
       stage = λ fed. subst (λ (n : ℕ). IsStage has_minus n entries.list stage) same c.in-Ok.ensures.stage;
       read = λ fed.
-          let read = subst (λ (s : Stage). IsRead a has_minus inside.entries.order inside.fed.bytes inside.lines.text inside.entries.list s) (sym c.replace-stage.ensures.value) (c.self.invariant.read fed) in
+          let read = subst (λ (s : Stage). IsRead a has_minus inside.entries.order inside.fed.bytes inside.lines.text
+          inside.entries.list s) (sym c.replace-stage.ensures.value) (c.self.invariant.read fed) in
           let after = c.in-Ok.ensures.read inside.fed.bytes read in
           subst (λ (n : ℕ). IsRead a has_minus n c.extend.new.self.bytes text entries.list stage) same
           (subst (λ (bytes : List ℕ). IsRead a has_minus inside.entries.order bytes text entries.list stage) (sym c.extend.ensures) after);
