@@ -17,7 +17,7 @@ pub enum Bound {
 
 /// A mode of a tensor.
 #[derive(Debug, Clone, Copy)]
-pub(crate) struct Place {
+pub struct Place {
     pub tensor: usize,
     pub mode: usize,
 }
@@ -71,12 +71,9 @@ fn push_places(places: &mut Vec<Place>, access: &Access, var: usize) -> Result<(
     Ok(())
 }
 
-/// The places of a variable in some accesses, in text order.
-pub(crate) fn places_in(
-    alloc: Global,
-    accesses: &[Access],
-    var: usize,
-) -> Result<Vec<Place>, AllocError>
+/// The places of a variable in some accesses, in text order, and those of an access by its modes. Refused only for want
+/// of memory.
+pub fn places_in(alloc: Global, accesses: &[Access], var: usize) -> Result<Vec<Place>, AllocError>
     ensures { IfOk result (λ places. places.items ≡ places_in accesses.now var) }
 {
     let mut places = Vec::new(alloc);

@@ -15,7 +15,7 @@ mod range_fault;
 mod term;
 mod value;
 
-pub use bound::Bound;
+pub use bound::{Bound, Place, places_in};
 pub use group::{Group, Groups};
 pub use grouping::groups;
 pub use laws::{
