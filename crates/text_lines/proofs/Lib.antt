@@ -5,5 +5,6 @@ pub mod LineLaws
 pub mod NumberLaws
 pub mod Parts
 pub mod PrintedLaws
+pub mod PutPieces
 pub mod PutsLemmas
 pub mod TokenLaws
