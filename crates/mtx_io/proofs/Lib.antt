@@ -7,3 +7,4 @@ pub mod PrintedPieces
 pub mod WrittenEntries
 pub mod WrittenLaws
 pub mod EndedEntries
+pub mod BelowSizes

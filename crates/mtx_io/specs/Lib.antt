@@ -8,5 +8,6 @@ pub mod Prints
 pub mod Progress
 pub mod Reader
 pub mod Size
+pub mod SizeLaws
 pub mod Text
 pub mod WrittenLaws

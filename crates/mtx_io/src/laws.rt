@@ -1,5 +1,6 @@
 //! What follows from the definitions, as calls whose contract is the law. They do nothing.
-ghost use Rattle.std.specs.Prelude.{◌≡◌, ℕ, ◌≤◌, Bool, List, All, length, filter, ◌-◌, ◌^◌, ◌++◌, ◌∷◌, [], codes, true, false, Ok, Err};
+ghost use Rattle.std.specs.Prelude.{◌≡◌, ℕ, ◌≤◌, Bool, List, All, length, filter, ◌-◌, ◌^◌, ◌++◌, ◌∷◌, [], codes, true, false};
+ghost use Rattle.std.specs.Prelude.{Ok, Err, IfOk};
 ghost use Rattle.mtx_io.specs.Matrix.{matrix_of_text};
 ghost use Rattle.limits.specs.Limits.{greatest_matrix_size, greatest_file_coordinate, greatest_matrix_entries};
 ghost use Rattle.numbers.specs.Arithmetic.{Arithmetic, Laws};
@@ -7,13 +8,13 @@ ghost use Rattle.numbers.specs.Ring.{ring};
 ghost use Rattle.tensor_map.specs.Entries.{IsEntry, StrictlyIncreasing, is_nonzero, value_at};
 ghost use Rattle.tensor_map.specs.declared.entries.Entry.{Entry};
 ghost use Rattle.mtx_io.specs.Progress.{IsMatrixOrder};
+ghost use Rattle.mtx_io.specs.SizeLaws.{IsOfSizes};
 ghost use Rattle.mtx_io.specs.Text.{IsBelow, IsMatrixText, matrix_text};
 ghost use Rattle.mtx_io.specs.WrittenLaws.{StandsFor};
 ghost use Rattle.mtx_io.specs.declared.line_kind.LineKind.TheVariants.{BadBanner, NoMinus, BadSize, Extra, Truncated, CoordRange};
 ghost use Rattle.mtx_io.specs.declared.line_kind.LineKind.TheVariants.{SkewDiagonal};
 
 /// What small texts stand for: an entry and its mirror image, the places of an array, and the first bad line.
-#[tactic(auto, unfolding(limits::specs::Limits::greatest_line_bytes, limits::specs::Limits::greatest_file_coordinate, limits::specs::Limits::greatest_matrix_size, limits::specs::Limits::greatest_matrix_entries, numbers::specs::Ring::ring, numbers::specs::Ring::word_product))]
 pub fn texts_are_matrices_or_bad()
     ensures symmetric { matrix_of_text ring true 2
         (codes "%%MatrixMarket MATRIX Coordinate Integer Symmetric\n%\n2 2 2\n\n1 2 3\r\n2 2 4\n% end")
@@ -73,4 +74,10 @@ pub fn written_texts_stand_for_their_tensor()
         (is : IsMatrixText a ranges value text) → IsMatrixOrder (length ranges)
         → All (λ range. range ≤ greatest_matrix_size) ranges → All (λ range. range ≤ greatest_file_coordinate) ranges
         → length is.entries ≤ greatest_matrix_entries → StandsFor a ranges value (matrix_of_text a has_minus (length ranges) text) }
+{}
+
+/// The sizes of a matrix are such as a file may have, and its entries are below them.
+pub fn entries_are_below_the_sizes()
+    ensures { (a : Arithmetic) (has_minus : Bool) (order : ℕ) (text : List ℕ) → IsMatrixOrder order
+        → IfOk (matrix_of_text a has_minus order text) (IsOfSizes order) }
 {}

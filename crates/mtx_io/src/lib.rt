@@ -20,8 +20,8 @@ mod step;
 
 pub use file_fault::FileFault;
 pub use laws::{
-    tensors_have_one_text, texts_are_matrices_or_bad, written_entries_are_texts_of_their_tensor,
-    written_texts_stand_for_their_tensor,
+    entries_are_below_the_sizes, tensors_have_one_text, texts_are_matrices_or_bad,
+    written_entries_are_texts_of_their_tensor, written_texts_stand_for_their_tensor,
 };
 pub use line_kind::LineKind;
 pub use mtx_reader::MtxReader;
