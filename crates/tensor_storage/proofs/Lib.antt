@@ -1,8 +1,15 @@
+pub mod AppendSteps
+pub mod Arranging
 pub mod Chains
 pub mod Children
+pub mod Counts
+pub mod ListLaws
 pub mod Located
 pub mod OneKind
 pub mod PackSteps
 pub mod Paths
+pub mod RouteLaws
 pub mod Standing
 pub mod Tables
+pub mod WalkLaws
+pub mod TellLaws

@@ -1,29 +1,36 @@
 -- Levels are packed one below another: what holds after each.
-use Rattle.std.specs.Prelude.{◌≡◌, ℕ, zero, suc, ◌+◌, ◌≤◌, ◌<◌, ◌&&◌, not, Bool, true, false, List, [], ◌∷◌, ◌++◌, length, map, drop, replicate, slice_index, Ok, refl}
+use Rattle.std.specs.Prelude.{◌≡◌, ℕ, zero, suc, ◌+◌, ◌-◌, ◌≤◌, ◌<◌, ◌&&◌, not, Bool, true, false, if◌then◌else◌, List, [], ◌∷◌, ◌++◌, length, map, drop, replicate, slice_index, Some, Ok, Err, refl}
 use Rattle.std.proofs.Common.{◌∙◌, sym, ap, subst, arith, get_or, add-one}
 use Rattle.std.proofs.Math.Path.{fun_ext}
 use Rattle.std.proofs.lemmas.List.{append_assoc, map-append, length-replicate, length-map, get_or-map}
+use Rattle.std.proofs.lemmas.List.Elements.{All-nil, All-push}
 use Rattle.limits.specs.Limits.{greatest_position_count}
+use Rattle.kernel_code.specs.Widths.{slot_width}
 use Rattle.level_core.specs.declared.letter.Letter.{Letter}
 use Rattle.level_core.specs.declared.letter.Letter.TheVariants.{Dense, Compressed, CompressedGroups, Singleton, SingletonGroups, Hashed}
 use Rattle.level_core.specs.Kinds.{properties, capabilities, positions_for}
 use Rattle.level_core.specs.Meaning.{Meaning}
 use Rattle.level_core.specs.Laws.{Laws}
-use Rattle.level_rows.specs.Rows.{rows_at, begun, MayAppendRows, MayInsertRows}
+use Rattle.level_core.specs.Orders.{InOrder}
+use Rattle.level_rows.specs.Rows.{rows_at, begun, IsGreatestBelow, MayAppendRows, MayInsertRows}
 use Rattle.level_rows.specs.Taken.{Takes}
+use Rattle.level_rows.specs.declared.filling.FillRefusal.TheVariants.{TooMany}
 use Rattle.level_rows.specs.Filling.{AreNeeded, MayFill, FillsRows, FillAnswer}
-use Rattle.level_rows.specs.Stacks.{Column}
-use Rattle.level_rows.specs.Tables.{Increase, AreRowsOf}
+use Rattle.level_rows.specs.Stacks.{Column, last_positions}
+use Rattle.level_rows.specs.Tables.{Increase, ShareBy, AreRowsOf}
 use Rattle.level_rows.specs.Growing.{column_of, Growing, IsNext, Grows}
 use Rattle.level_rows.proofs.Growing.{levels_grow}
 use Rattle.format_spec.specs.declared.format.FormatLevel.{FormatLevel}
 use Rattle.format_spec.specs.Formats.{letters_of, Chained, InsertedBelowHashed, IsFormat}
 use Rattle.tensor_storage.specs.Storages.{in_level_order}
+use Rattle.tensor_storage.specs.Built.{IsBuilt, AreBuilt}
 use Rattle.tensor_storage.specs.Chains.{chain_length}
+use Rattle.tensor_storage.specs.Counts.{different, greatest_below, positions_at, positions_from, positions_of, last_of, AreFew}
 use Rattle.tensor_storage.specs.New.{IsNew}
-use Rattle.tensor_storage.specs.Packed.{MayFollow, ArePacked}
+use Rattle.tensor_storage.specs.Packed.{MayFollow, counts_of, ArePacked, IsFirstAbove}
 use Rattle.tensor_storage.specs.Tables.{Table, AreBelow, keys_of}
 use Rattle.tensor_storage.proofs.Chains.{chain_of_unique, chain_of_groups, chain_some, letter_left}
+use Rattle.tensor_storage.proofs.Counts.{begun_is, most_is}
 use Rattle.tensor_storage.proofs.Paths.{coordinate_left}
 use Rattle.tensor_storage.proofs.Tables.{apart, both, joined, rows_are}
 
@@ -38,6 +45,51 @@ appended_ordered CompressedGroups h = refl
 appended_ordered Singleton h = refl
 appended_ordered SingletonGroups h = refl
 appended_ordered Hashed h = apart (sym h)
+
+unordered_sparse : (letter : Letter) → (properties letter).ordered ≡ false → (properties letter).full ≡ false
+unordered_sparse Dense h = apart h
+unordered_sparse Compressed h = refl
+unordered_sparse CompressedGroups h = refl
+unordered_sparse Singleton h = refl
+unordered_sparse SingletonGroups h = refl
+unordered_sparse Hashed h = refl
+
+-- a full level has as many positions whatever is the greatest number below one parent
+full_any : (letter : Letter) (size parents most other : ℕ) → (properties letter).full ≡ true → positions_for letter size parents most ≡ positions_for letter size parents other
+full_any Dense size parents most other h = refl
+full_any Compressed size parents most other h = apart (sym h)
+full_any CompressedGroups size parents most other h = apart (sym h)
+full_any Singleton size parents most other h = apart (sym h)
+full_any SingletonGroups size parents most other h = apart (sym h)
+full_any Hashed size parents most other h = apart (sym h)
+
+yes_is : (b : Bool) (x y : ℕ) → b ≡ true → x ≡ (if b then x else y)
+yes_is true x y h = refl
+yes_is false x y h = apart (sym h)
+
+no_is : (b : Bool) (x y : ℕ) → b ≡ false → y ≡ (if b then x else y)
+no_is true x y h = apart h
+no_is false x y h = refl
+
+pub last_is : (columns : List Column) (parents : ℕ) → last_of parents (counts_of columns) ≡ last_positions columns parents
+last_is [] parents = refl
+last_is (column ∷ columns) parents = last_is columns column.positions
+
+built_push : {L : Type 0} (means : Meaning L) (table : Table) (ls : List L) (ns : List ℕ) (d e parents : ℕ) (l : L) (n : ℕ) → AreBuilt means table d parents ls ns → length ls ≡ e → IsBuilt means table (d + e) (last_of parents ns) n l
+    → AreBuilt means table d parents (ls ++ l ∷ []) (ns ++ n ∷ [])
+built_push means table [] [] d e parents l n are long is = let same : d + e ≡ d = omega (arith, long) in (subst (λ m. IsBuilt means table m parents n l) same is, tt)
+built_push means table [] (m ∷ ns) d e parents l n are long is = absurd are
+built_push means table (k ∷ ls) [] d e parents l n are long is = absurd are
+built_push means table (k ∷ ls) (m ∷ ns) d e parents l n are long is =
+    let one_less : length ls ≡ e - 1 = omega (arith, long) in
+    let same : d + e ≡ suc d + (e - 1) = omega (arith, long) in
+    (are.0, built_push means table ls ns (suc d) (e - 1) m l n are.1 one_less (subst (λ q. IsBuilt means table q (last_of m ns) n l) same is))
+
+as_many_built : {L : Type 0} (means : Meaning L) (table : Table) (ls : List L) (ns : List ℕ) (d parents : ℕ) → AreBuilt means table d parents ls ns → length ns ≡ length ls
+as_many_built means table [] [] d parents are = refl
+as_many_built means table [] (n ∷ ns) d parents are = absurd are
+as_many_built means table (l ∷ ls) [] d parents are = absurd are
+as_many_built means table (l ∷ ls) (n ∷ ns) d parents are = ap suc (as_many_built means table ls ns (suc d) n are.1)
 
 inserted_unique : (letter : Letter) → (capabilities letter).append ≡ false → ((properties letter).unique ≡ true) × ((properties letter).branchless ≡ false)
 inserted_unique Dense h = (refl, refl)
@@ -80,48 +132,99 @@ module _ {L : Type 0} (means : Meaning L) (laws : Laws means) (letters : List Le
     inserts = λ is. (subst (λ s. MayInsertRows s parents (rows_at (keys_of table d n) ps)) (sym new.size_is) (grows.may_insert size (groups_none is) (subst (λ m. AreRowsOf table.coords d m size (rows_at (keys_of table d n) ps)) (next.unique (inserted_unique (means.kind old) is).0) are)), grows.together, new.width is);
   }
 
-  module _ (most : ℕ) (places : List ℕ) (new : L) (kept : means.size old ≡ size) (needed : ℕ) (need : AreNeeded (means.kind old) (means.size old) parents (rows_at (keys_of table d n) ps) needed most)
-      (fills : FillsRows means parents most (rows_at (keys_of table d n) ps) places old new) (ranges_left : drop d sizes ≡ size ∷ drop (suc d) sizes) (rest_is : rest ≡ drop (suc d) letters) where
-    packed : (ordered_then : Bool) → ordered_then ≡ (p.ordered && (properties (means.kind old)).ordered) → (columns : List Column)
-        → Growing means table.coords table.count (suc d) n (not (properties (means.kind old)).unique) ordered_then (levels ++ new ∷ []) columns (slice_index places) needed
-        → Takes means parents needed (rows_at (keys_of table d n) ps) places old new → ArePacked means letters sizes table (suc d) (levels ++ new ∷ []) places needed
-    packed ordered_then o columns growing t = record {
-      columns = columns;
-      above = n;
-      groups = not (properties (means.kind old)).unique;
-      ordered = ordered_then;
-      growing = growing;
-      chained = subst (Chained (not (properties (means.kind old)).unique)) rest_is chained_here.1;
-      deep = λ g. deep_by (properties (means.kind old)).unique refl g;
-      follow = subst (λ b. MayFollow b (drop (suc d) letters)) (sym o) (subst (MayFollow (p.ordered && (properties (means.kind old)).ordered)) rest_is follow_here.1);
-      many = t.many;
-      kinds = subst (λ ls. map means.kind (levels ++ new ∷ []) ++ ls ≡ letters) rest_is (one_more means.kind levels new (means.kind old) rest (drop d letters) letters p.kinds left t.kind);
-      ranges = one_more means.size levels new size (drop (suc d) sizes) (drop d sizes) sizes p.ranges ranges_left (t.size ∙ kept);
-    }
-      where
-        deep_by : (b : Bool) → (properties (means.kind old)).unique ≡ b → not (properties (means.kind old)).unique ≡ true → n ≡ suc d + chain_length (drop (suc d) letters)
-        deep_by true is g = apart (sym g ∙ ap not is)
-        deep_by false is g = let k = chain_of_groups (means.kind old) rest is in let r = ap chain_length rest_is in omega (arith, through, k, r)
+  module _ (most needed : ℕ) (kept : means.size old ≡ size) (need : AreNeeded (means.kind old) (means.size old) parents (rows_at (keys_of table d n) ps) needed most) where
+    greatest_is : (capabilities (means.kind old)).append ≡ false → (properties (means.kind old)).full ≡ false → most ≡ greatest_below table.coords d table.count table.count
+    greatest_is is sparse = most_is table order d parents ps up (subst (λ a. ShareBy table.coords a table.count parents (slice_index ps)) (p.growing.level (groups_none is)) p.growing.share) most
+        (subst (λ m. IsGreatestBelow (rows_at (keys_of table d m) ps) most) (next.unique (inserted_unique (means.kind old) is).0) (need.greatest is sparse))
 
-    -- one level more is packed
-    pub packed_next : ArePacked means letters sizes table (suc d) (levels ++ new ∷ []) places needed
-    packed_next = by_append (capabilities (means.kind old)).append refl
+    -- the positions that are needed are those that the table tells
+    pub needed_is : needed ≡ positions_at table d parents (means.kind old) rest size
+    needed_is = by_append (capabilities (means.kind old)).append refl
       where
-        by_append : (b : Bool) → (capabilities (means.kind old)).append ≡ b → ArePacked means letters sizes table (suc d) (levels ++ new ∷ []) places needed
+        by_full : (b : Bool) → (capabilities (means.kind old)).append ≡ false → (properties (means.kind old)).full ≡ b
+            → positions_for (means.kind old) size parents most ≡ positions_for (means.kind old) size parents (greatest_below table.coords d table.count table.count)
+        by_full true is full = full_any (means.kind old) size parents most (greatest_below table.coords d table.count table.count) full
+        by_full false is sparse = ap (positions_for (means.kind old) size parents) (greatest_is is sparse)
+
+        by_append : (b : Bool) → (capabilities (means.kind old)).append ≡ b → needed ≡ positions_at table d parents (means.kind old) rest size
         by_append true is =
-            let a = fills.appended is in
-            let count : begun (keys_of table d n).first table.count ≡ needed = sym (need.appended is).0 in
-            let both_true = joined p.ordered (properties (means.kind old)).ordered (follow_here.0 is) (appended_ordered (means.kind old) is) in
-            packed p.ordered (follow_here.0 is ∙ sym both_true) (p.columns ++ column_of (keys_of table d n) places needed ∷ [])
-            (subst (λ m. Growing means table.coords table.count (suc d) n (not (properties (means.kind old)).unique) p.ordered (levels ++ new ∷ []) (p.columns ++ column_of (keys_of table d n) places m ∷ []) (slice_index places) m) count
-            (grows.appended n size places old new next are a))
-            (subst (λ m. Takes means parents m (rows_at (keys_of table d n) ps) places old new) count a.takes)
+            (need.appended is).0 ∙ begun_is table.coords order table.count n table.count up (omega arith) ∙ ap (λ m. different table.coords m table.count) through
+            ∙ yes_is (capabilities (means.kind old)).append (different table.coords (d + chain_length (means.kind old ∷ rest)) table.count) (positions_for (means.kind old) size parents (greatest_below table.coords d table.count table.count)) is
         by_append false is =
-            let count : positions_for (means.kind old) (means.size old) parents most ≡ needed = sym (need.inserted is) in
-            let t = subst (λ m. Takes means parents m (rows_at (keys_of table d n) ps) places old new) count (fills.inserted is).takes in
-            packed (p.ordered && (properties (means.kind old)).ordered) refl (p.columns ++ column_of (keys_of table d n) places needed ∷ [])
-            (grows.inserted n size needed places old new (p.ordered && (properties (means.kind old)).ordered) next (groups_none is) (inserted_unique (means.kind old) is).0 (both p.ordered (properties (means.kind old)).ordered) are t)
-            t
+            need.inserted is ∙ ap (λ m. positions_for (means.kind old) m parents most) kept ∙ by_full (properties (means.kind old)).full is refl
+            ∙ no_is (capabilities (means.kind old)).append (different table.coords (d + chain_length (means.kind old ∷ rest)) table.count) (positions_for (means.kind old) size parents (greatest_below table.coords d table.count table.count)) is
+
+    -- what the table tells of the levels from here on
+    pub left_from : drop d sizes ≡ size ∷ drop (suc d) sizes → rest ≡ drop (suc d) letters
+        → positions_from table d parents (drop d letters) (drop d sizes) ≡ needed ∷ positions_from table (suc d) needed (drop (suc d) letters) (drop (suc d) sizes)
+    left_from ranges_left rest_is =
+        ap (λ ls. positions_from table d parents ls (drop d sizes)) left ∙ ap (positions_from table d parents (means.kind old ∷ rest)) ranges_left
+        ∙ ap (λ m. m ∷ positions_from table (suc d) m rest (drop (suc d) sizes)) (sym needed_is) ∙ ap (λ ls. needed ∷ positions_from table (suc d) needed ls (drop (suc d) sizes)) rest_is
+
+    module _ (places : List ℕ) (new : L) (fits : needed ≤ greatest_position_count) (fills : FillsRows means parents most (rows_at (keys_of table d n) ps) places old new) (ranges_left : drop d sizes ≡ size ∷ drop (suc d) sizes)
+        (rest_is : rest ≡ drop (suc d) letters) where
+      packed : (ordered_then : Bool) → ordered_then ≡ (p.ordered && (properties (means.kind old)).ordered)
+          → Growing means table.coords table.count (suc d) n (not (properties (means.kind old)).unique) ordered_then (levels ++ new ∷ []) (p.columns ++ column_of (keys_of table d n) places needed ∷ []) (slice_index places) needed
+          → Takes means parents needed (rows_at (keys_of table d n) ps) places old new → IsBuilt means table d parents needed new → ArePacked means letters sizes table (suc d) (levels ++ new ∷ []) places needed
+      packed ordered_then o growing t built = record {
+        columns = p.columns ++ column_of (keys_of table d n) places needed ∷ [];
+        above = n;
+        groups = not (properties (means.kind old)).unique;
+        ordered = ordered_then;
+        growing = growing;
+        chained = subst (Chained (not (properties (means.kind old)).unique)) rest_is chained_here.1;
+        deep = λ g. deep_by (properties (means.kind old)).unique refl g;
+        follow = subst (λ b. MayFollow b (drop (suc d) letters)) (sym o) (subst (MayFollow (p.ordered && (properties (means.kind old)).ordered)) rest_is follow_here.1);
+        many = t.many;
+        kinds = subst (λ ls. map means.kind (levels ++ new ∷ []) ++ ls ≡ letters) rest_is (one_more means.kind levels new (means.kind old) rest (drop d letters) letters p.kinds left t.kind);
+        ranges = one_more means.size levels new size (drop (suc d) sizes) (drop d sizes) sizes p.ranges ranges_left (t.size ∙ kept);
+        counts = one_more (λ column. column.positions) p.columns (column_of (keys_of table d n) places needed) needed (positions_from table (suc d) needed (drop (suc d) letters) (drop (suc d) sizes))
+            (positions_from table d parents (drop d letters) (drop d sizes)) (positions_from table 0 1 letters sizes) p.counts (left_from ranges_left rest_is) refl;
+        few = subst AreFew (sym pushed) (All-push (λ count. count ≤ greatest_position_count) (counts_of p.columns) needed p.few fits);
+        built = subst (AreBuilt means table 0 1 (levels ++ new ∷ [])) (sym pushed) (built_push means table levels (counts_of p.columns) 0 d 1 new needed p.built p.growing.depth
+            (subst (λ m. IsBuilt means table (0 + d) m needed new) (sym (last_is p.columns 1 ∙ p.growing.parents_are)) (subst (λ m. IsBuilt means table m parents needed new) (sym zero_more) built)));
+      }
+        where
+          zero_more : 0 + d ≡ d
+          zero_more = omega arith
+
+          pushed : counts_of (p.columns ++ column_of (keys_of table d n) places needed ∷ []) ≡ counts_of p.columns ++ needed ∷ []
+          pushed = map-append (λ column. column.positions) p.columns (column_of (keys_of table d n) places needed ∷ [])
+
+          deep_by : (b : Bool) → (properties (means.kind old)).unique ≡ b → not (properties (means.kind old)).unique ≡ true → n ≡ suc d + chain_length (drop (suc d) letters)
+          deep_by true is g = apart (sym g ∙ ap not is)
+          deep_by false is g = let k = chain_of_groups (means.kind old) rest is in let r = ap chain_length rest_is in omega (arith, through, k, r)
+
+      built_here : (t : Takes means parents needed (rows_at (keys_of table d n) ps) places old new)
+          → ((properties (means.kind new)).ordered ≡ false → means.width new ≡ Some (slot_width (greatest_below table.coords d table.count table.count)))
+          → ((properties (means.kind new)).ordered ≡ false → (q : ℕ) → q < parents → InOrder means new q) → IsBuilt means table d parents needed new
+      built_here t width order_is = record { keeps = t.keeps; has_parents = t.stored.has_parents; ends = t.stored.ends; width = width; order = order_is }
+
+      -- one level more is packed
+      pub packed_next : ArePacked means letters sizes table (suc d) (levels ++ new ∷ []) places needed
+      packed_next = by_append (capabilities (means.kind old)).append refl
+        where
+          by_append : (b : Bool) → (capabilities (means.kind old)).append ≡ b → ArePacked means letters sizes table (suc d) (levels ++ new ∷ []) places needed
+          by_append true is =
+              let a = fills.appended is in
+              let count : begun (keys_of table d n).first table.count ≡ needed = sym (need.appended is).0 in
+              let both_true = joined p.ordered (properties (means.kind old)).ordered (follow_here.0 is) (appended_ordered (means.kind old) is) in
+              let t = subst (λ m. Takes means parents m (rows_at (keys_of table d n) ps) places old new) count a.takes in
+              let never = λ (o : (properties (means.kind new)).ordered ≡ false). sym (appended_ordered (means.kind old) is) ∙ sym (ap (λ k. (properties k).ordered) t.kind) ∙ o in
+              packed p.ordered (follow_here.0 is ∙ sym both_true)
+              (subst (λ m. Growing means table.coords table.count (suc d) n (not (properties (means.kind old)).unique) p.ordered (levels ++ new ∷ []) (p.columns ++ column_of (keys_of table d n) places m ∷ []) (slice_index places) m) count
+              (grows.appended n size places old new next are a))
+              t (built_here t (λ o. apart (never o)) (λ o. apart (never o)))
+          by_append false is =
+              let f = fills.inserted is in
+              let count : positions_for (means.kind old) (means.size old) parents most ≡ needed = sym (need.inserted is) in
+              let t = subst (λ m. Takes means parents m (rows_at (keys_of table d n) ps) places old new) count f.takes in
+              let before = λ (o : (properties (means.kind new)).ordered ≡ false). sym (ap (λ k. (properties k).ordered) t.kind) ∙ o in
+              packed (p.ordered && (properties (means.kind old)).ordered) refl
+              (grows.inserted n size needed places old new (p.ordered && (properties (means.kind old)).ordered) next (groups_none is) (inserted_unique (means.kind old) is).0 (both p.ordered (properties (means.kind old)).ordered) are t)
+              t
+              (built_here t (λ o. let sparse = unordered_sparse (means.kind old) (before o) in f.width sparse ∙ ap (λ m. Some (slot_width m)) (greatest_is is sparse))
+              (λ o. f.order (before o)))
 
 -- levels that are appended to and inserted into
 not_both : (letter : Letter) → (capabilities letter).append ≡ true → (capabilities letter).insert ≡ true → ⊥
@@ -154,7 +257,12 @@ follows ordered (letter ∷ letters) pairs none =
     later true false is po h k d within = pairs 0 (suc k) d (omega arith) (omega (arith, within)) (only_hashed letter po)
     later true true is po h k d within = apart (sym (joined ordered (properties letter).ordered is po) ∙ h)
 
-pub zeros : (n i : ℕ) → slice_index (replicate n 0) i ≡ 0
+pub all_same : (n i x : ℕ) → i < n → slice_index (replicate n x) i ≡ x
+all_same zero i x h = absurd (omega (arith, h))
+all_same (suc n) zero x h = refl
+all_same (suc n) (suc i) x h = all_same n i x (omega (arith, h))
+
+zeros : (n i : ℕ) → slice_index (replicate n 0) i ≡ 0
 zeros zero i = refl
 zeros (suc n) zero = refl
 zeros (suc n) (suc i) = zeros n i
@@ -180,6 +288,9 @@ none_packed {L} means laws format sizes table levels ps is none places = subst (
       many = ap length places ∙ length-replicate table.count 0;
       kinds = refl;
       ranges = refl;
+      counts = refl;
+      few = All-nil (λ count. count ≤ greatest_position_count);
+      built = tt;
     }
 
 module _ {L : Type 0} (means : Meaning L) (laws : Laws means) (format : List FormatLevel) (ranges : List ℕ) (table : Table) (up : Increase table.coords (length format) table.count) (below : AreBelow table (in_level_order format ranges))
@@ -209,9 +320,32 @@ module _ {L : Type 0} (means : Meaning L) (laws : Laws means) (format : List For
       let a = e.3 in
       let few = a.0 in let same = a.1 in
       let packed = packed_next means laws (letters_of format) (in_level_order format ranges) (length format) table up level n levels ps parents (slice_index ranges (get_or format level d).mode) old (drop (suc level) (letters_of format)) p left_here through_here below_here
-      e.1 places new is_new.size_is e.0 e.2 a.2 (coordinate_left format ranges level d within) refl in (
+      e.1 e.0 is_new.size_is e.2 places new a.0 a.2 (coordinate_left format ranges level d within) refl in (
         subst (λ m. ArePacked means (letters_of format) (in_level_order format ranges) table m pushed places count) (sym (add-one level))
             (subst (λ ls. ArePacked means (letters_of format) (in_level_order format ranges) table (suc level) ls places count) (sym are)
             (subst (λ m. ArePacked means (letters_of format) (in_level_order format ranges) table (suc level) (levels ++ new ∷ []) places m) (sym same) packed)),
         omega (arith, few, same),
       )
+
+  -- the level is the first that would have more positions than may be
+  pub refused_here : (places : List ℕ) (new : L) (count : ℕ)
+      → (needed : ℕ) × (most : ℕ) × AreNeeded (means.kind old) (means.size old) parents (rows_at (keys_of table level n) ps) needed most × FillAnswer means parents (rows_at (keys_of table level n) ps) needed most ps places old new (Err (TooMany count))
+      → IsFirstAbove (positions_of format ranges table) (level + 1) count
+  refused_here places new count e =
+      let passes = e.3.0 in let told = e.3.1 in
+      let depth = p.growing.depth in
+      let long = counts_long in
+      let here = left_from means laws (letters_of format) (in_level_order format ranges) (length format) table up level n levels ps parents (slice_index ranges (get_or format level d).mode) old (drop (suc level) (letters_of format)) p left_here through_here below_here
+      e.1 e.0 is_new.size_is e.2 (coordinate_left format ranges level d within) refl in
+      record {
+        above = counts_of p.columns;
+        below = positions_from table (suc level) e.0 (drop (suc level) (letters_of format)) (drop (suc level) (in_level_order format ranges));
+        all = subst (λ m. positions_of format ranges table ≡ counts_of p.columns ++ (m ∷ positions_from table (suc level) e.0 (drop (suc level) (letters_of format)) (drop (suc level) (in_level_order format ranges)))) (sym told)
+            (sym p.counts ∙ ap (λ ns. counts_of p.columns ++ ns) here);
+        at = omega (arith, depth, long);
+        few = p.few;
+        passes = omega (arith, passes, told);
+      }
+    where
+      counts_long : length (counts_of p.columns) ≡ length levels
+      counts_long = as_many_built means table levels (counts_of p.columns) 0 1 p.built

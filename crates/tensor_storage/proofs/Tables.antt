@@ -22,7 +22,7 @@ pub joined : (a b : Bool) → a ≡ true → b ≡ true → (a && b) ≡ true
 joined true b h k = k
 joined false b h k = apart (sym h)
 
-agree_tells : (coords : ℕ → ℕ → ℕ) (n i j : ℕ) → agree coords n i j ≡ true → Agree coords n i j
+pub agree_tells : (coords : ℕ → ℕ → ℕ) (n i j : ℕ) → agree coords n i j ≡ true → Agree coords n i j
 agree_tells coords zero i j h d less = absurd (omega (arith, less))
 agree_tells coords (suc n) i j h d less = by_order (agree_tells coords n i j) (both (agree coords n i j) (coords n i == coords n j) h) (cases_lt d n)
   where
@@ -34,7 +34,7 @@ agree_tells coords (suc n) i j h d less = by_order (agree_tells coords n i j) (b
         let same : coords n i ≡ coords n j = grind (arith, nat_tests, eq) in
         subst (λ m. coords m i ≡ coords m j) is same
 
-agree_from : (coords : ℕ → ℕ → ℕ) (n i j : ℕ) → Agree coords n i j → agree coords n i j ≡ true
+pub agree_from : (coords : ℕ → ℕ → ℕ) (n i j : ℕ) → Agree coords n i j → agree coords n i j ≡ true
 agree_from coords zero i j a = refl
 agree_from coords (suc n) i j a =
     let last = a n (omega arith) in

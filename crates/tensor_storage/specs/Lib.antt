@@ -1,9 +1,15 @@
+pub mod Arranged
+pub mod Built
 pub mod Chains
 pub mod Children
+pub mod Counts
 pub mod Laws
 pub mod Levels
 pub mod New
 pub mod Packed
+pub mod Routes
 pub mod Stands
 pub mod Storages
 pub mod Tables
+pub mod Told
+pub mod Walks

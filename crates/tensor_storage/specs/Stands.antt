@@ -7,8 +7,10 @@ use Rattle.level_core.specs.Meaning.{Meaning}
 use Rattle.level_rows.specs.Stacks.{Path}
 use Rattle.format_spec.specs.declared.format.FormatLevel.{FormatLevel}
 use Rattle.format_spec.specs.Formats.{letters_of}
+use Rattle.tensor_storage.specs.Built.{AreBuilt, IsStoredAt, GoesOver}
+use Rattle.tensor_storage.specs.Counts.{positions_from, positions_of, last_of, AreFew}
 use Rattle.tensor_storage.specs.Levels.{meaning}
-use Rattle.tensor_storage.specs.Storages.{Storage, in_level_order}
+use Rattle.tensor_storage.specs.Storages.{Storage, IsOpen, in_level_order}
 use Rattle.tensor_storage.specs.Tables.{Table}
 
 -- the coordinates of a row at the levels from the one numbered d on
@@ -26,21 +28,32 @@ MakesPath table d (letter ∷ letters) (size ∷ sizes) begins (x ∷ xs) =
     × MakesPath table (suc d) letters sizes (λ i. begins i × (table.coords d i ≡ x)) xs
 MakesPath table d _ _ begins _ = ⊥
 
--- the paths of the levels are those that the rows make, each once; each row's value stands where its path ends, and zero at every
--- position where no row's path ends
-pub record Stands {L : Type 0} (means : Meaning L) (letters : List Letter) (sizes : List ℕ)
+-- the levels keep their rules and have as many positions as the rows tell, with one value each at the last; the paths of the levels are
+-- those that the rows make, each once, below each the next level may be asked, and each coordinate that isn't at a dense level is on
+-- one; each row's value stands where its path ends, and zero at every position where no row's path ends, also at the end of a path
+-- whose coordinates no row has
+pub record Stands {L : Type 0} (means : Meaning L) (zero : ℕ) (letters : List Letter) (sizes : List ℕ)
     (table : Table) (levels : List L) (values : List ℕ) : Type 0 where
+  pub built : AreBuilt means table 0 1 levels (positions_from table 0 1 letters sizes)
+  pub many : length values ≡ last_of 1 (positions_from table 0 1 letters sizes)
+  pub opened : IsOpen means levels (length values) (one 0)
   pub made : (xs : List ℕ) (pos : ℕ) → Path means levels (one 0) xs pos → MakesPath table 0 letters sizes (λ i. i < table.count) xs
   pub there : (xs : List ℕ) → MakesPath table 0 letters sizes (λ i. i < table.count) xs → (pos : ℕ) × Path means levels (one 0) xs pos
   pub once : (xs : List ℕ) (pos other : ℕ) → Path means levels (one 0) xs pos → Path means levels (one 0) xs other → pos ≡ other
+  pub alone : (k pos : ℕ) → IsStoredAt means 1 levels (positions_from table 0 1 letters sizes) k pos
+      → (xs : List ℕ) × ((end : ℕ) × Path means levels (one 0) xs end) × GoesOver means levels (one 0) xs k pos
   pub stored : (i pos : ℕ) → i < table.count → Path means levels (one 0) (row_from table.coords i 0 letters) pos
       → slice_index values pos ≡ table.values i
   pub zeros : (pos : ℕ) → pos < length values
       → ((i : ℕ) → i < table.count → Path means levels (one 0) (row_from table.coords i 0 letters) pos → ⊥)
-      → slice_index values pos ≡ 0
+      → slice_index values pos ≡ zero
+  pub unnamed : (xs : List ℕ) (pos : ℕ) → Path means levels (one 0) xs pos
+      → ((i : ℕ) → i < table.count → row_from table.coords i 0 letters ≡ xs → ⊥) → slice_index values pos ≡ zero
 
--- the storage is of this format and these ranges of the modes, and stands for the table
-pub record IsPacked (format : List FormatLevel) (ranges : List ℕ) (table : Table) (storage : Storage) : Type 0 where
+-- the storage is of this format and these ranges of the modes, no level of which has more positions than may be, and stands for
+-- the table
+pub record IsPacked (zero : ℕ) (format : List FormatLevel) (ranges : List ℕ) (table : Table) (storage : Storage) : Type 0 where
   pub format_is : storage.format ≡ format
   pub sizes : map meaning.size storage.levels ≡ in_level_order format ranges
-  pub stands : Stands meaning (letters_of format) (in_level_order format ranges) table storage.levels storage.values
+  pub few : AreFew (positions_of format ranges table)
+  pub stands : Stands meaning zero (letters_of format) (in_level_order format ranges) table storage.levels storage.values

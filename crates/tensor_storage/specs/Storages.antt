@@ -14,6 +14,9 @@ pub record Storage : Type 0 where
   pub levels : List StorageLevel
   pub values : List ℕ
 
+abbrev pub storage_of : List FormatLevel → List StorageLevel → List ℕ → Storage
+storage_of format levels values = record { format = format; levels = levels; values = values }
+
 -- coordinates that stand in the order of the modes, in the order of the levels
 abbrev pub in_level_order : List FormatLevel → List ℕ → List ℕ
 in_level_order format coords = map (λ level. slice_index coords level.mode) format

@@ -57,25 +57,27 @@ pub(crate) fn child_below<L: Level>(level: &L, parent: Span, x: u64) -> Option<S
     }
 }
 
-/// The value at the position where the path with these coordinates ends, which stand in the order of the modes: zero where
+/// The value at the position where the path with these coordinates ends, which stand in the order of the modes, or `absent` where
 /// there is no such path.
 pub(crate) fn value_at<L: Level>(
     levels: &[L],
     format: &[FormatLevel],
     values: &[u64],
     coords: &[u64],
+    absent: u64,
 ) -> u64
     requires deep { length levels.now ≡ length format.now }
     requires modes { All (λ level. level.mode < length coords.now) format.now }
     requires opened { IsOpen L.meaning levels.now (length values.now) (one 0) }
     ensures stored { (pos : ℕ) → Path L.meaning levels.now (one 0) (in_level_order format.now coords.now) pos
         → result ≡ slice_index values.now pos }
-    ensures absent { ((pos : ℕ) → Path L.meaning levels.now (one 0) (in_level_order format.now coords.now) pos → ⊥) → result ≡ 0 }
+    ensures none { ((pos : ℕ) → Path L.meaning levels.now (one 0) (in_level_order format.now coords.now) pos → ⊥)
+        → result ≡ absent }
 {
     let mut span = Span { lo: 0, hi: 1 };
     for depth in 0..levels.len() {
         match child_below(&levels[depth], span, coords[format[depth].mode]) {
-            None => return 0,
+            None => return absent,
             Some(child) => span = child,
         }
     }

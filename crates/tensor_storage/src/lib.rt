@@ -4,15 +4,19 @@
 #![tactic(auto)]
 
 mod appending;
+mod entries;
 mod finding;
 mod inserting;
 mod kind;
+mod laws;
 mod level;
+mod listing;
 mod packing;
 mod reading;
 mod table;
 mod tensor;
 
+pub use laws::packed_tensors_tell_their_entries;
 pub use level::StorageLevel;
 pub use packing::PackRefusal;
 pub use table::RowTable;

@@ -2,8 +2,10 @@ ghost use Rattle.std.specs.Prelude.{◌≡◌, ◌<◌, ◌≤◌, ◌+◌, All,
 ghost use Rattle.limits.specs.Limits.{greatest_position_count};
 ghost use Rattle.format_spec.specs.Formats.{letters_of, IsFormat};
 ghost use Rattle.level_rows.specs.Tables.{Increase};
+ghost use Rattle.tensor_storage.specs.Counts.{positions_of};
 ghost use Rattle.tensor_storage.specs.Packed.{ArePacked, IsRefusal};
-ghost use Rattle.tensor_storage.specs.Storages.{in_level_order};
+ghost use Rattle.tensor_storage.specs.Stands.{IsPacked};
+ghost use Rattle.tensor_storage.specs.Storages.{IsStorage, storage_of, in_level_order};
 ghost use Rattle.tensor_storage.specs.Tables.{AreBelow};
 ghost use Rattle.tensor_storage.specs.Chains.{chain_length};
 ghost use Rattle.tensor_storage.specs.Levels.{meaning};
@@ -16,7 +18,8 @@ use dense_level::DenseLevel;
 use format_spec::FormatLevel;
 use hashed_level::HashedLevel;
 use level_core::{Letter, props_of};
-use level_rows::{FillRefusal, fill_level};
+use level_rows::{FillRefusal, fill_level, store_values};
+use numbers::Semiring;
 use singleton_level::SingletonLevel;
 use std::alloc::{AllocError, Global};
 use trees::Items;
@@ -26,7 +29,7 @@ use trees::Items;
 pub enum PackRefusal {
     /// Memory was wanted.
     Memory,
-    /// A level, of which the top one is number 1, would have so many positions, which pass the limit. Those above it don't.
+    /// The level, of which the top one is number 1, is the first that would have more positions than may be. It would have so many.
     SizeLimit { level: usize, count: u128 },
 }
 
@@ -68,14 +71,14 @@ fn chain_end(format: &[FormatLevel], level: usize) -> usize
 
 /// The levels of a format with the rows of a table, and how many positions the last one has.
 #[derive(Drop)]
-pub(crate) struct PackedLevels {
-    pub(crate) levels: Items<StorageLevel>,
-    pub(crate) positions: u64,
+struct PackedLevels {
+    levels: Items<StorageLevel>,
+    positions: u64,
 }
 
 /// Packs the levels of a format one below another. `sizes` has the ranges of the modes; `places` has a zero for each row, and then
 /// its position at the last level.
-pub(crate) fn pack_levels<T: RowTable>(
+fn pack_levels<T: RowTable>(
     alloc: Global,
     format: &[FormatLevel],
     ranges: &[u64],
@@ -91,7 +94,7 @@ pub(crate) fn pack_levels<T: RowTable>(
     ensures { MatchResult result
         (λ packed. ArePacked meaning (letters_of format.now) (in_level_order format.now ranges.now) (T.table table.now)
         (length format.now) packed.levels places.new packed.positions × (packed.positions ≤ greatest_position_count))
-        (IsRefusal (length format.now)) }
+        (IsRefusal (positions_of format.now ranges.now (T.table table.now))) }
 {
     let mut levels = Items::new(alloc);
     let mut parents = 1;
@@ -125,10 +128,58 @@ pub(crate) fn pack_levels<T: RowTable>(
     })
 }
 
-/// So many zeros. Refused for want of memory alone.
-pub(crate) fn zeros(alloc: Global, count: usize) -> Result<Vec<u64>, AllocError>
-    ensures { IfOk result (λ values. values.items ≡ replicate count 0) }
+/// So many times a value. Refused for want of memory alone.
+fn repeated(alloc: Global, value: u64, count: usize) -> Result<Vec<u64>, AllocError>
+    ensures { IfOk result (λ values. values.items ≡ replicate count value) }
 {
-    let values = vec![in alloc; 0u64; count]?;
+    let values = vec![in alloc; value; count]?;
     Ok(values)
+}
+
+/// The levels of a format with the rows of a table, and the values at the positions of the last one.
+#[derive(Drop)]
+pub(crate) struct PackedTable {
+    pub(crate) levels: Items<StorageLevel>,
+    pub(crate) values: Items<u64>,
+}
+
+/// Packs the rows of a table, which increase in the order of the levels, with the zero of `S` for every other value. `ranges`
+/// has the ranges of the modes.
+pub(crate) fn pack_table<S: Semiring, T: RowTable>(
+    alloc: Global,
+    format: &[FormatLevel],
+    ranges: &[u64],
+    table: &T,
+) -> Result<PackedTable, PackRefusal>
+    requires format { IsFormat format.now }
+    requires ranges { length ranges.now ≡ length format.now }
+    requires small { All (λ range. range ≤ greatest_position_count) ranges.now }
+    requires order { Increase (T.table table.now).coords (length format.now) (T.table table.now).count }
+    requires below { AreBelow (T.table table.now) (in_level_order format.now ranges.now) }
+    ensures { MatchResult result
+        (λ packed. IsPacked S.arithmetic.zero format.now ranges.now (T.table table.now) (storage_of format.now packed.levels packed.values)
+        × IsStorage (storage_of format.now packed.levels packed.values))
+        (IsRefusal (positions_of format.now ranges.now (T.table table.now))) }
+{
+    let Ok(mut places) = repeated(alloc, 0, table.count()) else {
+        return Err(PackRefusal::Memory);
+    };
+    let packed = match pack_levels(alloc, format, ranges, table, &mut places) {
+        Ok(packed) => packed,
+        Err(refusal) => return Err(refusal),
+    };
+    let PackedLevels { levels, positions } = packed;
+    let Ok(mut values) = repeated(alloc, S::zero(), positions as usize) else {
+        return Err(PackRefusal::Memory);
+    };
+    let rows = LevelRows {
+        table,
+        level: 0,
+        through: 0,
+    };
+    store_values(&rows, &places, &mut values);
+    Ok(PackedTable {
+        levels,
+        values: Items::from_vec(values),
+    })
 }

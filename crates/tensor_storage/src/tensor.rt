@@ -1,17 +1,23 @@
-ghost use Rattle.std.specs.Prelude.{◌≡◌, ◌≤◌, ℕ, All, length, slice_index, MatchResult};
+ghost use Rattle.std.specs.Prelude.{◌≡◌, ◌≤◌, ℕ, All, length, slice_index, IfOk, MatchResult};
 ghost use Rattle.limits.specs.Limits.{greatest_position_count};
 ghost use Rattle.level_rows.specs.Tables.{Increase};
+ghost use Rattle.tensor_storage.specs.Counts.{positions_of};
 ghost use Rattle.tensor_storage.specs.Packed.{IsRefusal};
+ghost use Rattle.tensor_map.specs.Entries.{StrictlyIncreasing};
 ghost use Rattle.tensor_storage.specs.Tables.{AreBelow};
 
+use crate::entries::{EntryRows, arrange};
 use crate::finding::value_at;
 use crate::level::StorageLevel;
-use crate::packing::{PackRefusal, PackedLevels, pack_levels, zeros};
-use crate::table::{LevelRows, RowTable};
+use crate::listing::{append_paths, levels_of_modes, sort_entries};
+use crate::packing::{PackRefusal, PackedTable, pack_table};
+use crate::table::RowTable;
 use format_spec::{Format, FormatLevel};
-use level_rows::store_values;
-use std::alloc::Global;
+use level_core::Span;
+use numbers::Semiring;
+use std::alloc::{AllocError, Global};
 use std::marker::Model;
+use tensor_map::{Entries, Shape};
 use trees::Items;
 
 /// A packed tensor: the levels of its format one below another, and a value for each position of the last one.
@@ -33,12 +39,57 @@ impl Model for Tensor {
 }
 
 impl Tensor {
+    ghost use Rattle.tensor_storage.specs.Arranged.{AreInside, IsPackedFrom, IsRefusalOf};
+    ghost use Rattle.tensor_storage.specs.Routes.{ListsPaths};
     ghost use Rattle.tensor_storage.specs.Stands.{IsPacked};
     ghost use Rattle.tensor_storage.specs.Storages.{IsStorage, EndsAt, in_level_order};
 
+    /// Packs the entries of a tensor, which increase in the order of the modes: each is stored, those of value zero too. Every other
+    /// value is the zero of `S`. Refused for want of memory, or exactly where a level would have more positions than may be: the first
+    /// such level is told, and nothing is stored of it. No entry is copied: where their order by the levels is another, their
+    /// numbers are sorted.
+    pub fn pack<S: Semiring>(
+        alloc: Global,
+        format: Format,
+        shape: &Shape,
+        entries: &Entries,
+    ) -> Result<Tensor, PackRefusal>
+        requires shape { length shape.now ≡ length format }
+        requires order { entries.now.order ≡ length format }
+        requires increasing { StrictlyIncreasing entries.now.list }
+        requires inside { AreInside shape.now entries.now.list }
+        ensures { MatchResult result (IsPackedFrom S.arithmetic.zero format shape.now entries.now.list)
+            (IsRefusalOf format shape.now entries.now.list) }
+    {
+        let Ok(numbers) = arrange(alloc, format.levels(), entries) else {
+            return Err(PackRefusal::Memory);
+        };
+        let rows = EntryRows {
+            format: format.levels(),
+            entries,
+            numbers: &numbers,
+        };
+        let packed = match pack_table::<S, EntryRows>(
+            alloc,
+            format.levels(),
+            shape.ranges(),
+            &rows,
+        ) {
+            Ok(packed) => packed,
+            Err(refusal) => return Err(refusal),
+        };
+        let PackedTable { levels, values } = packed;
+        Ok(Tensor {
+            format,
+            levels,
+            values,
+        })
+    }
+
     /// Packs the rows of a table, which increase in the order of the format's levels: each is stored, those of value zero too.
-    /// `ranges` has the range of each mode. Refused for want of memory, or where a level would have more positions than may be.
-    pub fn pack<T: RowTable>(
+    /// Every other value is the zero of `S`. `ranges` has the range of each mode. Refused for want of memory, or exactly where a
+    /// level would have more positions than may be: the first such level is told, and nothing is stored of it.
+    pub fn pack_rows<S: Semiring, T: RowTable>(
         alloc: Global,
         format: Format,
         ranges: &[u64],
@@ -48,29 +99,18 @@ impl Tensor {
         requires small { All (λ range. range ≤ greatest_position_count) ranges.now }
         requires order { Increase (T.table table.now).coords (length format) (T.table table.now).count }
         requires below { AreBelow (T.table table.now) (in_level_order format ranges.now) }
-        ensures { MatchResult result (IsPacked format ranges.now (T.table table.now)) (IsRefusal (length format)) }
+        ensures { MatchResult result (IsPacked S.arithmetic.zero format ranges.now (T.table table.now))
+            (IsRefusal (positions_of format ranges.now (T.table table.now))) }
     {
-        let Ok(mut places) = zeros(alloc, table.count()) else {
-            return Err(PackRefusal::Memory);
-        };
-        let packed = match pack_levels(alloc, format.levels(), ranges, table, &mut places) {
+        let packed = match pack_table::<S, T>(alloc, format.levels(), ranges, table) {
             Ok(packed) => packed,
             Err(refusal) => return Err(refusal),
         };
-        let PackedLevels { levels, positions } = packed;
-        let Ok(mut values) = zeros(alloc, positions as usize) else {
-            return Err(PackRefusal::Memory);
-        };
-        let rows = LevelRows {
-            table,
-            level: 0,
-            through: 0,
-        };
-        store_values(&rows, &places, &mut values);
+        let PackedTable { levels, values } = packed;
         Ok(Tensor {
             format,
             levels,
-            values: Items::from_vec(values),
+            values,
         })
     }
 
@@ -103,17 +143,43 @@ impl Tensor {
         self.values.as_slice()
     }
 
-    /// The value at the coordinates, one a mode: zero where nothing is stored there. It takes no memory.
-    pub fn at(&self, coords: &[u64]) -> u64
+    /// The value at the coordinates, one a mode: the zero of `S` where nothing is stored there. It takes no memory.
+    pub fn at<S: Semiring>(&self, coords: &[u64]) -> u64
         requires { length coords.now ≡ length self.now.format }
         ensures stored { (pos : ℕ) → EndsAt self.now coords.now pos → result ≡ slice_index self.now.values pos }
-        ensures absent { ((pos : ℕ) → EndsAt self.now coords.now pos → ⊥) → result ≡ 0 }
+        ensures absent { ((pos : ℕ) → EndsAt self.now coords.now pos → ⊥) → result ≡ S.arithmetic.zero }
     {
         value_at(
             self.levels.as_slice(),
             self.format.levels(),
             self.values.as_slice(),
             coords,
+            S::zero(),
         )
+    }
+
+    /// The paths as entries that increase, those of value zero too, with the values where they end. `S` is what the values are
+    /// added by, but no two paths have the same coordinates. Refused for want of memory alone.
+    pub fn to_entries<S: Semiring>(&self, alloc: Global) -> Result<Entries, AllocError>
+        ensures { IfOk result (ListsPaths S.arithmetic self.now) }
+    {
+        let places = levels_of_modes(alloc, self.format.levels())?;
+        let mut path = Vec::new(alloc);
+        let mut entries = Entries::new(alloc, self.format.order())?;
+        let top = Span { lo: 0, hi: 1 };
+        let levels = self.levels.as_slice();
+        let values = self.values.as_slice();
+        append_paths(
+            alloc,
+            levels,
+            0,
+            top,
+            values,
+            &places,
+            &mut path,
+            &mut entries,
+        )?;
+        sort_entries::<S>(&mut entries)?;
+        Ok(entries)
     }
 }

@@ -26,8 +26,8 @@ returns-in-None-clause-stored g c = λ pos p. absurd
     (slice_index c.args.coords.now (get_or c.args.format.now c.loop-depth.depth none).mode) c.loop-depth-test.true c.index-levels-depth.is
     (coordinate_left c.args.format.now c.args.coords.now c.loop-depth.depth none (omega arith)) c.loop-depth.invariant (sym c.child_below.ensures ∙ c.in-None.is) pos p)
 
-pub returns-clause-absent : goal.returns-clause-absent
-returns-clause-absent g c = λ no_path.
+pub returns-clause-none : goal.returns-clause-none
+returns-clause-none g c = λ no_path.
     let long : length (in_level_order c.args.format.now c.args.coords.now) ≡ length c.args.levels.now = length-map c.args.format.now (λ level. slice_index c.args.coords.now level.mode) ∙ sym c.requires.deep in
     let all : c.loop-depth.depth ≡ length c.args.levels.now = omega arith in
     absurd (no_path c.loop-depth.span.lo (path_ends g.L.LevelKind.meaning c.args.levels.now (in_level_order c.args.format.now c.args.coords.now) (length c.args.values.now) c.loop-depth.span long

@@ -7,7 +7,7 @@ use Rattle.tensor_storage.specs.Levels.{meaning}
 use Rattle.tensor_storage.specs.Laws.{laws}
 use Rattle.tensor_storage.specs.Storages.{in_level_order}
 use Rattle.tensor_storage.proofs.Paths.{mode_below}
-use Rattle.tensor_storage.proofs.PackSteps.{none_packed, fill_may, fill_next}
+use Rattle.tensor_storage.proofs.PackSteps.{none_packed, fill_may, fill_next, refused_here}
 use Rattle.tensor_storage.proofs.packing.pack_levels.Goals as goal
 
 none : FormatLevel
@@ -41,3 +41,10 @@ unfolding none
 loop-level-preserved g c =
     fill_next meaning laws c.args.format.now c.args.ranges.now (g.T.RowTable.table c.args.table.now) c.requires.order c.requires.below c.loop-level.level none c.loop-level-test.true c.loop-level.levels c.loop-level.places c.loop-level.parents c.loop-level.invariant.0
     c.in-Ok.stored c.chain_end.result c.in-Ok.ensures c.chain_end.ensures c.fill_level.new.positions c.fill_level.new.level c.in-Ok-fill_level.count c.push.new.self c.in-Ok-push.ensures.ok c.in-Ok-fill_level.ensures
+
+pub returns-in-Err-TooMany : goal.returns-in-Err-TooMany
+unfolding none
+returns-in-Err-TooMany g c =
+    rw c.in-Err-TooMany.field-0-is
+    (refused_here meaning laws c.args.format.now c.args.ranges.now (g.T.RowTable.table c.args.table.now) c.requires.order c.requires.below c.loop-level.level none c.loop-level-test.true c.loop-level.levels c.loop-level.places c.loop-level.parents c.loop-level.invariant.0
+    c.in-Ok.stored c.chain_end.result c.in-Ok.ensures c.chain_end.ensures c.fill_level.new.positions c.fill_level.new.level c.in-Err-TooMany.count (rw c.in-Err-TooMany.field-0-is at c.in-Err-TooMany.ensures))

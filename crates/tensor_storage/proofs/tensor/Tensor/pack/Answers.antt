@@ -1,45 +1,44 @@
-use Rattle.std.specs.Prelude.{◌≡◌, length, refl}
-use Rattle.std.proofs.Common.{◌∙◌, sym, ap, subst, arith}
+use Rattle.std.specs.Prelude.{length}
+use Rattle.std.proofs.Common.{◌∙◌, sym, ap, subst}
+use Rattle.format_spec.specs.Formats.{IsFormat}
 use Rattle.level_rows.specs.Tables.{Increase}
-use Rattle.tensor_storage.proofs.Standing.{Done, pack_done, distinct_places, written}
-use Rattle.tensor_storage.proofs.tensor.Tensor.pack.Given as given
+use Rattle.tensor_storage.specs.Arranged.{table_of, AreInside}
+use Rattle.tensor_storage.specs.Counts.{positions_of}
+use Rattle.tensor_storage.specs.Packed.{IsRefusal}
+use Rattle.tensor_storage.specs.Stands.{IsPacked}
+use Rattle.tensor_storage.specs.Storages.{IsStorage, storage_of, in_level_order}
+use Rattle.tensor_storage.specs.Tables.{AreBelow}
+use Rattle.tensor_storage.proofs.Arranging.{same_arranged, rows_below, refused}
 use Rattle.tensor_storage.proofs.tensor.Tensor.pack.Goals as goal
 
-pub pack_levels-requires-clause-order : goal.pack_levels-requires-clause-order
-pack_levels-requires-clause-order g c = subst (λ f. Increase (g.T.RowTable.table c.args.table.now).coords (length f) (g.T.RowTable.table c.args.table.now).count) (sym c.levels.ensures.value) c.requires.order
+pub pack_table-requires-clause-order : goal.pack_table-requires-clause-order
+pack_table-requires-clause-order g c =
+    let a = same_arranged c.levels.result.now c.levels-2.result.now c.args.entries.now.list c.in-Ok.numbers.items c.deref.result.now (c.levels.ensures.value ∙ sym c.levels-2.ensures.value) (sym c.deref.ensures.value) c.in-Ok.ensures in
+    subst (λ f. Increase (table_of c.levels-2.result.now c.args.entries.now.list c.deref.result.now).coords (length f) (length c.deref.result.now)) (c.levels-2.ensures.value ∙ sym c.levels-3.ensures.value) a.order
 
-pub store_values-requires-clause-apart : goal.store_values-requires-clause-apart
-store_values-requires-clause-apart g c =
-    let kept : length c.pack_levels.new.places ≡ length c.in-Ok.places.items = omega (arith, ap length c.deref_mut.ensures.value, c.pack_levels.auto.places) in
-    let all : c.in-Ok.places.len ≡ length c.in-Ok.places.items = omega (arith, ap length c.deref_mut.ensures.value, c.deref_mut.ensures.len) in
-    let places : c.deref.result.now ≡ c.pack_levels.new.places = c.deref.ensures.value ∙ written c.in-Ok.places.len c.pack_levels.new.places c.in-Ok.places.items kept all in
-    distinct_places c.levels.result.now c.args.format c.args.ranges.now (g.T.RowTable.table c.args.table.now) c.in-Ok-pack_levels.packed.levels c.pack_levels.new.places c.deref.result.now c.in-Ok-pack_levels.packed.positions
-    c.levels.ensures.value c.requires.order c.in-Ok-pack_levels.ensures.0 places
-
-done : (g : given.Over) (c : goal.After-from_vec g) → Done c.args.format c.args.ranges.now (g.T.RowTable.table c.args.table.now) c.in-Ok-pack_levels.packed.levels c.from_vec.result
-done g c =
-    let kept : length c.pack_levels.new.places ≡ length c.in-Ok.places.items = omega (arith, ap length c.deref_mut.ensures.value, c.pack_levels.auto.places) in
-    let all : c.in-Ok.places.len ≡ length c.in-Ok.places.items = omega (arith, ap length c.deref_mut.ensures.value, c.deref_mut.ensures.len) in
-    let places : c.deref.result.now ≡ c.pack_levels.new.places = c.deref.ensures.value ∙ written c.in-Ok.places.len c.pack_levels.new.places c.in-Ok.places.items kept all in
-    let kept_values : length c.store_values.new.values ≡ length c.in-Ok-zeros.values.items = omega (arith, ap length c.deref_mut-2.ensures.value, c.store_values.ensures.long) in
-    let all_values : c.in-Ok-zeros.values.len ≡ length c.in-Ok-zeros.values.items = omega (arith, ap length c.deref_mut-2.ensures.value, c.deref_mut-2.ensures.len) in
-    let values : c.from_vec.result ≡ c.store_values.new.values = c.from_vec.ensures ∙ written c.in-Ok-zeros.values.len c.store_values.new.values c.in-Ok-zeros.values.items kept_values all_values in
-    pack_done c.levels.result.now c.args.format c.args.ranges.now (g.T.RowTable.table c.args.table.now) c.in-Ok-pack_levels.packed.levels c.pack_levels.new.places c.deref.result.now c.in-Ok-pack_levels.packed.positions
-    c.deref_mut-2.result.now c.store_values.new.values c.from_vec.result
-    c.levels.ensures.value c.requires.order c.in-Ok-pack_levels.ensures.0 places (c.deref_mut-2.ensures.value ∙ c.in-Ok-zeros.ensures) c.store_values.ensures values
+pub pack_table-requires-clause-below : goal.pack_table-requires-clause-below
+pack_table-requires-clause-below g c =
+    let a = same_arranged c.levels.result.now c.levels-2.result.now c.args.entries.now.list c.in-Ok.numbers.items c.deref.result.now (c.levels.ensures.value ∙ sym c.levels-2.ensures.value) (sym c.deref.ensures.value) c.in-Ok.ensures in
+    subst (λ f. AreBelow (table_of c.levels-2.result.now c.args.entries.now.list c.deref.result.now) (in_level_order f c.ranges-2.result.now)) (c.levels-2.ensures.value ∙ sym c.levels-3.ensures.value)
+    (rows_below c.levels-2.result.now c.args.entries.now.list c.deref.result.now c.ranges-2.result.now (subst IsFormat (sym c.levels-2.ensures.value) c.levels-2.ensures.format)
+    (ap length c.ranges-2.ensures.value ∙ c.requires.shape ∙ ap length (sym c.levels-2.ensures.value)) (subst (λ r. AreInside r c.args.entries.now.list) (sym c.ranges-2.ensures.value) c.requires.inside) a)
 
 pub invariant_of-result : goal.invariant_of-result
-invariant_of-result g c = let d = done g c in record { format = c.levels.ensures.format; letters = d.kinds; opened = d.opened }
+invariant_of-result g c = subst (λ f. IsStorage (storage_of f c.in-Ok-pack_table.packed.levels c.in-Ok-pack_table.packed.values)) c.levels-3.ensures.value c.in-Ok-pack_table.ensures.1
 
 pub returns : goal.returns
-returns g c =
-    let kept : length c.pack_levels.new.places ≡ length c.in-Ok.places.items = omega (arith, ap length c.deref_mut.ensures.value, c.pack_levels.auto.places) in
-    let all : c.in-Ok.places.len ≡ length c.in-Ok.places.items = omega (arith, ap length c.deref_mut.ensures.value, c.deref_mut.ensures.len) in
-    let places : c.deref.result.now ≡ c.pack_levels.new.places = c.deref.ensures.value ∙ written c.in-Ok.places.len c.pack_levels.new.places c.in-Ok.places.items kept all in
-    let kept_values : length c.store_values.new.values ≡ length c.in-Ok-zeros.values.items = omega (arith, ap length c.deref_mut-2.ensures.value, c.store_values.ensures.long) in
-    let all_values : c.in-Ok-zeros.values.len ≡ length c.in-Ok-zeros.values.items = omega (arith, ap length c.deref_mut-2.ensures.value, c.deref_mut-2.ensures.len) in
-    let values : c.from_vec.result ≡ c.store_values.new.values = c.from_vec.ensures ∙ written c.in-Ok-zeros.values.len c.store_values.new.values c.in-Ok-zeros.values.items kept_values all_values in
-    let d : Done c.args.format c.args.ranges.now (g.T.RowTable.table c.args.table.now) c.in-Ok-pack_levels.packed.levels c.from_vec.result = pack_done c.levels.result.now c.args.format c.args.ranges.now (g.T.RowTable.table c.args.table.now) c.in-Ok-pack_levels.packed.levels c.pack_levels.new.places c.deref.result.now c.in-Ok-pack_levels.packed.positions
-    c.deref_mut-2.result.now c.store_values.new.values c.from_vec.result
-    c.levels.ensures.value c.requires.order c.in-Ok-pack_levels.ensures.0 places (c.deref_mut-2.ensures.value ∙ c.in-Ok-zeros.ensures) c.store_values.ensures values in
-    record { format_is = refl; sizes = d.sizes; stands = d.stand }
+returns g c = record {
+  numbers = c.deref.result.now;
+  arranged = same_arranged c.levels.result.now c.args.format c.args.entries.now.list c.in-Ok.numbers.items c.deref.result.now c.levels.ensures.value (sym c.deref.ensures.value) c.in-Ok.ensures;
+  packed = subst (λ f. IsPacked g.S.Semiring.arithmetic.zero c.args.format c.args.shape.now (table_of f c.args.entries.now.list c.deref.result.now) (storage_of c.args.format c.in-Ok-pack_table.packed.levels c.in-Ok-pack_table.packed.values)) c.levels-2.ensures.value
+      (subst (λ r. IsPacked g.S.Semiring.arithmetic.zero c.args.format r (table_of c.levels-2.result.now c.args.entries.now.list c.deref.result.now) (storage_of c.args.format c.in-Ok-pack_table.packed.levels c.in-Ok-pack_table.packed.values)) c.ranges-2.ensures.value
+      (subst (λ f. IsPacked g.S.Semiring.arithmetic.zero f c.ranges-2.result.now (table_of c.levels-2.result.now c.args.entries.now.list c.deref.result.now) (storage_of f c.in-Ok-pack_table.packed.levels c.in-Ok-pack_table.packed.values)) c.levels-3.ensures.value c.in-Ok-pack_table.ensures.0));
+}
+
+pub returns-in-Err : goal.returns-in-Err
+returns-in-Err g c =
+    refused c.args.format c.args.shape.now c.args.entries.now.list c.deref.result.now c.in-Err.refusal
+    (same_arranged c.levels.result.now c.args.format c.args.entries.now.list c.in-Ok.numbers.items c.deref.result.now c.levels.ensures.value (sym c.deref.ensures.value) c.in-Ok.ensures)
+    (subst (λ f. IsRefusal (positions_of c.args.format c.args.shape.now (table_of f c.args.entries.now.list c.deref.result.now)) c.in-Err.refusal) c.levels-2.ensures.value
+    (subst (λ r. IsRefusal (positions_of c.args.format r (table_of c.levels-2.result.now c.args.entries.now.list c.deref.result.now)) c.in-Err.refusal) c.ranges-2.ensures.value
+    (subst (λ f. IsRefusal (positions_of f c.ranges-2.result.now (table_of c.levels-2.result.now c.args.entries.now.list c.deref.result.now)) c.in-Err.refusal) c.levels-3.ensures.value c.in-Err.ensures)))

@@ -1,0 +1,117 @@
+// The entries of a tensor as rows for the levels of a format.
+ghost use Rattle.std.specs.Prelude.{◌≡◌, ◌≤◌, ◌<◌, length, slice_index, All, IfOk, true};
+ghost use Rattle.std.specs.Ordering.{nat_cmp, is_lt};
+ghost use Rattle.std.specs.Cmp.Lexicographic.{slice_cmp};
+ghost use Rattle.std.specs.List.{range_with_len};
+ghost use Rattle.std.specs.List.Sorted.{IsSortedBy};
+ghost use Rattle.format_spec.specs.Formats.{IsFormat};
+ghost use Rattle.tensor_map.specs.Entries.{StrictlyIncreasing};
+ghost use Rattle.tensor_storage.specs.Arranged.{level_coords, table_of, AreArranged};
+
+use crate::table::RowTable;
+use format_spec::FormatLevel;
+use std::alloc::{AllocError, Global};
+use std::cmp::Ordering;
+use tensor_map::Entries;
+
+/// The coordinate at a level of the entry of this number: zero where there is no such level or entry.
+fn coordinate(format: &[FormatLevel], entries: &Entries, level: usize, number: usize) -> u64
+    ensures { result ≡ slice_index (level_coords format.now entries.now.list number) level }
+{
+    if number >= entries.len() {
+        return 0;
+    }
+    if level >= format.len() {
+        return 0;
+    }
+    let coords = entries.coords(number);
+    let mode = format[level].mode;
+    if mode < coords.len() { coords[mode] } else { 0 }
+}
+
+/// How two entries stand to one another by their coordinates, level by level.
+fn compare_entries(format: &[FormatLevel], entries: &Entries, left: usize, right: usize) -> Ordering
+    ensures { result ≡ slice_cmp nat_cmp (level_coords format.now entries.now.list left) (level_coords format.now entries.now.list right) }
+{
+    for level in 0..format.len() {
+        let here = coordinate(format, entries, level, left);
+        let there = coordinate(format, entries, level, right);
+        match here.cmp(&there) {
+            Ordering::Equal => {}
+            unequal => return unequal,
+        }
+    }
+    Ordering::Equal
+}
+
+/// Whether no entry stands behind the next by the coordinates, level by level, in the order in which the numbers name them.
+fn are_in_order(format: &[FormatLevel], entries: &Entries, numbers: &[usize]) -> bool
+    ensures { result ≡ true → IsSortedBy (λ left right. is_lt (slice_cmp nat_cmp (level_coords format.now entries.now.list left)
+        (level_coords format.now entries.now.list right))) numbers.now }
+{
+    for next in 1..numbers.len() {
+        if compare_entries(format, entries, numbers[next], numbers[next - 1]) == Ordering::Less {
+            return false;
+        }
+    }
+    true
+}
+
+/// The numbers from 0 on, so many. Refused for want of memory alone.
+fn numbers_below(alloc: Global, count: usize) -> Result<Vec<usize>, AllocError>
+    ensures { IfOk result (λ numbers. numbers.items ≡ range_with_len 0 count) }
+{
+    let mut numbers = Vec::new(alloc);
+    for number in 0..count {
+        numbers.push(number)?;
+    }
+    Ok(numbers)
+}
+
+/// The numbers of the entries in the order of their coordinates, level by level. Refused for want of memory alone.
+pub(crate) fn arrange(
+    alloc: Global,
+    format: &[FormatLevel],
+    entries: &Entries,
+) -> Result<Vec<usize>, AllocError>
+    requires format { IsFormat format.now }
+    requires order { entries.now.order ≡ length format.now }
+    requires increasing { StrictlyIncreasing entries.now.list }
+    ensures { IfOk result (λ numbers. AreArranged format.now entries.now.list numbers.items) }
+{
+    let mut numbers = numbers_below(alloc, entries.len())?;
+    if are_in_order(format, entries, &numbers) {
+        return Ok(numbers);
+    }
+    numbers.sort_by(|left, right| compare_entries(format, entries, *left, *right))?;
+    Ok(numbers)
+}
+
+/// The entries of a tensor as the rows of a table, in the order in which the numbers name them.
+#[derive(Drop)]
+pub(crate) struct EntryRows<'a> {
+    pub(crate) format: &'a [FormatLevel],
+    pub(crate) entries: &'a Entries,
+    pub(crate) numbers: &'a [usize],
+}
+
+impl<'a> RowTable for EntryRows<'a> {
+    ghost table = { λ rows. table_of rows.format.now rows.entries.now.list rows.numbers.now };
+
+    fn count(&self) -> usize {
+        self.numbers.len()
+    }
+
+    fn coord(&self, level: usize, row: usize) -> u64 {
+        coordinate(self.format, self.entries, level, self.numbers[row])
+    }
+
+    fn value(&self, row: usize) -> u64 {
+        let number = self.numbers[row];
+        if number < self.entries.len() {
+            self.entries.value(number)
+        } else {
+            0
+        }
+    }
+}

@@ -1,0 +1,10 @@
+//! What follows for packed tensors, as calls whose contracts are the laws. They do nothing.
+ghost use Rattle.tensor_storage.specs.Told.{PackedTellEntries};
+
+use numbers::Semiring;
+
+/// A tensor that is packed from entries has at each coordinate list the value that they have there, and a path for each
+/// coordinate list that they name.
+pub fn packed_tensors_tell_their_entries<S: Semiring>()
+    ensures { PackedTellEntries S.arithmetic }
+{}
