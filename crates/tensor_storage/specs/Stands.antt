@@ -28,10 +28,10 @@ MakesPath table d (letter ∷ letters) (size ∷ sizes) begins (x ∷ xs) =
     × MakesPath table (suc d) letters sizes (λ i. begins i × (table.coords d i ≡ x)) xs
 MakesPath table d _ _ begins _ = ⊥
 
--- the levels keep their rules, store the rows and have as many positions as these tell, with one value each at the last; the paths of the levels are
--- those that the rows make, each once, below each the next level may be asked, and each coordinate that isn't at a dense level is on
--- one; each row's value stands where its path ends, and zero at every position where no row's path ends, also at the end of a path
--- whose coordinates no row has
+-- the levels keep their rules, store the rows and have as many positions as these tell, with one value each at the last; the paths of
+-- the levels are those that the rows make, each once, below each the next level may be asked, and each coordinate that isn't at a
+-- dense level is on one; each row's value stands where its path ends, and zero at every position where no row's path ends, also
+-- at the end of a path whose coordinates no row has
 pub record Stands {L : Type 0} (means : Meaning L) (zero : ℕ) (letters : List Letter) (sizes : List ℕ)
     (table : Table) (levels : List L) (values : List ℕ) : Type 0 where
   pub columns : List Column
