@@ -1,5 +1,6 @@
 -- Lemmas about what specs/CodeLaws.antt defines.
-use Rattle.std.specs.Prelude.{◌≡◌, ◌≢◌, ℕ, ◌+◌, ◌-◌, ◌≤◌, ◌<◌, ◌^◌, nat_lt, Bool, true, false, if◌then◌else◌, List, [], ◌∷◌, ◌++◌, length, take, replicate, slice_get, slice_set, Some, refl}
+use Rattle.std.specs.Prelude.{◌≡◌, ◌≢◌, ℕ, ◌+◌, ◌-◌, ◌≤◌, ◌<◌, ◌^◌, nat_lt, Bool, true, false, if◌then◌else◌, List, [], ◌∷◌, ◌++◌, length}
+use Rattle.std.specs.Prelude.{take, replicate, slice_get, slice_set, Some, refl}
 use Rattle.std.proofs.Common.{◌∙◌, sym, ap, arith}
 use Rattle.std.proofs.lemmas.Bool.Decides.{nat_tests}
 use Rattle.std.proofs.lemmas.List.{append-nil}
@@ -21,7 +22,8 @@ use Rattle.level_core.specs.declared.span.Span.{Span}
 use Rattle.level_core.specs.declared.span.Entry.{Entry}
 use Rattle.level_core.specs.declared.stage.Stage.TheVariants.{Unfinished, Finished}
 use Rattle.level_core.specs.Logs.{Log, total, with_parents, with_coord, with_edges, CodeMayReserve, MayAppend, MayAppendEdges}
-use Rattle.level_core.specs.Fragments.{AreBelow, ValuesAre, IsOutside, Reads, Writes, Grows, RefusedWithin, SpanLeft, PassesLimit, child_turns, turns_of}
+use Rattle.level_core.specs.Fragments.{AreBelow, ValuesAre, IsOutside, Reads, Writes, Grows, RefusedWithin, SpanLeft, PassesLimit}
+use Rattle.level_core.specs.Fragments.{child_turns, turns_of}
 use Rattle.level_core.specs.FragmentLaws.{two_code}
 use Rattle.level_core.proofs.FragmentLaws.{outside_apart, argument_is, span_set}
 use Rattle.kernel_code.proofs.Words.{word_is, sum_is, difference_is, less_yes, less_no}
@@ -39,10 +41,12 @@ reserved l parents = logged l (with_parents (letter_of l.unique) parents l.log)
 
 -- what reserving leaves, where the parents are within the limit
 abbrev pub Reserves : CompressedLevel → ℕ → ℕ → ℕ → State → Type 0
-Reserves l parents tensor level t = HoldsLog meaning l (with_parents (letter_of l.unique) parents l.log) tensor level t × (parents ≤ greatest_position_count)
+Reserves l parents tensor level t = HoldsLog meaning l (with_parents (letter_of l.unique) parents l.log) tensor level t
+    × (parents ≤ greatest_position_count)
 
 -- where a parent's positions begin and end is left
-pub segment_does : (c : Setting) (l : CompressedLevel) (tensor level free : ℕ) (parent : Span) (args : List KExpr) (a b : KExpr) (s : State) → slice_get args 0 ≡ Some a → slice_get args 1 ≡ Some b → AreBelow free args
+pub segment_does : (c : Setting) (l : CompressedLevel) (tensor level free : ℕ) (parent : Span) (args : List KExpr) (a b : KExpr)
+    (s : State) → slice_get args 0 ≡ Some a → slice_get args 1 ≡ Some b → AreBelow free args
     → IsAllowed l parent → Holds l tensor level s.arrays → ValuesAre args s (parent.lo ∷ parent.hi ∷ [])
     → Reads c (two_code free (At (Ends tensor level) a) (At (Ends tensor level) b)) free no_turns s (SpanLeft free (segment_of l parent))
 segment_does c l tensor level free parent args a b s first second below ok held values =
@@ -50,21 +54,25 @@ segment_does c l tensor level free parent args a b s first second below ok held 
     let y = argument_is args b free 1 parent.hi (parent.lo ∷ parent.hi ∷ []) s second refl below values in
     let single = ok.single in
     span_set c free (segment_of l parent) (At (Ends tensor level) a) (At (Ends tensor level) b) s
-    (word_is (Ends tensor level) a (ends_of l.log.stage l.log.counts) parent.lo (total (take parent.lo l.log.counts)) s held.ends x.0 (end_is l parent parent.lo ok (omega (arith, single))))
-    (word_is (Ends tensor level) b (ends_of l.log.stage l.log.counts) parent.hi (total (take parent.hi l.log.counts)) s held.ends y.0 (end_is l parent parent.hi ok (omega arith)))
+    (word_is (Ends tensor level) a (ends_of l.log.stage l.log.counts) parent.lo (total (take parent.lo l.log.counts)) s held.ends x.0
+    (end_is l parent parent.lo ok (omega (arith, single))))
+    (word_is (Ends tensor level) b (ends_of l.log.stage l.log.counts) parent.hi (total (take parent.hi l.log.counts)) s held.ends y.0
+    (end_is l parent parent.hi ok (omega arith)))
     (mentions_at (λ y. y < free) EveryArray (Ends tensor level) b tt y.1)
 
 outside_ends : (level : ℕ) (a : Arr) → IsOutside 0 level a → same_arr (Ends 0 level) a ≡ false
 outside_ends level a out = outside_apart 0 level (Ends 0 level) a (refl, refl) out
 
 -- the level that a state with other segment ends holds
-holds_ends : (l m : CompressedLevel) (level : ℕ) (s : State) (xs : List ℕ) → Holds l 0 level s.arrays → xs ≡ ends_of m.log.stage m.log.counts → m.log.coords ≡ l.log.coords → Holds m 0 level (set_array s (Ends 0 level) xs).arrays
+holds_ends : (l m : CompressedLevel) (level : ℕ) (s : State) (xs : List ℕ) → Holds l 0 level s.arrays
+    → xs ≡ ends_of m.log.stage m.log.counts → m.log.coords ≡ l.log.coords → Holds m 0 level (set_array s (Ends 0 level) xs).arrays
 holds_ends l m level s xs h e coords = record {
   ends = this_array s (Ends 0 level) (Ends 0 level) xs (same_arr_self (Ends 0 level)) ∙ ap Some e;
   coords = other_array s (Ends 0 level) (Coordinates 0 level) xs refl ∙ h.coords ∙ ap Some (sym coords);
 }
 
-reserved_counts : (l : CompressedLevel) (parents more : ℕ) → more ≡ parents - length l.log.counts → l.log.stage ≢ Finished → ends_of l.log.stage l.log.counts ++ replicate more 0 ≡ ends_of Unfinished (reserved l parents).log.counts
+reserved_counts : (l : CompressedLevel) (parents more : ℕ) → more ≡ parents - length l.log.counts → l.log.stage ≢ Finished
+    → ends_of l.log.stage l.log.counts ++ replicate more 0 ≡ ends_of Unfinished (reserved l parents).log.counts
 reserved_counts l parents more h f =
     ap (λ xs. xs ++ replicate more 0) (ends_are l.log.stage l.log.counts f) ∙ ap (λ n. 0 ∷ (l.log.counts ++ replicate n 0)) h
     ∙ ap (λ z. 0 ∷ (l.log.counts ++ replicate (parents - length l.log.counts) z)) (sym (ungiven_is l.unique))
@@ -73,7 +81,9 @@ ends_length : (l : CompressedLevel) → l.log.stage ≢ Finished → length (end
 ends_length l f = ap length (ends_are l.log.stage l.log.counts f) ∙ omega arith
 
 -- the state that keeps the level with room for more parents
-reserves : (l : CompressedLevel) (level parents more : ℕ) (s : State) (xs : List ℕ) → xs ≡ ends_of l.log.stage l.log.counts ++ replicate more 0 → more ≡ parents - length l.log.counts → parents ≤ greatest_position_count → l.log.stage ≢ Finished → KeepsRules l
+reserves : (l : CompressedLevel) (level parents more : ℕ) (s : State) (xs : List ℕ)
+    → xs ≡ ends_of l.log.stage l.log.counts ++ replicate more 0 → more ≡ parents - length l.log.counts → parents ≤ greatest_position_count
+    → l.log.stage ≢ Finished → KeepsRules l
     → s.arrays (Ends 0 level) ≡ Some xs → s.arrays (Coordinates 0 level) ≡ Some l.log.coords → Reserves l parents 0 level s
 reserves l level parents more s xs are count within reservable k ends coords = (
   record {
@@ -94,7 +104,8 @@ ends_beyond : (level n : ℕ) → may_have (Ends 0 level) n ≡ false → greate
 ends_beyond level n h = grind (arith, nat_tests, h)
 
 -- zeros behind the segment ends, or the refusal of more parents than the limit
-more_ends : (c : Setting) (l : CompressedLevel) (level free parents : ℕ) (e : KExpr) (s : State) → KeepsRules l → l.log.stage ≢ Finished → Holds l 0 level s.arrays → length l.log.counts ≤ parents → value e s ≡ Some (parents - length l.log.counts)
+more_ends : (c : Setting) (l : CompressedLevel) (level free parents : ℕ) (e : KExpr) (s : State) → KeepsRules l → l.log.stage ≢ Finished
+    → Holds l 0 level s.arrays → length l.log.counts ≤ parents → value e s ≡ Some (parents - length l.log.counts)
     → Grows c (Extend (Ends 0 level) e (Num 0) ∷ []) free 0 level no_turns s (Reserves l parents 0 level) (PassesLimit 0 level parents)
 more_ends c l level free parents e s k reservable held fewer more_is =
     let more : ℕ = parents - length l.log.counts in
@@ -103,14 +114,27 @@ more_ends c l level free parents e s k reservable held fewer more_is =
     let long = ends_length l reservable in
     let size : length xs + more ≡ parents + 1 = omega (arith, long, fewer) in
     does_extend c (Ends 0 level) e (Num 0) [] s more 0 xs _ R more_is refl refl held.ends
-    (λ may. let some = ends_within level (length xs + more) may in does_nothing c (set_array s (Ends 0 level) (xs ++ replicate more 0)) _ R (
-      leaves_array _ (IsOutside 0 level) free no_turns s s (Ends 0 level) (xs ++ replicate more 0) (outside_ends level) (leaves_none _ (IsOutside 0 level) free no_turns s),
-      reserves l level parents more (set_array s (Ends 0 level) (xs ++ replicate more 0)) (xs ++ replicate more 0) refl refl (omega (arith, some, size)) reservable k (this_array s (Ends 0 level) (Ends 0 level) (xs ++ replicate more 0) (same_arr_self (Ends 0 level))) (other_array s (Ends 0 level) (Coordinates 0 level) (xs ++ replicate more 0) refl ∙ held.coords),
+    (λ may. let some = ends_within level (length xs + more) may in
+    does_nothing c (set_array s (Ends 0 level) (xs ++ replicate more 0)) _ R (
+      leaves_array _ (IsOutside 0 level) free no_turns s s (Ends 0 level) (xs
+          ++ replicate more 0) (outside_ends level) (leaves_none _ (IsOutside 0 level) free no_turns s),
+      reserves l level parents more (set_array s (Ends 0 level) (xs ++ replicate more 0)) (xs
+          ++ replicate more 0) refl refl (omega (arith, some, size)) reservable k
+          (this_array s (Ends 0 level) (Ends 0 level) (xs ++ replicate more 0) (same_arr_self (Ends 0 level)))
+          (other_array s (Ends 0 level) (Coordinates 0 level) (xs ++ replicate more 0) refl ∙ held.coords),
     ))
-    (λ no. let many = ends_beyond level (length xs + more) no in
-    (λ k. omega arith, record { array = (refl, refl); told = ap word_count (ap (λ n. n - 1) size ∙ omega arith); above = omega (arith, many, size) }))
+    (λ no. let many = ends_beyond level (length xs + more) no in (
+      λ k. omega arith,
+      record {
+        array = (refl, refl);
+        told = ap word_count (ap (λ n. n - 1) size ∙ omega arith);
+        above =
+            omega (arith, many, size);
+      },
+    ))
 
-pub reserve_does : (c : Setting) (l : CompressedLevel) (level free n parents : ℕ) (args : List KExpr) (p : KExpr) (s : State) → slice_get args 1 ≡ Some p → AreBelow free args
+pub reserve_does : (c : Setting) (l : CompressedLevel) (level free n parents : ℕ) (args : List KExpr) (p : KExpr) (s : State)
+    → slice_get args 1 ≡ Some p → AreBelow free args
     → KeepsRules l → CodeMayReserve (letter_of l.unique) parents l.log → Holds l 0 level s.arrays → ValuesAre args s (n ∷ parents ∷ [])
     → Grows c (reserve_code level p) free 0 level no_turns s (Reserves l parents 0 level) (PassesLimit 0 level parents)
 reserve_does c l level free n parents args p s second below k m held values = by_test (nat_lt parents (length l.log.counts + 1)) refl
@@ -128,29 +152,40 @@ reserve_does c l level free n parents args p s second below k m held values = by
     long = ap length_of held.ends ∙ ap Some (ends_length l m.reservable)
 
     there : value (Bin Sub (Len (Ends 0 level)) (Num 1)) s ≡ Some (length l.log.counts)
-    there = difference_is (Len (Ends 0 level)) (Num 1) (length l.log.counts + 1) 1 s long refl (omega (arith, few, positions_are_small)) (omega arith) ∙ ap Some (omega arith)
+    there = difference_is (Len (Ends 0 level)) (Num 1) (length l.log.counts + 1) 1 s long refl (omega (arith, few, positions_are_small))
+        (omega arith) ∙ ap Some (omega arith)
 
-    by_test : (b : Bool) → nat_lt parents (length l.log.counts + 1) ≡ b → Grows c (reserve_code level p) free 0 level no_turns s (Reserves l parents 0 level) (PassesLimit 0 level parents)
+    by_test : (b : Bool) → nat_lt parents (length l.log.counts + 1) ≡ b
+        → Grows c (reserve_code level p) free 0 level no_turns s (Reserves l parents 0 level) (PassesLimit 0 level parents)
     by_test true is =
         let enough : parents ≤ length l.log.counts = grind (arith, nat_tests, is) in
-        let same : ends_of l.log.stage l.log.counts ≡ ends_of l.log.stage l.log.counts ++ replicate 0 0 = sym (append-nil (ends_of l.log.stage l.log.counts)) in
+        let same : ends_of l.log.stage l.log.counts ≡ ends_of l.log.stage l.log.counts
+        ++ replicate 0 0 = sym (append-nil (ends_of l.log.stage l.log.counts)) in
         does_if_yes c (Bin Less p (Len (Ends 0 level))) [] _ [] s 0 _ _ (RefusedWithin no_turns s (PassesLimit 0 level parents))
         (less_yes p (Len (Ends 0 level)) parents (length l.log.counts + 1) s at long (omega (arith, enough)))
-        (does_nothing c s _ (RefusedWithin no_turns s (PassesLimit 0 level parents)) (leaves_none _ (IsOutside 0 level) free no_turns s, reserves l level parents 0 s (ends_of l.log.stage l.log.counts) same (omega (arith, enough)) (omega (arith, enough, few)) m.reservable k held.ends held.coords))
+        (does_nothing c s _ (RefusedWithin no_turns s (PassesLimit 0 level parents)) (
+          leaves_none _ (IsOutside 0 level) free no_turns s,
+          reserves l level parents 0 s (ends_of l.log.stage l.log.counts) same
+              (omega (arith, enough)) (omega (arith, enough, few)) m.reservable k held.ends held.coords,
+        ))
         (λ t h. does_nothing c t _ (RefusedWithin no_turns s (PassesLimit 0 level parents)) h)
     by_test false is =
         let fewer : length l.log.counts < parents = grind (arith, nat_tests, is) in
         does_if_no c (Bin Less p (Len (Ends 0 level))) [] _ [] s _ _ (RefusedWithin no_turns s (PassesLimit 0 level parents))
         (less_no p (Len (Ends 0 level)) parents (length l.log.counts + 1) s at long (omega (arith, fewer)))
-        (more_ends c l level free parents (Bin Sub p (Bin Sub (Len (Ends 0 level)) (Num 1))) s k m.reservable held (omega (arith, fewer)) (difference_is p (Bin Sub (Len (Ends 0 level)) (Num 1)) parents (length l.log.counts) s at there word (omega (arith, fewer))))
+        (more_ends c l level free parents (Bin Sub p (Bin Sub (Len (Ends 0 level)) (Num 1))) s k m.reservable held (omega (arith, fewer))
+        (difference_is p (Bin Sub (Len (Ends 0 level)) (Num 1)) parents (length l.log.counts) s at there word (omega (arith, fewer))))
         (λ t h. does_nothing c t _ (RefusedWithin no_turns s (PassesLimit 0 level parents)) h)
 
 abbrev given : CompressedLevel → ℕ → ℕ → ℕ → CompressedLevel
 given l parent begin end = logged l (with_edges (letter_of l.unique) parent begin end l.log)
 
-given_ends : (l : CompressedLevel) (parent begin end : ℕ) → l.log.stage ≡ Unfinished → slice_set (ends_of l.log.stage l.log.counts) (parent + 1) (end - begin) ≡ ends_of (given l parent begin end).log.stage (given l parent begin end).log.counts
+given_ends : (l : CompressedLevel) (parent begin end : ℕ) → l.log.stage ≡ Unfinished
+    → slice_set (ends_of l.log.stage l.log.counts) (parent + 1) (end - begin) ≡ ends_of (given l parent begin end).log.stage
+    (given l parent begin end).log.counts
 given_ends l parent begin end u =
-    ap (λ xs. slice_set xs (parent + 1) (end - begin)) (ends_are l.log.stage l.log.counts (unfinished_ends l.log.stage u)) ∙ set_behind l.log.counts parent (end - begin)
+    ap (λ xs. slice_set xs (parent + 1) (end - begin)) (ends_are l.log.stage l.log.counts (unfinished_ends l.log.stage u))
+    ∙ set_behind l.log.counts parent (end - begin)
     ∙ sym (ends_are l.log.stage (slice_set l.log.counts parent (end - begin)) (unfinished_ends l.log.stage u))
     ∙ ap (λ log. ends_of log.stage log.counts) (sym (edges_are l.unique parent begin end l.log))
 
@@ -158,9 +193,12 @@ given_coords : (unique : Bool) (parent begin end : ℕ) (log : Log) → (with_ed
 given_coords true parent begin end log = refl
 given_coords false parent begin end log = refl
 
-pub edges_does : (c : Setting) (l : CompressedLevel) (level free parent begin end : ℕ) (args : List KExpr) (p b e : KExpr) (s : State) → slice_get args 0 ≡ Some p → slice_get args 1 ≡ Some b → slice_get args 2 ≡ Some e → AreBelow free args
-    → KeepsRules l → MayAppendEdges (letter_of l.unique) parent begin end l.log → Holds l 0 level s.arrays → ValuesAre args s (parent ∷ begin ∷ end ∷ [])
-    → Writes c (edges_code level p b e) free 0 level no_turns s (HoldsLog meaning l (with_edges (letter_of l.unique) parent begin end l.log) 0 level)
+pub edges_does : (c : Setting) (l : CompressedLevel) (level free parent begin end : ℕ) (args : List KExpr) (p b e : KExpr) (s : State)
+    → slice_get args 0 ≡ Some p → slice_get args 1 ≡ Some b → slice_get args 2 ≡ Some e → AreBelow free args
+    → KeepsRules l → MayAppendEdges (letter_of l.unique) parent begin end l.log → Holds l 0 level s.arrays
+    → ValuesAre args s (parent ∷ begin ∷ end ∷ [])
+    → Writes c (edges_code level p b e) free 0 level no_turns s
+    (HoldsLog meaning l (with_edges (letter_of l.unique) parent begin end l.log) 0 level)
 edges_does c l level free parent begin end args p b e s first second third below k m held values =
     let x = argument_is args p free 0 parent (parent ∷ begin ∷ end ∷ []) s first refl below values in
     let y = argument_is args b free 1 begin (parent ∷ begin ∷ end ∷ []) s second refl below values in
@@ -180,8 +218,18 @@ edges_does c l level free parent begin end args p b e s first second third below
     (difference_is e b end begin s z.0 y.0 (omega (arith, ends, few, small)) (omega (arith, begins, ends, sum)))
     refl held.ends (omega (arith, size, reserved))
     (does_nothing c (set_array s (Ends 0 level) xs) _ Never (
-      leaves_array _ (IsOutside 0 level) free no_turns s s (Ends 0 level) xs (outside_ends level) (leaves_none _ (IsOutside 0 level) free no_turns s),
-      record { left = given l parent begin end; keeps = keeps_edges l parent begin end k m; kind = refl; size = refl; log = refl; held = holds_ends l (given l parent begin end) level s xs held (given_ends l parent begin end m.unfinished) (given_coords l.unique parent begin end l.log) },
+      leaves_array _ (IsOutside 0 level) free no_turns s s (Ends 0 level) xs (outside_ends level)
+          (leaves_none _ (IsOutside 0 level) free no_turns s),
+      record {
+        left = given l parent begin end;
+        keeps = keeps_edges l parent begin end k m;
+        kind = refl;
+        size = refl;
+        log = refl;
+        held =
+            holds_ends l (given l parent begin end) level s xs held (given_ends l parent begin end m.unfinished)
+            (given_coords l.unique parent begin end l.log);
+      },
     ))
 
 -- the letters of two levels tell whether they are unique
@@ -197,13 +245,16 @@ letter_tells false true h = absurd (apart h)
     apart h = cc
 letter_tells false false h = refl
 
-pub child_turns_are : (u : Bool) (e : Entry) → child_turns (letter_of u) e ≡ (if u then no_turns else turns_of Skip (e.child.hi - e.child.lo))
+pub child_turns_are : (u : Bool) (e : Entry)
+    → child_turns (letter_of u) e ≡ (if u then no_turns else turns_of Skip (e.child.hi - e.child.lo))
 child_turns_are true e = refl
 child_turns_are false e = refl
 
-pub append_does : (c : Setting) (l : CompressedLevel) (level free x : ℕ) (code : List KStmt) (s : State) → KeepsRules l → MayAppend (letter_of l.unique) l.size x l.log → Holds l 0 level s.arrays
+pub append_does : (c : Setting) (l : CompressedLevel) (level free x : ℕ) (code : List KStmt) (s : State) → KeepsRules l
+    → MayAppend (letter_of l.unique) l.size x l.log → Holds l 0 level s.arrays
     → Grows c code free 0 level no_turns s (Appended level x l.log.coords s) (PassesLimit 0 level (length l.log.coords + 1))
-    → Grows c code free 0 level no_turns s (λ t. HoldsLog meaning l (with_coord x l.log) 0 level t × (length l.log.coords + 1 ≤ greatest_position_count)) (PassesLimit 0 level (length l.log.coords + 1))
+    → Grows c code free 0 level no_turns s (λ t. HoldsLog meaning l (with_coord x l.log) 0 level t
+    × (length l.log.coords + 1 ≤ greatest_position_count)) (PassesLimit 0 level (length l.log.coords + 1))
 append_does c l level free x code s k may held d =
     let R = RefusedWithin no_turns s (PassesLimit 0 level (length l.log.coords + 1)) in
     does_weaker c code s _ _ R R d

@@ -1,5 +1,6 @@
 -- Lemmas about what specs/PartLaws.antt defines.
-use Rattle.std.specs.Prelude.{◌≡◌, ℕ, zero, suc, ◌+◌, ◌-◌, ◌≤◌, ◌<◌, Bool, List, [], ◌∷◌, ◌++◌, length, take, drop, slice_get, slice_set, Some, refl}
+use Rattle.std.specs.Prelude.{◌≡◌, ℕ, zero, suc, ◌+◌, ◌-◌, ◌≤◌, ◌<◌, Bool, List, [], ◌∷◌, ◌++◌, length, take, drop, slice_get, slice_set}
+use Rattle.std.specs.Prelude.{Some, refl}
 use Rattle.std.proofs.Common.{◌∙◌, sym, ap, subst, arith}
 use Rattle.level_core.specs.Logs.{total, running, NoneFrom, Rises}
 use Rattle.level_core.proofs.EdgeLaws.{none_total}
@@ -7,7 +8,8 @@ use Rattle.compressed_level.specs.Compressed.{differences, PartsRise}
 use Rattle.compressed_level.specs.PartLaws.{drop_drop}
 
 -- a word of the running sums
-pub running_at : (before : ℕ) (ns : List ℕ) (i : ℕ) → i < length ns → slice_get (running before ns) i ≡ Some (before + total (take (suc i) ns))
+pub running_at : (before : ℕ) (ns : List ℕ) (i : ℕ) → i < length ns
+    → slice_get (running before ns) i ≡ Some (before + total (take (suc i) ns))
 running_at before [] i h = absurd (omega (arith, h))
 running_at before (n ∷ ns) zero h = ap Some (omega arith)
 running_at before (n ∷ ns) (suc i) h = running_at (before + n) ns i (omega (arith, h)) ∙ ap Some (omega arith)
@@ -45,12 +47,15 @@ drop_length (suc n) [] = omega arith
 drop_length (suc n) (x ∷ xs) = drop_length n xs ∙ omega arith
 
 -- one more coordinate behind those that no parent has been given yet
-pub parts_push : (unique : Bool) (ns xs : List ℕ) (x : ℕ) → total ns ≤ length xs → PartsRise unique ns xs → Rises unique 0 (drop (total ns) xs ++ x ∷ []) → PartsRise unique ns (xs ++ x ∷ [])
+pub parts_push : (unique : Bool) (ns xs : List ℕ) (x : ℕ) → total ns ≤ length xs → PartsRise unique ns xs
+    → Rises unique 0 (drop (total ns) xs ++ x ∷ []) → PartsRise unique ns (xs ++ x ∷ [])
 parts_push unique [] xs x l p r = r
 parts_push unique (n ∷ ns) xs x l p r =
     let le : n ≤ length xs = omega (arith, l) in (
       subst (Rises unique 0) (sym (take_more n xs (x ∷ []) le)) p.0,
-      subst (PartsRise unique ns) (sym (drop_more n xs (x ∷ []) le)) (parts_push unique ns (drop n xs) x (omega (arith, l, drop_length n xs)) p.1 (subst (λ ys. Rises unique 0 (ys ++ x ∷ [])) (sym (drop_drop n (total ns) xs)) r)),
+      subst (PartsRise unique ns) (sym (drop_more n xs (x ∷ []) le))
+          (parts_push unique ns (drop n xs) x (omega (arith, l, drop_length n xs)) p.1
+          (subst (λ ys. Rises unique 0 (ys ++ x ∷ [])) (sym (drop_drop n (total ns) xs)) r)),
     )
 
 -- where no parent has positions, all coordinates rise in one row
@@ -72,7 +77,8 @@ parts_none unique (zero ∷ ns) z = (tt, parts_none unique ns z.1)
 parts_none unique (suc n ∷ ns) z = (tt, parts_none unique ns z.1)
 
 -- a parent is given all coordinates that none has been given yet
-pub parts_give : (unique : Bool) (parent : ℕ) (ns xs : List ℕ) → parent < length ns → total ns ≤ length xs → NoneFrom parent ns → PartsRise unique ns xs → PartsRise unique (slice_set ns parent (length xs - total ns)) xs
+pub parts_give : (unique : Bool) (parent : ℕ) (ns xs : List ℕ) → parent < length ns → total ns ≤ length xs → NoneFrom parent ns
+    → PartsRise unique ns xs → PartsRise unique (slice_set ns parent (length xs - total ns)) xs
 parts_give unique parent [] xs l g z p = absurd (omega (arith, l))
 parts_give unique zero (n ∷ ns) xs l g z p =
     let none : total (n ∷ ns) ≡ 0 = none_total (n ∷ ns) z in
@@ -82,8 +88,11 @@ parts_give unique zero (n ∷ ns) xs l g z p =
       subst (PartsRise unique ns) (sym (drop_whole xs)) (parts_none unique ns z.1),
     )
 parts_give unique (suc parent) (n ∷ ns) xs l g z p =
-    let same : length (drop n xs) - total ns ≡ length xs - total (n ∷ ns) = omega (arith, drop_length n xs) in
-    (p.0, subst (λ m. PartsRise unique (slice_set ns parent m) (drop n xs)) same (parts_give unique parent ns (drop n xs) (omega (arith, l)) (omega (arith, g, drop_length n xs)) z p.1))
+    let same : length (drop n xs) - total ns ≡ length xs - total (n ∷ ns) = omega (arith, drop_length n xs) in (
+      p.0,
+      subst (λ m. PartsRise unique (slice_set ns parent m) (drop n xs)) same
+          (parts_give unique parent ns (drop n xs) (omega (arith, l)) (omega (arith, g, drop_length n xs)) z p.1),
+    )
 
 pub total_give : (parent m : ℕ) (ns : List ℕ) → parent < length ns → NoneFrom parent ns → total (slice_set ns parent m) ≡ total ns + m
 total_give parent m [] l z = absurd (omega (arith, l))

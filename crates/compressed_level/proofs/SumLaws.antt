@@ -13,7 +13,8 @@ partly_at before old zero = refl
 partly_at before [] (suc i) = refl
 partly_at before (x ∷ old) (suc i) = partly_at (before + x) old i
 
-partly_set : (before : ℕ) (old : List ℕ) (i x : ℕ) → slice_get old i ≡ Some x → slice_set (partly before old i) i (before + total (take i old) + x) ≡ partly before old (suc i)
+partly_set : (before : ℕ) (old : List ℕ) (i x : ℕ) → slice_get old i ≡ Some x
+    → slice_set (partly before old i) i (before + total (take i old) + x) ≡ partly before old (suc i)
 partly_set before [] i x h = absurd (none_is x h)
   where
     none_is : (x : ℕ) → None ≡ Some x → ⊥
@@ -21,7 +22,8 @@ partly_set before [] i x h = absurd (none_is x h)
 partly_set before (y ∷ old) zero x h = let same : before + 0 + x ≡ before + y = omega (arith, same_Some y x h) in ap (λ n. n ∷ old) same
 partly_set before (y ∷ old) (suc i) x h =
     let same : before + (y + total (take i old)) + x ≡ before + y + total (take i old) + x = omega arith in
-    ap (λ n. (before + y) ∷ slice_set (partly (before + y) old i) i n) same ∙ ap (λ ns. (before + y) ∷ ns) (partly_set (before + y) old i x h)
+    ap (λ n. (before + y) ∷ slice_set (partly (before + y) old i) i n) same
+    ∙ ap (λ ns. (before + y) ∷ ns) (partly_set (before + y) old i x h)
 
 total_next : (old : List ℕ) (i x : ℕ) → slice_get old i ≡ Some x → total (take (suc i) old) ≡ total (take i old) + x
 total_next [] i x h = absurd (none_is x h)
@@ -54,14 +56,16 @@ sums_within old now i sum x s h =
     let last = s.last in
     omega (arith, next, within, last)
 
-pub sums_go : (old now : List ℕ) (i sum x : ℕ) → Summing old now i sum → slice_get now i ≡ Some x → Summing old (slice_set now i (sum + x)) (i + 1) (sum + x)
+pub sums_go : (old now : List ℕ) (i sum x : ℕ) → Summing old now i sum → slice_get now i ≡ Some x
+    → Summing old (slice_set now i (sum + x)) (i + 1) (sum + x)
 sums_go old now i sum x s h =
     let there : slice_get old i ≡ Some x = sym (partly_at 0 old i) ∙ ap (λ ns. slice_get ns i) (sym s.items) ∙ h in
     let next = total_next old i x there in
     let last = s.last in
     let more : suc i ≡ i + 1 = omega arith in
     subst (λ j. Summing old (slice_set now i (sum + x)) j (sum + x)) more (record {
-      items = ap (λ ns. slice_set ns i (sum + x)) s.items ∙ ap (λ n. slice_set (partly 0 old i) i (n + x)) (last ∙ omega arith) ∙ partly_set 0 old i x there;
+      items = ap (λ ns. slice_set ns i (sum + x)) s.items ∙ ap (λ n. slice_set (partly 0 old i) i (n + x)) (last ∙ omega arith)
+          ∙ partly_set 0 old i x there;
       last = omega (arith, next, last);
     })
 

@@ -11,7 +11,8 @@ by_letter P single groups true h g = h
 by_letter P single groups false h g = g
 
 -- the letter tells whether each coordinate stands once
-pub unique_is : (single groups : Letter) (unique : Bool) → (properties single).unique ≡ true → (properties groups).unique ≡ false → (properties (letter_by single groups unique)).unique ≡ unique
+pub unique_is : (single groups : Letter) (unique : Bool) → (properties single).unique ≡ true → (properties groups).unique ≡ false
+    → (properties (letter_by single groups unique)).unique ≡ unique
 unique_is single groups true h g = h
 unique_is single groups false h g = g
 

@@ -10,7 +10,8 @@ use Rattle.level_core.specs.Logs.{total, segment_in}
 -- lists of one length with the same words are the same
 pub same_words : (xs ys : List ℕ) → length xs ≡ length ys → ((q : ℕ) → q < length xs → slice_get xs q ≡ slice_get ys q) → xs ≡ ys
 same_words xs ys long same = ext_get_or 0 xs ys long (λ q h.
-    same_Some (slice_index xs q) (slice_index ys q) (sym (slice_get-get_or xs q 0 h) ∙ same q h ∙ slice_get-get_or ys q 0 (omega (arith, h, long))))
+    same_Some (slice_index xs q) (slice_index ys q) (sym (slice_get-get_or xs q 0 h) ∙ same q h
+    ∙ slice_get-get_or ys q 0 (omega (arith, h, long))))
 
 -- a parent's number of positions is the length of its segment
 count_at : (ns : List ℕ) (p : ℕ) → p < length ns → slice_index ns p ≡ (segment_in ns (one p)).hi - (segment_in ns (one p)).lo
@@ -23,8 +24,10 @@ count_at (n ∷ ns) (suc p) h =
     omega (arith, k, sum)
 
 -- parents with the same segments have the same numbers of positions
-pub same_counts : (ns ms : List ℕ) → length ns ≡ length ms → ((p : ℕ) → p < length ns → segment_in ns (one p) ≡ segment_in ms (one p)) → ns ≡ ms
-same_counts ns ms long same = ext_get_or 0 ns ms long (λ p h. count_at ns p h ∙ ap (λ s. s.hi - s.lo) (same p h) ∙ sym (count_at ms p (omega (arith, h, long))))
+pub same_counts : (ns ms : List ℕ) → length ns ≡ length ms → ((p : ℕ) → p < length ns → segment_in ns (one p) ≡ segment_in ms (one p))
+    → ns ≡ ms
+same_counts ns ms long same = ext_get_or 0 ns ms long (λ p h. count_at ns p h ∙ ap (λ s. s.hi - s.lo) (same p h)
+    ∙ sym (count_at ms p (omega (arith, h, long))))
 
 -- each position is below one of the parents
 pub record BelowSome (ns : List ℕ) (q : ℕ) : Type 0 where

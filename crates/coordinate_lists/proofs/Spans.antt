@@ -1,5 +1,6 @@
 -- Lemmas about what specs/Spans.antt defines.
-use Rattle.std.specs.Prelude.{◌≡◌, ◌≢◌, ℕ, zero, suc, ◌+◌, ◌-◌, ◌≤◌, ◌<◌, Bool, true, false, List, [], ◌∷◌, length, take, drop, Some, slice_get, refl}
+use Rattle.std.specs.Prelude.{◌≡◌, ◌≢◌, ℕ, zero, suc, ◌+◌, ◌-◌, ◌≤◌, ◌<◌, Bool, true, false, List, [], ◌∷◌, length, take, drop, Some}
+use Rattle.std.specs.Prelude.{slice_get, refl}
 use Rattle.std.proofs.Common.{◌∙◌, sym, ap, subst, arith, inl, inr}
 use Rattle.std.proofs.lemmas.List.{length-take, length-take-le, length-drop}
 use Rattle.std.proofs.lemmas.Bool.{cases_order}
@@ -12,7 +13,8 @@ use Rattle.level_core.specs.Kinds.{AreEntries}
 use Rattle.level_core.specs.Logs.{Rises, slice, groups, entries_between}
 use Rattle.level_core.proofs.EntryLaws.{tiles_placed, rising_distinct}
 use Rattle.level_core.specs.GroupLaws.{CoordsBelow, IsGroup}
-use Rattle.level_core.proofs.GroupLaws.{groups_tile, groups_rising, groups_single, groups_below, groups_coord, group_is, single_at, stands_where}
+use Rattle.level_core.proofs.GroupLaws.{groups_tile, groups_rising, groups_single, groups_below, groups_coord, group_is, single_at}
+use Rattle.level_core.proofs.GroupLaws.{stands_where}
 use Rattle.coordinate_lists.specs.Spans.{Within, IsGroupIn}
 use Rattle.std.proofs.lemmas.Option.{same_Some}
 
@@ -38,7 +40,8 @@ drop_get (suc n) (x ∷ xs) i = let same : suc (n + i) ≡ suc n + i = omega ari
 pub slice_coord : (coords : List ℕ) (s : Span) (q : ℕ) → IsIn q s → slice_get (slice coords s) (q - s.lo) ≡ slice_get coords q
 slice_coord coords s q i =
     let same : s.lo + (q - s.lo) ≡ q = omega (arith, i.0) in
-    take_get (s.hi - s.lo) (drop s.lo coords) (q - s.lo) (omega (arith, i.0, i.1)) ∙ drop_get s.lo coords (q - s.lo) ∙ ap (slice_get coords) same
+    take_get (s.hi - s.lo) (drop s.lo coords) (q - s.lo) (omega (arith, i.0, i.1)) ∙ drop_get s.lo coords (q - s.lo)
+    ∙ ap (slice_get coords) same
 
 below_take : (n m : ℕ) (xs : List ℕ) → CoordsBelow n xs → CoordsBelow n (take m xs)
 below_take n zero xs b = tt
@@ -55,14 +58,16 @@ slice_below n coords s b = below_take n (s.hi - s.lo) (drop s.lo coords) (below_
 
 -- the coordinate of one position keeps any order
 pub one_rises : (unique : Bool) (coords : List ℕ) (s : Span) → s.hi ≡ s.lo + 1 → Rises unique 0 (slice coords s)
-one_rises unique coords s h = let same : 1 ≡ s.hi - s.lo = omega (arith, h) in subst (λ n. Rises unique 0 (take n (drop s.lo coords))) same (first (drop s.lo coords))
+one_rises unique coords s h = let same : 1 ≡ s.hi - s.lo =
+    omega (arith, h) in subst (λ n. Rises unique 0 (take n (drop s.lo coords))) same (first (drop s.lo coords))
   where
     first : (xs : List ℕ) → Rises unique 0 (take 1 xs)
     first [] = tt
     first (x ∷ xs) = (omega arith, tt)
 
 pub entries_tile : (coords : List ℕ) (s : Span) → Within coords s → Tiles s.lo s.hi (entries_between coords s)
-entries_tile coords s w = subst (λ hi. Tiles s.lo hi (entries_between coords s)) (slice_length coords s w) (groups_tile s.lo (slice coords s))
+entries_tile coords s w =
+    subst (λ hi. Tiles s.lo hi (entries_between coords s)) (slice_length coords s w) (groups_tile s.lo (slice coords s))
 
 pub entries_placed : (coords : List ℕ) (s : Span) → Within coords s → Placed s.lo s.hi (entries_between coords s)
 entries_placed coords s w = tiles_placed s.lo s.hi (entries_between coords s) (entries_tile coords s w)
@@ -76,7 +81,8 @@ entries_rise unique coords s r = groups_rising unique 0 s.lo (slice coords s) r
 pub entries_distinct : (unique : Bool) (coords : List ℕ) (s : Span) → Rises unique 0 (slice coords s) → Distinct (entries_between coords s)
 entries_distinct unique coords s r = rising_distinct 0 (entries_between coords s) (entries_rise unique coords s r)
 
-pub entries_single : (unique : Bool) (coords : List ℕ) (s : Span) → unique ≡ true → Rises unique 0 (slice coords s) → Single (entries_between coords s)
+pub entries_single : (unique : Bool) (coords : List ℕ) (s : Span) → unique ≡ true → Rises unique 0 (slice coords s)
+    → Single (entries_between coords s)
 entries_single unique coords s u r = groups_single 0 s.lo (slice coords s) (subst (λ b. Rises b 0 (slice coords s)) u r)
 
 one_group : (p : ℕ) (xs : List ℕ) → length xs ≡ 1 → length (groups p xs) ≡ 1
@@ -91,13 +97,15 @@ entries_of_one coords s h l =
     one_group s.lo (slice coords s) (omega (arith, is, h))
 
 -- the coordinate of a position is the one that stands there
-pub entries_coord : (coords : List ℕ) (s : Span) (pos : ℕ) → s.hi ≤ length coords → IsIn pos s → coord_at (entries_between coords s) pos ≡ slice_get coords pos
+pub entries_coord : (coords : List ℕ) (s : Span) (pos : ℕ) → s.hi ≤ length coords → IsIn pos s
+    → coord_at (entries_between coords s) pos ≡ slice_get coords pos
 entries_coord coords s pos l i =
     let long = slice_length coords s (record { order = omega (arith, i.0, i.1); inside = l }) in
     groups_coord s.lo (slice coords s) pos i.0 (omega (arith, long, i.1)) ∙ slice_coord coords s pos i
 
 -- all that kinds without holes promise, of a list whose coordinates are below the range and keep the order between these positions
-pub entries_are : (p : Properties) (n : ℕ) (coords : List ℕ) (parent s : Span) → p.full ≡ false → (p.branchless ≡ true → parent ≡ s) → n ≤ greatest_position_count → length coords ≤ greatest_position_count
+pub entries_are : (p : Properties) (n : ℕ) (coords : List ℕ) (parent s : Span) → p.full ≡ false → (p.branchless ≡ true → parent ≡ s)
+    → n ≤ greatest_position_count → length coords ≤ greatest_position_count
     → Within coords s → CoordsBelow n coords → Rises p.unique 0 (slice coords s) → AreEntries p n parent s (entries_between coords s)
 entries_are p n coords parent s full branchless range limit w b r = record {
   within = range;
@@ -117,14 +125,16 @@ entries_are p n coords parent s full branchless range limit w b r = record {
     not_both : (b : Bool) → b ≡ true → b ≡ false → ⊥
     not_both b h g = cc
 
-group_length : (coords : List ℕ) (s : Span) (e : Entry) → s.hi ≤ length coords → IsGroup s.lo (slice coords s) e → s.lo + length (slice coords s) ≡ s.hi
+group_length : (coords : List ℕ) (s : Span) (e : Entry) → s.hi ≤ length coords → IsGroup s.lo (slice coords s) e
+    → s.lo + length (slice coords s) ≡ s.hi
 group_length coords s e l g =
     let some = length-take (s.hi - s.lo) (drop s.lo coords) in
     let rest = length-drop s.lo coords in
     omega (arith, some, rest, l, g.from, g.some, g.inside)
 
 -- an entry that stands there is such a group
-pub entry_is_group : (coords : List ℕ) (s : Span) (e : Entry) (pos : ℕ) → s.hi ≤ length coords → StandsAt pos e (entries_between coords s) → IsGroupIn coords s e
+pub entry_is_group : (coords : List ℕ) (s : Span) (e : Entry) (pos : ℕ) → s.hi ≤ length coords → StandsAt pos e (entries_between coords s)
+    → IsGroupIn coords s e
 entry_is_group coords s e pos l h =
     let g = group_is s.lo (slice coords s) e pos h in
     let long = group_length coords s e l g in
@@ -137,20 +147,24 @@ entry_is_group coords s e pos l h =
     }
 
 -- its end, found as the first position past its own with another coordinate, or else as the end of these positions
-pub group_ends : (coords : List ℕ) (s : Span) (e : Entry) (pos next x : ℕ) → s.hi ≤ length coords → StandsAt pos e (entries_between coords s) → pos < next → next ≤ s.hi
+pub group_ends : (coords : List ℕ) (s : Span) (e : Entry) (pos next x : ℕ) → s.hi ≤ length coords
+    → StandsAt pos e (entries_between coords s) → pos < next → next ≤ s.hi
     → ((q : ℕ) → pos ≤ q → q < next → slice_get coords q ≡ Some x) → (next < s.hi → slice_get coords next ≢ Some x) → next ≡ e.child.hi
 group_ends coords s e pos next x l h some inside equal whole =
     let g = entry_is_group coords s e pos l h in
     let at = stands_where (entries_between coords s) e pos h in
-    let same : x ≡ e.coord = same_Some x e.coord (sym (equal pos (omega arith) some) ∙ g.equal pos (omega (arith, at)) (omega (arith, at, g.some))) in
+    let same : x ≡ e.coord = same_Some x e.coord (sym (equal pos (omega arith) some)
+    ∙ g.equal pos (omega (arith, at)) (omega (arith, at, g.some))) in
     elim (cases_order next e.child.hi) [
       | inl is ↦ is
-      | inr (inl early) ↦ absurd (whole (omega (arith, early, g.inside)) (g.equal next (omega (arith, at, some)) early ∙ ap Some (sym same)))
+      | inr (inl early) ↦ absurd (whole (omega (arith, early, g.inside)) (g.equal next (omega (arith, at, some)) early
+          ∙ ap Some (sym same)))
       | inr (inr late) ↦ absurd (g.whole (omega (arith, late, inside)) (equal e.child.hi (omega (arith, at, g.some)) late ∙ ap Some same))
     ]
 
 -- where each coordinate stands once, an entry is one position
-pub entry_is_one : (coords : List ℕ) (s : Span) (e : Entry) (pos : ℕ) → Rises true 0 (slice coords s) → StandsAt pos e (entries_between coords s) → e.child.hi ≡ pos + 1
+pub entry_is_one : (coords : List ℕ) (s : Span) (e : Entry) (pos : ℕ) → Rises true 0 (slice coords s)
+    → StandsAt pos e (entries_between coords s) → e.child.hi ≡ pos + 1
 entry_is_one coords s e pos r h =
     let at = stands_where (entries_between coords s) e pos h in
     let single = single_at (entries_between coords s) e pos (entries_single true coords s refl r) h in

@@ -1,5 +1,6 @@
 -- Lemmas about what specs/Laws.antt defines.
-use Rattle.std.specs.Prelude.{◌≡◌, ◌≢◌, ℕ, zero, suc, ◌+◌, ◌-◌, ◌*◌, ◌%◌, ◌^◌, ◌≤◌, ◌<◌, ◌==◌, Bool, true, false, if◌then◌else◌, Some, None, refl}
+use Rattle.std.specs.Prelude.{◌≡◌, ◌≢◌, ℕ, zero, suc, ◌+◌, ◌-◌, ◌*◌, ◌%◌, ◌^◌, ◌≤◌, ◌<◌, ◌==◌, Bool, true, false, if◌then◌else◌, Some}
+use Rattle.std.specs.Prelude.{None, refl}
 use Rattle.std.proofs.Common.{◌∙◌, sym, ap, arith, inl, inr}
 use Rattle.std.proofs.Math.Nat.{mul-le-mul_right, mod-eq_of_lt, add-mul-mod_self_right}
 use Rattle.std.proofs.lemmas.Bool.Decides.{nat_tests}
@@ -16,7 +17,8 @@ from_none : (count x pos y : ℕ) → x + count ≤ y → position_of (entries_f
 from_none zero x pos y h = refl
 from_none (suc count) x pos y h = by_test (from_none count (x + 1) (pos + 1) y (omega (arith, h))) (x == y) refl
   where
-    by_test : position_of (entries_from count (x + 1) (pos + 1)) y ≡ None → (b : Bool) → (x == y) ≡ b → (if b then Some pos else position_of (entries_from count (x + 1) (pos + 1)) y) ≡ None
+    by_test : position_of (entries_from count (x + 1) (pos + 1)) y ≡ None → (b : Bool) → (x == y) ≡ b
+        → (if b then Some pos else position_of (entries_from count (x + 1) (pos + 1)) y) ≡ None
     by_test again true is = let same : x ≡ y = grind (arith, nat_tests, is) in absurd (omega (arith, same, h))
     by_test again false is = again
 
@@ -27,8 +29,11 @@ from_coord (suc count) x pos q h g = by_test (from_coord count (x + 1) (pos + 1)
     entry : Entry
     entry = record { coord = x; child = one pos }
 
-    by_test : (pos + 1 ≤ q → q < pos + 1 + count → coord_at (entries_from count (x + 1) (pos + 1)) q ≡ Some (x + 1 + (q - (pos + 1)))) → (b : Bool) → (pos == q) ≡ b → coord_at (entries_from (suc count) x pos) q ≡ Some (x + (q - pos))
-    by_test again true is = let same : pos ≡ q = grind (arith, nat_tests, is) in coord_here entry (entries_from count (x + 1) (pos + 1)) q h (omega (arith, same)) ∙ ap Some (omega (arith, same))
+    by_test : (pos + 1 ≤ q → q < pos + 1 + count → coord_at (entries_from count (x + 1) (pos + 1)) q ≡ Some (x + 1 + (q - (pos + 1))))
+        → (b : Bool) → (pos == q) ≡ b → coord_at (entries_from (suc count) x pos) q ≡ Some (x + (q - pos))
+    by_test again true is = let same : pos ≡ q =
+        grind (arith, nat_tests, is) in coord_here entry (entries_from count (x + 1) (pos + 1)) q h (omega (arith, same))
+        ∙ ap Some (omega (arith, same))
     by_test again false is =
         let apart : pos ≢ q = grind (arith, nat_tests, is) in
         coord_past entry (entries_from count (x + 1) (pos + 1)) q (omega (arith, h, apart))
@@ -69,7 +74,8 @@ pub position_none : (n x : ℕ) (parent : Span) → n ≤ x → position_of (ent
 position_none n x parent h = from_none n 0 (parent.lo * n) x (omega (arith, h))
 
 -- the child of an entry, which is within the segment
-pub child_is : (n pos : ℕ) (parent : Span) (e : Entry) → IsAllowed n parent → StandsAt pos e (entries_of n parent) → (e.child ≡ one pos) × (pos < greatest_position_count)
+pub child_is : (n pos : ℕ) (parent : Span) (e : Entry) → IsAllowed n parent → StandsAt pos e (entries_of n parent)
+    → (e.child ≡ one pos) × (pos < greatest_position_count)
 child_is n pos parent e ok h =
     let k = from_child n 0 (parent.lo * n) pos e h in
     let end = segment_end n parent.lo parent.hi ok.one_parent in
@@ -77,5 +83,8 @@ child_is n pos parent e ok h =
     (k.0, omega (arith, k.1, end, within))
 
 -- the coordinate of a position
-pub coord_is : (n pos : ℕ) (parent : Span) → IsAllowed n parent → IsIn pos (segment_of n parent) → coord_at (entries_of n parent) pos ≡ Some (pos - parent.lo * n)
-coord_is n pos parent ok h = let end = segment_end n parent.lo parent.hi ok.one_parent in from_coord n 0 (parent.lo * n) pos h.0 (omega (arith, h.1, end)) ∙ ap Some (omega arith)
+pub coord_is : (n pos : ℕ) (parent : Span) → IsAllowed n parent → IsIn pos (segment_of n parent)
+    → coord_at (entries_of n parent) pos ≡ Some (pos - parent.lo * n)
+coord_is n pos parent ok h = let end =
+    segment_end n parent.lo parent.hi ok.one_parent in from_coord n 0 (parent.lo * n) pos h.0 (omega (arith, h.1, end))
+    ∙ ap Some (omega arith)

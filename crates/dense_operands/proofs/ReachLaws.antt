@@ -11,7 +11,8 @@ use Rattle.tensor_map.specs.Entries.{Entries}
 use Rattle.index_notation.specs.declared.syntax.Access.{Access}
 use Rattle.index_notation.specs.declared.syntax.Statement.{Statement}
 use Rattle.expr_terms.specs.Operands.{entries_of, list_or_none}
-use Rattle.expr_terms.specs.Ranges.{greatest_of, Place, places_from, places_in, reach, narrow_ranges}
+use Rattle.expr_terms.specs.declared.bound.Place.{Place}
+use Rattle.expr_terms.specs.Ranges.{greatest_of, places_from, places_in, reach, narrow_ranges}
 use Rattle.expr_terms.proofs.RangeLaws.{greatest_append, reach_above}
 use Rattle.dense_operands.specs.Operands.{HasSmallCoords, HaveSmallCoords}
 use Rattle.dense_operands.specs.Reaches.{greatest_reach}

@@ -11,13 +11,13 @@ use Rattle.tensor_map.proofs.Lemmas.{tested, at_itself}
 use Rattle.index_notation.specs.declared.syntax.Statement.{Statement}
 use Rattle.expr_terms.specs.Points.{point_of, with_coordinate, sum_over}
 use Rattle.expr_terms.specs.Terms.{Term, terms, own_variables, term_value, term_sum, statement_value}
-use Rattle.expr_terms.specs.Groups.{firsts, group_of, groups, group_sum}
+use Rattle.expr_terms.specs.Groups.{firsts, group_in, groups, group_sum}
 
 -- what a test keeps
-kept : {X : Type 0} (p : X → Bool) (x : X) (xs : List X) → p x ≡ true → filter p (x ∷ xs) ≡ x ∷ filter p xs
+pub kept : {X : Type 0} (p : X → Bool) (x : X) (xs : List X) → p x ≡ true → filter p (x ∷ xs) ≡ x ∷ filter p xs
 kept p x xs e = ap (λ b. cond b (x ∷ filter p xs) (filter p xs)) e
 
-dropped : {X : Type 0} (p : X → Bool) (x : X) (xs : List X) → p x ≡ false → filter p (x ∷ xs) ≡ filter p xs
+pub dropped : {X : Type 0} (p : X → Bool) (x : X) (xs : List X) → p x ≡ false → filter p (x ∷ xs) ≡ filter p xs
 dropped p x xs e = ap (λ b. cond b (x ∷ filter p xs) (filter p xs)) e
 
 all_kept : {X : Type 0} (xs : List X) → filter (λ x. true) xs ≡ xs
@@ -59,10 +59,10 @@ filtered_twice p q (x ∷ xs) = elim (p x) as (λ b. p x ≡ b → filter q (fil
 ] refl
 
 -- a list of numbers is another one
-abbrev apart_from : List ℕ → List ℕ → Bool
+abbrev pub apart_from : List ℕ → List ℕ → Bool
 apart_from vs ws = not (pointwise nat_eq ws vs)
 
-turned : (vs ws : List ℕ) → vs ≢ ws → pointwise nat_eq ws vs ≡ false
+pub turned : (vs ws : List ℕ) → vs ≢ ws → pointwise nat_eq ws vs ≡ false
 turned vs ws apart = elim (tested ws vs) [
   | same is e ↦ absurd (apart (sym is))
   | other is e ↦ e
@@ -181,10 +181,10 @@ module _ (a : Arithmetic) (laws : Laws a) where
                 ap (λ zs. sum_over a ranges vs (value zs) point) gone ∙ group_is vs ts ∙ sym (ap (λ zs. total_of a (map (term_sum a s values ranges point) zs)) gone))
           ]
 
-      group_sums : (ks : List (List ℕ)) → map (group_sum a s values ranges point) (map (group_of s) ks) ≡ map (λ vs. share (term_sum a s values ranges point) (own_variables s) vs (terms s.expr)) ks
+      group_sums : (ks : List (List ℕ)) → map (group_sum a s values ranges point) (map (group_in s (terms s.expr)) ks) ≡ map (λ vs. share (term_sum a s values ranges point) (own_variables s) vs (terms s.expr)) ks
       group_sums [] = refl
       group_sums (vs ∷ ks) =
-          ap (λ x. x ∷ map (group_sum a s values ranges point) (map (group_of s) ks)) (group_is vs (terms s.expr))
+          ap (λ x. x ∷ map (group_sum a s values ranges point) (map (group_in s (terms s.expr)) ks)) (group_is vs (terms s.expr))
           ∙ ap (λ zs. share (term_sum a s values ranges point) (own_variables s) vs (terms s.expr) ∷ zs) (group_sums ks)
 
   -- the value of a statement is the total of what its groups add

@@ -1,13 +1,17 @@
 pub mod Equations
 pub mod GroupLaws
+pub mod Grouped
 pub mod Heights
 pub mod Made
 pub mod Meanings
 pub mod NameLaws
 pub mod NameOnce
+pub mod OneGroup
 pub mod PointLaws
 pub mod ProductLaws
+pub mod PushedTerms
 pub mod RangeLaws
+pub mod RangesFound
 pub mod SetPoint
 pub mod TermLaws
 pub mod TermSums

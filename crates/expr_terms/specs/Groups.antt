@@ -4,25 +4,26 @@ use Rattle.std.specs.Cmp.Lexicographic.{pointwise}
 use Rattle.numbers.specs.Arithmetic.{Arithmetic}
 use Rattle.numbers.specs.Sums.{total_of}
 use Rattle.index_notation.specs.declared.syntax.Statement.{Statement}
+pub use Rattle.expr_terms.specs.declared.group.Group.{Group}
 use Rattle.expr_terms.specs.Points.{sum_over}
 use Rattle.expr_terms.specs.Terms.{Term, terms, own_variables, term_value}
-
--- own variables in standing order, and the terms that have them, in order
-pub record Group : Type 0 where
-  pub vars : List ℕ
-  pub terms : List Term
 
 -- lists of numbers, each once, where it stands first
 abbrev pub firsts : List (List ℕ) → List (List ℕ)
 firsts [] = []
 firsts (vs ∷ others) = vs ∷ filter (λ ws. not (pointwise nat_eq ws vs)) (firsts others)
 
-abbrev pub group_of : Statement → List ℕ → Group
-group_of s vs = record { vars = vs; terms = filter (λ t. pointwise nat_eq (own_variables s t) vs) (terms s.expr) }
+-- of these terms those whose own variables are these, in order
+abbrev pub group_in : Statement → List Term → List ℕ → Group
+group_in s ts vs = record { vars = vs; terms = filter (λ t. pointwise nat_eq (own_variables s t) vs) ts }
 
--- the groups of a statement, in the order of their first terms
+-- the groups of these terms, in the order of their first terms
+abbrev pub groups_in : Statement → List Term → List Group
+groups_in s ts = map (group_in s ts) (firsts (map (own_variables s) ts))
+
+-- the groups of a statement
 abbrev pub groups : Statement → List Group
-groups s = map (group_of s) (firsts (map (own_variables s) (terms s.expr)))
+groups s = groups_in s (terms s.expr)
 
 -- what a group adds: its terms' values, summed over its variables at once
 abbrev pub group_sum : Arithmetic → Statement → (ℕ → List ℕ → ℕ) → (ℕ → ℕ) → (ℕ → ℕ) → Group → ℕ

@@ -1,3 +1,4 @@
+pub mod GroupLaws
 pub mod Groups
 pub mod Minus
 pub mod Names
@@ -11,5 +12,6 @@ pub mod Result
 pub mod Signs
 pub mod TermLaws
 pub mod Terms
+pub mod Told
 pub mod Value
 pub mod ValueLaws

@@ -5,20 +5,16 @@ use Rattle.tensor_map.specs.declared.entries.Entry.{Entry}
 use Rattle.index_notation.specs.Statement.{numbers_from}
 use Rattle.index_notation.specs.declared.syntax.Access.{Access}
 use Rattle.index_notation.specs.declared.syntax.Statement.{Statement}
-pub use Rattle.expr_terms.specs.declared.ranges.Bound.{Bound}
-pub use Rattle.expr_terms.specs.declared.ranges.Bound.TheVariants.{Exact, AtLeast}
-pub use Rattle.expr_terms.specs.declared.ranges.RangeFault.{RangeFault}
-pub use Rattle.expr_terms.specs.declared.ranges.RangeFault.TheVariants.{NoRange, RangeConflict, OutOfRange}
+pub use Rattle.expr_terms.specs.declared.bound.Bound.{Bound}
+pub use Rattle.expr_terms.specs.declared.bound.Bound.TheVariants.{Exact, AtLeast}
+pub use Rattle.expr_terms.specs.declared.bound.Place.{Place}
+pub use Rattle.expr_terms.specs.declared.range_fault.RangeFault.{RangeFault}
+pub use Rattle.expr_terms.specs.declared.range_fault.RangeFault.TheVariants.{NoRange, RangeConflict, OutOfRange}
 
 -- the greatest of some numbers, 0 where there is none
 abbrev pub greatest_of : List ℕ → ℕ
 greatest_of [] = 0
 greatest_of (n ∷ ns) = max n (greatest_of ns)
-
--- a mode of a tensor
-pub record Place : Type 0 where
-  pub tensor : ℕ
-  pub mode : ℕ
 
 -- the modes from one on at which a variable stands, among these variables of a tensor
 abbrev pub places_from : ℕ → ℕ → List ℕ → ℕ → List Place

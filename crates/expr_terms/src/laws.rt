@@ -11,7 +11,10 @@ ghost use Rattle.expr_terms.specs.Value.{access_value, value_of, minus};
 ghost use Rattle.expr_terms.specs.ValueLaws.{AgreeAt, AreWords, HasWords};
 ghost use Rattle.expr_terms.specs.Terms.{Term, terms, plain_term, negated_term, contains, stands_in, own_variables, term_value, term_sum};
 ghost use Rattle.expr_terms.specs.Terms.{statement_value};
-ghost use Rattle.expr_terms.specs.Groups.{groups, group_sum};
+ghost use Rattle.std.specs.List.{flat_map};
+ghost use Rattle.std.specs.List.Sorted.{IsPermutation};
+ghost use Rattle.expr_terms.specs.Groups.{Group, groups, group_sum};
+ghost use Rattle.expr_terms.specs.GroupLaws.{AreApart, IsGroup};
 ghost use Rattle.expr_terms.specs.Products.{product_of_values, stands_at, IsProduct};
 ghost use Rattle.expr_terms.specs.Ranges.{Bound, AtLeast, reach, narrow_ranges, ranges_of, mode_size};
 ghost use Rattle.tensor_map.specs.declared.entries.Entry.{Entry as AnEntry};
@@ -62,6 +65,14 @@ pub fn groups_add_up()
     ensures { (a : Arithmetic) → Laws a → (s : Statement) (values : ℕ → List ℕ → ℕ) (ranges : ℕ → ℕ) (coords : List ℕ)
         → total_of a (map (group_sum a s values ranges (point_of s.left.vars coords)) (groups s))
         ≡ statement_value a s values ranges coords }
+{}
+
+/// Each term of a statement is in one group, that of its own variables: the groups have the terms of the statement and
+/// no others, each once; none is empty, the terms of each have its variables as their own ones, and no two have the same.
+pub fn each_term_is_in_one_group()
+    ensures all { (s : Statement) → IsPermutation (terms s.expr) (flat_map (λ (g : Group). g.terms) (groups s)) }
+    ensures own { (s : Statement) → Each (IsGroup s) (groups s) }
+    ensures apart { (s : Statement) → AreApart (groups s) }
 {}
 
 /// A product of accesses in which each variable stands is one term, whose own variables are the numbers after the

@@ -11,6 +11,9 @@
 //! index 5 | 007               The number of a token, which is at most 5.
 //! whole | 1.0                 The signed whole number of a token.
 //! entries 2 | 1 1 2\n         The entries of a file for a tensor of order 2.
+//! tns 2 | 1 1 2\n            The entries or the fault of a `.tns` file, in pieces of 1, 2 and 4,096 bytes.
+//! tns 2 65537 | 1 1 2\n      So is a file with a comment of so many bytes in front.
+//! put_tns 2 | 1 1 2\n        The text that is written of its entries, added.
 //! put cut 1 3 fail 3 | -12    A number is put into a sink.
 //! read 5 fail 2 | 12 45       A file is fed to a vector, within 5 bytes.
 //! absent 5 |                  So is a file that isn't there.
@@ -20,6 +23,7 @@
 #![tactic(auto)]
 
 mod case;
+mod files;
 mod pieces;
 mod streams;
 #[cfg(test)]
@@ -28,15 +32,24 @@ mod texts;
 
 use anyhow::{Context, Result};
 use case::Case;
+use std::alloc::Global;
 use std::rt::{Env, Files};
 use std::{env, fs};
+
+/// What comes of a case that isn't one of texts.
+fn answer_of(alloc: Global, case: &Case) -> Result<String> {
+    match files::answer(alloc, case)? {
+        Some(answer) => Ok(answer),
+        None => streams::answer(alloc, case),
+    }
+}
 
 /// Runs the case of a line, and prints what came.
 fn run_line<R: Print + AllocGlobal>(rt: &R, line: &str) -> Result<()> {
     let case = Case::read(rt.alloc(), line)?;
     let answer = match texts::answer(rt.alloc(), &case)? {
         Some(answer) => answer,
-        None => streams::answer(rt.alloc(), &case)?,
+        None => answer_of(rt.alloc(), &case)?,
     };
     println!(rt; "{line}")?;
     println!(rt; "    {answer}")?;

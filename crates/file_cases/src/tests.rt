@@ -9,10 +9,11 @@ use std::test::Fail;
 use std::{fs, io};
 use text_lines::{
     is_blank, joined_lines_are_cut_back, joined_tokens_are_cut_back, printed_numbers_are_read_back,
-    printed_numbers_are_tokens, tokens_are_whole_numbers_or_not,
+    printed_numbers_are_tokens, tokens_are_whole_numbers_or_not, told_lines_stay,
 };
 use tns_io::{
-    lines_are_entries_or_bad, positions_number_coordinates, tensors_have_one_text,
+    entries_of_files_may_be_written, lines_are_entries_or_bad, positions_number_coordinates,
+    tensors_have_one_text, texts_of_entries_are_their_tensors,
     written_texts_stand_for_their_tensor,
 };
 
@@ -87,6 +88,9 @@ fn laws_are_calls(rt: HostRuntime) {
     printed_numbers_are_read_back();
     printed_numbers_are_tokens();
     tokens_are_whole_numbers_or_not();
+    told_lines_stay();
+    entries_of_files_may_be_written();
+    texts_of_entries_are_their_tensors();
     lines_are_entries_or_bad();
     positions_number_coordinates();
     tensors_have_one_text();

@@ -64,7 +64,7 @@ fn number_or_fault<N: Display + Drop>(
     }
 }
 
-fn entries_text(alloc: Global, entries: &Entries) -> Result<String, AllocError> {
+pub(crate) fn entries_text(alloc: Global, entries: &Entries) -> Result<String, AllocError> {
     let mut answer = String::new(alloc);
     for i in 0..entries.len() {
         let coords = entries.coords(i);

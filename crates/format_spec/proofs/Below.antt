@@ -9,7 +9,8 @@ use Rattle.level_core.specs.declared.letter.Letter.{Letter}
 use Rattle.level_core.specs.declared.letter.Letter.TheVariants.{Hashed}
 use Rattle.format_spec.specs.Formats.{FormatLevel, letters_of, InsertedBelowHashed, IsHashed, IsOther, Inserts}
 
-letter_at : (levels : List FormatLevel) (i : ℕ) (d : Letter) → i < length levels → slice_index_or (letters_of levels) i d ≡ (slice_index_or levels i (record { letter = d; mode = 0 })).letter
+letter_at : (levels : List FormatLevel) (i : ℕ) (d : Letter) → i < length levels
+    → slice_index_or (letters_of levels) i d ≡ (slice_index_or levels i (record { letter = d; mode = 0 })).letter
 letter_at levels i d h = get_or-map (λ level. level.letter) levels i (record { letter = d; mode = 0 }) d h
 
 pub none_hashed : (levels : List FormatLevel) → AllWithin IsOther levels 0 (length levels) → InsertedBelowHashed (letters_of levels)
@@ -18,7 +19,8 @@ none_hashed levels other i j d before inside is =
     let within : i < length levels = omega (arith, before, inside, count) in
     absurd (other i (record { letter = d; mode = 0 }) (omega arith) within (sym (letter_at levels i d within) ∙ is))
 
-pub first_rules : (levels : List FormatLevel) (first : ℕ) → first < length levels → HoldsAt IsHashed levels first → AllWithin IsOther levels 0 first → All Inserts (drop (first + 1) levels) ↔ InsertedBelowHashed (letters_of levels)
+pub first_rules : (levels : List FormatLevel) (first : ℕ) → first < length levels → HoldsAt IsHashed levels first
+    → AllWithin IsOther levels 0 first → All Inserts (drop (first + 1) levels) ↔ InsertedBelowHashed (letters_of levels)
 first_rules levels first inside here others = (rules, below)
   where
     rules : All Inserts (drop (first + 1) levels) → InsertedBelowHashed (letters_of levels)
@@ -35,8 +37,11 @@ first_rules levels first inside here others = (rules, below)
         let same = get_or-drop (first + 1) levels k default ∙ ap (λ n. slice_index_or levels n default) at in
         ap (λ letter. (capabilities letter).insert) (letter_at levels j d within ∙ ap (λ level. level.letter) (sym same)) ∙ inserts
       where
-        not_before : (i : ℕ) → i < length levels → slice_index_or (letters_of levels) i d ≡ (slice_index_or levels i (record { letter = d; mode = 0 })).letter → (e : Letter) → slice_index_or (letters_of levels) i d ≡ Hashed → (i < first) ⊎ (first ≤ i) → first ≤ i
-        not_before i within same e is (inl before) = absurd (others i (record { letter = d; mode = 0 }) (omega arith) before (sym same ∙ is))
+        not_before : (i : ℕ) → i < length levels
+            → slice_index_or (letters_of levels) i d ≡ (slice_index_or levels i (record { letter = d; mode = 0 })).letter → (e : Letter)
+            → slice_index_or (letters_of levels) i d ≡ Hashed → (i < first) ⊎ (first ≤ i) → first ≤ i
+        not_before i within same e is (inl before) =
+            absurd (others i (record { letter = d; mode = 0 }) (omega arith) before (sym same ∙ is))
         not_before i within same e is (inr from) = from
 
     below : InsertedBelowHashed (letters_of levels) → All Inserts (drop (first + 1) levels)
@@ -44,7 +49,8 @@ first_rules levels first inside here others = (rules, below)
         let count = length-map levels (λ level. level.letter) in
         let left = length-drop (first + 1) levels in
         let within : first + 1 + k < length levels = omega (arith, h, left) in
-        let hashed : slice_index_or (letters_of levels) first d.letter ≡ Hashed = letter_at levels first d.letter inside ∙ here (record { letter = d.letter; mode = 0 }) in
+        let hashed : slice_index_or (letters_of levels) first d.letter ≡ Hashed = letter_at levels first d.letter inside
+        ∙ here (record { letter = d.letter; mode = 0 }) in
         let inserts = rule first (first + 1 + k) d.letter (omega arith) (omega (arith, within, count)) hashed in
         let same = get_or-drop (first + 1) levels k d in
         let at = get_or-map (λ level. level.letter) levels (first + 1 + k) d d.letter within in

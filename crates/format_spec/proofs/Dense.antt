@@ -31,7 +31,8 @@ pub dense_format : (n : ℕ) (levels : SmallVec FormatLevel) → n ≤ greatest_
 dense_format n levels short d = record {
   format = record {
     short = omega (arith, d.length_is, short);
-    order = subst (λ count. IsOrder count (modes_of levels.items)) (sym d.length_is) (subst (IsOrder n) (sym d.modes) (standing_is_order n));
+    order = subst (λ count. IsOrder count (modes_of levels.items)) (sym d.length_is)
+        (subst (IsOrder n) (sym d.modes) (standing_is_order n));
     chained = subst (Chained false) (sym d.letters) (dense_chained n);
     inserted = subst InsertedBelowHashed (sym d.letters) (dense_inserted n);
   };
@@ -39,14 +40,19 @@ dense_format n levels short d = record {
 }
 
 -- with one level more
-pub one_more_dense : (n : ℕ) (old new : SmallVec FormatLevel) → DenseSoFar n old → new.items ≡ old.items ++ record { letter = Dense; mode = n } ∷ [] → new.capacity ≡ old.capacity → DenseSoFar (n + 1) new
+pub one_more_dense : (n : ℕ) (old new : SmallVec FormatLevel) → DenseSoFar n old
+    → new.items ≡ old.items ++ record { letter = Dense; mode = n } ∷ [] → new.capacity ≡ old.capacity → DenseSoFar (n + 1) new
 one_more_dense n old new d pushed kept = record {
-  letters = ap letters_of pushed ∙ map-append (λ level. level.letter) old.items (record { letter = Dense; mode = n } ∷ []) ∙ ap (λ ls. ls ++ Dense ∷ []) d.letters ∙ replicate_more n;
-  modes = ap modes_of pushed ∙ map-append (λ level. level.mode) old.items (record { letter = Dense; mode = n } ∷ []) ∙ ap (λ ms. ms ++ n ∷ []) d.modes ∙ standing_append n;
-  length_is = let grown = ap length pushed ∙ length-append old.items (record { letter = Dense; mode = n } ∷ []) in omega (arith, grown, d.length_is);
+  letters = ap letters_of pushed ∙ map-append (λ level. level.letter) old.items (record { letter = Dense; mode = n } ∷ [])
+      ∙ ap (λ ls. ls ++ Dense ∷ []) d.letters ∙ replicate_more n;
+  modes = ap modes_of pushed ∙ map-append (λ level. level.mode) old.items (record { letter = Dense; mode = n } ∷ [])
+      ∙ ap (λ ms. ms ++ n ∷ []) d.modes ∙ standing_append n;
+  length_is = let grown = ap length pushed
+      ∙ length-append old.items (record { letter = Dense; mode = n } ∷ []) in omega (arith, grown, d.length_is);
   inline = kept ∙ d.inline;
 }
   where
     replicate_more : (k : ℕ) → replicate k Dense ++ Dense ∷ [] ≡ replicate (k + 1) Dense
     replicate_more zero = refl
-    replicate_more (suc k) = let same : suc (k + 1) ≡ suc k + 1 = omega arith in ap (λ ls. Dense ∷ ls) (replicate_more k) ∙ ap (λ m. replicate m Dense) same
+    replicate_more (suc k) = let same : suc (k + 1) ≡ suc k + 1 = omega arith in ap (λ ls. Dense ∷ ls) (replicate_more k)
+        ∙ ap (λ m. replicate m Dense) same

@@ -21,7 +21,8 @@ each_named (byte ∷ letters) all =
     (here.0 ∷ rest.0, ap (λ b. b ∷ letters) (sym here.1) ∙ ap (λ bs. letter_byte here.0 ∷ bs) rest.1)
 
 -- bytes of which one is no letter are the letters of no kinds
-pub one_unnamed : (letters : List ℕ) (kinds : List Letter) (k : ℕ) → k < length letters → IsNoLetter (slice_index letters k) → AreLetters letters kinds → ⊥
+pub one_unnamed : (letters : List ℕ) (kinds : List Letter) (k : ℕ) → k < length letters → IsNoLetter (slice_index letters k)
+    → AreLetters letters kinds → ⊥
 one_unnamed [] kinds k h none are = absurd (omega (arith, h))
 one_unnamed (byte ∷ letters) [] k h none are = cc
 one_unnamed (byte ∷ letters) (kind ∷ kinds) zero h none are = none kind (sym (ap (λ bs. slice_index bs 0) are))

@@ -1,5 +1,6 @@
 -- What the text of modes holds at each place.
-use Rattle.std.specs.Prelude.{◌≡◌, ℕ, zero, suc, ◌+◌, ◌*◌, ◌-◌, ◌≤◌, ◌<◌, List, [], ◌∷◌, ◌++◌, length, Some, slice_get, slice_index_or, refl}
+use Rattle.std.specs.Prelude.{◌≡◌, ℕ, zero, suc, ◌+◌, ◌*◌, ◌-◌, ◌≤◌, ◌<◌, List, [], ◌∷◌, ◌++◌, length, Some, slice_get, slice_index_or}
+use Rattle.std.specs.Prelude.{refl}
 use Rattle.std.proofs.Common.{◌∙◌, ap, arith}
 use Rattle.format_spec.specs.Words.{more_modes, mode_text}
 
@@ -7,7 +8,8 @@ pub more_append : (modes : List ℕ) (mode : ℕ) → more_modes (modes ++ mode 
 more_append [] mode = refl
 more_append (first ∷ modes) mode = ap (λ text. 44 ∷ (48 + first) ∷ text) (more_append modes mode)
 
-pub text_append : (first : ℕ) (modes : List ℕ) (mode : ℕ) → mode_text ((first ∷ modes) ++ mode ∷ []) ≡ mode_text (first ∷ modes) ++ 44 ∷ (48 + mode) ∷ []
+pub text_append : (first : ℕ) (modes : List ℕ) (mode : ℕ)
+    → mode_text ((first ∷ modes) ++ mode ∷ []) ≡ mode_text (first ∷ modes) ++ 44 ∷ (48 + mode) ∷ []
 text_append first modes mode = ap (λ text. (48 + first) ∷ text) (more_append modes mode)
 
 more_length : (modes : List ℕ) → length (more_modes modes) ≡ 2 * length modes

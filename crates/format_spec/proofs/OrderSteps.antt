@@ -1,5 +1,6 @@
 -- The modes so far of an order that is read.
-use Rattle.std.specs.Prelude.{◌≡◌, ◌≢◌, ◌⊎◌, ℕ, ◌+◌, ◌*◌, ◌≤◌, ◌<◌, List, [], ◌∷◌, ◌++◌, length, Some, slice_get, slice_index_or, All, AllPairs}
+use Rattle.std.specs.Prelude.{◌≡◌, ◌≢◌, ◌⊎◌, ℕ, ◌+◌, ◌*◌, ◌≤◌, ◌<◌, List, [], ◌∷◌, ◌++◌, length, Some, slice_get, slice_index_or, All}
+use Rattle.std.specs.Prelude.{AllPairs}
 use Rattle.std.proofs.Common.{◌∙◌, sym, ap, subst, arith, inl, inr}
 use Rattle.std.proofs.lemmas.Grind.{same_number_lists, get_or_default_zero}
 use Rattle.std.proofs.lemmas.Bool.{cases_lt}
@@ -20,19 +21,24 @@ pub record Started (count n : ℕ) (text : List ℕ) (modes : SmallVec ℕ) : Ty
   pub inline : modes.capacity ≡ 6
 
 -- a text of modes has the modes' digits at their places
-pub has_digit : (n : ℕ) (text modes : List ℕ) (k d : ℕ) → IsOrder n modes → text ≡ mode_text modes → k < n → slice_get text (2 * k) ≡ Some (48 + slice_index_or modes k d)
+pub has_digit : (n : ℕ) (text modes : List ℕ) (k d : ℕ) → IsOrder n modes → text ≡ mode_text modes → k < n
+    → slice_get text (2 * k) ≡ Some (48 + slice_index_or modes k d)
 has_digit n text modes k d order is h = ap (λ t. slice_get t (2 * k)) is ∙ text_digit modes k d (omega (arith, h, order.count))
 
 same_digit : (a b : ℕ) → Some (48 + a) ≡ Some (48 + b) → a ≡ b
 same_digit a b h = let same : 48 + a ≡ 48 + b = cc in omega (arith, same)
 
 -- the modes so far are those of every order that the text tells
-pub agree : (count n : ℕ) (text : List ℕ) (so_far : SmallVec ℕ) (modes : List ℕ) (k d : ℕ) → Started count n text so_far → IsOrder n modes → text ≡ mode_text modes → count ≤ n → k < count → slice_index_or so_far.items k d ≡ slice_index_or modes k d
+pub agree : (count n : ℕ) (text : List ℕ) (so_far : SmallVec ℕ) (modes : List ℕ) (k d : ℕ) → Started count n text so_far → IsOrder n modes
+    → text ≡ mode_text modes → count ≤ n → k < count → slice_index_or so_far.items k d ≡ slice_index_or modes k d
 agree count n text so_far modes k d s order is within h =
-    same_digit (slice_index_or so_far.items k d) (slice_index_or modes k d) (sym (s.digits k d h) ∙ has_digit n text modes k d order is (omega (arith, h, within)))
+    same_digit (slice_index_or so_far.items k d) (slice_index_or modes k d) (sym (s.digits k d h)
+    ∙ has_digit n text modes k d order is (omega (arith, h, within)))
 
 -- what stands at the next place of a text of modes is a mode that isn't among those so far
-pub next_is_new : (count n : ℕ) (text : List ℕ) (so_far : SmallVec ℕ) (modes : List ℕ) (mode : ℕ) → Started count n text so_far → IsOrder n modes → text ≡ mode_text modes → count < n → slice_get text (2 * count) ≡ Some (48 + mode) → (mode < n) × All (λ other. other ≢ mode) so_far.items
+pub next_is_new : (count n : ℕ) (text : List ℕ) (so_far : SmallVec ℕ) (modes : List ℕ) (mode : ℕ) → Started count n text so_far
+    → IsOrder n modes → text ≡ mode_text modes → count < n → slice_get text (2 * count) ≡ Some (48 + mode)
+    → (mode < n) × All (λ other. other ≢ mode) so_far.items
 next_is_new count n text so_far modes mode s order is within at =
     let long = order.count in
     let same = same_digit mode (slice_index_or modes count 0) (sym at ∙ has_digit n text modes count 0 order is within) in
@@ -46,11 +52,14 @@ next_is_new count n text so_far modes mode s order is within at =
     )
 
 -- with one mode more
-pub one_more : (count n : ℕ) (text : List ℕ) (old new : SmallVec ℕ) (mode : ℕ) → Started count n text old → mode < n → All (λ other. other ≢ mode) old.items → slice_get text (2 * count) ≡ Some (48 + mode) → new.items ≡ old.items ++ mode ∷ [] → new.capacity ≡ old.capacity → Started (count + 1) n text new
+pub one_more : (count n : ℕ) (text : List ℕ) (old new : SmallVec ℕ) (mode : ℕ) → Started count n text old → mode < n
+    → All (λ other. other ≢ mode) old.items → slice_get text (2 * count) ≡ Some (48 + mode) → new.items ≡ old.items ++ mode ∷ []
+    → new.capacity ≡ old.capacity → Started (count + 1) n text new
 one_more count n text old new mode s small fresh at pushed kept = record {
   length_is = longer;
   below = λ k d h. low k d h (cases_lt k count);
-  once = subst (AllPairs (λ earlier later. earlier ≢ later)) (sym pushed) (all_pairs_push (λ earlier later. earlier ≢ later) old.items mode s.once fresh);
+  once = subst (AllPairs (λ earlier later. earlier ≢ later)) (sym pushed)
+      (all_pairs_push (λ earlier later. earlier ≢ later) old.items mode s.once fresh);
   digits = λ k d h. digit k d h (cases_lt k count);
   inline = kept ∙ s.inline;
 }
@@ -64,7 +73,8 @@ one_more count n text old new mode s small fresh at pushed kept = record {
     at_end : (k d : ℕ) → k ≡ count → slice_index_or new.items k d ≡ mode
     at_end k d is =
         let last : k ≡ length old.items = is ∙ sym s.length_is in
-        ap (λ ms. slice_index_or ms k d) pushed ∙ ap (λ n. slice_index_or (old.items ++ mode ∷ []) n d) last ∙ get_or-append_seam old.items mode [] d
+        ap (λ ms. slice_index_or ms k d) pushed ∙ ap (λ n. slice_index_or (old.items ++ mode ∷ []) n d) last
+        ∙ get_or-append_seam old.items mode [] d
 
     low : (k d : ℕ) → k < length new.items → (k < count) ⊎ (count ≤ k) → slice_index_or new.items k d < n
     low k d h (inl earlier) =
@@ -80,5 +90,7 @@ one_more count n text old new mode s small fresh at pushed kept = record {
         ap (λ m. slice_get text (2 * m)) is ∙ at ∙ ap (λ m. Some (48 + m)) (sym (at_end k d is))
 
 -- the modes of a text are those that were read off it
-pub all_read : (n : ℕ) (text : List ℕ) (so_far : SmallVec ℕ) (modes : List ℕ) → Started n n text so_far → IsOrder n modes → text ≡ mode_text modes → so_far.items ≡ modes
-all_read n text so_far modes s order is = same_number_lists so_far.items modes (s.length_is ∙ sym order.count) (λ k h. agree n n text so_far modes k 0 s order is (omega arith) (omega (arith, h, s.length_is)))
+pub all_read : (n : ℕ) (text : List ℕ) (so_far : SmallVec ℕ) (modes : List ℕ) → Started n n text so_far → IsOrder n modes
+    → text ≡ mode_text modes → so_far.items ≡ modes
+all_read n text so_far modes s order is = same_number_lists so_far.items modes (s.length_is
+    ∙ sym order.count) (λ k h. agree n n text so_far modes k 0 s order is (omega arith) (omega (arith, h, s.length_is)))

@@ -1,5 +1,6 @@
 -- Letters and an order have one answer.
-use Rattle.std.specs.Prelude.{◌≡◌, ◌⊎◌, ℕ, ◌+◌, ◌≤◌, ◌<◌, ◌==◌, if◌then◌else◌, false, List, [], ◌∷◌, length, map, Option, Some, None, Result, Ok, Err, refl}
+use Rattle.std.specs.Prelude.{◌≡◌, ◌⊎◌, ℕ, ◌+◌, ◌≤◌, ◌<◌, ◌==◌, if◌then◌else◌, false, List, [], ◌∷◌, length, map, Option, Some, None}
+use Rattle.std.specs.Prelude.{Result, Ok, Err, refl}
 use Rattle.std.proofs.Common.{◌∙◌, sym, ap, subst, arith, inl, inr}
 use Rattle.std.proofs.lemmas.List.{length-map}
 use Rattle.std.proofs.lemmas.Bool.{cases_order}
@@ -56,7 +57,8 @@ one_order None n modes others are be = are ∙ sym be
 one_order (Some text) n modes others are be = text_apart modes others (sym are.1 ∙ be.1)
 
 -- levels are told by their kinds and modes
-same_levels : (levels others : List FormatLevel) → letters_of levels ≡ letters_of others → modes_of levels ≡ modes_of others → levels ≡ others
+same_levels : (levels others : List FormatLevel) → letters_of levels ≡ letters_of others → modes_of levels ≡ modes_of others
+    → levels ≡ others
 same_levels [] [] h g = refl
 same_levels [] (other ∷ others) h g = cc
 same_levels (level ∷ levels) [] h g = cc
@@ -65,7 +67,9 @@ same_levels (level ∷ levels) (other ∷ others) h g =
     let mode : level.mode ≡ other.mode = cc in
     let letters : letters_of levels ≡ letters_of others = cc in
     let modes : modes_of levels ≡ modes_of others = cc in
-    ap (λ l. record { letter = l; mode = level.mode } ∷ levels) letter ∙ ap (λ m. record { letter = other.letter; mode = m } ∷ levels) mode ∙ ap (λ ls. other ∷ ls) (same_levels levels others letters modes)
+    ap (λ l. record { letter = l; mode = level.mode } ∷ levels) letter
+    ∙ ap (λ m. record { letter = other.letter; mode = m } ∷ levels) mode
+    ∙ ap (λ ls. other ∷ ls) (same_levels levels others letters modes)
 
 -- the place of a fault among those that are looked for
 abbrev rank : FormatFault → ℕ
@@ -97,23 +101,73 @@ record Good (letters : List ℕ) (order : Option (List ℕ)) (n place : ℕ) : T
 no_less : {P : Type 0} (a b : ℕ) → b ≤ a → a < b → P
 no_less a b h g = absurd (omega (arith, h, g))
 
-good_levels : (letters : List ℕ) (order : Option (List ℕ)) (n : ℕ) (levels : List FormatLevel) → Answers letters order n (Ok levels) → Good letters order n 5
-good_levels letters order n levels x = record { kinds = letters_of levels; letters_are = x.0.letters_are; count = λ _. x.0.count; modes = λ _. (modes_of levels, x.0.modes_are); chained = λ _. x.1; inserted = λ _. x.2 }
+good_levels : (letters : List ℕ) (order : Option (List ℕ)) (n : ℕ) (levels : List FormatLevel) → Answers letters order n (Ok levels)
+    → Good letters order n 5
+good_levels letters order n levels x =
+    record {
+      kinds = letters_of levels;
+      letters_are = x.0.letters_are;
+      count = λ _. x.0.count;
+      modes =
+          λ _. (modes_of levels, x.0.modes_are);
+      chained = λ _. x.1;
+      inserted = λ _. x.2;
+    }
 
-good_before : (letters : List ℕ) (order : Option (List ℕ)) (n : ℕ) (fault : FormatFault) → Answers letters order n (Err fault) → 0 < rank fault → Good letters order n (rank fault)
+good_before : (letters : List ℕ) (order : Option (List ℕ)) (n : ℕ) (fault : FormatFault) → Answers letters order n (Err fault)
+    → 0 < rank fault → Good letters order n (rank fault)
 good_before letters order n BadLetter x h = absurd (omega (arith, h))
-good_before letters order n BadLength x h = record { kinds = x.0; letters_are = x.1; count = no_less 1 1 (omega arith); modes = no_less 2 1 (omega arith); chained = no_less 3 1 (omega arith); inserted = no_less 4 1 (omega arith) }
-good_before letters order n BadOrder x h = record { kinds = x.0; letters_are = x.1; count = λ _. x.2; modes = no_less 2 2 (omega arith); chained = no_less 3 2 (omega arith); inserted = no_less 4 2 (omega arith) }
-good_before letters order n BadChain x h = record { kinds = x.0; letters_are = x.2.letters_are; count = λ _. x.2.count; modes = λ _. (x.1, x.2.modes_are); chained = no_less 3 3 (omega arith); inserted = no_less 4 3 (omega arith) }
-good_before letters order n BelowHashed x h = record { kinds = x.0; letters_are = x.2.letters_are; count = λ _. x.2.count; modes = λ _. (x.1, x.2.modes_are); chained = λ _. x.3; inserted = no_less 4 4 (omega arith) }
+good_before letters order n BadLength x h =
+    record {
+      kinds = x.0;
+      letters_are = x.1;
+      count = no_less 1 1 (omega arith);
+      modes = no_less 2 1 (omega arith);
+      chained =
+          no_less 3 1 (omega arith);
+      inserted = no_less 4 1 (omega arith);
+    }
+good_before letters order n BadOrder x h =
+    record {
+      kinds = x.0;
+      letters_are = x.1;
+      count = λ _. x.2;
+      modes = no_less 2 2 (omega arith);
+      chained =
+          no_less 3 2 (omega arith);
+      inserted = no_less 4 2 (omega arith);
+    }
+good_before letters order n BadChain x h =
+    record {
+      kinds = x.0;
+      letters_are = x.2.letters_are;
+      count = λ _. x.2.count;
+      modes = λ _. (x.1, x.2.modes_are);
+      chained =
+          no_less 3 3 (omega arith);
+      inserted = no_less 4 3 (omega arith);
+    }
+good_before letters order n BelowHashed x h =
+    record {
+      kinds = x.0;
+      letters_are = x.2.letters_are;
+      count = λ _. x.2.count;
+      modes = λ _. (x.1, x.2.modes_are);
+      chained =
+          λ _. x.3;
+      inserted = no_less 4 4 (omega arith);
+    }
 
 -- a fault isn't answered where more is good
-not_before : (letters : List ℕ) (order : Option (List ℕ)) (n place : ℕ) (fault : FormatFault) → Answers letters order n (Err fault) → rank fault < place → Good letters order n place → ⊥
+not_before : (letters : List ℕ) (order : Option (List ℕ)) (n place : ℕ) (fault : FormatFault) → Answers letters order n (Err fault)
+    → rank fault < place → Good letters order n place → ⊥
 not_before letters order n place BadLetter x h g = x g.kinds g.letters_are
 not_before letters order n place BadLength x h g = x.2 (ap length (one_list_of_kinds letters x.0 g.kinds x.1 g.letters_are) ∙ g.count h)
 not_before letters order n place BadOrder x h g = let modes = g.modes h in x.3 modes.0 modes.1
-not_before letters order n place BadChain x h g = x.3 (subst (Chained false) (one_list_of_kinds letters g.kinds x.0 g.letters_are x.2.letters_are) (g.chained h))
-not_before letters order n place BelowHashed x h g = x.4 (subst InsertedBelowHashed (one_list_of_kinds letters g.kinds x.0 g.letters_are x.2.letters_are) (g.inserted h))
+not_before letters order n place BadChain x h g =
+    x.3 (subst (Chained false) (one_list_of_kinds letters g.kinds x.0 g.letters_are x.2.letters_are) (g.chained h))
+not_before letters order n place BelowHashed x h g =
+    x.4 (subst InsertedBelowHashed (one_list_of_kinds letters g.kinds x.0 g.letters_are x.2.letters_are) (g.inserted h))
 
 below_five : (fault : FormatFault) → rank fault < 5
 below_five BadLetter = omega arith
@@ -122,20 +176,27 @@ below_five BadOrder = omega arith
 below_five BadChain = omega arith
 below_five BelowHashed = omega arith
 
-pub one_answer : (letters : List ℕ) (order : Option (List ℕ)) (n : ℕ) (a b : Result (List FormatLevel) FormatFault) → Answers letters order n a → Answers letters order n b → a ≡ b
+pub one_answer : (letters : List ℕ) (order : Option (List ℕ)) (n : ℕ) (a b : Result (List FormatLevel) FormatFault)
+    → Answers letters order n a → Answers letters order n b → a ≡ b
 one_answer letters order n (Ok levels) (Ok others) x y =
-    ap Ok (same_levels levels others (one_list_of_kinds letters (letters_of levels) (letters_of others) x.0.letters_are y.0.letters_are) (one_order order n (modes_of levels) (modes_of others) x.0.modes_are y.0.modes_are))
-one_answer letters order n (Ok levels) (Err fault) x y = absurd (not_before letters order n 5 fault y (below_five fault) (good_levels letters order n levels x))
-one_answer letters order n (Err fault) (Ok levels) x y = absurd (not_before letters order n 5 fault x (below_five fault) (good_levels letters order n levels y))
+    ap Ok (same_levels levels others (one_list_of_kinds letters (letters_of levels) (letters_of others) x.0.letters_are y.0.letters_are)
+    (one_order order n (modes_of levels) (modes_of others) x.0.modes_are y.0.modes_are))
+one_answer letters order n (Ok levels) (Err fault) x y =
+    absurd (not_before letters order n 5 fault y (below_five fault) (good_levels letters order n levels x))
+one_answer letters order n (Err fault) (Ok levels) x y =
+    absurd (not_before letters order n 5 fault x (below_five fault) (good_levels letters order n levels y))
 one_answer letters order n (Err fault) (Err other) x y = ap Err (by_order (cases_order (rank fault) (rank other)))
   where
     by_order : (rank fault ≡ rank other) ⊎ ((rank fault < rank other) ⊎ (rank other < rank fault)) → fault ≡ other
     by_order (inl same) = sym (ranked_back fault) ∙ ap ranked same ∙ ranked_back other
-    by_order (inr (inl before)) = absurd (not_before letters order n (rank other) fault x before (good_before letters order n other y (omega (arith, before))))
-    by_order (inr (inr after)) = absurd (not_before letters order n (rank fault) other y after (good_before letters order n fault x (omega (arith, after))))
+    by_order (inr (inl before)) =
+        absurd (not_before letters order n (rank other) fault x before (good_before letters order n other y (omega (arith, before))))
+    by_order (inr (inr after)) =
+        absurd (not_before letters order n (rank fault) other y after (good_before letters order n fault x (omega (arith, after))))
 
 -- the text of a format stands for the format
-pub read_back : (levels : List FormatLevel) → IsFormat levels → Answers (map letter_byte (letters_of levels)) (Some (mode_text (modes_of levels))) (length levels) (Ok levels)
+pub read_back : (levels : List FormatLevel) → IsFormat levels
+    → Answers (map letter_byte (letters_of levels)) (Some (mode_text (modes_of levels))) (length levels) (Ok levels)
 read_back levels format = (
   record { letters_are = refl; count = length-map levels (λ level. level.letter); modes_are = (format.order, refl) },
   format.chained,

@@ -1,4 +1,5 @@
 pub mod NumberingLaws
+pub mod ProductSentences
 pub mod SentenceLaws
 pub mod StatementLaws
 pub mod TextLaws

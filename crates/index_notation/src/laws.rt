@@ -1,7 +1,8 @@
 //! What follows from the definition of the statement that a text is, as calls whose contract is the law. They
 //! do nothing.
-ghost use Rattle.std.specs.Prelude.{◌≡◌, ℕ, List};
+ghost use Rattle.std.specs.Prelude.{◌≡◌, ◌↔◌, ℕ, List};
 ghost use Rattle.index_notation.specs.Tokens.{IsTokens};
+ghost use Rattle.index_notation.specs.ProductTrees.{IsProductText};
 ghost use Rattle.index_notation.specs.Text.{IsText};
 ghost use Rattle.index_notation.specs.declared.sentence.Token.{Token};
 ghost use Rattle.index_notation.specs.declared.syntax.Statement.{Statement};
@@ -14,4 +15,10 @@ pub fn one_token_list_a_text()
 /// A text has one statement at most.
 pub fn one_statement_a_text()
     ensures { (text : List ℕ) (s t : Statement) → IsText text s → IsText text t → s ≡ t }
+{}
+
+/// The form that is compiled so far is a part of the whole notation: its texts are those whose symbols are a syntax tree's
+/// with a product of accesses on the right, and their statements are the trees'.
+pub fn products_are_a_part_of_the_notation()
+    ensures { (text : List ℕ) (s : Statement) → IsText text s ↔ IsProductText text s }
 {}

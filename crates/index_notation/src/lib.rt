@@ -14,7 +14,7 @@ mod symbol;
 mod syntax;
 
 pub use fault::{Counted, NotationFault, SymbolFault};
-pub use laws::{one_statement_a_text, one_token_list_a_text};
+pub use laws::{one_statement_a_text, one_token_list_a_text, products_are_a_part_of_the_notation};
 pub use sentence::{Mark, Sentence, Token, WrittenAccess};
 pub use symbol::{PlacedSymbol, Symbol};
 pub use syntax::{Access, Expr, Name, Statement, copy_access, copy_expr, copy_name};

@@ -5,7 +5,8 @@ use Rattle.std.proofs.lemmas.Bool.Decides.{nat_tests}
 use Rattle.limits.specs.Limits.{greatest_position_count, greatest_workspace_pairs}
 use Rattle.limits.proofs.Limits.{positions_are_small, workspace_pairs_are_small}
 use Rattle.kernel_code.specs.declared.syntax.Arr.{Arr}
-use Rattle.kernel_code.specs.declared.syntax.Arr.TheVariants.{Range, Values, Dimension, Ends, Coordinates, Width, Key, Sums, ListCoordinates, ListPositions}
+use Rattle.kernel_code.specs.declared.syntax.Arr.TheVariants.{Range, Values, Dimension, Ends, Coordinates, Width, Key, Sums}
+use Rattle.kernel_code.specs.declared.syntax.Arr.TheVariants.{ListCoordinates, ListPositions}
 use Rattle.kernel_code.specs.Arrays.{same_arr, may_have, word_count}
 use Rattle.lists.proofs.Tests.{both_true, same_number, number_same}
 
@@ -13,7 +14,8 @@ one_name : (f : ℕ → Arr) (n m : ℕ) → (n == m) ≡ true → f n ≡ f m
 one_name f n m h = ap f (same_number n m h)
 
 two_names : (f : ℕ → ℕ → Arr) (n m k l : ℕ) → ((n == m) && (k == l)) ≡ true → f n k ≡ f m l
-two_names f n m k l h = let both = both_true (n == m) (k == l) h in ap (λ x. f x k) (same_number n m both.0) ∙ ap (f m) (same_number k l both.1)
+two_names f n m k l h = let both = both_true (n == m) (k == l) h in ap (λ x. f x k) (same_number n m both.0)
+    ∙ ap (f m) (same_number k l both.1)
 
 pub same_arr_is : (a b : Arr) → same_arr a b ≡ true → a ≡ b
 same_arr_is Range Range h = refl

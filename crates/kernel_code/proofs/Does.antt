@@ -1,5 +1,6 @@
 -- Lemmas about what specs/Does.antt defines.
-use Rattle.std.specs.Prelude.{◌≡◌, ℕ, zero, suc, ◌+◌, ◌≤◌, ◌<◌, Bool, true, false, nat_lt, if◌then◌else◌, List, [], ◌∷◌, ◌++◌, length, take, replicate, Some, slice_get, slice_index, slice_set, refl}
+use Rattle.std.specs.Prelude.{◌≡◌, ℕ, zero, suc, ◌+◌, ◌≤◌, ◌<◌, Bool, true, false, nat_lt, if◌then◌else◌, List, [], ◌∷◌, ◌++◌, length}
+use Rattle.std.specs.Prelude.{take, replicate, Some, slice_get, slice_index, slice_set, refl}
 use Rattle.std.proofs.Common.{◌∙◌, ap, arith}
 use Rattle.std.proofs.lemmas.Bool.Decides.{nat_tests}
 use Rattle.kernel_code.specs.declared.syntax.Arr.{Arr}
@@ -9,30 +10,39 @@ use Rattle.kernel_code.specs.declared.syntax.ValueOp.{ValueOp}
 use Rattle.kernel_code.specs.declared.syntax.KExpr.{KExpr}
 use Rattle.kernel_code.specs.declared.syntax.KStmt.{KStmt, Set, Combine, Put, AddTo, Push, Extend, Cut, Sort, SortSum, If, While}
 use Rattle.kernel_code.specs.Arrays.{may_write, may_have, told_count, sum_in}
-use Rattle.kernel_code.specs.Meaning.{Setting, State, Outcome, Ended, Stuck, Over, More, value, apply_each, combined, then_run, if_written, with_array, set_var, set_array, one_turn, changed, grown, choice, run, run_list, run_turns, sort_outcome, sort_sum_outcome, set_outcome, put_outcome, add_outcome, push_outcome, extend_outcome, cut_outcome}
+use Rattle.kernel_code.specs.Meaning.{Setting, State, Outcome, Ended, Stuck, Over, More, value, apply_each, combined, then_run, if_written}
+use Rattle.kernel_code.specs.Meaning.{with_array, set_var, set_array, one_turn, changed, grown, choice, run, run_list, run_turns}
+use Rattle.kernel_code.specs.Meaning.{sort_outcome, sort_sum_outcome, set_outcome, put_outcome, add_outcome, push_outcome, extend_outcome}
+use Rattle.kernel_code.specs.Meaning.{cut_outcome}
 use Rattle.kernel_code.proofs.Equations.{run_if, run_while}
 use Rattle.kernel_code.specs.Does.{Refusal, OnOutcome, Does, Turn, Ends, Goes}
 
-weaker_on : (P Q : State → Type 0) (R T : Refusal) (o : Outcome) → ((s : State) → P s → Q s) → ((t : LoopKind → ℕ) (a : Arr) (count : ℕ) → R t a count → T t a count) → OnOutcome P R o → OnOutcome Q T o
+weaker_on : (P Q : State → Type 0) (R T : Refusal) (o : Outcome) → ((s : State) → P s → Q s)
+    → ((t : LoopKind → ℕ) (a : Arr) (count : ℕ) → R t a count → T t a count) → OnOutcome P R o → OnOutcome Q T o
 weaker_on P Q R T (Ended s) f g h = f s h
 weaker_on P Q R T (Stuck t) f g h = h
 weaker_on P Q R T (Over t a count) f g h = g t a count h
 weaker_on P Q R T More f g h = h
 
-pub does_weaker : (c : Setting) (code : List KStmt) (s : State) (P Q : State → Type 0) (R T : Refusal) → Does c code s P R → ((s' : State) → P s' → Q s') → ((t : LoopKind → ℕ) (a : Arr) (count : ℕ) → R t a count → T t a count) → Does c code s Q T
-does_weaker c code s P Q R T d f g = record { enough = d.enough; outcome = d.outcome; reached = d.reached; kept = weaker_on P Q R T d.outcome f g d.kept }
+pub does_weaker : (c : Setting) (code : List KStmt) (s : State) (P Q : State → Type 0) (R T : Refusal) → Does c code s P R
+    → ((s' : State) → P s' → Q s') → ((t : LoopKind → ℕ) (a : Arr) (count : ℕ) → R t a count → T t a count) → Does c code s Q T
+does_weaker c code s P Q R T d f g =
+    record { enough = d.enough; outcome = d.outcome; reached = d.reached; kept = weaker_on P Q R T d.outcome f g d.kept }
 
 pub does_nothing : (c : Setting) (s : State) (P : State → Type 0) (R : Refusal) → P s → Does c [] s P R
 does_nothing c s P R h = record { enough = 0; outcome = Ended s; reached = λ m _. refl; kept = h }
 
-then_assoc : (c : Setting) (n : ℕ) (a b : List KStmt) (o : Outcome) → ((s : State) → run_list c n (a ++ b) s ≡ then_run (run_list c n a s) (run_list c n b)) → then_run o (run_list c n (a ++ b)) ≡ then_run (then_run o (run_list c n a)) (run_list c n b)
+then_assoc : (c : Setting) (n : ℕ) (a b : List KStmt) (o : Outcome)
+    → ((s : State) → run_list c n (a ++ b) s ≡ then_run (run_list c n a s) (run_list c n b))
+    → then_run o (run_list c n (a ++ b)) ≡ then_run (then_run o (run_list c n a)) (run_list c n b)
 then_assoc c n a b (Ended s') h = h s'
 then_assoc c n a b (Stuck t) h = refl
 then_assoc c n a b (Over t x count) h = refl
 then_assoc c n a b More h = refl
 
 -- code and then more code
-pub run_append : (c : Setting) (n : ℕ) (a b : List KStmt) (s : State) → run_list c n (a ++ b) s ≡ then_run (run_list c n a s) (run_list c n b)
+pub run_append : (c : Setting) (n : ℕ) (a b : List KStmt) (s : State)
+    → run_list c n (a ++ b) s ≡ then_run (run_list c n a s) (run_list c n b)
 run_append c n [] b s = refl
 run_append c n (k ∷ a) b s = then_assoc c n a b (run c n k s) (run_append c n a b)
 
@@ -56,15 +66,18 @@ then_does c a b s P Q R n (Over t x count) reached h next =
     }
 then_does c a b s P Q R n More reached h next = absurd h
 
-pub does_append : (c : Setting) (a b : List KStmt) (s : State) (P Q : State → Type 0) (R : Refusal) → Does c a s P R → ((s' : State) → P s' → Does c b s' Q R) → Does c (a ++ b) s Q R
+pub does_append : (c : Setting) (a b : List KStmt) (s : State) (P Q : State → Type 0) (R : Refusal) → Does c a s P R
+    → ((s' : State) → P s' → Does c b s' Q R) → Does c (a ++ b) s Q R
 does_append c a b s P Q R d next = then_does c a b s P Q R d.enough d.outcome d.reached d.kept next
 
 -- a statement before others
-pub does_then : (c : Setting) (k : KStmt) (rest : List KStmt) (s : State) (P Q : State → Type 0) (R : Refusal) → Does c (k ∷ []) s P R → ((s' : State) → P s' → Does c rest s' Q R) → Does c (k ∷ rest) s Q R
+pub does_then : (c : Setting) (k : KStmt) (rest : List KStmt) (s : State) (P Q : State → Type 0) (R : Refusal) → Does c (k ∷ []) s P R
+    → ((s' : State) → P s' → Does c rest s' Q R) → Does c (k ∷ rest) s Q R
 does_then c k rest s P Q R d next = does_append c (k ∷ []) rest s P Q R d next
 
 -- a statement that ends whatever the bound
-pub does_ended : (c : Setting) (k : KStmt) (rest : List KStmt) (s s' : State) (P : State → Type 0) (R : Refusal) → ((m : ℕ) → run c m k s ≡ Ended s') → Does c rest s' P R → Does c (k ∷ rest) s P R
+pub does_ended : (c : Setting) (k : KStmt) (rest : List KStmt) (s s' : State) (P : State → Type 0) (R : Refusal)
+    → ((m : ℕ) → run c m k s ≡ Ended s') → Does c rest s' P R → Does c (k ∷ rest) s P R
 does_ended c k rest s s' P R h d = record {
   enough = d.enough;
   outcome = d.outcome;
@@ -73,7 +86,8 @@ does_ended c k rest s s' P R h d = record {
 }
 
 -- a statement that is refused a growth whatever the bound
-pub does_over : (c : Setting) (k : KStmt) (rest : List KStmt) (s : State) (t : LoopKind → ℕ) (a : Arr) (count : ℕ) (P : State → Type 0) (R : Refusal) → ((m : ℕ) → run c m k s ≡ Over t a count) → R t a count → Does c (k ∷ rest) s P R
+pub does_over : (c : Setting) (k : KStmt) (rest : List KStmt) (s : State) (t : LoopKind → ℕ) (a : Arr) (count : ℕ) (P : State
+    → Type 0) (R : Refusal) → ((m : ℕ) → run c m k s ≡ Over t a count) → R t a count → Does c (k ∷ rest) s P R
 does_over c k rest s t a count P R h r = record {
   enough = 0;
   outcome = Over t a count;
@@ -81,46 +95,64 @@ does_over c k rest s t a count P R h r = record {
   kept = r;
 }
 
-pub with_array_is : (s : State) (a : Arr) (xs : List ℕ) (next : List ℕ → Outcome) → may_write a ≡ true → s.arrays a ≡ Some xs → with_array s a next ≡ next xs
+pub with_array_is : (s : State) (a : Arr) (xs : List ℕ) (next : List ℕ → Outcome) → may_write a ≡ true → s.arrays a ≡ Some xs
+    → with_array s a next ≡ next xs
 with_array_is s a xs next w h = ap (λ b. if_written s b (s.arrays a) next) w ∙ ap (λ ys. if_written s true ys next) h
 
-pub changed_is : (s : State) (a : Arr) (i : ℕ) (f : ℕ → ℕ) (xs : List ℕ) → i < length xs → changed s a i f xs ≡ Ended (set_array s a (slice_set xs i (f (slice_index xs i))))
-changed_is s a i f xs h = let is : nat_lt i (length xs) ≡ true = grind (arith, nat_tests) in ap (λ b. if b then Ended (set_array s a (slice_set xs i (f (slice_index xs i)))) else Stuck s.turns) is
+pub changed_is : (s : State) (a : Arr) (i : ℕ) (f : ℕ → ℕ) (xs : List ℕ) → i < length xs
+    → changed s a i f xs ≡ Ended (set_array s a (slice_set xs i (f (slice_index xs i))))
+changed_is s a i f xs h = let is : nat_lt i (length xs) ≡ true =
+    grind (arith, nat_tests) in ap (λ b. if b then Ended (set_array s a (slice_set xs i (f (slice_index xs i)))) else Stuck s.turns) is
 
-pub grown_is : (s : State) (a : Arr) (count : ℕ) (xs more : List ℕ) → may_have a count ≡ true → grown s a count xs more ≡ Ended (set_array s a (xs ++ more))
+pub grown_is : (s : State) (a : Arr) (count : ℕ) (xs more : List ℕ) → may_have a count ≡ true
+    → grown s a count xs more ≡ Ended (set_array s a (xs ++ more))
 grown_is s a count xs more h = ap (λ b. if b then Ended (set_array s a (xs ++ more)) else Over s.turns a (told_count a count)) h
 
-pub grown_over : (s : State) (a : Arr) (count : ℕ) (xs more : List ℕ) → may_have a count ≡ false → grown s a count xs more ≡ Over s.turns a (told_count a count)
+pub grown_over : (s : State) (a : Arr) (count : ℕ) (xs more : List ℕ) → may_have a count ≡ false
+    → grown s a count xs more ≡ Over s.turns a (told_count a count)
 grown_over s a count xs more h = ap (λ b. if b then Ended (set_array s a (xs ++ more)) else Over s.turns a (told_count a count)) h
 
-pub does_set : (c : Setting) (x : ℕ) (e : KExpr) (rest : List KStmt) (s : State) (v : ℕ) (P : State → Type 0) (R : Refusal) → value e s ≡ Some v → Does c rest (set_var s x v) P R → Does c (Set x e ∷ rest) s P R
+pub does_set : (c : Setting) (x : ℕ) (e : KExpr) (rest : List KStmt) (s : State) (v : ℕ) (P : State → Type 0) (R : Refusal)
+    → value e s ≡ Some v → Does c rest (set_var s x v) P R → Does c (Set x e ∷ rest) s P R
 does_set c x e rest s v P R h d = does_ended c (Set x e) rest s (set_var s x v) P R (λ m. ap (set_outcome s x) h) d
 
-pub does_combine : (c : Setting) (x : ℕ) (o : ValueOp) (e f : KExpr) (rest : List KStmt) (s : State) (v w : ℕ) (P : State → Type 0) (R : Refusal) → value e s ≡ Some v → value f s ≡ Some w
+pub does_combine : (c : Setting) (x : ℕ) (o : ValueOp) (e f : KExpr) (rest : List KStmt) (s : State) (v w : ℕ) (P : State
+    → Type 0) (R : Refusal) → value e s ≡ Some v → value f s ≡ Some w
     → Does c rest (set_var s x (combined c.arithmetic o v w)) P R → Does c (Combine x o e f ∷ rest) s P R
 does_combine c x o e f rest s v w P R he hf d =
     does_ended c (Combine x o e f) rest s (set_var s x (combined c.arithmetic o v w)) P R
-    (λ m. ap (λ u. set_outcome s x (apply_each (combined c.arithmetic o) u (value f s))) he ∙ ap (λ u. set_outcome s x (apply_each (combined c.arithmetic o) (Some v) u)) hf) d
+    (λ m. ap (λ u. set_outcome s x (apply_each (combined c.arithmetic o) u (value f s))) he
+    ∙ ap (λ u. set_outcome s x (apply_each (combined c.arithmetic o) (Some v) u)) hf) d
 
-pub does_put : (c : Setting) (a : Arr) (i e : KExpr) (rest : List KStmt) (s : State) (j v : ℕ) (xs : List ℕ) (P : State → Type 0) (R : Refusal) → value i s ≡ Some j → value e s ≡ Some v → may_write a ≡ true → s.arrays a ≡ Some xs → j < length xs
+pub does_put : (c : Setting) (a : Arr) (i e : KExpr) (rest : List KStmt) (s : State) (j v : ℕ) (xs : List ℕ) (P : State
+    → Type 0) (R : Refusal) → value i s ≡ Some j → value e s ≡ Some v → may_write a ≡ true → s.arrays a ≡ Some xs → j < length xs
     → Does c rest (set_array s a (slice_set xs j v)) P R → Does c (Put a i e ∷ rest) s P R
 does_put c a i e rest s j v xs P R hi he w ha l d =
     does_ended c (Put a i e) rest s (set_array s a (slice_set xs j v)) P R
-    (λ m. ap (λ o. put_outcome s a o (value e s)) hi ∙ ap (put_outcome s a (Some j)) he ∙ with_array_is s a xs (changed s a j (λ old. v)) w ha ∙ changed_is s a j (λ old. v) xs l) d
+    (λ m. ap (λ o. put_outcome s a o (value e s)) hi ∙ ap (put_outcome s a (Some j)) he
+    ∙ with_array_is s a xs (changed s a j (λ old. v)) w ha ∙ changed_is s a j (λ old. v) xs l) d
 
-pub does_add_to : (c : Setting) (a : Arr) (i e : KExpr) (rest : List KStmt) (s : State) (j v : ℕ) (xs : List ℕ) (P : State → Type 0) (R : Refusal) → value i s ≡ Some j → value e s ≡ Some v → may_write a ≡ true → s.arrays a ≡ Some xs → j < length xs
+pub does_add_to : (c : Setting) (a : Arr) (i e : KExpr) (rest : List KStmt) (s : State) (j v : ℕ) (xs : List ℕ) (P : State
+    → Type 0) (R : Refusal) → value i s ≡ Some j → value e s ≡ Some v → may_write a ≡ true → s.arrays a ≡ Some xs → j < length xs
     → Does c rest (set_array s a (slice_set xs j (sum_in c.arithmetic a (slice_index xs j) v))) P R → Does c (AddTo a i e ∷ rest) s P R
 does_add_to c a i e rest s j v xs P R hi he w ha l d =
     does_ended c (AddTo a i e) rest s (set_array s a (slice_set xs j (sum_in c.arithmetic a (slice_index xs j) v))) P R
-    (λ m. ap (λ o. add_outcome c.arithmetic s a o (value e s)) hi ∙ ap (add_outcome c.arithmetic s a (Some j)) he ∙ with_array_is s a xs (changed s a j (λ old. sum_in c.arithmetic a old v)) w ha ∙ changed_is s a j (λ old. sum_in c.arithmetic a old v) xs l) d
+    (λ m. ap (λ o. add_outcome c.arithmetic s a o (value e s)) hi ∙ ap (add_outcome c.arithmetic s a (Some j)) he
+    ∙ with_array_is s a xs (changed s a j (λ old. sum_in c.arithmetic a old v)) w ha
+    ∙ changed_is s a j (λ old. sum_in c.arithmetic a old v) xs l) d
 
 -- a growth that is allowed goes on, and one that isn't is refused
-grows : (c : Setting) (k : KStmt) (rest : List KStmt) (s : State) (a : Arr) (count : ℕ) (xs more : List ℕ) (P : State → Type 0) (R : Refusal) (b : Bool) → may_have a count ≡ b → ((m : ℕ) → run c m k s ≡ grown s a count xs more)
-    → (may_have a count ≡ true → Does c rest (set_array s a (xs ++ more)) P R) → (may_have a count ≡ false → R s.turns a (told_count a count)) → Does c (k ∷ rest) s P R
-grows c k rest s a count xs more P R true is h go over = does_ended c k rest s (set_array s a (xs ++ more)) P R (λ m. h m ∙ grown_is s a count xs more is) (go is)
-grows c k rest s a count xs more P R false is h go over = does_over c k rest s s.turns a (told_count a count) P R (λ m. h m ∙ grown_over s a count xs more is) (over is)
+grows : (c : Setting) (k : KStmt) (rest : List KStmt) (s : State) (a : Arr) (count : ℕ) (xs more : List ℕ) (P : State
+    → Type 0) (R : Refusal) (b : Bool) → may_have a count ≡ b → ((m : ℕ) → run c m k s ≡ grown s a count xs more)
+    → (may_have a count ≡ true → Does c rest (set_array s a (xs ++ more)) P R)
+    → (may_have a count ≡ false → R s.turns a (told_count a count)) → Does c (k ∷ rest) s P R
+grows c k rest s a count xs more P R true is h go over = does_ended c k rest s (set_array s a (xs ++ more)) P R (λ m. h m
+    ∙ grown_is s a count xs more is) (go is)
+grows c k rest s a count xs more P R false is h go over = does_over c k rest s s.turns a (told_count a count) P R (λ m. h m
+    ∙ grown_over s a count xs more is) (over is)
 
-pub does_push : (c : Setting) (a : Arr) (e : KExpr) (rest : List KStmt) (s : State) (v : ℕ) (xs : List ℕ) (P : State → Type 0) (R : Refusal) → value e s ≡ Some v → may_write a ≡ true → s.arrays a ≡ Some xs
+pub does_push : (c : Setting) (a : Arr) (e : KExpr) (rest : List KStmt) (s : State) (v : ℕ) (xs : List ℕ) (P : State
+    → Type 0) (R : Refusal) → value e s ≡ Some v → may_write a ≡ true → s.arrays a ≡ Some xs
     → (may_have a (length xs + 1) ≡ true → Does c rest (set_array s a (xs ++ v ∷ [])) P R)
     → (may_have a (length xs + 1) ≡ false → R s.turns a (told_count a (length xs + 1)))
     → Does c (Push a e ∷ rest) s P R
@@ -128,23 +160,32 @@ does_push c a e rest s v xs P R he w ha go over =
     grows c (Push a e) rest s a (length xs + 1) xs (v ∷ []) P R (may_have a (length xs + 1)) refl
     (λ m. ap (push_outcome s a) he ∙ with_array_is s a xs (λ xs. grown s a (length xs + 1) xs (v ∷ [])) w ha) go over
 
-pub does_extend : (c : Setting) (a : Arr) (n e : KExpr) (rest : List KStmt) (s : State) (k v : ℕ) (xs : List ℕ) (P : State → Type 0) (R : Refusal) → value n s ≡ Some k → value e s ≡ Some v → may_write a ≡ true → s.arrays a ≡ Some xs
+pub does_extend : (c : Setting) (a : Arr) (n e : KExpr) (rest : List KStmt) (s : State) (k v : ℕ) (xs : List ℕ) (P : State
+    → Type 0) (R : Refusal) → value n s ≡ Some k → value e s ≡ Some v → may_write a ≡ true → s.arrays a ≡ Some xs
     → (may_have a (length xs + k) ≡ true → Does c rest (set_array s a (xs ++ replicate k v)) P R)
     → (may_have a (length xs + k) ≡ false → R s.turns a (told_count a (length xs + k)))
     → Does c (Extend a n e ∷ rest) s P R
 does_extend c a n e rest s k v xs P R hn he w ha go over =
     grows c (Extend a n e) rest s a (length xs + k) xs (replicate k v) P R (may_have a (length xs + k)) refl
-    (λ m. ap (λ o. extend_outcome s a o (value e s)) hn ∙ ap (extend_outcome s a (Some k)) he ∙ with_array_is s a xs (λ xs. grown s a (length xs + k) xs (replicate k v)) w ha) go over
+    (λ m. ap (λ o. extend_outcome s a o (value e s)) hn ∙ ap (extend_outcome s a (Some k)) he
+    ∙ with_array_is s a xs (λ xs. grown s a (length xs + k) xs (replicate k v)) w ha) go over
 
-pub does_cut : (c : Setting) (a : Arr) (e : KExpr) (rest : List KStmt) (s : State) (n : ℕ) (xs : List ℕ) (P : State → Type 0) (R : Refusal) → value e s ≡ Some n → may_write a ≡ true → s.arrays a ≡ Some xs → Does c rest (set_array s a (take n xs)) P R → Does c (Cut a e ∷ rest) s P R
+pub does_cut : (c : Setting) (a : Arr) (e : KExpr) (rest : List KStmt) (s : State) (n : ℕ) (xs : List ℕ) (P : State
+    → Type 0) (R : Refusal) → value e s ≡ Some n → may_write a ≡ true → s.arrays a ≡ Some xs → Does c rest (set_array s a (take n xs)) P R
+    → Does c (Cut a e ∷ rest) s P R
 does_cut c a e rest s n xs P R he w ha d =
-    does_ended c (Cut a e) rest s (set_array s a (take n xs)) P R (λ m. ap (cut_outcome s a) he ∙ with_array_is s a xs (λ xs. Ended (set_array s a (take n xs))) w ha) d
+    does_ended c (Cut a e) rest s (set_array s a (take n xs)) P R (λ m. ap (cut_outcome s a) he
+    ∙ with_array_is s a xs (λ xs. Ended (set_array s a (take n xs))) w ha) d
 
 -- a sort that ends: the equation computes from the lists that the arrays hold
-pub does_sort : (c : Setting) (g : ℕ) (rest : List KStmt) (s s' : State) (P : State → Type 0) (R : Refusal) → sort_outcome s g (s.arrays (ListCoordinates g)) (s.arrays (ListPositions g)) ≡ Ended s' → Does c rest s' P R → Does c (Sort g ∷ rest) s P R
+pub does_sort : (c : Setting) (g : ℕ) (rest : List KStmt) (s s' : State) (P : State → Type 0) (R : Refusal)
+    → sort_outcome s g (s.arrays (ListCoordinates g)) (s.arrays (ListPositions g)) ≡ Ended s' → Does c rest s' P R
+    → Does c (Sort g ∷ rest) s P R
 does_sort c g rest s s' P R h d = does_ended c (Sort g) rest s s' P R (λ m. h) d
 
-pub does_sort_sum : (c : Setting) (w : ℕ) (rest : List KStmt) (s s' : State) (P : State → Type 0) (R : Refusal) → sort_sum_outcome c.arithmetic s w (slice_get c.workspaces w) (s.arrays (Sums w)) ≡ Ended s' → Does c rest s' P R → Does c (SortSum w ∷ rest) s P R
+pub does_sort_sum : (c : Setting) (w : ℕ) (rest : List KStmt) (s s' : State) (P : State → Type 0) (R : Refusal)
+    → sort_sum_outcome c.arithmetic s w (slice_get c.workspaces w) (s.arrays (Sums w)) ≡ Ended s' → Does c rest s' P R
+    → Does c (SortSum w ∷ rest) s P R
 does_sort_sum c w rest s s' P R h d = does_ended c (SortSum w) rest s s' P R (λ m. h) d
 
 alone : (c : Setting) (m : ℕ) (k : KStmt) (s : State) → run_list c m (k ∷ []) s ≡ run c m k s
@@ -157,7 +198,8 @@ alone c m k s = last (run c m k s)
     last More = refl
 
 -- a statement that does what some code does
-as_code : (c : Setting) (k : KStmt) (code : List KStmt) (s : State) (P : State → Type 0) (R : Refusal) → ((m : ℕ) → run c m k s ≡ run_list c m code s) → Does c code s P R → Does c (k ∷ []) s P R
+as_code : (c : Setting) (k : KStmt) (code : List KStmt) (s : State) (P : State → Type 0) (R : Refusal)
+    → ((m : ℕ) → run c m k s ≡ run_list c m code s) → Does c code s P R → Does c (k ∷ []) s P R
 as_code c k code s P R same d = record {
   enough = d.enough;
   outcome = d.outcome;
@@ -165,31 +207,39 @@ as_code c k code s P R same d = record {
   kept = d.kept;
 }
 
-pub does_if_yes : (c : Setting) (e : KExpr) (first second rest : List KStmt) (s : State) (n : ℕ) (P Q : State → Type 0) (R : Refusal) → value e s ≡ Some (suc n) → Does c first s P R → ((s' : State) → P s' → Does c rest s' Q R) → Does c (If e first second ∷ rest) s Q R
+pub does_if_yes : (c : Setting) (e : KExpr) (first second rest : List KStmt) (s : State) (n : ℕ) (P Q : State → Type 0) (R : Refusal)
+    → value e s ≡ Some (suc n) → Does c first s P R → ((s' : State) → P s' → Does c rest s' Q R) → Does c (If e first second ∷ rest) s Q R
 does_if_yes c e first second rest s n P Q R h d next =
     does_then c (If e first second) rest s P Q R
-    (as_code c (If e first second) first s P R (λ m. run_if c m e first second s ∙ ap (λ v. choice s v (run_list c m first s) (run_list c m second s)) h) d) next
+    (as_code c (If e first second) first s P R (λ m. run_if c m e first second s
+    ∙ ap (λ v. choice s v (run_list c m first s) (run_list c m second s)) h) d) next
 
-pub does_if_no : (c : Setting) (e : KExpr) (first second rest : List KStmt) (s : State) (P Q : State → Type 0) (R : Refusal) → value e s ≡ Some 0 → Does c second s P R → ((s' : State) → P s' → Does c rest s' Q R) → Does c (If e first second ∷ rest) s Q R
+pub does_if_no : (c : Setting) (e : KExpr) (first second rest : List KStmt) (s : State) (P Q : State → Type 0) (R : Refusal)
+    → value e s ≡ Some 0 → Does c second s P R → ((s' : State) → P s' → Does c rest s' Q R) → Does c (If e first second ∷ rest) s Q R
 does_if_no c e first second rest s P Q R h d next =
     does_then c (If e first second) rest s P Q R
-    (as_code c (If e first second) second s P R (λ m. run_if c m e first second s ∙ ap (λ v. choice s v (run_list c m first s) (run_list c m second s)) h) d) next
+    (as_code c (If e first second) second s P R (λ m. run_if c m e first second s
+    ∙ ap (λ v. choice s v (run_list c m first s) (run_list c m second s)) h) d) next
 
 -- the turns of a loop, of which at most n are made
-record Loops (c : Setting) (k : LoopKind) (e : KExpr) (body : List KStmt) (n : ℕ) (s : State) (P : State → Type 0) (R : Refusal) : Type 0 where
+record Loops (c : Setting) (k : LoopKind) (e : KExpr) (body : List KStmt) (n : ℕ) (s : State) (P : State
+    → Type 0) (R : Refusal) : Type 0 where
   enough : ℕ
   outcome : Outcome
   reached : (m j : ℕ) → enough ≤ m → n ≤ j → run_turns j k (value e) (run_list c m body) s ≡ outcome
   kept : OnOutcome P R outcome
 
-run_turns_end : (k : LoopKind) (e : KExpr) (body : State → Outcome) (s : State) (j : ℕ) → value e s ≡ Some 0 → run_turns j k (value e) body s ≡ Ended s
+run_turns_end : (k : LoopKind) (e : KExpr) (body : State → Outcome) (s : State) (j : ℕ) → value e s ≡ Some 0
+    → run_turns j k (value e) body s ≡ Ended s
 run_turns_end k e body s zero h = ap (λ o. choice s o More (Ended s)) h
 run_turns_end k e body s (suc j) h = ap (λ o. choice s o (then_run (body (one_turn s k)) (run_turns j k (value e) body)) (Ended s)) h
 
-run_turns_go : (k : LoopKind) (e : KExpr) (body : State → Outcome) (s : State) (j v : ℕ) → value e s ≡ Some (suc v) → run_turns (suc j) k (value e) body s ≡ then_run (body (one_turn s k)) (run_turns j k (value e) body)
+run_turns_go : (k : LoopKind) (e : KExpr) (body : State → Outcome) (s : State) (j v : ℕ) → value e s ≡ Some (suc v)
+    → run_turns (suc j) k (value e) body s ≡ then_run (body (one_turn s k)) (run_turns j k (value e) body)
 run_turns_go k e body s j v h = ap (λ o. choice s o (then_run (body (one_turn s k)) (run_turns j k (value e) body)) (Ended s)) h
 
-after_turn : (c : Setting) (k : LoopKind) (e : KExpr) (body : List KStmt) (n : ℕ) (s : State) (v : ℕ) (Less P : State → Type 0) (R : Refusal) → value e s ≡ Some (suc v)
+after_turn : (c : Setting) (k : LoopKind) (e : KExpr) (body : List KStmt) (n : ℕ) (s : State) (v : ℕ) (Less P : State
+    → Type 0) (R : Refusal) → value e s ≡ Some (suc v)
     → (enough : ℕ) (o : Outcome) → ((m : ℕ) → enough ≤ m → run_list c m body (one_turn s k) ≡ o) → OnOutcome Less R o
     → ((s' : State) → Less s' → Loops c k e body n s' P R) → Loops c k e body (suc n) s P R
 after_turn c k e body n s v Less P R h enough (Ended s') reached kept next =
@@ -199,7 +249,9 @@ after_turn c k e body n s v Less P R h enough (Ended s') reached kept next =
       outcome = d.outcome;
       reached = λ m. elim [
         | zero ↦ λ le lj. absurd (omega arith)
-        | suc j ↦ λ le lj. run_turns_go k e (run_list c m body) s j v h ∙ ap (λ o. then_run o (run_turns j k (value e) (run_list c m body))) (reached m (omega arith)) ∙ d.reached m j (omega arith) (omega arith)
+        | suc j ↦ λ le lj. run_turns_go k e (run_list c m body) s j v h
+            ∙ ap (λ o. then_run o (run_turns j k (value e) (run_list c m body))) (reached m (omega arith))
+            ∙ d.reached m j (omega arith) (omega arith)
       ];
       kept = d.kept;
     }
@@ -210,7 +262,8 @@ after_turn c k e body n s v Less P R h enough (Over t a count) reached kept next
       outcome = Over t a count;
       reached = λ m. elim [
         | zero ↦ λ le lj. absurd (omega arith)
-        | suc j ↦ λ le lj. run_turns_go k e (run_list c m body) s j v h ∙ ap (λ o. then_run o (run_turns j k (value e) (run_list c m body))) (reached m le)
+        | suc j ↦ λ le lj. run_turns_go k e (run_list c m body) s j v h
+            ∙ ap (λ o. then_run o (run_turns j k (value e) (run_list c m body))) (reached m le)
       ];
       kept = kept;
     }
@@ -236,7 +289,8 @@ loops c k e body Inv P R none ends step (suc n) s i =
     ]
 
 -- the loop rule
-pub does_while : (c : Setting) (k : LoopKind) (e : KExpr) (body rest : List KStmt) (Inv : ℕ → State → Type 0) (P Q : State → Type 0) (R : Refusal)
+pub does_while : (c : Setting) (k : LoopKind) (e : KExpr) (body rest : List KStmt) (Inv : ℕ → State → Type 0) (P Q : State
+    → Type 0) (R : Refusal)
     → ((s : State) → Inv 0 s → value e s ≡ Some 0)
     → ((n : ℕ) (s : State) → Inv n s → value e s ≡ Some 0 → P s)
     → ((n : ℕ) (s : State) → Inv (suc n) s → Turn c k e body s (Inv n) P R)

@@ -2,7 +2,8 @@
 use Rattle.std.specs.Prelude.{◌≡◌, ℕ, ◌<◌, false, nat_lt, length, None, slice_index, refl}
 use Rattle.std.proofs.Common.{◌∙◌, sym, ap, arith}
 use Rattle.std.proofs.lemmas.Bool.Decides.{nat_tests}
-use Rattle.kernel_code.specs.declared.syntax.Arr.TheVariants.{Range, Values, Dimension, Ends, Coordinates, Width, Key, Sums, ListCoordinates, ListPositions}
+use Rattle.kernel_code.specs.declared.syntax.Arr.TheVariants.{Range, Values, Dimension, Ends, Coordinates, Width, Key, Sums}
+use Rattle.kernel_code.specs.declared.syntax.Arr.TheVariants.{ListCoordinates, ListPositions}
 use Rattle.kernel_code.specs.Kernels.{empty_if}
 use Rattle.kernel_code.proofs.TurnsLemmas.{at_least_list}
 use Rattle.kernel_code.proofs.Does.{run_append}
@@ -33,7 +34,8 @@ none_below : (n m : ℕ) → m ≡ 0 → empty_if (nat_lt n m) ≡ None
 none_below n m e = ap (λ j. empty_if (nat_lt n j)) e ∙ ap empty_if (no_number_below n)
 
 pub starts_as_given : StartsAsGiven
-starts_as_given k given none no_list h (Key w key) = none_below key (slice_index k.workspaces w) (ap (λ ws. slice_index ws w) none) ∙ sym (h (Key w key) refl)
+starts_as_given k given none no_list h (Key w key) = none_below key (slice_index k.workspaces w) (ap (λ ws. slice_index ws w) none)
+    ∙ sym (h (Key w key) refl)
 starts_as_given k given none no_list h (Sums w) = none_below w (length k.workspaces) (ap length none) ∙ sym (h (Sums w) refl)
 starts_as_given k given none no_list h (ListCoordinates g) = none_below g k.lists no_list ∙ sym (h (ListCoordinates g) refl)
 starts_as_given k given none no_list h (ListPositions g) = none_below g k.lists no_list ∙ sym (h (ListPositions g) refl)

@@ -1,5 +1,6 @@
 -- Lemmas about what specs/Widths.antt defines.
-use Rattle.std.specs.Prelude.{◌≡◌, ◌⊎◌, ℕ, zero, suc, ◌*◌, ◌/◌, ◌^◌, ◌<◌, ◌≤◌, max, Bool, true, false, nat_le, if◌then◌else◌, Some, None, refl}
+use Rattle.std.specs.Prelude.{◌≡◌, ◌⊎◌, ℕ, zero, suc, ◌*◌, ◌/◌, ◌^◌, ◌<◌, ◌≤◌, max, Bool, true, false, nat_le, if◌then◌else◌, Some, None}
+use Rattle.std.specs.Prelude.{refl}
 use Rattle.std.proofs.Common.{◌∙◌, sym, ap, subst, arith, inl, inr, lit<, lit≤}
 use Rattle.std.proofs.Math.Nat.{pow-le-pow_right, two-pow-succ}
 use Rattle.std.proofs.lemmas.Nat.{pow_pos}
@@ -34,7 +35,8 @@ least_exponent_last x k n l is =
 least_exponent_is : (x k n : ℕ) → x ≤ 2 ^ k → IsLeast x k → k ≤ n → least_exponent x n ≡ k
 least_exponent_is x k zero h l b = omega arith
 least_exponent_is x k (suc n) h l b = elim (below_or_at k n b) [
-  | inl le ↦ let e = least_exponent_is x k n h l le in ap (λ t. if t then least_exponent x n else suc n) (test_within x (2 ^ least_exponent x n) (subst (λ j. x ≤ 2 ^ j) (sym e) h)) ∙ e
+  | inl le ↦ let e = least_exponent_is x k n h l le in
+      ap (λ t. if t then least_exponent x n else suc n) (test_within x (2 ^ least_exponent x n) (subst (λ j. x ≤ 2 ^ j) (sym e) h)) ∙ e
   | inr is ↦ least_exponent_last x k n l is
 ]
 
@@ -50,7 +52,8 @@ is_least x (suc j) p h l = above x (2 ^ j) (subst (λ q. q < max 1 x) (half_powe
 
 small_exponent : (x k : ℕ) → x ≤ 2 ^ 62 → IsLeast x k → k ≤ 62
 small_exponent x zero h l = omega arith
-small_exponent x (suc j) h l = elim (below_or_not j) [ inl le ↦ le | inr ge ↦ absurd (let wide : 2 ^ 62 ≤ 2 ^ j = pow-le-pow_right (lit< tt) ge in omega arith) ]
+small_exponent x (suc j) h l =
+    elim (below_or_not j) [ inl le ↦ le | inr ge ↦ absurd (let wide : 2 ^ 62 ≤ 2 ^ j = pow-le-pow_right (lit< tt) ge in omega arith) ]
   where
     below_or_not : (j : ℕ) → (suc j ≤ 62) ⊎ (62 ≤ j)
     below_or_not j = grind arith
@@ -110,7 +113,8 @@ least_exponent_least x k (suc n) h = elim (within_or_beyond k n) [
   | inr more ↦ let few = least_exponent_small x (suc n) in omega (arith, few, more)
 ]
   where
-    by_test : k ≤ n → least_exponent x n ≤ k → (b : Bool) → nat_le x (2 ^ least_exponent x n) ≡ b → (if b then least_exponent x n else suc n) ≤ k
+    by_test : k ≤ n → least_exponent x n ≤ k → (b : Bool) → nat_le x (2 ^ least_exponent x n) ≡ b
+        → (if b then least_exponent x n else suc n) ≤ k
     by_test le few true is = few
     by_test le few false is =
         let wide : 2 ^ k ≤ 2 ^ n = pow-le-pow_right (lit< tt) le in

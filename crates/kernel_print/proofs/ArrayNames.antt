@@ -28,13 +28,17 @@ first_true : (a b : Bool) → (a && b) ≡ true → (a ≡ true) × (b ≡ true)
 first_true true b h = (refl, h)
 first_true false b h = absurd (cc)
 
-pub all_first : (byte : ℕ) (text : List ℕ) → all_ascii_digits (byte ∷ text) ≡ true → (is_ascii_digit byte ≡ true) × (all_ascii_digits text ≡ true)
+pub all_first : (byte : ℕ) (text : List ℕ) → all_ascii_digits (byte ∷ text) ≡ true
+    → (is_ascii_digit byte ≡ true) × (all_ascii_digits text ≡ true)
 all_first byte text all = first_true (is_ascii_digit byte) (all_ascii_digits text) all
 
 none_first : (behind : List ℕ) → BeginsWithoutDigit behind → (digits_in behind ≡ []) × (behind_digits behind ≡ behind)
 none_first [] plain = (refl, refl)
-none_first (byte ∷ text) plain =
-    (ap (λ (b : Bool). if b then byte ∷ digits_in text else []) plain, ap (λ (b : Bool). if b then behind_digits text else byte ∷ text) plain)
+none_first (byte ∷ text) plain = (
+  ap (λ (b : Bool). if b then byte ∷ digits_in text else []) plain,
+  ap (λ (b : Bool). if b then behind_digits text else byte
+      ∷ text) plain,
+)
 
 cut_digits : (digits behind : List ℕ) → all_ascii_digits digits ≡ true → BeginsWithoutDigit behind
     → (digits_in (digits ++ behind) ≡ digits) × (behind_digits (digits ++ behind) ≡ behind)
@@ -69,7 +73,8 @@ level_told n level text = (level_array n level (second_byte text), drop 4 text)
 
 abbrev pub tensor_told : ℕ → List ℕ → Arr × List ℕ
 tensor_told n text =
-    if is_ascii_digit (second_byte text) then level_told n (number_in (drop 1 text)) (behind_digits (drop 1 text)) else (array.Values n, drop 4 text)
+    if is_ascii_digit (second_byte text) then level_told n (number_in (drop 1 text)) (behind_digits (drop 1 text)) else
+    (array.Values n, drop 4 text)
 
 abbrev pub workspace_told : ℕ → List ℕ → Arr × List ℕ
 workspace_told n text =
@@ -110,13 +115,17 @@ pub told_name : (a : Arr) (behind : List ℕ) → HasWords a → BeginsWithoutDi
 told_name array.Range behind words plain = refl
 told_name (array.Values n) behind words plain = with_number tensor_told n (codes "_val") behind words refl
 told_name (array.Dimension n level) behind words plain =
-    with_number tensor_told n (codes "_" ++ (decimal level ++ codes "_dim")) behind words.0 refl ∙ level_begins n level (codes "_dim") behind words.1 refl
+    with_number tensor_told n (codes "_" ++ (decimal level ++ codes "_dim")) behind words.0 refl
+    ∙ level_begins n level (codes "_dim") behind words.1 refl
 told_name (array.Ends n level) behind words plain =
-    with_number tensor_told n (codes "_" ++ (decimal level ++ codes "_pos")) behind words.0 refl ∙ level_begins n level (codes "_pos") behind words.1 refl
+    with_number tensor_told n (codes "_" ++ (decimal level ++ codes "_pos")) behind words.0 refl
+    ∙ level_begins n level (codes "_pos") behind words.1 refl
 told_name (array.Coordinates n level) behind words plain =
-    with_number tensor_told n (codes "_" ++ (decimal level ++ codes "_crd")) behind words.0 refl ∙ level_begins n level (codes "_crd") behind words.1 refl
+    with_number tensor_told n (codes "_" ++ (decimal level ++ codes "_crd")) behind words.0 refl
+    ∙ level_begins n level (codes "_crd") behind words.1 refl
 told_name (array.Width n level) behind words plain =
-    with_number tensor_told n (codes "_" ++ (decimal level ++ codes "_wid")) behind words.0 refl ∙ level_begins n level (codes "_wid") behind words.1 refl
+    with_number tensor_told n (codes "_" ++ (decimal level ++ codes "_wid")) behind words.0 refl
+    ∙ level_begins n level (codes "_wid") behind words.1 refl
 told_name (array.Key n key) behind words plain =
     let cut = cut_number key behind words.1 plain in
     with_number workspace_told n (codes "_key" ++ decimal key) behind words.0 refl

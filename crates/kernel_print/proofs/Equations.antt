@@ -7,7 +7,8 @@ use Rattle.kernel_code.specs.declared.syntax.LoopKind.{LoopKind}
 use Rattle.kernel_code.specs.declared.syntax.Op.{Op}
 use Rattle.kernel_code.specs.declared.syntax.KExpr.{KExpr, At, Bin, Min, Width}
 use Rattle.kernel_code.specs.declared.syntax.KExpr.TheBlock.{hidden-the_row-KExpr-0}
-use Rattle.kernel_code.specs.declared.syntax.KStmt.{KStmt, If, While, Row_of-KStmt, end_of-KStmt, more_of-KStmt, items-the_row-KStmt, items_hidden-the_row-KStmt-0}
+use Rattle.kernel_code.specs.declared.syntax.KStmt.{KStmt, If, While, Row_of-KStmt, end_of-KStmt, more_of-KStmt, items-the_row-KStmt}
+use Rattle.kernel_code.specs.declared.syntax.KStmt.{items_hidden-the_row-KStmt-0}
 use Rattle.kernel_code.specs.declared.syntax.KStmt.TheBlock.{hidden-the_row-KStmt-0}
 use Rattle.kernel_print.specs.Text.{array_text, operator_text, expr_text, indentation, kind_text, statement_text, row_text, statements_text}
 
@@ -54,10 +55,12 @@ pub if_text : (depth : ℕ) (e : KExpr) (first second : List KStmt)
     → statement_text depth (If e first second)
     ≡ (codes "if " ++ (expr_text e ++ codes " {\n")) ++ (block depth first (codes "} else {\n") ++ block depth second (codes "}\n"))
 if_text depth e first second =
-    if_pieces (expr_text e) (indentation depth) (row_text (suc depth) (hidden-the_row-KStmt-0 first)) (row_text (suc depth) (hidden-the_row-KStmt-0 second))
+    if_pieces (expr_text e) (indentation depth) (row_text (suc depth) (hidden-the_row-KStmt-0 first))
+    (row_text (suc depth) (hidden-the_row-KStmt-0 second))
     ∙ ap (λ (a : List ℕ). (codes "if " ++ (expr_text e ++ codes " {\n")) ++ ((a ++ (indentation depth ++ codes "} else {\n"))
     ++ (row_text (suc depth) (hidden-the_row-KStmt-0 second) ++ (indentation depth ++ codes "}\n")))) (held_is_list (suc depth) first)
-    ∙ ap (λ (b : List ℕ). (codes "if " ++ (expr_text e ++ codes " {\n")) ++ (block depth first (codes "} else {\n") ++ (b ++ (indentation depth ++ codes "}\n"))))
+    ∙ ap (λ (b : List ℕ). (codes "if " ++ (expr_text e ++ codes " {\n"))
+    ++ (block depth first (codes "} else {\n") ++ (b ++ (indentation depth ++ codes "}\n"))))
     (held_is_list (suc depth) second)
 
 pub while_text : (depth : ℕ) (k : LoopKind) (e : KExpr) (body : List KStmt)
@@ -65,5 +68,6 @@ pub while_text : (depth : ℕ) (k : LoopKind) (e : KExpr) (body : List KStmt)
     ≡ (codes "while " ++ (kind_text k ++ (codes " " ++ (expr_text e ++ codes " {\n")))) ++ block depth body (codes "}\n")
 while_text depth k e body =
     while_pieces (kind_text k) (expr_text e) (indentation depth) (row_text (suc depth) (hidden-the_row-KStmt-0 body))
-    ∙ ap (λ (a : List ℕ). (codes "while " ++ (kind_text k ++ (codes " " ++ (expr_text e ++ codes " {\n")))) ++ (a ++ (indentation depth ++ codes "}\n")))
+    ∙ ap (λ (a : List ℕ). (codes "while " ++ (kind_text k ++ (codes " " ++ (expr_text e ++ codes " {\n"))))
+    ++ (a ++ (indentation depth ++ codes "}\n")))
     (held_is_list (suc depth) body)

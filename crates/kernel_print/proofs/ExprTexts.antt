@@ -1,5 +1,6 @@
 -- Expressions told by their texts: a left inverse of the text of an expression.
-use Rattle.std.specs.Prelude.{◌≡◌, ℕ, zero, suc, ◌+◌, ◌<◌, ◌≤◌, ◌==◌, Bool, true, if◌then◌else◌, List, [], ◌∷◌, ◌++◌, codes, drop, length, refl}
+use Rattle.std.specs.Prelude.{◌≡◌, ℕ, zero, suc, ◌+◌, ◌<◌, ◌≤◌, ◌==◌, Bool, true, if◌then◌else◌, List, [], ◌∷◌, ◌++◌, codes, drop, length}
+use Rattle.std.specs.Prelude.{refl}
 use Rattle.std.specs.Char.{is_ascii_digit}
 use Rattle.std.specs.Fmt.{decimal}
 use Rattle.std.specs.Str.{all_ascii_digits}
@@ -10,8 +11,10 @@ use Rattle.kernel_code.specs.declared.syntax.Arr.{Arr}
 use Rattle.kernel_code.specs.declared.syntax.Arr.TheVariants as array
 use Rattle.kernel_code.specs.declared.syntax.Op.{Op}
 use Rattle.kernel_code.specs.declared.syntax.Op.TheVariants as op
-use Rattle.kernel_code.specs.declared.syntax.KExpr.{KExpr, map-KExpr, Num, Var, At, Len, Bin, Min, Width, At', Bin', Min', Width', Row_of-KExpr, end_of-KExpr, more_of-KExpr}
-use Rattle.kernel_code.specs.declared.syntax.KExpr.TheVariants.{rolls-Num, rolls-Var, rolls-At, rolls-Len, rolls-Bin, rolls-Min, rolls-Width}
+use Rattle.kernel_code.specs.declared.syntax.KExpr.{KExpr, map-KExpr, Num, Var, At, Len, Bin, Min, Width, At', Bin', Min', Width'}
+use Rattle.kernel_code.specs.declared.syntax.KExpr.{Row_of-KExpr, end_of-KExpr, more_of-KExpr}
+use Rattle.kernel_code.specs.declared.syntax.KExpr.TheVariants.{rolls-Num, rolls-Var, rolls-At, rolls-Len, rolls-Bin, rolls-Min}
+use Rattle.kernel_code.specs.declared.syntax.KExpr.TheVariants.{rolls-Width}
 use Rattle.kernel_code.specs.declared.syntax.KExpr.TheBlock.{hidden-the_row-KExpr-0}
 use Rattle.kernel_code.specs.declared.syntax.KExpr.TheFolds.{ind-KExpr}
 use Rattle.kernel_code.specs.declared.syntax.KExpr.TheViews.{roll-KExpr}
@@ -30,8 +33,10 @@ abbrev operator_told : List ℕ → Op × List ℕ
 operator_told text =
     let sign : ℕ = second_byte text in
     if sign == 43 then (op.Add, drop 3 text) else (if sign == 45 then (op.Sub, drop 3 text) else (if sign == 42 then (op.Mul, drop 3 text)
-    else (if sign == 60 then (op.Less, drop 3 text) else (if sign == 61 then (op.Equal, drop 4 text) else (if sign == 33 then (op.NotEqual, drop 4 text)
-    else (if sign == 124 then (op.Or, drop 4 text) else (if second_byte (drop 1 text) == 38 then (op.And, drop 4 text) else (op.BitAnd, drop 3 text))))))))
+    else (if sign == 60 then (op.Less, drop 3 text) else
+    (if sign == 61 then (op.Equal, drop 4 text) else (if sign == 33 then (op.NotEqual, drop 4 text)
+    else (if sign == 124 then (op.Or, drop 4 text) else
+    (if second_byte (drop 1 text) == 38 then (op.And, drop 4 text) else (op.BitAnd, drop 3 text))))))))
 
 operator_is_told : (o : Op) (behind : List ℕ) → operator_told (operator_text o ++ behind) ≡ (o, behind)
 operator_is_told op.Add behind = refl
@@ -90,7 +95,8 @@ abbrev other_told : Read → ℕ → List ℕ → KExpr × List ℕ
 other_told read byte text =
     if byte == 120 then (Var (number_in text), behind_digits text) else (if byte == 40 then bin_first read (read text)
     else (if byte == 108 then len_told (told (drop 3 text)) else (if byte == 109 then min_first read (read (drop 3 text))
-    else (if byte == 119 then (if is_ascii_digit (second_byte (byte ∷ text)) then at_told read (told (byte ∷ text)) else width_end (read (drop 5 text)))
+    else (if byte == 119 then
+    (if is_ascii_digit (second_byte (byte ∷ text)) then at_told read (told (byte ∷ text)) else width_end (read (drop 5 text)))
     else at_told read (told (byte ∷ text))))))
 
 -- the expression in front of a text, nested so deep at most
@@ -114,7 +120,8 @@ abbrev mutual
   boxed_size (more_of-KExpr e rest) = size e
 
 abbrev Told : KExpr → Type 0
-Told e = (fuel : ℕ) (behind : List ℕ) → size e ≤ fuel → ExprHasWords e → BeginsWithoutDigit behind → expr_told fuel (expr_text e ++ behind) ≡ (e, behind)
+Told e = (fuel : ℕ) (behind : List ℕ) → size e ≤ fuel → ExprHasWords e → BeginsWithoutDigit behind
+    → expr_told fuel (expr_text e ++ behind) ≡ (e, behind)
 
 none_small : (n : ℕ) → suc n ≤ 0 → ⊥
 none_small n small = omega (arith, small)
@@ -132,16 +139,19 @@ digits_begin : (n : ℕ) (digits behind : List ℕ) → 0 < length digits → al
     → expr_told (suc n) (digits ++ behind) ≡ number_told (digits ++ behind)
 digits_begin n [] behind some all = absurd (omega (arith, some))
 digits_begin n (byte ∷ digits) behind some all =
-    ap (λ (b : Bool). if b then number_told (byte ∷ (digits ++ behind)) else other_told (expr_told n) byte (digits ++ behind)) (all_first byte digits all).0
+    ap (λ (b : Bool). if b then number_told (byte ∷ (digits ++ behind)) else other_told (expr_told n) byte (digits ++ behind))
+    (all_first byte digits all).0
 
-num_told : (k fuel : ℕ) (behind : List ℕ) → 1 ≤ fuel → IsWord k → BeginsWithoutDigit behind → expr_told fuel (decimal k ++ behind) ≡ (Num k, behind)
+num_told : (k fuel : ℕ) (behind : List ℕ) → 1 ≤ fuel → IsWord k → BeginsWithoutDigit behind
+    → expr_told fuel (decimal k ++ behind) ≡ (Num k, behind)
 num_told k zero behind small word plain = absurd (none_small 0 small)
 num_told k (suc n) behind small word plain =
     let cut = cut_number k behind word plain in
     digits_begin n (decimal k) behind (decimal_nonempty k word) (digits_decimal digits_model k word)
     ∙ ap (λ (m : ℕ). (Num m, behind_digits (decimal k ++ behind))) cut.0 ∙ ap (λ (t : List ℕ). (Num k, t)) cut.1
 
-var_told : (x fuel : ℕ) (behind : List ℕ) → 1 ≤ fuel → IsWord x → BeginsWithoutDigit behind → expr_told fuel (codes "x" ++ decimal x ++ behind) ≡ (Var x, behind)
+var_told : (x fuel : ℕ) (behind : List ℕ) → 1 ≤ fuel → IsWord x → BeginsWithoutDigit behind
+    → expr_told fuel (codes "x" ++ decimal x ++ behind) ≡ (Var x, behind)
 var_told x zero behind small word plain = absurd (none_small 0 small)
 var_told x (suc n) behind small word plain =
     let cut = cut_number x behind word plain in
@@ -155,7 +165,8 @@ workspace_begins n w tail behind word =
     ap (λ (b : Bool). if b then at_told (expr_told n) (told (119 ∷ rest)) else width_end (expr_told n (drop 5 rest)))
     (second_digit 119 (decimal w) tail behind (decimal_nonempty w word) (digits_decimal digits_model w word))
 
-array_begins : (a : Arr) (n : ℕ) (behind : List ℕ) → HasWords a → expr_told (suc n) (array_text a ++ behind) ≡ at_told (expr_told n) (told (array_text a ++ behind))
+array_begins : (a : Arr) (n : ℕ) (behind : List ℕ) → HasWords a
+    → expr_told (suc n) (array_text a ++ behind) ≡ at_told (expr_told n) (told (array_text a ++ behind))
 array_begins array.Range n behind words = refl
 array_begins (array.Values t) n behind words = refl
 array_begins (array.Dimension t level) n behind words = refl
@@ -167,7 +178,8 @@ array_begins (array.Sums w) n behind words = workspace_begins n w (codes "_val")
 array_begins (array.ListCoordinates g) n behind words = refl
 array_begins (array.ListPositions g) n behind words = refl
 
-at_case : (a : Arr) (i : KExpr) → Told i → (fuel : ℕ) (behind : List ℕ) → size (At a i) ≤ fuel → ExprHasWords (At a i) → BeginsWithoutDigit behind
+at_case : (a : Arr) (i : KExpr) → Told i → (fuel : ℕ) (behind : List ℕ) → size (At a i) ≤ fuel → ExprHasWords (At a i)
+    → BeginsWithoutDigit behind
     → expr_told fuel (expr_text (At a i) ++ behind) ≡ (At a i, behind)
 unfolding hidden-the_row-KExpr-0 hidden
 at_case a i ti zero behind small words plain = absurd (none_small (size i) small)
@@ -183,7 +195,8 @@ len_case : (a : Arr) (fuel : ℕ) (behind : List ℕ) → 1 ≤ fuel → HasWord
     → expr_told fuel (expr_text (Len a) ++ behind) ≡ (Len a, behind)
 len_case a zero behind small words plain = absurd (none_small 0 small)
 len_case a (suc n) behind small words plain =
-    ap (λ (t : List ℕ). len_told (told t)) (append_assoc (array_text a) (41 ∷ []) behind) ∙ ap len_told (told_name a (41 ∷ behind) words refl)
+    ap (λ (t : List ℕ). len_told (told t)) (append_assoc (array_text a) (41 ∷ []) behind)
+    ∙ ap len_told (told_name a (41 ∷ behind) words refl)
 
 bin_pieces : (a o b behind : List ℕ) → (a ++ (o ++ (b ++ (41 ∷ [])))) ++ behind ≡ a ++ (o ++ (b ++ (41 ∷ behind)))
 bin_pieces a o b behind = simp append_assoc
@@ -211,7 +224,8 @@ min_case a b ta tb (suc n) behind small words plain =
     ∙ ap (min_first (expr_told n)) (ta n (44 ∷ 32 ∷ (expr_text b ++ (41 ∷ behind))) (first_small (size a) (size b) n small) words.0 refl)
     ∙ ap (min_end a) (tb n (41 ∷ behind) (second_small (size a) (size b) n small) words.1 refl)
 
-width_case : (e : KExpr) → Told e → (fuel : ℕ) (behind : List ℕ) → size (Width e) ≤ fuel → ExprHasWords (Width e) → BeginsWithoutDigit behind
+width_case : (e : KExpr) → Told e → (fuel : ℕ) (behind : List ℕ) → size (Width e) ≤ fuel → ExprHasWords (Width e)
+    → BeginsWithoutDigit behind
     → expr_told fuel (expr_text (Width e) ++ behind) ≡ (Width e, behind)
 unfolding hidden-the_row-KExpr-0 hidden
 width_case e te zero behind small words plain = absurd (none_small (size e) small)

@@ -47,7 +47,8 @@ all_so_far old new text rest none so_far =
     let whole : so_far.front ≡ text = sym (so_far.text_is ∙ ap (λ r. so_far.front ++ r) none ∙ append-nil so_far.front) in
     subst (λ (t : List ℕ). Appends old new t) whole (front_of old new text rest so_far)
 
-pub rest_told : (old mid : SinkState) (text rest told : List ℕ) → rest ≡ told → AppendsSoFar old mid text rest → AppendsSoFar old mid text told
+pub rest_told : (old mid : SinkState) (text rest told : List ℕ) → rest ≡ told → AppendsSoFar old mid text rest
+    → AppendsSoFar old mid text told
 rest_told old mid text rest told same so_far = subst (λ (r : List ℕ). AppendsSoFar old mid text r) same so_far
 
 module _ {A : Type 0} where
@@ -71,8 +72,10 @@ pub workspaces_step : (ws : List ℕ) (i keys : ℕ) → i < length ws → keys 
 workspaces_step ws i keys inside is =
     let rest : List ℕ = workspaces_text (i + 1) (drop (i + 1) ws) in
     ap (workspaces_text i) (drop-cons ws i 0 inside)
-    ∙ ap (λ (x : ℕ). codes "  workspace w" ++ (decimal i ++ (codes " " ++ (decimal x ++ (codes ";\n" ++ workspaces_text (suc i) (drop (suc i) ws)))))) (sym is)
-    ∙ ap (λ (k : ℕ). codes "  workspace w" ++ (decimal i ++ (codes " " ++ (decimal keys ++ (codes ";\n" ++ workspaces_text k (drop k ws)))))) (sym (add-one i))
+    ∙ ap (λ (x : ℕ). codes "  workspace w"
+    ++ (decimal i ++ (codes " " ++ (decimal x ++ (codes ";\n" ++ workspaces_text (suc i) (drop (suc i) ws)))))) (sym is)
+    ∙ ap (λ (k : ℕ). codes "  workspace w"
+    ++ (decimal i ++ (codes " " ++ (decimal keys ++ (codes ";\n" ++ workspaces_text k (drop k ws)))))) (sym (add-one i))
     ∙ ap (λ (t : List ℕ). codes "  workspace w" ++ (decimal i ++ (codes " " ++ t))) (sym (append_assoc (decimal keys) (codes ";\n") rest))
     ∙ ap (λ (t : List ℕ). codes "  workspace w" ++ t) (sym (append_assoc (decimal i) (codes " " ++ (decimal keys ++ codes ";\n")) rest))
 

@@ -40,6 +40,7 @@ module _ {A : Type 0} where
   retold r old new text told same prints = subst (λ (t : List ℕ). Prints old new t r) same prints
 
   -- the fact as a call's clause
-  pub part_printed : (r : Result A Refusal) (old new : SinkState) (text : List ℕ) → Prints old new text r → IfErr r (AppendsPart old new text)
+  pub part_printed : (r : Result A Refusal) (old new : SinkState) (text : List ℕ) → Prints old new text r
+      → IfErr r (AppendsPart old new text)
   part_printed (Ok done) old new text prints = tt
   part_printed (Err why) old new text prints = prints

@@ -30,19 +30,23 @@ total_set_before (suc p) parent m [] h = refl
 total_set_before (suc p) zero m (n ∷ ns) h = absurd (omega (arith, h))
 total_set_before (suc p) (suc parent) m (n ∷ ns) h = ap (λ k. n + k) (total_set_before p parent m ns (omega (arith, h)))
 
-total_set_through : (parent m : ℕ) (ns : List ℕ) → parent < length ns → total (take (suc parent) (slice_set ns parent m)) ≡ total (take parent ns) + m
+total_set_through : (parent m : ℕ) (ns : List ℕ) → parent < length ns
+    → total (take (suc parent) (slice_set ns parent m)) ≡ total (take parent ns) + m
 total_set_through parent m [] h = absurd (omega (arith, h))
 total_set_through zero m (n ∷ ns) h = omega arith
 total_set_through (suc parent) m (n ∷ ns) h = let k = total_set_through parent m ns (omega (arith, h)) in omega (arith, k)
 
-counts_are : (letter : Letter) (parent begin end : ℕ) (log : Log) → (properties letter).branchless ≡ false → (with_edges letter parent begin end log).counts ≡ slice_set log.counts parent (end - begin)
-counts_are letter parent begin end log h = ap (λ b. (if b then log else record log { counts = slice_set log.counts parent (end - begin); next = parent + 1 }).counts) h
+counts_are : (letter : Letter) (parent begin end : ℕ) (log : Log) → (properties letter).branchless ≡ false
+    → (with_edges letter parent begin end log).counts ≡ slice_set log.counts parent (end - begin)
+counts_are letter parent begin end log h =
+    ap (λ b. (if b then log else record log { counts = slice_set log.counts parent (end - begin); next = parent + 1 }).counts) h
 
 spans_are : (lo hi begin end : ℕ) → lo ≡ begin → hi ≡ end → span lo hi ≡ span begin end
 spans_are lo hi begin end h g = ap (λ n. span n hi) h ∙ ap (λ n. span begin n) g
 
 -- a parent's positions are those that it is given
-pub edges_tell : (letter : Letter) (parent begin end : ℕ) (log : Log) → (properties letter).branchless ≡ false → IsLog log → MayGive parent begin end log → segment_in (with_edges letter parent begin end log).counts (one parent) ≡ span begin end
+pub edges_tell : (letter : Letter) (parent begin end : ℕ) (log : Log) → (properties letter).branchless ≡ false → IsLog log
+    → MayGive parent begin end log → segment_in (with_edges letter parent begin end log).counts (one parent) ≡ span begin end
 edges_tell letter parent begin end log b is m =
     let counts = counts_are letter parent begin end log b in
     let ahead : NoneFrom parent log.counts = none_later log.next parent log.counts m.above is.ahead in
@@ -53,16 +57,24 @@ edges_tell letter parent begin end log b is m =
     let ends = m.ends in
     let given = is.given in
     let next : suc parent ≡ parent + 1 = omega arith in
-    let through_next : total (take (parent + 1) (slice_set log.counts parent (end - begin))) ≡ total (take parent log.counts) + (end - begin) = subst (λ n. total (take n (slice_set log.counts parent (end - begin))) ≡ total (take parent log.counts) + (end - begin)) next through in
+    let through_next : total (take (parent + 1) (slice_set log.counts parent (end - begin))) ≡ total (take parent log.counts) +
+    (end - begin) = subst
+    (λ n. total (take n (slice_set log.counts parent (end - begin))) ≡ total (take parent log.counts) + (end - begin)) next
+    through in
     ap (λ ns. segment_in ns (one parent)) counts
-    ∙ spans_are (total (take parent (slice_set log.counts parent (end - begin)))) (total (take (parent + 1) (slice_set log.counts parent (end - begin)))) begin end (omega (arith, before, all, begins)) (omega (arith, through_next, all, begins, ends, given))
+    ∙ spans_are (total (take parent (slice_set log.counts parent (end - begin))))
+    (total (take (parent + 1) (slice_set log.counts parent (end - begin)))) begin end (omega (arith, before, all, begins))
+    (omega (arith, through_next, all, begins, ends, given))
 
 -- and parents before it keep theirs
-pub edges_keep : (letter : Letter) (p parent begin end : ℕ) (log : Log) → (properties letter).branchless ≡ false → p < parent → segment_in (with_edges letter parent begin end log).counts (one p) ≡ segment_in log.counts (one p)
+pub edges_keep : (letter : Letter) (p parent begin end : ℕ) (log : Log) → (properties letter).branchless ≡ false → p < parent
+    → segment_in (with_edges letter parent begin end log).counts (one p) ≡ segment_in log.counts (one p)
 edges_keep letter p parent begin end log b h =
     ap (λ ns. segment_in ns (one p)) (counts_are letter parent begin end log b)
-    ∙ spans_are (total (take p (slice_set log.counts parent (end - begin)))) (total (take (p + 1) (slice_set log.counts parent (end - begin)))) (total (take p log.counts)) (total (take (p + 1) log.counts))
-    (total_set_before p parent (end - begin) log.counts (omega (arith, h))) (total_set_before (p + 1) parent (end - begin) log.counts (omega (arith, h)))
+    ∙ spans_are (total (take p (slice_set log.counts parent (end - begin))))
+    (total (take (p + 1) (slice_set log.counts parent (end - begin)))) (total (take p log.counts)) (total (take (p + 1) log.counts))
+    (total_set_before p parent (end - begin) log.counts (omega (arith, h)))
+    (total_set_before (p + 1) parent (end - begin) log.counts (omega (arith, h)))
 
 total_of_none : (p : ℕ) (ns : List ℕ) → NoneFrom p ns → total (take p ns) ≡ total (take (p + 1) ns)
 total_of_none p ns z = total_before p ns z ∙ sym (total_before (p + 1) ns (none_later p (p + 1) ns (omega arith) z))

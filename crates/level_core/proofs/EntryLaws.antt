@@ -1,5 +1,6 @@
 -- Lemmas about what specs/EntryLaws.antt defines.
-use Rattle.std.specs.Prelude.{◌≡◌, ℕ, ◌+◌, ◌≤◌, ◌<◌, nat_le, nat_lt, ◌&&◌, Bool, true, false, if◌then◌else◌, List, [], ◌∷◌, ◌++◌, Some, None, refl}
+use Rattle.std.specs.Prelude.{◌≡◌, ℕ, ◌+◌, ◌≤◌, ◌<◌, nat_le, nat_lt, ◌&&◌, Bool, true, false, if◌then◌else◌, List, [], ◌∷◌, ◌++◌, Some}
+use Rattle.std.specs.Prelude.{None, refl}
 use Rattle.std.proofs.Common.{◌∙◌, sym, ap, arith, inl, inr}
 use Rattle.std.proofs.lemmas.Bool.Decides.{nat_tests}
 use Rattle.level_core.specs.Entries.{Entry, Placed, Tiles, Rising, Lacks, Distinct, StandsAt, coord_at}
@@ -61,21 +62,29 @@ coord_before e es pos h = ap (λ b. if b then Some e.coord else coord_at es pos)
 -- entries whose children end before a position don't tell its coordinate
 pub coord_after : (lo pos q : ℕ) (done rest : List Entry) → Placed lo pos done → pos ≤ q → coord_at (done ++ rest) q ≡ coord_at rest q
 coord_after lo pos q [] rest p h = refl
-coord_after lo pos q (e ∷ done) rest p h = coord_past e (done ++ rest) q (let k = placed_within e.child.hi pos done p.2 in omega (arith, k, h)) ∙ coord_after e.child.hi pos q done rest p.2 h
+coord_after lo pos q (e ∷ done) rest p h =
+    coord_past e (done ++ rest) q (let k = placed_within e.child.hi pos done p.2 in omega (arith, k, h))
+    ∙ coord_after e.child.hi pos q done rest p.2 h
 
 none_before : (pos lo hi : ℕ) (es : List Entry) → Placed lo hi es → pos < lo → coord_at es pos ≡ None
 none_before pos lo hi [] p h = refl
-none_before pos lo hi (e ∷ es) p h = coord_before e es pos (omega (arith, h, p.0)) ∙ none_before pos e.child.hi hi es p.2 (omega (arith, h, p.0, p.1))
+none_before pos lo hi (e ∷ es) p h = coord_before e es pos (omega (arith, h, p.0))
+    ∙ none_before pos e.child.hi hi es p.2 (omega (arith, h, p.0, p.1))
 
-begins_by : (pos hi x : ℕ) (e : Entry) (es : List Entry) (b : Bool) → nat_le e.child.lo pos ≡ b → Placed pos hi (e ∷ es) → coord_at (e ∷ es) pos ≡ Some x → Begins pos x (e ∷ es)
+begins_by : (pos hi x : ℕ) (e : Entry) (es : List Entry) (b : Bool) → nat_le e.child.lo pos ≡ b → Placed pos hi (e ∷ es)
+    → coord_at (e ∷ es) pos ≡ Some x → Begins pos x (e ∷ es)
 begins_by pos hi x e es true is p h = record {
   entry = e;
   others = es;
   is = refl;
   at = grind (arith, nat_tests, is, p.0);
-  coord = same_Some e.coord x (sym (coord_here e es pos (grind (arith, nat_tests, is)) (let k : e.child.lo ≤ pos = grind (arith, nat_tests, is) in omega (arith, k, p.0, p.1))) ∙ h);
+  coord = same_Some e.coord x
+      (sym (coord_here e es pos (grind (arith, nat_tests, is)) (let k : e.child.lo ≤ pos =
+      grind (arith, nat_tests, is) in omega (arith, k, p.0, p.1))) ∙ h);
 }
-begins_by pos hi x e es false is p h = let far : pos < e.child.lo = grind (arith, nat_tests, is) in absurd (none_is x (sym (coord_before e es pos far ∙ none_before pos e.child.hi hi es p.2 (omega (arith, far, p.1))) ∙ h))
+begins_by pos hi x e es false is p h = let far : pos < e.child.lo =
+    grind (arith, nat_tests, is) in
+    absurd (none_is x (sym (coord_before e es pos far ∙ none_before pos e.child.hi hi es p.2 (omega (arith, far, p.1))) ∙ h))
   where
     none_is : (x : ℕ) → None ≡ Some x → ⊥
     none_is x h = cc
@@ -88,8 +97,10 @@ begins pos hi x [] p h = absurd (none_is x h)
     none_is x h = cc
 begins pos hi x (e ∷ es) p h = begins_by pos hi x e es (nat_le e.child.lo pos) refl p h
 
-next_by : (pos hi : ℕ) (e : Entry) (es : List Entry) (b : Bool) → nat_le e.child.lo pos ≡ b → Placed pos hi (e ∷ es) → coord_at (e ∷ es) pos ≡ None → Placed (pos + 1) hi (e ∷ es)
-next_by pos hi e es true is p h = let near : e.child.lo ≤ pos = grind (arith, nat_tests, is) in absurd (none_is e.coord (sym h ∙ coord_here e es pos near (omega (arith, near, p.0, p.1))))
+next_by : (pos hi : ℕ) (e : Entry) (es : List Entry) (b : Bool) → nat_le e.child.lo pos ≡ b → Placed pos hi (e ∷ es)
+    → coord_at (e ∷ es) pos ≡ None → Placed (pos + 1) hi (e ∷ es)
+next_by pos hi e es true is p h = let near : e.child.lo ≤ pos =
+    grind (arith, nat_tests, is) in absurd (none_is e.coord (sym h ∙ coord_here e es pos near (omega (arith, near, p.0, p.1))))
   where
     none_is : (x : ℕ) → None ≡ Some x → ⊥
     none_is x h = cc
@@ -101,7 +112,8 @@ none_here pos hi [] l p h = omega (arith, l)
 none_here pos hi (e ∷ es) l p h = next_by pos hi e es (nat_le e.child.lo pos) refl p h
 
 -- one more entry behind those that stand up to a position
-pub placed_then : (lo pos : ℕ) (done : List Entry) (e : Entry) → Placed lo pos done → pos ≤ e.child.lo → e.child.lo < e.child.hi → Placed lo e.child.hi (done ++ e ∷ [])
+pub placed_then : (lo pos : ℕ) (done : List Entry) (e : Entry) → Placed lo pos done → pos ≤ e.child.lo → e.child.lo < e.child.hi
+    → Placed lo e.child.hi (done ++ e ∷ [])
 placed_then lo pos [] e p h g = (omega (arith, p, h), g, omega arith)
 placed_then lo pos (f ∷ done) e p h g = (p.0, p.1, placed_then f.child.hi pos done e p.2 h g)
 

@@ -19,7 +19,8 @@ coord_ahead : (lo pos hi : ℕ) (done all : List Entry) (w : Walking lo pos hi d
 coord_ahead lo pos hi done all w = ap (λ es. coord_at es pos) w.parts ∙ coord_after lo pos pos done w.rest w.behind (omega arith)
 
 -- past a position without a coordinate
-pub walk_past : (lo pos hi : ℕ) (done all : List Entry) → pos < hi → Walking lo pos hi done all → coord_at all pos ≡ None → Walking lo (pos + 1) hi done all
+pub walk_past : (lo pos hi : ℕ) (done all : List Entry) → pos < hi → Walking lo pos hi done all → coord_at all pos ≡ None
+    → Walking lo (pos + 1) hi done all
 walk_past lo pos hi done all l w h = record {
   rest = w.rest;
   parts = w.parts;
@@ -36,14 +37,16 @@ pub record Steps (lo pos hi x : ℕ) (done all : List Entry) : Type 0 where
   pub within : entry.child.hi ≤ hi
   pub past : Walking lo entry.child.hi hi (done ++ entry ∷ []) all
 
-pub walk_steps : (lo pos hi x : ℕ) (done all : List Entry) → Walking lo pos hi done all → coord_at all pos ≡ Some x → Steps lo pos hi x done all
+pub walk_steps : (lo pos hi x : ℕ) (done all : List Entry) → Walking lo pos hi done all → coord_at all pos ≡ Some x
+    → Steps lo pos hi x done all
 walk_steps lo pos hi x done all w h =
     let b = begins pos hi x w.rest w.ahead (sym (coord_ahead lo pos hi done all w) ∙ h) in
     let ahead : Placed pos hi (b.entry ∷ b.others) = subst (Placed pos hi) b.is w.ahead in
     let all_is : all ≡ done ++ b.entry ∷ b.others = w.parts ∙ ap (λ es. done ++ es) b.is in
     record {
       entry = b.entry;
-      stands = subst (λ es. StandsAt pos b.entry es) (sym all_is) (subst (λ n. StandsAt n b.entry (done ++ b.entry ∷ b.others)) b.at (stands_after done b.entry b.others));
+      stands = subst (λ es. StandsAt pos b.entry es) (sym all_is)
+          (subst (λ n. StandsAt n b.entry (done ++ b.entry ∷ b.others)) b.at (stands_after done b.entry b.others));
       coord = b.coord;
       more = omega (arith, b.at, ahead.1);
       within = placed_within b.entry.child.hi hi b.others ahead.2;
@@ -61,14 +64,18 @@ pub record Stepped (lo pos hi : ℕ) (child : Span) (pushed all : List Entry) : 
   pub more : pos < child.hi
   pub within : child.hi ≤ hi
 
-pub walk_stepped : (lo pos hi x : ℕ) (done all pushed : List Entry) (child : Span) → Walking lo pos hi done all → coord_at all pos ≡ Some x → ((e : Entry) → StandsAt pos e all → child ≡ e.child) → pushed ≡ done ++ record { coord = x; child = child } ∷ [] → Stepped lo pos hi child pushed all
+pub walk_stepped : (lo pos hi x : ℕ) (done all pushed : List Entry) (child : Span) → Walking lo pos hi done all
+    → coord_at all pos ≡ Some x → ((e : Entry) → StandsAt pos e all → child ≡ e.child)
+    → pushed ≡ done ++ record { coord = x; child = child } ∷ [] → Stepped lo pos hi child pushed all
 walk_stepped lo pos hi x done all pushed child w h found is =
     let s = walk_steps lo pos hi x done all w h in
     let same : child ≡ s.entry.child = found s.entry s.stands in
-    let entry : record { coord = x; child = child } ≡ s.entry = ap (λ n. record { coord = n; child = child }) (sym s.coord) ∙ ap (λ c. record { coord = s.entry.coord; child = c }) same in
+    let entry : record { coord = x; child = child } ≡ s.entry = ap (λ n. record { coord = n; child = child }) (sym s.coord)
+    ∙ ap (λ c. record { coord = s.entry.coord; child = c }) same in
     let all_done : pushed ≡ done ++ s.entry ∷ [] = is ∙ ap (λ e. done ++ e ∷ []) entry in
     record {
-      walks = subst (λ es. Walking lo child.hi hi es all) (sym all_done) (subst (λ c. Walking lo c.hi hi (done ++ s.entry ∷ []) all) (sym same) s.past);
+      walks = subst (λ es. Walking lo child.hi hi es all) (sym all_done)
+          (subst (λ c. Walking lo c.hi hi (done ++ s.entry ∷ []) all) (sym same) s.past);
       more = subst (λ c. pos < c.hi) (sym same) s.more;
       within = subst (λ c. c.hi ≤ hi) (sym same) s.within;
     }

@@ -1,7 +1,10 @@
 -- The few facts about the stated limits that proofs use.
 use Rattle.std.specs.Prelude.{◌≡◌, ◌^◌, ◌<◌, ◌≤◌, refl}
 use Rattle.std.proofs.Common.{lit<, lit≤}
-use Rattle.limits.specs.Limits.{greatest_position_count, greatest_range_word, greatest_file_coordinate, greatest_matrix_size, greatest_matrix_entries, greatest_workspace_pairs, greatest_order, greatest_variables, greatest_accesses, greatest_operands, greatest_nesting, greatest_literal, greatest_text_bytes, greatest_line_bytes, greatest_file_bytes, greatest_workload}
+use Rattle.limits.specs.Limits.{greatest_position_count, greatest_range_word, greatest_file_coordinate, greatest_matrix_size}
+use Rattle.limits.specs.Limits.{greatest_matrix_entries, greatest_workspace_pairs, greatest_order, greatest_variables, greatest_accesses}
+use Rattle.limits.specs.Limits.{greatest_operands, greatest_nesting, greatest_literal, greatest_text_bytes, greatest_line_bytes}
+use Rattle.limits.specs.Limits.{greatest_file_bytes, greatest_workload}
 
 -- sums and differences of a few counts of positions fit a word
 pub positions_are_small : greatest_position_count < 2 ^ 62

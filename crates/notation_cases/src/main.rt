@@ -7,6 +7,9 @@
 //! # A comment.
 //! text y(i) = A(i,j) * x(j)    The statement of a text, or its fault. The last such statement is kept.
 //! names a = b(i) * b          Whether the names of a text's statement pass, or their fault.
+//! groups a = b(i) - c(i) + 2   The groups of a text's statement: own variables, and each term behind its sign.
+//! ranges i#3 A:=4,7 x:9        The ranges of the statement that was kept, or their fault: a word gives a variable its
+//!                              range, and operands tell of each mode a size, behind `=`, or a greatest coordinate.
 //! edges ds ds:1,0 d            The edges of the statement that was kept, under a format for each tensor.
 //! graph 3 2-0 0-1              The order of so many variables with these edges, or their cycle.
 //! format 2 ds:1,0              The format of a word, for a tensor of this order, or its fault.
@@ -23,7 +26,9 @@
 mod checks;
 mod formats;
 mod graphs;
+mod grouped;
 mod narrow;
+mod ranged;
 mod session;
 mod shapes;
 mod texts;

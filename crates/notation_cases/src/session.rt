@@ -2,7 +2,9 @@
 use crate::checks::checked_numbers;
 use crate::formats::{dense_shape, format_shape};
 use crate::graphs::{edge_shape, graph_shape};
+use crate::grouped::group_shape;
 use crate::narrow::{built_shape, path_shape};
+use crate::ranged::range_shape;
 use crate::shapes::{fault_shape, name_shape, statement_shape};
 use crate::texts::spelled;
 use anyhow::{Result, bail};
@@ -33,6 +35,11 @@ impl Session {
         match keyword {
             "text" => self.read_text(rest),
             "names" => self.check_names(rest),
+            "groups" => self.read_groups(rest),
+            "ranges" => match &self.statement {
+                Some(statement) => range_shape(self.alloc, statement, rest),
+                None => bail!("no statement"),
+            },
             "edges" => match &self.statement {
                 Some(statement) => edge_shape(self.alloc, statement, rest),
                 None => bail!("no statement"),
@@ -68,6 +75,14 @@ impl Session {
     fn check_names(&mut self, text: &str) -> Result<String> {
         match parse(self.alloc, text) {
             Ok(statement) => Ok(name_shape(self.alloc, &statement)?),
+            Err(_) => bail!("no statement"),
+        }
+    }
+
+    // The groups of a text's statement.
+    fn read_groups(&mut self, text: &str) -> Result<String> {
+        match parse(self.alloc, text) {
+            Ok(statement) => Ok(group_shape(self.alloc, &statement)?),
             Err(_) => bail!("no statement"),
         }
     }

@@ -33,8 +33,8 @@ fn put_access(out: &mut String, access: &Access) -> Result<(), AllocError> {
     out.push(')')
 }
 
-// Each operation in brackets, and accesses by their numbers behind `#`.
-fn put_expr(out: &mut String, expr: &Expr) -> Result<(), AllocError> {
+/// Each operation in brackets, and accesses by their numbers behind `#`.
+pub(crate) fn put_expr(out: &mut String, expr: &Expr) -> Result<(), AllocError> {
     match expr {
         Expr::Num(n) => write!(out, "{}", *n),
         Expr::Access(n) => write!(out, "#{}", *n),
@@ -105,8 +105,8 @@ pub(crate) fn fault_shape(alloc: Global, fault: &NotationFault) -> Result<String
     }
 }
 
-// The name of a number in a list.
-fn put_named(out: &mut String, names: &[Name], number: usize) -> Result<(), AllocError> {
+/// The name of a number in a list.
+pub(crate) fn put_named(out: &mut String, names: &[Name], number: usize) -> Result<(), AllocError> {
     match names.get(number) {
         Some(name) => put_name(out, name),
         None => out.push('?'),

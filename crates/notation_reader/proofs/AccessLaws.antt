@@ -18,20 +18,24 @@ use Rattle.notation_reader.specs.Shown.{show}
 use Rattle.notation_reader.specs.Accesses.{accesses_to_sum, accesses_to_product, accesses_to, access_to, accesses_so_far, Mentions}
 use Rattle.notation_reader.proofs.MachineLaws.{some_is, nothing_leads, append_none}
 
-product_accesses : (place : FactorPlace) (f : Factor) → accesses_to_product (its_product place) ++ accesses_of_product (product_with place f) ≡ accesses_to place ++ accesses_of_factor f
+product_accesses : (place : FactorPlace) (f : Factor)
+    → accesses_to_product (its_product place) ++ accesses_of_product (product_with place f) ≡ accesses_to place ++ accesses_of_factor f
 product_accesses (FirstFactor place) f = refl
 product_accesses (BehindTimes place p) f = sym (append_assoc (accesses_to_product place) (accesses_of_product p) (accesses_of_factor f))
 product_accesses (BehindSign place) f = product_accesses place (Negated f)
 
-sum_accesses : (place : ProductPlace) (p : Product) → accesses_to_sum (its_sum place) ++ accesses_of_sum (sum_with place p) ≡ accesses_to_product place ++ accesses_of_product p
+sum_accesses : (place : ProductPlace) (p : Product)
+    → accesses_to_sum (its_sum place) ++ accesses_of_sum (sum_with place p) ≡ accesses_to_product place ++ accesses_of_product p
 sum_accesses (First place) p = refl
 sum_accesses (BehindPlus place s) p = sym (append_assoc (accesses_to_sum place) (accesses_of_sum s) (accesses_of_product p))
 sum_accesses (BehindMinus place s) p = sym (append_assoc (accesses_to_sum place) (accesses_of_sum s) (accesses_of_product p))
 
-from_equal : (x next : State) (new : List WrittenAccess) → ◌≡◌ {A = Option State} (Some x) (Some next) → accesses_so_far x ≡ new → accesses_so_far next ≡ new
+from_equal : (x next : State) (new : List WrittenAccess) → ◌≡◌ {A = Option State} (Some x) (Some next) → accesses_so_far x ≡ new
+    → accesses_so_far next ≡ new
 from_equal x next new e h = ap accesses_so_far (sym (some_is x next e)) ∙ h
 
-close_keeps : (at : SumPlace) (place : ProductPlace) (p : Product) (next : State) → its_sum place ≡ at → closed at (sum_with place p) ≡ Some next → accesses_so_far next ≡ accesses_so_far (Behind place p)
+close_keeps : (at : SumPlace) (place : ProductPlace) (p : Product) (next : State) → its_sum place ≡ at
+    → closed at (sum_with place p) ≡ Some next → accesses_so_far next ≡ accesses_so_far (Behind place p)
 close_keeps (OnTheRight left) place p next e h = nothing_leads next h
 close_keeps (InBrackets at) place p next e h =
     from_equal (behind_factor at (Bracketed (sum_with place p))) next (accesses_so_far (Behind place p)) h
@@ -39,7 +43,8 @@ close_keeps (InBrackets at) place p next e h =
     ∙ ap (λ (x : SumPlace). accesses_to_sum x ++ accesses_of_sum (sum_with place p)) (sym e)
     ∙ sum_accesses place p)
 
-end_keeps : (at : SumPlace) (place : ProductPlace) (p : Product) (next : State) → its_sum place ≡ at → ended at (sum_with place p) ≡ Some next → accesses_so_far next ≡ accesses_so_far (Behind place p)
+end_keeps : (at : SumPlace) (place : ProductPlace) (p : Product) (next : State) → its_sum place ≡ at
+    → ended at (sum_with place p) ≡ Some next → accesses_so_far next ≡ accesses_so_far (Behind place p)
 end_keeps (OnTheRight left) place p next e h =
     from_equal (Ended (record { left = left; right = sum_with place p })) next (accesses_so_far (Behind place p)) h
     (ap (λ (x : SumPlace). accesses_to_sum x ++ accesses_of_sum (sum_with place p)) (sym e)
@@ -47,22 +52,30 @@ end_keeps (OnTheRight left) place p next e h =
 end_keeps (InBrackets at) place p next e h = nothing_leads next h
 
 -- a symbol behind a factor says nothing of the accesses
-behind_keeps : (place : ProductPlace) (p : Product) (t : Symbol) (next : State) → step_behind place p t ≡ Some next → accesses_so_far next ≡ accesses_so_far (Behind place p)
-behind_keeps place p (Lexeme (MarkToken Times)) next e = from_equal (WantsFactor (BehindTimes place p)) next (accesses_so_far (Behind place p)) e refl
+behind_keeps : (place : ProductPlace) (p : Product) (t : Symbol) (next : State) → step_behind place p t ≡ Some next
+    → accesses_so_far next ≡ accesses_so_far (Behind place p)
+behind_keeps place p (Lexeme (MarkToken Times)) next e =
+    from_equal (WantsFactor (BehindTimes place p)) next (accesses_so_far (Behind place p)) e refl
 behind_keeps place p (Lexeme (MarkToken Plus)) next e =
-    from_equal (WantsFactor (FirstFactor (BehindPlus (its_sum place) (sum_with place p)))) next (accesses_so_far (Behind place p)) e (sum_accesses place p)
+    from_equal (WantsFactor (FirstFactor (BehindPlus (its_sum place) (sum_with place p)))) next (accesses_so_far (Behind place p)) e
+    (sum_accesses place p)
 behind_keeps place p (Lexeme (MarkToken Minus)) next e =
-    from_equal (WantsFactor (FirstFactor (BehindMinus (its_sum place) (sum_with place p)))) next (accesses_so_far (Behind place p)) e (sum_accesses place p)
+    from_equal (WantsFactor (FirstFactor (BehindMinus (its_sum place) (sum_with place p)))) next (accesses_so_far (Behind place p)) e
+    (sum_accesses place p)
 behind_keeps place p (Lexeme (MarkToken Close)) next e = close_keeps (its_sum place) place p next refl e
 behind_keeps place p End next e = end_keeps (its_sum place) place p next refl e
 behind_keeps place p _ next e = nothing_leads next e
 
-scalar_keeps : (place : FactorPlace) (name : Name) (t : Symbol) (next : State) (new : List WrittenAccess) → step_behind (its_product place) (product_with place (Read (access_to name []))) t ≡ Some next → new ≡ accesses_so_far (Named (Right place) name) → accesses_so_far next ≡ new
+scalar_keeps : (place : FactorPlace) (name : Name) (t : Symbol) (next : State) (new : List WrittenAccess)
+    → step_behind (its_product place) (product_with place (Read (access_to name []))) t ≡ Some next
+    → new ≡ accesses_so_far (Named (Right place) name) → accesses_so_far next ≡ new
 scalar_keeps place name t next new e w =
-    behind_keeps (its_product place) (product_with place (Read (access_to name []))) t next e ∙ product_accesses place (Read (access_to name [])) ∙ sym w
+    behind_keeps (its_product place) (product_with place (Read (access_to name []))) t next e
+    ∙ product_accesses place (Read (access_to name [])) ∙ sym w
 
 abbrev Says : State → Type 0
-Says s = (t : Symbol) (next : State) (new : List WrittenAccess) → step s t ≡ Some next → Mentions t (lead_of (show s).stand t) (accesses_so_far s) new → accesses_so_far next ≡ new
+Says s = (t : Symbol) (next : State) (new : List WrittenAccess) → step s t ≡ Some next
+    → Mentions t (lead_of (show s).stand t) (accesses_so_far s) new → accesses_so_far next ≡ new
 
 start_says : Says Start
 start_says (Lexeme (NameToken name)) next new e w = from_equal (Named Left name) next new e (sym w)
@@ -70,7 +83,8 @@ start_says _ next new e w = nothing_leads next e
 
 left_name_says : (name : Name) → Says (Named Left name)
 left_name_says name (Lexeme (MarkToken Open)) next new e w = from_equal (WantsVariable Left name []) next new e (sym w)
-left_name_says name (Lexeme (MarkToken Equals)) next new e w = from_equal (WantsFactor (FirstFactor (First (OnTheRight (access_to name []))))) next new e (sym w)
+left_name_says name (Lexeme (MarkToken Equals)) next new e w =
+    from_equal (WantsFactor (FirstFactor (First (OnTheRight (access_to name []))))) next new e (sym w)
 left_name_says name _ next new e w = nothing_leads next e
 
 right_name_says : (place : FactorPlace) (name : Name) → Says (Named (Right place) name)
@@ -83,28 +97,38 @@ right_name_says place name End next new e w = scalar_keeps place name End next n
 right_name_says place name _ next new e w = nothing_leads next e
 
 wants_variable_says : (side : Side) (name : Name) (vars : List Name) → Says (WantsVariable side name vars)
-wants_variable_says Left name vars (Lexeme (NameToken var)) next new e w = from_equal (BehindVariable Left name vars var) next new e (sym (w [] (access_to name vars) refl))
-wants_variable_says (Right place) name vars (Lexeme (NameToken var)) next new e w = from_equal (BehindVariable (Right place) name vars var) next new e (sym (w (accesses_to place) (access_to name vars) refl))
+wants_variable_says Left name vars (Lexeme (NameToken var)) next new e w =
+    from_equal (BehindVariable Left name vars var) next new e (sym (w [] (access_to name vars) refl))
+wants_variable_says (Right place) name vars (Lexeme (NameToken var)) next new e w =
+    from_equal (BehindVariable (Right place) name vars var) next new e (sym (w (accesses_to place) (access_to name vars) refl))
 wants_variable_says Left name vars _ next new e w = nothing_leads next e
 wants_variable_says (Right place) name vars _ next new e w = nothing_leads next e
 
 variable_says : (side : Side) (name : Name) (vars : List Name) (var : Name) → Says (BehindVariable side name vars var)
-variable_says Left name vars var (Lexeme (MarkToken Comma)) next new e w = from_equal (WantsVariable Left name (vars ++ (var ∷ []))) next new e (sym w)
-variable_says Left name vars var (Lexeme (MarkToken Close)) next new e w = from_equal (BehindLeft (access_to name (vars ++ (var ∷ [])))) next new e (sym w)
+variable_says Left name vars var (Lexeme (MarkToken Comma)) next new e w =
+    from_equal (WantsVariable Left name (vars ++ (var ∷ []))) next new e (sym w)
+variable_says Left name vars var (Lexeme (MarkToken Close)) next new e w =
+    from_equal (BehindLeft (access_to name (vars ++ (var ∷ [])))) next new e (sym w)
 variable_says Left name vars var _ next new e w = nothing_leads next e
-variable_says (Right place) name vars var (Lexeme (MarkToken Comma)) next new e w = from_equal (WantsVariable (Right place) name (vars ++ (var ∷ []))) next new e (sym w)
+variable_says (Right place) name vars var (Lexeme (MarkToken Comma)) next new e w =
+    from_equal (WantsVariable (Right place) name (vars ++ (var ∷ []))) next new e (sym w)
 variable_says (Right place) name vars var (Lexeme (MarkToken Close)) next new e w =
-    from_equal (behind_factor place (Read (access_to name (vars ++ (var ∷ []))))) next new e (product_accesses place (Read (access_to name (vars ++ (var ∷ [])))) ∙ sym w)
+    from_equal (behind_factor place (Read (access_to name (vars ++ (var ∷ []))))) next new e
+    (product_accesses place (Read (access_to name (vars ++ (var ∷ [])))) ∙ sym w)
 variable_says (Right place) name vars var _ next new e w = nothing_leads next e
 
 left_says : (access : WrittenAccess) → Says (BehindLeft access)
-left_says access (Lexeme (MarkToken Equals)) next new e w = from_equal (WantsFactor (FirstFactor (First (OnTheRight access)))) next new e (sym w)
+left_says access (Lexeme (MarkToken Equals)) next new e w =
+    from_equal (WantsFactor (FirstFactor (First (OnTheRight access)))) next new e (sym w)
 left_says access _ next new e w = nothing_leads next e
 
 wants_says : (place : FactorPlace) → Says (WantsFactor place)
-wants_says place (Lexeme (NumberToken digits)) next new e w = from_equal (behind_factor place (Digits digits)) next new e (product_accesses place (Digits digits) ∙ append_none (accesses_to place) ∙ sym w)
+wants_says place (Lexeme (NumberToken digits)) next new e w =
+    from_equal (behind_factor place (Digits digits)) next new e (product_accesses place (Digits digits) ∙ append_none (accesses_to place)
+    ∙ sym w)
 wants_says place (Lexeme (NameToken name)) next new e w = from_equal (Named (Right place) name) next new e (sym w)
-wants_says place (Lexeme (MarkToken Open)) next new e w = from_equal (WantsFactor (FirstFactor (First (InBrackets place)))) next new e (sym w)
+wants_says place (Lexeme (MarkToken Open)) next new e w =
+    from_equal (WantsFactor (FirstFactor (First (InBrackets place)))) next new e (sym w)
 wants_says place (Lexeme (MarkToken Minus)) next new e w = from_equal (WantsFactor (BehindSign place)) next new e (sym w)
 wants_says place _ next new e w = nothing_leads next e
 

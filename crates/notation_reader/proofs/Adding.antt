@@ -7,7 +7,8 @@ use Rattle.index_notation.specs.declared.syntax.Name.{Name}
 use Rattle.index_notation.specs.declared.sentence.WrittenAccess.{WrittenAccess}
 use Rattle.index_notation.specs.Numbering.{is_same, place_of, without, distinct, name_of, variables_of}
 use Rattle.index_notation.specs.NumberingLaws.{Stands, yes, no}
-use Rattle.index_notation.proofs.NumberingLaws.{tested, same_names, place_here, place_later, stands_here, stands_later, stands_behind, without_drops, without_keeps}
+use Rattle.index_notation.proofs.NumberingLaws.{tested, same_names, place_here, place_later, stands_here, stands_later, stands_behind}
+use Rattle.index_notation.proofs.NumberingLaws.{without_drops, without_keeps}
 use Rattle.notation_reader.specs.Added.{with_name, with_names}
 
 -- names but for those that were found
@@ -48,7 +49,8 @@ without_swap a b (other ∷ names) = elim (tested (is_same a other)) [
   ])
 ]
 
-fresh_standing : (found : List Name) (name : Name) (names : List Name) → Stands found name → fresh found (name ∷ without name names) ≡ fresh found names
+fresh_standing : (found : List Name) (name : Name) (names : List Name) → Stands found name
+    → fresh found (name ∷ without name names) ≡ fresh found names
 fresh_standing [] name names h = absurd (omega arith)
 fresh_standing (first ∷ found) name names h = elim (tested (is_same first name)) [
   | yes e ↦ (
@@ -56,16 +58,19 @@ fresh_standing (first ∷ found) name names h = elim (tested (is_same first name
       ap (fresh found) (without_drops first name (without name names) e
       ∙ ap (λ n. without n (without name names)) same ∙ without_twice name names ∙ ap (λ n. without n names) (sym same)))
   | no e ↦ (
-      ap (fresh found) (without_keeps first name (without name names) e ∙ ap (λ (ns : List Name). name ∷ ns) (without_swap first name names))
+      ap (fresh found) (without_keeps first name (without name names) e
+      ∙ ap (λ (ns : List Name). name ∷ ns) (without_swap first name names))
       ∙ fresh_standing found name (without first names) (stands_behind name first found e h))
 ]
 
-fresh_new : (found : List Name) (name : Name) (names : List Name) → (Stands found name → ⊥) → fresh found (name ∷ without name names) ≡ name ∷ fresh (found ++ name ∷ []) names
+fresh_new : (found : List Name) (name : Name) (names : List Name) → (Stands found name → ⊥)
+    → fresh found (name ∷ without name names) ≡ name ∷ fresh (found ++ name ∷ []) names
 fresh_new [] name names h = refl
 fresh_new (first ∷ found) name names h = elim (tested (is_same first name)) [
   | yes e ↦ absurd (h (stands_here name first found e))
   | no e ↦ (
-      ap (fresh found) (without_keeps first name (without name names) e ∙ ap (λ (ns : List Name). name ∷ ns) (without_swap first name names))
+      ap (fresh found) (without_keeps first name (without name names) e
+      ∙ ap (λ (ns : List Name). name ∷ ns) (without_swap first name names))
       ∙ fresh_new found name (without first names) (λ s. h (stands_later name first found s)))
 ]
 
@@ -102,22 +107,28 @@ added_join found [] more = refl
 added_join found (name ∷ names) more = added_join (with_name found name) names more
 
 pub distinct_more : (names : List Name) (name : Name) → distinct (names ++ name ∷ []) ≡ with_name (distinct names) name
-distinct_more names name = sym (added_are_distinct (names ++ name ∷ [])) ∙ added_join [] names (name ∷ []) ∙ ap (λ (ns : List Name). with_name ns name) (added_are_distinct names)
+distinct_more names name = sym (added_are_distinct (names ++ name ∷ [])) ∙ added_join [] names (name ∷ [])
+    ∙ ap (λ (ns : List Name). with_name ns name) (added_are_distinct names)
 
 -- the variables of one more access
-pub variables_step : (accesses : List WrittenAccess) (i : ℕ) (access : WrittenAccess) (names now : List Name) → i < length accesses → access ≡ get_or accesses i access → now ≡ with_names names access.vars → with_names names (variables_of (drop i accesses)) ≡ with_names now (variables_of (drop (i + 1) accesses))
+pub variables_step : (accesses : List WrittenAccess) (i : ℕ) (access : WrittenAccess) (names now : List Name) → i < length accesses
+    → access ≡ get_or accesses i access → now ≡ with_names names access.vars
+    → with_names names (variables_of (drop i accesses)) ≡ with_names now (variables_of (drop (i + 1) accesses))
 variables_step accesses i access names now h e f =
-    ap (λ (row : List WrittenAccess). with_names names (variables_of row)) (drop_more accesses i access h ∙ ap (λ (a : WrittenAccess). a ∷ drop (i + 1) accesses) (sym e))
+    ap (λ (row : List WrittenAccess). with_names names (variables_of row)) (drop_more accesses i access h
+    ∙ ap (λ (a : WrittenAccess). a ∷ drop (i + 1) accesses) (sym e))
     ∙ added_join names access.vars (variables_of (drop (i + 1) accesses))
     ∙ ap (λ (ns : List Name). with_names ns (variables_of (drop (i + 1) accesses))) (sym f)
 
 -- where no access is left
-pub tensors_end : (all names : List Name) (accesses : List WrittenAccess) (i : ℕ) → with_names [] all ≡ with_names names (map name_of (drop i accesses)) → length accesses ≤ i → names ≡ distinct all
+pub tensors_end : (all names : List Name) (accesses : List WrittenAccess) (i : ℕ)
+    → with_names [] all ≡ with_names names (map name_of (drop i accesses)) → length accesses ≤ i → names ≡ distinct all
 tensors_end all names accesses i e h =
     let none : drop i accesses ≡ [] = drop_all i accesses h in
     sym (e ∙ ap (λ (row : List WrittenAccess). with_names names (map name_of row)) none) ∙ added_are_distinct all
 
-pub variables_end : (all names : List Name) (accesses : List WrittenAccess) (i : ℕ) → with_names [] all ≡ with_names names (variables_of (drop i accesses)) → length accesses ≤ i → names ≡ distinct all
+pub variables_end : (all names : List Name) (accesses : List WrittenAccess) (i : ℕ)
+    → with_names [] all ≡ with_names names (variables_of (drop i accesses)) → length accesses ≤ i → names ≡ distinct all
 variables_end all names accesses i e h =
     let none : drop i accesses ≡ [] = drop_all i accesses h in
     sym (e ∙ ap (λ (row : List WrittenAccess). with_names names (variables_of row)) none) ∙ added_are_distinct all

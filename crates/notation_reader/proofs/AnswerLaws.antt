@@ -7,7 +7,8 @@ use Rattle.index_notation.specs.declared.fault.SymbolFault.{SymbolFault}
 use Rattle.index_notation.specs.Grammar.{Tree}
 use Rattle.notation_reader.proofs.ReadingLaws.{one_reading, append_none}
 use Rattle.notation_reader.proofs.FaultLaws.{last_once}
-use Rattle.index_notation.specs.Faults.{limit_passed, PastLimit, BeginsNone, FaultAt, no_sentence, past_limit, HasNoFault, HaveNoFault, symbols_of, IsFirstFault, IsTreeOf}
+use Rattle.index_notation.specs.Faults.{limit_passed, PastLimit, BeginsNone, FaultAt, no_sentence, past_limit, HasNoFault, HaveNoFault}
+use Rattle.index_notation.specs.Faults.{symbols_of, IsFirstFault, IsTreeOf}
 
 pub symbols_append : (ps qs : List PlacedSymbol) → symbols_of (ps ++ qs) ≡ symbols_of ps ++ symbols_of qs
 symbols_append [] qs = refl
@@ -41,9 +42,12 @@ none_at e (x ∷ a) t r h = subst (λ (z : List Symbol). HasNoFault z t) (append
 
 past_once : (a : List Symbol) (t : Symbol) (f g : SymbolFault) → PastLimit a t f → PastLimit a t g → f ≡ g
 past_once a t f g p q =
-    let whole : p.front ++ (p.last ∷ []) ≡ q.front ++ (q.last ∷ []) = one_reading (p.front ++ (p.last ∷ [])) (q.front ++ (q.last ∷ [])) p.begins q.begins (p.symbols_are ∙ sym q.symbols_are) in
+    let whole : p.front ++ (p.last ∷ []) ≡ q.front
+    ++ (q.last ∷ []) = one_reading (p.front ++ (p.last ∷ [])) (q.front ++ (q.last ∷ [])) p.begins q.begins (p.symbols_are
+    ∙ sym q.symbols_are) in
     let last : p.last ≡ q.last = (last_once p.front q.front p.last q.last whole).1 in
-    let limits : limit_passed p.last.role p.last.symbol (p.front ++ (p.last ∷ [])) ≡ limit_passed q.last.role q.last.symbol (q.front ++ (q.last ∷ [])) = λ i. limit_passed (last i).role (last i).symbol (whole i) in
+    let limits : limit_passed p.last.role p.last.symbol (p.front ++ (p.last ∷ [])) ≡ limit_passed q.last.role q.last.symbol (q.front
+    ++ (q.last ∷ [])) = λ i. limit_passed (last i).role (last i).symbol (whole i) in
     let both : ◌≡◌ {A = Option SymbolFault} (Some f) (Some g) = sym p.passed ∙ limits ∙ q.passed in
     cc
 
@@ -57,18 +61,21 @@ fault_once a t f g (past_limit p) (no_sentence k m) = never_both a t f m p
 fault_once a t f g (past_limit p) (past_limit q) = past_once a t f g p q
 
 -- where the first faulty symbol stands earlier, there is a fault before the other
-never_earlier : {A : Type 0} (a b c : List PlacedSymbol) (t : PlacedSymbol) (f : SymbolFault) → b ≡ a ++ (t ∷ c) → FaultAt (symbols_of a) t.symbol f → HaveNoFault [] (symbols_of b) → A
+never_earlier : {A : Type 0} (a b c : List PlacedSymbol) (t : PlacedSymbol) (f : SymbolFault) → b ≡ a ++ (t ∷ c)
+    → FaultAt (symbols_of a) t.symbol f → HaveNoFault [] (symbols_of b) → A
 never_earlier a b c t f e h k =
     let parts : symbols_of b ≡ symbols_of a ++ (t.symbol ∷ symbols_of c) = ap symbols_of e ∙ symbols_append a (t ∷ c) in
     absurd (none_at [] (symbols_of a) t.symbol (symbols_of c) (subst (λ (l : List Symbol). HaveNoFault [] l) parts k) f h)
 
 -- symbols have one first fault
-pub first_once : (ps : List PlacedSymbol) (at by : ℕ) (f g : SymbolFault) → IsFirstFault ps at f → IsFirstFault ps by g → (at ≡ by) × (f ≡ g)
+pub first_once : (ps : List PlacedSymbol) (at by : ℕ) (f g : SymbolFault) → IsFirstFault ps at f → IsFirstFault ps by g
+    → (at ≡ by) × (f ≡ g)
 first_once ps at by f g h k = elim (places h.earlier k.earlier h.faulty k.faulty h.later k.later (sym h.all_are ∙ k.all_are)) [
   | same e s ↦ (
     sym h.place ∙ ap (λ (p : PlacedSymbol). p.at) s ∙ k.place,
     fault_once (symbols_of k.earlier) k.faulty.symbol f g
-        (subst (λ (x : PlacedSymbol). FaultAt (symbols_of k.earlier) x.symbol f) s (subst (λ (l : List PlacedSymbol). FaultAt (symbols_of l) h.faulty.symbol f) e h.is)) k.is,
+        (subst (λ (x : PlacedSymbol). FaultAt (symbols_of k.earlier) x.symbol f) s
+        (subst (λ (l : List PlacedSymbol). FaultAt (symbols_of l) h.faulty.symbol f) e h.is)) k.is,
   )
   | before c e ↦ never_earlier h.earlier k.earlier c h.faulty f e h.is k.none_before
   | behind c e ↦ never_earlier k.earlier h.earlier c k.faulty g e k.is h.none_before

@@ -14,15 +14,22 @@ use Rattle.index_notation.specs.declared.symbol.Symbol.TheVariants.{Lexeme, End}
 use Rattle.notation_reader.specs.declared.position.Lead.{Lead}
 use Rattle.notation_reader.specs.declared.position.Lead.TheVariants as lead
 use Rattle.index_notation.specs.Grammar.{Factor, Digits, Read, Bracketed, Negated, Product}
-use Rattle.notation_reader.specs.Machine.{SumPlace, OnTheRight, InBrackets, ProductPlace, First, BehindPlus, BehindMinus, FactorPlace, FirstFactor, BehindTimes, BehindSign, its_product, product_with, its_sum, sum_with, behind_factor, closed, ended, step_behind, step, Side, Left, Right, State, Start, Named, WantsVariable, BehindVariable, BehindLeft, WantsFactor, Behind, Ended}
+use Rattle.notation_reader.specs.Machine.{SumPlace, OnTheRight, InBrackets, ProductPlace, First, BehindPlus, BehindMinus, FactorPlace}
+use Rattle.notation_reader.specs.Machine.{FirstFactor, BehindTimes, BehindSign, its_product, product_with, its_sum, sum_with}
+use Rattle.notation_reader.specs.Machine.{behind_factor, closed, ended, step_behind, step, Side, Left, Right, State, Start, Named}
+use Rattle.notation_reader.specs.Machine.{WantsVariable, BehindVariable, BehindLeft, WantsFactor, Behind, Ended}
 use Rattle.notation_reader.proofs.MachineLaws.{some_is, nothing_leads}
 use Rattle.notation_reader.specs.Leads.{lead_of}
 use Rattle.notation_reader.proofs.ShownLaws.{behind_leads}
 use Rattle.notation_reader.specs.Shown.{minuses_of, show}
 use Rattle.index_notation.specs.TreeStatement.{reads_in_factor, reads_in_product, reads_in_sum, factor_expr, product_expr, sum_expr}
-use Rattle.notation_reader.specs.Building.{reads_to_sum, reads_to_product, reads_to, joined_by, sum_before, product_before, frame_of, frame_behind, frames_of_sum, frames_of_product, frames_of, no_frame, at_factor, built, negated, times, whole_sum, finished_by, joined_with, with_read, out_of_frame, at_the_end, with_last_access, by_operator, closes_so, Builds}
+use Rattle.notation_reader.specs.Building.{reads_to_sum, reads_to_product, reads_to, joined_by, sum_before, product_before, frame_of}
+use Rattle.notation_reader.specs.Building.{frame_behind, frames_of_sum, frames_of_product, frames_of, no_frame, at_factor, built, negated}
+use Rattle.notation_reader.specs.Building.{times, whole_sum, finished_by, joined_with, with_read, out_of_frame, at_the_end}
+use Rattle.notation_reader.specs.Building.{with_last_access, by_operator, closes_so, Builds}
 
-reads_behind : (place : FactorPlace) (f : Factor) → reads_to_product (its_product place) + reads_in_product (product_with place f) ≡ reads_to place + reads_in_factor f
+reads_behind : (place : FactorPlace) (f : Factor)
+    → reads_to_product (its_product place) + reads_in_product (product_with place f) ≡ reads_to place + reads_in_factor f
 reads_behind (FirstFactor place) f = refl
 reads_behind (BehindTimes place p) f = omega arith
 reads_behind (BehindSign place) f = reads_behind place (Negated f)
@@ -33,31 +40,41 @@ frames_stay (BehindTimes place p) = refl
 frames_stay (BehindSign place) = frames_stay place
 
 -- the product of which a factor is the last
-product_built : (place : FactorPlace) (f : Factor) → product_expr (reads_to_product (its_product place)) (product_with place f) ≡ times (product_before place) (negated (minuses_of place) (factor_expr (reads_to place) f))
+product_built : (place : FactorPlace) (f : Factor)
+    → product_expr (reads_to_product (its_product place)) (product_with place f) ≡ times (product_before place)
+    (negated (minuses_of place) (factor_expr (reads_to place) f))
 product_built (FirstFactor place) f = refl
 product_built (BehindTimes place p) f = refl
 product_built (BehindSign place) f =
     product_built place (Negated f)
-    ∙ ap (λ (n : ℕ). times (product_before place) (negated n (factor_expr (reads_to place) f))) (let h : suc (minuses_of place) ≡ minuses_of place + 1 = omega arith in h)
+    ∙ ap (λ (n : ℕ). times (product_before place) (negated n (factor_expr (reads_to place) f)))
+    (let h : suc (minuses_of place) ≡ minuses_of place + 1 = omega arith in h)
 
-builder_of : (n m : ℕ) (o q : List Frame) (s : Option Joined) (a b : Expr) → n ≡ m → o ≡ q → a ≡ b → ◌≡◌ {A = Builder} (record { reads = n; outer = o; frame = record { sum = s; product = Some a; minuses = 0 }; result = None }) (record { reads = m; outer = q; frame = record { sum = s; product = Some b; minuses = 0 }; result = None })
-builder_of n m o q s a b e f g = λ i. record { reads = e i; outer = f i; frame = record { sum = s; product = Some (g i); minuses = 0 }; result = None }
+builder_of : (n m : ℕ) (o q : List Frame) (s : Option Joined) (a b : Expr) → n ≡ m → o ≡ q → a ≡ b
+    → ◌≡◌ {A = Builder} (record { reads = n; outer = o; frame = record { sum = s; product = Some a; minuses = 0 }; result = None })
+    (record { reads = m; outer = q; frame = record { sum = s; product = Some b; minuses = 0 }; result = None })
+builder_of n m o q s a b e f g =
+    λ i. record { reads = e i; outer = f i; frame = record { sum = s; product = Some (g i); minuses = 0 }; result = None }
 
 -- a factor behind its place
-pub factor_built : (place : FactorPlace) (f : Factor) → built (behind_factor place f) ≡ finished_by (at_factor (reads_in_factor f) place) (factor_expr (reads_to place) f)
+pub factor_built : (place : FactorPlace) (f : Factor)
+    → built (behind_factor place f) ≡ finished_by (at_factor (reads_in_factor f) place) (factor_expr (reads_to place) f)
 factor_built place f = builder_of
     (reads_to_product (its_product place) + reads_in_product (product_with place f)) (reads_to place + reads_in_factor f)
     (frames_of_product (its_product place)) (frames_of place) (sum_before (its_product place))
-    (product_expr (reads_to_product (its_product place)) (product_with place f)) (times (product_before place) (negated (minuses_of place) (factor_expr (reads_to place) f)))
+    (product_expr (reads_to_product (its_product place)) (product_with place f))
+    (times (product_before place) (negated (minuses_of place) (factor_expr (reads_to place) f)))
     (reads_behind place f) (frames_stay place) (product_built place f)
 
 -- the sum of which a product is the last
-pub sum_built : (place : ProductPlace) (p : Product) → sum_expr (reads_to_sum (its_sum place)) (sum_with place p) ≡ whole_sum (frame_behind place p)
+pub sum_built : (place : ProductPlace) (p : Product)
+    → sum_expr (reads_to_sum (its_sum place)) (sum_with place p) ≡ whole_sum (frame_behind place p)
 sum_built (First place) p = refl
 sum_built (BehindPlus place s) p = refl
 sum_built (BehindMinus place s) p = refl
 
-sum_reads : (place : ProductPlace) (p : Product) → reads_to_sum (its_sum place) + reads_in_sum (sum_with place p) ≡ reads_to_product place + reads_in_product p
+sum_reads : (place : ProductPlace) (p : Product)
+    → reads_to_sum (its_sum place) + reads_in_sum (sum_with place p) ≡ reads_to_product place + reads_in_product p
 sum_reads (First place) p = refl
 sum_reads (BehindPlus place s) p = omega arith
 sum_reads (BehindMinus place s) p = omega arith
@@ -67,25 +84,51 @@ sum_frames (First place) = refl
 sum_frames (BehindPlus place s) = refl
 sum_frames (BehindMinus place s) = refl
 
-joined_of : (n m : ℕ) (o q : List Frame) (a b : Expr) (minus : Bool) → n ≡ m → o ≡ q → a ≡ b → ◌≡◌ {A = Builder} (record { reads = n; outer = o; frame = record { sum = Some (joined_by minus a); product = None; minuses = 0 }; result = None }) (record { reads = m; outer = q; frame = record { sum = Some (joined_by minus b); product = None; minuses = 0 }; result = None })
-joined_of n m o q a b minus e f g = λ i. record { reads = e i; outer = f i; frame = record { sum = Some (joined_by minus (g i)); product = None; minuses = 0 }; result = None }
+joined_of : (n m : ℕ) (o q : List Frame) (a b : Expr) (minus : Bool) → n ≡ m → o ≡ q → a ≡ b
+    → ◌≡◌ {A = Builder} (record {
+      reads = n;
+      outer = o;
+      frame =
+          record { sum = Some (joined_by minus a); product = None; minuses = 0 };
+      result = None;
+    })
+    (record { reads = m; outer = q; frame = record { sum = Some (joined_by minus b); product = None; minuses = 0 }; result = None })
+joined_of n m o q a b minus e f g =
+    λ i. record {
+      reads = e i;
+      outer = f i;
+      frame = record { sum = Some (joined_by minus (g i)); product = None; minuses = 0 };
+      result =
+          None;
+    }
 
 zero_more : (n m : ℕ) → n ≡ m → n + 0 ≡ m
 zero_more n m e = omega (arith, e)
 
-pub plus_built : (place : ProductPlace) (p : Product) → built (WantsFactor (FirstFactor (BehindPlus (its_sum place) (sum_with place p)))) ≡ joined_with (built (Behind place p)) false
-plus_built place p = joined_of ((reads_to_sum (its_sum place) + reads_in_sum (sum_with place p)) + 0) (reads_to_product place + reads_in_product p) (frames_of_sum (its_sum place)) (frames_of_product place) (sum_expr (reads_to_sum (its_sum place)) (sum_with place p)) (whole_sum (frame_behind place p)) false
+pub plus_built : (place : ProductPlace) (p : Product)
+    → built (WantsFactor (FirstFactor (BehindPlus (its_sum place) (sum_with place p)))) ≡ joined_with (built (Behind place p)) false
+plus_built place p = joined_of ((reads_to_sum (its_sum place) + reads_in_sum (sum_with place p)) + 0)
+    (reads_to_product place + reads_in_product p) (frames_of_sum (its_sum place)) (frames_of_product place)
+    (sum_expr (reads_to_sum (its_sum place)) (sum_with place p)) (whole_sum (frame_behind place p)) false
     (zero_more _ _ (sum_reads place p)) (sym (sum_frames place)) (sum_built place p)
 
-pub minus_built : (place : ProductPlace) (p : Product) → built (WantsFactor (FirstFactor (BehindMinus (its_sum place) (sum_with place p)))) ≡ joined_with (built (Behind place p)) true
-minus_built place p = joined_of ((reads_to_sum (its_sum place) + reads_in_sum (sum_with place p)) + 0) (reads_to_product place + reads_in_product p) (frames_of_sum (its_sum place)) (frames_of_product place) (sum_expr (reads_to_sum (its_sum place)) (sum_with place p)) (whole_sum (frame_behind place p)) true
+pub minus_built : (place : ProductPlace) (p : Product)
+    → built (WantsFactor (FirstFactor (BehindMinus (its_sum place) (sum_with place p)))) ≡ joined_with (built (Behind place p)) true
+minus_built place p = joined_of ((reads_to_sum (its_sum place) + reads_in_sum (sum_with place p)) + 0)
+    (reads_to_product place + reads_in_product p) (frames_of_sum (its_sum place)) (frames_of_product place)
+    (sum_expr (reads_to_sum (its_sum place)) (sum_with place p)) (whole_sum (frame_behind place p)) true
     (zero_more _ _ (sum_reads place p)) (sym (sum_frames place)) (sum_built place p)
 
 -- a bracket that closes: its frame goes behind what it holds
-pub bracket_built : (place : FactorPlace) (at : ProductPlace) (p : Product) → its_sum at ≡ InBrackets place → built (behind_factor place (Bracketed (sum_with at p))) ≡ finished_by (record { reads = reads_to_product at + reads_in_product p; outer = frames_of place; frame = frame_of place; result = None }) (whole_sum (frame_behind at p))
+pub bracket_built : (place : FactorPlace) (at : ProductPlace) (p : Product) → its_sum at ≡ InBrackets place
+    → built (behind_factor place (Bracketed (sum_with at p))) ≡ finished_by
+    (record { reads = reads_to_product at + reads_in_product p; outer = frames_of place; frame = frame_of place; result = None })
+    (whole_sum (frame_behind at p))
 bracket_built place at p e =
-    let reads : reads_to place + reads_in_sum (sum_with at p) ≡ reads_to_product at + reads_in_product p = ap (λ (x : SumPlace). reads_to_sum x + reads_in_sum (sum_with at p)) (sym e) ∙ sum_reads at p in
-    let expr : sum_expr (reads_to place) (sum_with at p) ≡ whole_sum (frame_behind at p) = ap (λ (x : SumPlace). sum_expr (reads_to_sum x) (sum_with at p)) (sym e) ∙ sum_built at p in
+    let reads : reads_to place + reads_in_sum (sum_with at p) ≡ reads_to_product at + reads_in_product p =
+    ap (λ (x : SumPlace). reads_to_sum x + reads_in_sum (sum_with at p)) (sym e) ∙ sum_reads at p in
+    let expr : sum_expr (reads_to place) (sum_with at p) ≡ whole_sum (frame_behind at p) =
+    ap (λ (x : SumPlace). sum_expr (reads_to_sum x) (sum_with at p)) (sym e) ∙ sum_built at p in
     factor_built place (Bracketed (sum_with at p))
     ∙ (λ i. finished_by (record { reads = reads i; outer = frames_of place; frame = frame_of place; result = None }) (expr i))
 
@@ -93,16 +136,26 @@ bracket_built place at p e =
 from_equal : (x next : State) (new : Builder) → ◌≡◌ {A = Option State} (Some x) (Some next) → built x ≡ new → built next ≡ new
 from_equal x next new e h = ap built (sym (some_is x next e)) ∙ h
 
-access_built : (place : FactorPlace) (access : WrittenAccess) → built (behind_factor place (Read access)) ≡ with_last_access (at_factor 1 place)
-access_built place access = factor_built place (Read access) ∙ ap (λ (n : ℕ). finished_by (at_factor 1 place) (AccessOf n)) (let h : reads_to place ≡ (reads_to place + 1) - 1 = omega arith in h)
+access_built : (place : FactorPlace) (access : WrittenAccess)
+    → built (behind_factor place (Read access)) ≡ with_last_access (at_factor 1 place)
+access_built place access = factor_built place (Read access)
+    ∙ ap (λ (n : ℕ). finished_by (at_factor 1 place) (AccessOf n)) (let h : reads_to place ≡ (reads_to place + 1) - 1 = omega arith in h)
 
 abbrev BuildsAs : State → Symbol → State → Builder → Type 0
 BuildsAs s t next new = Builds (built s) (show s).stand t (lead_of (show s).stand t) new → built next ≡ new
 
 times_built : (place : ProductPlace) (p : Product) → built (WantsFactor (BehindTimes place p)) ≡ built (Behind place p)
-times_built place p = λ i. record { reads = zero_more (reads_to_product place + reads_in_product p) (reads_to_product place + reads_in_product p) refl i; outer = frames_of_product place; frame = frame_behind place p; result = None }
+times_built place p = λ i. record {
+  reads =
+      zero_more (reads_to_product place + reads_in_product p) (reads_to_product place + reads_in_product p) refl i;
+  outer =
+      frames_of_product place;
+  frame = frame_behind place p;
+  result = None;
+}
 
-close_equal : (at : SumPlace) (place : ProductPlace) (p : Product) (next : State) (new b : Builder) → its_sum place ≡ at → closed at (sum_with place p) ≡ Some next → b ≡ built (Behind place p) → closes_so b new → built next ≡ new
+close_equal : (at : SumPlace) (place : ProductPlace) (p : Product) (next : State) (new b : Builder) → its_sum place ≡ at
+    → closed at (sum_with place p) ≡ Some next → b ≡ built (Behind place p) → closes_so b new → built next ≡ new
 close_equal (OnTheRight left) place p next new b e h k w = nothing_leads next h
 close_equal (InBrackets at) place p next new b e h k w =
     let outer : b.outer ≡ frames_of at ++ (frame_of at ∷ []) = ap (λ (x : Builder). x.outer) k ∙ sum_frames place ∙ ap frames_of_sum e in
@@ -111,10 +164,17 @@ close_equal (InBrackets at) place p next new b e h k w =
     ∙ (λ i. out_of_frame (sym k i) (frames_of at) (frame_of at))
     ∙ sym (w (frames_of at) (frame_of at) outer))
 
-end_equal : (at : SumPlace) (place : ProductPlace) (p : Product) (next : State) (new b : Builder) → its_sum place ≡ at → ended at (sum_with place p) ≡ Some next → b ≡ built (Behind place p) → new ≡ at_the_end b → built next ≡ new
+end_equal : (at : SumPlace) (place : ProductPlace) (p : Product) (next : State) (new b : Builder) → its_sum place ≡ at
+    → ended at (sum_with place p) ≡ Some next → b ≡ built (Behind place p) → new ≡ at_the_end b → built next ≡ new
 end_equal (OnTheRight left) place p next new b e h k w =
     from_equal (Ended (record { left = left; right = sum_with place p })) next new h
-    ((λ i. record { reads = 0; outer = []; frame = no_frame; result = Some ((ap (λ (x : SumPlace). sum_expr (reads_to_sum x) (sum_with place p)) (sym e) ∙ sum_built place p) i) })
+    ((λ i. record {
+      reads = 0;
+      outer = [];
+      frame = no_frame;
+      result =
+          Some ((ap (λ (x : SumPlace). sum_expr (reads_to_sum x) (sum_with place p)) (sym e) ∙ sum_built place p) i);
+    })
     ∙ ap at_the_end (sym k) ∙ sym w)
 end_equal (InBrackets at) place p next new b e h k w = nothing_leads next h
 
@@ -125,19 +185,36 @@ BehindBuilds b t lead.Close new = closes_so b new
 BehindBuilds b t lead.End new = new ≡ at_the_end b
 BehindBuilds b t _ new = Unit {0}
 
-behind_equal : (place : ProductPlace) (p : Product) (t : Symbol) (next : State) (new b : Builder) → step_behind place p t ≡ Some next → b ≡ built (Behind place p) → BehindBuilds b t (behind_leads t) new → built next ≡ new
-behind_equal place p (Lexeme (MarkToken Times)) next new b e k w = from_equal (WantsFactor (BehindTimes place p)) next new e (times_built place p ∙ sym k ∙ sym w)
-behind_equal place p (Lexeme (MarkToken Plus)) next new b e k w = from_equal (WantsFactor (FirstFactor (BehindPlus (its_sum place) (sum_with place p)))) next new e (plus_built place p ∙ ap (λ (x : Builder). joined_with x false) (sym k) ∙ sym w)
-behind_equal place p (Lexeme (MarkToken Minus)) next new b e k w = from_equal (WantsFactor (FirstFactor (BehindMinus (its_sum place) (sum_with place p)))) next new e (minus_built place p ∙ ap (λ (x : Builder). joined_with x true) (sym k) ∙ sym w)
+behind_equal : (place : ProductPlace) (p : Product) (t : Symbol) (next : State) (new b : Builder) → step_behind place p t ≡ Some next
+    → b ≡ built (Behind place p) → BehindBuilds b t (behind_leads t) new → built next ≡ new
+behind_equal place p (Lexeme (MarkToken Times)) next new b e k w =
+    from_equal (WantsFactor (BehindTimes place p)) next new e (times_built place p ∙ sym k ∙ sym w)
+behind_equal place p (Lexeme (MarkToken Plus)) next new b e k w =
+    from_equal (WantsFactor (FirstFactor (BehindPlus (its_sum place) (sum_with place p)))) next new e (plus_built place p
+    ∙ ap (λ (x : Builder). joined_with x false) (sym k) ∙ sym w)
+behind_equal place p (Lexeme (MarkToken Minus)) next new b e k w =
+    from_equal (WantsFactor (FirstFactor (BehindMinus (its_sum place) (sum_with place p)))) next new e (minus_built place p
+    ∙ ap (λ (x : Builder). joined_with x true) (sym k) ∙ sym w)
 behind_equal place p (Lexeme (MarkToken Close)) next new b e k w = close_equal (its_sum place) place p next new b refl e k w
 behind_equal place p End next new b e k w = end_equal (its_sum place) place p next new b refl e k w
 behind_equal place p _ next new b e k w = nothing_leads next e
 
-scalar_equal : (place : FactorPlace) (name : Name) (t : Symbol) (next : State) (new : Builder) → step_behind (its_product place) (product_with place (Read (record { name = name; vars = [] }))) t ≡ Some next → BehindBuilds (with_last_access (at_factor 1 place)) t (behind_leads t) new → built next ≡ new
-scalar_equal place name t next new e w = behind_equal (its_product place) (product_with place (Read (record { name = name; vars = [] }))) t next new (with_last_access (at_factor 1 place)) e (sym (access_built place (record { name = name; vars = [] }))) w
+scalar_equal : (place : FactorPlace) (name : Name) (t : Symbol) (next : State) (new : Builder)
+    → step_behind (its_product place) (product_with place (Read (record { name = name; vars = [] }))) t ≡ Some next
+    → BehindBuilds (with_last_access (at_factor 1 place)) t (behind_leads t) new → built next ≡ new
+scalar_equal place name t next new e w =
+    behind_equal (its_product place) (product_with place (Read (record { name = name; vars = [] }))) t next new
+    (with_last_access (at_factor 1 place)) e (sym (access_built place (record { name = name; vars = [] }))) w
 
 name_equal : (place : FactorPlace) (name : Name) → built (Named (Right place) name) ≡ with_read (at_factor 0 place)
-name_equal place name = λ i. record { reads = (let h : reads_to place + 1 ≡ (reads_to place + 0) + 1 = omega arith in h) i; outer = frames_of place; frame = frame_of place; result = None }
+name_equal place name =
+    λ i. record {
+      reads = (let h : reads_to place + 1 ≡ (reads_to place + 0) + 1 = omega arith in h) i;
+      outer = frames_of place;
+      frame =
+          frame_of place;
+      result = None;
+    }
 
 abbrev Equal : State → Type 0
 Equal s = (t : Symbol) (next : State) (new : Builder) → step s t ≡ Some next → BuildsAs s t next new
@@ -148,7 +225,8 @@ start_equal _ next new e w = nothing_leads next e
 
 left_name_equal : (name : Name) → Equal (Named Left name)
 left_name_equal name (Lexeme (MarkToken Open)) next new e w = from_equal (WantsVariable Left name []) next new e (sym w)
-left_name_equal name (Lexeme (MarkToken Equals)) next new e w = from_equal (WantsFactor (FirstFactor (First (OnTheRight (record { name = name; vars = [] }))))) next new e (sym w)
+left_name_equal name (Lexeme (MarkToken Equals)) next new e w =
+    from_equal (WantsFactor (FirstFactor (First (OnTheRight (record { name = name; vars = [] }))))) next new e (sym w)
 left_name_equal name _ next new e w = nothing_leads next e
 
 right_name_equal : (place : FactorPlace) (name : Name) → Equal (Named (Right place) name)
@@ -161,35 +239,49 @@ right_name_equal place name End next new e w = scalar_equal place name End next 
 right_name_equal place name _ next new e w = nothing_leads next e
 
 wants_variable_equal : (side : Side) (name : Name) (vars : List Name) → Equal (WantsVariable side name vars)
-wants_variable_equal Left name vars (Lexeme (NameToken var)) next new e w = from_equal (BehindVariable Left name vars var) next new e (sym w)
-wants_variable_equal (Right place) name vars (Lexeme (NameToken var)) next new e w = from_equal (BehindVariable (Right place) name vars var) next new e (sym w)
+wants_variable_equal Left name vars (Lexeme (NameToken var)) next new e w =
+    from_equal (BehindVariable Left name vars var) next new e (sym w)
+wants_variable_equal (Right place) name vars (Lexeme (NameToken var)) next new e w =
+    from_equal (BehindVariable (Right place) name vars var) next new e (sym w)
 wants_variable_equal Left name vars _ next new e w = nothing_leads next e
 wants_variable_equal (Right place) name vars _ next new e w = nothing_leads next e
 
 variable_equal : (side : Side) (name : Name) (vars : List Name) (var : Name) → Equal (BehindVariable side name vars var)
-variable_equal Left name vars var (Lexeme (MarkToken Comma)) next new e w = from_equal (WantsVariable Left name (vars ++ (var ∷ []))) next new e (sym w)
-variable_equal Left name vars var (Lexeme (MarkToken Close)) next new e w = from_equal (BehindLeft (record { name = name; vars = vars ++ (var ∷ []) })) next new e (sym w)
+variable_equal Left name vars var (Lexeme (MarkToken Comma)) next new e w =
+    from_equal (WantsVariable Left name (vars ++ (var ∷ []))) next new e (sym w)
+variable_equal Left name vars var (Lexeme (MarkToken Close)) next new e w =
+    from_equal (BehindLeft (record { name = name; vars = vars ++ (var ∷ []) })) next new e (sym w)
 variable_equal Left name vars var _ next new e w = nothing_leads next e
-variable_equal (Right place) name vars var (Lexeme (MarkToken Comma)) next new e w = from_equal (WantsVariable (Right place) name (vars ++ (var ∷ []))) next new e (sym w)
-variable_equal (Right place) name vars var (Lexeme (MarkToken Close)) next new e w = from_equal (behind_factor place (Read (record { name = name; vars = vars ++ (var ∷ []) }))) next new e (access_built place (record { name = name; vars = vars ++ (var ∷ []) }) ∙ sym w)
+variable_equal (Right place) name vars var (Lexeme (MarkToken Comma)) next new e w =
+    from_equal (WantsVariable (Right place) name (vars ++ (var ∷ []))) next new e (sym w)
+variable_equal (Right place) name vars var (Lexeme (MarkToken Close)) next new e w =
+    from_equal (behind_factor place (Read (record { name = name; vars = vars ++ (var ∷ []) }))) next new e
+    (access_built place (record { name = name; vars = vars ++ (var ∷ []) }) ∙ sym w)
 variable_equal (Right place) name vars var _ next new e w = nothing_leads next e
 
 left_equal : (access : WrittenAccess) → Equal (BehindLeft access)
-left_equal access (Lexeme (MarkToken Equals)) next new e w = from_equal (WantsFactor (FirstFactor (First (OnTheRight access)))) next new e (sym w)
+left_equal access (Lexeme (MarkToken Equals)) next new e w =
+    from_equal (WantsFactor (FirstFactor (First (OnTheRight access)))) next new e (sym w)
 left_equal access _ next new e w = nothing_leads next e
 
 wants_equal : (place : FactorPlace) → Equal (WantsFactor place)
-wants_equal place (Lexeme (NumberToken digits)) next new e w = from_equal (behind_factor place (Digits digits)) next new e (factor_built place (Digits digits) ∙ sym w)
+wants_equal place (Lexeme (NumberToken digits)) next new e w =
+    from_equal (behind_factor place (Digits digits)) next new e (factor_built place (Digits digits) ∙ sym w)
 wants_equal place (Lexeme (NameToken name)) next new e w = from_equal (Named (Right place) name) next new e (name_equal place name ∙ sym w)
-wants_equal place (Lexeme (MarkToken Open)) next new e w = from_equal (WantsFactor (FirstFactor (First (InBrackets place)))) next new e (sym w)
+wants_equal place (Lexeme (MarkToken Open)) next new e w =
+    from_equal (WantsFactor (FirstFactor (First (InBrackets place)))) next new e (sym w)
 wants_equal place (Lexeme (MarkToken Minus)) next new e w = from_equal (WantsFactor (BehindSign place)) next new e (sym w)
 wants_equal place _ next new e w = nothing_leads next e
 
 behind_factor_equal : (place : ProductPlace) (p : Product) → Equal (Behind place p)
-behind_factor_equal place p (Lexeme (MarkToken Times)) next new e w = behind_equal place p (Lexeme (MarkToken Times)) next new (built (Behind place p)) e refl w
-behind_factor_equal place p (Lexeme (MarkToken Plus)) next new e w = behind_equal place p (Lexeme (MarkToken Plus)) next new (built (Behind place p)) e refl w
-behind_factor_equal place p (Lexeme (MarkToken Minus)) next new e w = behind_equal place p (Lexeme (MarkToken Minus)) next new (built (Behind place p)) e refl w
-behind_factor_equal place p (Lexeme (MarkToken Close)) next new e w = behind_equal place p (Lexeme (MarkToken Close)) next new (built (Behind place p)) e refl w
+behind_factor_equal place p (Lexeme (MarkToken Times)) next new e w =
+    behind_equal place p (Lexeme (MarkToken Times)) next new (built (Behind place p)) e refl w
+behind_factor_equal place p (Lexeme (MarkToken Plus)) next new e w =
+    behind_equal place p (Lexeme (MarkToken Plus)) next new (built (Behind place p)) e refl w
+behind_factor_equal place p (Lexeme (MarkToken Minus)) next new e w =
+    behind_equal place p (Lexeme (MarkToken Minus)) next new (built (Behind place p)) e refl w
+behind_factor_equal place p (Lexeme (MarkToken Close)) next new e w =
+    behind_equal place p (Lexeme (MarkToken Close)) next new (built (Behind place p)) e refl w
 behind_factor_equal place p End next new e w = behind_equal place p End next new (built (Behind place p)) e refl w
 behind_factor_equal place p _ next new e w = nothing_leads next e
 

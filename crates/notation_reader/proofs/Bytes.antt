@@ -10,7 +10,8 @@ passes_append test [] x h e = (e, tt)
 passes_append test (y ∷ xs) x h e = (h.0, passes_append test xs x h.1 e)
 
 -- one more byte passes
-pub passes_more : (test : ℕ → Bool) (xs : List ℕ) (i : ℕ) → i < length xs → EachPasses test (take i xs) → test (get_or xs i 0) ≡ true → EachPasses test (take (i + 1) xs)
+pub passes_more : (test : ℕ → Bool) (xs : List ℕ) (i : ℕ) → i < length xs → EachPasses test (take i xs) → test (get_or xs i 0) ≡ true
+    → EachPasses test (take (i + 1) xs)
 passes_more test xs i h p e = subst (EachPasses test) (sym (take_more xs i 0 h)) (passes_append test (take i xs) (get_or xs i 0) p e)
 
 -- the next byte stops the loop
@@ -18,13 +19,15 @@ pub stops_here : (test : ℕ → Bool) (xs : List ℕ) (i : ℕ) → i < length 
 stops_here test xs i h e = subst (StopsAt test) (sym (drop_more xs i 0 h)) e
 
 -- one more blank
-pub blanks_more : (xs : List ℕ) (i : ℕ) → i < length xs → behind_blanks xs ≡ behind_blanks (drop i xs) → is_blank (get_or xs i 0) ≡ true → behind_blanks xs ≡ behind_blanks (drop (i + 1) xs)
+pub blanks_more : (xs : List ℕ) (i : ℕ) → i < length xs → behind_blanks xs ≡ behind_blanks (drop i xs) → is_blank (get_or xs i 0) ≡ true
+    → behind_blanks xs ≡ behind_blanks (drop (i + 1) xs)
 blanks_more xs i h p e =
     p ∙ ap behind_blanks (drop_more xs i 0 h)
     ∙ ap (λ b. cond b (behind_blanks (drop (i + 1) xs)) (get_or xs i 0 ∷ drop (i + 1) xs)) e
 
 -- no blank stands here
-pub blanks_end : (xs : List ℕ) (i : ℕ) → i < length xs → behind_blanks xs ≡ behind_blanks (drop i xs) → is_blank (get_or xs i 0) ≡ false → behind_blanks xs ≡ drop i xs
+pub blanks_end : (xs : List ℕ) (i : ℕ) → i < length xs → behind_blanks xs ≡ behind_blanks (drop i xs) → is_blank (get_or xs i 0) ≡ false
+    → behind_blanks xs ≡ drop i xs
 blanks_end xs i h p e =
     p ∙ ap behind_blanks (drop_more xs i 0 h)
     ∙ ap (λ b. cond b (behind_blanks (drop (i + 1) xs)) (get_or xs i 0 ∷ drop (i + 1) xs)) e
@@ -36,10 +39,11 @@ no_blank_first x xs e = ap (λ b. cond b (behind_blanks xs) (x ∷ xs)) e
 
 pub behind_twice : (xs : List ℕ) → behind_blanks (behind_blanks xs) ≡ behind_blanks xs
 behind_twice [] = refl
-behind_twice (x ∷ xs) = elim (is_blank x) as (λ b. is_blank x ≡ b → behind_blanks (cond b (behind_blanks xs) (x ∷ xs)) ≡ cond b (behind_blanks xs) (x ∷ xs)) [
-  | true ↦ (λ e. behind_twice xs)
-  | false ↦ (λ e. no_blank_first x xs e)
-] refl
+behind_twice (x ∷ xs) = elim (is_blank x) as (λ b. is_blank x ≡ b
+    → behind_blanks (cond b (behind_blanks xs) (x ∷ xs)) ≡ cond b (behind_blanks xs) (x ∷ xs)) [
+      | true ↦ (λ e. behind_twice xs)
+      | false ↦ (λ e. no_blank_first x xs e)
+    ] refl
 
 pub behind_again : (xs ys : List ℕ) → ys ≡ behind_blanks xs → behind_blanks ys ≡ ys
 behind_again xs ys e = ap behind_blanks e ∙ behind_twice xs ∙ sym e

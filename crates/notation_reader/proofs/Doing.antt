@@ -29,5 +29,7 @@ Does o r role lead.Bracket = Leads o (in_bracket r) × (role ≡ Opens (r.levels
 Does o r role lead.Minus = Leads o (behind_sign r) × (role ≡ Opens (r.levels + 1))
 Does o r role lead.Operator = Leads o (with_stand stand.Operator (finished r)) × IsUncounted role
 Does o r role lead.Access = Leads o (finished r) × IsUncounted role
-Does o r role lead.Close = (r.outer ≡ [] → o ≡ None) × ((front : List ℕ) (m : ℕ) → r.outer ≡ front ++ (m ∷ []) → Leads o (out_of_bracket r front m)) × IsUncounted role
-Does o r role lead.End = (r.outer ≡ [] → Leads o (on_the_left stand.End)) × ((front : List ℕ) (m : ℕ) → r.outer ≡ front ++ (m ∷ []) → o ≡ None) × IsUncounted role
+Does o r role lead.Close = (r.outer ≡ [] → o ≡ None)
+    × ((front : List ℕ) (m : ℕ) → r.outer ≡ front ++ (m ∷ []) → Leads o (out_of_bracket r front m)) × IsUncounted role
+Does o r role lead.End = (r.outer ≡ [] → Leads o (on_the_left stand.End))
+    × ((front : List ℕ) (m : ℕ) → r.outer ≡ front ++ (m ∷ []) → o ≡ None) × IsUncounted role

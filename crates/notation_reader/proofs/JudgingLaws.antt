@@ -4,7 +4,9 @@ use Rattle.std.proofs.Common.{sym, ◌∙◌, ap, subst}
 use Rattle.index_notation.specs.declared.symbol.Symbol.{Symbol}
 use Rattle.index_notation.specs.declared.symbol.Symbol.TheVariants.{Lexeme, End, Stray}
 use Rattle.index_notation.specs.Grammar.{Read, Sum, Tree, Role, symbols}
-use Rattle.notation_reader.specs.Machine.{SumPlace, OnTheRight, InBrackets, its_product, product_with, its_sum, sum_with, Left, Right, State, Start, Named, WantsVariable, BehindVariable, BehindLeft, WantsFactor, Behind, Ended, ended, step, run, before, role}
+use Rattle.notation_reader.specs.Machine.{SumPlace, OnTheRight, InBrackets, its_product, product_with, its_sum, sum_with, Left, Right}
+use Rattle.notation_reader.specs.Machine.{State, Start, Named, WantsVariable, BehindVariable, BehindLeft, WantsFactor, Behind, Ended}
+use Rattle.notation_reader.specs.Machine.{ended, step, run, before, role}
 use Rattle.index_notation.specs.declared.fault.SymbolFault.{SymbolFault}
 use Rattle.index_notation.specs.declared.fault.SymbolFault.TheVariants.{BadNotation}
 use Rattle.notation_reader.specs.declared.position.Lead.{Lead}
@@ -29,10 +31,12 @@ use Rattle.notation_reader.proofs.CountLaws.{symbol_judged}
 no_fault_due : {A : Type 0} (f : SymbolFault) → ◌≡◌ {A = Option SymbolFault} (Some f) None → A
 no_fault_due f e = absurd (let no = e in cc)
 
-refused_by : (at : Lead) (s : State) (t : Symbol) (c d : Counts) (f : SymbolFault) → (next : State) × (step s t ≡ Some next) → IsCounted s c → CountsSymbol c (show s).levels t (lead_of (show s).stand t) (Some f) d → IsRefused s t f
+refused_by : (at : Lead) (s : State) (t : Symbol) (c d : Counts) (f : SymbolFault) → (next : State) × (step s t ≡ Some next)
+    → IsCounted s c → CountsSymbol c (show s).levels t (lead_of (show s).stand t) (Some f) d → IsRefused s t f
 refused_by at s t c d f w h k = passes w.0 w.1 (symbol_judged s t w.0 c d (Some f) w.1 h k).fault_is
 
-leads_on : (at : Lead) (o : Option State) (r : Position) (role : Role) (c d : Counts) (l : ℕ) (t : Symbol) (f : SymbolFault) → Does o r role at → CountsSymbol c l t at (Some f) d → (next : State) × (o ≡ Some next)
+leads_on : (at : Lead) (o : Option State) (r : Position) (role : Role) (c d : Counts) (l : ℕ) (t : Symbol) (f : SymbolFault)
+    → Does o r role at → CountsSymbol c l t at (Some f) d → (next : State) × (o ≡ Some next)
 leads_on lead.Nowhere o r role c d l t f w k = no_fault_due f k.0
 leads_on (lead.To at) o r role c d l t f w k = (w.0.0, w.0.1)
 leads_on (lead.Variable at) o r role c d l t f w k = (w.0.0, w.0.1)
@@ -45,19 +49,25 @@ leads_on lead.Access o r role c d l t f w k = (w.0.0, w.0.1)
 leads_on lead.Close o r role c d l t f w k = no_fault_due f k.0
 leads_on lead.End o r role c d l t f w k = no_fault_due f k.0
 
-pub counted_refused : (s : State) (r : Position) (t : Symbol) (c d : Counts) (f : SymbolFault) → show s ≡ r → IsCounted s c → CountsSymbol c r.levels t (lead_of r.stand t) (Some f) d → IsRefused s t f
+pub counted_refused : (s : State) (r : Position) (t : Symbol) (c d : Counts) (f : SymbolFault) → show s ≡ r → IsCounted s c
+    → CountsSymbol c r.levels t (lead_of r.stand t) (Some f) d → IsRefused s t f
 counted_refused s r t c d f e h k =
     let at = lead_of (show s).stand t in
-    let counts : CountsSymbol c (show s).levels t at (Some f) d = subst (λ (x : Position). CountsSymbol c x.levels t (lead_of x.stand t) (Some f) d) (sym e) k in
+    let counts : CountsSymbol c (show s).levels t at (Some f) d =
+    subst (λ (x : Position). CountsSymbol c x.levels t (lead_of x.stand t) (Some f) d) (sym e) k in
     refused_by at s t c d f (leads_on at (step s t) (show s) (role s t) c d (show s).levels t f (does s t) counts) h counts
 
-moved_judged : (s : State) (t : Symbol) (c d : Counts) (q : Position) (b : Bool) → IsCounted s c → CountsSymbol c (show s).levels t (lead_of (show s).stand t) None d → Tells b (step s t) q → MatchBool b (IsTaken s t q d) (IsRefused s t BadNotation)
+moved_judged : (s : State) (t : Symbol) (c d : Counts) (q : Position) (b : Bool) → IsCounted s c
+    → CountsSymbol c (show s).levels t (lead_of (show s).stand t) None d → Tells b (step s t) q
+    → MatchBool b (IsTaken s t q d) (IsRefused s t BadNotation)
 moved_judged s t c d q true h k w =
     let j = symbol_judged s t w.0 c d None w.1 h k in
     record { next = w.0; steps = w.1; within = j.fault_is; shows = w.2; counted = j.counted refl }
 moved_judged s t c d q false h k w = nowhere refl w
 
-pub moved : (s : State) (r : Position) (t : Symbol) (c d : Counts) (q : Position) (b : Bool) → show s ≡ r → IsCounted s c → CountsSymbol c r.levels t (lead_of r.stand t) None d → Moves r (lead_of r.stand t) b q → MatchBool b (IsTaken s t q d) (IsRefused s t BadNotation)
+pub moved : (s : State) (r : Position) (t : Symbol) (c d : Counts) (q : Position) (b : Bool) → show s ≡ r → IsCounted s c
+    → CountsSymbol c r.levels t (lead_of r.stand t) None d → Moves r (lead_of r.stand t) b q
+    → MatchBool b (IsTaken s t q d) (IsRefused s t BadNotation)
 moved s r t c d q b e h k m =
     let counts = subst (λ (x : Position). CountsSymbol c x.levels t (lead_of x.stand t) None d) (sym e) k in
     let moves = subst (λ (x : Position). Moves x (lead_of x.stand t) b q) (sym e) m in
@@ -72,9 +82,17 @@ pub record Comes (ts : List Symbol) (r : Position) (c : Counts) : Type 0 where
   pub faultless : HaveNoFault [] ts
 
 pub comes_first : Comes [] (on_the_left stand.Nothing) (record { order = 0; vars = []; accesses = 0; operands = 0 })
-comes_first = record { state = Start; runs = refl; shows = refl; counted = record { order = refl; vars = refl; accesses = refl; operands = refl }; faultless = tt }
+comes_first = record {
+  state = Start;
+  runs = refl;
+  shows = refl;
+  counted =
+      record { order = refl; vars = refl; accesses = refl; operands = refl };
+  faultless = tt;
+}
 
-pub comes_on : (ts : List Symbol) (t : Symbol) (r q : Position) (c d : Counts) → Comes ts r c → ((s : State) → show s ≡ r → IsCounted s c → IsTaken s t q d) → Comes (ts ++ (t ∷ [])) q d
+pub comes_on : (ts : List Symbol) (t : Symbol) (r q : Position) (c d : Counts) → Comes ts r c
+    → ((s : State) → show s ≡ r → IsCounted s c → IsTaken s t q d) → Comes (ts ++ (t ∷ [])) q d
 comes_on ts t r q c d h j =
     let k = j h.state h.shows h.counted in
     record {
@@ -98,7 +116,9 @@ ended_so (InBrackets place) s next e = nothing_leads next e
 end_so : (s next : State) → step s End ≡ Some next → (w : Tree) × (next ≡ Ended w)
 end_so Start next e = nothing_leads next e
 end_so (Named Left name) next e = nothing_leads next e
-end_so (Named (Right place) name) next e = ended_so (its_sum (its_product place)) (sum_with (its_product place) (product_with place (Read (record { name = name; vars = [] })))) next e
+end_so (Named (Right place) name) next e =
+    ended_so (its_sum (its_product place))
+    (sum_with (its_product place) (product_with place (Read (record { name = name; vars = [] })))) next e
 end_so (WantsVariable side name vars) next e = nothing_leads next e
 end_so (BehindVariable side name vars var) next e = nothing_leads next e
 end_so (BehindLeft access) next e = nothing_leads next e

@@ -23,7 +23,9 @@ use Rattle.notation_reader.proofs.AnswerLaws.{first_once, tree_or_fault}
 abbrev Once : ℕ → List PlacedSymbol → List PlacedSymbol → Type 0
 Once size ps qs = (rest : List ℕ) → AreSymbols size rest ps → AreSymbols size rest qs → ps ≡ qs
 
-starts_once : (size : ℕ) (text : List ℕ) (ps qs : List PlacedSymbol) (t u : Symbol) → Once size ps qs → StartsWith text (λ rest. AreSymbols size rest ps) (ps ≡ []) t → StartsWith text (λ rest. AreSymbols size rest qs) (qs ≡ []) u → (t ≡ u) × (ps ≡ qs)
+starts_once : (size : ℕ) (text : List ℕ) (ps qs : List PlacedSymbol) (t u : Symbol) → Once size ps qs
+    → StartsWith text (λ rest. AreSymbols size rest ps) (ps ≡ []) t → StartsWith text (λ rest. AreSymbols size rest qs) (qs ≡ []) u
+    → (t ≡ u) × (ps ≡ qs)
 starts_once size text ps qs (Lexeme t) (Lexeme u) once h k =
     let same = next_once text t u h.0 k.0 h.1 k.1 in
     (ap Lexeme same.0, once k.0 (subst (λ (r : List ℕ). AreSymbols size r ps) same.1 h.2) k.2)
@@ -71,7 +73,8 @@ never_long text h k = absurd (omega (arith, h, k))
 faulty_once : (text : List ℕ) (f g : NotationFault) → HasFaultySymbol text f → HasFaultySymbol text g → f ≡ g
 faulty_once text f g h k =
     let placed = symbols_once (length text) text h.placed k.placed h.are_symbols k.are_symbols in
-    let same = first_once k.placed h.at k.at h.symbol_fault k.symbol_fault (subst (λ (ps : List PlacedSymbol). IsFirstFault ps h.at h.symbol_fault) placed h.first) k.first in
+    let same = first_once k.placed h.at k.at h.symbol_fault k.symbol_fault
+    (subst (λ (ps : List PlacedSymbol). IsFirstFault ps h.at h.symbol_fault) placed h.first) k.first in
     h.is ∙ (λ i. at_byte (same.0 i) (same.1 i)) ∙ sym k.is
 
 told_once : (text : List ℕ) (f g : NotationFault) → Told text f → Told text g → f ≡ g
@@ -88,14 +91,19 @@ never_told : (text : List ℕ) (s : Statement) (f : NotationFault) → IsNotatio
 never_told text s f h (too_long e k) = never_long text k h.short
 never_told text s f h (faulty k) =
     let placed = symbols_once (length text) text h.placed k.placed h.are_symbols k.are_symbols in
-    tree_or_fault k.placed h.tree k.at k.symbol_fault (subst (λ (ps : List PlacedSymbol). IsTreeOf (symbols_of ps) h.tree) placed h.is_tree) k.first
+    tree_or_fault k.placed h.tree k.at k.symbol_fault
+    (subst (λ (ps : List PlacedSymbol). IsTreeOf (symbols_of ps) h.tree) placed h.is_tree) k.first
 
 -- and not both
 pub never_both : (text : List ℕ) (s : Statement) (f : NotationFault) → IsNotationOf text s → IsFaultOf text f → ⊥
 never_both text s f h k = never_told text s f h (told text f k)
 
 -- the statement of what was read is the text's
-pub parsed : (text bytes : List ℕ) (ps slice : List PlacedSymbol) (reading : Reading) (accesses : List WrittenAccess) (s : Statement) → bytes ≡ text → length bytes ≤ greatest_text_bytes → AreSymbols (length bytes) bytes ps → slice ≡ ps → (tree : Tree) × IsTreeOf (symbols_of slice) tree × IsReadingOf tree reading → accesses ≡ reading.accesses → ((left : WrittenAccess) (right : List WrittenAccess) → accesses ≡ left ∷ right → s ≡ numbered_statement left right reading.expr) → IsNotationOf text s
+pub parsed : (text bytes : List ℕ) (ps slice : List PlacedSymbol) (reading : Reading) (accesses : List WrittenAccess) (s : Statement)
+    → bytes ≡ text → length bytes ≤ greatest_text_bytes → AreSymbols (length bytes) bytes ps → slice ≡ ps
+    → (tree : Tree) × IsTreeOf (symbols_of slice) tree × IsReadingOf tree reading → accesses ≡ reading.accesses
+    → ((left : WrittenAccess) (right : List WrittenAccess) → accesses ≡ left ∷ right
+    → s ≡ numbered_statement left right reading.expr) → IsNotationOf text s
 parsed text bytes ps slice reading accesses s same short are e h a n = record {
   placed = ps;
   tree = h.0;

@@ -8,8 +8,13 @@ use Rattle.index_notation.specs.declared.sentence.Token.TheVariants.{Name as Nam
 use Rattle.index_notation.specs.declared.sentence.WrittenAccess.{WrittenAccess}
 use Rattle.index_notation.specs.declared.symbol.Symbol.{Symbol}
 use Rattle.index_notation.specs.declared.symbol.Symbol.TheVariants.{Lexeme, End}
-use Rattle.index_notation.specs.Grammar.{Factor, Digits, Read, Bracketed, Negated, Product, Lone, Multiplied, Sum, Alone, Added, Taken, Tree, NamesLeft, Written, plain, the_end, access_of, factor_of, product_of, sum_of, left_of, sentence_of, more_variables, in_brackets, symbols, Begins}
-use Rattle.notation_reader.specs.Machine.{SumPlace, OnTheRight, InBrackets, ProductPlace, First, BehindPlus, BehindMinus, FactorPlace, FirstFactor, BehindTimes, BehindSign, its_sum, sum_with, Side, Left, Right, State, Start, Named, WantsVariable, BehindVariable, BehindLeft, WantsFactor, Behind, Ended, behind_factor, behind_access, closed, ended, step, run, before, read}
+use Rattle.index_notation.specs.Grammar.{Factor, Digits, Read, Bracketed, Negated, Product, Lone, Multiplied, Sum, Alone, Added, Taken}
+use Rattle.index_notation.specs.Grammar.{Tree, NamesLeft, Written, plain, the_end, access_of, factor_of, product_of, sum_of, left_of}
+use Rattle.index_notation.specs.Grammar.{sentence_of, more_variables, in_brackets, symbols, Begins}
+use Rattle.notation_reader.specs.Machine.{SumPlace, OnTheRight, InBrackets, ProductPlace, First, BehindPlus, BehindMinus, FactorPlace}
+use Rattle.notation_reader.specs.Machine.{FirstFactor, BehindTimes, BehindSign, its_sum, sum_with, Side, Left, Right, State, Start, Named}
+use Rattle.notation_reader.specs.Machine.{WantsVariable, BehindVariable, BehindLeft, WantsFactor, Behind, Ended, behind_factor}
+use Rattle.notation_reader.specs.Machine.{behind_access, closed, ended, step, run, before, read}
 use Rattle.notation_reader.proofs.MachineLaws.{grows}
 
 -- a symbol follows, and opens no bracket
@@ -21,31 +26,40 @@ Follows (t ∷ rest) = Unit {0}
 abbrev scalar : Name → WrittenAccess
 scalar name = record { name = name; vars = [] }
 
-left_scalar_read : (name : Name) (rest : List Symbol) → Follows rest → run (Named Left name) rest ≡ run (behind_access Left (scalar name)) rest
+left_scalar_read : (name : Name) (rest : List Symbol) → Follows rest
+    → run (Named Left name) rest ≡ run (behind_access Left (scalar name)) rest
 left_scalar_read name [] h = absurd h
 left_scalar_read name (Lexeme (MarkToken Open) ∷ rest) h = absurd h
 left_scalar_read name (t ∷ rest) h = refl
 
-right_scalar_read : (place : FactorPlace) (name : Name) (rest : List Symbol) → Follows rest → run (Named (Right place) name) rest ≡ run (behind_access (Right place) (scalar name)) rest
+right_scalar_read : (place : FactorPlace) (name : Name) (rest : List Symbol) → Follows rest
+    → run (Named (Right place) name) rest ≡ run (behind_access (Right place) (scalar name)) rest
 right_scalar_read place name [] h = absurd h
 right_scalar_read place name (Lexeme (MarkToken Open) ∷ rest) h = absurd h
 right_scalar_read place name (t ∷ rest) h = refl
 
-scalar_read : (side : Side) (name : Name) (rest : List Symbol) → Follows rest → run (Named side name) rest ≡ run (behind_access side (scalar name)) rest
+scalar_read : (side : Side) (name : Name) (rest : List Symbol) → Follows rest
+    → run (Named side name) rest ≡ run (behind_access side (scalar name)) rest
 scalar_read Left name rest h = left_scalar_read name rest h
 scalar_read (Right place) name rest h = right_scalar_read place name rest h
 
-variables_read : (side : Side) (name : Name) (vars : List Name) (var : Name) (more : List Name) (n : ℕ) (rest : List Written) → run (BehindVariable side name vars var) (symbols (more_variables n more ++ rest)) ≡ run (behind_access side (record { name = name; vars = vars ++ (var ∷ more) })) (symbols rest)
+variables_read : (side : Side) (name : Name) (vars : List Name) (var : Name) (more : List Name) (n : ℕ) (rest : List Written)
+    → run (BehindVariable side name vars var) (symbols (more_variables n more ++ rest)) ≡ run
+    (behind_access side (record { name = name; vars = vars ++ (var ∷ more) })) (symbols rest)
 variables_read side name vars var [] n rest = refl
 variables_read side name vars var (next ∷ more) n rest =
     variables_read side name (vars ++ (var ∷ [])) next more (suc n) rest
-    ∙ ap (λ (all : List Name). run (behind_access side (record { name = name; vars = all })) (symbols rest)) (append_assoc vars (var ∷ []) (next ∷ more))
+    ∙ ap (λ (all : List Name). run (behind_access side (record { name = name; vars = all })) (symbols rest))
+    (append_assoc vars (var ∷ []) (next ∷ more))
 
-access_parts_read : (side : Side) (name : Name) (vars : List Name) (rest : List Written) → Follows (symbols rest) → run (Named side name) (symbols (in_brackets vars ++ rest)) ≡ run (behind_access side (record { name = name; vars = vars })) (symbols rest)
+access_parts_read : (side : Side) (name : Name) (vars : List Name) (rest : List Written) → Follows (symbols rest)
+    → run (Named side name) (symbols (in_brackets vars ++ rest)) ≡ run (behind_access side (record { name = name; vars = vars }))
+    (symbols rest)
 access_parts_read side name [] rest h = scalar_read side name (symbols rest) h
 access_parts_read side name (var ∷ vars) rest h = variables_read side name [] var vars 2 rest
 
-access_read : (side : Side) (access : WrittenAccess) (rest : List Written) → Follows (symbols rest) → run (Named side access.name) (symbols (in_brackets access.vars ++ rest)) ≡ run (behind_access side access) (symbols rest)
+access_read : (side : Side) (access : WrittenAccess) (rest : List Written) → Follows (symbols rest)
+    → run (Named side access.name) (symbols (in_brackets access.vars ++ rest)) ≡ run (behind_access side access) (symbols rest)
 access_read side access rest h = access_parts_read side access.name access.vars rest h
 
 -- behind a sum that stands at its place
@@ -54,12 +68,14 @@ behind_sum place (Alone p) = Behind (First place) p
 behind_sum place (Added s p) = Behind (BehindPlus place s) p
 behind_sum place (Taken s p) = Behind (BehindMinus place s) p
 
-sum_adds : (place : SumPlace) (s : Sum) → step (behind_sum place s) (Lexeme (MarkToken Plus)) ≡ Some (WantsFactor (FirstFactor (BehindPlus place s)))
+sum_adds : (place : SumPlace) (s : Sum)
+    → step (behind_sum place s) (Lexeme (MarkToken Plus)) ≡ Some (WantsFactor (FirstFactor (BehindPlus place s)))
 sum_adds place (Alone p) = refl
 sum_adds place (Added s p) = refl
 sum_adds place (Taken s p) = refl
 
-sum_takes : (place : SumPlace) (s : Sum) → step (behind_sum place s) (Lexeme (MarkToken Minus)) ≡ Some (WantsFactor (FirstFactor (BehindMinus place s)))
+sum_takes : (place : SumPlace) (s : Sum)
+    → step (behind_sum place s) (Lexeme (MarkToken Minus)) ≡ Some (WantsFactor (FirstFactor (BehindMinus place s)))
 sum_takes place (Alone p) = refl
 sum_takes place (Added s p) = refl
 sum_takes place (Taken s p) = refl
@@ -74,40 +90,47 @@ sum_ends place (Alone p) = refl
 sum_ends place (Added s p) = refl
 sum_ends place (Taken s p) = refl
 
-pub stepped : (s : State) (t : Symbol) (o : Option State) (rest : List Symbol) → step s t ≡ o → run s (t ∷ rest) ≡ option_and_then (λ next. run next rest) o
+pub stepped : (s : State) (t : Symbol) (o : Option State) (rest : List Symbol) → step s t ≡ o
+    → run s (t ∷ rest) ≡ option_and_then (λ next. run next rest) o
 stepped s t o rest e = ap (λ (o : Option State). option_and_then (λ next. run next rest) o) e
 
 abbrev read_on : State → List Written → Option State
 read_on s ms = run s (symbols ms)
 
 mutual
-  factor_read : (f : Factor) (n : ℕ) (place : FactorPlace) (rest : List Written) → Follows (symbols rest) → run (WantsFactor place) (symbols (factor_of n f ++ rest)) ≡ run (behind_factor place f) (symbols rest)
+  factor_read : (f : Factor) (n : ℕ) (place : FactorPlace) (rest : List Written) → Follows (symbols rest)
+      → run (WantsFactor place) (symbols (factor_of n f ++ rest)) ≡ run (behind_factor place f) (symbols rest)
   factor_read (Digits digits) n place rest h = refl
   factor_read (Read access) n place rest h = access_read (Right place) access rest h
   factor_read (Bracketed s) n place rest h =
       ap (read_on (WantsFactor (FirstFactor (First (InBrackets place))))) (append_assoc (sum_of (suc n) s) (plain Close ∷ []) rest)
       ∙ sum_read s (suc n) (InBrackets place) (plain Close ∷ rest) tt
-      ∙ stepped (behind_sum (InBrackets place) s) (Lexeme (MarkToken Close)) (Some (behind_factor place (Bracketed s))) (symbols rest) (sum_closes (InBrackets place) s)
+      ∙ stepped (behind_sum (InBrackets place) s) (Lexeme (MarkToken Close)) (Some (behind_factor place (Bracketed s))) (symbols rest)
+      (sum_closes (InBrackets place) s)
   factor_read (Negated f) n place rest h = factor_read f (suc n) (BehindSign place) rest h
 
-  product_read : (p : Product) (n : ℕ) (place : ProductPlace) (rest : List Written) → Follows (symbols rest) → run (WantsFactor (FirstFactor place)) (symbols (product_of n p ++ rest)) ≡ run (Behind place p) (symbols rest)
+  product_read : (p : Product) (n : ℕ) (place : ProductPlace) (rest : List Written) → Follows (symbols rest)
+      → run (WantsFactor (FirstFactor place)) (symbols (product_of n p ++ rest)) ≡ run (Behind place p) (symbols rest)
   product_read (Lone f) n place rest h = factor_read f n (FirstFactor place) rest h
   product_read (Multiplied p f) n place rest h =
       ap (read_on (WantsFactor (FirstFactor place))) (append_assoc (product_of n p) (plain Times ∷ factor_of n f) rest)
       ∙ product_read p n place (plain Times ∷ (factor_of n f ++ rest)) tt
       ∙ factor_read f n (BehindTimes place p) rest h
 
-  sum_read : (s : Sum) (n : ℕ) (place : SumPlace) (rest : List Written) → Follows (symbols rest) → run (WantsFactor (FirstFactor (First place))) (symbols (sum_of n s ++ rest)) ≡ run (behind_sum place s) (symbols rest)
+  sum_read : (s : Sum) (n : ℕ) (place : SumPlace) (rest : List Written) → Follows (symbols rest)
+      → run (WantsFactor (FirstFactor (First place))) (symbols (sum_of n s ++ rest)) ≡ run (behind_sum place s) (symbols rest)
   sum_read (Alone p) n place rest h = product_read p n (First place) rest h
   sum_read (Added s p) n place rest h =
       ap (read_on (WantsFactor (FirstFactor (First place)))) (append_assoc (sum_of n s) (plain Plus ∷ product_of n p) rest)
       ∙ sum_read s n place (plain Plus ∷ (product_of n p ++ rest)) tt
-      ∙ stepped (behind_sum place s) (Lexeme (MarkToken Plus)) (Some (WantsFactor (FirstFactor (BehindPlus place s)))) (symbols (product_of n p ++ rest)) (sum_adds place s)
+      ∙ stepped (behind_sum place s) (Lexeme (MarkToken Plus)) (Some (WantsFactor (FirstFactor (BehindPlus place s))))
+      (symbols (product_of n p ++ rest)) (sum_adds place s)
       ∙ product_read p n (BehindPlus place s) rest h
   sum_read (Taken s p) n place rest h =
       ap (read_on (WantsFactor (FirstFactor (First place)))) (append_assoc (sum_of n s) (plain Minus ∷ product_of n p) rest)
       ∙ sum_read s n place (plain Minus ∷ (product_of n p ++ rest)) tt
-      ∙ stepped (behind_sum place s) (Lexeme (MarkToken Minus)) (Some (WantsFactor (FirstFactor (BehindMinus place s)))) (symbols (product_of n p ++ rest)) (sum_takes place s)
+      ∙ stepped (behind_sum place s) (Lexeme (MarkToken Minus)) (Some (WantsFactor (FirstFactor (BehindMinus place s))))
+      (symbols (product_of n p ++ rest)) (sum_takes place s)
       ∙ product_read p n (BehindMinus place s) rest h
 
 -- a sentence is read to its end
@@ -133,8 +156,11 @@ mutual
   ends_sum : (at : SumPlace) (place : ProductPlace) (p : Product) → its_sum place ≡ at → Ends (Behind place p)
   ends_sum (OnTheRight left) place p e =
       let next = Ended (record { left = left; right = sum_with place p }) in
-      ends_from (Behind place p) End next (ap (λ (x : SumPlace). ended x (sum_with place p)) e) (record { rest = []; tree = record { left = left; right = sum_with place p }; is = refl })
-  ends_sum (InBrackets at) place p e = ends_from (Behind place p) (Lexeme (MarkToken Close)) (behind_factor at (Bracketed (sum_with place p))) (ap (λ (x : SumPlace). closed x (sum_with place p)) e) (ends_factor at (Bracketed (sum_with place p)))
+      ends_from (Behind place p) End next (ap (λ (x : SumPlace). ended x (sum_with place p)) e)
+      (record { rest = []; tree = record { left = left; right = sum_with place p }; is = refl })
+  ends_sum (InBrackets at) place p e =
+      ends_from (Behind place p) (Lexeme (MarkToken Close)) (behind_factor at (Bracketed (sum_with place p)))
+      (ap (λ (x : SumPlace). closed x (sum_with place p)) e) (ends_factor at (Bracketed (sum_with place p)))
 
   ends_product : (place : ProductPlace) (p : Product) → Ends (Behind place p)
   ends_product (First at) p = ends_sum at (First at) p refl
@@ -148,23 +174,30 @@ mutual
 
 -- the number 0, and the name a
 ends_place : (place : FactorPlace) → Ends (WantsFactor place)
-ends_place place = ends_from (WantsFactor place) (Lexeme (NumberToken (48 ∷ []))) (behind_factor place (Digits (48 ∷ []))) refl (ends_factor place (Digits (48 ∷ [])))
+ends_place place = ends_from (WantsFactor place) (Lexeme (NumberToken (48 ∷ []))) (behind_factor place (Digits (48 ∷ []))) refl
+    (ends_factor place (Digits (48 ∷ [])))
 
 abbrev a_name : Name
 a_name = record { bytes = 97 ∷ [] }
 
 ends_left : (access : WrittenAccess) → Ends (BehindLeft access)
-ends_left access = ends_from (BehindLeft access) (Lexeme (MarkToken Equals)) (WantsFactor (FirstFactor (First (OnTheRight access)))) refl (ends_place (FirstFactor (First (OnTheRight access))))
+ends_left access = ends_from (BehindLeft access) (Lexeme (MarkToken Equals)) (WantsFactor (FirstFactor (First (OnTheRight access)))) refl
+    (ends_place (FirstFactor (First (OnTheRight access))))
 
 ends_access : (side : Side) (access : WrittenAccess) → Ends (behind_access side access)
 ends_access Left access = ends_left access
 ends_access (Right place) access = ends_factor place (Read access)
 
 ends_variable : (side : Side) (name : Name) (vars : List Name) (var : Name) → Ends (BehindVariable side name vars var)
-ends_variable side name vars var = ends_from (BehindVariable side name vars var) (Lexeme (MarkToken Close)) (behind_access side (record { name = name; vars = vars ++ (var ∷ []) })) refl (ends_access side (record { name = name; vars = vars ++ (var ∷ []) }))
+ends_variable side name vars var =
+    ends_from (BehindVariable side name vars var) (Lexeme (MarkToken Close))
+    (behind_access side (record { name = name; vars = vars ++ (var ∷ []) })) refl
+    (ends_access side (record { name = name; vars = vars ++ (var ∷ []) }))
 
 ends_variables : (side : Side) (name : Name) (vars : List Name) → Ends (WantsVariable side name vars)
-ends_variables side name vars = ends_from (WantsVariable side name vars) (Lexeme (NameToken a_name)) (BehindVariable side name vars a_name) refl (ends_variable side name vars a_name)
+ends_variables side name vars =
+    ends_from (WantsVariable side name vars) (Lexeme (NameToken a_name)) (BehindVariable side name vars a_name) refl
+    (ends_variable side name vars a_name)
 
 ends_named : (side : Side) (name : Name) → Ends (Named side name)
 ends_named side name = ends_from (Named side name) (Lexeme (MarkToken Open)) (WantsVariable side name []) refl (ends_variables side name [])
@@ -195,7 +228,8 @@ pub record FirstStep (s : State) (t : Symbol) (ts : List Symbol) (last : State) 
   pub steps : step s t ≡ Some next
   pub runs : run next ts ≡ Some last
 
-pub first_step : (o : Option State) (ts : List Symbol) (last : State) → option_and_then (λ next. run next ts) o ≡ Some last → (next : State) × (o ≡ Some next) × (run next ts ≡ Some last)
+pub first_step : (o : Option State) (ts : List Symbol) (last : State) → option_and_then (λ next. run next ts) o ≡ Some last
+    → (next : State) × (o ≡ Some next) × (run next ts ≡ Some last)
 first_step None ts last e = absurd (let no = e in cc)
 first_step (Some next) ts last e = (next, refl, e)
 
@@ -213,7 +247,8 @@ way (t ∷ ts) s last e =
     }
 
 -- a run parts where its symbols do
-pub run_parts : (ts us : List Symbol) (s last : State) → run s (ts ++ us) ≡ Some last → (next : State) × (run s ts ≡ Some next) × (run next us ≡ Some last)
+pub run_parts : (ts us : List Symbol) (s last : State) → run s (ts ++ us) ≡ Some last
+    → (next : State) × (run s ts ≡ Some next) × (run next us ≡ Some last)
 run_parts [] us s last e = (s, refl, e)
 run_parts (t ∷ ts) us s last e =
     let f = first_step (step s t) (ts ++ us) last e in
@@ -243,7 +278,8 @@ StandsBehind ms s = (run Start (symbols ms) ≡ Some s) × (before s ≡ ms)
 -- where some sentence begins so, a reader comes there
 pub begun_stands : (ms : List Written) → Begins ms → (s : State) × StandsBehind ms s
 begun_stands ms h =
-    let all : run Start (symbols ms ++ symbols h.rest) ≡ Some (Ended h.tree) = ap (run Start) (sym (symbols_join ms h.rest) ∙ ap symbols h.is) ∙ sentence_read h.tree in
+    let all : run Start (symbols ms ++ symbols h.rest) ≡ Some (Ended h.tree) = ap (run Start) (sym (symbols_join ms h.rest)
+    ∙ ap symbols h.is) ∙ sentence_read h.tree in
     let p = run_parts (symbols ms) (symbols h.rest) Start (Ended h.tree) all in
     let to = way (symbols ms) Start p.0 p.1 in
     let from = way (symbols h.rest) p.0 (Ended h.tree) p.2 in

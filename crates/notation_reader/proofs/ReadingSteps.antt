@@ -1,5 +1,6 @@
 -- How far a reader has come.
-use Rattle.std.specs.Prelude.{◌≡◌, ℕ, ◌+◌, ◌<◌, ◌≤◌, nat_lt, Bool, true, false, Option, Some, None, List, [], ◌∷◌, ◌++◌, cond, length, take, get_or, zero, suc, refl}
+use Rattle.std.specs.Prelude.{◌≡◌, ℕ, ◌+◌, ◌<◌, ◌≤◌, nat_lt, Bool, true, false, Option, Some, None, List, [], ◌∷◌, ◌++◌, cond, length}
+use Rattle.std.specs.Prelude.{take, get_or, zero, suc, refl}
 use Rattle.std.proofs.Common.{sym, ◌∙◌, ap, subst, arith}
 use Rattle.std.proofs.lemmas.Bool.{ltb-false}
 use Rattle.std.proofs.Math.Seq.{take-suc}
@@ -14,7 +15,8 @@ use Rattle.notation_reader.specs.declared.position.Position.{Position}
 use Rattle.notation_reader.specs.declared.counts.Counts.{Counts}
 use Rattle.notation_reader.specs.declared.builder.Builder.{Builder}
 use Rattle.index_notation.specs.Grammar.{Tree}
-use Rattle.notation_reader.specs.Machine.{State, Start, Named, WantsVariable, BehindVariable, BehindLeft, WantsFactor, Behind, Ended, Left, Right, run}
+use Rattle.notation_reader.specs.Machine.{State, Start, Named, WantsVariable, BehindVariable, BehindLeft, WantsFactor, Behind, Ended, Left}
+use Rattle.notation_reader.specs.Machine.{Right, run}
 use Rattle.notation_reader.proofs.MachineLaws.{some_is}
 use Rattle.notation_reader.proofs.ReadingLaws.{sentence_read}
 use Rattle.index_notation.specs.Faults.{above, number_of, symbols_of, IsFirstFault, IsTreeOf}
@@ -41,12 +43,14 @@ not_above true f o e = absurd (let no = e in cc)
 
 pub number_small : (c : Counts) (t : Symbol) → None ≡ number_fault c t → number_of t ≤ greatest_literal
 number_small c t e =
-    let first = not_above (nat_lt greatest_operands (c.operands + 1)) (TooMany Operands) (above greatest_literal (number_of t) LiteralRange None) (sym e) in
+    let first = not_above (nat_lt greatest_operands (c.operands + 1)) (TooMany Operands)
+    (above greatest_literal (number_of t) LiteralRange None) (sym e) in
     let second = not_above (nat_lt greatest_literal (number_of t)) LiteralRange None first.1 in
     ltb-false greatest_literal (number_of t) second.0
 
 -- the counted symbols have small numbers
-pub counted_small : (c d : Counts) (l : ℕ) (t : Symbol) (at : Lead) → CountsSymbol c l t at None d → at ≡ lead.Number → number_of t ≤ greatest_literal
+pub counted_small : (c d : Counts) (l : ℕ) (t : Symbol) (at : Lead) → CountsSymbol c l t at None d → at ≡ lead.Number
+    → number_of t ≤ greatest_literal
 counted_small c d l t at k e = number_small c t (subst (λ (x : Lead). CountsSymbol c l t x None d) e k).0
 
 -- the minuses that are built are those that are shown
@@ -80,7 +84,9 @@ pub shown_so : (ts : List Symbol) (r : Reader) (h : HasRead ts r) → Shows h.co
 shown_so ts r h = record { position = h.comes.shows; counted = h.comes.counted; accesses = h.accesses; is_built = h.is_built }
 
 -- a symbol is taken, its accesses kept, and its expression built
-pub taken_by : (s : State) (t : Symbol) (r q : Reader) → Shows s r → IsTaken s t q.position q.counts → Mentions t (lead_of r.position.stand t) r.accesses q.accesses → Builds r.builder r.position.stand t (lead_of r.position.stand t) q.builder → IsTakenBy s t q
+pub taken_by : (s : State) (t : Symbol) (r q : Reader) → Shows s r → IsTaken s t q.position q.counts
+    → Mentions t (lead_of r.position.stand t) r.accesses q.accesses
+    → Builds r.builder r.position.stand t (lead_of r.position.stand t) q.builder → IsTakenBy s t q
 taken_by s t r q h k m w =
     let mentioned : Mentions t (lead_of (show s).stand t) (accesses_so_far s) q.accesses =
     subst (λ (x : List WrittenAccess). Mentions t (lead_of (show s).stand t) x q.accesses) (sym h.accesses)
@@ -94,7 +100,8 @@ taken_by s t r q h k m w =
       is_built = builds s t k.next q.builder k.steps done;
     }
 
-pub read_on : (ts : List Symbol) (t : Symbol) (r q : Reader) → HasRead ts r → ((s : State) → Shows s r → IsTakenBy s t q) → HasRead (ts ++ (t ∷ [])) q
+pub read_on : (ts : List Symbol) (t : Symbol) (r q : Reader) → HasRead ts r → ((s : State) → Shows s r → IsTakenBy s t q)
+    → HasRead (ts ++ (t ∷ [])) q
 read_on ts t r q h j =
     let k = j h.comes.state (shown_so ts r h) in
     record {
@@ -103,14 +110,16 @@ read_on ts t r q h j =
         runs = run_on ts t Start h.comes.state k.taken.next h.comes.runs k.taken.steps;
         shows = k.taken.shows;
         counted = k.taken.counted;
-        faultless = faultless_on [] ts t h.comes.faultless (taken_has_no_fault ts t h.comes.state k.taken.next h.comes.runs k.taken.steps k.taken.within);
+        faultless = faultless_on [] ts t h.comes.faultless
+            (taken_has_no_fault ts t h.comes.state k.taken.next h.comes.runs k.taken.steps k.taken.within);
       };
       accesses = k.accesses;
       is_built = k.is_built;
     }
 
 pub read_minuses : (ts : List Symbol) (r : Reader) → HasRead ts r → r.builder.frame.minuses ≡ r.position.minuses
-read_minuses ts r h = ap (λ (x : Builder). x.frame.minuses) (sym h.is_built) ∙ same_minuses h.comes.state ∙ ap (λ (x : Position). x.minuses) h.comes.shows
+read_minuses ts r h = ap (λ (x : Builder). x.frame.minuses) (sym h.is_built) ∙ same_minuses h.comes.state
+    ∙ ap (λ (x : Position). x.minuses) h.comes.shows
 
 -- the tree that is read, with its accesses and its expression
 pub record IsWholeTree (ts : List Symbol) (r : Reader) : Type 0 where
@@ -131,23 +140,29 @@ whole_tree ts r l h =
       expr = ap (λ (x : Builder). x.result) (sym h.is_built) ∙ ap (λ (s : State). (built s).result) there;
     }
 
-split_at : (i : ℕ) (xs : List PlacedSymbol) (x : PlacedSymbol) → i < length xs → x ≡ get_or xs i x → (later : List PlacedSymbol) × (xs ≡ take i xs ++ (x ∷ later))
+split_at : (i : ℕ) (xs : List PlacedSymbol) (x : PlacedSymbol) → i < length xs → x ≡ get_or xs i x
+    → (later : List PlacedSymbol) × (xs ≡ take i xs ++ (x ∷ later))
 split_at zero [] x h e = absurd (omega arith)
 split_at zero (y ∷ ys) x h e = (ys, ap (λ (z : PlacedSymbol). z ∷ ys) (sym e))
 split_at (suc i) [] x h e = absurd (omega arith)
 split_at (suc i) (y ∷ ys) x h e = let r = split_at i ys x (omega (arith, h)) e in (r.0, ap (λ (zs : List PlacedSymbol). y ∷ zs) r.1)
 
-one_more : (i : ℕ) (xs : List PlacedSymbol) (x : PlacedSymbol) → i < length xs → x ≡ get_or xs i x → symbols_of (take (i + 1) xs) ≡ symbols_of (take i xs) ++ (x.symbol ∷ [])
+one_more : (i : ℕ) (xs : List PlacedSymbol) (x : PlacedSymbol) → i < length xs → x ≡ get_or xs i x
+    → symbols_of (take (i + 1) xs) ≡ symbols_of (take i xs) ++ (x.symbol ∷ [])
 one_more i xs x h e =
     let n : i + 1 ≡ suc i = omega arith in
-    ap symbols_of (ap (λ k. take k xs) n ∙ take-suc xs i x h ∙ ap (λ (y : PlacedSymbol). take i xs ++ (y ∷ [])) (sym e)) ∙ symbols_append (take i xs) (x ∷ [])
+    ap symbols_of (ap (λ k. take k xs) n ∙ take-suc xs i x h ∙ ap (λ (y : PlacedSymbol). take i xs ++ (y ∷ [])) (sym e))
+    ∙ symbols_append (take i xs) (x ∷ [])
 
 -- one symbol further
-pub read_more : (i : ℕ) (xs : List PlacedSymbol) (x : PlacedSymbol) (r q : Reader) → i < length xs → x ≡ get_or xs i x → HasRead (symbols_of (take i xs)) r → ((s : State) → Shows s r → IsTakenBy s x.symbol q) → HasRead (symbols_of (take (i + 1) xs)) q
-read_more i xs x r q h e k j = subst (λ (ts : List Symbol). HasRead ts q) (sym (one_more i xs x h e)) (read_on (symbols_of (take i xs)) x.symbol r q k j)
+pub read_more : (i : ℕ) (xs : List PlacedSymbol) (x : PlacedSymbol) (r q : Reader) → i < length xs → x ≡ get_or xs i x
+    → HasRead (symbols_of (take i xs)) r → ((s : State) → Shows s r → IsTakenBy s x.symbol q) → HasRead (symbols_of (take (i + 1) xs)) q
+read_more i xs x r q h e k j =
+    subst (λ (ts : List Symbol). HasRead ts q) (sym (one_more i xs x h e)) (read_on (symbols_of (take i xs)) x.symbol r q k j)
 
 -- the symbol at the index is the first that is faulty
-pub fault_found : (i : ℕ) (xs : List PlacedSymbol) (x : PlacedSymbol) (r : Reader) (f : SymbolFault) → i < length xs → x ≡ get_or xs i x → HasRead (symbols_of (take i xs)) r → ((s : State) → Shows s r → IsRefused s x.symbol f) → IsFirstFault xs x.at f
+pub fault_found : (i : ℕ) (xs : List PlacedSymbol) (x : PlacedSymbol) (r : Reader) (f : SymbolFault) → i < length xs → x ≡ get_or xs i x
+    → HasRead (symbols_of (take i xs)) r → ((s : State) → Shows s r → IsRefused s x.symbol f) → IsFirstFault xs x.at f
 fault_found i xs x r f h e k j =
     let parts = split_at i xs x h e in
     record {
@@ -157,5 +172,6 @@ fault_found i xs x r f h e k j =
       all_are = parts.1;
       place = refl;
       none_before = k.comes.faultless;
-      is = fault_of (symbols_of (take i xs)) x.symbol k.comes.state f k.comes.runs (j k.comes.state (shown_so (symbols_of (take i xs)) r k));
+      is = fault_of (symbols_of (take i xs)) x.symbol k.comes.state f k.comes.runs
+          (j k.comes.state (shown_so (symbols_of (take i xs)) r k));
     }

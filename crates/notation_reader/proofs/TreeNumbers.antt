@@ -14,14 +14,17 @@ use Rattle.index_notation.specs.declared.symbol.Symbol.{Symbol}
 use Rattle.index_notation.specs.declared.fault.SymbolFault.{SymbolFault}
 use Rattle.index_notation.specs.declared.fault.SymbolFault.TheVariants.{TooMany}
 use Rattle.index_notation.specs.declared.fault.Counted.TheVariants.{Order, Variables}
-use Rattle.index_notation.specs.Grammar.{Factor, Digits, Read, Bracketed, Negated, Product, Lone, Multiplied, Sum, Alone, Added, Taken, Tree}
+use Rattle.index_notation.specs.Grammar.{Factor, Digits, Read, Bracketed, Negated, Product, Lone, Multiplied, Sum, Alone, Added, Taken}
+use Rattle.index_notation.specs.Grammar.{Tree}
 use Rattle.index_notation.specs.Grammar.{Role, NamesLeft, NamesRight, IsVariable, IsNumber, Opens, Plain, Written, plain, the_end}
-use Rattle.index_notation.specs.Grammar.{more_variables, in_brackets, access_of, factor_of, product_of, sum_of, left_of, sentence_of, symbols}
+use Rattle.index_notation.specs.Grammar.{more_variables, in_brackets, access_of, factor_of, product_of, sum_of, left_of, sentence_of}
+use Rattle.index_notation.specs.Grammar.{symbols}
 use Rattle.index_notation.specs.Faults.{variable_at, variables_in, above, limit_passed, past_limit, HaveNoFault}
 use Rattle.index_notation.specs.Numbering.{distinct, name_of, variables_of, numbered}
 use Rattle.index_notation.specs.Statement.{AccessesUnder, IsNumbered}
 use Rattle.index_notation.specs.TreeStatement.{accesses_of_factor, accesses_of_product, accesses_of_sum, accesses_of_tree}
-use Rattle.index_notation.specs.TreeStatement.{reads_in_factor, reads_in_product, reads_in_sum, factor_expr, product_expr, sum_expr, statement_of_tree}
+use Rattle.index_notation.specs.TreeStatement.{reads_in_factor, reads_in_product, reads_in_sum, factor_expr, product_expr, sum_expr}
+use Rattle.index_notation.specs.TreeStatement.{statement_of_tree}
 use Rattle.index_notation.specs.Notation.{IsNotationOf}
 use Rattle.index_notation.proofs.NumberingLaws.{stands_distinct, numbered_are_accesses}
 use Rattle.index_notation.proofs.StatementLaws.{accesses_under_add, accesses_under_sub, accesses_under_mul, accesses_under_neg}
@@ -33,7 +36,8 @@ use Rattle.notation_reader.proofs.ReadingSteps.{not_above}
 
 -- no symbol is past its limits
 abbrev AreWithin : List Written → Type 0
-AreWithin ms = (front : List Written) (m : Written) (rest : List Written) → ms ≡ front ++ (m ∷ rest) → limit_passed m.role m.symbol (front ++ (m ∷ [])) ≡ None
+AreWithin ms = (front : List Written) (m : Written) (rest : List Written) → ms ≡ front ++ (m ∷ rest)
+    → limit_passed m.role m.symbol (front ++ (m ∷ [])) ≡ None
 
 none_passed : (o : Option SymbolFault) → ((f : SymbolFault) → o ≡ Some f → ⊥) → o ≡ None
 none_passed None h = refl
@@ -65,7 +69,9 @@ OrdersWithin ms = Each (λ m. OrderWithin m.role) ms
 
 order_within : (r : Role) (t : Symbol) (all : List Written) → limit_passed r t all ≡ None → OrderWithin r
 order_within (IsVariable n) t all e =
-    ltb-false greatest_order n (not_above (nat_lt greatest_order n) (TooMany Order) (above greatest_variables (length (distinct (variables_in all))) (TooMany Variables) None) e).0
+    ltb-false greatest_order n
+    (not_above (nat_lt greatest_order n) (TooMany Order)
+    (above greatest_variables (length (distinct (variables_in all))) (TooMany Variables) None) e).0
 order_within NamesLeft t all e = tt
 order_within NamesRight t all e = tt
 order_within IsNumber t all e = tt
@@ -74,13 +80,15 @@ order_within Plain t all e = tt
 
 orders_within : (done ms : List Written) → AreWithin (done ++ ms) → OrdersWithin ms
 orders_within done [] h = tt
-orders_within done (m ∷ ms) h = (order_within m.role m.symbol (done ++ (m ∷ [])) (h done m ms refl), orders_within (done ++ (m ∷ [])) ms (within_on done ms m h))
+orders_within done (m ∷ ms) h =
+    (order_within m.role m.symbol (done ++ (m ∷ [])) (h done m ms refl), orders_within (done ++ (m ∷ [])) ms (within_on done ms m h))
 
 parts : (xs ys : List Written) → OrdersWithin (xs ++ ys) → OrdersWithin xs × OrdersWithin ys
 parts [] ys h = (tt, h)
 parts (x ∷ xs) ys h = let p = parts xs ys h.1 in ((h.0, p.0), p.1)
 
-more_orders : (n : ℕ) (vars : List Name) → OrdersWithin (more_variables n vars) → n ≤ greatest_order + 1 → n + length vars ≤ greatest_order + 1
+more_orders : (n : ℕ) (vars : List Name) → OrdersWithin (more_variables n vars) → n ≤ greatest_order + 1
+    → n + length vars ≤ greatest_order + 1
 more_orders n [] h k = omega (arith, k)
 more_orders n (var ∷ vars) h k =
     let here : n ≤ greatest_order = h.1.0 in
@@ -131,11 +139,13 @@ tree_orders w h =
 -- the variables that are written are those of the accesses
 variables_join : (ms ns : List Written) → variables_in (ms ++ ns) ≡ variables_in ms ++ variables_in ns
 variables_join [] ns = refl
-variables_join (m ∷ ms) ns = ap (λ (vars : List Name). variable_at m.role m.symbol ++ vars) (variables_join ms ns) ∙ sym (append_assoc (variable_at m.role m.symbol) (variables_in ms) (variables_in ns))
+variables_join (m ∷ ms) ns = ap (λ (vars : List Name). variable_at m.role m.symbol ++ vars) (variables_join ms ns)
+    ∙ sym (append_assoc (variable_at m.role m.symbol) (variables_in ms) (variables_in ns))
 
 variables_of_join : (xs ys : List WrittenAccess) → variables_of (xs ++ ys) ≡ variables_of xs ++ variables_of ys
 variables_of_join [] ys = refl
-variables_of_join (x ∷ xs) ys = ap (λ (vars : List Name). x.vars ++ vars) (variables_of_join xs ys) ∙ sym (append_assoc x.vars (variables_of xs) (variables_of ys))
+variables_of_join (x ∷ xs) ys = ap (λ (vars : List Name). x.vars ++ vars) (variables_of_join xs ys)
+    ∙ sym (append_assoc x.vars (variables_of xs) (variables_of ys))
 
 more_written : (n : ℕ) (vars : List Name) → variables_in (more_variables n vars) ≡ vars
 more_written n [] = refl
@@ -145,19 +155,22 @@ bracket_written : (vars : List Name) → variables_in (in_brackets vars) ≡ var
 bracket_written [] = refl
 bracket_written (var ∷ vars) = ap (λ (more : List Name). var ∷ more) (more_written 2 vars)
 
-joined : (ms ns : List Written) (xs ys : List WrittenAccess) → variables_in ms ≡ variables_of xs → variables_in ns ≡ variables_of ys → variables_in (ms ++ ns) ≡ variables_of (xs ++ ys)
+joined : (ms ns : List Written) (xs ys : List WrittenAccess) → variables_in ms ≡ variables_of xs → variables_in ns ≡ variables_of ys
+    → variables_in (ms ++ ns) ≡ variables_of (xs ++ ys)
 joined ms ns xs ys e f = variables_join ms ns ∙ (λ i. e i ++ f i) ∙ sym (variables_of_join xs ys)
 
 mutual
   factor_written : (n : ℕ) (f : Factor) → variables_in (factor_of n f) ≡ variables_of (accesses_of_factor f)
   factor_written n (Digits digits) = refl
   factor_written n (Read access) = bracket_written access.vars ∙ sym (append_none access.vars)
-  factor_written n (Bracketed s) = variables_join (sum_of (suc n) s) (plain Close ∷ []) ∙ append_none (variables_in (sum_of (suc n) s)) ∙ sum_written (suc n) s
+  factor_written n (Bracketed s) = variables_join (sum_of (suc n) s) (plain Close ∷ []) ∙ append_none (variables_in (sum_of (suc n) s))
+      ∙ sum_written (suc n) s
   factor_written n (Negated f) = factor_written (suc n) f
 
   product_written : (n : ℕ) (p : Product) → variables_in (product_of n p) ≡ variables_of (accesses_of_product p)
   product_written n (Lone f) = factor_written n f
-  product_written n (Multiplied p f) = joined (product_of n p) _ (accesses_of_product p) (accesses_of_factor f) (product_written n p) (factor_written n f)
+  product_written n (Multiplied p f) =
+      joined (product_of n p) _ (accesses_of_product p) (accesses_of_factor f) (product_written n p) (factor_written n f)
 
   sum_written : (n : ℕ) (s : Sum) → variables_in (sum_of n s) ≡ variables_of (accesses_of_sum s)
   sum_written n (Alone p) = product_written n p
@@ -165,7 +178,8 @@ mutual
   sum_written n (Taken s p) = joined (sum_of n s) _ (accesses_of_sum s) (accesses_of_product p) (sum_written n s) (product_written n p)
 
 left_written : (access : WrittenAccess) → variables_in (left_of access) ≡ access.vars
-left_written access = variables_join (access_of NamesLeft access) _ ∙ append_none (variables_in (access_of NamesLeft access)) ∙ bracket_written access.vars
+left_written access = variables_join (access_of NamesLeft access) _ ∙ append_none (variables_in (access_of NamesLeft access))
+    ∙ bracket_written access.vars
 
 sentence_written : (w : Tree) → variables_in (sentence_of w) ≡ variables_of (accesses_of_tree w)
 sentence_written w =
@@ -180,10 +194,12 @@ FewVariables ms = length (distinct (variables_in ms)) ≤ greatest_variables
 
 few_still : (done : List Written) (m : Written) → variable_at m.role m.symbol ≡ [] → FewVariables done → FewVariables (done ++ (m ∷ []))
 few_still done m e h =
-    let same : variables_in (done ++ (m ∷ [])) ≡ variables_in done = variables_more done m ∙ ap (λ (vars : List Name). variables_in done ++ vars) e ∙ append_none (variables_in done) in
+    let same : variables_in (done ++ (m ∷ [])) ≡ variables_in done = variables_more done m
+    ∙ ap (λ (vars : List Name). variables_in done ++ vars) e ∙ append_none (variables_in done) in
     subst (λ (vars : List Name). length (distinct vars) ≤ greatest_variables) (sym same) h
 
-few_more : (done : List Written) (t : Symbol) (r : Role) → limit_passed r t (done ++ (record { symbol = t; role = r } ∷ [])) ≡ None → FewVariables done → FewVariables (done ++ (record { symbol = t; role = r } ∷ []))
+few_more : (done : List Written) (t : Symbol) (r : Role) → limit_passed r t (done ++ (record { symbol = t; role = r } ∷ [])) ≡ None
+    → FewVariables done → FewVariables (done ++ (record { symbol = t; role = r } ∷ []))
 few_more done t (IsVariable n) e h =
     let all = distinct (variables_in (done ++ (record { symbol = t; role = IsVariable n } ∷ []))) in
     let first = not_above (nat_lt greatest_order n) (TooMany Order) (above greatest_variables (length all) (TooMany Variables) None) e in
@@ -210,7 +226,8 @@ mutual
 
   product_reads : (p : Product) → reads_in_product p ≡ length (accesses_of_product p)
   product_reads (Lone f) = factor_reads f
-  product_reads (Multiplied p f) = (λ i. product_reads p i + factor_reads f i) ∙ sym (length-append (accesses_of_product p) (accesses_of_factor f))
+  product_reads (Multiplied p f) = (λ i. product_reads p i + factor_reads f i)
+      ∙ sym (length-append (accesses_of_product p) (accesses_of_factor f))
 
   sum_reads : (s : Sum) → reads_in_sum s ≡ length (accesses_of_sum s)
   sum_reads (Alone p) = product_reads p
@@ -246,15 +263,18 @@ tree_is_numbered w h =
     let tensors = distinct (map name_of all) in
     let vars = distinct (variables_of all) in
     let orders = tree_orders w (orders_within [] (sentence_of w) within) in
-    let stand = numbered_are_accesses tensors vars all (λ name s. stands_distinct name (map name_of all) s) (λ name s. stands_distinct name (variables_of all) s) orders in
+    let stand = numbered_are_accesses tensors vars all (λ name s. stands_distinct name (map name_of all) s)
+    (λ name s. stands_distinct name (variables_of all) s) orders in
     let none : FewVariables [] = omega arith in
-    let count : length (map (numbered tensors vars) (accesses_of_sum w.right)) ≡ length (accesses_of_sum w.right) = length-map (accesses_of_sum w.right) (numbered tensors vars) in
+    let count : length (map (numbered tensors vars) (accesses_of_sum w.right)) ≡ length (accesses_of_sum w.right) =
+    length-map (accesses_of_sum w.right) (numbered tensors vars) in
     let reads = sum_reads w.right in
     record {
       left = stand.0;
       right = stand.1;
       expr = sum_under (length (map (numbered tensors vars) (accesses_of_sum w.right))) 0 w.right (omega (arith, count, reads));
-      variables = subst (λ (names : List Name). length (distinct names) ≤ greatest_variables) (sentence_written w) (few_variables [] (sentence_of w) within none);
+      variables = subst (λ (names : List Name). length (distinct names) ≤ greatest_variables) (sentence_written w)
+          (few_variables [] (sentence_of w) within none);
     }
 
 -- the statement of a text has numbers that stand in its lists

@@ -117,7 +117,8 @@ step_behind_left access _ = None
 abbrev pub step_behind : ProductPlace → Product → Symbol → Option State
 step_behind place product (Lexeme (MarkToken Times)) = Some (WantsFactor (BehindTimes place product))
 step_behind place product (Lexeme (MarkToken Plus)) = Some (WantsFactor (FirstFactor (BehindPlus (its_sum place) (sum_with place product))))
-step_behind place product (Lexeme (MarkToken Minus)) = Some (WantsFactor (FirstFactor (BehindMinus (its_sum place) (sum_with place product))))
+step_behind place product (Lexeme (MarkToken Minus)) =
+    Some (WantsFactor (FirstFactor (BehindMinus (its_sum place) (sum_with place product))))
 step_behind place product (Lexeme (MarkToken Close)) = closed (its_sum place) (sum_with place product)
 step_behind place product End = ended (its_sum place) (sum_with place product)
 step_behind place product _ = None

@@ -45,7 +45,8 @@ sum_zeros a laws zero = refl
 sum_zeros a laws (suc n) = ap (a.plus a.zero) (sum_zeros a laws n) ∙ laws.plus_zero a.zero laws.zero_fits
 
 -- a sum of sums
-pub sum_plus : (a : Arithmetic) → Laws a → (n : ℕ) (f g : ℕ → ℕ) → sum_below a n (λ i. a.plus (f i) (g i)) ≡ a.plus (sum_below a n f) (sum_below a n g)
+pub sum_plus : (a : Arithmetic) → Laws a → (n : ℕ) (f g : ℕ → ℕ)
+    → sum_below a n (λ i. a.plus (f i) (g i)) ≡ a.plus (sum_below a n f) (sum_below a n g)
 sum_plus a laws zero f g = sym (laws.plus_zero a.zero laws.zero_fits)
 sum_plus a laws (suc n) f g =
     ap (a.plus (a.plus (f n) (g n))) (sum_plus a laws n f g) ∙ plus_pairs a laws (f n) (g n) (sum_below a n f) (sum_below a n g)
@@ -56,7 +57,8 @@ sum_times a laws x zero f = laws.times_zero x
 sum_times a laws x (suc n) f = laws.distributes x (f n) (sum_below a n f) ∙ ap (a.plus (a.times x (f n))) (sum_times a laws x n f)
 
 -- sums over two ranges change places
-pub sums_swap : (a : Arithmetic) → Laws a → (m n : ℕ) (f : ℕ → ℕ → ℕ) → sum_below a m (λ i. sum_below a n (f i)) ≡ sum_below a n (λ j. sum_below a m (λ i. f i j))
+pub sums_swap : (a : Arithmetic) → Laws a → (m n : ℕ) (f : ℕ → ℕ → ℕ)
+    → sum_below a m (λ i. sum_below a n (f i)) ≡ sum_below a n (λ j. sum_below a m (λ i. f i j))
 sums_swap a laws zero n f = sym (sum_zeros a laws n)
 sums_swap a laws (suc m) n f =
     ap (a.plus (sum_below a n (f m))) (sums_swap a laws m n f)

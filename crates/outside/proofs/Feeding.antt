@@ -1,5 +1,6 @@
 -- How pieces that are fed one after another make a text.
-use Rattle.std.proofs.Common.{Option, List, [], ◌∷◌, ◌++◌, ◌≡◌, inl, inr, ℕ, ◌+◌, ◌<◌, ◌≤◌, length, take, None, Some, refl, sym, ap, ◌∙◌, subst, append_assoc, append-nil, arith, length-append, Result, Ok, Err, IfOk, OnOk}
+use Rattle.std.proofs.Common.{Option, List, [], ◌∷◌, ◌++◌, ◌≡◌, inl, inr, ℕ, ◌+◌, ◌<◌, ◌≤◌, length, take, None, Some, refl, sym, ap, ◌∙◌}
+use Rattle.std.proofs.Common.{subst, append_assoc, append-nil, arith, length-append, Result, Ok, Err, IfOk, OnOk}
 use Rattle.std.proofs.lemmas.Grind.{common_steps}
 use Rattle.outside.specs.Told.{told_bytes}
 use Rattle.outside.specs.Count.{Rose}
@@ -68,15 +69,36 @@ feeds_end {r} {s} {t} {a} {b} {d} {m} {n} p q z =
     let both : Feeds r t a d (m + n) = feeds_then p q in subst (Feeds r t a d) (omega (arith, z)) both
 
 -- what stops behind pieces that were fed stops the whole
-pub stops_after : {E : Type 0} (eaten : E → List ℕ) (refused : E → List ℕ → E → Type 0) (r s t : FolderState) (old mid new : E) (n left budget : ℕ) (stop : ReadStop) → Feeds r s (eaten old) (eaten mid) n → budget ≡ n + left → Stops eaten refused s t left mid new stop → Stops eaten refused r t budget old new stop
+pub stops_after : {E : Type 0} (eaten : E → List ℕ) (refused : E → List ℕ → E
+    → Type 0) (r s t : FolderState) (old mid new : E) (n left budget : ℕ) (stop : ReadStop) → Feeds r s (eaten old) (eaten mid) n
+    → budget ≡ n + left → Stops eaten refused s t left mid new stop → Stops eaten refused r t budget old new stop
 stops_after eaten refused r s t old mid new n left budget ReadFault p b h =
     record { mid = h.mid; n = n + h.n; within = omega (arith, h.within, b); feeds = feeds_then p h.feeds; fails = h.fails }
 stops_after eaten refused r s t old mid new n left budget FileBytes p b h =
-    record { mid = h.mid; n = n + h.n; feeds = feeds_then p h.feeds; buffer = h.buffer; m = h.m; reads = h.reads; over = omega (arith, h.over, b) }
+    record {
+      mid = h.mid;
+      n = n + h.n;
+      feeds = feeds_then p h.feeds;
+      buffer = h.buffer;
+      m = h.m;
+      reads = h.reads;
+      over =
+          omega (arith, h.over, b);
+    }
 stops_after eaten refused r s t old mid new n left budget (Memory e) p b (inl h) =
     inl (record { mid = h.mid; n = n + h.n; feeds = feeds_then p h.feeds; wants = h.wants })
 stops_after eaten refused r s t old mid new n left budget (Memory e) p b (inr h) =
-    inr (record { mid = h.mid; before = h.before; n = n + h.n; feeds = feeds_then p h.feeds; buffer = h.buffer; m = h.m; reads = h.reads; refuses = h.refuses })
+    inr (record {
+      mid = h.mid;
+      before = h.before;
+      n = n + h.n;
+      feeds = feeds_then p h.feeds;
+      buffer = h.buffer;
+      m = h.m;
+      reads =
+          h.reads;
+      refuses = h.refuses;
+    })
 
 all_at_end : (r s : Option (List ℕ)) (bytes : List ℕ) → r ≡ before_rest bytes s → IsAtEnd s → IsAll r bytes
 all_at_end None s bytes e h = tt
@@ -91,7 +113,8 @@ longer_by (Some r) (Some s) bytes n e h =
     let is : r ≡ bytes ++ s = cc in omega (arith, ap length is, length-append bytes s, h)
 
 -- a file that was opened and read to its end
-pub feeds_whole : {r s t : FolderState} {name eaten eaten' : List ℕ} {budget n : ℕ} → Opens r s name → Feeds s t eaten eaten' n → n ≤ budget → IsAtEnd t.rest → FeedsWhole r t name budget eaten eaten' n
+pub feeds_whole : {r s t : FolderState} {name eaten eaten' : List ℕ} {budget n : ℕ} → Opens r s name → Feeds s t eaten eaten' n
+    → n ≤ budget → IsAtEnd t.rest → FeedsWhole r t name budget eaten eaten' n
 feeds_whole {r} {s} {t} {name = name} p q within at_end = record {
   fed = q.fed;
   eaten_is = q.eaten_is;
@@ -113,36 +136,52 @@ length_taken : (m : ℕ) (buffer : List ℕ) → m ≤ length buffer → length 
 length_taken m buffer within = grind (arith, common_steps)
 
 -- what was fed of a file that was opened
-front_fed : {r s t u : FolderState} {name eaten eaten' : List ℕ} {n : ℕ} → Opens r s name → Feeds s t eaten eaten' n → u.taken ≡ t.taken → u.given ≡ t.given → FeedsFront r u name eaten eaten'
+front_fed : {r s t u : FolderState} {name eaten eaten' : List ℕ} {n : ℕ} → Opens r s name → Feeds s t eaten eaten' n → u.taken ≡ t.taken
+    → u.given ≡ t.given → FeedsFront r u name eaten eaten'
 front_fed {r} {s} {t} {u} {name} p q taken e = record {
   fed = q.fed;
   more = [];
   rest = t.rest;
   eaten_is = q.eaten_is;
   taken_is = omega (arith, taken, q.taken_is, p.taken_is, q.count_is, length-append q.fed []);
-  given_is = e ∙ q.given_is ∙ ap (λ w. extended w q.fed) p.given_is ∙ extended-opened r.given name q.fed ∙ ap (λ w. r.given ++ (name, w) ∷ []) (sym (append-nil q.fed));
+  given_is = e ∙ q.given_is ∙ ap (λ w. extended w q.fed) p.given_is ∙ extended-opened r.given name q.fed
+      ∙ ap (λ w. r.given ++ (name, w) ∷ []) (sym (append-nil q.fed));
   told_is = sym p.rest_is ∙ q.rest_is ∙ ap (λ w. before_rest w t.rest) (sym (append-nil q.fed));
 }
 
 -- what is told of a file that was opened, where one more piece was read
-told_before : {r s t u : FolderState} {name eaten eaten' : List ℕ} {n : ℕ} (buffer : List ℕ) (m : ℕ) → Opens r s name → (q : Feeds s t eaten eaten' n) → Reads t u buffer m → told_bytes (r.holds name) ≡ before_rest (q.fed ++ take m buffer) u.rest
-told_before {u = u} buffer m p q last = sym p.rest_is ∙ q.rest_is ∙ ap (before_rest q.fed) last.rest_is ∙ before_rest-append q.fed (take m buffer) u.rest
+told_before : {r s t u : FolderState} {name eaten eaten' : List ℕ} {n : ℕ} (buffer : List ℕ) (m : ℕ) → Opens r s name
+    → (q : Feeds s t eaten eaten' n) → Reads t u buffer m → told_bytes (r.holds name) ≡ before_rest (q.fed ++ take m buffer) u.rest
+told_before {u = u} buffer m p q last = sym p.rest_is ∙ q.rest_is ∙ ap (before_rest q.fed) last.rest_is
+    ∙ before_rest-append q.fed (take m buffer) u.rest
 
 -- what was fed of a file that was opened, where one more piece was read
-front_before : {r s t u : FolderState} {name eaten eaten' : List ℕ} {n : ℕ} (buffer : List ℕ) (m : ℕ) → Opens r s name → Feeds s t eaten eaten' n → Reads t u buffer m → FeedsFront r u name eaten eaten'
+front_before : {r s t u : FolderState} {name eaten eaten' : List ℕ} {n : ℕ} (buffer : List ℕ) (m : ℕ) → Opens r s name
+    → Feeds s t eaten eaten' n → Reads t u buffer m → FeedsFront r u name eaten eaten'
 front_before {r} {s} {t} {u} {name} buffer m p q last = record {
   fed = q.fed;
   more = take m buffer;
   rest = u.rest;
   eaten_is = q.eaten_is;
-  taken_is = omega (arith, last.taken_is, q.taken_is, p.taken_is, q.count_is, length-append q.fed (take m buffer), length_taken m buffer last.within);
+  taken_is = omega (
+    arith,
+    last.taken_is,
+    q.taken_is,
+    p.taken_is,
+    q.count_is,
+    length-append q.fed
+        (take m buffer),
+    length_taken m buffer last.within,
+  );
   given_is = last.given_is ∙ ap (λ w. extended w (take m buffer)) (q.given_is ∙ ap (λ w. extended w q.fed) p.given_is)
       ∙ extended-append (opened r.given name) q.fed (take m buffer) ∙ extended-opened r.given name (q.fed ++ take m buffer);
   told_is = told_before buffer m p q last;
 }
 
 -- a file that was opened, and how its reading stopped
-pub stops_reading : {E : Type 0} (eaten : E → List ℕ) (refused : E → List ℕ → E → Type 0) (r s t : FolderState) (name : List ℕ) (budget : ℕ) (old new : E) (stop : ReadStop) → Opens r s name → Stops eaten refused s t budget old new stop → StopsReading eaten refused r t name budget old new stop
+pub stops_reading : {E : Type 0} (eaten : E → List ℕ) (refused : E → List ℕ → E
+    → Type 0) (r s t : FolderState) (name : List ℕ) (budget : ℕ) (old new : E) (stop : ReadStop) → Opens r s name
+    → Stops eaten refused s t budget old new stop → StopsReading eaten refused r t name budget old new stop
 stops_reading eaten refused r s t name budget old new ReadFault p h =
     let mid = h.mid in
     record {
@@ -161,7 +200,8 @@ stops_reading eaten refused r s t name budget old new FileBytes p h =
     omega (arith, h.over, h.feeds.count_is, length_taken h.m h.buffer h.reads.within, length-append h.feeds.fed (take h.m h.buffer)) in
     record {
       over = omega (arith, h.reads.taken_is, h.feeds.taken_is, p.taken_is, h.over);
-      longer = longer_by (told_bytes (r.holds name)) t.rest (h.feeds.fed ++ take h.m h.buffer) budget (told_before h.buffer h.m p h.feeds h.reads) long;
+      longer = longer_by (told_bytes (r.holds name)) t.rest (h.feeds.fed
+          ++ take h.m h.buffer) budget (told_before h.buffer h.m p h.feeds h.reads) long;
       feeds = front_before h.buffer h.m p h.feeds h.reads;
       present = p.present;
       read_faults_are = h.reads.read_faults_are ∙ h.feeds.read_faults_are ∙ p.read_faults_are;
@@ -195,7 +235,9 @@ stops_reading eaten refused r s t name budget old new (Memory e) p (inr h) = rec
 }
 
 -- a file that couldn't be opened
-pub refused_to_open : {E : Type 0} (eaten : E → List ℕ) (refused : E → List ℕ → E → Type 0) (r s : FolderState) (name : List ℕ) (budget : ℕ) (eater : E) (why : Refusal) → RefusesToOpen r s name why → StopsReading eaten refused r s name budget eater eater (stop_of why)
+pub refused_to_open : {E : Type 0} (eaten : E → List ℕ) (refused : E → List ℕ → E
+    → Type 0) (r s : FolderState) (name : List ℕ) (budget : ℕ) (eater : E) (why : Refusal) → RefusesToOpen r s name why
+    → StopsReading eaten refused r s name budget eater eater (stop_of why)
 refused_to_open eaten refused r s name budget eater why.Failed p = record {
   cause = inl (record { rose = p.rises.rose; faulted_is = p.faulted_is });
   feeds = inl (record { eaten_is = refl; given_is = p.given_is });
@@ -220,7 +262,9 @@ refused_to_open eaten refused r s name budget eater (why.Memory e) p = record {
 }
 
 -- a first piece that couldn't be read
-pub refused_to_read : {E : Type 0} (eaten : E → List ℕ) (refused : E → List ℕ → E → Type 0) (r s : FolderState) (budget : ℕ) (eater : E) (why : Refusal) → RefusesToRead r s why → Stops eaten refused r s budget eater eater (stop_of why)
+pub refused_to_read : {E : Type 0} (eaten : E → List ℕ) (refused : E → List ℕ → E
+    → Type 0) (r s : FolderState) (budget : ℕ) (eater : E) (why : Refusal) → RefusesToRead r s why
+    → Stops eaten refused r s budget eater eater (stop_of why)
 refused_to_read eaten refused r s budget eater why.Failed p =
     record { mid = r; n = 0; within = omega arith; feeds = feeds_none r (eaten eater); fails = p }
 refused_to_read eaten refused r s budget eater why.Absent p = absurd p
@@ -228,6 +272,8 @@ refused_to_read eaten refused r s budget eater (why.Memory e) p =
     inl (record { mid = r; n = 0; feeds = feeds_none r (eaten eater); wants = p })
 
 -- how the reading of a file that was opened ended
-pub whole_of : (r s t : FolderState) (name eaten eaten' : List ℕ) (budget : ℕ) (result : Result ℕ ReadStop) → Opens r s name → IfOk result (Feeds s t eaten eaten') → IfOk result (λ n. n ≤ budget) → OnOk result (IsAtEnd t.rest) → IfOk result (FeedsWhole r t name budget eaten eaten')
+pub whole_of : (r s t : FolderState) (name eaten eaten' : List ℕ) (budget : ℕ) (result : Result ℕ ReadStop) → Opens r s name
+    → IfOk result (Feeds s t eaten eaten') → IfOk result (λ n. n ≤ budget) → OnOk result (IsAtEnd t.rest)
+    → IfOk result (FeedsWhole r t name budget eaten eaten')
 whole_of r s t name eaten eaten' budget (Ok n) p fed within at_end = feeds_whole p fed within at_end
 whole_of r s t name eaten eaten' budget (Err stop) p fed within at_end = tt

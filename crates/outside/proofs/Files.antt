@@ -14,17 +14,21 @@ told_bytes-grown Untold piece = refl
 told_bytes-grown NoFile piece = refl
 told_bytes-grown (Bytes bytes) piece = refl
 
-pub told_written-grown : (old new : FolderState) (piece : List ℕ) → ((name : List ℕ) → old.writing ≡ Some name → new.holds name ≡ grown (old.holds name) piece) → (file : Option (List ℕ)) → old.writing ≡ file → told_written file new.holds ≡ appended (told_written file old.holds) piece
+pub told_written-grown : (old new : FolderState) (piece : List ℕ)
+    → ((name : List ℕ) → old.writing ≡ Some name → new.holds name ≡ grown (old.holds name) piece) → (file : Option (List ℕ))
+    → old.writing ≡ file → told_written file new.holds ≡ appended (told_written file old.holds) piece
 told_written-grown old new piece h None e = refl
 told_written-grown old new piece h (Some name) e = ap told_bytes (h name e) ∙ told_bytes-grown (old.holds name) piece
 
 -- what is told of other names is the same
-other_told : (b : Bool) (file name : List ℕ) (told told' : Told) → bytes_eq file name ≡ b → (name ≢ file → told' ≡ told) → told_beside (Some file) name told' ≡ told_beside (Some file) name told
+other_told : (b : Bool) (file name : List ℕ) (told told' : Told) → bytes_eq file name ≡ b → (name ≢ file → told' ≡ told)
+    → told_beside (Some file) name told' ≡ told_beside (Some file) name told
 other_told true file name told told' e h = rw e refl
 other_told false file name told told' e h =
     let same : told' ≡ told = h (λ is. not_from_Decides (bytes_eq file name) (bytes_eq-Decides file name) e (sym is)) in rw same refl
 
-pub same_beside : (old new : FolderState) (file : List ℕ) → old.writing ≡ Some file → new.writing ≡ Some file → KeepsOthers file old new → KeepsReading old new → beside_writing new ≡ beside_writing old
+pub same_beside : (old new : FolderState) (file : List ℕ) → old.writing ≡ Some file → new.writing ≡ Some file → KeepsOthers file old new
+    → KeepsReading old new → beside_writing new ≡ beside_writing old
 same_beside old new file w w' others reading =
     let told : (name : List ℕ) → told_beside new.writing name (new.holds name) ≡ told_beside old.writing name (old.holds name) =
     λ name. rw (w, w') (other_told (bytes_eq file name) file name (old.holds name) (new.holds name) refl (others name)) in
@@ -46,10 +50,12 @@ same_beside old new file w w' others reading =
 abbrev beside_of : GName → FolderState → Beside
 beside_of borrow files = record { borrows = borrow ∷ []; folder = Some files }
 
-pub file_takes : (old new : FolderState) (borrow : GName) (piece : List ℕ) (n : ℕ) → IsSome old.writing → WritesTo old new piece n → Takes (file_written old borrow) (file_written new borrow) piece n
+pub file_takes : (old new : FolderState) (borrow : GName) (piece : List ℕ) (n : ℕ) → IsSome old.writing → WritesTo old new piece n
+    → Takes (file_written old borrow) (file_written new borrow) piece n
 file_takes old new borrow piece n some h = takes_at old.writing refl some
   where
-    takes_at : (file : Option (List ℕ)) → old.writing ≡ file → IsSome file → Takes (file_written old borrow) (file_written new borrow) piece n
+    takes_at : (file : Option (List ℕ)) → old.writing ≡ file → IsSome file
+        → Takes (file_written old borrow) (file_written new borrow) piece n
     takes_at None e s = cc
     takes_at (Some name) e s = record {
       within = h.within;

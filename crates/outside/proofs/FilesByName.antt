@@ -1,5 +1,6 @@
 -- What a list of files tells of a name, from the place of the first file of that name.
-use Rattle.std.proofs.Common.{List, [], ◌∷◌, ◌++◌, ◌≡◌, ◌≢◌, ℕ, zero, suc, ◌+◌, ◌<◌, Bool, true, false, Option, None, Some, length, get_or, take, drop, refl, sym, ap, ◌∙◌, subst, arith, string_bytes}
+use Rattle.std.proofs.Common.{List, [], ◌∷◌, ◌++◌, ◌≡◌, ◌≢◌, ℕ, zero, suc, ◌+◌, ◌<◌, Bool, true, false, Option, None, Some, length, get_or}
+use Rattle.std.proofs.Common.{take, drop, refl, sym, ap, ◌∙◌, subst, arith, string_bytes}
 use Rattle.std.specs.Prelude.{slice_get, if◌then◌else◌}
 use Rattle.std.specs.Bool.{Decides}
 use Rattle.std.specs.Str.{bytes_eq}
@@ -38,33 +39,41 @@ told_none (x ∷ fs) name h =
     told-other x fs name (other_front x fs name (length fs) h) ∙ told_none fs name (other_later x fs name (length fs) h)
 
 -- the first file of the name
-pub told_first : (fs : List MemoryFile) (i : ℕ) (name : List ℕ) (f : MemoryFile) → IsFirst fs i name → slice_get fs i ≡ Some f → told fs name ≡ Bytes f.bytes.items
+pub told_first : (fs : List MemoryFile) (i : ℕ) (name : List ℕ) (f : MemoryFile) → IsFirst fs i name → slice_get fs i ≡ Some f
+    → told fs name ≡ Bytes f.bytes.items
 told_first [] i name f h e = cc
 told_first (x ∷ fs) zero name f h e =
     let is : x ≡ f = cc in
     let named : string_bytes x.name ≡ name = let n : Some (string_bytes x.name) ≡ Some name = h.named in cc in
     told-same x fs name named ∙ ap (λ (y : MemoryFile). Bytes y.bytes.items) is
 told_first (x ∷ fs) (suc i) name f h e =
-    told-other x fs name (other_front x fs name i h.before) ∙ told_first fs i name f (record { named = h.named; before = other_later x fs name i h.before }) e
+    told-other x fs name (other_front x fs name i h.before)
+    ∙ told_first fs i name f (record { named = h.named; before = other_later x fs name i h.before }) e
 
 -- a new file at the end
-pub told_new : (fs : List MemoryFile) (name : List ℕ) (f : MemoryFile) → IsNewName fs (length fs) name → string_bytes f.name ≡ name → told (fs ++ f ∷ []) name ≡ Bytes f.bytes.items
+pub told_new : (fs : List MemoryFile) (name : List ℕ) (f : MemoryFile) → IsNewName fs (length fs) name → string_bytes f.name ≡ name
+    → told (fs ++ f ∷ []) name ≡ Bytes f.bytes.items
 told_new [] name f h n = told-same f [] name n
 told_new (x ∷ fs) name f h n =
     told-other x (fs ++ f ∷ []) name (other_front x fs name (length fs) h) ∙ told_new fs name f (other_later x fs name (length fs) h) n
 
-pub told_new_other : (fs : List MemoryFile) (f : MemoryFile) (other : List ℕ) → string_bytes f.name ≢ other → told (fs ++ f ∷ []) other ≡ told fs other
+pub told_new_other : (fs : List MemoryFile) (f : MemoryFile) (other : List ℕ) → string_bytes f.name ≢ other
+    → told (fs ++ f ∷ []) other ≡ told fs other
 told_new_other [] f other n = told-other f [] other n
-told_new_other (x ∷ fs) f other n = ap (λ (t : Told). if bytes_eq (string_bytes x.name) other then Bytes x.bytes.items else t) (told_new_other fs f other n)
+told_new_other (x ∷ fs) f other n =
+    ap (λ (t : Told). if bytes_eq (string_bytes x.name) other then Bytes x.bytes.items else t) (told_new_other fs f other n)
 
 -- the bytes of the first file of the name are changed
-pub told_changed : (fs : List MemoryFile) (i : ℕ) (name : List ℕ) (f : MemoryFile) → IsFirst fs i name → string_bytes f.name ≡ name → told (set fs i f) name ≡ Bytes f.bytes.items
+pub told_changed : (fs : List MemoryFile) (i : ℕ) (name : List ℕ) (f : MemoryFile) → IsFirst fs i name → string_bytes f.name ≡ name
+    → told (set fs i f) name ≡ Bytes f.bytes.items
 told_changed [] i name f h n = let e : None ≡ Some name = h.named in cc
 told_changed (x ∷ fs) zero name f h n = told-same f fs name n
 told_changed (x ∷ fs) (suc i) name f h n =
-    told-other x (set fs i f) name (other_front x fs name i h.before) ∙ told_changed fs i name f (record { named = h.named; before = other_later x fs name i h.before }) n
+    told-other x (set fs i f) name (other_front x fs name i h.before)
+    ∙ told_changed fs i name f (record { named = h.named; before = other_later x fs name i h.before }) n
 
-pub told_changed_other : (fs : List MemoryFile) (i : ℕ) (name : List ℕ) (f : MemoryFile) (other : List ℕ) → name_at fs i ≡ Some name → string_bytes f.name ≡ name → other ≢ name → told (set fs i f) other ≡ told fs other
+pub told_changed_other : (fs : List MemoryFile) (i : ℕ) (name : List ℕ) (f : MemoryFile) (other : List ℕ) → name_at fs i ≡ Some name
+    → string_bytes f.name ≡ name → other ≢ name → told (set fs i f) other ≡ told fs other
 told_changed_other [] i name f other h n o = refl
 told_changed_other (x ∷ fs) zero name f other h n o =
     let is : Some (string_bytes x.name) ≡ Some name = h in
@@ -74,7 +83,8 @@ told_changed_other (x ∷ fs) (suc i) name f other h n o =
     ap (λ (t : Told). if bytes_eq (string_bytes x.name) other then Bytes x.bytes.items else t) (told_changed_other fs i name f other h n o)
 
 -- names stay, where a file gets the name that stood at its place, or where one is added
-pub name_at-set : (fs : List MemoryFile) (i k : ℕ) (f : MemoryFile) → name_at fs i ≡ Some (string_bytes f.name) → name_at (set fs i f) k ≡ name_at fs k
+pub name_at-set : (fs : List MemoryFile) (i k : ℕ) (f : MemoryFile) → name_at fs i ≡ Some (string_bytes f.name)
+    → name_at (set fs i f) k ≡ name_at fs k
 name_at-set [] i k f h = refl
 name_at-set (x ∷ fs) zero zero f h = sym h
 name_at-set (x ∷ fs) zero (suc k) f h = refl
@@ -91,15 +101,18 @@ name_at-last [] f = refl
 name_at-last (x ∷ fs) f = name_at-last fs f
 
 -- the file that was read at a place
-pub name_at-read : (fs : List MemoryFile) (i : ℕ) (f : MemoryFile) → i < length fs → f ≡ get_or fs i f → name_at fs i ≡ Some (string_bytes f.name)
+pub name_at-read : (fs : List MemoryFile) (i : ℕ) (f : MemoryFile) → i < length fs → f ≡ get_or fs i f
+    → name_at fs i ≡ Some (string_bytes f.name)
 name_at-read fs i f b e = ap (option_map (λ (x : MemoryFile). string_bytes x.name)) (slice_get_read fs (length fs) i f refl b e)
 
 -- the file that was read has the name, or hasn't, by `==` on its text
-pub name_found : (fs : List MemoryFile) (i : ℕ) (f : MemoryFile) (text name : List ℕ) (r : Bool) → i < length fs → f ≡ get_or fs i f → text ≡ string_bytes f.name → r ≡ bytes_eq text name → r ≡ true → name_at fs i ≡ Some name
+pub name_found : (fs : List MemoryFile) (i : ℕ) (f : MemoryFile) (text name : List ℕ) (r : Bool) → i < length fs → f ≡ get_or fs i f
+    → text ≡ string_bytes f.name → r ≡ bytes_eq text name → r ≡ true → name_at fs i ≡ Some name
 name_found fs i f text name r b e t q y =
     name_at-read fs i f b e ∙ ap Some (sym t ∙ (bytes_eq-Decides text name).0 (sym q ∙ y))
 
-pub name_missed : (fs : List MemoryFile) (i : ℕ) (f : MemoryFile) (text name : List ℕ) (r : Bool) → i < length fs → f ≡ get_or fs i f → text ≡ string_bytes f.name → r ≡ bytes_eq text name → r ≡ false → name_at fs i ≢ Some name
+pub name_missed : (fs : List MemoryFile) (i : ℕ) (f : MemoryFile) (text name : List ℕ) (r : Bool) → i < length fs → f ≡ get_or fs i f
+    → text ≡ string_bytes f.name → r ≡ bytes_eq text name → r ≡ false → name_at fs i ≢ Some name
 name_missed fs i f text name r b e t q n h =
     let is : Some (string_bytes f.name) ≡ Some name = sym (name_at-read fs i f b e) ∙ h in
     let same : string_bytes f.name ≡ name = cc in
@@ -114,7 +127,8 @@ length-set_file : (fs : List MemoryFile) (i : ℕ) (f : MemoryFile) → length (
 length-set_file fs i f = grind (arith, common_steps)
 
 -- a file that keeps its name and its bytes
-pub told_kept : (fs : List MemoryFile) (i : ℕ) (x f : MemoryFile) → i < length fs → x ≡ get_or fs i x → string_bytes f.name ≡ string_bytes x.name → f.bytes.items ≡ x.bytes.items → (name : List ℕ) → told (set fs i f) name ≡ told fs name
+pub told_kept : (fs : List MemoryFile) (i : ℕ) (x f : MemoryFile) → i < length fs → x ≡ get_or fs i x
+    → string_bytes f.name ≡ string_bytes x.name → f.bytes.items ≡ x.bytes.items → (name : List ℕ) → told (set fs i f) name ≡ told fs name
 told_kept [] i x f b e n h name = refl
 told_kept (y ∷ fs) zero x f b e n h name =
     let same_name : string_bytes f.name ≡ string_bytes y.name = n ∙ ap (λ (z : MemoryFile). string_bytes z.name) e in
@@ -124,7 +138,8 @@ told_kept (y ∷ fs) (suc i) x f b e n h name =
     ap (λ (t : Told). if bytes_eq (string_bytes y.name) name then Bytes y.bytes.items else t) (told_kept fs i x f (omega arith) e n h name)
 
 -- the first file of a name keeps its name and gets other bytes
-pub changes_at : (fs : List MemoryFile) (i : ℕ) (name : List ℕ) (x f : MemoryFile) → IsFirst fs i name → x ≡ get_or fs i x → string_bytes f.name ≡ string_bytes x.name → Changes fs (set fs i f) name (Bytes f.bytes.items)
+pub changes_at : (fs : List MemoryFile) (i : ℕ) (name : List ℕ) (x f : MemoryFile) → IsFirst fs i name → x ≡ get_or fs i x
+    → string_bytes f.name ≡ string_bytes x.name → Changes fs (set fs i f) name (Bytes f.bytes.items)
 changes_at fs i name x f h e n =
     let b : i < length fs = name_at_within fs i name h.named in
     let at : name_at fs i ≡ Some (string_bytes x.name) = name_at-read fs i x b e in
@@ -137,20 +152,24 @@ changes_at fs i name x f h e n =
       grows = omega (arith, length-set_file fs i f);
     }
 
-pub grows_at : (fs : List MemoryFile) (i : ℕ) (name piece : List ℕ) (x f : MemoryFile) → IsFirst fs i name → x ≡ get_or fs i x → string_bytes f.name ≡ string_bytes x.name → f.bytes.items ≡ x.bytes.items ++ piece → Changes fs (set fs i f) name (grown (told fs name) piece)
+pub grows_at : (fs : List MemoryFile) (i : ℕ) (name piece : List ℕ) (x f : MemoryFile) → IsFirst fs i name → x ≡ get_or fs i x
+    → string_bytes f.name ≡ string_bytes x.name → f.bytes.items ≡ x.bytes.items ++ piece
+    → Changes fs (set fs i f) name (grown (told fs name) piece)
 grows_at fs i name piece x f h e n g =
     let b : i < length fs = name_at_within fs i name h.named in
     let was : told fs name ≡ Bytes x.bytes.items = told_first fs i name x h (slice_get_read fs (length fs) i x refl b e) in
     let now : Bytes f.bytes.items ≡ grown (told fs name) piece = ap Bytes g ∙ sym (ap (λ (t : Told). grown t piece) was) in
     subst (λ (t : Told). Changes fs (set fs i f) name t) now (changes_at fs i name x f h e n)
 
-pub first_after : (fs gs : List MemoryFile) (i : ℕ) (name other : List ℕ) (now : Told) → IsFirst fs i name → Changes fs gs other now → IsFirst gs i name
+pub first_after : (fs gs : List MemoryFile) (i : ℕ) (name other : List ℕ) (now : Told) → IsFirst fs i name → Changes fs gs other now
+    → IsFirst gs i name
 first_after fs gs i name other now h d =
     let b : i < length fs = name_at_within fs i name h.named in
     record { named = d.names i b ∙ h.named; before = λ k w e. h.before k w (sym (d.names k (omega arith)) ∙ e) }
 
 -- a new file is added
-pub changes_by_new : (fs : List MemoryFile) (name : List ℕ) (f : MemoryFile) → IsNewName fs (length fs) name → string_bytes f.name ≡ name → Changes fs (fs ++ f ∷ []) name (Bytes f.bytes.items)
+pub changes_by_new : (fs : List MemoryFile) (name : List ℕ) (f : MemoryFile) → IsNewName fs (length fs) name → string_bytes f.name ≡ name
+    → Changes fs (fs ++ f ∷ []) name (Bytes f.bytes.items)
 changes_by_new fs name f h n = record {
   told_is = told_new fs name f h n;
   others = λ other o. told_new_other fs f other (λ e. o (sym e ∙ n));
@@ -158,19 +177,22 @@ changes_by_new fs name f h n = record {
   grows = grind (arith, common_steps);
 }
 
-pub first_new : (fs : List MemoryFile) (name : List ℕ) (f : MemoryFile) → IsNewName fs (length fs) name → string_bytes f.name ≡ name → IsFirst (fs ++ f ∷ []) (length fs) name
+pub first_new : (fs : List MemoryFile) (name : List ℕ) (f : MemoryFile) → IsNewName fs (length fs) name → string_bytes f.name ≡ name
+    → IsFirst (fs ++ f ∷ []) (length fs) name
 first_new fs name f h n = record {
   named = name_at-last fs f ∙ ap Some n;
   before = λ k w e. h k w (sym (name_at-append fs k f w) ∙ e);
 }
 
-pub told_all_kept : (fs : List MemoryFile) (i : ℕ) (x f : MemoryFile) → i < length fs → x ≡ get_or fs i x → string_bytes f.name ≡ string_bytes x.name → f.bytes.items ≡ x.bytes.items → told (set fs i f) ≡ told fs
+pub told_all_kept : (fs : List MemoryFile) (i : ℕ) (x f : MemoryFile) → i < length fs → x ≡ get_or fs i x
+    → string_bytes f.name ≡ string_bytes x.name → f.bytes.items ≡ x.bytes.items → told (set fs i f) ≡ told fs
 told_all_kept fs i x f b e n h = λ j name. told_kept fs i x f b e n h name j
 
 pub first_of_name : (fs : List MemoryFile) (i : ℕ) (name : List ℕ) → IsFirstOfName fs i → name_at fs i ≡ Some name → IsFirst fs i name
 first_of_name fs i name h n = record { named = n; before = λ k w e. h.before k w (e ∙ sym n) }
 
-pub told_read : (fs : List MemoryFile) (i : ℕ) (name : List ℕ) (x : MemoryFile) → IsFirst fs i name → x ≡ get_or fs i x → told fs name ≡ Bytes x.bytes.items
+pub told_read : (fs : List MemoryFile) (i : ℕ) (name : List ℕ) (x : MemoryFile) → IsFirst fs i name → x ≡ get_or fs i x
+    → told fs name ≡ Bytes x.bytes.items
 told_read fs i name x h e = told_first fs i name x h (slice_get_read fs (length fs) i x refl (name_at_within fs i name h.named) e)
 
 pub told_present : (fs : List MemoryFile) (i : ℕ) (name : List ℕ) → IsFirst fs i name → told fs name ≢ NoFile
@@ -187,12 +209,14 @@ told_present (x ∷ fs) (suc i) name h e =
 pub emptied-told : (fs : List MemoryFile) (name : List ℕ) → emptied (told fs name) ≡ Bytes []
 emptied-told [] name = refl
 emptied-told (x ∷ fs) name =
-    elim (bytes_eq (string_bytes x.name) name) as (λ b. emptied (if b then Bytes x.bytes.items else told fs name) ≡ Bytes []) [ true ↦ refl | false ↦ emptied-told fs name ]
+    elim (bytes_eq (string_bytes x.name) name) as
+    (λ b. emptied (if b then Bytes x.bytes.items else told fs name) ≡ Bytes []) [ true ↦ refl | false ↦ emptied-told fs name ]
 
 rest_parts : (text : List ℕ) (t n : ℕ) → drop t text ≡ take n (drop t text) ++ drop (t + n) text
 rest_parts text t n = sym (take-append-drop n (drop t text)) ∙ ap (λ w. take n (drop t text) ++ w) (drop-drop n t text)
 
 -- what is read, and then what is left
-pub rest_of-read : (place : Option ℕ) (text : List ℕ) (t n : ℕ) (front : List ℕ) → front ≡ take n (drop t text) → rest_of place (drop t text) ≡ before_rest front (rest_of place (drop (t + n) text))
+pub rest_of-read : (place : Option ℕ) (text : List ℕ) (t n : ℕ) (front : List ℕ) → front ≡ take n (drop t text)
+    → rest_of place (drop t text) ≡ before_rest front (rest_of place (drop (t + n) text))
 rest_of-read None text t n front e = refl
 rest_of-read (Some place) text t n front e = ap Some (rest_parts text t n ∙ ap (λ w. w ++ drop (t + n) text) (sym e))

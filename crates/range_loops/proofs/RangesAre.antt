@@ -9,7 +9,8 @@ use Rattle.index_notation.specs.Statement.{IsAccess, IsNumbered}
 use Rattle.lists.specs.Each.{Each}
 use Rattle.index_notation.specs.declared.syntax.Access.{Access}
 use Rattle.index_notation.specs.declared.syntax.Statement.{Statement}
-use Rattle.expr_terms.specs.Ranges.{Place, places_from, places_in, greatest_of, reach, narrow_ranges}
+use Rattle.expr_terms.specs.declared.bound.Place.{Place}
+use Rattle.expr_terms.specs.Ranges.{places_from, places_in, greatest_of, reach, narrow_ranges}
 
 no_place_from : (tensor mode vars v : ℕ) (vs : List ℕ) → Each (λ w. w < vars) vs → vars ≤ v → places_from tensor mode vs v ≡ []
 no_place_from tensor mode vars v [] h le = refl

@@ -1,5 +1,10 @@
 -- The places of a block, at elements of any type: where they are cut, put together, emptied, opened and lent. Assumes `Logic`.
-use Rattle.seg_buffer.proofs.Steps.{◌≡◌, refl, sym, ap, ◌∙◌, List, [], ◌∷◌, ◌++◌, map, ℕ, zero, suc, ◌+◌, ◌-◌, ◌*◌, ◌≤◌, ◌<◌, arith, length, take, drop, replicate, length-replicate, length-append, length-take, length-drop, take-append-drop, Ura, full_share, ent, sep, emp, ex, id⊢, mono_r, Fml, Lft, ftrue, fsep, fat, froom, ty_array, Val, Logic, sem, cells, ‵, some, ◌⊛◌, ◌$◌, ◌∵◌, !, qed, by, move, keep, use1, use2, pick, split, frame, fsplit, fjoin, rewrite, skip, done, mem, part_at, param, layout, Laws, elements_shared, nothing, El, R, el_x, elτ, Option, Some, None, type_size}
+use Rattle.seg_buffer.proofs.Steps.{◌≡◌, refl, sym, ap, ◌∙◌, List, [], ◌∷◌, ◌++◌, map, ℕ, zero, suc, ◌+◌, ◌-◌, ◌*◌, ◌≤◌, ◌<◌, arith}
+use Rattle.seg_buffer.proofs.Steps.{length, take, drop, replicate, length-replicate, length-append, length-take, length-drop}
+use Rattle.seg_buffer.proofs.Steps.{take-append-drop, Ura, full_share, ent, sep, emp, ex, id⊢, mono_r, Fml, Lft, ftrue, fsep, fat, froom}
+use Rattle.seg_buffer.proofs.Steps.{ty_array, Val, Logic, sem, cells, ‵, some, ◌⊛◌, ◌$◌, ◌∵◌, !, qed, by, move, keep, use1, use2, pick}
+use Rattle.seg_buffer.proofs.Steps.{split, frame, fsplit, fjoin, rewrite, skip, done, mem, part_at, param, layout, Laws, elements_shared}
+use Rattle.seg_buffer.proofs.Steps.{nothing, El, R, el_x, elτ, Option, Some, None, type_size}
 use native.Mathlib.Nat.{zero-mul, suc-mul}
 use denote.RattleType.{RattleType}
 use denote.Memory.{shared_of}
@@ -16,12 +21,20 @@ module _ {X : Type 0} where
   pub spread_cut : (k n : ℕ) (xs : List X) → spread n xs ≡ map Some (take k xs) ++ tail_of k n xs
   spread_cut k n xs =
       let rest = replicate (n - length xs) None in
-      ap (λ l. map Some l ++ rest) (sym (take-append-drop k xs)) ∙ ap (λ l. l ++ rest) (map-append Some (take k xs) (drop k xs)) ∙ append_assoc (map Some (take k xs)) (map Some (drop k xs)) rest
+      ap (λ l. map Some l ++ rest) (sym (take-append-drop k xs)) ∙ ap (λ l. l ++ rest) (map-append Some (take k xs) (drop k xs))
+      ∙ append_assoc (map Some (take k xs)) (map Some (drop k xs)) rest
 
   pub length-tail_of : (k n : ℕ) (xs : List X) → k ≤ length xs → length xs ≤ n → length (tail_of k n xs) ≡ n - k
   length-tail_of k n xs le fits =
       let rest : List (Option X) = replicate (n - length xs) None in let none : Option X = None in
-      omega (arith, length-append (map Some (drop k xs)) rest, length-map (drop k xs) Some, length-drop k xs, length-replicate (n - length xs) none)
+      omega (
+        arith,
+        length-append (map Some (drop k xs)) rest,
+        length-map (drop k xs) Some,
+        length-drop k xs,
+        length-replicate
+            (n - length xs) none,
+      )
 
   pub length-spread : (n : ℕ) (xs : List X) → length xs ≤ n → length (spread n xs) ≡ n
   length-spread n xs fits =
@@ -32,33 +45,40 @@ module _ {X : Type 0} where
   length-first k xs le = omega (arith, length-map (take k xs) Some, length-take k xs)
 
   -- the first k values, x, and room for the rest
-  pub spread_put : (k n : ℕ) (xs : List X) (x : X) → k ≤ length xs → map Some (take k xs) ++ Some x ∷ replicate (n - suc k) None ≡ spread n (take k xs ++ x ∷ [])
+  pub spread_put : (k n : ℕ) (xs : List X) (x : X) → k ≤ length xs
+      → map Some (take k xs) ++ Some x ∷ replicate (n - suc k) None ≡ spread n (take k xs ++ x ∷ [])
   spread_put k n xs x le =
       let long : length (take k xs ++ x ∷ []) ≡ suc k = omega (arith, length-append (take k xs) (x ∷ []), length-take k xs) in
       let rest : ℕ → List (Option X) = λ j. replicate (n - j) None in
-      sym (append_assoc (map Some (take k xs)) (Some x ∷ []) (rest (suc k))) ∙ (λ i. sym (map-append Some (take k xs) (x ∷ [])) i ++ rest (sym long i))
+      sym (append_assoc (map Some (take k xs)) (Some x ∷ []) (rest (suc k)))
+      ∙ (λ i. sym (map-append Some (take k xs) (x ∷ [])) i ++ rest (sym long i))
 
   -- ws in the place of the first k values
   pub spread_over : (k n : ℕ) (xs ws : List X) → k ≤ length xs → length ws ≡ k → map Some ws ++ tail_of k n xs ≡ spread n (ws ++ drop k xs)
   spread_over k n xs ws le same =
       let long : length xs ≡ length (ws ++ drop k xs) = omega (arith, length-append ws (drop k xs), length-drop k xs) in
-      sym (append_assoc (map Some ws) (map Some (drop k xs)) (replicate (n - length xs) None)) ∙ ap (λ l. l ++ replicate (n - length xs) None) (sym (map-append Some ws (drop k xs)))
+      sym (append_assoc (map Some ws) (map Some (drop k xs)) (replicate (n - length xs) None))
+      ∙ ap (λ l. l ++ replicate (n - length xs) None) (sym (map-append Some ws (drop k xs)))
       ∙ ap (λ j. map Some (ws ++ drop k xs) ++ replicate (n - j) None) long
 
 module _ (i : ℕ) (Y : RattleType) (L : Laws Y) {M : Type 1} {𝓤 : Ura M} (𝓛 : Logic 𝓤) where
   open 𝓛 use {H}
 
   -- a value in memory is a machine value there, and what that owns
-  value_out : (x : Y.Denot) (b o : ℕ) → ent 𝓤 (sem 𝓛 (part_at (param i Y) full_share x b o)) (ex 𝓤 (λ (v : Val). sep 𝓤 (H.at full_share (layout Y) b o v) (sem 𝓛 (Y.own_val x (v ∷ [])))))
+  value_out : (x : Y.Denot) (b o : ℕ)
+      → ent 𝓤 (sem 𝓛 (part_at (param i Y) full_share x b o))
+      (ex 𝓤 (λ (v : Val). sep 𝓤 (H.at full_share (layout Y) b o v) (sem 𝓛 (Y.own_val x (v ∷ [])))))
   value_out x b o = part_out 𝓛 (param i Y) refl full_share x b o
 
-  pub value_in : (x : Y.Denot) (b o : ℕ) (v : Val) → ent 𝓤 (sep 𝓤 (H.at full_share (layout Y) b o v) (sem 𝓛 (Y.own_val x (v ∷ [])))) (sem 𝓛 (part_at (param i Y) full_share x b o))
+  pub value_in : (x : Y.Denot) (b o : ℕ) (v : Val)
+      → ent 𝓤 (sep 𝓤 (H.at full_share (layout Y) b o v) (sem 𝓛 (Y.own_val x (v ∷ [])))) (sem 𝓛 (part_at (param i Y) full_share x b o))
   value_in x b o v = part_in 𝓛 (param i Y) refl full_share x b o v
 
   -- a value is forgotten, and its place is room
   pub value_forgotten : (x : Y.Denot) (b o : ℕ) → ent 𝓤 (sem 𝓛 (part_at (param i Y) full_share x b o)) (H.room (layout Y) b o)
   value_forgotten x b o = qed 𝓛 (‵ (part_at (param i Y) full_share x b o) ∷ []) ∵
-      use1 𝓛 (some (λ (v : Val). ‵ (fat full_share (layout Y) b o v) ⊛ ‵ (Y.own_val x (v ∷ [])))) (value_out x b o) $ pick ! (λ v. split ! $ keep ! (0 ∷ []) $ by ! (𝓛.laws.at_room (layout Y) b o v))
+      use1 𝓛 (some (λ (v : Val). ‵ (fat full_share (layout Y) b o v) ⊛ ‵ (Y.own_val x (v ∷ [])))) (value_out x b o) $ pick !
+      (λ v. split ! $ keep ! (0 ∷ []) $ by ! (𝓛.laws.at_room (layout Y) b o v))
 
 module _ (E : El) {M : Type 1} {𝓤 : Ura M} (𝓛 : Logic 𝓤) (b : ℕ) where
   open 𝓛 use {H}
@@ -69,20 +89,30 @@ module _ (E : El) {M : Type 1} {𝓤 : Ura M} (𝓛 : Logic 𝓤) (b : ℕ) wher
   abbrev Row : ℕ → List (Option (el_x E)) → Fml
   Row = row (R E) b
 
-  cut : (cs ds : List (Option (el_x E))) (o at : ℕ) → at ≡ length cs * s + o → ent 𝓤 (sem 𝓛 (Row o (cs ++ ds))) (sep 𝓤 (sem 𝓛 (Row o cs)) (sem 𝓛 (Row at ds)))
-  cut [] ds o at e = qed 𝓛 (‵ (Row o ds) ∷ []) ∵ rewrite ! 0 (λ (k : ℕ). ‵ (Row k ds)) {x = at} (omega (arith, zero-mul s)) refl $ nothing ! $ done !
-  cut (c ∷ cs) ds o at e = let more : at ≡ suc (length cs) * s + o = e in qed 𝓛 (‵ (Row o (c ∷ cs ++ ds)) ∷ []) ∵ fsplit ! $ move ! (1 ∷ []) $
-      use1 𝓛 (‵ (Row (o + s) cs) ⊛ ‵ (Row at ds)) (cut cs ds (o + s) at (omega (arith, suc-mul (length cs) s))) $ split ! $ move ! (2 ∷ 0 ∷ []) $ fjoin ! $ done !
+  cut : (cs ds : List (Option (el_x E))) (o at : ℕ) → at ≡ length cs * s + o
+      → ent 𝓤 (sem 𝓛 (Row o (cs ++ ds))) (sep 𝓤 (sem 𝓛 (Row o cs)) (sem 𝓛 (Row at ds)))
+  cut [] ds o at e = qed 𝓛 (‵ (Row o ds)
+      ∷ []) ∵ rewrite ! 0 (λ (k : ℕ). ‵ (Row k ds)) {x = at} (omega (arith, zero-mul s)) refl $ nothing ! $ done !
+  cut (c ∷ cs) ds o at e = let more : at ≡ suc (length cs) * s + o =
+      e in qed 𝓛 (‵ (Row o (c ∷ cs ++ ds)) ∷ []) ∵ fsplit ! $ move ! (1 ∷ []) $
+      use1 𝓛 (‵ (Row (o + s) cs) ⊛ ‵ (Row at ds)) (cut cs ds (o + s) at (omega (arith, suc-mul (length cs) s))) $ split ! $ move ! (2 ∷ 0
+      ∷ []) $ fjoin ! $ done !
 
-  glue : (cs ds : List (Option (el_x E))) (o at : ℕ) → at ≡ length cs * s + o → ent 𝓤 (sep 𝓤 (sem 𝓛 (Row o cs)) (sem 𝓛 (Row at ds))) (sem 𝓛 (Row o (cs ++ ds)))
-  glue [] ds o at e = qed 𝓛 (‵ ftrue ∷ ‵ (Row at ds) ∷ []) ∵ skip ! $ rewrite ! 0 (λ (k : ℕ). ‵ (Row k ds)) {x = o} (omega (arith, zero-mul s)) refl $ done !
-  glue (c ∷ cs) ds o at e = let more : at ≡ suc (length cs) * s + o = e in qed 𝓛 (‵ (Row o (c ∷ cs)) ∷ ‵ (Row at ds) ∷ []) ∵ fsplit ! $ move ! (1 ∷ 2 ∷ []) $
-      use2 𝓛 (‵ (Row (o + s) (cs ++ ds))) (glue cs ds (o + s) at (omega (arith, suc-mul (length cs) s))) $ move ! (1 ∷ 0 ∷ []) $ fjoin ! $ done !
+  glue : (cs ds : List (Option (el_x E))) (o at : ℕ) → at ≡ length cs * s + o
+      → ent 𝓤 (sep 𝓤 (sem 𝓛 (Row o cs)) (sem 𝓛 (Row at ds))) (sem 𝓛 (Row o (cs ++ ds)))
+  glue [] ds o at e = qed 𝓛 (‵ ftrue ∷ ‵ (Row at ds)
+      ∷ []) ∵ skip ! $ rewrite ! 0 (λ (k : ℕ). ‵ (Row k ds)) {x = o} (omega (arith, zero-mul s)) refl $ done !
+  glue (c ∷ cs) ds o at e = let more : at ≡ suc (length cs) * s + o =
+      e in qed 𝓛 (‵ (Row o (c ∷ cs)) ∷ ‵ (Row at ds) ∷ []) ∵ fsplit ! $ move ! (1 ∷ 2 ∷ []) $
+      use2 𝓛 (‵ (Row (o + s) (cs ++ ds))) (glue cs ds (o + s) at (omega (arith, suc-mul (length cs) s))) $ move ! (1 ∷ 0
+      ∷ []) $ fjoin ! $ done !
 
   -- whatever the places hold is forgotten
   emptied_one : (c : Option (el_x E)) (o : ℕ) → ent 𝓤 (sem 𝓛 (place (R E) b o c)) (sem 𝓛 (place (R E) b o None))
   emptied_one None o = id⊢ 𝓤 _
-  emptied_one (Some x) o = qed 𝓛 (‵ (place (R E) b o (Some x)) ∷ []) ∵ use1 𝓛 (‵ (froom (elτ E) b o)) (value_forgotten 0 E.row E.laws 𝓛 x b o) $ by ! (𝓛.laws.room-raw (elτ E) b o)
+  emptied_one (Some x) o =
+      qed 𝓛 (‵ (place (R E) b o (Some x))
+      ∷ []) ∵ use1 𝓛 (‵ (froom (elτ E) b o)) (value_forgotten 0 E.row E.laws 𝓛 x b o) $ by ! (𝓛.laws.room-raw (elτ E) b o)
 
   pub emptied : (cs : List (Option (el_x E))) (o : ℕ) → ent 𝓤 (sem 𝓛 (Row o cs)) (sem 𝓛 (Row o (replicate (length cs) None)))
   emptied [] o = id⊢ 𝓤 _
@@ -124,13 +154,18 @@ module _ (E : El) {M : Type 1} {𝓤 : Ura M} (𝓛 : Logic 𝓤) (b : ℕ) wher
     open_at lt =
         let tail = tail_of k n xs in let count : length tail ≡ suc (n - suc k) = omega (arith, length-tail_of k n xs le fits) in
         qed 𝓛 (‵ (Row o (spread n xs)) ∷ []) ∵ rewrite ! 0 (λ (l : List (Option (el_x E))). ‵ (Row o l)) (spread_cut k n xs) refl $
-        use1 𝓛 (‵ (Row o (map Some (take k xs))) ⊛ ‵ (Row (k * s + o) tail)) (cut (map Some (take k xs)) tail o (k * s + o) far) $ split ! $ move ! (1 ∷ []) $
-        use1 𝓛 (‵ (Row (k * s + o) (replicate (length tail) None))) (emptied tail (k * s + o)) $ rewrite ! 0 (λ (j : ℕ). ‵ (Row (k * s + o) (replicate j None))) count refl $
+        use1 𝓛 (‵ (Row o (map Some (take k xs))) ⊛ ‵ (Row (k * s + o) tail))
+        (cut (map Some (take k xs)) tail o (k * s + o) far) $ split ! $ move ! (1 ∷ []) $
+        use1 𝓛 (‵ (Row (k * s + o) (replicate (length tail) None))) (emptied tail (k * s + o)) $ rewrite ! 0
+        (λ (j : ℕ). ‵ (Row (k * s + o) (replicate j None))) count refl $
         fsplit ! $ move ! (2 ∷ 1 ∷ []) $ fjoin ! $ move ! (1 ∷ 0 ∷ []) $ done !
 
-    pub put_at : (x : el_x E) → ent 𝓤 (sep 𝓤 (sem 𝓛 (place (R E) b (k * s + o) (Some x))) (sem 𝓛 Beside)) (sem 𝓛 (Row o (spread n (take k xs ++ x ∷ []))))
-    put_at x = qed 𝓛 (‵ (place (R E) b (k * s + o) (Some x)) ∷ ‵ Beside ∷ []) ∵ move ! (1 ∷ []) $ fsplit ! $ move ! (2 ∷ 1 ∷ []) $ fjoin ! $ move ! (1 ∷ 0 ∷ []) $
-        use2 𝓛 (‵ (Row o (map Some (take k xs) ++ Some x ∷ replicate (n - suc k) None))) (glue (map Some (take k xs)) (Some x ∷ replicate (n - suc k) None) o (k * s + o) far) $
+    pub put_at : (x : el_x E)
+        → ent 𝓤 (sep 𝓤 (sem 𝓛 (place (R E) b (k * s + o) (Some x))) (sem 𝓛 Beside)) (sem 𝓛 (Row o (spread n (take k xs ++ x ∷ []))))
+    put_at x = qed 𝓛 (‵ (place (R E) b (k * s + o) (Some x)) ∷ ‵ Beside ∷ []) ∵ move ! (1 ∷ []) $ fsplit ! $ move ! (2 ∷ 1
+        ∷ []) $ fjoin ! $ move ! (1 ∷ 0 ∷ []) $
+        use2 𝓛 (‵ (Row o (map Some (take k xs) ++ Some x ∷ replicate (n - suc k) None)))
+        (glue (map Some (take k xs)) (Some x ∷ replicate (n - suc k) None) o (k * s + o) far) $
         rewrite ! 0 (λ (l : List (Option (el_x E))). ‵ (Row o l)) (spread_put k n xs x le) refl $ done !
 
     -- the places after the first k
@@ -139,10 +174,12 @@ module _ (E : El) {M : Type 1} {𝓤 : Ura M} (𝓛 : Logic 𝓤) (b : ℕ) wher
 
     pub first_out : ent 𝓤 (sem 𝓛 (Row o (spread n xs))) (sep 𝓤 (sem 𝓛 (cells (mem (R E)) (take k xs) b o)) (sem 𝓛 After_first))
     first_out = qed 𝓛 (‵ (Row o (spread n xs)) ∷ []) ∵ rewrite ! 0 (λ (l : List (Option (el_x E))). ‵ (Row o l)) (spread_cut k n xs) refl $
-        use1 𝓛 (‵ (Row o (map Some (take k xs))) ⊛ ‵ After_first) (cut (map Some (take k xs)) (tail_of k n xs) o (k * s + o) far) $ split ! $
+        use1 𝓛 (‵ (Row o (map Some (take k xs))) ⊛ ‵ After_first)
+        (cut (map Some (take k xs)) (tail_of k n xs) o (k * s + o) far) $ split ! $
         use1 𝓛 (‵ (cells (mem (R E)) (take k xs) b o)) (to_cells (take k xs) o) $ done !
 
-    pub first_in : (ws : List (el_x E)) → length ws ≡ k → ent 𝓤 (sep 𝓤 (sem 𝓛 (cells (mem (R E)) ws b o)) (sem 𝓛 After_first)) (sem 𝓛 (Row o (spread n (ws ++ drop k xs))))
+    pub first_in : (ws : List (el_x E)) → length ws ≡ k
+        → ent 𝓤 (sep 𝓤 (sem 𝓛 (cells (mem (R E)) ws b o)) (sem 𝓛 After_first)) (sem 𝓛 (Row o (spread n (ws ++ drop k xs))))
     first_in ws same =
         let long : k ≡ length (map Some ws) = omega (arith, length-map ws Some) in
         qed 𝓛 (‵ (cells (mem (R E)) ws b o) ∷ ‵ After_first ∷ []) ∵ use1 𝓛 (‵ (Row o (map Some ws))) (of_cells ws o) $
@@ -151,9 +188,13 @@ module _ (E : El) {M : Type 1} {𝓤 : Ura M} (𝓛 : Logic 𝓤) (b : ℕ) wher
 
   -- a `&` to the values is one to the first of them
   module _ (κ : Lft) where
-    these_lent : (xs ys : List (el_x E)) (o : ℕ) → ent 𝓤 (sem 𝓛 (values_lent (R E) b o (xs ++ ys) κ)) (sem 𝓛 (elements_shared (R E) xs b o κ))
+    these_lent : (xs ys : List (el_x E)) (o : ℕ)
+        → ent 𝓤 (sem 𝓛 (values_lent (R E) b o (xs ++ ys) κ)) (sem 𝓛 (elements_shared (R E) xs b o κ))
     these_lent [] ys o = qed 𝓛 (‵ (values_lent (R E) b o ys κ) ∷ []) ∵ keep ! [] $ done !
     these_lent (x ∷ xs) ys o = mono_r 𝓤 (sem 𝓛 (shared_of (R E) x b o κ)) (these_lent xs ys (o + s))
 
-    pub first_lent : (k o : ℕ) (xs : List (el_x E)) → ent 𝓤 (sem 𝓛 (values_lent (R E) b o xs κ)) (sem 𝓛 (elements_shared (R E) (take k xs) b o κ))
-    first_lent k o xs = qed 𝓛 (‵ (values_lent (R E) b o xs κ) ∷ []) ∵ rewrite ! 0 (λ (l : List (el_x E)). ‵ (values_lent (R E) b o l κ)) (sym (take-append-drop k xs)) refl $ by ! (these_lent (take k xs) (drop k xs) o)
+    pub first_lent : (k o : ℕ) (xs : List (el_x E))
+        → ent 𝓤 (sem 𝓛 (values_lent (R E) b o xs κ)) (sem 𝓛 (elements_shared (R E) (take k xs) b o κ))
+    first_lent k o xs = qed 𝓛 (‵ (values_lent (R E) b o xs κ)
+        ∷ []) ∵ rewrite ! 0 (λ (l : List (el_x E)). ‵ (values_lent (R E) b o l κ)) (sym (take-append-drop k xs)) refl $ by !
+        (these_lent (take k xs) (drop k xs) o)

@@ -26,13 +26,16 @@ module _ (R : RattleType) (L : RowLaws R) where
 
 module _ {M : Type 1} {𝓤 : Ura M} (𝓛 : Logic 𝓤) (l : Lft) (R : RattleType) (L : Laws R) (inc : Incl l R.lives) where
   -- the values come first in the row, and the rest of it lends nothing
-  Lends-values : (b o : ℕ) (xs : List R.Denot) (rest : List (Option R.Denot)) → Lends 𝓛 (row R b o (map Some xs ++ rest)) (values_lent R b o xs) l
+  Lends-values : (b o : ℕ) (xs : List R.Denot) (rest : List (Option R.Denot))
+      → Lends 𝓛 (row R b o (map Some xs ++ rest)) (values_lent R b o xs) l
   Lends-values b o [] rest = Lends-nothing 𝓛 (row R b o rest) l
   Lends-values b o (x ∷ xs) rest =
       let next = o + type_size R in
-      Lends-both 𝓛 (place R b o (Some x)) (row R b next (map Some xs ++ rest)) (shared_of R x b o) (values_lent R b next xs) l (λ κ ts. Shares-less 𝓛 R R.lives l inc (L.shares 𝓛) x κ ts b o) (Lends-values b next xs rest)
+      Lends-both 𝓛 (place R b o (Some x)) (row R b next (map Some xs ++ rest)) (shared_of R x b o) (values_lent R b next xs) l
+      (λ κ ts. Shares-less 𝓛 R R.lives l inc (L.shares 𝓛) x κ ts b o) (Lends-values b next xs rest)
 
   pub Lends-places : (p : Ptr) (n : ℕ) (xs : List R.Denot) → Lends 𝓛 (places_own R p n xs) (places_lent R p n xs) l
   Lends-places (block_ptr b o) n xs =
-      Lends-both 𝓛 (small R n) (row R b o (spread n xs)) (said (small R n)) (values_lent R b o xs) l (Lends-said 𝓛 (small R n) tt l) (Lends-values b o xs (replicate (n - length xs) None))
+      Lends-both 𝓛 (small R n) (row R b o (spread n xs)) (said (small R n)) (values_lent R b o xs) l (Lends-said 𝓛 (small R n) tt l)
+      (Lends-values b o xs (replicate (n - length xs) None))
   Lends-places null_ptr n xs = Lends-false 𝓛 (said ffalse) l

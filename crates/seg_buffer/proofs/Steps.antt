@@ -25,12 +25,16 @@ pub use sound.WpLaws.{WpFn-mono, FmC, fm_of}
 pub use types.Logic.{Logic, sem}
 pub use types.SemTy.{cells}
 pub use types.SemTy.{Body as Borrowed}
-pub use types.Kit.{Item, Goal, Seq, Step, step, prop, ⋆, ‵, raw, some, given, later, ◌⊛◌, at_ret, any_q, ◌$◌, ◌∵◌, !, qed, by, move, keep, use0, use1, use2, use3, pick, learn, await, split, join, group, check, show, frame, fsplit, fsplit3, fjoin, fjoin3, fpick, fpack, feq_i, feq_l, flt_i, flt_l, rewrite, suffices, done}
+pub use types.Kit.{Item, Goal, Seq, Step, step, prop, ⋆, ‵, raw, some, given, later, ◌⊛◌, at_ret, any_q, ◌$◌, ◌∵◌, !, qed, by, move, keep}
+pub use types.Kit.{use0, use1, use2, use3, pick, learn, await, split, join, group, check, show, frame, fsplit, fsplit3, fjoin, fjoin3}
+pub use types.Kit.{fpick, fpack, feq_i, feq_l, flt_i, flt_l, rewrite, suffices, done}
 pub use types.Kit.{drop as skip, Post as After}
 pub use types.Part.{whole, sub, agg}
 pub use types.Match.{live, vrt, in_variant}
-pub use types.Run.{init, stop, fld, from, lit, unit_lit, size_lit, size_word, align_word, of_opd, bin, addr, and_then, no_more, assigns_last, first, branches, skips, switches_on, blocks, exec, returns, enter}
-pub use types.ByLocal.{alloc_all, pass_all, free_all, look_at, take_at, give_at, get, get_in, get_tag, through, sets, sets_last, lands_as, lands_last, is, env}
+pub use types.Run.{init, stop, fld, from, lit, unit_lit, size_lit, size_word, align_word, of_opd, bin, addr, and_then, no_more}
+pub use types.Run.{assigns_last, first, branches, skips, switches_on, blocks, exec, returns, enter}
+pub use types.ByLocal.{alloc_all, pass_all, free_all, look_at, take_at, give_at, get, get_in, get_tag, through, sets, sets_last, lands_as}
+pub use types.ByLocal.{lands_last, is, env}
 pub use denote.Exit.{yes, no}
 pub use denote.RattleType.{RattleType, Valss, owns}
 pub use denote.Laws.{Typed, Is, shows}
@@ -56,8 +60,10 @@ pub use denote.Triple.Entry.{on_entry}
 pub use denote.Triple.Spec.{Meets, triple_of}
 pub use denote.Triple.Statement.{Triple}
 pub use denote.Triple.Table.{entered, run_framed}
-pub use denote.Triple.Walked.{says, needs, Stays, stay_dropped, stay_ref, walk_of, ends_at, Goes-dropped, Goes-ref, Goes-spent_ref, walk_Meets}
-pub use Rattle.core.proofs.alloc.Calls.{Al, second, token, takes_key, Takes, at_takes, Takes-goes, Takes-gives, Answered, Answer-typed, answers, gives_key, Gives, at_gives, Gives-goes, Gives-Gives, Goes-blank}
+pub use denote.Triple.Walked.{says, needs, Stays, stay_dropped, stay_ref, walk_of, ends_at, Goes-dropped, Goes-ref, Goes-spent_ref}
+pub use denote.Triple.Walked.{walk_Meets}
+pub use Rattle.core.proofs.alloc.Calls.{Al, second, token, takes_key, Takes, at_takes, Takes-goes, Takes-gives, Answered, Answer-typed}
+pub use Rattle.core.proofs.alloc.Calls.{answers, gives_key, Gives, at_gives, Gives-goes, Gives-Gives, Goes-blank}
 pub use Rattle.core.proofs.alloc.Shapes.{after, head, arm_body}
 pub use Rattle.core.proofs.mem.Param.{El, R, el_x, elτ, args}
 pub use Rattle.core.proofs.ptr.Rows.{times_below, one_below}

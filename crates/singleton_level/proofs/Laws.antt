@@ -31,7 +31,8 @@ length_then x [] = refl
 length_then x (y ∷ xs) = let k = length_then x xs in omega (arith, k)
 
 -- a level with a coordinate more
-pub appended_keeps : (l : SingletonLevel) (x spare : ℕ) → KeepsRules l → MayAppend (letter_of l.unique) l.size x (log_of l) → length l.coords + 1 ≤ greatest_position_count → KeepsRules (record l { coords = l.coords ++ x ∷ []; spare = spare })
+pub appended_keeps : (l : SingletonLevel) (x spare : ℕ) → KeepsRules l → MayAppend (letter_of l.unique) l.size x (log_of l)
+    → length l.coords + 1 ≤ greatest_position_count → KeepsRules (record l { coords = l.coords ++ x ∷ []; spare = spare })
 appended_keeps l x spare k may room = record {
   small = k.small;
   few = let long = length_then x l.coords in omega (arith, long, room);
@@ -51,7 +52,8 @@ edges_log true parent begin end log = refl
 edges_log false parent begin end log = refl
 
 -- each parent of a finished level is allowed
-pub allowed_finished : (l : SingletonLevel) (parents p : ℕ) → KeepsRules l → MayFinish parents (log_of l) → p < parents → IsAllowed (record l { stage = Finished }) (one p)
+pub allowed_finished : (l : SingletonLevel) (parents p : ℕ) → KeepsRules l → MayFinish parents (log_of l) → p < parents
+    → IsAllowed (record l { stage = Finished }) (one p)
 allowed_finished l parents p k may h = let all = all_given l parents may in record {
   keeps = finished_keeps l parents k may;
   readable = λ same. absurd (apart same);
@@ -63,38 +65,50 @@ allowed_finished l parents p k may h = let all = all_given l parents may in reco
     apart h = cc
 
 -- what the calls leave of a level's fields, where the level is what they are seen as
-pub reserve_logs : (v old : SingletonLevel) (coords : List ℕ) (known parents : ℕ) → v ≡ old → coords ≡ v.coords → known ≡ max v.parents parents → log_with Unfinished coords known ≡ with_parents (letter_of old.unique) parents (log_of old)
+pub reserve_logs : (v old : SingletonLevel) (coords : List ℕ) (known parents : ℕ) → v ≡ old → coords ≡ v.coords
+    → known ≡ max v.parents parents → log_with Unfinished coords known ≡ with_parents (letter_of old.unique) parents (log_of old)
 reserve_logs v old coords known parents is same more =
-    ap (λ xs. log_with Unfinished xs known) same ∙ ap (log_with Unfinished v.coords) more ∙ reserved_logs v parents ∙ ap (λ l. with_parents (letter_of l.unique) parents (log_of l)) is
+    ap (λ xs. log_with Unfinished xs known) same ∙ ap (log_with Unfinished v.coords) more ∙ reserved_logs v parents
+    ∙ ap (λ l. with_parents (letter_of l.unique) parents (log_of l)) is
 
-pub push_keeps : (v old : SingletonLevel) (coords : List ℕ) (x spare : ℕ) → v ≡ old → KeepsRules v → MayAppend (letter_of old.unique) old.size x (log_of old) → length old.coords < greatest_position_count → coords ≡ v.coords ++ x ∷ [] → KeepsRules (record v { coords = coords; spare = spare })
+pub push_keeps : (v old : SingletonLevel) (coords : List ℕ) (x spare : ℕ) → v ≡ old → KeepsRules v
+    → MayAppend (letter_of old.unique) old.size x (log_of old) → length old.coords < greatest_position_count → coords ≡ v.coords ++ x ∷ []
+    → KeepsRules (record v { coords = coords; spare = spare })
 push_keeps v old coords x spare is k may room pushed =
     let may_here = subst (λ l. MayAppend (letter_of l.unique) l.size x (log_of l)) (sym is) may in
     let room_here : length v.coords < greatest_position_count = subst (λ l. length l.coords < greatest_position_count) (sym is) room in
-    subst (λ xs. KeepsRules (record v { coords = xs; spare = spare })) (sym pushed) (appended_keeps v x spare k may_here (omega (arith, room_here)))
+    subst (λ xs. KeepsRules (record v { coords = xs; spare = spare })) (sym pushed)
+    (appended_keeps v x spare k may_here (omega (arith, room_here)))
 
 pub rises_where_unique : (l : SingletonLevel) (parent : Span) → IsAllowed l parent → l.unique ≡ true → Rises true 0 (slice l.coords parent)
 rises_where_unique l parent ok u = subst (λ b. Rises b 0 (slice l.coords parent)) u ok.rise
 
 -- a position of an allowed parent has a coordinate
-pub coord_inside : (coords : List ℕ) (pos : ℕ) (l : SingletonLevel) (parent : Span) → coords ≡ l.coords → IsAllowed l parent → IsIn pos parent → pos < length coords
+pub coord_inside : (coords : List ℕ) (pos : ℕ) (l : SingletonLevel) (parent : Span) → coords ≡ l.coords → IsAllowed l parent
+    → IsIn pos parent → pos < length coords
 coord_inside coords pos l parent is ok i = subst (λ xs. pos < length xs) (sym is) (omega (arith, i.1, ok.within.inside))
 
-pub coord_read : (coords : List ℕ) (pos x : ℕ) (l : SingletonLevel) (parent : Span) → coords ≡ l.coords → slice_get coords pos ≡ Some x → IsAllowed l parent → IsIn pos parent → Some x ≡ coord_at (entries_of l parent) pos
-coord_read coords pos x l parent is h ok i = sym h ∙ subst (λ xs. slice_get coords pos ≡ slice_get xs pos) is refl ∙ sym (entries_coord l.coords parent pos ok.within.inside i)
+pub coord_read : (coords : List ℕ) (pos x : ℕ) (l : SingletonLevel) (parent : Span) → coords ≡ l.coords → slice_get coords pos ≡ Some x
+    → IsAllowed l parent → IsIn pos parent → Some x ≡ coord_at (entries_of l parent) pos
+coord_read coords pos x l parent is h ok i = sym h ∙ subst (λ xs. slice_get coords pos ≡ slice_get xs pos) is refl
+    ∙ sym (entries_coord l.coords parent pos ok.within.inside i)
 
 -- the first position of a child stands before the end of the parent, which has coordinates
-pub child_first : (coords : List ℕ) (pos : ℕ) (segment : Span) (l : SingletonLevel) (parent : Span) (e : Entry) → coords ≡ l.coords → IsAllowed l parent → parent ≡ segment → StandsAt pos e (entries_of l parent) → (pos < segment.hi) × (segment.hi ≤ length coords)
+pub child_first : (coords : List ℕ) (pos : ℕ) (segment : Span) (l : SingletonLevel) (parent : Span) (e : Entry) → coords ≡ l.coords
+    → IsAllowed l parent → parent ≡ segment → StandsAt pos e (entries_of l parent) → (pos < segment.hi) × (segment.hi ≤ length coords)
 child_first coords pos segment l parent e is ok same h =
     let g = entry_is_group l.coords parent e pos ok.within.inside h in
     let at = stands_where (entries_between l.coords parent) e pos h in
-    subst (λ s. (pos < s.hi) × (s.hi ≤ length coords)) same (omega (arith, at, g.some, g.inside), subst (λ xs. parent.hi ≤ length xs) (sym is) ok.within.inside)
+    subst (λ s. (pos < s.hi)
+    × (s.hi ≤ length coords)) same (omega (arith, at, g.some, g.inside), subst (λ xs. parent.hi ≤ length xs) (sym is) ok.within.inside)
 
-pub child_read : (coords : List ℕ) (pos end : ℕ) (segment : Span) (l : SingletonLevel) (parent : Span) (e : Entry) → coords ≡ l.coords → parent ≡ segment → StandsAt pos e (entries_of l parent)
+pub child_read : (coords : List ℕ) (pos end : ℕ) (segment : Span) (l : SingletonLevel) (parent : Span) (e : Entry) → coords ≡ l.coords
+    → parent ≡ segment → StandsAt pos e (entries_of l parent)
     → ((s : Span) (e : Entry) → s.hi ≡ segment.hi → StandsAt pos e (entries_between coords s) → end ≡ e.child.hi) → span pos end ≡ e.child
 child_read coords pos end segment l parent e is same h found =
     let at = stands_where (entries_between l.coords parent) e pos h in
-    let ends = found parent e (subst (λ s. parent.hi ≡ s.hi) same refl) (subst (λ xs. StandsAt pos e (entries_between xs parent)) (sym is) h) in
+    let ends = found parent e (subst (λ s. parent.hi ≡ s.hi) same refl)
+    (subst (λ xs. StandsAt pos e (entries_between xs parent)) (sym is) h) in
     spans_are pos end e.child at ends
   where
     spans_are : (lo hi : ℕ) (s : Span) → s.lo ≡ lo → hi ≡ s.hi → span lo hi ≡ s

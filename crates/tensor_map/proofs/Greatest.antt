@@ -14,13 +14,17 @@ pub record GreatestBelow (entries : List Entry) (mode n coordinate : ℕ) : Type
 abbrev pub SoFar : List Entry → ℕ → ℕ → Option ℕ → Type 0
 SoFar entries mode n greatest = MatchOption greatest (n ≡ 0) (GreatestBelow entries mode n)
 
-most_more : (entries : List Entry) (mode n c r : ℕ) → ((d : Entry) → get_or (get_or entries n d).coords mode 0 ≡ c) → c ≤ r → ((k : ℕ) (d : Entry) → k < n → get_or (get_or entries k d).coords mode 0 ≤ r) → (k : ℕ) (d : Entry) → k < n + 1 → get_or (get_or entries k d).coords mode 0 ≤ r
+most_more : (entries : List Entry) (mode n c r : ℕ) → ((d : Entry) → get_or (get_or entries n d).coords mode 0 ≡ c) → c ≤ r
+    → ((k : ℕ) (d : Entry) → k < n → get_or (get_or entries k d).coords mode 0 ≤ r) → (k : ℕ) (d : Entry) → k < n + 1
+    → get_or (get_or entries k d).coords mode 0 ≤ r
 most_more entries mode n c r here last before k d h =
     let e : get_or (get_or entries n d).coords mode 0 ≡ c = here d in
     below_more (λ j. get_or (get_or entries j d).coords mode 0 ≤ r) n (λ j i. before j d i) (omega arith) k h
 
 -- one more entry, whose coordinate is c
-pub greatest_more : (entries : List Entry) (mode n c r : ℕ) (so_far : Option ℕ) → ((d : Entry) → get_or (get_or entries n d).coords mode 0 ≡ c) → MatchOption so_far (r ≡ c) (λ most. r ≡ max most c) → SoFar entries mode n so_far → GreatestBelow entries mode (n + 1) r
+pub greatest_more : (entries : List Entry) (mode n c r : ℕ) (so_far : Option ℕ)
+    → ((d : Entry) → get_or (get_or entries n d).coords mode 0 ≡ c) → MatchOption so_far (r ≡ c) (λ most. r ≡ max most c)
+    → SoFar entries mode n so_far → GreatestBelow entries mode (n + 1) r
 greatest_more entries mode n c r None here is none = record {
   found = (n, omega arith, λ d. here d ∙ sym is);
   most = most_more entries mode n c r here (omega arith) (λ k d h. absurd (omega arith));

@@ -1,5 +1,6 @@
 -- The loop that adds equal neighbours in place.
-use Rattle.std.proofs.Common.{◌≡◌, ℕ, ◌+◌, ◌<◌, ◌≤◌, List, [], ◌∷◌, ◌++◌, length, get_or, take, drop, true, false, refl, sym, ◌∙◌, ap, arith, append_assoc}
+use Rattle.std.proofs.Common.{◌≡◌, ℕ, ◌+◌, ◌<◌, ◌≤◌, List, [], ◌∷◌, ◌++◌, length, get_or, take, drop, true, false, refl, sym, ◌∙◌, ap}
+use Rattle.std.proofs.Common.{arith, append_assoc}
 use Rattle.std.specs.Prelude.{nat_eq}
 use Rattle.std.specs.List.{SwappedAt}
 use Rattle.std.specs.Cmp.Lexicographic.{pointwise}
@@ -46,7 +47,8 @@ module _ (a : Arithmetic) where
         ∙ sym (ap (λ es. take last es ++ summed_from a (get_or es last d) (drop (next + 1) es)) (set_is d)
         ∙ ap (λ es. es ++ summed_from a (get_or now last d) (drop (next + 1) now)) (take-set current last (joined a x y))
         ∙ ap (λ e. take last current ++ summed_from a e (drop (next + 1) now)) (get_or-set_same current last (joined a x y) d last_in)
-        ∙ ap (λ es. take last current ++ summed_from a (joined a x y) es) (drop-set-lt (next + 1) current last (joined a x y) (omega (arith, so.behind))));
+        ∙ ap (λ es. take last current
+        ++ summed_from a (joined a x y) es) (drop-set-lt (next + 1) current last (joined a x y) (omega (arith, so.behind))));
   }
 
   pub adds_other : (initial current new : List Entry) (last next : ℕ) → Adds a initial current last next → next < length initial
@@ -67,9 +69,11 @@ module _ (a : Arithmetic) where
         let last_in : last < length current = omega (arith, so.behind, so.long) in
         let next_in : next < length current = omega (arith, so.long) in
         let front : take (last + 1) new ≡ take last current ++ x ∷ [] =
-        ap (take (last + 1)) (swapped.3 d) ∙ take-set-le (last + 1) once next w (omega (arith, so.behind)) ∙ take-set-le (last + 1) current (last + 1) y (omega arith) ∙ take_more current last d last_in in
+        ap (take (last + 1)) (swapped.3 d) ∙ take-set-le (last + 1) once next w (omega (arith, so.behind))
+        ∙ take-set-le (last + 1) current (last + 1) y (omega arith) ∙ take_more current last d last_in in
         let back : drop (next + 1) new ≡ drop (next + 1) current =
-        ap (drop (next + 1)) (swapped.3 d) ∙ drop-set-lt (next + 1) once next w (omega arith) ∙ drop-set-lt (next + 1) current (last + 1) y (omega (arith, so.behind)) in
+        ap (drop (next + 1)) (swapped.3 d) ∙ drop-set-lt (next + 1) once next w (omega arith)
+        ∙ drop-set-lt (next + 1) current (last + 1) y (omega (arith, so.behind)) in
         so.is d
         ∙ ap (λ es. take last current ++ summed_from a x es) (drop_more current next d next_in)
         ∙ ap (λ es. take last current ++ es) (summed_other a x y (drop (next + 1) current) (tested d))
@@ -80,8 +84,10 @@ module _ (a : Arithmetic) where
   }
 
   -- at the end
-  pub adds_all : (initial current : List Entry) (last next : ℕ) → Adds a initial current last next → length initial ≤ next → take (last + 1) current ≡ summed a initial
+  pub adds_all : (initial current : List Entry) (last next : ℕ) → Adds a initial current last next → length initial ≤ next
+      → take (last + 1) current ≡ summed a initial
   adds_all initial current last next so h =
       let last_in : last < length current = omega (arith, so.behind, so.long, so.within) in
       take_more current last blank last_in
-      ∙ sym (so.is blank ∙ ap (λ es. take last current ++ summed_from a (get_or current last blank) es) (drop_all next current (omega (arith, so.long))))
+      ∙ sym (so.is blank ∙ ap (λ es. take last current
+      ++ summed_from a (get_or current last blank) es) (drop_all next current (omega (arith, so.long))))

@@ -25,7 +25,9 @@ before_trans (x ∷ xs) (y ∷ ys) (z ∷ zs) (inl p) (inr q) = inl (omega (arit
 before_trans (x ∷ xs) (y ∷ ys) (z ∷ zs) (inr p) (inl q) = inl (omega (arith, p.0))
 before_trans (x ∷ xs) (y ∷ ys) (z ∷ zs) (inr p) (inr q) = inr (p.0 ∙ q.0, before_trans xs ys zs p.1 q.1)
 
-compared_step : (x y : ℕ) (xs ys : List ℕ) (r s : Ordering) → MatchOrdering r (x < y) (x ≡ y) (y < x) → MatchOrdering s (IsBefore xs ys) (xs ≡ ys) (IsBefore ys xs) → MatchOrdering (ordering_then r s) (IsBefore (x ∷ xs) (y ∷ ys)) (x ∷ xs ≡ y ∷ ys) (IsBefore (y ∷ ys) (x ∷ xs))
+compared_step : (x y : ℕ) (xs ys : List ℕ) (r s : Ordering) → MatchOrdering r (x < y) (x ≡ y) (y < x)
+    → MatchOrdering s (IsBefore xs ys) (xs ≡ ys) (IsBefore ys xs)
+    → MatchOrdering (ordering_then r s) (IsBefore (x ∷ xs) (y ∷ ys)) (x ∷ xs ≡ y ∷ ys) (IsBefore (y ∷ ys) (x ∷ xs))
 compared_step x y xs ys Less s h g = inl h
 compared_step x y xs ys Greater s h g = inl h
 compared_step x y xs ys Equal Less h g = inr (h, g)
@@ -37,9 +39,11 @@ pub compared : (xs ys : List ℕ) → MatchOrdering (slice_cmp nat_cmp xs ys) (I
 compared [] [] = refl
 compared [] (y ∷ ys) = tt
 compared (x ∷ xs) [] = tt
-compared (x ∷ xs) (y ∷ ys) = compared_step x y xs ys (nat_cmp x y) (slice_cmp nat_cmp xs ys) (ranked x y (nat_cmp x y) refl) (compared xs ys)
+compared (x ∷ xs) (y ∷ ys) =
+    compared_step x y xs ys (nat_cmp x y) (slice_cmp nat_cmp xs ys) (ranked x y (nat_cmp x y) refl) (compared xs ys)
 
-pub compared_as : (xs ys : List ℕ) (r : Ordering) → slice_cmp nat_cmp xs ys ≡ r → MatchOrdering r (IsBefore xs ys) (xs ≡ ys) (IsBefore ys xs)
+pub compared_as : (xs ys : List ℕ) (r : Ordering) → slice_cmp nat_cmp xs ys ≡ r
+    → MatchOrdering r (IsBefore xs ys) (xs ≡ ys) (IsBefore ys xs)
 compared_as xs ys r e = subst (λ o. MatchOrdering o (IsBefore xs ys) (xs ≡ ys) (IsBefore ys xs)) e (compared xs ys)
 
 -- before a list that is before, or is, each of the others

@@ -53,20 +53,24 @@ module _ (a : Arithmetic) (laws : Laws a) where
   unfolding without
   total_without [] i d h = absurd (omega arith)
   total_without (x ∷ xs) zero d h = refl
-  total_without (x ∷ xs) (suc i) d h = ap (a.plus x) (total_without xs i d (omega arith)) ∙ plus_swap a laws x (get_or xs i d) (total_of a (without xs i))
+  total_without (x ∷ xs) (suc i) d h = ap (a.plus x) (total_without xs i d (omega arith))
+      ∙ plus_swap a laws x (get_or xs i d) (total_of a (without xs i))
 
-  total_without_both : (xs : List ℕ) (i j d : ℕ) → i < length xs → j < length xs → i ≢ j → total_of a xs ≡ a.plus (get_or xs i d) (a.plus (get_or xs j d) (total_of a (without_both xs i j)))
+  total_without_both : (xs : List ℕ) (i j d : ℕ) → i < length xs → j < length xs → i ≢ j
+      → total_of a xs ≡ a.plus (get_or xs i d) (a.plus (get_or xs j d) (total_of a (without_both xs i j)))
   unfolding without without_both
   total_without_both [] i j d h g apart = absurd (omega arith)
   total_without_both (x ∷ xs) zero zero d h g apart = absurd (apart refl)
   total_without_both (x ∷ xs) zero (suc j) d h g apart = ap (a.plus x) (total_without xs j d (omega arith))
-  total_without_both (x ∷ xs) (suc i) zero d h g apart = ap (a.plus x) (total_without xs i d (omega arith)) ∙ plus_swap a laws x (get_or xs i d) (total_of a (without xs i))
+  total_without_both (x ∷ xs) (suc i) zero d h g apart = ap (a.plus x) (total_without xs i d (omega arith))
+      ∙ plus_swap a laws x (get_or xs i d) (total_of a (without xs i))
   total_without_both (x ∷ xs) (suc i) (suc j) d h g apart =
       ap (a.plus x) (total_without_both xs i j d (omega arith) (omega arith) (λ e. apart (ap (λ n. suc n) e)))
       ∙ plus_swap a laws x (get_or xs i d) (a.plus (get_or xs j d) (total_of a (without_both xs i j)))
       ∙ ap (a.plus (get_or xs i d)) (plus_swap a laws x (get_or xs j d) (total_of a (without_both xs i j)))
 
-  total_exchanged : (xs : List ℕ) (i j d : ℕ) → i < length xs → j < length xs → total_of a (set (set xs i (get_or xs j d)) j (get_or xs i d)) ≡ total_of a xs
+  total_exchanged : (xs : List ℕ) (i j d : ℕ) → i < length xs → j < length xs
+      → total_of a (set (set xs i (get_or xs j d)) j (get_or xs i d)) ≡ total_of a xs
   total_exchanged xs i j d h g = elim (cases_eq i j) [
     | inl is ↦ (
         let once : List ℕ = set xs i (get_or xs j d) in
@@ -100,7 +104,8 @@ module _ (a : Arithmetic) (laws : Laws a) where
 
   -- a sum of values doesn't depend on their order
   pub total_permutation : (xs ys : List ℕ) → IsPermutation xs ys → total_of a ys ≡ total_of a xs
-  total_permutation xs ys moved = IsPermutation-keeps xs (λ zs. total_of a zs ≡ total_of a xs) refl (λ zs i j h g e. total_swap zs i j h g ∙ e) ys moved
+  total_permutation xs ys moved = IsPermutation-keeps xs (λ zs. total_of a zs ≡ total_of a xs) refl (λ zs i j h g e. total_swap zs i j h g
+      ∙ e) ys moved
 
   -- what an entry adds at a coordinate list
   share : List ℕ → Entry → ℕ
@@ -111,16 +116,22 @@ module _ (a : Arithmetic) (laws : Laws a) where
   shared coords [] = refl
   shared coords (entry ∷ entries) = by (is_at coords entry) refl (shared coords entries)
     where
-      by : (b : Bool) → is_at coords entry ≡ b → total_of a (map (share coords) entries) ≡ value_at a entries coords → a.plus (cond b entry.value a.zero) (total_of a (map (share coords) entries)) ≡ value_at a (entry ∷ entries) coords
+      by : (b : Bool) → is_at coords entry ≡ b → total_of a (map (share coords) entries) ≡ value_at a entries coords
+          → a.plus (cond b entry.value a.zero) (total_of a (map (share coords) entries)) ≡ value_at a (entry ∷ entries) coords
       by true e rest = ap (a.plus entry.value) rest ∙ sym (value_here a coords entry entries e)
-      by false e rest = zero_before a laws (total_of a (map (share coords) entries)) (total_fits a laws (map (share coords) entries)) ∙ rest ∙ sym (value_elsewhere a coords entry entries e)
+      by false e rest = zero_before a laws (total_of a (map (share coords) entries)) (total_fits a laws (map (share coords) entries))
+          ∙ rest ∙ sym (value_elsewhere a coords entry entries e)
 
   -- nor does the value at a coordinate list
-  pub value_permutation : (entries moved : List Entry) → IsPermutation entries moved → (coords : List ℕ) → value_at a moved coords ≡ value_at a entries coords
+  pub value_permutation : (entries moved : List Entry) → IsPermutation entries moved → (coords : List ℕ)
+      → value_at a moved coords ≡ value_at a entries coords
   value_permutation entries moved is coords =
-      sym (shared coords moved) ∙ total_permutation (map (share coords) entries) (map (share coords) moved) (IsPermutation-map (share coords) entries moved is) ∙ shared coords entries
+      sym (shared coords moved)
+      ∙ total_permutation (map (share coords) entries) (map (share coords) moved) (IsPermutation-map (share coords) entries moved is)
+      ∙ shared coords entries
 
-listed_place : (coords : List ℕ) (entries : List Entry) (k : ℕ) → k < length (coords_of entries) → get_or (coords_of entries) k coords ≡ coords → Listed entries coords
+listed_place : (coords : List ℕ) (entries : List Entry) (k : ℕ) → k < length (coords_of entries)
+    → get_or (coords_of entries) k coords ≡ coords → Listed entries coords
 listed_place coords [] k h is = absurd (omega arith)
 listed_place coords (entry ∷ entries) zero h is = inl is
 listed_place coords (entry ∷ entries) (suc k) h is = inr (listed_place coords entries k (omega arith) is)
@@ -128,8 +139,11 @@ listed_place coords (entry ∷ entries) (suc k) h is = inr (listed_place coords 
 -- so they don't depend on the order either
 moved_listed : (entries moved : List Entry) → IsPermutation entries moved → (coords : List ℕ) → Listed entries coords → Listed moved coords
 moved_listed entries moved is coords listed =
-    let there = Contains-permutation (coords_of entries) (coords_of moved) coords (IsPermutation-map (λ (entry : Entry). entry.coords) entries moved is) (place_of coords entries listed) in
+    let there = Contains-permutation (coords_of entries) (coords_of moved) coords
+    (IsPermutation-map (λ (entry : Entry). entry.coords) entries moved is) (place_of coords entries listed) in
     listed_place coords moved there.0 there.1 there.2
 
-pub listed_permutation : (entries moved : List Entry) → IsPermutation entries moved → (coords : List ℕ) → Listed moved coords ↔ Listed entries coords
-listed_permutation entries moved is coords = (moved_listed moved entries (IsPermutation-sym entries moved is) coords, moved_listed entries moved is coords)
+pub listed_permutation : (entries moved : List Entry) → IsPermutation entries moved → (coords : List ℕ)
+    → Listed moved coords ↔ Listed entries coords
+listed_permutation entries moved is coords =
+    (moved_listed moved entries (IsPermutation-sym entries moved is) coords, moved_listed entries moved is coords)

@@ -1,5 +1,6 @@
 -- A stable sort by coordinates: what it leaves never falls, and has the same values at each coordinate list.
-use Rattle.std.specs.Prelude.{◌≡◌, ◌≢◌, ℕ, suc, ◌<◌, ◌≤◌, Bool, true, false, not, ◌&&◌, cond, List, [], ◌∷◌, ◌++◌, length, take, filter, map, All, ◌⊎◌, ◌↔◌, refl, slice_index_or}
+use Rattle.std.specs.Prelude.{◌≡◌, ◌≢◌, ℕ, suc, ◌<◌, ◌≤◌, Bool, true, false, not, ◌&&◌, cond, List, [], ◌∷◌, ◌++◌, length, take, filter}
+use Rattle.std.specs.Prelude.{map, All, ◌⊎◌, ◌↔◌, refl, slice_index_or}
 use Rattle.std.specs.declared.cmp.Ordering.{Ordering}
 use Rattle.std.specs.declared.cmp.Ordering.TheVariants.{Less, Equal, Greater}
 use Rattle.std.specs.Ordering.{nat_cmp, is_lt, ordering_reverse}
@@ -33,14 +34,18 @@ not_before xs ys Less e h = absurd (cc)
 not_before xs ys Equal e h = inr (sym (compared_as xs ys Equal e))
 not_before xs ys Greater e h = inl (compared_as xs ys Greater e)
 
-not_after_from : (coords : List ℕ) (entries : List Entry) → ((k : ℕ) (d : Entry) → k < length entries → is_lt (slice_cmp nat_cmp (slice_index_or entries k d).coords coords) ≡ false) → IsNotAfterAll coords entries
+not_after_from : (coords : List ℕ) (entries : List Entry)
+    → ((k : ℕ) (d : Entry) → k < length entries → is_lt (slice_cmp nat_cmp (slice_index_or entries k d).coords coords) ≡ false)
+    → IsNotAfterAll coords entries
 not_after_from coords [] h = tt
 not_after_from coords (entry ∷ entries) h = (
   not_before entry.coords coords (slice_cmp nat_cmp entry.coords coords) refl (h 0 entry (omega arith)),
   not_after_from coords entries (λ k d i. h (suc k) d (omega arith)),
 )
 
-never_falls_from : (entries : List Entry) → ((i j : ℕ) (d : Entry) → i ≤ j → j < length entries → is_before (slice_index_or entries j d) (slice_index_or entries i d) ≡ false) → NeverFalls entries
+never_falls_from : (entries : List Entry)
+    → ((i j : ℕ) (d : Entry) → i ≤ j → j < length entries → is_before (slice_index_or entries j d) (slice_index_or entries i d) ≡ false)
+    → NeverFalls entries
 never_falls_from [] h = tt
 never_falls_from (entry ∷ entries) h = (
   not_after_from entry.coords entries (λ k d i. h 0 (suc k) d (omega arith) (omega arith)),
@@ -51,16 +56,20 @@ pub never_falls : (entries : List Entry) → IsSortedBy is_before entries → Ne
 never_falls entries sorted = never_falls_from entries (sorted_far is_before is_before_orders entries sorted)
 
 -- two lists tie where they are the same
-ties_as : (xs ys : List ℕ) (r : Ordering) → slice_cmp nat_cmp xs ys ≡ r → ys ≢ xs → (not (is_lt r) && not (is_lt (ordering_reverse r))) ≡ false
+ties_as : (xs ys : List ℕ) (r : Ordering) → slice_cmp nat_cmp xs ys ≡ r → ys ≢ xs
+    → (not (is_lt r) && not (is_lt (ordering_reverse r))) ≡ false
 ties_as xs ys Less e isnt = refl
 ties_as xs ys Equal e isnt = absurd (isnt (sym (compared_as xs ys Equal e)))
 ties_as xs ys Greater e isnt = refl
 
-ties_at : (coords : List ℕ) (value : ℕ) (entry : Entry) → ties is_before (record { coords = coords; value = value }) entry ≡ is_at coords entry
+ties_at : (coords : List ℕ) (value : ℕ) (entry : Entry)
+    → ties is_before (record { coords = coords; value = value }) entry ≡ is_at coords entry
 ties_at coords value entry = elim (tested entry.coords coords) [
   | same is t ↦ (
-      let level : slice_cmp nat_cmp coords entry.coords ≡ Equal = ap (slice_cmp nat_cmp coords) is ∙ tied_itself nat_list_cmp_total coords in
-      let back : slice_cmp nat_cmp entry.coords coords ≡ Equal = ap (λ xs. slice_cmp nat_cmp xs coords) is ∙ tied_itself nat_list_cmp_total coords in
+      let level : slice_cmp nat_cmp coords entry.coords ≡ Equal = ap (slice_cmp nat_cmp coords) is
+      ∙ tied_itself nat_list_cmp_total coords in
+      let back : slice_cmp nat_cmp entry.coords coords ≡ Equal = ap (λ xs. slice_cmp nat_cmp xs coords) is
+      ∙ tied_itself nat_list_cmp_total coords in
       (λ i. not (is_lt (level i)) && not (is_lt (back i))) ∙ sym t)
   | other isnt t ↦ (
       (λ i. not (is_lt (slice_cmp nat_cmp coords entry.coords)) && not (is_lt (nat_list_cmp_total.antisymm entry.coords coords i)))
@@ -68,11 +77,15 @@ ties_at coords value entry = elim (tested entry.coords coords) [
 ]
 
 -- so a stable sort keeps the entries at each coordinate list, in their order
-pub same_at : (coords : List ℕ) (old sorted : List Entry) → ((x : Entry) → filter (ties is_before x) sorted ≡ filter (ties is_before x) old) → filter (is_at coords) sorted ≡ filter (is_at coords) old
+pub same_at : (coords : List ℕ) (old sorted : List Entry)
+    → ((x : Entry) → filter (ties is_before x) sorted ≡ filter (ties is_before x) old)
+    → filter (is_at coords) sorted ≡ filter (is_at coords) old
 same_at coords old sorted stable =
-    (λ i. filter (λ entry. sym (ties_at coords 0 entry) i) sorted) ∙ stable (record { coords = coords; value = 0 }) ∙ (λ i. filter (λ entry. ties_at coords 0 entry i) old)
+    (λ i. filter (λ entry. sym (ties_at coords 0 entry) i) sorted) ∙ stable (record { coords = coords; value = 0 })
+    ∙ (λ i. filter (λ entry. ties_at coords 0 entry i) old)
 
-pub same_values : (old sorted : List Entry) → ((x : Entry) → filter (ties is_before x) sorted ≡ filter (ties is_before x) old) → (coords : List ℕ) → values_at sorted coords ≡ values_at old coords
+pub same_values : (old sorted : List Entry) → ((x : Entry) → filter (ties is_before x) sorted ≡ filter (ties is_before x) old)
+    → (coords : List ℕ) → values_at sorted coords ≡ values_at old coords
 same_values old sorted stable coords = ap (map (λ (entry : Entry). entry.value)) (same_at coords old sorted stable)
 
 listed_kept : (coords : List ℕ) (entries : List Entry) → Listed entries coords → Listed (filter (is_at coords) entries) coords
@@ -83,7 +96,8 @@ listed_kept coords (entry ∷ entries) h = elim (tested entry.coords coords) [
       (elim h [ inl here ↦ absurd (isnt here) | inr more ↦ listed_kept coords entries more ])
 ]
 
-kept_more : (b : Bool) (coords : List ℕ) (entry : Entry) (kept entries : List Entry) → (Listed kept coords → Listed entries coords) → Listed (cond b (entry ∷ kept) kept) coords → Listed (entry ∷ entries) coords
+kept_more : (b : Bool) (coords : List ℕ) (entry : Entry) (kept entries : List Entry) → (Listed kept coords → Listed entries coords)
+    → Listed (cond b (entry ∷ kept) kept) coords → Listed (entry ∷ entries) coords
 kept_more true coords entry kept entries more (inl here) = inl here
 kept_more true coords entry kept entries more (inr there) = inr (more there)
 kept_more false coords entry kept entries more h = inr (more h)
@@ -93,10 +107,13 @@ pub kept_listed : (p : Entry → Bool) (coords : List ℕ) (entries : List Entry
 kept_listed p coords [] h = h
 kept_listed p coords (entry ∷ entries) h = kept_more (p entry) coords entry (filter p entries) entries (kept_listed p coords entries) h
 
-pub same_listed : (old sorted : List Entry) → ((x : Entry) → filter (ties is_before x) sorted ≡ filter (ties is_before x) old) → (coords : List ℕ) → Listed sorted coords ↔ Listed old coords
+pub same_listed : (old sorted : List Entry) → ((x : Entry) → filter (ties is_before x) sorted ≡ filter (ties is_before x) old)
+    → (coords : List ℕ) → Listed sorted coords ↔ Listed old coords
 same_listed old sorted stable coords = (
-  λ h. kept_listed (is_at coords) coords old (subst (λ es. Listed es coords) (same_at coords old sorted stable) (listed_kept coords sorted h)),
-  λ h. kept_listed (is_at coords) coords sorted (subst (λ es. Listed es coords) (sym (same_at coords old sorted stable)) (listed_kept coords old h)),
+  λ h. kept_listed (is_at coords) coords old
+      (subst (λ es. Listed es coords) (same_at coords old sorted stable) (listed_kept coords sorted h)),
+  λ h. kept_listed (is_at coords) coords sorted
+      (subst (λ es. Listed es coords) (sym (same_at coords old sorted stable)) (listed_kept coords old h)),
 )
 
 -- sums of entries are entries
@@ -104,12 +121,15 @@ module _ (a : Arithmetic) (laws : Laws a) (order : ℕ) where
   joined_entry : (entry next : Entry) → IsEntry order entry → IsEntry order (joined a entry next)
   joined_entry entry next is = record { long = is.long; words = is.words; word = laws.plus_fits entry.value next.value }
 
-  all_summed_from : (entry : Entry) (others : List Entry) → IsEntry order entry → All (IsEntry order) others → All (IsEntry order) (summed_from a entry others)
+  all_summed_from : (entry : Entry) (others : List Entry) → IsEntry order entry → All (IsEntry order) others
+      → All (IsEntry order) (summed_from a entry others)
   all_summed_from entry [] is all = All-cons (IsEntry order) entry [] is all
   all_summed_from entry (next ∷ others) is all = elim (tested next.coords entry.coords) [
-    | same e t ↦ subst (All (IsEntry order)) (sym (summed_same a entry next others t)) (all_summed_from (joined a entry next) others (joined_entry entry next is) (All-tail (IsEntry order) next others all))
+    | same e t ↦ subst (All (IsEntry order)) (sym (summed_same a entry next others t))
+        (all_summed_from (joined a entry next) others (joined_entry entry next is) (All-tail (IsEntry order) next others all))
     | other e t ↦ subst (All (IsEntry order)) (sym (summed_other a entry next others t))
-        (All-cons (IsEntry order) entry (summed_from a next others) is (all_summed_from next others (all 0 next (omega arith)) (All-tail (IsEntry order) next others all)))
+        (All-cons (IsEntry order) entry (summed_from a next others) is
+        (all_summed_from next others (all 0 next (omega arith)) (All-tail (IsEntry order) next others all)))
   ]
 
   pub all_summed : (entries : List Entry) → All (IsEntry order) entries → All (IsEntry order) (summed a entries)
@@ -130,10 +150,14 @@ pub record SortsAndAdds (a : Arithmetic) (old new : List Entry) : Type 0 where
 both_ways : {A B C : Type 0} → (A ↔ B) → (B ↔ C) → (A ↔ C)
 both_ways p q = (λ x. q.0 (p.0 x), λ z. p.1 (q.1 z))
 
-pub sorts_and_adds : (a : Arithmetic) → Laws a → (old sorted new : List Entry) → IsPermutation old sorted → IsSortedBy is_before sorted → IsStableBy is_before old sorted → new ≡ summed a sorted → SortsAndAdds a old new
+pub sorts_and_adds : (a : Arithmetic) → Laws a → (old sorted new : List Entry) → IsPermutation old sorted → IsSortedBy is_before sorted
+    → IsStableBy is_before old sorted → new ≡ summed a sorted → SortsAndAdds a old new
 sorts_and_adds a laws old sorted new moved rising stable is = record {
-  values = λ coords. ap (λ es. value_at a es coords) is ∙ value_summed a laws sorted coords ∙ ap (total_of a) (same_values old sorted stable coords);
-  listed = λ coords. subst (λ es. Listed es coords ↔ Listed old coords) (sym is) (both_ways (listed_summed a sorted coords) (same_listed old sorted stable coords));
+  values = λ coords. ap (λ es. value_at a es coords) is ∙ value_summed a laws sorted coords
+      ∙ ap (total_of a) (same_values old sorted stable coords);
+  listed = λ coords. subst (λ es. Listed es coords ↔ Listed old coords) (sym is)
+      (both_ways (listed_summed a sorted coords) (same_listed old sorted stable coords));
   increasing = subst StrictlyIncreasing (sym is) (increasing_summed a sorted (never_falls sorted rising));
-  each = λ order all. subst (All (IsEntry order)) (sym is) (all_summed a laws order sorted (All-permutation (IsEntry order) old sorted moved all));
+  each = λ order all. subst (All (IsEntry order)) (sym is)
+      (all_summed a laws order sorted (All-permutation (IsEntry order) old sorted moved all));
 }

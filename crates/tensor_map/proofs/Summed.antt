@@ -11,15 +11,18 @@ use Rattle.tensor_map.proofs.Lemmas.{tested, value_here, value_elsewhere, value_
 use Rattle.tensor_map.specs.Summed.{joined, summed_from, summed}
 
 -- the next entry has the same coordinates, or others
-pub summed_same : (a : Arithmetic) (entry next : Entry) (others : List Entry) → pointwise nat_eq next.coords entry.coords ≡ true → summed_from a entry (next ∷ others) ≡ summed_from a (joined a entry next) others
+pub summed_same : (a : Arithmetic) (entry next : Entry) (others : List Entry) → pointwise nat_eq next.coords entry.coords ≡ true
+    → summed_from a entry (next ∷ others) ≡ summed_from a (joined a entry next) others
 summed_same a entry next others e = ap (λ b. cond b (summed_from a (joined a entry next) others) (entry ∷ summed_from a next others)) e
 
-pub summed_other : (a : Arithmetic) (entry next : Entry) (others : List Entry) → pointwise nat_eq next.coords entry.coords ≡ false → summed_from a entry (next ∷ others) ≡ entry ∷ summed_from a next others
+pub summed_other : (a : Arithmetic) (entry next : Entry) (others : List Entry) → pointwise nat_eq next.coords entry.coords ≡ false
+    → summed_from a entry (next ∷ others) ≡ entry ∷ summed_from a next others
 summed_other a entry next others e = ap (λ b. cond b (summed_from a (joined a entry next) others) (entry ∷ summed_from a next others)) e
 
 module _ (a : Arithmetic) (laws : Laws a) where
   -- two entries of the same coordinates, and one with their sum
-  value_joined : (coords : List ℕ) (entry next : Entry) (others : List Entry) → next.coords ≡ entry.coords → value_at a (joined a entry next ∷ others) coords ≡ value_at a (entry ∷ next ∷ others) coords
+  value_joined : (coords : List ℕ) (entry next : Entry) (others : List Entry) → next.coords ≡ entry.coords
+      → value_at a (joined a entry next ∷ others) coords ≡ value_at a (entry ∷ next ∷ others) coords
   value_joined coords entry next others is = elim (tested entry.coords coords) [
     | same here t ↦ (
         let t' : pointwise nat_eq next.coords coords ≡ true = ap (λ x. pointwise nat_eq x coords) is ∙ t in
@@ -31,11 +34,14 @@ module _ (a : Arithmetic) (laws : Laws a) where
         ∙ sym (value_elsewhere a coords entry (next ∷ others) t ∙ value_elsewhere a coords next others t'))
   ]
 
-  pub value_summed_from : (coords : List ℕ) (entry : Entry) (others : List Entry) → value_at a (summed_from a entry others) coords ≡ value_at a (entry ∷ others) coords
+  pub value_summed_from : (coords : List ℕ) (entry : Entry) (others : List Entry)
+      → value_at a (summed_from a entry others) coords ≡ value_at a (entry ∷ others) coords
   value_summed_from coords entry [] = refl
   value_summed_from coords entry (next ∷ others) = elim (tested next.coords entry.coords) [
-    | same is t ↦ ap (λ es. value_at a es coords) (summed_same a entry next others t) ∙ value_summed_from coords (joined a entry next) others ∙ value_joined coords entry next others is
-    | other isnt t ↦ ap (λ es. value_at a es coords) (summed_other a entry next others t) ∙ value_cons a laws coords entry (summed_from a next others) (next ∷ others) (value_summed_from coords next others)
+    | same is t ↦ ap (λ es. value_at a es coords) (summed_same a entry next others t)
+        ∙ value_summed_from coords (joined a entry next) others ∙ value_joined coords entry next others is
+    | other isnt t ↦ ap (λ es. value_at a es coords) (summed_other a entry next others t)
+        ∙ value_cons a laws coords entry (summed_from a next others) (next ∷ others) (value_summed_from coords next others)
   ]
 
   -- the value at each coordinate list stays
@@ -44,19 +50,23 @@ module _ (a : Arithmetic) (laws : Laws a) where
   value_summed (entry ∷ others) coords = value_summed_from coords entry others
 
 module _ (a : Arithmetic) where
-  listed_from : (coords : List ℕ) (entry : Entry) (others : List Entry) → Listed (summed_from a entry others) coords → Listed (entry ∷ others) coords
+  listed_from : (coords : List ℕ) (entry : Entry) (others : List Entry) → Listed (summed_from a entry others) coords
+      → Listed (entry ∷ others) coords
   listed_from coords entry [] h = h
   listed_from coords entry (next ∷ others) h = elim (tested next.coords entry.coords) [
-    | same is t ↦ (elim (listed_from coords (joined a entry next) others (subst (λ es. Listed es coords) (summed_same a entry next others t) h)) [
-      | inl here ↦ inl here
-      | inr more ↦ inr (inr more)
-    ])
+    | same is t ↦ (elim (listed_from coords (joined a entry next) others
+        (subst (λ es. Listed es coords) (summed_same a entry next others t) h)) [
+          | inl here ↦ inl here
+          | inr more ↦ inr (inr more)
+        ])
     | other isnt t ↦ (
-        let h' : Listed (entry ∷ summed_from a next others) coords = subst (λ es. Listed es coords) (summed_other a entry next others t) h in
+        let h' : Listed (entry ∷ summed_from a next others) coords =
+        subst (λ es. Listed es coords) (summed_other a entry next others t) h in
         elim h' [ inl here ↦ inl here | inr more ↦ inr (listed_from coords next others more) ])
   ]
 
-  from_listed : (coords : List ℕ) (entry : Entry) (others : List Entry) → Listed (entry ∷ others) coords → Listed (summed_from a entry others) coords
+  from_listed : (coords : List ℕ) (entry : Entry) (others : List Entry) → Listed (entry ∷ others) coords
+      → Listed (summed_from a entry others) coords
   from_listed coords entry [] h = h
   from_listed coords entry (next ∷ others) h = elim (tested next.coords entry.coords) [
     | same is t ↦ (
@@ -89,7 +99,8 @@ NeverFalls [] = Unit {0}
 NeverFalls (entry ∷ entries) = IsNotAfterAll entry.coords entries × NeverFalls entries
 
 -- before what is not after
-before_then : (coords middle : List ℕ) (entries : List Entry) → IsBefore coords middle → IsNotAfterAll middle entries → IsBeforeAll coords (coords_of entries)
+before_then : (coords middle : List ℕ) (entries : List Entry) → IsBefore coords middle → IsNotAfterAll middle entries
+    → IsBeforeAll coords (coords_of entries)
 before_then coords middle [] before after = tt
 before_then coords middle (entry ∷ entries) before after = (
   elim after.0 [
@@ -100,21 +111,29 @@ before_then coords middle (entry ∷ entries) before after = (
 )
 
 module _ (a : Arithmetic) where
-  before_summed : (coords : List ℕ) (entry : Entry) (others : List Entry) → IsBefore coords entry.coords → IsBeforeAll coords (coords_of others) → IsBeforeAll coords (coords_of (summed_from a entry others))
+  before_summed : (coords : List ℕ) (entry : Entry) (others : List Entry) → IsBefore coords entry.coords
+      → IsBeforeAll coords (coords_of others) → IsBeforeAll coords (coords_of (summed_from a entry others))
   before_summed coords entry [] first more = (first, tt)
   before_summed coords entry (next ∷ others) first more = elim (tested next.coords entry.coords) [
-    | same is t ↦ subst (λ es. IsBeforeAll coords (coords_of es)) (sym (summed_same a entry next others t)) (before_summed coords (joined a entry next) others first more.1)
-    | other isnt t ↦ subst (λ es. IsBeforeAll coords (coords_of es)) (sym (summed_other a entry next others t)) (first, before_summed coords next others more.0 more.1)
+    | same is t ↦ subst (λ es. IsBeforeAll coords (coords_of es)) (sym (summed_same a entry next others t))
+        (before_summed coords (joined a entry next) others first more.1)
+    | other isnt t ↦ subst (λ es. IsBeforeAll coords (coords_of es)) (sym (summed_other a entry next others t))
+        (first, before_summed coords next others more.0 more.1)
   ]
 
-  pub increasing_summed_from : (entry : Entry) (others : List Entry) → IsNotAfterAll entry.coords others → NeverFalls others → StrictlyIncreasing (summed_from a entry others)
+  pub increasing_summed_from : (entry : Entry) (others : List Entry) → IsNotAfterAll entry.coords others → NeverFalls others
+      → StrictlyIncreasing (summed_from a entry others)
   increasing_summed_from entry [] first rising = (tt, tt)
   increasing_summed_from entry (next ∷ others) first rising = elim (tested next.coords entry.coords) [
-    | same is t ↦ subst StrictlyIncreasing (sym (summed_same a entry next others t)) (increasing_summed_from (joined a entry next) others first.1 rising.1)
+    | same is t ↦ subst StrictlyIncreasing (sym (summed_same a entry next others t))
+        (increasing_summed_from (joined a entry next) others first.1 rising.1)
     | other isnt t ↦ (
         let before : IsBefore entry.coords next.coords = elim first.0 [ inl less ↦ less | inr is ↦ absurd (isnt (sym is)) ] in
-        subst StrictlyIncreasing (sym (summed_other a entry next others t))
-        (before_summed entry.coords next others before (before_then entry.coords next.coords others before rising.0), increasing_summed_from next others rising.0 rising.1))
+        subst StrictlyIncreasing (sym (summed_other a entry next others t)) (
+          before_summed entry.coords next others before
+              (before_then entry.coords next.coords others before rising.0),
+          increasing_summed_from next others rising.0 rising.1,
+        ))
   ]
 
   -- a sorted row is then increasing

@@ -1,6 +1,9 @@
+pub mod Buffered
+pub mod Cutting
 pub mod DecimalLaws
 pub mod Digits
 pub mod LineLaws
+pub mod LineReader
 pub mod Lines
 pub mod Numbers
 pub mod Parts

@@ -1,8 +1,8 @@
 -- What a sink was given: a whole text, or a part of it at its front.
-use Rattle.std.specs.Prelude.{◌≡◌, ℕ, ◌<◌, List, ◌++◌, length, Option}
+use Rattle.std.specs.Prelude.{◌≡◌, ℕ, ◌<◌, List, ◌++◌, length, Option, Result, Ok, Err}
 use Rattle.outside.specs.Folder.{appended}
 use Rattle.outside.specs.Refusal.{IsCounted}
-use Rattle.outside.specs.Sink.{SinkState}
+use Rattle.outside.specs.Sink.{SinkState, Appends}
 use Rattle.outside.specs.declared.refusal.Refusal.{Refusal}
 
 -- a part of the text, at its front, was appended, and not the whole
@@ -18,3 +18,8 @@ pub record AppendsPart (old new : SinkState) (text : List ℕ) (why : Refusal) :
   pub less : PutsLess old.written new.written text
   pub counted : IsCounted why old.faults new.faults old.wants new.wants
   pub beside_is : new.beside ≡ old.beside
+
+-- the whole text was appended, or the sink refused behind a part of it at its front
+abbrev pub Prints : {A : Type 0} → SinkState → SinkState → List ℕ → Result A Refusal → Type 0
+Prints old new text (Ok done) = Appends old new text
+Prints old new text (Err why) = AppendsPart old new text why

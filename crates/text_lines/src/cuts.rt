@@ -20,14 +20,14 @@ pub fn cut_line(text: &[u8]) -> Option<(&[u8], &[u8])>
 }
 
 /// Where the first line feed stands.
-fn line_feed(text: &[u8]) -> Option<usize>
+pub(crate) fn line_feed(text: &[u8]) -> Option<usize>
     ensures { result ≡ position is_line_feed text.now }
 {
     text.iter().position(|byte| *byte == b'\n')
 }
 
 /// The line without the carriage return at its end, if it has one.
-fn without_return(line: &[u8]) -> &[u8]
+pub(crate) fn without_return(line: &[u8]) -> &[u8]
     ensures { result.now ≡ strip_carriage_return line.now }
 {
     match line {

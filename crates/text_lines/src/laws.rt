@@ -1,8 +1,9 @@
 //! What follows from the definitions, as calls whose contract is the law. They do nothing.
 ghost use Rattle.std.specs.Prelude.{◌≡◌, ℕ, ℤ, pos, negsuc, map, replicate, codes, Ok, Err, ◌^◌, ◌<◌, ◌≤◌, length, ◌++◌, ◌∷◌, []};
-ghost use Rattle.std.specs.Prelude.{List, All, Some, IsTrue};
+ghost use Rattle.std.specs.Prelude.{List, All, Some, IsTrue, true, false};
 ghost use Rattle.std.specs.Fmt.{decimal, signed_decimal};
 ghost use Rattle.text_lines.specs.LineLaws.{IsLine, joined_lines};
+ghost use Rattle.text_lines.specs.Cutting.{begun_line, has_long_line, told_lines, BreaksOff};
 ghost use Rattle.text_lines.specs.Lines.{lines};
 ghost use Rattle.text_lines.specs.Numbers.{number_of, whole_of, fits_word, read_whole_of};
 ghost use Rattle.text_lines.specs.declared.num_fault.NumFault.TheVariants.{NotNumber, NotWhole, NumRange};
@@ -13,6 +14,17 @@ ghost use Rattle.text_lines.specs.Tokens.{tokens};
 #[tactic(auto, using(crate::proofs::LineLaws::lines_joined))]
 pub fn joined_lines_are_cut_back()
     ensures { (parts : List (List ℕ)) → All IsLine parts → lines (joined_lines parts) ≡ parts }
+{}
+
+/// A text that is read in pieces: the lines that were told are the first ones of any text that begins so, and where a
+/// line is too long it is the next one.
+#[tactic(auto, using(crate::proofs::CuttingLaws::cutting_laws))]
+pub fn told_lines_stay()
+    ensures short { (text more : List ℕ) → has_long_line text ≡ false
+        → lines (text ++ more) ≡ told_lines text ++ lines (begun_line text ++ more) }
+    ensures long { (text : List ℕ) → has_long_line text ≡ true → BreaksOff text }
+    ensures long_stays { (text more : List ℕ) → has_long_line text ≡ true → has_long_line (text ++ more) ≡ true }
+    ensures told_stays { (text more : List ℕ) → has_long_line text ≡ true → told_lines (text ++ more) ≡ told_lines text }
 {}
 
 /// Tokens that were joined, with a space between two, are cut back.

@@ -1,10 +1,12 @@
 -- The text of a tensor: a line for each coordinate list below the ranges whose value isn't zero.
-use Rattle.std.specs.Prelude.{◌≡◌, ◌≢◌, ℕ, ◌+◌, List, [], ◌∷◌, ◌++◌, ◌⊎◌, ◌↔◌}
+use Rattle.std.specs.Prelude.{◌≡◌, ◌≢◌, ℕ, ◌+◌, ◌<◌, nat_eq, List, [], ◌∷◌, ◌++◌, All, ◌⊎◌, ◌↔◌, if◌then◌else◌}
 use Rattle.std.specs.List.{flat_map}
 use Rattle.std.specs.Fmt.{decimal, signed_decimal}
+use Rattle.limits.specs.Limits.{greatest_position_count}
 use Rattle.numbers.specs.Arithmetic.{Arithmetic}
 use Rattle.numbers.specs.Signed.{signed_of}
 use Rattle.tensor_map.specs.Order.{Increasing}
+use Rattle.tensor_map.specs.declared.entries.Entry.{Entry}
 use Rattle.tns_io.specs.Positions.{IsBelow}
 
 -- each coordinate, counted from 1, and a blank behind it
@@ -27,3 +29,15 @@ pub record IsTnsText (a : Arithmetic) (ranges : List ℕ) (value : List ℕ → 
   pub increasing : Increasing places
   pub exact : (coords : List ℕ) → IsAmong places coords ↔ (IsBelow ranges coords × (value coords ≢ a.zero))
   pub lines : text ≡ flat_map (λ coords. line_text coords (value coords)) places
+
+-- the coordinates of each entry may stand in a tensor's storage
+abbrev pub AreInRange : List Entry → Type 0
+AreInRange entries = All (λ entry. All (λ c. c < greatest_position_count) entry.coords) entries
+
+-- the line of an entry, and nothing where its value is zero
+abbrev pub entry_text : Arithmetic → Entry → List ℕ
+entry_text a entry = if nat_eq entry.value a.zero then [] else line_text entry.coords entry.value
+
+-- the lines of entries, as they stand
+abbrev pub entries_text : Arithmetic → List Entry → List ℕ
+entries_text a entries = flat_map (entry_text a) entries

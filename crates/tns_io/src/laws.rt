@@ -2,12 +2,14 @@
 ghost use Rattle.std.specs.Prelude.{◌≡◌, ℕ, ◌+◌, ◌-◌, ◌^◌, ◌<◌, ◌≤◌, ◌++◌, ◌∷◌, [], List, All, length, map, replicate, codes, pos, Ok, Err};
 ghost use Rattle.limits.specs.Limits.{greatest_order, greatest_file_coordinate};
 ghost use Rattle.numbers.specs.Arithmetic.{Arithmetic, Laws};
+ghost use Rattle.tensor_map.specs.declared.entries.Entry.{Entry};
+ghost use Rattle.tensor_map.specs.Entries.{IsEntry, SameListed, StrictlyIncreasing, value_at};
 ghost use Rattle.tensor_map.specs.Order.{IsBefore};
 ghost use Rattle.tns_io.specs.Positions.{product, IsBelow, position, coords_at};
 ghost use Rattle.tns_io.specs.Reading.{entries_of_text, reading};
 ghost use Rattle.tns_io.specs.Reading.Reading.{Skipped, Read, Bad};
 ghost use Rattle.tns_io.specs.declared.line_kind.LineKind.TheVariants.{Fields, NotNumber, NotWhole, NumRange, ZeroCoordinate};
-ghost use Rattle.tns_io.specs.Text.{IsTnsText};
+ghost use Rattle.tns_io.specs.Text.{AreInRange, IsTnsText, entries_text};
 ghost use Rattle.tns_io.specs.WrittenLaws.{StandsFor};
 
 /// Coordinates below the sizes and positions below their product are the same thing, in the same order.
@@ -35,6 +37,21 @@ pub fn written_texts_stand_for_their_tensor()
         → length ranges ≤ greatest_order → All (λ range. range ≤ greatest_file_coordinate) ranges
         → ((coords : List ℕ) → IsBelow ranges coords → value coords < 2 ^ 64)
         → StandsFor a ranges value (entries_of_text (length ranges) text) }
+{}
+
+/// The text of entries in increasing order, none at the coordinates of another, is that of the tensor that they stand for.
+#[tactic(auto, using(crate::proofs::EntryTexts::entries_are_text))]
+pub fn texts_of_entries_are_their_tensors()
+    ensures { (a : Arithmetic) → Laws a → (ranges : List ℕ) (entries : List Entry) → StrictlyIncreasing entries
+        → All (IsEntry (length ranges)) entries → All (λ entry. IsBelow ranges entry.coords) entries
+        → IsTnsText a ranges (value_at a entries) (entries_text a entries) }
+{}
+
+/// What a file says has coordinates that may be written, and so have entries with the same coordinates.
+#[tactic(auto, using(crate::proofs::ReadLaws::read_in_range))]
+pub fn entries_of_files_may_be_written()
+    ensures { (order : ℕ) (text : List ℕ) (entries others : List Entry) → entries_of_text order text ≡ Ok entries
+        → SameListed entries others → AreInRange others }
 {}
 
 /// What lines of order 2 and 0 are, and what a text with a bad line says.

@@ -1,7 +1,7 @@
 -- Which parts of an expression are present at a point: an access is where the coordinates of its variables are a path
 -- of its tensor, a number is everywhere, a product is where both factors are, and a sum or a difference where one side
 -- is. So a stored zero is present, and a present part may have the value zero.
-use Rattle.std.specs.Prelude.{◌≡◌, ℕ, Bool, true, false, ◌||◌, ◌&&◌, List, map, Option, None, Some, slice_get}
+use Rattle.std.specs.Prelude.{◌≡◌, ℕ, Bool, true, false, ◌||◌, ◌&&◌, List, Option, None, Some, slice_get}
 use Rattle.std.specs.List.{list_any}
 use Rattle.numbers.specs.Arithmetic.{Arithmetic}
 use Rattle.tensor_map.specs.declared.entries.Entry.{Entry}
@@ -10,6 +10,7 @@ use Rattle.index_notation.specs.declared.syntax.Access.{Access}
 use Rattle.index_notation.specs.declared.syntax.Expr.{Expr, Num, Access as AccessOf, Add', Sub', Mul', Neg', Row_of-Expr, end_of-Expr}
 use Rattle.index_notation.specs.declared.syntax.Expr.{more_of-Expr}
 use Rattle.expr_terms.specs.Operands.{entries_of}
+use Rattle.expr_terms.specs.Points.{coords_at}
 
 -- whether some entry has these coordinates
 abbrev pub is_listed : List Entry → List ℕ → Bool
@@ -22,7 +23,7 @@ operand_paths operands tensor coords = is_listed (entries_of operands tensor) co
 -- whether an access, if there is one, is present at a point
 abbrev pub access_is_present : (ℕ → List ℕ → Bool) → (ℕ → ℕ) → Option Access → Bool
 access_is_present paths point None = false
-access_is_present paths point (Some access) = paths access.tensor (map point access.vars)
+access_is_present paths point (Some access) = paths access.tensor (coords_at point access.vars)
 
 abbrev mutual
   -- whether an expression over these accesses is present at a point

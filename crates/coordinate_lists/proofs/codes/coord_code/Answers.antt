@@ -11,6 +11,9 @@ use Rattle.coordinate_lists.proofs.codes.coord_code.Goals as goal
 
 pub returns : goal.returns
 returns c = λ setting coords segment inside pos i s held values.
-    let is : c.in_ok-code.code ≡ two_code c.args.free (Num 1) (At (Coordinates c.args.tensor c.args.level) c.in_ok-position.position) = cc (c.in_ok-code.ensures, c.in_ok-word.ensures) in
-    subst (λ code. Reads setting code c.args.free no_turns s (OptionLeft c.args.free (coord_at (entries_between coords segment) pos))) (sym is)
-    (coord_law setting coords c.args.tensor c.args.level c.args.free pos segment c.args.args.now c.in_ok-position.position s c.in_ok-position.ensures c.requires.below inside i held values)
+    let is : c.in_ok-code.code ≡ two_code c.args.free (Num 1) (At (Coordinates c.args.tensor c.args.level) c.in_ok-position.position) =
+    cc (c.in_ok-code.ensures, c.in_ok-word.ensures) in
+    subst (λ code. Reads setting code c.args.free no_turns s (OptionLeft c.args.free (coord_at (entries_between coords segment) pos)))
+    (sym is)
+    (coord_law setting coords c.args.tensor c.args.level c.args.free pos segment c.args.args.now c.in_ok-position.position s
+    c.in_ok-position.ensures c.requires.below inside i held values)

@@ -17,7 +17,8 @@ levels_of-requires-clause-count c =
 pub format_of-requires-clause-order : goal.format_of-requires-clause-order
 format_of-requires-clause-order c =
     let order = is_order (option_map (λ text. text.now) c.args.order_text) c.args.order c.in-Some.modes.items c.in-Some.ensures in
-    level_order c.args.order c.in-Some-levels_of.levels.items c.in-Some.modes.items (c.in-Some-levels_of.ensures.1 ∙ c.as_slice.ensures) order
+    level_order c.args.order c.in-Some-levels_of.levels.items c.in-Some.modes.items (c.in-Some-levels_of.ensures.1
+    ∙ c.as_slice.ensures) order
 
 pub returns : goal.returns
 returns c =

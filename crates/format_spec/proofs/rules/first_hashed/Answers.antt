@@ -5,4 +5,5 @@ use Rattle.format_spec.specs.Formats.{IsHashed, IsOther}
 use Rattle.format_spec.proofs.rules.first_hashed.Goals as goal
 
 pub returns : goal.returns
-returns c = IsFirst-from_position _ _ _ IsHashed IsOther c.position.ensures.ran (YieldsList-from_slice c.args.levels.now cc) (λ x q k. search (rules, tests)) (λ x q k. search (rules, tests))
+returns c = IsFirst-from_position _ _ _ IsHashed IsOther c.position.ensures.ran (YieldsList-from_slice c.args.levels.now cc)
+    (λ x q k. search (rules, tests)) (λ x q k. search (rules, tests))

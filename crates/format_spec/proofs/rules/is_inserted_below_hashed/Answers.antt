@@ -10,5 +10,6 @@ returns-in-None c = (λ _. none_hashed c.args.levels.now c.in-None.ensures, λ _
 pub returns-in-Some : goal.returns-in-Some
 returns-in-Some c =
     let e = c.in-Some.ensures in
-    let rules = subst (λ levels. All Inserts levels ↔ InsertedBelowHashed (letters_of c.args.levels.now)) (sym c.split_at.ensures.back) (first_rules c.args.levels.now c.in-Some.first e.0 e.1 e.2) in
+    let rules = subst (λ levels. All Inserts levels ↔ InsertedBelowHashed (letters_of c.args.levels.now)) (sym c.split_at.ensures.back)
+    (first_rules c.args.levels.now c.in-Some.first e.0 e.1 e.2) in
     (λ yes. rules.0 (c.are_inserted.ensures.0 yes), λ rule. c.are_inserted.ensures.1 (rules.1 rule))

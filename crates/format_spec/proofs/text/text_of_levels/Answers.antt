@@ -11,7 +11,8 @@ pub append_bytes-requires : goal.append_bytes-requires
 unfolding greatest_order
 append_bytes-requires c =
     let levels = c.args.levels.now in
-    let letters = ap length c.letters_text-text.ensures.items ∙ length-map (letters_of levels) letter_byte ∙ length-map levels (λ level. level.letter) in
+    let letters = ap length c.letters_text-text.ensures.items ∙ length-map (letters_of levels) letter_byte
+    ∙ length-map levels (λ level. level.letter) in
     let colon = ap length c.push_reserved.ensures.items ∙ length-append c.letters_text-text.result.items _ in
     let modes = ap length (c.as_slice.ensures ∙ c.modes_in-modes.ensures) ∙ length-map levels (λ level. level.mode) in
     let order = ap length (c.as_slice-2.ensures ∙ c.text_of-order.ensures) ∙ text_length c.as_slice.result.now in

@@ -11,5 +11,6 @@ loop-steps-preserved c =
     let less = c.loop-steps-test.true in (
       ap (λ a. (a + 1) % c.args.width) i.0 ∙ place_next c.args.width c.args.x c.loop-steps.steps,
       omega (arith, less),
-      passes_more f c.args.width c.args.base c.args.x c.loop-steps.steps i.2 (λ z. on.0 (ap (λ a. f (c.args.base + a)) i.0 ∙ z)) (λ z. on.1 (ap (λ a. f (c.args.base + a)) i.0 ∙ z)),
+      passes_more f c.args.width c.args.base c.args.x c.loop-steps.steps i.2 (λ z. on.0 (ap (λ a. f (c.args.base + a)) i.0 ∙ z))
+          (λ z. on.1 (ap (λ a. f (c.args.base + a)) i.0 ∙ z)),
     )

@@ -6,4 +6,5 @@ use Rattle.kernel_code.proofs.arrays.place_of.Given as goal
 
 -- none of the names before is this one
 abbrev pub invariant-loop-i : goal.invariant-loop-i
-invariant-loop-i l = (array_of (drop l.i l.arrays) l.a ≡ array_of l.arrays l.a) × ((j : ℕ) (d : Words) → j < l.i → same_arr (slice_index_or l.arrays j d).name l.a ≡ false)
+invariant-loop-i l = (array_of (drop l.i l.arrays) l.a ≡ array_of l.arrays l.a)
+    × ((j : ℕ) (d : Words) → j < l.i → same_arr (slice_index_or l.arrays j d).name l.a ≡ false)

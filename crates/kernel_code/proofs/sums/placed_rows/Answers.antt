@@ -10,5 +10,6 @@ loop-place-preserved c =
     let vs = c.args.values.now in
     let next : i + 1 ≡ suc i = omega arith in
     λ columns. ap (map (row_of columns)) c.in_ok-push.ensures.items
-    ∙ row_added columns c.loop-place.rows.items (record { place = i; value = slice_index vs i }) (rows_from columns 0 (take i vs)) (c.loop-place.invariant columns)
+    ∙ row_added columns c.loop-place.rows.items (record { place = i; value = slice_index vs i }) (rows_from columns 0 (take i vs))
+    (c.loop-place.invariant columns)
     ∙ sym (ap (λ n. rows_from columns 0 (take n vs)) next ∙ rows_from_more columns 0 i i vs (omega arith) (omega arith))

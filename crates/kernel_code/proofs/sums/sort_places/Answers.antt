@@ -21,6 +21,8 @@ returns c =
     let columns = read c.args.columns.now in
     let old = c.args.rows.now.items in
     ap (map (row_of columns)) (stable_sort_is (before columns) (before_orders columns) old c.sort_by.new.self.items
-    (c.in_ok-sort_by.ensures.sorted (before columns) (before_orders columns) (always_returns_same _ (λ a r. is_lt r ≡ before columns a.0.now a.1.0.now) _ (λ a r q k. search rules)))
-    (c.in_ok-sort_by.ensures.stable (before columns) (before_orders columns) (always_returns_same _ (λ a r. is_lt r ≡ before columns a.0.now a.1.0.now) _ (λ a r q k. search rules))))
+    (c.in_ok-sort_by.ensures.sorted (before columns) (before_orders columns)
+    (always_returns_same _ (λ a r. is_lt r ≡ before columns a.0.now a.1.0.now) _ (λ a r q k. search rules)))
+    (c.in_ok-sort_by.ensures.stable (before columns) (before_orders columns)
+    (always_returns_same _ (λ a r. is_lt r ≡ before columns a.0.now a.1.0.now) _ (λ a r q k. search rules))))
     ∙ sorted_map (row_of columns) row_before old

@@ -2,10 +2,15 @@ use Rattle.kernel_print.proofs.Pieces.{printed, then_printed, refused}
 use Rattle.kernel_print.proofs.exprs.put_len.Goals as goal
 
 pub returns-in_err-put_all : goal.returns-in_err-put_all
-returns-in_err-put_all g c = refused c.from_residual.result c.in_err-put_all.field-0.0 _ _ _ _ c.from_residual.ensures.1 c.in_err-put_all.ensures.part
+returns-in_err-put_all g c =
+    refused c.from_residual.result c.in_err-put_all.field-0.0 _ _ _ _ c.from_residual.ensures.1 c.in_err-put_all.ensures.part
 
 pub returns-in_err-put_array : goal.returns-in_err-put_array
-returns-in_err-put_array g c = then_printed _ _ _ _ _ _ c.in_ok-put_all.ensures.whole (refused c.from_residual-in_err-put_array.result c.in_err-put_array.field-0.0 _ _ _ _ c.from_residual-in_err-put_array.ensures.1 c.in_err-put_array.ensures)
+returns-in_err-put_array g c =
+    then_printed _ _ _ _ _ _ c.in_ok-put_all.ensures.whole
+    (refused c.from_residual-in_err-put_array.result c.in_err-put_array.field-0.0 _ _ _ _ c.from_residual-in_err-put_array.ensures.1
+    c.in_err-put_array.ensures)
 
 pub returns : goal.returns
-returns g c = then_printed _ _ _ _ _ _ c.in_ok-put_all.ensures.whole (then_printed _ _ _ _ _ _ c.in_ok-put_array.ensures (printed _ _ _ _ c.put_all-2.ensures.whole c.put_all-2.ensures.part))
+returns g c = then_printed _ _ _ _ _ _ c.in_ok-put_all.ensures.whole
+    (then_printed _ _ _ _ _ _ c.in_ok-put_array.ensures (printed _ _ _ _ c.put_all-2.ensures.whole c.put_all-2.ensures.part))

@@ -9,7 +9,8 @@ returns-in_err-put_all-clause-part g c =
     let k = c.args.kernel.now in
     part_printed c.from_residual.result _ _ (kernel_text k)
     (refused c.from_residual.result c.in_err-put_all.field-0.0 _ _ (codes "kernel {\n")
-    (workspaces_text 0 k.workspaces ++ (lists_text 0 k.lists ++ (statements_text 1 k.body ++ codes "}\n"))) c.from_residual.ensures.1 c.in_err-put_all.ensures.part)
+    (workspaces_text 0 k.workspaces ++ (lists_text 0 k.lists ++ (statements_text 1 k.body ++ codes "}\n"))) c.from_residual.ensures.1
+    c.in_err-put_all.ensures.part)
 
 pub returns-in_err-put_workspaces-clause-part : goal.returns-in_err-put_workspaces-clause-part
 returns-in_err-put_workspaces-clause-part g c =
@@ -19,7 +20,8 @@ returns-in_err-put_workspaces-clause-part g c =
     part_printed r.result _ _ (kernel_text k)
     (retold _ _ _ _ _ (ap (λ (ws : List ℕ). codes "kernel {\n" ++ (workspaces_text 0 ws ++ rest)) c.as_slice.ensures)
     (then_printed _ _ _ _ (codes "kernel {\n") (workspaces_text 0 c.as_slice.result.now ++ rest) c.in_ok-put_all.ensures.whole
-    (refused r.result c.in_err-put_workspaces.field-0.0 _ _ (workspaces_text 0 c.as_slice.result.now) rest r.ensures.1 c.in_err-put_workspaces.ensures)))
+    (refused r.result c.in_err-put_workspaces.field-0.0 _ _
+    (workspaces_text 0 c.as_slice.result.now) rest r.ensures.1 c.in_err-put_workspaces.ensures)))
 
 pub returns-in_err-put_lists-clause-part : goal.returns-in_err-put_lists-clause-part
 returns-in_err-put_lists-clause-part g c =

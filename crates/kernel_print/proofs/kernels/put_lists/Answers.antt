@@ -12,12 +12,15 @@ loop-list-init g c =
 
 pub loop-list-preserved : goal.loop-list-preserved
 loop-list-preserved g c =
-    more_so_far _ _ _ _ _ _ (rest_told _ _ _ _ _ (lists_step c.args.count c.loop-list.list c.loop-list-test.true) c.loop-list.invariant) c.in_ok-put_name.ensures
+    more_so_far _ _ _ _ _ _
+    (rest_told _ _ _ _ _ (lists_step c.args.count c.loop-list.list c.loop-list-test.true) c.loop-list.invariant)
+    c.in_ok-put_name.ensures
 
 pub returns-in_err-put_name : goal.returns-in_err-put_name
 returns-in_err-put_name g c =
     then_rest _ _ _ _ _ _ (rest_told _ _ _ _ _ (lists_step c.args.count c.loop-list.list c.loop-list-test.true) c.loop-list.invariant)
-    (refused c.from_residual.result c.in_err-put_name.field-0.0 _ _ _ (lists_text (c.loop-list.list + 1) (c.args.count - (c.loop-list.list + 1))) c.from_residual.ensures.1 c.in_err-put_name.ensures)
+    (refused c.from_residual.result c.in_err-put_name.field-0.0 _ _ _
+    (lists_text (c.loop-list.list + 1) (c.args.count - (c.loop-list.list + 1))) c.from_residual.ensures.1 c.in_err-put_name.ensures)
 
 pub returns : goal.returns
 returns g c =

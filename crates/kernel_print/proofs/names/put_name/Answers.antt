@@ -2,10 +2,15 @@ use Rattle.kernel_print.proofs.Pieces.{printed, then_printed, refused}
 use Rattle.kernel_print.proofs.names.put_name.Goals as goal
 
 pub returns-in_err-put_all : goal.returns-in_err-put_all
-returns-in_err-put_all g c = refused c.from_residual.result c.in_err-put_all.field-0.0 _ _ _ _ c.from_residual.ensures.1 c.in_err-put_all.ensures.part
+returns-in_err-put_all g c =
+    refused c.from_residual.result c.in_err-put_all.field-0.0 _ _ _ _ c.from_residual.ensures.1 c.in_err-put_all.ensures.part
 
 pub returns-in_err-put_u64 : goal.returns-in_err-put_u64
-returns-in_err-put_u64 g c = then_printed _ _ _ _ _ _ c.in_ok-put_all.ensures.whole (refused c.from_residual-in_err-put_u64.result c.in_err-put_u64.field-0.0 _ _ _ _ c.from_residual-in_err-put_u64.ensures.1 c.in_err-put_u64.ensures.part)
+returns-in_err-put_u64 g c =
+    then_printed _ _ _ _ _ _ c.in_ok-put_all.ensures.whole
+    (refused c.from_residual-in_err-put_u64.result c.in_err-put_u64.field-0.0 _ _ _ _ c.from_residual-in_err-put_u64.ensures.1
+    c.in_err-put_u64.ensures.part)
 
 pub returns : goal.returns
-returns g c = then_printed _ _ _ _ _ _ c.in_ok-put_all.ensures.whole (then_printed _ _ _ _ _ _ c.in_ok-put_u64.ensures.whole (printed _ _ _ _ c.put_all-2.ensures.whole c.put_all-2.ensures.part))
+returns g c = then_printed _ _ _ _ _ _ c.in_ok-put_all.ensures.whole
+    (then_printed _ _ _ _ _ _ c.in_ok-put_u64.ensures.whole (printed _ _ _ _ c.put_all-2.ensures.whole c.put_all-2.ensures.part))

@@ -2,7 +2,8 @@ use Rattle.kernel_print.proofs.Pieces.{printed, then_printed, refused}
 use Rattle.kernel_print.proofs.names.put_numbered.Goals as goal
 
 pub returns-in_err-put_all : goal.returns-in_err-put_all
-returns-in_err-put_all g c = refused c.from_residual.result c.in_err-put_all.field-0.0 _ _ _ _ c.from_residual.ensures.1 c.in_err-put_all.ensures.part
+returns-in_err-put_all g c =
+    refused c.from_residual.result c.in_err-put_all.field-0.0 _ _ _ _ c.from_residual.ensures.1 c.in_err-put_all.ensures.part
 
 pub returns : goal.returns
 returns g c = then_printed _ _ _ _ _ _ c.in_ok-put_all.ensures.whole (printed _ _ _ _ c.put_u64.ensures.whole c.put_u64.ensures.part)

@@ -6,7 +6,8 @@ use Rattle.kernel_print.proofs.Pieces.{then_printed, refused, retold}
 use Rattle.kernel_print.proofs.statements.put_combine.Goals as goal
 
 pub returns-in_err-put_numbered : goal.returns-in_err-put_numbered
-returns-in_err-put_numbered g c = refused c.from_residual.result c.in_err-put_numbered.field-0.0 _ _ _ _ c.from_residual.ensures.1 c.in_err-put_numbered.ensures
+returns-in_err-put_numbered g c =
+    refused c.from_residual.result c.in_err-put_numbered.field-0.0 _ _ _ _ c.from_residual.ensures.1 c.in_err-put_numbered.ensures
 
 pub returns : goal.returns
 returns g c =

@@ -15,13 +15,19 @@ read-requires c =
 
 pub returns-in-Ok-clause-statement : goal.returns-in-Ok-clause-statement
 returns-in-Ok-clause-statement c =
-    let short : length c.as_bytes-bytes.result.now ≤ greatest_text_bytes = omega (arith, c.if-bytes-greatest_bytes_of_text.false, c.greatest_bytes_of_text.ensures) in
-    parsed c.args.text.now c.as_bytes-bytes.result.now c.in_ok-symbols.symbols c.as_slice.result.now c.in-Ok.reading c.as_slice-in-Ok.result.now c.in_ok-number_statement-in-Ok.field-0
-    c.as_bytes-bytes.ensures.value short c.in_ok-symbols.ensures c.as_slice.ensures (rw c.in-Ok.is at c.in_ok-reading.ensures) c.as_slice-in-Ok.ensures c.in_ok-number_statement-in-Ok.ensures
+    let short : length c.as_bytes-bytes.result.now ≤ greatest_text_bytes =
+    omega (arith, c.if-bytes-greatest_bytes_of_text.false, c.greatest_bytes_of_text.ensures) in
+    parsed c.args.text.now c.as_bytes-bytes.result.now c.in_ok-symbols.symbols c.as_slice.result.now c.in-Ok.reading
+    c.as_slice-in-Ok.result.now c.in_ok-number_statement-in-Ok.field-0
+    c.as_bytes-bytes.ensures.value short c.in_ok-symbols.ensures c.as_slice.ensures
+    (rw c.in-Ok.is at c.in_ok-reading.ensures) c.as_slice-in-Ok.ensures c.in_ok-number_statement-in-Ok.ensures
 
 pub returns-in-Ok-clause-numbered : goal.returns-in-Ok-clause-numbered
 returns-in-Ok-clause-numbered c =
-    let short : length c.as_bytes-bytes.result.now ≤ greatest_text_bytes = omega (arith, c.if-bytes-greatest_bytes_of_text.false, c.greatest_bytes_of_text.ensures) in
+    let short : length c.as_bytes-bytes.result.now ≤ greatest_text_bytes =
+    omega (arith, c.if-bytes-greatest_bytes_of_text.false, c.greatest_bytes_of_text.ensures) in
     notation_is_numbered c.args.text.now c.in_ok-number_statement-in-Ok.field-0
-    (parsed c.args.text.now c.as_bytes-bytes.result.now c.in_ok-symbols.symbols c.as_slice.result.now c.in-Ok.reading c.as_slice-in-Ok.result.now c.in_ok-number_statement-in-Ok.field-0
-    c.as_bytes-bytes.ensures.value short c.in_ok-symbols.ensures c.as_slice.ensures (rw c.in-Ok.is at c.in_ok-reading.ensures) c.as_slice-in-Ok.ensures c.in_ok-number_statement-in-Ok.ensures)
+    (parsed c.args.text.now c.as_bytes-bytes.result.now c.in_ok-symbols.symbols c.as_slice.result.now c.in-Ok.reading
+    c.as_slice-in-Ok.result.now c.in_ok-number_statement-in-Ok.field-0
+    c.as_bytes-bytes.ensures.value short c.in_ok-symbols.ensures c.as_slice.ensures
+    (rw c.in-Ok.is at c.in_ok-reading.ensures) c.as_slice-in-Ok.ensures c.in_ok-number_statement-in-Ok.ensures)

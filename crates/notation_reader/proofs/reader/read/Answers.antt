@@ -26,31 +26,46 @@ returns-in-Err c =
 pub loop-placed-preserved : goal.loop-placed-preserved
 loop-placed-preserved c =
     let i = c.loop-placed.placed-index in
-    let read = read_more i c.args.symbols.now c.placed-item.result c.loop-placed.reader c.in-Ok.next c.loop-placed-test.true c.placed-item.is
+    let read = read_more i c.args.symbols.now c.placed-item.result c.loop-placed.reader c.in-Ok.next c.loop-placed-test.true
+    c.placed-item.is
     c.loop-placed.invariant.has_read (rw c.in-Ok.is at c.in_ok-next.ensures.taken) in
     let minuses : c.in-Ok.next.position.minuses ≤ i + 1 =
-    let a = c.loop-placed.invariant.minuses in let b : c.in-Ok.next.position.minuses ≤ c.loop-placed.reader.position.minuses + 1 = (rw c.in-Ok.is at c.in_ok-next.ensures.minuses) in omega (arith, a, b) in
+    let a = c.loop-placed.invariant.minuses in let b : c.in-Ok.next.position.minuses ≤ c.loop-placed.reader.position.minuses + 1 =
+    (rw c.in-Ok.is at c.in_ok-next.ensures.minuses) in omega (arith, a, b) in
     record {
       has_read = read;
-      levels = let a = c.loop-placed.invariant.levels in let b : c.in-Ok.next.position.levels ≤ c.loop-placed.reader.position.levels + 1 = (rw c.in-Ok.is at c.in_ok-next.ensures.levels) in omega (arith, a, b);
+      levels = let a = c.loop-placed.invariant.levels in let b : c.in-Ok.next.position.levels ≤ c.loop-placed.reader.position.levels + 1 =
+          (rw c.in-Ok.is at c.in_ok-next.ensures.levels) in omega (arith, a, b);
       minuses = minuses;
-      reads = let a = c.loop-placed.invariant.reads in let b : c.in-Ok.next.builder.reads ≤ c.loop-placed.reader.builder.reads + 1 = (rw c.in-Ok.is at c.in_ok-next.ensures.reads) in omega (arith, a, b);
+      reads = let a = c.loop-placed.invariant.reads in let b : c.in-Ok.next.builder.reads ≤ c.loop-placed.reader.builder.reads + 1 =
+          (rw c.in-Ok.is at c.in_ok-next.ensures.reads) in omega (arith, a, b);
       built_minuses = let e = read_minuses (symbols_of (take (i + 1) c.args.symbols.now)) c.in-Ok.next read in omega (arith, e, minuses);
     }
 
 -- behind the last symbol
-whole : (xs : List PlacedSymbol) (i : ℕ) (r : Reader) → length xs ≤ i → HasLast (symbols_of xs) → HasRead (symbols_of (take i xs)) r → IsWholeTree (symbols_of xs) r
-whole xs i r h l read = whole_tree (symbols_of xs) r l (subst (λ (ps : List PlacedSymbol). HasRead (symbols_of ps) r) (take_all i xs h) read)
+whole : (xs : List PlacedSymbol) (i : ℕ) (r : Reader) → length xs ≤ i → HasLast (symbols_of xs) → HasRead (symbols_of (take i xs)) r
+    → IsWholeTree (symbols_of xs) r
+whole xs i r h l read =
+    whole_tree (symbols_of xs) r l (subst (λ (ps : List PlacedSymbol). HasRead (symbols_of ps) r) (take_all i xs h) read)
 
 expr_is : (o : Option Expr) (e f : Expr) → o ≡ Some f → o ≡ Some e → e ≡ f
 expr_is o e f h is = (let both : ◌≡◌ {A = Option Expr} (Some e) (Some f) = sym is ∙ h in cc)
 
 pub unreachable-requires : goal.unreachable-requires
 unreachable-requires c =
-    let w = whole c.args.symbols.now c.loop-placed.placed-index c.loop-placed.reader c.loop-placed-test.false c.requires c.loop-placed.invariant.has_read in
+    let w = whole c.args.symbols.now c.loop-placed.placed-index c.loop-placed.reader c.loop-placed-test.false c.requires
+    c.loop-placed.invariant.has_read in
     let both : ◌≡◌ {A = Option Expr} None (Some (sum_expr 0 w.tree.right)) = sym c.in-None.is ∙ w.expr in cc
 
 pub returns : goal.returns
 returns c =
-    let w = whole c.args.symbols.now c.loop-placed.placed-index c.loop-placed.reader c.loop-placed-test.false c.requires c.loop-placed.invariant.has_read in
-    (w.tree, w.is_tree, record { accesses = w.accesses; expr = expr_is c.loop-placed.reader.builder.result c.in-Some.expr (sum_expr 0 w.tree.right) w.expr c.in-Some.is })
+    let w = whole c.args.symbols.now c.loop-placed.placed-index c.loop-placed.reader c.loop-placed-test.false c.requires
+    c.loop-placed.invariant.has_read in (
+      w.tree,
+      w.is_tree,
+      record {
+        accesses = w.accesses;
+        expr =
+            expr_is c.loop-placed.reader.builder.result c.in-Some.expr (sum_expr 0 w.tree.right) w.expr c.in-Some.is;
+      },
+    )

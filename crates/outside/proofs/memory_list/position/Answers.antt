@@ -5,7 +5,8 @@ use Rattle.outside.proofs.memory_list.position.Goals as goal
 
 pub returns-then-eq : goal.returns-then-eq
 returns-then-eq c = record {
-  named = name_found _ _ c.index-files-i.result _ _ _ c.loop-i-test.true c.index-files-i.is c.as_str.ensures.value c.eq.ensures c.if-eq.true;
+  named = name_found _ _ c.index-files-i.result _ _ _ c.loop-i-test.true c.index-files-i.is c.as_str.ensures.value c.eq.ensures
+      c.if-eq.true;
   before = c.loop-i.invariant;
 }
 

@@ -13,7 +13,8 @@ returns-in-Some-clause-first c =
 
 pub returns-in_ok-push-in-None-clause-changes : goal.returns-in_ok-push-in-None-clause-changes
 returns-in_ok-push-in-None-clause-changes c =
-    rw c.in_ok-push-in-None.ensures.items (changes_by_new _ _ _ (rw c.as_slice.ensures.value at c.in-None.ensures.1) c.in_ok-name-in-None.ensures.ok)
+    rw c.in_ok-push-in-None.ensures.items
+    (changes_by_new _ _ _ (rw c.as_slice.ensures.value at c.in-None.ensures.1) c.in_ok-name-in-None.ensures.ok)
 
 pub returns-in_ok-push-in-None-clause-first : goal.returns-in_ok-push-in-None-clause-first
 returns-in_ok-push-in-None-clause-first c =

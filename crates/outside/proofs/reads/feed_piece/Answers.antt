@@ -6,7 +6,8 @@ use Rattle.outside.proofs.reads.feed_piece.Goals as goal
 pub returns-in_err-n-clause-stops : goal.returns-in_err-n-clause-stops
 returns-in_err-n-clause-stops g c =
     let p = err_from_is_err_and c.from_residual.result c.from_residual.ensures.1 in
-    rw (p.1, p.2) (refused_to_read g.E.Eater.eaten g.E.Eater.refused _ _ c.args.left c.args.eater.now c.in_err-n.field-0.0 c.in_err-n.ensures.refused)
+    rw (p.1, p.2) (refused_to_read g.E.Eater.eaten g.E.Eater.refused _ _ c.args.left c.args.eater.now c.in_err-n.field-0.0
+    c.in_err-n.ensures.refused)
 
 pub returns-then-n-left-clause-stops : goal.returns-then-n-left-clause-stops
 returns-then-n-left-clause-stops g c =

@@ -7,7 +7,11 @@ loop-n-init g c = record { feeds = feeds_none _ _; within = omega arith }
 
 pub loop-n-preserved : goal.loop-n-preserved
 loop-n-preserved g c =
-    record { feeds = feeds_then c.loop-n.invariant.feeds c.in-Ok.ensures.fed; within = omega (arith, c.in-Ok.ensures.within, c.loop-n.invariant.within) }
+    record {
+      feeds = feeds_then c.loop-n.invariant.feeds c.in-Ok.ensures.fed;
+      within =
+          omega (arith, c.in-Ok.ensures.within, c.loop-n.invariant.within);
+    }
 
 pub returns-in-Ok-eq0-clause-fed : goal.returns-in-Ok-eq0-clause-fed
 returns-in-Ok-eq0-clause-fed g c = feeds_end c.loop-n.invariant.feeds c.in-Ok-eq0.ensures.fed c.in-Ok-eq0.field-0-test

@@ -1,5 +1,17 @@
 -- `deallocate` forgets the values, makes the block of its places, and gives it back with the allocator's token. Assumes `Logic`.
-use Rattle.seg_buffer.proofs.Steps.{◌≡◌, refl, sym, ap, subst, ◌∙◌, List, [], ◌∷◌, ◌++◌, ℕ, ◌*◌, ◌≤◌, ◌<◌, ◌^◌, arith, T, length, replicate, Ura, SProp, ent, never, id⊢, Fml, Lft, Share, Incl-trans, ftrue, froom, flft, Fn, named, w64, ty_unit, ty_array, inst_fn, Val, vptr, vint, vunit, has_ty, WT, Memory, align, capped, capped_fits, Routine, Env, Calls, Loops, WpFn, Tables, Fun, fact, ◌⊑◌, tables, tables_of, WpFn-mono, FmC, fm_of, Logic, Item, ⋆, ‵, raw, given, later, ◌⊛◌, at_ret, ◌$◌, ◌∵◌, !, qed, by, move, keep, use1, learn, await, split, join, group, fsplit, fsplit3, fjoin, feq_i, feq_l, flt_l, rewrite, suffices, done, whole, sub, stop, fld, lit, unit_lit, size_word, align_word, of_opd, bin, and_then, no_more, first, branches, skips, blocks, exec, returns, enter, alloc_all, pass_all, free_all, look_at, get, get_in, sets, lands_last, is, env, yes, no, RattleType, owns, hidden_shr, Ptr, ptr_val, in_a_block, Bor, ShrRef, RefOf, usize, plain, nothing, calls_at_last, Clauses, Ended, closing, on_entry, Meets, triple_of, Triple, entered, needs, Stays, stay_dropped, walk_of, ends_at, Goes-dropped, walk_Meets, Al, second, token, gives_key, Gives, at_gives, Gives-goes, Gives-Gives, Goes-blank, after, El, R, elτ, uncapped, block_ty, block_size, block_align, P, as_raw, word, word-Good, None, type_size}
+use Rattle.seg_buffer.proofs.Steps.{◌≡◌, refl, sym, ap, subst, ◌∙◌, List, [], ◌∷◌, ◌++◌, ℕ, ◌*◌, ◌≤◌, ◌<◌, ◌^◌, arith, T, length}
+use Rattle.seg_buffer.proofs.Steps.{replicate, Ura, SProp, ent, never, id⊢, Fml, Lft, Share, Incl-trans, ftrue, froom, flft, Fn, named}
+use Rattle.seg_buffer.proofs.Steps.{w64, ty_unit, ty_array, inst_fn, Val, vptr, vint, vunit, has_ty, WT, Memory, align, capped}
+use Rattle.seg_buffer.proofs.Steps.{capped_fits, Routine, Env, Calls, Loops, WpFn, Tables, Fun, fact, ◌⊑◌, tables, tables_of, WpFn-mono}
+use Rattle.seg_buffer.proofs.Steps.{FmC, fm_of, Logic, Item, ⋆, ‵, raw, given, later, ◌⊛◌, at_ret, ◌$◌, ◌∵◌, !, qed, by, move, keep, use1}
+use Rattle.seg_buffer.proofs.Steps.{learn, await, split, join, group, fsplit, fsplit3, fjoin, feq_i, feq_l, flt_l, rewrite, suffices, done}
+use Rattle.seg_buffer.proofs.Steps.{whole, sub, stop, fld, lit, unit_lit, size_word, align_word, of_opd, bin, and_then, no_more, first}
+use Rattle.seg_buffer.proofs.Steps.{branches, skips, blocks, exec, returns, enter, alloc_all, pass_all, free_all, look_at, get, get_in}
+use Rattle.seg_buffer.proofs.Steps.{sets, lands_last, is, env, yes, no, RattleType, owns, hidden_shr, Ptr, ptr_val, in_a_block, Bor}
+use Rattle.seg_buffer.proofs.Steps.{ShrRef, RefOf, usize, plain, nothing, calls_at_last, Clauses, Ended, closing, on_entry, Meets}
+use Rattle.seg_buffer.proofs.Steps.{triple_of, Triple, entered, needs, Stays, stay_dropped, walk_of, ends_at, Goes-dropped, walk_Meets, Al}
+use Rattle.seg_buffer.proofs.Steps.{second, token, gives_key, Gives, at_gives, Gives-goes, Gives-Gives, Goes-blank, after, El, R, elτ}
+use Rattle.seg_buffer.proofs.Steps.{uncapped, block_ty, block_size, block_align, P, as_raw, word, word-Good, None, type_size}
 use Rattle.core.proofs.slots.Leases.{args}
 use Rattle.seg_buffer.specs.Memory.{row, spread, places_own, deed_owns}
 use Rattle.seg_buffer.proofs.Parts.{Pl, Bs, mark, mark_had, base_had, deed_real, some_room}
@@ -24,13 +36,23 @@ module _ (E : El) (Z : Al) where
   Dd = D-type.the_row (R E) (P E Z) Z.g
 
   abbrev stayed : Stays ended.signature.params ended.kept
-  stayed = (stay_dropped (RefOf (0 ∷ []) tt (plain (λ _. P E Z)) (λ _. tt)) yes, (stay_dropped (plain (λ _. Bs E)) no, (stay_dropped (plain (λ _. usize)) yes, (stay_dropped (plain (λ _. Pl E)) no, (stay_dropped (plain (λ _. Dd)) no, tt)))))
+  stayed = (
+    stay_dropped (RefOf (0 ∷ []) tt (plain (λ _. P E Z)) (λ _. tt)) yes,
+    (
+      stay_dropped (plain (λ _. Bs E)) no,
+      (stay_dropped (plain (λ _. usize)) yes, (stay_dropped (plain (λ _. Pl E)) no, (stay_dropped (plain (λ _. Dd)) no, tt))),
+    ),
+  )
 
   abbrev Asks : Z.row.Denot → (Bs E).Denot → ℕ → (Pl E).Denot → Dd.Denot → Type 0
-  Asks a base n places deed = (places.at ≡ base.ptr) × (places.room ≡ n) × (length places.values ≤ n) × (deed.at ≡ base.ptr) × (deed.room ≡ n) × (deed.alloc ≡ a)
+  Asks a base n places deed = (places.at ≡ base.ptr) × (places.room ≡ n) × (length places.values ≤ n) × (deed.at ≡ base.ptr)
+      × (deed.room ≡ n) × (deed.alloc ≡ a)
 
-module _ (E : El) (Z : Al) {M : Type 1} {𝓤 : Ura M} (𝓛 : Logic 𝓤) (at_mem : Memory → SProp 𝓤) (run : Routine → Fun 𝓤) (C : Calls 𝓤 𝓛.H) (Λ : Loops 𝓤 𝓛.H) (fm : FmC 𝓤 𝓛.H 𝓛.laws C)
-    (callee : Triple 𝓤 (C (gives_key Z)) (Gives Z 𝓛 at_mem run)) (κ κ₁ κ₂ : Lft) (q q₁ q₂ : Share) (short : κ ⊑ κ₂) (within : κ₂ ⊑ Z.row.lives) (rb ro : ℕ) (a : Z.row.Denot) (base : (Bs E).Denot) (n : ℕ) (places : (Pl E).Denot) (deed : (Dd E Z).Denot) (us0 us1 us2 us3 us4 : List Val) where
+module _ (E : El) (Z : Al) {M : Type 1} {𝓤 : Ura M} (𝓛 : Logic 𝓤) (at_mem : Memory → SProp 𝓤) (run : Routine
+    → Fun 𝓤) (C : Calls 𝓤 𝓛.H) (Λ : Loops 𝓤 𝓛.H) (fm : FmC 𝓤 𝓛.H 𝓛.laws C)
+    (callee : Triple 𝓤 (C (gives_key Z)) (Gives Z 𝓛 at_mem run)) (κ κ₁ κ₂ : Lft) (q q₁ q₂ : Share) (short : κ ⊑ κ₂)
+    (within : κ₂ ⊑ Z.row.lives) (rb ro : ℕ) (a : Z.row.Denot) (base : (Bs E).Denot) (n : ℕ) (places : (Pl E).Denot)
+    (deed : (Dd E Z).Denot) (us0 us1 us2 us3 us4 : List Val) where
   open 𝓛 use {H, A}
 
   abbrev self : Bor Z.row.Denot
@@ -40,7 +62,16 @@ module _ (E : El) (Z : Al) {M : Type 1} {𝓤 : Ura M} (𝓛 : Logic 𝓤) (at_m
   others = ‵ (flft κ₁ q₁) ⊛ ‵ (flft κ₂ q₂) ⊛ ‵ ftrue
 
   abbrev bound : (walk_of 𝓛 (ended E Z) (stayed E Z) (clauses E Z 𝓛 at_mem run)).Ghost
-  bound = (((κ, (κ₁, (κ₂, tt))), (q, (q₁, (q₂, tt))), (short, tt), (self, (base, (n, (places, (deed, tt))))), (us0, (us1, (us2, (us3, (us4, tt)))))), tt)
+  bound = (
+    (
+      (κ, (κ₁, (κ₂, tt))),
+      (q, (q₁, (q₂, tt))),
+      (short, tt),
+      (self, (base, (n, (places, (deed, tt))))),
+      (us0, (us1, (us2, (us3, (us4, tt))))),
+    ),
+    tt,
+  )
 
   abbrev Post : Val → SProp 𝓤
   Post = (walk_of 𝓛 (ended E Z) (stayed E Z) (clauses E Z 𝓛 at_mem run)).post bound
@@ -48,18 +79,24 @@ module _ (E : El) (Z : Al) {M : Type 1} {𝓤 : Ura M} (𝓛 : Logic 𝓤) (at_m
   exits : ent 𝓤 (⋆ 𝓛 (‵ (flft κ q) ∷ others ∷ [])) (Post vunit)
   exits =
       qed 𝓛 (‵ (flft κ q) ∷ others ∷ []) ∵
-      suffices ! _ (ends_at 𝓛 (ended E Z) (stayed E Z) (clauses E Z 𝓛 at_mem run) bound vunit tt (tt, (tt, (tt, (tt, (tt, tt))))) (tt, (tt, (tt, (tt, (tt, tt)))))) $
-      join ! $ feq_i ! (List Val) (vunit ∷ []) (vunit ∷ []) refl $ nothing ! $ nothing ! $ fjoin ! $ nothing ! $ fjoin ! $ nothing ! $ fjoin ! $ nothing ! $ fjoin ! $ nothing ! $ fjoin ! $ join ! $
+      suffices ! _ (ends_at 𝓛 (ended E Z) (stayed E Z) (clauses E Z 𝓛 at_mem run) bound vunit tt (tt, (tt, (tt, (tt, (tt, tt)))))
+      (tt, (tt, (tt, (tt, (tt, tt)))))) $
+      join ! $ feq_i ! (List Val) (vunit ∷ []) (vunit
+      ∷ []) refl $ nothing ! $ nothing ! $ fjoin ! $ nothing ! $ fjoin ! $ nothing ! $ fjoin ! $ nothing ! $ fjoin ! $ nothing ! $
+      fjoin ! $ join ! $
       move ! (1 ∷ 0 ∷ []) $ join ! $ nothing ! $ move ! (1 ∷ 0 ∷ []) $ done !
 
   abbrev Had : List (Item 𝓤)
-  Had = ‵ (places_own (R E) places.at places.room places.values) ∷ ‵ (deed_owns (R E) (token Z deed.alloc) deed.at deed.room) ∷ ‵ (hidden_shr (P E Z) κ a rb ro) ∷ ‵ (flft κ q) ∷ others ∷ []
+  Had = ‵ (places_own (R E) places.at places.room places.values) ∷ ‵ (deed_owns (R E) (token Z deed.alloc) deed.at deed.room)
+      ∷ ‵ (hidden_shr (P E Z) κ a rb ro) ∷ ‵ (flft κ q) ∷ others ∷ []
 
-  walk : Asks E Z a base n places deed → n < 2 ^ 64 → ent 𝓤 (⋆ 𝓛 Had) (WpFn 𝓤 H C Λ (function E Z) (vptr rb ro ∷ word base.ptr ∷ vint w64 n ∷ mark ∷ mark ∷ []) Post)
+  walk : Asks E Z a base n places deed → n < 2 ^ 64
+      → ent 𝓤 (⋆ 𝓛 Had) (WpFn 𝓤 H C Λ (function E Z) (vptr rb ro ∷ word base.ptr ∷ vint w64 n ∷ mark ∷ mark ∷ []) Post)
   walk asked fits =
       let xs = places.values in let s = type_size (R E) in let al : ℕ = capped (align (elτ E)) in
       qed 𝓛 Had ∵ enter ! C Λ (function E Z) (vptr rb ro ∷ word base.ptr ∷ vint w64 n ∷ mark ∷ mark ∷ []) _ $
-      alloc_all ! (λ l. pass_all ! refl ((tt, tt), (word-Good [] base.ptr, ((tt, record { fits = fits }), ((tt, (tt, tt)), ((tt, (tt, tt)), tt))))) $
+      alloc_all ! (λ l. pass_all ! refl
+      ((tt, tt), (word-Good [] base.ptr, ((tt, record { fits = fits }), ((tt, (tt, tt)), ((tt, (tt, tt)), tt))))) $
       let En : Env 𝓤 H = env (function E Z).locals l in
       sets ! (bin ! (get ! refl) (lit ! tt) tt) refl (tt, tt) $ first ! $ branches ! (get ! refl)
       (λ is_block.
@@ -68,38 +105,64 @@ module _ (E : El) (Z : Al) {M : Type 1} {𝓤 : Ura M} (𝓛 : Logic 𝓤) (at_m
       in_a_block ! base.ptr (λ p. places_own (R E) p n xs) (id⊢ 𝓤 (never 𝓤)) (λ b o e. fsplit ! $ flt_l ! (λ small.
       let bytes : n * s < 2 ^ 64 = omega arith in
       let y : (Gives Z 𝓛 at_mem run).Ghost = at_gives Z 𝓛 at_mem run κ q (rb, ro) a b o (n * s) al (block_ty E n) in
-      rewrite ! 1 (λ (c : Z.row.Denot × Ptr × ℕ). ‵ (deed_owns (R E) (token Z c.0) c.1 c.2)) (λ i. (asked.5 i, (asked.3 ∙ e) i, asked.4 i)) refl $
+      rewrite ! 1 (λ (c : Z.row.Denot × Ptr
+      × ℕ). ‵ (deed_owns (R E) (token Z c.0) c.1 c.2)) (λ i. (asked.5 i, (asked.3 ∙ e) i, asked.4 i)) refl $
       rewrite ! 1 (λ (F : Fml). ‵ F) (deed_real (R E) (token Z a) _ n lt) refl $
       use1 𝓛 (‵ (row (R E) b o (replicate (length (spread n xs)) None))) (emptied E 𝓛 b (spread n xs) o) $
       rewrite ! 0 (λ (j : ℕ). ‵ (row (R E) b o (replicate j None))) (length-spread n xs asked.2) refl $
       use1 𝓛 (‵ (froom (ty_array (elτ E) n) b o)) (to_room E 𝓛 b n o) $ as_raw ! (ty_array (elτ E) n) b o $ blocks ! $
       sets ! (is ! (of_opd ! (get_in ! (fld ! refl (stop !)) (sub ! 0 refl (whole !)))) (ap ptr_val e)) refl (tt, tt) $
-      sets ! (is ! (bin ! (get ! refl) (size_word !) (record { fits = subst (λ (k : ℕ). k < 2 ^ 64) (sym (uncapped n s bytes)) bytes })) (ap (vint w64) (uncapped n s bytes))) refl (tt, record { fits = bytes }) $
-      group ! 4 $ use1 𝓛 (raw ((Gives Z 𝓛 at_mem run).pre y)) (Gives-goes Z 𝓛 at_mem run κ q (rb, ro) a (Incl-trans short within) b o (n * s) al (block_ty E n) (block_size E n bytes) (block_align E n) bytes (capped_fits (align (elτ E)))) $
-      calls_at_last ! fm (Gives Z 𝓛 at_mem run) callee y (and_then ! (get ! refl) (and_then ! (get ! refl) (and_then ! (get ! refl) (and_then ! (align_word !) (no_more !))))) (λ v.
-      use1 𝓛 (later (given (v ≡ vunit) (‵ (flft κ q)))) (Gives-Gives Z 𝓛 at_mem run κ q (rb, ro) a b o (n * s) al (block_ty E n) v) $ await ! tt $ learn ! (λ is_unit.
-      lands_last ! refl (subst (λ (z : Val). T (has_ty ty_unit z) × WT z) (sym is_unit) (tt, tt)) $ exec ! C Λ En (after 2 (function E Z).body) (at_ret En Post) $
+      sets ! (is ! (bin ! (get ! refl) (size_word !) (record { fits = subst (λ (k : ℕ). k < 2 ^ 64) (sym (uncapped n s bytes)) bytes }))
+      (ap (vint w64) (uncapped n s bytes))) refl (tt, record { fits = bytes }) $
+      group ! 4 $ use1 𝓛 (raw ((Gives Z 𝓛 at_mem run).pre y))
+      (Gives-goes Z 𝓛 at_mem run κ q (rb, ro) a (Incl-trans short within) b o (n * s) al (block_ty E n) (block_size E n bytes)
+      (block_align E n) bytes (capped_fits (align (elτ E)))) $
+      calls_at_last ! fm (Gives Z 𝓛 at_mem run) callee y
+      (and_then ! (get ! refl) (and_then ! (get ! refl) (and_then ! (get ! refl) (and_then ! (align_word !) (no_more !))))) (λ v.
+      use1 𝓛 (later (given (v ≡ vunit) (‵ (flft κ q))))
+      (Gives-Gives Z 𝓛 at_mem run κ q (rb, ro) a b o (n * s) al (block_ty E n) v) $ await ! tt $ learn ! (λ is_unit.
+      lands_last ! refl (subst (λ (z : Val). T (has_ty ty_unit z)
+      × WT z) (sym is_unit) (tt, tt)) $ exec ! C Λ En (after 2 (function E Z).body) (at_ret En Post) $
       sets ! (of_opd ! (unit_lit !)) refl (tt, tt) $ returns ! (look_at ! 0 refl) $ free_all ! refl $ keep ! (0 ∷ 1 ∷ []) $ by ! exits)))))
       (λ none. skips ! $ exec ! C Λ En (after 2 (function E Z).body) (at_ret En Post) $
       sets ! (of_opd ! (unit_lit !)) refl (tt, tt) $ returns ! (look_at ! 0 refl) $ free_all ! refl $ keep ! (3 ∷ 4 ∷ []) $ by ! exits))
 
-  entry : Asks E Z a base n places deed → ent 𝓤 (on_entry 𝓛 (ended E Z).signature (κ, (κ₁, (κ₂, tt))) (q, (q₁, (q₂, tt))) (self, (base, (n, (places, (deed, tt))))) (us0, (us1, (us2, (us3, (us4, tt)))))) (WpFn 𝓤 H C Λ (function E Z) (us0 ++ (us1 ++ (us2 ++ (us3 ++ (us4 ++ []))))) Post)
+  entry : Asks E Z a base n places deed
+      → ent 𝓤 (on_entry 𝓛 (ended E Z).signature (κ, (κ₁, (κ₂, tt))) (q, (q₁, (q₂, tt))) (self, (base, (n, (places, (deed, tt)))))
+      (us0, (us1, (us2, (us3, (us4, tt)))))) (WpFn 𝓤 H C Λ (function E Z) (us0 ++ (us1 ++ (us2 ++ (us3 ++ (us4 ++ []))))) Post)
   entry asked =
-      qed 𝓛 ((‵ (flft κ q) ⊛ others) ∷ ‵ (owns (ShrRef (named 0) κ (P E Z) ∷ Bs E ∷ usize ∷ Pl E ∷ Dd E Z ∷ []) (self, (base, (n, (places, (deed, tt))))) (us0, (us1, (us2, (us3, (us4, tt)))))) ∷ []) ∵ split ! $ move ! (2 ∷ []) $ fsplit3 ! $ fsplit ! $ feq_l ! (λ e0.
+      qed 𝓛 ((‵ (flft κ q) ⊛ others)
+      ∷ ‵ (owns (ShrRef (named 0) κ (P E Z) ∷ Bs E ∷ usize ∷ Pl E ∷ Dd E Z
+      ∷ []) (self, (base, (n, (places, (deed, tt))))) (us0, (us1, (us2, (us3, (us4, tt)))))) ∷ []) ∵ split ! $ move ! (2
+      ∷ []) $ fsplit3 ! $ fsplit ! $ feq_l ! (λ e0.
       move ! (1 ∷ []) $ base_had ! base.ptr us1 (λ e1. move ! (1 ∷ []) $ fsplit3 ! $ fsplit ! $ feq_l ! (λ e2. flt_l ! (λ fits.
       fsplit ! $ mark_had ! E us3 (λ e3. move ! (1 ∷ []) $ fsplit ! $ fsplit ! $ mark_had ! E us4 (λ e4. keep ! (2 ∷ 0 ∷ 3 ∷ 4 ∷ 5 ∷ []) $
-      by ! (subst (λ (ws : List Val × List Val × List Val × List Val × List Val). ent 𝓤 (⋆ 𝓛 Had) (WpFn 𝓤 H C Λ (function E Z) (ws.0 ++ (ws.1 ++ (ws.2 ++ (ws.3 ++ (ws.4 ++ []))))) Post))
+      by ! (subst (λ (ws : List Val × List Val × List Val × List Val
+      × List Val). ent 𝓤 (⋆ 𝓛 Had) (WpFn 𝓤 H C Λ (function E Z) (ws.0 ++ (ws.1 ++ (ws.2 ++ (ws.3 ++ (ws.4 ++ []))))) Post))
       (λ j. (sym e0 j, sym e1 j, sym e2 j, sym e3 j, sym e4 j)) (walk asked fits))))))))
 
-meets : (E : El) (Z : Al) {M : Type 1} {𝓤 : Ura M} (𝓛 : Logic 𝓤) (at_mem : Memory → SProp 𝓤) (run : Routine → Fun 𝓤) (𝓣 : Tables 𝓤 𝓛.H) → Triple 𝓤 (𝓣.C (gives_key Z)) (Gives Z 𝓛 at_mem run)
+meets : (E : El) (Z : Al) {M : Type 1} {𝓤 : Ura M} (𝓛 : Logic 𝓤) (at_mem : Memory → SProp 𝓤) (run : Routine → Fun 𝓤) (𝓣 : Tables 𝓤 𝓛.H)
+    → Triple 𝓤 (𝓣.C (gives_key Z)) (Gives Z 𝓛 at_mem run)
     → Meets 𝓛 (ended E Z).signature (WpFn 𝓤 𝓛.H 𝓣.C 𝓣.Λ (function E Z)) (closing 𝓛 (ended E Z) (clauses E Z 𝓛 at_mem run))
 meets E Z {𝓤 = 𝓤} 𝓛 at_mem run 𝓣 callee =
-    walk_Meets 𝓛 (ended E Z) (stayed E Z) (Goes-dropped 𝓛 3 (RefOf (0 ∷ []) tt (plain (λ _. P E Z)) (λ _. tt)) yes (λ κs x f. refl), (Goes-dropped 𝓛 3 (plain (λ _. Bs E)) no (λ κs x f. refl), (Goes-dropped 𝓛 3 (plain (λ _. usize)) yes (λ κs x f. refl), (Goes-blank 𝓛 3 (plain (λ _. Pl E)) no (λ κs x f. tt), (Goes-blank 𝓛 3 (plain (λ _. Dd E Z)) no (λ κs x f. tt), tt)))))
+    walk_Meets 𝓛 (ended E Z) (stayed E Z) (
+      Goes-dropped 𝓛 3 (RefOf (0 ∷ []) tt (plain (λ _. P E Z)) (λ _. tt)) yes (λ κs x f. refl),
+      (
+        Goes-dropped 𝓛 3 (plain (λ _. Bs E)) no (λ κs x f. refl),
+        (
+          Goes-dropped 𝓛 3 (plain (λ _. usize)) yes (λ κs x f. refl),
+          (Goes-blank 𝓛 3 (plain (λ _. Pl E)) no (λ κs x f. tt), (Goes-blank 𝓛 3 (plain (λ _. Dd E Z)) no (λ κs x f. tt), tt)),
+        ),
+      ),
+    )
     (clauses E Z 𝓛 at_mem run) (WpFn 𝓤 𝓛.H 𝓣.C 𝓣.Λ (function E Z)) (WpFn-mono 𝓤 𝓛.H 𝓛.laws 𝓣 (function E Z))
-    (λ z. let κs = z.0.0 in let qs = z.0.1 in let a = z.0.3 in let vss = z.0.4 in let On : SProp 𝓤 = on_entry 𝓛 (ended E Z).signature κs qs a vss in
+    (λ z. let κs = z.0.0 in let qs = z.0.1 in let a = z.0.3 in let vss = z.0.4 in let On : SProp 𝓤 =
+    on_entry 𝓛 (ended E Z).signature κs qs a vss in
     let asks = Asks E Z a.0.now a.1.0 a.1.1.0 a.1.1.1.0 a.1.1.1.1.0 in
     second 𝓤 (κs.1.0 ⊑ E.row.lives) (κs.1.1.0 ⊑ Z.row.lives) On (fact 𝓤 asks) (λ within. needs 𝓤 asks On
-    (entry E Z 𝓛 at_mem run 𝓣.C 𝓣.Λ (fm_of 𝓤 𝓛.H 𝓛.laws 𝓣) callee κs.0 κs.1.0 κs.1.1.0 qs.0 qs.1.0 qs.1.1.0 z.0.2.0 within a.0.ref_ptr.0 a.0.ref_ptr.1 a.0.now a.1.0 a.1.1.0 a.1.1.1.0 a.1.1.1.1.0 vss.0 vss.1.0 vss.1.1.0 vss.1.1.1.0 vss.1.1.1.1.0)))
+    (entry E Z 𝓛 at_mem run 𝓣.C 𝓣.Λ
+    (fm_of 𝓤 𝓛.H 𝓛.laws 𝓣) callee κs.0 κs.1.0 κs.1.1.0 qs.0 qs.1.0 qs.1.1.0 z.0.2.0 within a.0.ref_ptr.0 a.0.ref_ptr.1 a.0.now a.1.0
+    a.1.1.0 a.1.1.1.0 a.1.1.1.1.0 vss.0 vss.1.0 vss.1.1.0 vss.1.1.1.0 vss.1.1.1.1.0)))
 
 pub deallocate_spec : {M : Type 1} → stated.statement M
 unfolding tables_of
@@ -107,5 +170,6 @@ deallocate_spec 𝓤 𝓛 𝓜 𝓡 wired X W LX LW g d dd met md =
     let E : El = record { row = X; laws = LX } in
     let Z : Al = record { row = W; laws = LW; g = g; d = d; drops = dd } in
     let 𝓣 : Tables 𝓤 𝓛.H = tables_of 𝓤 𝓛.H 𝓜 (tables 𝓤 𝓛.H 𝓜 𝓡 𝓡.env) in
-    entered 𝓤 𝓛.H (triple_of 𝓛 (ended E Z).signature (F.spec X W g d dd 𝓛 𝓜.mem 𝓡.returns)) 𝓣.C 𝓣.Λ (#self (args E Z)) (function E Z) (code.unfolded 𝓤 𝓛.H 𝓜 𝓡 wired (X, (W, tt)) d dd)
+    entered 𝓤 𝓛.H (triple_of 𝓛 (ended E Z).signature (F.spec X W g d dd 𝓛 𝓜.mem 𝓡.returns)) 𝓣.C 𝓣.Λ (#self (args E Z)) (function E Z)
+    (code.unfolded 𝓤 𝓛.H 𝓜 𝓡 wired (X, (W, tt)) d dd)
     (meets E Z 𝓛 𝓜.mem 𝓡.returns 𝓣 (met.deallocate dd))

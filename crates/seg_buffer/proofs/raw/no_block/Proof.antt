@@ -1,5 +1,12 @@
 -- `no_block` makes the rights to no places, at the address of a local. Assumes `Logic`.
-use Rattle.seg_buffer.proofs.Steps.{◌≡◌, refl, sym, subst, List, [], ◌∷◌, ◌++◌, ℕ, ◌*◌, ◌<◌, ◌^◌, lit<, Ura, SProp, ent, Lft, Share, ftrue, flft, Fn, named, inst_fn, Val, vptr, Memory, Routine, Calls, Loops, WpFn, Tables, Fun, ◌⊑◌, tables, tables_of, WpFn-mono, Logic, Item, ⋆, ‵, ◌⊛◌, ◌$◌, ◌∵◌, !, qed, by, move, keep, use0, use3, split, join, frame, fsplit, fjoin, feq_l, flt_i, suffices, done, agg, stop, from, addr, and_then, no_more, returns, enter, alloc_all, pass_all, free_all, look_at, get, sets, yes, RattleType, owns, layout, Ptr, block_ptr, Bor, ShrRef, RefOf, plain, nothing, Tuple, Clauses, Ended, closing, on_entry, Meets, triple_of, entered, says, Stays, stay_dropped, walk_of, ends_at, Goes-dropped, walk_Meets, Al, El, R, P, Good, word, word-Good, type_size}
+use Rattle.seg_buffer.proofs.Steps.{◌≡◌, refl, sym, subst, List, [], ◌∷◌, ◌++◌, ℕ, ◌*◌, ◌<◌, ◌^◌, lit<, Ura, SProp, ent, Lft, Share, ftrue}
+use Rattle.seg_buffer.proofs.Steps.{flft, Fn, named, inst_fn, Val, vptr, Memory, Routine, Calls, Loops, WpFn, Tables, Fun, ◌⊑◌, tables}
+use Rattle.seg_buffer.proofs.Steps.{tables_of, WpFn-mono, Logic, Item, ⋆, ‵, ◌⊛◌, ◌$◌, ◌∵◌, !, qed, by, move, keep, use0, use3, split}
+use Rattle.seg_buffer.proofs.Steps.{join, frame, fsplit, fjoin, feq_l, flt_i, suffices, done, agg, stop, from, addr, and_then, no_more}
+use Rattle.seg_buffer.proofs.Steps.{returns, enter, alloc_all, pass_all, free_all, look_at, get, sets, yes, RattleType, owns, layout, Ptr}
+use Rattle.seg_buffer.proofs.Steps.{block_ptr, Bor, ShrRef, RefOf, plain, nothing, Tuple, Clauses, Ended, closing, on_entry, Meets}
+use Rattle.seg_buffer.proofs.Steps.{triple_of, entered, says, Stays, stay_dropped, walk_of, ends_at, Goes-dropped, walk_Meets, Al, El, R}
+use Rattle.seg_buffer.proofs.Steps.{P, Good, word, word-Good, type_size}
 use native.Mathlib.Nat.{zero-mul}
 use base.Logic.{via, fst∗}
 use Rattle.core.proofs.slots.Leases.{args}
@@ -29,7 +36,8 @@ module _ (E : El) (Z : Al) where
   abbrev Three : RattleType
   Three = Tuple (Bs E ∷ Pl E ∷ Dd ∷ [])
 
-module _ (E : El) (Z : Al) {M : Type 1} {𝓤 : Ura M} (𝓛 : Logic 𝓤) (at_mem : Memory → SProp 𝓤) (run : Routine → Fun 𝓤) (C : Calls 𝓤 𝓛.H) (Λ : Loops 𝓤 𝓛.H)
+module _ (E : El) (Z : Al) {M : Type 1} {𝓤 : Ura M} (𝓛 : Logic 𝓤) (at_mem : Memory → SProp 𝓤) (run : Routine
+    → Fun 𝓤) (C : Calls 𝓤 𝓛.H) (Λ : Loops 𝓤 𝓛.H)
     (κ κ₁ κ₂ : Lft) (q q₁ q₂ : Share) (short : κ ⊑ κ₂) (rb ro : ℕ) (a : Z.row.Denot) (us0 : List Val) where
   open 𝓛 use {H, A}
 
@@ -45,7 +53,8 @@ module _ (E : El) (Z : Al) {M : Type 1} {𝓤 : Ura M} (𝓛 : Logic 𝓤) (at_m
   abbrev Post : Val → SProp 𝓤
   Post = (walk_of 𝓛 (ended E Z) (stayed E Z) (clauses E Z 𝓛 at_mem run)).post bound
 
-  exits : (r : (Three E Z).Denot) (v : Val) → (r.1.at ≡ r.0.ptr) × (r.1.room ≡ 0) × (r.1.values ≡ []) × (r.2.at ≡ r.0.ptr) × (r.2.room ≡ 0) × (r.2.alloc ≡ a)
+  exits : (r : (Three E Z).Denot) (v : Val)
+      → (r.1.at ≡ r.0.ptr) × (r.1.room ≡ 0) × (r.1.values ≡ []) × (r.2.at ≡ r.0.ptr) × (r.2.room ≡ 0) × (r.2.alloc ≡ a)
       → ent 𝓤 (⋆ 𝓛 (‵ ((Three E Z).own_val r (v ∷ [])) ∷ ‵ (flft κ q) ∷ others ∷ [])) (Post v)
   exits r v g =
       qed 𝓛 (‵ ((Three E Z).own_val r (v ∷ [])) ∷ ‵ (flft κ q) ∷ others ∷ []) ∵
@@ -71,17 +80,23 @@ module _ (E : El) (Z : Al) {M : Type 1} {𝓤 : Ura M} (𝓛 : Logic 𝓤) (at_m
       sets ! (agg ! (no_more !)) refl (tt, tt) $ sets ! (agg ! (and_then ! (get ! refl) (no_more !))) refl (tt, (tt, tt)) $
       sets ! (agg ! (and_then ! (get ! refl) (and_then ! (get ! refl) (and_then ! (get ! refl) (no_more !))))) refl typed $
       nothing ! $ use0 𝓛 (‵ ((Mark E).own_val (tt, tt) (mark ∷ []))) (mark_made E 𝓛) $ fjoin ! $
-      nothing ! $ flt_i ! (0 * s) (2 ^ 63) (subst (λ (k : ℕ). k < 2 ^ 63) (sym (zero-mul s)) (lit< tt)) $ fjoin ! $ use0 𝓛 (‵ ((Mark E).own_val (tt, tt) (mark ∷ []))) (mark_made E 𝓛) $ fjoin ! $ base_made ! p $
-      use3 𝓛 (‵ ((Three E Z).own_val (base, places, deed) (made ∷ []))) (three_made 𝓛 (Bs E) (Pl E) (Dd E Z) base places deed (word p) mark mark) $
-      returns ! (look_at ! 0 refl) $ free_all ! refl $ keep ! (0 ∷ 1 ∷ 2 ∷ []) $ by ! (exits (base, places, deed) made (refl, refl, refl, refl, refl, refl)))
+      nothing ! $ flt_i ! (0 * s) (2 ^ 63) (subst (λ (k : ℕ). k < 2 ^ 63) (sym (zero-mul s)) (lit< tt)) $ fjoin ! $ use0 𝓛
+      (‵ ((Mark E).own_val (tt, tt) (mark ∷ []))) (mark_made E 𝓛) $ fjoin ! $ base_made ! p $
+      use3 𝓛 (‵ ((Three E Z).own_val (base, places, deed) (made ∷ [])))
+      (three_made 𝓛 (Bs E) (Pl E) (Dd E Z) base places deed (word p) mark mark) $
+      returns ! (look_at ! 0 refl) $ free_all ! refl $ keep ! (0 ∷ 1 ∷ 2
+      ∷ []) $ by ! (exits (base, places, deed) made (refl, refl, refl, refl, refl, refl)))
 
-  entry : ent 𝓤 (on_entry 𝓛 (ended E Z).signature (κ, (κ₁, (κ₂, tt))) (q, (q₁, (q₂, tt))) (self, tt) (us0, tt)) (WpFn 𝓤 H C Λ (function E Z) (us0 ++ []) Post)
+  entry : ent 𝓤 (on_entry 𝓛 (ended E Z).signature (κ, (κ₁, (κ₂, tt))) (q, (q₁, (q₂, tt))) (self, tt) (us0, tt))
+      (WpFn 𝓤 H C Λ (function E Z) (us0 ++ []) Post)
   entry =
-      qed 𝓛 ((‵ (flft κ q) ⊛ others) ∷ ‵ (owns (ShrRef (named 0) κ (P E Z) ∷ []) (self, tt) (us0, tt)) ∷ []) ∵ split ! $ move ! (2 ∷ []) $ fsplit ! $ fsplit ! $ feq_l ! (λ e0.
+      qed 𝓛 ((‵ (flft κ q) ⊛ others) ∷ ‵ (owns (ShrRef (named 0) κ (P E Z) ∷ []) (self, tt) (us0, tt)) ∷ []) ∵ split ! $ move ! (2
+      ∷ []) $ fsplit ! $ fsplit ! $ feq_l ! (λ e0.
       keep ! (2 ∷ 3 ∷ []) $
       by ! (subst (λ (ws : List Val). ent 𝓤 (⋆ 𝓛 Had) (WpFn 𝓤 H C Λ (function E Z) (ws ++ []) Post)) (sym e0) walk))
 
-meets : (E : El) (Z : Al) {M : Type 1} {𝓤 : Ura M} (𝓛 : Logic 𝓤) (at_mem : Memory → SProp 𝓤) (run : Routine → Fun 𝓤) (𝓣 : Tables 𝓤 𝓛.H) → Meets 𝓛 (ended E Z).signature (WpFn 𝓤 𝓛.H 𝓣.C 𝓣.Λ (function E Z)) (closing 𝓛 (ended E Z) (clauses E Z 𝓛 at_mem run))
+meets : (E : El) (Z : Al) {M : Type 1} {𝓤 : Ura M} (𝓛 : Logic 𝓤) (at_mem : Memory → SProp 𝓤) (run : Routine → Fun 𝓤) (𝓣 : Tables 𝓤 𝓛.H)
+    → Meets 𝓛 (ended E Z).signature (WpFn 𝓤 𝓛.H 𝓣.C 𝓣.Λ (function E Z)) (closing 𝓛 (ended E Z) (clauses E Z 𝓛 at_mem run))
 meets E Z {𝓤 = 𝓤} 𝓛 at_mem run 𝓣 =
     walk_Meets 𝓛 (ended E Z) (stayed E Z) (Goes-dropped 𝓛 3 (RefOf (0 ∷ []) tt (plain (λ _. P E Z)) (λ _. tt)) yes (λ κs x f. refl), tt)
     (clauses E Z 𝓛 at_mem run) (WpFn 𝓤 𝓛.H 𝓣.C 𝓣.Λ (function E Z)) (WpFn-mono 𝓤 𝓛.H 𝓛.laws 𝓣 (function E Z))
@@ -95,5 +110,6 @@ no_block_spec 𝓤 𝓛 𝓜 𝓡 wired X W LX LW g d dd met md =
     let E : El = record { row = X; laws = LX } in
     let Z : Al = record { row = W; laws = LW; g = g; d = d; drops = dd } in
     let 𝓣 : Tables 𝓤 𝓛.H = tables_of 𝓤 𝓛.H 𝓜 (tables 𝓤 𝓛.H 𝓜 𝓡 𝓡.env) in
-    entered 𝓤 𝓛.H (triple_of 𝓛 (ended E Z).signature (F.spec X W g d dd 𝓛 𝓜.mem 𝓡.returns)) 𝓣.C 𝓣.Λ (#self (args E Z)) (function E Z) (code.unfolded 𝓤 𝓛.H 𝓜 𝓡 wired (X, (W, tt)) d dd)
+    entered 𝓤 𝓛.H (triple_of 𝓛 (ended E Z).signature (F.spec X W g d dd 𝓛 𝓜.mem 𝓡.returns)) 𝓣.C 𝓣.Λ (#self (args E Z)) (function E Z)
+    (code.unfolded 𝓤 𝓛.H 𝓜 𝓡 wired (X, (W, tt)) d dd)
     (meets E Z 𝓛 𝓜.mem 𝓡.returns 𝓣)

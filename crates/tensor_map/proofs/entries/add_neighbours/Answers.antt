@@ -7,8 +7,12 @@ pub loop-next-preserved : goal.loop-next-preserved
 loop-next-preserved g c =
     let within : c.loop-next.next < length c.args.entries.now = omega (arith, c.loop-next-test.true) in
     elim c.if-have_equal_coords.branch [
-      | then-have_equal_coords w ↦ rw (w.entries-is, w.last-is) (adds_same g.S.Semiring.arithmetic _ _ _ _ _ c.loop-next.invariant within (λ d. sym (c.have_equal_coords.ensures d) ∙ w.if-have_equal_coords.true) w.join.ensures)
-      | else-have_equal_coords w ↦ rw (w.entries-is, w.last-is) (adds_other g.S.Semiring.arithmetic _ _ _ _ _ c.loop-next.invariant within (λ d. sym (c.have_equal_coords.ensures d) ∙ w.if-have_equal_coords.false) w.swap.ensures.len w.swap.ensures.by_index)
+      | then-have_equal_coords w ↦ rw (w.entries-is, w.last-is)
+          (adds_same g.S.Semiring.arithmetic _ _ _ _ _ c.loop-next.invariant within (λ d. sym (c.have_equal_coords.ensures d)
+          ∙ w.if-have_equal_coords.true) w.join.ensures)
+      | else-have_equal_coords w ↦ rw (w.entries-is, w.last-is)
+          (adds_other g.S.Semiring.arithmetic _ _ _ _ _ c.loop-next.invariant within (λ d. sym (c.have_equal_coords.ensures d)
+          ∙ w.if-have_equal_coords.false) w.swap.ensures.len w.swap.ensures.by_index)
     ]
 
 pub returns-clause-front : goal.returns-clause-front

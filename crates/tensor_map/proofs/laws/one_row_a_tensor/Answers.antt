@@ -6,5 +6,6 @@ pub returns : goal.returns
 returns c = record {
   support = λ a laws order entries each up some. listed_nonzero a laws entries up (all_nonzero a order entries each some);
   unique = λ a laws order entries others each each' up up' some some' same.
-      one_row a laws entries others up up' (all_nonzero a order entries each some) (all_nonzero a order others each' some') (λ coords. sym (same coords));
+      one_row a laws entries others up up' (all_nonzero a order entries each some) (all_nonzero a order others each' some')
+      (λ coords. sym (same coords));
 }

@@ -5,13 +5,24 @@ use Rattle.compressed_level.proofs.CallLaws.{giving, edges_keep}
 use Rattle.compressed_level.proofs.appending.CompressedLevelAppend.append_edges.Goals as goal
 
 pub overflow_add-parent : goal.overflow_add-parent
-overflow_add-parent c = let small = (giving c.self.inside.size c.self.inside.unique c.self.inside.stage c.self.inside.ends.items c.self.inside.coords.items c.self.inside.next c.self.inside.coords.spare c.args.parent c.args.begin c.args.end c.args.self.now c.self.view_is c.self.invariant.0 c.self.invariant.1 c.requires).1.small in grind (arith, small)
+overflow_add-parent c = let small =
+    (giving c.self.inside.size c.self.inside.unique c.self.inside.stage c.self.inside.ends.items c.self.inside.coords.items
+    c.self.inside.next c.self.inside.coords.spare c.args.parent c.args.begin c.args.end c.args.self.now c.self.view_is
+    c.self.invariant.0 c.self.invariant.1 c.requires).1.small in grind (arith, small)
 
 pub overflow_add-self : goal.overflow_add-self
-overflow_add-self c = let small = (giving c.self.inside.size c.self.inside.unique c.self.inside.stage c.self.inside.ends.items c.self.inside.coords.items c.self.inside.next c.self.inside.coords.spare c.args.parent c.args.begin c.args.end c.args.self.now c.self.view_is c.self.invariant.0 c.self.invariant.1 c.requires).1.small in grind (arith, small)
+overflow_add-self c = let small =
+    (giving c.self.inside.size c.self.inside.unique c.self.inside.stage c.self.inside.ends.items c.self.inside.coords.items
+    c.self.inside.next c.self.inside.coords.spare c.args.parent c.args.begin c.args.end c.args.self.now c.self.view_is
+    c.self.invariant.0 c.self.invariant.1 c.requires).1.small in grind (arith, small)
 
 pub invariant_of-self : goal.invariant_of-self
 invariant_of-self c =
-    let g = giving c.self.inside.size c.self.inside.unique c.self.inside.stage c.self.inside.ends.items c.self.inside.coords.items c.self.inside.next c.self.inside.coords.spare c.args.parent c.args.begin c.args.end c.args.self.now c.self.view_is c.self.invariant.0 c.self.invariant.1 c.requires in
-    subst (λ t. KeepsRules (stored c.self.inside.size c.self.inside.unique t c.set.new.self.items c.self.inside.coords.items (c.args.parent + 1) c.self.inside.coords.spare) × IsStored t c.set.new.self.items) (sym g.0)
-    (edges_keep c.self.inside.size c.self.inside.unique c.self.inside.ends.items c.self.inside.coords.items c.self.inside.next c.self.inside.coords.spare c.args.parent c.args.begin c.args.end c.set.new.self.items g.1 c.set.ensures.items)
+    let g = giving c.self.inside.size c.self.inside.unique c.self.inside.stage c.self.inside.ends.items c.self.inside.coords.items
+    c.self.inside.next c.self.inside.coords.spare c.args.parent c.args.begin c.args.end c.args.self.now c.self.view_is
+    c.self.invariant.0 c.self.invariant.1 c.requires in
+    subst (λ t. KeepsRules
+    (stored c.self.inside.size c.self.inside.unique t c.set.new.self.items c.self.inside.coords.items
+    (c.args.parent + 1) c.self.inside.coords.spare) × IsStored t c.set.new.self.items) (sym g.0)
+    (edges_keep c.self.inside.size c.self.inside.unique c.self.inside.ends.items c.self.inside.coords.items c.self.inside.next
+    c.self.inside.coords.spare c.args.parent c.args.begin c.args.end c.set.new.self.items g.1 c.set.ensures.items)

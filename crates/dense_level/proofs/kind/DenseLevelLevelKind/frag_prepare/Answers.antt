@@ -11,5 +11,8 @@ use Rattle.dense_level.proofs.kind.DenseLevelLevelKind.frag_prepare.Goals as goa
 
 pub returns : goal.returns
 returns c = λ setting l same keeps parents most may enough s held values.
-    subst (λ code. Grows setting code c.args._free c.args._tensor c.args._level no_turns s (λ t. HoldsPrepared meaning l parents most c.args._tensor c.args._level t × (positions_for Dense l parents most ≤ greatest_position_count)) (PassesLimitWithin c.args._tensor c.args._level (positions_for Dense l parents most))) (sym c.new.ensures)
+    subst (λ code. Grows setting code c.args._free c.args._tensor c.args._level no_turns s
+    (λ t. HoldsPrepared meaning l parents most c.args._tensor c.args._level t
+    × (positions_for Dense l parents most ≤ greatest_position_count))
+    (PassesLimitWithin c.args._tensor c.args._level (positions_for Dense l parents most))) (sym c.new.ensures)
     (prepare_does setting l parents most c.args._tensor c.args._level c.args._free s keeps enough held)

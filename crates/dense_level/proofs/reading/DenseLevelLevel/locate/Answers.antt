@@ -10,4 +10,5 @@ returns-then-x-self c = λ can.
     ∙ sym (position_is c.args.self.now c.args.x (one c.args.parent) (subst (λ n. c.args.x < n) c.self.view_is c.if-x-self.true))
 
 pub returns-else-x-self : goal.returns-else-x-self
-returns-else-x-self c = λ can. sym (position_none c.args.self.now c.args.x (one c.args.parent) (subst (λ n. n ≤ c.args.x) c.self.view_is c.if-x-self.false))
+returns-else-x-self c =
+    λ can. sym (position_none c.args.self.now c.args.x (one c.args.parent) (subst (λ n. n ≤ c.args.x) c.self.view_is c.if-x-self.false))

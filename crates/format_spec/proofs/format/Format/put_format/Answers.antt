@@ -9,5 +9,6 @@ unfolding greatest_order
 text_of_levels-text-requires-clause-digits g c k d h =
     let levels = c.args.self.now in
     let format = c.levels.ensures.format in
-    let digits : All (λ mode. mode < 10) (modes_of levels) = λ i e inside. let below = format.order.below i e inside in omega (arith, below, format.short) in
+    let digits : All (λ mode. mode < 10) (modes_of levels) = λ i e inside. let below =
+    format.order.below i e inside in omega (arith, below, format.short) in
     subst (λ ls. All (λ mode. mode < 10) (modes_of ls)) (sym c.levels.ensures.value) digits k d h

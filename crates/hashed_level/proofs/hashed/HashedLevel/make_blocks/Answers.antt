@@ -13,12 +13,15 @@ width_for-width-requires c = let few = c.requires.may.coordinates in let small =
 
 pub overflow_mul-parents : goal.overflow_mul-parents
 overflow_mul-parents c =
-    let small : c.args.parents * c.width_for-width.result < 2 ^ 64 = subst (λ w. c.args.parents * w < 2 ^ 64) (sym c.width_for-width.ensures) (slots_word c.args.self.now c.args.parents c.args.most c.requires.within) in
+    let small : c.args.parents * c.width_for-width.result < 2 ^ 64 =
+    subst (λ w. c.args.parents * w < 2 ^ 64) (sym c.width_for-width.ensures)
+    (slots_word c.args.self.now c.args.parents c.args.most c.requires.within) in
     omega (arith, small)
 
 pub invariant_of-self : goal.invariant_of-self
 invariant_of-self c = subst KeepsRules (sym (
     ap (λ xs. hashed c.self.inside.size xs (Some c.width_for-width.result) c.args.parents) c.in_ok-slots.ensures
     ∙ ap (λ w. hashed c.self.inside.size (replicate (c.args.parents * w) empty_slot) (Some w) c.args.parents) c.width_for-width.ensures
-    ∙ ap (λ l. hashed l.size (replicate (c.args.parents * slot_width c.args.most) empty_slot) (Some (slot_width c.args.most)) c.args.parents) c.self.view_is))
+    ∙ ap (λ l. hashed l.size (replicate (c.args.parents * slot_width c.args.most) empty_slot)
+    (Some (slot_width c.args.most)) c.args.parents) c.self.view_is))
     (prepared_keeps c.args.self.now c.args.parents c.args.most (subst KeepsRules c.self.view_is c.self.invariant) c.requires.within)

@@ -11,4 +11,5 @@ pub returns : goal.returns
 returns c = λ can setting l same parent ok pos inside s held values.
     let is : c.in_ok-code.code ≡ coord_code c.args.tensor c.args.level c.in_ok-pos.pos c.args.free = c.in_ok-code.ensures in
     subst (λ code. Reads setting code c.args.free no_turns s (OptionLeft c.args.free (coord_at (entries_of l parent) pos))) (sym is)
-    (coord_does setting l c.args.tensor c.args.level c.args.free c.args.args.now c.in_ok-pos.pos parent pos s c.in_ok-pos.ensures c.requires.below ok (inside.0, inside.1) held values)
+    (coord_does setting l c.args.tensor c.args.level c.args.free c.args.args.now c.in_ok-pos.pos parent pos s c.in_ok-pos.ensures
+    c.requires.below ok (inside.0, inside.1) held values)

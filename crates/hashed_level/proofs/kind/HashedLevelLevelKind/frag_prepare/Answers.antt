@@ -9,6 +9,9 @@ use Rattle.hashed_level.proofs.kind.HashedLevelLevelKind.frag_prepare.Goals as g
 
 pub returns : goal.returns
 returns c = λ setting l same keeps parents most may enough s held values.
-    let is : c.in_ok-code.code ≡ prepare_code c.args.tensor c.args.level c.in_ok-parents.parents c.in_ok-most.most c.args.free = c.in_ok-code.ensures in
-    subst (λ code. Grows setting code c.args.free c.args.tensor c.args.level no_turns s (Made l c.args.tensor c.args.level parents most) (PassesLimitWithin c.args.tensor c.args.level (positions_for HashedLetter l.size parents most))) (sym is)
-    (prepare_does setting l c.args.tensor c.args.level c.args.free c.args.args.now c.in_ok-parents.parents c.in_ok-most.most parents most s c.requires.result c.in_ok-parents.ensures c.in_ok-most.ensures c.requires.arguments.below keeps may held values)
+    let is : c.in_ok-code.code ≡ prepare_code c.args.tensor c.args.level c.in_ok-parents.parents c.in_ok-most.most c.args.free =
+    c.in_ok-code.ensures in
+    subst (λ code. Grows setting code c.args.free c.args.tensor c.args.level no_turns s (Made l c.args.tensor c.args.level parents most)
+    (PassesLimitWithin c.args.tensor c.args.level (positions_for HashedLetter l.size parents most))) (sym is)
+    (prepare_does setting l c.args.tensor c.args.level c.args.free c.args.args.now c.in_ok-parents.parents c.in_ok-most.most parents most
+    s c.requires.result c.in_ok-parents.ensures c.in_ok-most.ensures c.requires.arguments.below keeps may held values)

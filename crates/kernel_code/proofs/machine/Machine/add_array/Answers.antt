@@ -10,5 +10,8 @@ returns-in-Some-clause-ok c =
 
 pub returns-in_ok-push-in-None-clause-ok : goal.returns-in_ok-push-in-None-clause-ok
 returns-in_ok-push-in-None-clause-ok c =
-    let none : array_of c.args.self.now.arrays.items c.args.a ≡ None = ap (λ ws. array_of ws c.args.a) (sym c.as_slice.ensures.value) ∙ c.in-None.ensures in
-    ap (λ f. record (state_of c.args.self.now) { arrays = f }) (array_added c.args.self.now c.args.a c.push.new.self.items (record { name = c.args.a; words = c.args.words }) refl none c.in_ok-push-in-None.ensures.items)
+    let none : array_of c.args.self.now.arrays.items c.args.a ≡ None = ap (λ ws. array_of ws c.args.a) (sym c.as_slice.ensures.value)
+    ∙ c.in-None.ensures in
+    ap (λ f. record (state_of c.args.self.now) { arrays = f })
+    (array_added c.args.self.now c.args.a c.push.new.self.items
+    (record { name = c.args.a; words = c.args.words }) refl none c.in_ok-push-in-None.ensures.items)

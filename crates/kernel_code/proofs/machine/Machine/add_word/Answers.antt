@@ -7,13 +7,23 @@ use Rattle.kernel_code.proofs.StoreLemmas.{changed_at, not_changed_at}
 use Rattle.kernel_code.proofs.machine.Machine.add_word.Goals as goal
 
 pub returns-in_default-clause-is : goal.returns-in_default-clause-is
-returns-in_default-clause-is g c = sym (c.in_default.ensures (changed (state_of c.args.self.now) c.args.a c.args.i (λ old. sum_in g.S.Semiring.arithmetic c.args.a old c.args.value)))
+returns-in_default-clause-is g c =
+    sym (c.in_default.ensures
+    (changed (state_of c.args.self.now) c.args.a c.args.i (λ old. sum_in g.S.Semiring.arithmetic c.args.a old c.args.value)))
 
 pub returns-then-i-len-clause-is : goal.returns-then-i-len-clause-is
-returns-then-i-len-clause-is g c = not_changed_at c.args.self.now c.args.a c.in-Some.place c.index_mut.result.now c.args.i (λ old. sum_in g.S.Semiring.arithmetic c.args.a old c.args.value) (record { writable = c.in-Some.ensures; is = c.index_mut.ensures.value }) (omega arith)
+returns-then-i-len-clause-is g c =
+    not_changed_at c.args.self.now c.args.a c.in-Some.place c.index_mut.result.now c.args.i
+    (λ old. sum_in g.S.Semiring.arithmetic c.args.a old c.args.value)
+    (record { writable = c.in-Some.ensures; is = c.index_mut.ensures.value }) (omega arith)
 
 pub returns-clause-is : goal.returns-clause-is
 returns-clause-is g c =
     let xs = c.index_mut.result.now.words.items in
-    let sum : c.sum_of_words-sum.result ≡ sum_in g.S.Semiring.arithmetic c.args.a (slice_index xs c.args.i) c.args.value = c.sum_of_words-sum.ensures ∙ ap (λ n. sum_in g.S.Semiring.arithmetic c.args.a n c.args.value) (c.index.ensures ∙ get_or_default_zero xs c.args.i c.index.result.now (omega arith)) in
-    changed_at c.args.self.now c.args.a c.in-Some.place c.index_mut.result.now _ c.args.i (λ old. sum_in g.S.Semiring.arithmetic c.args.a old c.args.value) (record { writable = c.in-Some.ensures; is = c.index_mut.ensures.value }) (omega arith) refl (ap (slice_set xs c.args.i) sum)
+    let sum : c.sum_of_words-sum.result ≡ sum_in g.S.Semiring.arithmetic c.args.a (slice_index xs c.args.i) c.args.value =
+    c.sum_of_words-sum.ensures
+    ∙ ap (λ n. sum_in g.S.Semiring.arithmetic c.args.a n c.args.value) (c.index.ensures
+    ∙ get_or_default_zero xs c.args.i c.index.result.now (omega arith)) in
+    changed_at c.args.self.now c.args.a c.in-Some.place c.index_mut.result.now _ c.args.i
+    (λ old. sum_in g.S.Semiring.arithmetic c.args.a old c.args.value)
+    (record { writable = c.in-Some.ensures; is = c.index_mut.ensures.value }) (omega arith) refl (ap (slice_set xs c.args.i) sum)

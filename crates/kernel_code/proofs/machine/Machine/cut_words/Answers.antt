@@ -8,4 +8,5 @@ pub returns-in_default-clause-is : goal.returns-in_default-clause-is
 returns-in_default-clause-is c = sym (c.in_default.ensures (λ xs. Ended (set_array (state_of c.args.self.now) c.args.a (take c.args.n xs))))
 
 pub returns-clause-is : goal.returns-clause-is
-returns-clause-is c = set_at c.args.self.now c.args.a c.in-Some.place c.index_mut.result.now _ (take c.args.n) (record { writable = c.in-Some.ensures; is = c.index_mut.ensures.value }) refl c.truncate.ensures.items
+returns-clause-is c = set_at c.args.self.now c.args.a c.in-Some.place c.index_mut.result.now _ (take c.args.n)
+    (record { writable = c.in-Some.ensures; is = c.index_mut.ensures.value }) refl c.truncate.ensures.items

@@ -21,17 +21,21 @@ loop-k-preserved c =
           let before = c.loop-k.invariant.0 columns count h in
           let words : c.words_of.result.now ≡ slice_index_or columns k [] =
           c.words_of.ensures ∙ ap (λ (t : State). unwrap_or (t.arrays (Key w k)) []) before
-          ∙ ap (λ (o : Option (List ℕ)). unwrap_or o []) (column_kept s w rows k k (omega arith)) ∙ column_is s w count c.args.keys columns k h (omega arith) in
+          ∙ ap (λ (o : Option (List ℕ)). unwrap_or o []) (column_kept s w rows k k (omega arith))
+          ∙ column_is s w count c.args.keys columns k h (omega arith) in
           let column : c.in_ok-column.column.items ≡ column_of k rows =
-          c.in_ok-column.ensures ∙ ap (λ (xs : List ℕ). map (λ (p : PlacedRow). slice_index xs p.place) ps) words ∙ column_at_places columns k ps in
+          c.in_ok-column.ensures ∙ ap (λ (xs : List ℕ). map (λ (p : PlacedRow). slice_index xs p.place) ps) words
+          ∙ column_at_places columns k ps in
           c.in_ok-add_array.ensures.ok
           ∙ ap (λ (t : State). set_array t (Key w k) c.in_ok-column.column.items) before
           ∙ ap (set_array (set_columns s w rows k) (Key w k)) column
           ∙ ap (set_columns s w rows) (sym next),
-      same_turns c.add_array.new.self.turns c.loop-k.self.turns (ap (λ (t : State). t.turns) c.in_ok-add_array.ensures.ok) ∙ c.loop-k.invariant.1,
+      same_turns c.add_array.new.self.turns c.loop-k.self.turns (ap (λ (t : State). t.turns) c.in_ok-add_array.ensures.ok)
+          ∙ c.loop-k.invariant.1,
     )
 
 pub returns-clause-is : goal.returns-clause-is
 returns-clause-is c =
     let end : c.loop-k.k ≡ c.args.keys = omega arith in
-    λ columns count h. c.loop-k.invariant.0 columns count h ∙ ap (set_columns (state_of c.args.self.now) c.args.workspace (map (row_of columns) c.args.rows.now)) end
+    λ columns count h. c.loop-k.invariant.0 columns count h
+    ∙ ap (set_columns (state_of c.args.self.now) c.args.workspace (map (row_of columns) c.args.rows.now)) end

@@ -6,4 +6,5 @@ use Rattle.kernel_code.proofs.machine.Machine.pick_columns.Given as goal
 
 -- the first k columns are replaced
 abbrev pub invariant-loop-k : goal.invariant-loop-k
-invariant-loop-k l = ((columns : List (List ℕ)) (count : ℕ) → key_columns (state_of l.fn.self) l.workspace count l.keys ≡ Some columns → state_of l.self ≡ set_columns (state_of l.fn.self) l.workspace (map (row_of columns) l.rows) l.k) × (l.self.turns ≡ l.fn.self.turns)
+invariant-loop-k l = ((columns : List (List ℕ)) (count : ℕ) → key_columns (state_of l.fn.self) l.workspace count l.keys ≡ Some columns
+    → state_of l.self ≡ set_columns (state_of l.fn.self) l.workspace (map (row_of columns) l.rows) l.k) × (l.self.turns ≡ l.fn.self.turns)

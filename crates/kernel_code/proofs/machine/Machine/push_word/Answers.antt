@@ -6,7 +6,8 @@ use Rattle.kernel_code.proofs.StoreLemmas.{grown_at, not_grown_at}
 use Rattle.kernel_code.proofs.machine.Machine.push_word.Goals as goal
 
 pub returns-in_default-clause-is : goal.returns-in_default-clause-is
-returns-in_default-clause-is c = sym (c.in_default.ensures (λ xs. grown (state_of c.args.self.now) c.args.a (length xs + 1) xs (c.args.value ∷ [])))
+returns-in_default-clause-is c =
+    sym (c.in_default.ensures (λ xs. grown (state_of c.args.self.now) c.args.a (length xs + 1) xs (c.args.value ∷ [])))
 
 pub returns-then-not-may_grow-clause-is : goal.returns-then-not-may_grow-clause-is
 returns-then-not-may_grow-clause-is c =
@@ -14,11 +15,14 @@ returns-then-not-may_grow-clause-is c =
     let n : c.len-length.result + 1 ≡ length c.index_mut.result.now.words.items + 1 = omega arith in
     let long : may_have c.args.a (c.len-length.result + 1) ≡ false = cc in
     ap (Over (state_of c.args.self.now).turns c.args.a) (c.count_told-count.ensures ∙ ap (told_count c.args.a) n)
-    ∙ not_grown_at c.args.self.now c.args.a c.in-Some.place c.index_mut.result.now count (c.args.value ∷ []) (record { writable = c.in-Some.ensures; is = c.index_mut.ensures.value }) (ap (may_have c.args.a) (sym n) ∙ long)
+    ∙ not_grown_at c.args.self.now c.args.a c.in-Some.place c.index_mut.result.now count (c.args.value
+    ∷ []) (record { writable = c.in-Some.ensures; is = c.index_mut.ensures.value }) (ap (may_have c.args.a) (sym n) ∙ long)
 
 pub returns-clause-is : goal.returns-clause-is
 returns-clause-is c =
     let count = λ (xs : List ℕ). length xs + 1 in
     let n : c.len-length.result + 1 ≡ length c.index_mut.result.now.words.items + 1 = omega arith in
     let long : may_have c.args.a (c.len-length.result + 1) ≡ true = cc in
-    grown_at c.args.self.now c.args.a c.in-Some.place c.index_mut.result.now _ count (c.args.value ∷ []) (record { writable = c.in-Some.ensures; is = c.index_mut.ensures.value }) (ap (may_have c.args.a) (sym n) ∙ long) refl c.in_ok-push.ensures.items
+    grown_at c.args.self.now c.args.a c.in-Some.place c.index_mut.result.now _ count (c.args.value
+    ∷ []) (record { writable = c.in-Some.ensures; is = c.index_mut.ensures.value }) (ap (may_have c.args.a) (sym n)
+    ∙ long) refl c.in_ok-push.ensures.items

@@ -8,5 +8,8 @@ use Rattle.kernel_code.proofs.machine.Machine.run.Goals as goal
 pub returns : goal.returns
 returns g c =
     let none = no_variables c.clear.new.self.items c.clear.ensures.items in
-    let P = λ (s : State). IfOk c.run_statements.result (λ ending. outcome_of ending (state_of c.run_statements.new.machine) ≡ within c.args.budget (run_list (setting g.S.Semiring.arithmetic c.args.workspaces.now) c.args.budget c.args.code.now s)) in
-    subst P (λ i. record { vars = λ x. none x i; arrays = array_of c.args.self.now.arrays.items; turns = no_turns_made i }) c.run_statements.ensures
+    let P = λ (s : State). IfOk c.run_statements.result
+    (λ ending. outcome_of ending (state_of c.run_statements.new.machine) ≡ within c.args.budget
+    (run_list (setting g.S.Semiring.arithmetic c.args.workspaces.now) c.args.budget c.args.code.now s)) in
+    subst P (λ i. record { vars = λ x. none x i; arrays = array_of c.args.self.now.arrays.items; turns = no_turns_made i })
+    c.run_statements.ensures

@@ -19,13 +19,16 @@ returns-clause-is c =
     let sorted : rows ≡ sorted_rows (list_rows cs ps) = c.in_ok-sort_rows.ensures ∙ ap sorted_rows c.in_ok-rows.ensures in
     let x = c.in_ok-coordinates.coordinates.items in
     let y = c.in_ok-positions.positions.items in
-    let first : x ≡ map (λ (r : ListRow). r.coordinate) (sorted_rows (list_rows cs ps)) = c.in_ok-coordinates.ensures ∙ ap (map (λ (r : ListRow). r.coordinate)) (c.as_slice.ensures.value ∙ sorted) in
-    let second : y ≡ map (λ (r : ListRow). r.position) (sorted_rows (list_rows cs ps)) = c.in_ok-positions.ensures ∙ ap (map (λ (r : ListRow). r.position)) (c.as_slice-2.ensures.value ∙ sorted) in
+    let first : x ≡ map (λ (r : ListRow). r.coordinate) (sorted_rows (list_rows cs ps)) = c.in_ok-coordinates.ensures
+    ∙ ap (map (λ (r : ListRow). r.coordinate)) (c.as_slice.ensures.value ∙ sorted) in
+    let second : y ≡ map (λ (r : ListRow). r.position) (sorted_rows (list_rows cs ps)) = c.in_ok-positions.ensures
+    ∙ ap (map (λ (r : ListRow). r.position)) (c.as_slice-2.ensures.value ∙ sorted) in
     sort_done s (state_of c.add_array-2.new.self) g cs ps _ _ (sym c.in-Some.ensures) (sym c.in-Some-array.ensures) (omega arith)
     (c.in_ok-add_array-2.ensures.ok
     ∙ ap (λ (t : State). set_array t (ListPositions g) y) c.in_ok-add_array.ensures.ok
     ∙ ap (λ xs. set_array (set_array s (ListCoordinates g) xs) (ListPositions g) y) first
-    ∙ ap (set_array (set_array s (ListCoordinates g) (map (λ (r : ListRow). r.coordinate) (sorted_rows (list_rows cs ps)))) (ListPositions g)) second)
+    ∙ ap (set_array (set_array s (ListCoordinates g) (map (λ (r : ListRow). r.coordinate) (sorted_rows (list_rows cs ps))))
+    (ListPositions g)) second)
 
 pub returns-clause-turns : goal.returns-clause-turns
 returns-clause-turns c =

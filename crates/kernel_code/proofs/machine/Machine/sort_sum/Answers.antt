@@ -20,14 +20,23 @@ returns-clause-is g c =
     let ps = c.in_ok-rows.rows.items in
     let rows = summed_rows g.S.Semiring.arithmetic (rows_from columns 0 vs) in
     let number : slice_get c.args.workspaces.now w ≡ Some keys = sym c.in-Some.ensures in
-    let found : key_columns s w (length vs) keys ≡ Some columns = sym c.in_ok-columns.ensures ∙ ap (option_map (λ (cs : Vec (Bor (List ℕ)) Global). read cs.items)) c.in-Some-2.is in
-    let summed : map (row_of columns) ps ≡ rows = ap (λ (cs : List (Bor (List ℕ))). map (row_of (read cs)) ps) (sym c.as_slice.ensures.value) ∙ c.in_ok-rows.ensures ∙ ap (λ (cs : List (Bor (List ℕ))). summed_rows g.S.Semiring.arithmetic (rows_from (read cs) 0 vs)) c.as_slice.ensures.value in
+    let found : key_columns s w (length vs) keys ≡ Some columns = sym c.in_ok-columns.ensures
+    ∙ ap (option_map (λ (cs : Vec (Bor (List ℕ)) Global). read cs.items)) c.in-Some-2.is in
+    let summed : map (row_of columns) ps ≡ rows =
+    ap (λ (cs : List (Bor (List ℕ))). map (row_of (read cs)) ps) (sym c.as_slice.ensures.value) ∙ c.in_ok-rows.ensures
+    ∙ ap (λ (cs : List (Bor (List ℕ))). summed_rows g.S.Semiring.arithmetic (rows_from (read cs) 0 vs)) c.as_slice.ensures.value in
     let sums : c.in_ok-sums.sums.items ≡ map (λ (r : Row). r.value) rows =
-    c.in_ok-sums.ensures ∙ ap (map (λ (p : PlacedRow). p.value)) c.as_slice-2.ensures.value ∙ values_of_places columns ps ∙ ap (map (λ (r : Row). r.value)) summed in
+    c.in_ok-sums.ensures ∙ ap (map (λ (p : PlacedRow). p.value)) c.as_slice-2.ensures.value ∙ values_of_places columns ps
+    ∙ ap (map (λ (r : Row). r.value)) summed in
     let picked : state_of c.pick_columns.new.self ≡ set_columns s w rows keys =
-    c.in_ok-pick_columns.ensures.is columns (length vs) found ∙ ap (λ (ps : List PlacedRow). set_columns s w (map (row_of columns) ps) keys) c.as_slice-3.ensures.value ∙ ap (λ (rs : List Row). set_columns s w rs keys) summed in
+    c.in_ok-pick_columns.ensures.is columns (length vs) found
+    ∙ ap (λ (ps : List PlacedRow). set_columns s w (map (row_of columns) ps) keys) c.as_slice-3.ensures.value
+    ∙ ap (λ (rs : List Row). set_columns s w rs keys) summed in
     sum_done g.S.Semiring.arithmetic s (state_of c.add_array.new.self) w keys vs columns _ _ number (sym c.in-Some-array.ensures) found
-    (c.in_ok-add_array.ensures.ok ∙ ap (λ (t : State). set_array t (Sums w) c.in_ok-sums.sums.items) picked ∙ ap (set_array (set_columns s w rows keys) (Sums w)) sums)
+    (c.in_ok-add_array.ensures.ok ∙ ap (λ (t : State). set_array t (Sums w) c.in_ok-sums.sums.items) picked
+    ∙ ap (set_array (set_columns s w rows keys) (Sums w)) sums)
 
 pub returns-clause-turns : goal.returns-clause-turns
-returns-clause-turns g c = same_turns c.add_array.new.self.turns c.pick_columns.new.self.turns (ap (λ (t : State). t.turns) c.in_ok-add_array.ensures.ok) ∙ c.in_ok-pick_columns.ensures.turns
+returns-clause-turns g c =
+    same_turns c.add_array.new.self.turns c.pick_columns.new.self.turns (ap (λ (t : State). t.turns) c.in_ok-add_array.ensures.ok)
+    ∙ c.in_ok-pick_columns.ensures.turns

@@ -7,7 +7,8 @@ use Rattle.kernel_code.proofs.machine.Machine.take_array.Goals as goal
 pub returns-clause-words : goal.returns-clause-words
 returns-clause-words c =
     let place = subst (λ ws. IsPlaceOf ws c.args.a c.in-Some.place) c.as_slice.ensures.value c.in-Some.ensures in
-    ap (λ v. Some v.items) c.replace.ensures.value ∙ sym (words_at c.args.self.now c.args.a c.in-Some.place c.index_mut.result.now place c.index_mut.ensures.value)
+    ap (λ v. Some v.items) c.replace.ensures.value
+    ∙ sym (words_at c.args.self.now c.args.a c.in-Some.place c.index_mut.result.now place c.index_mut.ensures.value)
 
 pub returns-clause-left : goal.returns-clause-left
 returns-clause-left c =

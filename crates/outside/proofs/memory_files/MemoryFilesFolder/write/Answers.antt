@@ -7,7 +7,11 @@ use Rattle.outside.proofs.memory_files.MemoryFilesFolder.write.Goals as goal
 
 pub returns-in-Ok-clause-written : goal.returns-in-Ok-clause-written
 returns-in-Ok-clause-written c =
-    let changes : (name : List ℕ) → name_of c.args.self.now.files.items c.args.self.now.writing ≡ Some name → Changes c.args.self.now.files.items c.append_to_file.new.files.items name (grown (told c.args.self.now.files.items name) c.args.piece.now) = λ name e. c.in-Ok.ensures.changes name (first_of_name _ _ name (c.args.self.now.writing_first _ c.in-Some.is) (rw c.in-Some.is at e)) in
+    let changes : (name : List ℕ) → name_of c.args.self.now.files.items c.args.self.now.writing ≡ Some name
+    → Changes c.args.self.now.files.items c.append_to_file.new.files.items name
+    (grown (told c.args.self.now.files.items name) c.args.piece.now) =
+    λ name e. c.in-Ok.ensures.changes name
+    (first_of_name _ _ name (c.args.self.now.writing_first _ c.in-Some.is) (rw c.in-Some.is at e)) in
     record {
       within = search rules;
       progress = search rules;

@@ -15,5 +15,7 @@ use Rattle.seg_buffer.proofs.Sharing.{places_lent_laws, Lends-places}
 
 pub shares : (R : RattleType) (L : Laws R) → statement R L
 shares R L = of_Lends (P.struct R) (P.the_codes R.Denot R.coded (marker.the_row RawPtr).coded) (P.the_heap R) (P.the_lent R)
-    (λ d p. places_lent_laws R L.shr_laws d.at d.room d.values) (copy_shared (marker.the_field RawPtr) (field_copy (marker.the_type RawPtr) tt), tt)
-    (λ M 𝓤 𝓛 d p. Lends-places 𝓛 (P.the_row R).lives R L (Incl-trans (meet_⊑_left (R.lives ++ []) _) (meet_⊑_left R.lives [])) d.at d.room d.values)
+    (λ d p. places_lent_laws R L.shr_laws d.at d.room d.values)
+    (copy_shared (marker.the_field RawPtr) (field_copy (marker.the_type RawPtr) tt), tt)
+    (λ M 𝓤 𝓛 d p. Lends-places 𝓛 (P.the_row R).lives R L
+    (Incl-trans (meet_⊑_left (R.lives ++ []) _) (meet_⊑_left R.lives [])) d.at d.room d.values)

@@ -9,5 +9,6 @@ use Rattle.singleton_level.proofs.kind.SingletonLevelLevelKind.frag_edges.Goals 
 
 pub returns : goal.returns
 returns c = λ can. λ setting l like k parent begin end may s held values.
-    subst (λ code. Writes setting code c.args._free c.args._tensor c.args._level no_turns s (HoldsLog meaning l (with_edges (letter_of l.unique) parent begin end (log_of l)) c.args._tensor c.args._level)) (sym c.new.ensures)
+    subst (λ code. Writes setting code c.args._free c.args._tensor c.args._level no_turns s
+    (HoldsLog meaning l (with_edges (letter_of l.unique) parent begin end (log_of l)) c.args._tensor c.args._level)) (sym c.new.ensures)
     (edges_does setting l c.args._tensor c.args._level c.args._free parent begin end s k held)

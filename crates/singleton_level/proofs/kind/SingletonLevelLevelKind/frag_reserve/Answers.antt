@@ -10,5 +10,7 @@ use Rattle.singleton_level.proofs.kind.SingletonLevelLevelKind.frag_reserve.Goal
 
 pub returns : goal.returns
 returns c = λ can. λ setting l like k n parents may s held values.
-    subst (λ code. Grows setting code c.args._free c.args._tensor c.args._level no_turns s (λ t. HoldsLog meaning l (with_parents (letter_of l.unique) parents (log_of l)) c.args._tensor c.args._level t × (parents ≤ greatest_position_count)) (PassesLimit c.args._tensor c.args._level parents)) (sym c.new.ensures)
+    subst (λ code. Grows setting code c.args._free c.args._tensor c.args._level no_turns s
+    (λ t. HoldsLog meaning l (with_parents (letter_of l.unique) parents (log_of l)) c.args._tensor c.args._level t
+    × (parents ≤ greatest_position_count)) (PassesLimit c.args._tensor c.args._level parents)) (sym c.new.ensures)
     (reserve_does setting l c.args._tensor c.args._level c.args._free parents s k may held)

@@ -8,5 +8,6 @@ pub loop-i-preserved : goal.loop-i-preserved
 loop-i-preserved c =
     let within : c.loop-i.i < length c.self.inside.list.items = omega arith in
     greatest_more _ _ _ _ _ c.loop-i.greatest
-    (λ d. ap (λ (e : Entry). get_or e.coords c.args.mode 0) (get_or_default _ _ d c.index.result.now within ∙ sym c.index.ensures) ∙ ap (λ s. get_or s c.args.mode 0) (sym c.as_slice.ensures.value))
+    (λ d. ap (λ (e : Entry). get_or e.coords c.args.mode 0) (get_or_default _ _ d c.index.result.now within ∙ sym c.index.ensures)
+    ∙ ap (λ s. get_or s c.args.mode 0) (sym c.as_slice.ensures.value))
     c.greater.ensures c.loop-i.invariant

@@ -6,22 +6,29 @@ use Rattle.tensor_map.proofs.Lemmas.{value_nonzero, increasing_filter, none_zero
 use Rattle.tensor_map.proofs.entries.Entries.nonzero.Goals as goal
 
 kept : (g : _) (c : goal.After-retain g) → c.retain.new.self.items ≡ filter (is_nonzero g.S.Semiring.arithmetic) c.self.inside.list.items
-kept g c = filter_from_retain _ (is_nonzero g.S.Semiring.arithmetic) (λ p x b q k. search rules) _ c.self.inside.list.items c.retain.new.self.items c.retain.ensures.filtered
+kept g c = filter_from_retain _ (is_nonzero g.S.Semiring.arithmetic)
+    (λ p x b q k. search rules) _ c.self.inside.list.items c.retain.new.self.items c.retain.ensures.filtered
 
 pub invariant_of-self : goal.invariant_of-self
 invariant_of-self g c = record {
   short = c.self.invariant.short;
-  each = subst (All (IsEntry c.self.inside.order)) (sym (kept g c)) (All-filter (is_nonzero g.S.Semiring.arithmetic) (IsEntry c.self.inside.order) c.self.inside.list.items c.self.invariant.each);
+  each = subst (All (IsEntry c.self.inside.order)) (sym (kept g c))
+      (All-filter (is_nonzero g.S.Semiring.arithmetic) (IsEntry c.self.inside.order) c.self.inside.list.items c.self.invariant.each);
 }
 
 pub returns-clause-kept : goal.returns-clause-kept
 returns-clause-kept g c = rw (← c.self.view_is) (kept g c)
 
 pub returns-clause-values : goal.returns-clause-values
-returns-clause-values g c = rw (← c.self.view_is) (λ coords. ap (λ es. value_at g.S.Semiring.arithmetic es coords) (kept g c) ∙ value_nonzero g.S.Semiring.arithmetic g.met.S.Semiring.laws coords c.self.inside.list.items)
+returns-clause-values g c = rw (← c.self.view_is) (λ coords. ap (λ es. value_at g.S.Semiring.arithmetic es coords) (kept g c)
+    ∙ value_nonzero g.S.Semiring.arithmetic g.met.S.Semiring.laws coords c.self.inside.list.items)
 
 pub returns-clause-increasing : goal.returns-clause-increasing
-returns-clause-increasing g c = rw (← c.self.view_is) (λ up. subst StrictlyIncreasing (sym (kept g c)) (increasing_filter (is_nonzero g.S.Semiring.arithmetic) c.self.inside.list.items up))
+returns-clause-increasing g c =
+    rw (← c.self.view_is)
+    (λ up. subst StrictlyIncreasing (sym (kept g c))
+    (increasing_filter (is_nonzero g.S.Semiring.arithmetic) c.self.inside.list.items up))
 
 pub returns-clause-none : goal.returns-clause-none
-returns-clause-none g c = subst (NoneIsZero g.S.Semiring.arithmetic) (sym (kept g c)) (none_zero_filter g.S.Semiring.arithmetic c.self.inside.list.items)
+returns-clause-none g c =
+    subst (NoneIsZero g.S.Semiring.arithmetic) (sym (kept g c)) (none_zero_filter g.S.Semiring.arithmetic c.self.inside.list.items)

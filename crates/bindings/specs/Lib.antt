@@ -1,0 +1,5 @@
+pub mod Words
+pub mod Bindings
+pub mod Outcome
+pub mod Views
+pub mod Tables

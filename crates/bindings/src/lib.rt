@@ -1,0 +1,11 @@
+//! What the words behind EXPR bind: formats and files of tensors, ranges of variables. `specs/Words.antt` says what a word
+//! says, and `specs/Bindings.antt` what all of them bind, or the first refusal in order.
+#![tactic(auto)]
+
+mod binding;
+mod bound;
+mod fault;
+mod word;
+
+pub use binding::{Bindings, bind};
+pub use fault::{BindingFault, WordFault};

@@ -1,0 +1,4 @@
+pub mod CommandLine
+pub mod Clap
+pub mod Told
+pub mod Law

@@ -1,0 +1,159 @@
+//! What a command line says, read by `clap`. `specs/CommandLine.antt` says it in words that name nothing of `clap`.
+//! Only `run` is a command so far.
+#![tactic(auto)]
+
+mod laws;
+
+ghost use Rattle.std.specs.Prelude.{◌≡◌, IfOk, IfErr, true, false, Some, None, map, string_bytes, [], codes, option_map, option_and_then};
+ghost use Rattle.std.specs.Prelude.{unwrap_or};
+ghost use Rattle.clap.specs.Words.{app_of, subcommand_of, subcommand_rows_of, takes, fault_of, all_of, first_of, one_of, rows_of, found_of};
+ghost use Rattle.clap.specs.Words.{kind_of};
+ghost use Rattle.clap.specs.declared.builder.command.Command.TheViews.{out-Command};
+ghost use Rattle.command_line.specs.CommandLine.{command_line_of};
+ghost use Rattle.command_line.specs.Clap.{text_app, taco_app, clap_line, matched_line, text_line};
+ghost use Rattle.command_line.specs.Told.{told, IsUsage};
+
+use clap::error::ErrorKind;
+use clap::{Arg, ArgMatches, Command};
+pub use laws::clap_reads_lines;
+use std::alloc::{AllocError, Global};
+
+/// What a command line says: its command, with the text of EXPR and the WORDs, in order.
+#[derive(Debug, Drop)]
+pub enum Request<'a> {
+    Run { expr: &'a str, words: Vec<&'a str> },
+}
+
+/// Why a command line isn't read.
+#[derive(Debug, Drop)]
+pub enum RequestFault {
+    /// The words are no command line. A request for help is none.
+    Usage,
+    /// Memory was wanted.
+    Memory,
+}
+
+/// A subcommand of one EXPR and any number of WORDs.
+fn text_command<'a>(alloc: Global, name: &'a str) -> Result<Command<'a>, AllocError>
+    ensures app { IfOk result (λ c. app_of c ≡ text_app name.entry.now) }
+    ensures local { IfOk result (λ c. (out-Command c).has_globals ≡ false) }
+{
+    let expr = Arg::new(alloc, "EXPR").required(true);
+    let word = Arg::new(alloc, "WORD").num_args(0..);
+    let command = Command::new(alloc, name).arg(expr)?.arg(word)?;
+    Ok(command)
+}
+
+/// The whole command.
+fn taco_command<'a>(alloc: Global) -> Result<Command<'a>, AllocError>
+    ensures app { IfOk result (λ c. app_of c ≡ taco_app) }
+{
+    let run = text_command(alloc, "run")?;
+    let command = Command::new(alloc, "taco")
+        .disable_help_flag(true)
+        .disable_help_subcommand(true)
+        .subcommand_required(true)
+        .subcommand(run)?;
+    Ok(command)
+}
+
+/// The fault of a parse.
+fn fault_of_error(error: &clap::Error) -> RequestFault
+    ensures { IsUsage result → kind_of error.now ≡ ErrorKind.OutOfMemory → ⊥ }
+{
+    match error.kind() {
+        ErrorKind::OutOfMemory => RequestFault::Memory,
+        _ => RequestFault::Usage,
+    }
+}
+
+/// What `clap` finds in the words.
+fn parse_words<'a>(alloc: Global, words: &'a [String]) -> Result<ArgMatches<'a>, RequestFault>
+    ensures taken { IfOk result (λ _. fault_of taco_app (map string_bytes words.now) ≡ []) }
+    ensures exact { IfOk result (λ m. subcommand_rows_of m ≡ subcommand_of taco_app (map string_bytes words.now)) }
+    ensures usage { IfErr result (λ f. IsUsage f → takes taco_app (map string_bytes words.now) ≡ false) }
+    ensures fault { IfErr result (λ f. IsUsage f → fault_of taco_app (map string_bytes words.now) ≡ [] → ⊥) }
+{
+    match taco_command(alloc) {
+        Ok(command) => match command.try_get_matches_from(words) {
+            Ok(matches) => Ok(matches),
+            Err(error) => Err(fault_of_error(&error)),
+        },
+        Err(_) => Err(RequestFault::Memory),
+    }
+}
+
+/// The text of EXPR.
+fn expr_of<'a>(matches: &ArgMatches<'a>) -> Option<&'a str>
+    ensures { option_map (λ s. s.now) result ≡ first_of (codes "EXPR") (rows_of (found_of matches.now)) }
+{
+    matches.get_str("EXPR")
+}
+
+/// The WORDs.
+fn words_of<'a>(alloc: Global, matches: &ArgMatches<'a>) -> Result<Vec<&'a str>, AllocError>
+    ensures { IfOk result (λ v. map (λ w. w.now) v.items ≡ unwrap_or (all_of (codes "WORD") (rows_of (found_of matches.now))) []) }
+{
+    match matches.get_strs("WORD") {
+        Some(words) => Vec::from_slice(alloc, words),
+        None => Ok(Vec::new(alloc)),
+    }
+}
+
+/// What the matches of a subcommand say, by its name.
+fn request_of<'a>(
+    alloc: Global,
+    name: &str,
+    matches: &ArgMatches<'a>,
+) -> Result<Option<Request<'a>>, AllocError>
+    ensures { IfOk result (λ r. option_map told r ≡ matched_line (name.now, rows_of (found_of matches.now))) }
+{
+    let words = words_of(alloc, matches)?;
+    match expr_of(matches) {
+        Some(expr) => Ok(text_request(name, expr, words)),
+        None => Ok(None),
+    }
+}
+
+/// The request of a subcommand with EXPR and WORDs.
+fn text_request<'a>(name: &str, expr: &'a str, words: Vec<&'a str>) -> Option<Request<'a>>
+    ensures { option_map told result ≡ text_line name.now expr.entry.now (map (λ w. w.now) words.entry.items) }
+{
+    if name == "run" {
+        Some(Request::Run { expr, words })
+    } else {
+        None
+    }
+}
+
+/// What the matches of the whole command say.
+fn matched<'a>(alloc: Global, matches: &ArgMatches<'a>) -> Result<Option<Request<'a>>, AllocError>
+    ensures { IfOk result (λ r. option_map told r ≡ option_and_then matched_line (subcommand_rows_of matches.now)) }
+{
+    match matches.subcommand() {
+        Some((name, inner)) => request_of(alloc, name, inner),
+        None => Ok(None),
+    }
+}
+
+/// Reads the command line, whose first word is the program's name. Usage exactly where the words are no command line, but
+/// memory may be wanted of each.
+pub fn read_request<'a>(alloc: Global, words: &'a [String]) -> Result<Request<'a>, RequestFault>
+    // In plain words.
+    ensures told { IfOk result (λ r. command_line_of (map string_bytes words.now) ≡ Some (told r)) }
+    ensures untold { IfErr result (λ f. IsUsage f → command_line_of (map string_bytes words.now) ≡ None) }
+
+    // In the words of `clap`.
+    ensures taken { IfOk result (λ _. takes taco_app (map string_bytes words.now) ≡ true) }
+    ensures exact { IfOk result (λ r. clap_line (map string_bytes words.now) ≡ Some (told r)) }
+    ensures refused { IfErr result (λ f. IsUsage f → takes taco_app (map string_bytes words.now) ≡ false) }
+{
+    match parse_words(alloc, words) {
+        Ok(matches) => match matched(alloc, &matches) {
+            Ok(Some(request)) => Ok(request),
+            Ok(None) => Err(RequestFault::Usage),
+            Err(_) => Err(RequestFault::Memory),
+        },
+        Err(fault) => Err(fault),
+    }
+}

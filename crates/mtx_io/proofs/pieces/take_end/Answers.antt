@@ -1,0 +1,41 @@
+use Rattle.std.proofs.Common.{List, ℕ, subst, ap, sym, ◌∙◌}
+use Rattle.text_lines.specs.Cutting.{is_long, told_lines}
+use Rattle.text_lines.specs.LineReader.{Finishes}
+use Rattle.text_lines.specs.declared.step.Step.{Step}
+use Rattle.text_lines.proofs.CuttingLaws.{told_line_short}
+use Rattle.mtx_io.specs.Progress.{Follows}
+use Rattle.mtx_io.proofs.ReaderLaws.{bad_at_end, more_at_end, line_at_end}
+use Rattle.mtx_io.proofs.pieces.take_end.Goals as goal
+
+pub returns-then-is_bad-clause-read : goal.returns-then-is_bad-clause-read
+returns-then-is_bad-clause-read g c = λ fed read.
+    bad_at_end g.S.Semiring.arithmetic g.S.Semiring.has_minus c.args.entries.now.order fed c.args.lines.now.text _
+    c.args.entries.now.list c.args.stage (sym c.is_bad.ensures ∙ c.if-is_bad.true) read
+
+pub after_line-requires-clause-short : goal.after_line-requires-clause-short
+after_line-requires-clause-short g c =
+    let ends = subst (λ (s : Step). Finishes c.args.lines.now c.finish.new.self s) c.in-Line.is c.finish.ensures in
+    ap is_long c.line.ensures
+    ∙ told_line_short c.finish.new.self.text c.finish.new.self.line (told_lines c.args.lines.now.text) ends.0.short ends.0.told
+
+pub returns-in-NeedMore-clause-read : goal.returns-in-NeedMore-clause-read
+returns-in-NeedMore-clause-read g c = λ fed read.
+    let ends = subst (λ (s : Step). Finishes c.args.lines.now c.finish.new.self s) c.in-NeedMore.is c.finish.ensures in
+    more_at_end g.S.Semiring.arithmetic g.S.Semiring.has_minus c.args.entries.now.order fed c.args.lines.now c.finish.new.self
+    c.args.entries.now.list c.args.stage
+    (sym c.is_bad.ensures ∙ c.if-is_bad.false) ends.0.told ends.2 read
+
+pub returns-in_ok-after-in-Line-clause-read : goal.returns-in_ok-after-in-Line-clause-read
+returns-in_ok-after-in-Line-clause-read g c = λ fed read.
+    let a = g.S.Semiring.arithmetic in
+    let has_minus = g.S.Semiring.has_minus in
+    let order = c.args.entries.now.order in
+    let entries' = c.after_line.new.entries.list in
+    let ends = subst (λ (s : Step). Finishes c.args.lines.now c.finish.new.self s) c.in-Line.is c.finish.ensures in
+    let follows : Follows a has_minus order c.number-number.result c.finish.new.self.line c.args.entries.now.list c.args.stage entries'
+    c.in_ok-after-in-Line.after =
+    subst (λ (line : List ℕ). Follows a has_minus order c.number-number.result line c.args.entries.now.list c.args.stage entries'
+    c.in_ok-after-in-Line.after) c.line.ensures c.in_ok-after-in-Line.ensures.follows in
+    line_at_end a has_minus order fed c.args.lines.now c.finish.new.self c.args.entries.now.list entries' c.args.stage
+    c.in_ok-after-in-Line.after c.number-number.result
+    (sym c.is_bad.ensures ∙ c.if-is_bad.false) ends.0.told ends.2 c.number-number.ensures follows read

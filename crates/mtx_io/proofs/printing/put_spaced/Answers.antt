@@ -1,0 +1,9 @@
+use Rattle.mtx_io.proofs.PrintedPieces.{printed, then_printed, refused}
+use Rattle.mtx_io.proofs.printing.put_spaced.Goals as goal
+
+pub returns-in_err-put_u64 : goal.returns-in_err-put_u64
+returns-in_err-put_u64 g c =
+    refused c.from_residual.result c.in_err-put_u64.field-0.0 _ _ _ _ c.from_residual.ensures.1 c.in_err-put_u64.ensures.part
+
+pub returns : goal.returns
+returns g c = then_printed _ _ _ _ _ _ c.in_ok-put_u64.ensures.whole (printed _ _ _ _ c.put_all.ensures.whole c.put_all.ensures.part)

@@ -1,0 +1,11 @@
+use Rattle.mtx_io.proofs.EndedEntries.{known_sized}
+use Rattle.mtx_io.proofs.ProgressLaws.{size_good}
+use Rattle.mtx_io.proofs.step.after_size.Goals as goal
+
+pub returns-in-Some-clause-follows : goal.returns-in-Some-clause-follows
+returns-in-Some-clause-follows c =
+    λ a has_minus. size_good a has_minus c.args.order c.args.number c.args.line.now c.args.banner c.in-Some.lines c.requires.short
+    c.requires.kept c.in-Some.ensures.size
+
+pub returns-in-Some-clause-known : goal.returns-in-Some-clause-known
+returns-in-Some-clause-known c = λ taken some. known_sized taken c.args.line.now some c.requires.kept

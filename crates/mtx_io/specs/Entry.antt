@@ -1,0 +1,93 @@
+-- The entry lines of a Matrix Market file: what each tells, what is wrong with it, and the entries that it gives the matrix.
+use Rattle.std.specs.Prelude.{ℕ, zero, suc, ℤ, ◌&&◌, ◌==◌, nat_lt, List, [], ◌∷◌, Option, Some, None, Result, Ok, Err, if◌then◌else◌}
+use Rattle.limits.specs.Limits.{greatest_file_coordinate}
+use Rattle.numbers.specs.Arithmetic.{Arithmetic}
+use Rattle.numbers.specs.Signed.{word_of_signed}
+use Rattle.tensor_map.specs.declared.entries.Entry.{Entry}
+use Rattle.text_lines.specs.Numbers.{number_of, read_whole_of}
+use Rattle.text_lines.specs.declared.num_fault.NumFault.{NumFault}
+use Rattle.text_lines.specs.declared.num_fault.NumFault.TheVariants.{NotNumber as NoNumber, NotWhole as NoWhole, NumRange as NoRange}
+use Rattle.mtx_io.specs.Banner.{needs_minus}
+use Rattle.mtx_io.specs.Fields.{one_token, three_tokens}
+use Rattle.mtx_io.specs.Size.{Slot, Anywhere, At}
+use Rattle.mtx_io.specs.declared.banner.Symmetry.{Symmetry}
+use Rattle.mtx_io.specs.declared.banner.Symmetry.TheVariants.{General, Symmetric, SkewSymmetric}
+use Rattle.mtx_io.specs.declared.header.Header.{Header}
+use Rattle.mtx_io.specs.declared.line_kind.LineKind.{LineKind}
+use Rattle.mtx_io.specs.declared.line_kind.LineKind.TheVariants.{Fields, NotNumber, NotWhole, NumRange, ZeroCoordinate, CoordRange}
+use Rattle.mtx_io.specs.declared.line_kind.LineKind.TheVariants.{SkewDiagonal}
+use Rattle.mtx_io.specs.declared.place.Place.{Place}
+pub use Rattle.mtx_io.specs.declared.place.PlacedValue.{PlacedValue}
+
+-- a row or a column, counted from 0, of so many: the token counts from 1
+abbrev pub index_from : ℕ → Option ℕ → Result ℕ LineKind
+index_from size None = Err NotNumber
+index_from size (Some zero) = Err ZeroCoordinate
+index_from size (Some (suc i)) =
+    if nat_lt i greatest_file_coordinate then (if nat_lt i size then Ok i else Err CoordRange) else Err NumRange
+
+abbrev pub index_of : ℕ → List ℕ → Result ℕ LineKind
+index_of size token = index_from size (number_of token)
+
+-- a value as a word, where the token is a whole number of 64 bits with a sign
+abbrev pub value_from : Result ℤ NumFault → Result ℕ LineKind
+value_from (Ok z) = Ok (word_of_signed z)
+value_from (Err NoNumber) = Err NotNumber
+value_from (Err NoWhole) = Err NotWhole
+value_from (Err NoRange) = Err NumRange
+
+abbrev pub value_of : List ℕ → Result ℕ LineKind
+value_of token = value_from (read_whole_of token)
+
+-- the diagonal of a skew-symmetric matrix is zero and is not told
+abbrev pub place_at : Symmetry → ℕ → ℕ → Result Place LineKind
+place_at which row column = if needs_minus which && (row == column) then Err SkewDiagonal else Ok (record { row = row; column = column })
+
+-- the row first, and then the column
+abbrev pub place_from : Symmetry → Result ℕ LineKind → Result ℕ LineKind → Result Place LineKind
+place_from which (Err kind) column = Err kind
+place_from which (Ok row) (Err kind) = Err kind
+place_from which (Ok row) (Ok column) = place_at which row column
+
+-- the place first, and then the value
+abbrev pub placed : Result Place LineKind → Result ℕ LineKind → Result PlacedValue LineKind
+placed (Err kind) value = Err kind
+placed (Ok place) (Err kind) = Err kind
+placed (Ok place) (Ok value) = Ok (record { place = place; value = value })
+
+abbrev pub entry_of_three : Header → Option (List ℕ × List ℕ × List ℕ) → Result PlacedValue LineKind
+entry_of_three header None = Err Fields
+entry_of_three header (Some words) =
+    placed (place_from header.symmetry (index_of header.rows words.0) (index_of header.columns words.1)) (value_of words.2)
+
+abbrev pub entry_of_one : Place → Option (List ℕ) → Result PlacedValue LineKind
+entry_of_one place None = Err Fields
+entry_of_one place (Some token) = placed (Ok place) (value_of token)
+
+-- what the tokens of an entry line tell
+abbrev pub entry_of : Header → Slot → List (List ℕ) → Result PlacedValue LineKind
+entry_of header Anywhere tokens = entry_of_three header (three_tokens tokens)
+entry_of header (At place) tokens = entry_of_one place (one_token tokens)
+
+-- the coordinates of a place: in a tensor of order 1 the row alone
+abbrev pub coords_of : ℕ → ℕ → ℕ → List ℕ
+coords_of order row column = if order == 1 then row ∷ [] else row ∷ column ∷ []
+
+abbrev pub own_entry : ℕ → PlacedValue → Entry
+own_entry order told = record { coords = coords_of order told.place.row told.place.column; value = told.value }
+
+-- the entry with this value on the other side of the diagonal
+abbrev pub mirror_image : ℕ → PlacedValue → ℕ → Entry
+mirror_image order told value = record { coords = coords_of order told.place.column told.place.row; value = value }
+
+-- the entry told, and its mirror image: with the same value in a symmetric matrix, where it isn't on the diagonal, and with
+-- the value negated in a skew-symmetric one
+abbrev pub entries_by : Arithmetic → Symmetry → ℕ → PlacedValue → List Entry
+entries_by a General order told = own_entry order told ∷ []
+entries_by a Symmetric order told =
+    if told.place.row == told.place.column then own_entry order told ∷ [] else own_entry order told ∷ mirror_image order told told.value
+    ∷ []
+entries_by a SkewSymmetric order told = own_entry order told ∷ mirror_image order told (a.times a.minus_one told.value) ∷ []
+
+abbrev pub entries_of : Arithmetic → Header → PlacedValue → List Entry
+entries_of a header told = entries_by a header.symmetry header.order told

@@ -1,0 +1,13 @@
+pub mod Banner
+pub mod Due
+pub mod Entry
+pub mod Fields
+pub mod Matrix
+pub mod Places
+pub mod Prints
+pub mod Progress
+pub mod Reader
+pub mod Size
+pub mod SizeLaws
+pub mod Text
+pub mod WrittenLaws

@@ -1,0 +1,28 @@
+//! What Matrix Market files (`.mtx`) say and what is written into them: `specs/Matrix.antt` defines what a text stands
+//! for, by the banner (`specs/Banner.antt`), the size line (`specs/Size.antt`) and the entry lines (`specs/Entry.antt`).
+#![tactic(auto)]
+
+mod banner;
+mod due;
+mod entry;
+mod fields;
+mod file_fault;
+mod finish;
+mod header;
+mod laws;
+mod line_kind;
+mod mtx_reader;
+mod pieces;
+mod place;
+mod printing;
+mod stage;
+mod step;
+
+pub use file_fault::FileFault;
+pub use laws::{
+    entries_are_below_the_sizes, tensors_have_one_text, texts_are_matrices_or_bad,
+    written_entries_are_texts_of_their_tensor, written_texts_stand_for_their_tensor,
+};
+pub use line_kind::LineKind;
+pub use mtx_reader::MtxReader;
+pub use printing::put_mtx;

@@ -1,0 +1,30 @@
+/// What is wrong with a line of a Matrix Market file.
+#[derive(Clone, Copy, Debug, PartialEq, Eq)]
+pub enum LineKind {
+    /// It is too long.
+    LongLine,
+    /// The first line is no banner of a matrix of integers.
+    BadBanner,
+    /// The matrix is skew-symmetric, and values have no minus.
+    NoMinus,
+    /// The size line is none.
+    BadSize,
+    /// It comes after the last entry that was due.
+    Extra,
+    /// It has another number of tokens than an entry.
+    Fields,
+    /// A token is no number, or a row or column isn't one or more digits.
+    NotNumber,
+    /// The value is a decimal number, but not written as a whole one.
+    NotWhole,
+    /// A number is out of range.
+    NumRange,
+    /// A row or a column is 0: they are counted from 1.
+    ZeroCoordinate,
+    /// A row or a column is above the size.
+    CoordRange,
+    /// An entry of a skew-symmetric matrix is on the diagonal.
+    SkewDiagonal,
+    /// The file ends before this line, and the size line or an entry was still due.
+    Truncated,
+}

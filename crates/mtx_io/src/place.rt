@@ -1,0 +1,13 @@
+/// A place in a matrix. Rows and columns are counted from 0.
+#[derive(Clone, Copy, Debug, PartialEq, Eq)]
+pub(crate) struct Place {
+    pub(crate) row: u64,
+    pub(crate) column: u64,
+}
+
+/// A place and the value there.
+#[derive(Clone, Copy, Debug, PartialEq, Eq)]
+pub(crate) struct PlacedValue {
+    pub(crate) place: Place,
+    pub(crate) value: u64,
+}

@@ -1,0 +1,169 @@
+-- The status of a fault, and its line.
+use Rattle.std.specs.Prelude.{ℕ, List, [], ◌∷◌, codes, Option, Some, None, slice_get}
+use Rattle.std.specs.Fmt.{decimal}
+use Rattle.index_notation.specs.declared.syntax.Name.{Name}
+use Rattle.index_notation.specs.declared.syntax.Statement.{Statement}
+use Rattle.index_notation.specs.declared.fault.Counted.{Counted}
+use Rattle.index_notation.specs.declared.fault.Counted.TheVariants.{Order, Variables, Accesses, Operands}
+use Rattle.index_notation.specs.declared.fault.NotationFault.{NotationFault}
+use Rattle.index_notation.specs.declared.fault.NotationFault.TheVariants as notation
+use Rattle.format_spec.specs.declared.fault.FormatFault.{FormatFault}
+use Rattle.format_spec.specs.declared.fault.FormatFault.TheVariants.{BadLetter, BadLength, BadOrder, BadChain, BelowHashed}
+use Rattle.expr_terms.specs.declared.names.NameFault.{NameFault}
+use Rattle.expr_terms.specs.declared.names.NameFault.TheVariants.{ResultRead, Arity, RepeatedVariable}
+use Rattle.expr_terms.specs.declared.range_fault.RangeFault.{RangeFault}
+use Rattle.expr_terms.specs.declared.range_fault.RangeFault.TheVariants as range
+use Rattle.bindings.specs.declared.fault.WordFault.{WordFault}
+use Rattle.bindings.specs.declared.fault.WordFault.TheVariants.{BadBinding, UnknownName, Twice, NotMatrix, RangeLimit}
+use Rattle.bindings.specs.declared.fault.BindingFault.{BindingFault}
+use Rattle.bindings.specs.declared.fault.BindingFault.TheVariants as binding
+use Rattle.mtx_io.specs.declared.line_kind.LineKind.{LineKind}
+use Rattle.mtx_io.specs.declared.line_kind.LineKind.TheVariants as line
+use Rattle.refusals.specs.declared.fault.NamedFault.{NamedFault}
+use Rattle.refusals.specs.declared.fault.NamedFault.TheVariants as named
+use Rattle.refusals.specs.declared.fault.Fault.{Fault}
+use Rattle.refusals.specs.declared.fault.Fault.TheVariants as fault
+use Rattle.refusals.specs.Pieces.{joined}
+
+-- ---- statuses: 1 refused input, 2 usage, 3 read fault, 4 write fault, 5 want of memory, 6 a limit
+abbrev pub notation_status : NotationFault → ℕ
+notation_status notation.TextLength = 6
+notation_status (notation.BadNotation at) = 1
+notation_status (notation.TooDeep at) = 6
+notation_status (notation.TooMany what at) = 6
+notation_status (notation.LiteralRange at) = 6
+notation_status (notation.Memory error) = 5
+
+abbrev pub word_status : WordFault → ℕ
+word_status BadBinding = 1
+word_status UnknownName = 1
+word_status Twice = 1
+word_status NotMatrix = 1
+word_status RangeLimit = 6
+
+abbrev pub named_status : NamedFault → ℕ
+named_status (named.Name name) = 1
+named_status (named.Binding (binding.Word word why)) = word_status why
+named_status (named.Binding (binding.NoFile tensor)) = 1
+named_status (named.Binding (binding.BadFormat tensor why)) = 1
+named_status (named.Binding (binding.Memory error)) = 5
+named_status (named.Range (range.NoRange var)) = 1
+named_status (named.Range (range.RangeConflict var first other)) = 1
+named_status (named.Range (range.OutOfRange tensor coordinate exact)) = 1
+named_status (named.Range (range.Memory error)) = 5
+named_status (named.SizeLimit tensor level count) = 6
+
+abbrev pub status_of : Fault → ℕ
+status_of fault.Usage = 2
+status_of (fault.Notation why) = notation_status why
+status_of (fault.Named s why) = named_status why
+status_of fault.NotBuilt = 1
+status_of (fault.ReadFault path) = 3
+status_of (fault.FileBytes path) = 6
+status_of (fault.BadFile path number kind) = 1
+status_of (fault.WriteFault path) = 4
+status_of fault.Memory = 5
+
+-- ---- lines
+-- the bytes of a name, by its number
+abbrev pub bytes_of : Option Name → List ℕ
+bytes_of None = []
+bytes_of (Some name) = name.bytes
+
+abbrev pub name_at : List Name → ℕ → List ℕ
+name_at names number = bytes_of (slice_get names number)
+
+abbrev pub memory_line : List ℕ
+memory_line = codes "taco: out of memory\n"
+
+-- what a text has too many of
+abbrev pub counted_text : Counted → List ℕ
+counted_text Order = codes "order above 6"
+counted_text Variables = codes "more than 6 variables"
+counted_text Accesses = codes "more than 6 accesses"
+counted_text Operands = codes "more than 16 operands"
+
+-- a text, and the byte at which it is so
+abbrev pub at_byte : List ℕ → ℕ → List ℕ
+at_byte text at = joined (codes "taco: " ∷ text ∷ codes " at byte " ∷ decimal at ∷ codes "\n" ∷ [])
+
+abbrev pub notation_line : NotationFault → List ℕ
+notation_line notation.TextLength = codes "taco: expression longer than 4096 bytes\n"
+notation_line (notation.BadNotation at) = at_byte (codes "bad notation") at
+notation_line (notation.TooDeep at) = at_byte (codes "nesting deeper than 32") at
+notation_line (notation.TooMany what at) = at_byte (counted_text what) at
+notation_line (notation.LiteralRange at) = at_byte (codes "literal above 9223372036854775807") at
+notation_line (notation.Memory error) = memory_line
+
+abbrev pub name_line : Statement → NameFault → List ℕ
+name_line s (ResultRead tensor) = joined (codes "taco: " ∷ name_at s.tensors tensor ∷ codes ": the result is read\n" ∷ [])
+name_line s (Arity tensor) = joined (codes "taco: " ∷ name_at s.tensors tensor ∷ codes ": accesses of different order\n" ∷ [])
+name_line s (RepeatedVariable tensor var) = joined (codes "taco: " ∷ name_at s.tensors tensor ∷ codes ": variable "
+    ∷ name_at s.vars var ∷ codes " stands twice\n" ∷ [])
+
+-- why a word is refused
+abbrev pub word_text : WordFault → List ℕ
+word_text BadBinding = codes ": not a binding\n"
+word_text UnknownName = codes ": no such name\n"
+word_text Twice = codes ": bound twice\n"
+word_text NotMatrix = codes ": .mtx needs order 1 or 2\n"
+word_text RangeLimit = codes ": range above 2147483647\n"
+
+-- what is wrong with a format
+abbrev pub format_text : FormatFault → List ℕ
+format_text BadLetter = codes ": bad format: letter\n"
+format_text BadLength = codes ": bad format: length\n"
+format_text BadOrder = codes ": bad format: order\n"
+format_text BadChain = codes ": bad format: chain\n"
+format_text BelowHashed = codes ": bad format: below h\n"
+
+abbrev pub binding_line : Statement → BindingFault → List ℕ
+binding_line s (binding.Word word why) = joined (codes "taco: word " ∷ decimal word ∷ word_text why ∷ [])
+binding_line s (binding.NoFile tensor) = joined (codes "taco: " ∷ name_at s.tensors tensor ∷ codes ": no file\n" ∷ [])
+binding_line s (binding.BadFormat tensor why) = joined (codes "taco: " ∷ name_at s.tensors tensor ∷ format_text why ∷ [])
+binding_line s (binding.Memory error) = memory_line
+
+abbrev pub range_line : Statement → RangeFault → List ℕ
+range_line s (range.NoRange var) = joined (codes "taco: variable " ∷ name_at s.vars var ∷ codes ": no range\n" ∷ [])
+range_line s (range.RangeConflict var first other) = joined (codes "taco: variable " ∷ name_at s.vars var ∷ codes ": ranges "
+    ∷ decimal first ∷ codes " and " ∷ decimal other ∷ codes "\n" ∷ [])
+range_line s (range.OutOfRange tensor coordinate exact) = joined (codes "taco: " ∷ name_at s.tensors tensor ∷ codes ": coordinate "
+    ∷ decimal coordinate ∷ codes " above range " ∷ decimal exact ∷ codes "\n" ∷ [])
+range_line s (range.Memory error) = memory_line
+
+abbrev pub size_text : List ℕ → ℕ → ℕ → List ℕ
+size_text tensor level count = joined (codes "taco: size limit: " ∷ tensor ∷ codes " level " ∷ decimal level
+    ∷ codes " needs " ∷ decimal count ∷ codes " positions\n" ∷ [])
+
+abbrev pub named_line : Statement → NamedFault → List ℕ
+named_line s (named.Name why) = name_line s why
+named_line s (named.Binding why) = binding_line s why
+named_line s (named.Range why) = range_line s why
+named_line s (named.SizeLimit tensor level count) = size_text (name_at s.tensors tensor) level count
+
+abbrev pub kind_text : LineKind → List ℕ
+kind_text line.LongLine = codes ": LongLine\n"
+kind_text line.BadBanner = codes ": BadBanner\n"
+kind_text line.NoMinus = codes ": NoMinus\n"
+kind_text line.BadSize = codes ": BadSize\n"
+kind_text line.Extra = codes ": Extra\n"
+kind_text line.Fields = codes ": Fields\n"
+kind_text line.NotNumber = codes ": NotNumber\n"
+kind_text line.NotWhole = codes ": NotWhole\n"
+kind_text line.NumRange = codes ": NumRange\n"
+kind_text line.ZeroCoordinate = codes ": ZeroCoordinate\n"
+kind_text line.CoordRange = codes ": CoordRange\n"
+kind_text line.SkewDiagonal = codes ": SkewDiagonal\n"
+kind_text line.Truncated = codes ": Truncated\n"
+
+abbrev pub line_of : Fault → List ℕ
+line_of fault.Usage = codes "usage: taco run EXPR WORD.. | taco kernel EXPR WORD.. | taco report EXPR WORD.. | taco gen N\n"
+line_of (fault.Notation why) = notation_line why
+line_of (fault.Named s why) = named_line s why
+line_of fault.NotBuilt = codes "taco: not built yet\n"
+line_of (fault.ReadFault path) = joined (codes "taco: " ∷ path.now ∷ codes ": read fault\n" ∷ [])
+line_of (fault.FileBytes path) = joined (codes "taco: " ∷ path.now ∷ codes ": more than 1099511627776 bytes\n" ∷ [])
+line_of (fault.BadFile path number kind) = joined (codes "taco: " ∷ path.now ∷ codes ": line " ∷ decimal number ∷ kind_text kind ∷ [])
+line_of (fault.WriteFault None) = codes "taco: standard output: write fault\n"
+line_of (fault.WriteFault (Some path)) = joined (codes "taco: " ∷ path.now ∷ codes ": write fault\n" ∷ [])
+line_of fault.Memory = memory_line

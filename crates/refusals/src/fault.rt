@@ -1,0 +1,116 @@
+// The faults of all layers, gathered.
+ghost use Rattle.std.specs.Prelude.{◌≡◌};
+ghost use Rattle.refusals.specs.Lines.{status_of, notation_status, named_status};
+
+use bindings::{BindingFault, WordFault};
+use expr_terms::{NameFault, RangeFault};
+use index_notation::{NotationFault, Statement};
+use mtx_io::LineKind;
+use thiserror::Error;
+
+/// A fault that is told by names of the statement.
+#[derive(Debug, Drop)]
+pub enum NamedFault {
+    /// A name stands where it may not.
+    Name(NameFault),
+    /// A word, a file or a format is missing or wrong.
+    Binding(BindingFault),
+    /// A variable has no range, or two.
+    Range(RangeFault),
+    /// This level of this tensor, counted from 1, would have so many positions, which pass the limit.
+    SizeLimit {
+        tensor: usize,
+        level: usize,
+        count: u64,
+    },
+}
+
+/// Why a command ends without its result.
+#[derive(Debug, Drop, Error)]
+pub enum Fault<'a> {
+    /// The words are no command line.
+    #[error("usage")]
+    Usage,
+    /// The statement's text isn't one.
+    #[error("notation")]
+    Notation(NotationFault),
+    /// A fault that is told by names of this statement.
+    #[error("names of the statement")]
+    Named {
+        statement: Statement,
+        fault: NamedFault,
+    },
+    /// The statement isn't among those that are built so far.
+    #[error("not built yet")]
+    NotBuilt,
+    /// Reading this file failed, or it isn't there.
+    #[error("{0}: read fault")]
+    ReadFault(&'a str),
+    /// This file has more bytes than may be.
+    #[error("{0}: too many bytes")]
+    FileBytes(&'a str),
+    /// This line of this file, counted from 1, is the first bad one.
+    #[error("{path}: bad line")]
+    BadFile {
+        path: &'a str,
+        line: u64,
+        kind: LineKind,
+    },
+    /// Writing the result failed: to this path, or to the output.
+    #[error("write fault")]
+    WriteFault(Option<&'a str>),
+    /// Memory was wanted.
+    #[error("out of memory")]
+    Memory,
+}
+
+impl<'a> Fault<'a> {
+    /// The status that a command ends with.
+    pub fn status(&self) -> u8
+        ensures { result ≡ status_of self.now }
+    {
+        match self {
+            Fault::Usage => 2,
+            Fault::Notation(fault) => status_of_notation(fault),
+            Fault::Named { fault, .. } => status_of_named(fault),
+            Fault::NotBuilt | Fault::BadFile { .. } => 1,
+            Fault::ReadFault(_) => 3,
+            Fault::WriteFault(_) => 4,
+            Fault::FileBytes(_) => 6,
+            Fault::Memory => 5,
+        }
+    }
+}
+
+/// The status of a text that is no statement.
+fn status_of_notation(fault: &NotationFault) -> u8
+    ensures { result ≡ notation_status fault.now }
+{
+    match fault {
+        NotationFault::BadNotation { .. } => 1,
+        NotationFault::TextLength
+        | NotationFault::TooDeep { .. }
+        | NotationFault::TooMany { .. }
+        | NotationFault::LiteralRange { .. } => 6,
+        NotationFault::Memory(_) => 5,
+    }
+}
+
+/// The status of a fault that is told by names.
+fn status_of_named(fault: &NamedFault) -> u8
+    ensures { result ≡ named_status fault.now }
+{
+    match fault {
+        NamedFault::Name(_) => 1,
+        NamedFault::Binding(
+            BindingFault::Word {
+                fault: WordFault::RangeLimit,
+                ..
+            },
+        ) => 6,
+        NamedFault::Binding(BindingFault::Memory(_)) | NamedFault::Range(RangeFault::Memory(_)) =>
+            5,
+        NamedFault::Binding(_) | NamedFault::Range(_) => 1,
+        NamedFault::SizeLimit { .. } => 6,
+    }
+}

@@ -1,0 +1,9 @@
+//! Why a command ends without its result, with the status and the line of each such fault. `specs/Lines.antt` says them.
+#![tactic(auto)]
+
+mod fault;
+mod line;
+mod pieces;
+
+pub use fault::{Fault, NamedFault};
+pub use line::put_line;

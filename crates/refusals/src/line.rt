@@ -1,0 +1,406 @@
+// The line of each fault.
+ghost use Rattle.std.specs.Prelude.{◌≡◌, ℕ, List, OnOk, IfErr, [], ◌∷◌, codes};
+ghost use Rattle.std.specs.Fmt.{decimal};
+ghost use Rattle.outside.specs.Sink.{Appends};
+ghost use Rattle.text_lines.specs.Puts.{AppendsPart};
+ghost use Rattle.refusals.specs.Lines.{name_at, at_byte, counted_text, notation_line, name_line, word_text, format_text, binding_line};
+ghost use Rattle.refusals.specs.Lines.{range_line, size_text, named_line, kind_text, line_of};
+ghost use Rattle.refusals.specs.Pieces.{joined};
+
+use crate::fault::{Fault, NamedFault};
+use crate::pieces::{Piece, put_pieces};
+use bindings::{BindingFault, WordFault};
+use expr_terms::{NameFault, RangeFault};
+use format_spec::FormatFault;
+use index_notation::{Counted, Name, NotationFault, Statement};
+use mtx_io::LineKind;
+use outside::{Refusal, Sink};
+use text_lines::put_all;
+
+const MEMORY: &[u8] = b"taco: out of memory\n";
+
+const USAGE: &[u8] =
+    b"usage: taco run EXPR WORD.. | taco kernel EXPR WORD.. | taco report EXPR WORD.. | taco gen N\n";
+
+/// The bytes of a name, by its number: none where there is no such name.
+fn bytes_of(names: &[Name], number: usize) -> &[u8]
+    ensures { result.now ≡ name_at names.now number }
+{
+    match names.get(number) {
+        Some(name) => name.bytes.as_slice(),
+        None => b"",
+    }
+}
+
+/// What a text has too many of.
+fn text_of_counted(what: Counted) -> &'static [u8]
+    ensures { result.now ≡ counted_text what }
+{
+    match what {
+        Counted::Order => b"order above 6",
+        Counted::Variables => b"more than 6 variables",
+        Counted::Accesses => b"more than 6 accesses",
+        Counted::Operands => b"more than 16 operands",
+    }
+}
+
+/// Why a word is refused.
+fn text_of_word(fault: WordFault) -> &'static [u8]
+    ensures { result.now ≡ word_text fault }
+{
+    match fault {
+        WordFault::BadBinding => b": not a binding\n",
+        WordFault::UnknownName => b": no such name\n",
+        WordFault::Twice => b": bound twice\n",
+        WordFault::NotMatrix => b": .mtx needs order 1 or 2\n",
+        WordFault::RangeLimit => b": range above 2147483647\n",
+    }
+}
+
+/// What is wrong with a format.
+fn text_of_format(fault: FormatFault) -> &'static [u8]
+    ensures { result.now ≡ format_text fault }
+{
+    match fault {
+        FormatFault::BadLetter => b": bad format: letter\n",
+        FormatFault::BadLength => b": bad format: length\n",
+        FormatFault::BadOrder => b": bad format: order\n",
+        FormatFault::BadChain => b": bad format: chain\n",
+        FormatFault::BelowHashed => b": bad format: below h\n",
+    }
+}
+
+/// What is wrong with a line.
+fn text_of_kind(kind: LineKind) -> &'static [u8]
+    ensures { result.now ≡ kind_text kind }
+{
+    match kind {
+        LineKind::LongLine => b": LongLine\n",
+        LineKind::BadBanner => b": BadBanner\n",
+        LineKind::NoMinus => b": NoMinus\n",
+        LineKind::BadSize => b": BadSize\n",
+        LineKind::Extra => b": Extra\n",
+        LineKind::Fields => b": Fields\n",
+        LineKind::NotNumber => b": NotNumber\n",
+        LineKind::NotWhole => b": NotWhole\n",
+        LineKind::NumRange => b": NumRange\n",
+        LineKind::ZeroCoordinate => b": ZeroCoordinate\n",
+        LineKind::CoordRange => b": CoordRange\n",
+        LineKind::SkewDiagonal => b": SkewDiagonal\n",
+        LineKind::Truncated => b": Truncated\n",
+    }
+}
+
+/// Appends the line of a text that is so at this byte.
+fn put_at_byte<S: Sink>(sink: &mut S, text: &[u8], at: usize) -> Result<(), Refusal>
+    ensures whole { OnOk result (Appends (S.state sink.old) (S.state sink.new) (at_byte text.now at)) }
+    ensures part { IfErr result (AppendsPart (S.state sink.old) (S.state sink.new) (at_byte text.now at)) }
+{
+    let pieces = [
+        Piece::Text(b"taco: "),
+        Piece::Text(text),
+        Piece::Text(b" at byte "),
+        Piece::Number(at as u64),
+        Piece::Text(b"\n"),
+    ];
+    put_pieces(sink, &pieces)
+}
+
+/// Appends the line of a text that is no statement.
+fn put_notation_line<S: Sink>(sink: &mut S, fault: &NotationFault) -> Result<(), Refusal>
+    ensures whole { OnOk result (Appends (S.state sink.old) (S.state sink.new) (notation_line fault.now)) }
+    ensures part { IfErr result (AppendsPart (S.state sink.old) (S.state sink.new) (notation_line fault.now)) }
+{
+    match fault {
+        NotationFault::TextLength => put_all(sink, b"taco: expression longer than 4096 bytes\n"),
+        NotationFault::BadNotation { at } => put_at_byte(sink, b"bad notation", *at),
+        NotationFault::TooDeep { at } => put_at_byte(sink, b"nesting deeper than 32", *at),
+        NotationFault::TooMany { what, at } => put_at_byte(sink, text_of_counted(*what), *at),
+        NotationFault::LiteralRange { at } => put_at_byte(
+            sink,
+            b"literal above 9223372036854775807",
+            *at,
+        ),
+        NotationFault::Memory(_) => put_all(sink, MEMORY),
+    }
+}
+
+/// Appends the line that says this of a path.
+fn put_of_path<'x, S: Sink>(sink: &mut S, path: &'x str, text: &'x [u8]) -> Result<(), Refusal>
+    ensures whole { OnOk result (Appends (S.state sink.old) (S.state sink.new) (joined (codes "taco: " ∷ path.now ∷ text.now ∷ []))) }
+    ensures part { IfErr result (AppendsPart (S.state sink.old) (S.state sink.new) (joined (codes "taco: " ∷ path.now ∷ text.now ∷ []))) }
+{
+    put_pieces(
+        sink,
+        &[
+            Piece::Text(b"taco: "),
+            Piece::Text(path.as_bytes()),
+            Piece::Text(text),
+        ],
+    )
+}
+
+/// Appends the line that says this of a tensor.
+fn put_of_tensor<'x, S: Sink>(
+    sink: &mut S,
+    statement: &'x Statement,
+    tensor: usize,
+    text: &'x [u8],
+) -> Result<(), Refusal>
+    ensures whole { OnOk result (Appends (S.state sink.old) (S.state sink.new)
+        (joined (codes "taco: " ∷ name_at statement.now.tensors tensor ∷ text.now ∷ []))) }
+    ensures part { IfErr result (AppendsPart (S.state sink.old) (S.state sink.new)
+        (joined (codes "taco: " ∷ name_at statement.now.tensors tensor ∷ text.now ∷ []))) }
+{
+    let name = bytes_of(statement.tensors.as_slice(), tensor);
+    put_pieces(
+        sink,
+        &[Piece::Text(b"taco: "), Piece::Text(name), Piece::Text(text)],
+    )
+}
+
+/// Appends the line of a name that stands where it may not.
+fn put_name_line<S: Sink>(
+    sink: &mut S,
+    statement: &Statement,
+    fault: NameFault,
+) -> Result<(), Refusal>
+    ensures whole { OnOk result (Appends (S.state sink.old) (S.state sink.new) (name_line statement.now fault)) }
+    ensures part { IfErr result (AppendsPart (S.state sink.old) (S.state sink.new) (name_line statement.now fault)) }
+{
+    match fault {
+        NameFault::ResultRead { tensor } => put_of_tensor(
+            sink,
+            statement,
+            tensor,
+            b": the result is read\n",
+        ),
+        NameFault::Arity { tensor } => put_of_tensor(
+            sink,
+            statement,
+            tensor,
+            b": accesses of different order\n",
+        ),
+        NameFault::RepeatedVariable { tensor, var } => {
+            let pieces = [
+                Piece::Text(b"taco: "),
+                Piece::Text(bytes_of(statement.tensors.as_slice(), tensor)),
+                Piece::Text(b": variable "),
+                Piece::Text(bytes_of(statement.vars.as_slice(), var)),
+                Piece::Text(b" stands twice\n"),
+            ];
+            put_pieces(sink, &pieces)
+        }
+    }
+}
+
+/// Appends the line of words that bind nothing.
+fn put_binding_line<S: Sink>(
+    sink: &mut S,
+    statement: &Statement,
+    fault: &BindingFault,
+) -> Result<(), Refusal>
+    ensures whole { OnOk result (Appends (S.state sink.old) (S.state sink.new) (binding_line statement.now fault.now)) }
+    ensures part { IfErr result (AppendsPart (S.state sink.old) (S.state sink.new) (binding_line statement.now fault.now)) }
+{
+    match fault {
+        BindingFault::Word { word, fault } => {
+            let pieces = [
+                Piece::Text(b"taco: word "),
+                Piece::Number(*word as u64),
+                Piece::Text(text_of_word(*fault)),
+            ];
+            put_pieces(sink, &pieces)
+        }
+        BindingFault::NoFile { tensor } => put_of_tensor(sink, statement, *tensor, b": no file\n"),
+        BindingFault::BadFormat { tensor, fault } => put_of_tensor(
+            sink,
+            statement,
+            *tensor,
+            text_of_format(*fault),
+        ),
+        BindingFault::Memory(_) => put_all(sink, MEMORY),
+    }
+}
+
+/// Appends the line of a variable without a range.
+fn put_no_range<S: Sink>(sink: &mut S, var: &[u8]) -> Result<(), Refusal>
+    ensures whole { OnOk result (Appends (S.state sink.old) (S.state sink.new)
+        (joined (codes "taco: variable " ∷ var.now ∷ codes ": no range\n" ∷ []))) }
+    ensures part { IfErr result (AppendsPart (S.state sink.old) (S.state sink.new)
+        (joined (codes "taco: variable " ∷ var.now ∷ codes ": no range\n" ∷ []))) }
+{
+    put_pieces(
+        sink,
+        &[
+            Piece::Text(b"taco: variable "),
+            Piece::Text(var),
+            Piece::Text(b": no range\n"),
+        ],
+    )
+}
+
+/// Appends the line of a variable with two ranges.
+fn put_conflict<S: Sink>(sink: &mut S, var: &[u8], first: u64, other: u64) -> Result<(), Refusal>
+    ensures whole { OnOk result
+        (Appends (S.state sink.old) (S.state sink.new)
+        (joined (codes "taco: variable " ∷ var.now ∷ codes ": ranges " ∷ decimal first ∷ codes " and " ∷ decimal other ∷ codes "\n"
+        ∷ []))) }
+    ensures part { IfErr result
+        (AppendsPart (S.state sink.old) (S.state sink.new)
+        (joined (codes "taco: variable " ∷ var.now ∷ codes ": ranges " ∷ decimal first ∷ codes " and " ∷ decimal other ∷ codes "\n"
+        ∷ []))) }
+{
+    let pieces = [
+        Piece::Text(b"taco: variable "),
+        Piece::Text(var),
+        Piece::Text(b": ranges "),
+        Piece::Number(first),
+        Piece::Text(b" and "),
+        Piece::Number(other),
+        Piece::Text(b"\n"),
+    ];
+    put_pieces(sink, &pieces)
+}
+
+/// Appends the line of a coordinate above a range.
+fn put_above<S: Sink>(
+    sink: &mut S,
+    tensor: &[u8],
+    coordinate: u64,
+    range: u64,
+) -> Result<(), Refusal>
+    ensures whole { OnOk result
+        (Appends (S.state sink.old) (S.state sink.new)
+        (joined (codes "taco: " ∷ tensor.now ∷ codes ": coordinate " ∷ decimal coordinate ∷ codes " above range " ∷ decimal range
+        ∷ codes "\n" ∷ []))) }
+    ensures part { IfErr result
+        (AppendsPart (S.state sink.old) (S.state sink.new)
+        (joined (codes "taco: " ∷ tensor.now ∷ codes ": coordinate " ∷ decimal coordinate ∷ codes " above range " ∷ decimal range
+        ∷ codes "\n" ∷ []))) }
+{
+    let pieces = [
+        Piece::Text(b"taco: "),
+        Piece::Text(tensor),
+        Piece::Text(b": coordinate "),
+        Piece::Number(coordinate),
+        Piece::Text(b" above range "),
+        Piece::Number(range),
+        Piece::Text(b"\n"),
+    ];
+    put_pieces(sink, &pieces)
+}
+
+/// Appends the line of a variable without its range.
+fn put_range_line<S: Sink>(
+    sink: &mut S,
+    statement: &Statement,
+    fault: &RangeFault,
+) -> Result<(), Refusal>
+    ensures whole { OnOk result (Appends (S.state sink.old) (S.state sink.new) (range_line statement.now fault.now)) }
+    ensures part { IfErr result (AppendsPart (S.state sink.old) (S.state sink.new) (range_line statement.now fault.now)) }
+{
+    let vars = statement.vars.as_slice();
+    match fault {
+        RangeFault::NoRange { var } => put_no_range(sink, bytes_of(vars, *var)),
+        RangeFault::RangeConflict { var, first, other } => put_conflict(
+            sink,
+            bytes_of(vars, *var),
+            *first,
+            *other,
+        ),
+        RangeFault::OutOfRange {
+            tensor,
+            coordinate,
+            range,
+        } => put_above(
+            sink,
+            bytes_of(statement.tensors.as_slice(), *tensor),
+            *coordinate,
+            *range,
+        ),
+        RangeFault::Memory(_) => put_all(sink, MEMORY),
+    }
+}
+
+/// Appends the line of a level with too many positions.
+fn put_size<S: Sink>(sink: &mut S, tensor: &[u8], level: usize, count: u64) -> Result<(), Refusal>
+    ensures whole { OnOk result (Appends (S.state sink.old) (S.state sink.new) (size_text tensor.now level count)) }
+    ensures part { IfErr result (AppendsPart (S.state sink.old) (S.state sink.new) (size_text tensor.now level count)) }
+{
+    let pieces = [
+        Piece::Text(b"taco: size limit: "),
+        Piece::Text(tensor),
+        Piece::Text(b" level "),
+        Piece::Number(level as u64),
+        Piece::Text(b" needs "),
+        Piece::Number(count),
+        Piece::Text(b" positions\n"),
+    ];
+    put_pieces(sink, &pieces)
+}
+
+/// Appends the line of a fault that is told by names.
+fn put_named_line<S: Sink>(
+    sink: &mut S,
+    statement: &Statement,
+    fault: &NamedFault,
+) -> Result<(), Refusal>
+    ensures whole { OnOk result (Appends (S.state sink.old) (S.state sink.new) (named_line statement.now fault.now)) }
+    ensures part { IfErr result (AppendsPart (S.state sink.old) (S.state sink.new) (named_line statement.now fault.now)) }
+{
+    match fault {
+        NamedFault::Name(fault) => put_name_line(sink, statement, *fault),
+        NamedFault::Binding(fault) => put_binding_line(sink, statement, fault),
+        NamedFault::Range(fault) => put_range_line(sink, statement, fault),
+        NamedFault::SizeLimit {
+            tensor,
+            level,
+            count,
+        } => put_size(
+            sink,
+            bytes_of(statement.tensors.as_slice(), *tensor),
+            *level,
+            *count,
+        ),
+    }
+}
+
+/// Appends the line of a file with a bad line.
+fn put_bad_line<S: Sink>(sink: &mut S, path: &str, line: u64, kind: LineKind) -> Result<(), Refusal>
+    ensures whole { OnOk result
+        (Appends (S.state sink.old) (S.state sink.new)
+        (joined (codes "taco: " ∷ path.now ∷ codes ": line " ∷ decimal line ∷ kind_text kind ∷ []))) }
+    ensures part { IfErr result
+        (AppendsPart (S.state sink.old) (S.state sink.new)
+        (joined (codes "taco: " ∷ path.now ∷ codes ": line " ∷ decimal line ∷ kind_text kind ∷ []))) }
+{
+    let pieces = [
+        Piece::Text(b"taco: "),
+        Piece::Text(path.as_bytes()),
+        Piece::Text(b": line "),
+        Piece::Number(line),
+        Piece::Text(text_of_kind(kind)),
+    ];
+    put_pieces(sink, &pieces)
+}
+
+/// Appends the line of a fault. It takes no memory but what the sink takes. After a refusal of the sink a part of the line at its
+/// front was appended.
+pub fn put_line<S: Sink>(sink: &mut S, fault: &Fault<'_>) -> Result<(), Refusal>
+    ensures whole { OnOk result (Appends (S.state sink.old) (S.state sink.new) (line_of fault.now)) }
+    ensures part { IfErr result (AppendsPart (S.state sink.old) (S.state sink.new) (line_of fault.now)) }
+{
+    match fault {
+        Fault::Usage => put_all(sink, USAGE),
+        Fault::Notation(fault) => put_notation_line(sink, fault),
+        Fault::Named { statement, fault } => put_named_line(sink, statement, fault),
+        Fault::NotBuilt => put_all(sink, b"taco: not built yet\n"),
+        Fault::ReadFault(path) => put_of_path(sink, path, b": read fault\n"),
+        Fault::FileBytes(path) => put_of_path(sink, path, b": more than 1099511627776 bytes\n"),
+        Fault::BadFile { path, line, kind } => put_bad_line(sink, path, *line, *kind),
+        Fault::WriteFault(None) => put_all(sink, b"taco: standard output: write fault\n"),
+        Fault::WriteFault(Some(path)) => put_of_path(sink, path, b": write fault\n"),
+        Fault::Memory => put_all(sink, MEMORY),
+    }
+}

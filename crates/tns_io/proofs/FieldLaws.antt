@@ -1,0 +1,27 @@
+-- Lemmas about what specs/Fields.antt defines.
+use Rattle.std.specs.Prelude.{◌≡◌, ℕ, ◌+◌, List, [], ◌∷◌, ◌++◌, length, Result, Ok, Err, refl}
+use Rattle.std.proofs.Common.{arith, ap, sym, ◌∙◌, append_assoc}
+use Rattle.tensor_map.specs.declared.entries.Entry.{Entry}
+use Rattle.tns_io.specs.Fields.{AreCoordinates, behind_coords}
+use Rattle.tns_io.specs.Reading.{coordinate_of, with_first, entry_of}
+use Rattle.tns_io.specs.declared.line_kind.LineKind.{LineKind}
+use Rattle.tns_io.proofs.WrittenLaws.{entry_of_more}
+
+one_behind : (coords : List ℕ) (c : ℕ) (entry : Result Entry LineKind)
+    → behind_coords coords (with_first (Ok c) entry) ≡ behind_coords (coords ++ c ∷ []) entry
+one_behind coords c (Err kind) = refl
+one_behind coords c (Ok entry) =
+    ap (λ (cs : List ℕ). Ok (record { coords = cs; value = entry.value })) (sym (append_assoc coords (c ∷ []) entry.coords))
+
+-- one more token is a coordinate
+pub coordinates_more : (count : ℕ) (ts rs more : List (List ℕ)) (coords : List ℕ) (token : List ℕ) (c : ℕ)
+    → AreCoordinates count ts coords rs
+    → rs ≡ token ∷ more → coordinate_of token ≡ Ok c → AreCoordinates (count + 1) ts (coords ++ c ∷ []) more
+coordinates_more count ts rs more coords token c are rs_is is = record {
+  long = omega (arith, are.long, ap length rs_is);
+  entry = λ some.
+      are.entry (omega (arith, ap length rs_is))
+      ∙ ap (λ tokens. behind_coords coords (entry_of tokens)) rs_is
+      ∙ ap (behind_coords coords) (entry_of_more token more some ∙ ap (λ first. with_first first (entry_of more)) is)
+      ∙ one_behind coords c (entry_of more);
+}

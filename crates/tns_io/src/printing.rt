@@ -1,0 +1,77 @@
+// Writes `.tns` files.
+ghost use Rattle.std.specs.Prelude.{◌+◌, ◌<◌, [], ◌∷◌, ◌++◌, All, IfErr, OnOk};
+ghost use Rattle.std.specs.Fmt.{decimal, signed_decimal};
+ghost use Rattle.limits.specs.Limits.{greatest_position_count};
+ghost use Rattle.numbers.specs.Signed.{signed_of};
+ghost use Rattle.outside.specs.Sink.{Appends};
+ghost use Rattle.text_lines.specs.Puts.{AppendsPart, Prints};
+ghost use Rattle.tns_io.specs.Text.{AreInRange, coords_text, line_text, entry_text, entries_text};
+
+use numbers::Semiring;
+use outside::{Refusal, Sink};
+use tensor_map::Entries;
+use text_lines::{put_all, put_i64, put_u64};
+
+/// Appends the text of entries: a line for each whose value isn't zero, as they stand. Where they are in increasing order
+/// and none has the coordinates of another, that is the text of their tensor. It takes no memory. After a refusal a part
+/// of the text at its front was appended.
+pub fn put_tns<S: Semiring, K: Sink>(sink: &mut K, entries: &Entries) -> Result<(), Refusal>
+    requires { AreInRange entries.now.list }
+    ensures whole { OnOk result (Appends (K.state sink.old) (K.state sink.new) (entries_text S.arithmetic entries.now.list)) }
+    ensures part { IfErr result (AppendsPart (K.state sink.old) (K.state sink.new) (entries_text S.arithmetic entries.now.list)) }
+{
+    for i in 0..entries.len() {
+        put_entry::<S, K>(sink, entries.coords(i), entries.value(i))?;
+    }
+    Ok(())
+}
+
+/// Appends the line of an entry, and nothing where its value is zero.
+fn put_entry<S: Semiring, K: Sink>(sink: &mut K, coords: &[u64], value: u64) -> Result<(), Refusal>
+    requires { All (λ c. c < greatest_position_count) coords.now }
+    ensures { Prints (K.state sink.old) (K.state sink.new)
+        (entry_text S.arithmetic (record { coords = coords.now; value = value })) result }
+{
+    if value == S::zero() {
+        Ok(())
+    } else {
+        put_line(sink, coords, value)
+    }
+}
+
+/// Appends a line: coordinates, counted from 1, and the value with its sign.
+fn put_line<K: Sink>(sink: &mut K, coords: &[u64], value: u64) -> Result<(), Refusal>
+    requires { All (λ c. c < greatest_position_count) coords.now }
+    ensures { Prints (K.state sink.old) (K.state sink.new) (line_text coords.now value) result }
+{
+    put_coords(sink, coords)?;
+    put_value(sink, value)?;
+    put_all(sink, b"\n")
+}
+
+/// Appends a value with its sign.
+fn put_value<K: Sink>(sink: &mut K, value: u64) -> Result<(), Refusal>
+    ensures { Prints (K.state sink.old) (K.state sink.new) (signed_decimal (signed_of value)) result }
+{
+    put_i64(sink, numbers::signed(value))
+}
+
+/// Appends coordinates, each with a blank behind it.
+fn put_coords<K: Sink>(sink: &mut K, coords: &[u64]) -> Result<(), Refusal>
+    requires { All (λ c. c < greatest_position_count) coords.now }
+    ensures { Prints (K.state sink.old) (K.state sink.new) (coords_text coords.now) result }
+{
+    for coordinate in coords {
+        put_coordinate(sink, *coordinate)?;
+    }
+    Ok(())
+}
+
+/// Appends a coordinate, counted from 1, and a blank.
+fn put_coordinate<K: Sink>(sink: &mut K, coordinate: u64) -> Result<(), Refusal>
+    requires { coordinate < greatest_position_count }
+    ensures { Prints (K.state sink.old) (K.state sink.new) (decimal (coordinate + 1) ++ 32 ∷ []) result }
+{
+    put_u64(sink, coordinate + 1)?;
+    put_all(sink, b" ")
+}
