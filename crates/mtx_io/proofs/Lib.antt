@@ -8,3 +8,4 @@ pub mod WrittenEntries
 pub mod WrittenLaws
 pub mod EndedEntries
 pub mod BelowSizes
+pub mod AnswersTold

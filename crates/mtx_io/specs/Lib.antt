@@ -3,6 +3,7 @@ pub mod Due
 pub mod Entry
 pub mod Fields
 pub mod Matrix
+pub mod MtxReader
 pub mod Places
 pub mod Prints
 pub mod Progress

@@ -48,10 +48,3 @@ IsStage has_minus order entries First = entries ≡ []
 IsStage has_minus order entries (Begun banner) = (entries ≡ []) × (needs_minus banner.symmetry ≡ true → has_minus ≡ true)
 IsStage has_minus order entries (Sized sized) = (needs_minus sized.header.symmetry ≡ true → has_minus ≡ true) × (sized.header.order ≡ order)
 IsStage has_minus order entries (Bad line kind) = Unit {0}
-
--- entry lines are due, or were all read
-abbrev pub IsSized : Stage → Type 0
-IsSized First = ⊥
-IsSized (Begun banner) = ⊥
-IsSized (Sized sized) = Unit {0}
-IsSized (Bad line kind) = ⊥
