@@ -46,8 +46,8 @@ impl<S: Semiring> MtxReader<S> {
     pub fn new(alloc: Global, order: usize) -> Result<MtxReader<S>, AllocError>
         requires { IsMatrixOrder order }
         ensures order { IfOk result (λ reader. reader.order ≡ order) }
-        ensures text { IfOk result (λ reader. reader.text ≡ []) }
-        ensures fed { IfOk result (λ reader. reader.wants ≡ false) }
+        ensures empty { IfOk result (λ reader. reader.text ≡ []) }
+        ensures calm { IfOk result (λ reader. reader.wants ≡ false) }
     {
         Ok(MtxReader {
             lines: LineReader::new(alloc)?,
