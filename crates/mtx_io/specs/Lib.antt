@@ -5,7 +5,6 @@ pub mod Fields
 pub mod Matrix
 pub mod MtxReader
 pub mod Places
-pub mod Prints
 pub mod Progress
 pub mod Reader
 pub mod Size
