@@ -40,7 +40,8 @@ module _ {A : Type 0} where
   retold r old new text told same prints = subst (λ (t : List ℕ). Prints old new t r) same prints
 
   -- the fact as a call's clause
-  pub part_printed : (r : Result A Refusal) (old new : SinkState) (text : List ℕ) → Prints old new text r → IfErr r (AppendsPart old new text)
+  pub part_printed : (r : Result A Refusal) (old new : SinkState) (text : List ℕ) → Prints old new text r
+      → IfErr r (AppendsPart old new text)
   part_printed (Ok done) old new text prints = tt
   part_printed (Err why) old new text prints = prints
 
@@ -79,7 +80,8 @@ all_so_far old new text rest none so_far =
     let whole : so_far.front ≡ text = sym (so_far.text_is ∙ ap (λ r. so_far.front ++ r) none ∙ append-nil so_far.front) in
     subst (λ (t : List ℕ). Appends old new t) whole (front_of old new text rest so_far)
 
-pub rest_told : (old mid : SinkState) (text rest told : List ℕ) → rest ≡ told → AppendsSoFar old mid text rest → AppendsSoFar old mid text told
+pub rest_told : (old mid : SinkState) (text rest told : List ℕ) → rest ≡ told → AppendsSoFar old mid text rest
+    → AppendsSoFar old mid text told
 rest_told old mid text rest told same so_far = subst (λ (r : List ℕ). AppendsSoFar old mid text r) same so_far
 
 module _ {A : Type 0} where

@@ -1,5 +1,6 @@
 -- Lemmas about the entries of a text that goes on.
-use Rattle.std.specs.Prelude.{◌≡◌, ℕ, zero, suc, ◌+◌, ◌<◌, min, true, false, cond, List, [], ◌∷◌, ◌++◌, length, take, drop, Some, Result, Ok, Err, refl}
+use Rattle.std.specs.Prelude.{◌≡◌, ℕ, zero, suc, ◌+◌, ◌<◌, min, true, false, cond, List, [], ◌∷◌, ◌++◌, length, take, drop, Some, Result}
+use Rattle.std.specs.Prelude.{Ok, Err, refl}
 use Rattle.std.proofs.Common.{arith, ap, subst, sym, ◌∙◌, inl, inr, append_assoc, append-nil, length-append}
 use Rattle.std.proofs.Math.Seq.{take-length}
 use Rattle.std.proofs.lemmas.List.{take-append-drop}
@@ -29,11 +30,13 @@ behind_none : (entries : Result (List Entry) BadLine) → entries ≡ behind_ent
 behind_none (Ok entries) = refl
 behind_none (Err bad) = refl
 
-skipped_before : (r : Result (List Entry) BadLine) (entry : Entry) (front : List Entry) → before_others 0 (Read entry) (behind_entries front r) ≡ behind_entries (entry ∷ front) r
+skipped_before : (r : Result (List Entry) BadLine) (entry : Entry) (front : List Entry)
+    → before_others 0 (Read entry) (behind_entries front r) ≡ behind_entries (entry ∷ front) r
 skipped_before (Ok entries) entry front = refl
 skipped_before (Err bad) entry front = refl
 
-read_parts : (number : ℕ) (entry : Entry) (r : Result (List Entry) BadLine) (list : List Entry) → before_others number (Read entry) r ≡ Ok list → (others : List Entry) × (r ≡ Ok others) × (entry ∷ others ≡ list)
+read_parts : (number : ℕ) (entry : Entry) (r : Result (List Entry) BadLine) (list : List Entry)
+    → before_others number (Read entry) r ≡ Ok list → (others : List Entry) × (r ≡ Ok others) × (entry ∷ others ≡ list)
 read_parts number entry (Ok others) list e = (others, refl, cc)
 read_parts number entry (Err bad) list e = absurd (cc)
 
@@ -52,7 +55,8 @@ entries_front order number (line ∷ front) more list e = by (reading order line
     by : (r : Reading) → before_others number r (entries_from order (number + 1) front) ≡ Ok list
         → ((found : List Entry) → entries_from order (number + 1) front ≡ Ok found
         → entries_from order (number + 1) (front ++ more) ≡ behind_entries found (entries_from order (number + 1 + length front) more))
-        → before_others number r (entries_from order (number + 1) (front ++ more)) ≡ behind_entries list (entries_from order (number + length (line ∷ front)) more)
+        → before_others number r (entries_from order (number + 1) (front ++ more)) ≡ behind_entries list
+        (entries_from order (number + length (line ∷ front)) more)
     by Skipped h rest = rest list h ∙ ap (λ (n : ℕ). behind_entries list (entries_from order n more)) next
     by (Bad kind) h rest = absurd (cc)
     by (Read entry) h rest =
@@ -70,10 +74,12 @@ line_taken order number line list list' (Bad kind) e takes = absurd takes
 
 pub entries_more : (order : ℕ) (front : List (List ℕ)) (line : List ℕ) (list list' : List Entry) → entries_from order 1 front ≡ Ok list
     → Takes (reading order line) list list' → entries_from order 1 (front ++ line ∷ []) ≡ Ok list'
-entries_more order front line list list' e takes = entries_front order 1 front (line ∷ []) list e ∙ line_taken order (1 + length front) line list list' (reading order line) refl takes
+entries_more order front line list list' e takes =
+    entries_front order 1 front (line ∷ []) list e ∙ line_taken order (1 + length front) line list list' (reading order line) refl takes
 
 -- a bad line behind lines that are read is the first one
-pub entries_bad : (order : ℕ) (front more : List (List ℕ)) (line : List ℕ) (list : List Entry) (kind : LineKind) → entries_from order 1 front ≡ Ok list
+pub entries_bad : (order : ℕ) (front more : List (List ℕ)) (line : List ℕ) (list : List Entry) (kind : LineKind)
+    → entries_from order 1 front ≡ Ok list
     → reading order line ≡ Bad kind → entries_from order 1 (front ++ line ∷ more) ≡ Err (record { number = 1 + length front; kind = kind })
 entries_bad order front more line list kind e bad =
     entries_front order 1 front (line ∷ more) list e
@@ -104,7 +110,8 @@ line_bad order text text' line list kind so_far told short bad = λ more. record
 
 -- a line is too long
 pub line_too_long : (order : ℕ) (text text' : List ℕ) (list : List Entry) → IsReadSoFar order text list
-    → told_lines text' ≡ told_lines text → has_long_line text' ≡ true → StaysBad order text' (min (count_of (told_lines text') + 1) 18446744073709551615) LongLine
+    → told_lines text' ≡ told_lines text → has_long_line text' ≡ true → StaysBad order text'
+    (min (count_of (told_lines text') + 1) 18446744073709551615) LongLine
 line_too_long order text text' list so_far told long = λ more.
     let stays = long_stays text' more long in
     let off = breaks_off (text' ++ more) stays.0 in
@@ -113,19 +120,23 @@ line_too_long order text text' list so_far told long = λ more.
       line_is = ap (λ front. min (count_of front + 1) 18446744073709551615) told ∙ count_next (told_lines text);
       bad =
           ap (entries_from order 1) (off.lines_are ∙ ap (λ front. front ++ off.line ∷ off.behind) (stays.1 ∙ told))
-          ∙ entries_bad order (told_lines text) off.behind off.line list LongLine so_far.read (ap (λ b. cond b (Bad LongLine) (reading_of_tokens order (tokens off.line))) off.long);
+          ∙ entries_bad order (told_lines text) off.behind off.line list LongLine so_far.read
+          (ap (λ b. cond b (Bad LongLine) (reading_of_tokens order (tokens off.line))) off.long);
     }
 
 -- a front of a text stays bad however it goes on
-pub stays_bad : (order : ℕ) (text more : List ℕ) (line : ℕ) (kind : LineKind) → StaysBad order text line kind → StaysBad order (text ++ more) line kind
-stays_bad order text more line kind bad = λ rest. subst (λ (t : List ℕ). IsBadText order t line kind) (sym (append_assoc text more rest)) (bad (more ++ rest))
+pub stays_bad : (order : ℕ) (text more : List ℕ) (line : ℕ) (kind : LineKind) → StaysBad order text line kind
+    → StaysBad order (text ++ more) line kind
+stays_bad order text more line kind bad =
+    λ rest. subst (λ (t : List ℕ). IsBadText order t line kind) (sym (append_assoc text more rest)) (bad (more ++ rest))
 
 -- a text that stays bad is bad now
 pub bad_now : (order : ℕ) (text : List ℕ) (line : ℕ) (kind : LineKind) → StaysBad order text line kind → IsBadText order text line kind
 bad_now order text line kind bad = subst (λ (t : List ℕ). IsBadText order t line kind) (append-nil text) (bad [])
 
 -- one more line has ended in the piece
-module _ (order : ℕ) (start piece : List ℕ) (lines_ lines' : LineReader) (rest : List ℕ) (list : List Entry) (n : ℕ) (reads : ReadsPiece order start piece lines_ rest list)
+module _ (order : ℕ) (start piece : List ℕ) (lines_ lines' : LineReader) (rest : List ℕ) (list : List Entry) (n : ℕ)
+    (reads : ReadsPiece order start piece lines_ rest list)
     (text_is : lines'.text ≡ lines_.text ++ take n rest) (tells : TellsLine lines_ lines') where
   goes_on : lines'.text ++ drop n rest ≡ start ++ piece
   goes_on =
@@ -141,14 +152,21 @@ module _ (order : ℕ) (start piece : List ℕ) (lines_ lines' : LineReader) (re
       nothing : take n rest ≡ [] → ⊥
       nothing none =
           let same : lines'.text ≡ lines_.text = text_is ∙ ap (λ (t : List ℕ). lines_.text ++ t) none ∙ append-nil lines_.text in
-          absurd (omega (arith, ap length tells.told, ap (λ t. length (told_lines t)) same, length-append (told_lines lines_.text) (lines'.line ∷ [])))
+          absurd (omega (
+            arith,
+            ap length tells.told,
+            ap (λ t. length (told_lines t)) same,
+            length-append (told_lines lines_.text)
+                (lines'.line ∷ []),
+          ))
 
       by : (n : ℕ) (rest : List ℕ) → (take n rest ≡ [] → ⊥) → (0 < length rest) × (0 < n)
       by zero rest h = absurd (h refl)
       by (suc n) [] h = absurd (h refl)
       by (suc n) (x ∷ rest) h = (omega arith, omega arith)
 
-  pub piece_more : (list' : List Entry) → Takes (reading order lines'.line) list list' → ReadsPiece order start piece lines' (drop n rest) list'
+  pub piece_more : (list' : List Entry) → Takes (reading order lines'.line) list list'
+      → ReadsPiece order start piece lines' (drop n rest) list'
   piece_more list' takes = record {
     ended = reads.ended ++ lines'.line ∷ [];
     told = tells.told ∙ ap (λ ls. ls ++ lines'.line ∷ []) reads.told ∙ append_assoc (told_lines start) reads.ended (lines'.line ∷ []);
@@ -156,16 +174,19 @@ module _ (order : ℕ) (start piece : List ℕ) (lines_ lines' : LineReader) (re
     start_short = reads.start_short;
     so_far = record {
       short = tells.short;
-      read = ap (entries_from order 1) tells.told ∙ entries_more order (told_lines lines_.text) lines'.line list list' reads.so_far.read takes;
+      read =
+          ap (entries_from order 1) tells.told ∙ entries_more order (told_lines lines_.text) lines'.line list list' reads.so_far.read takes;
     };
   }
 
   -- the line that has ended is not read
-  pub piece_fails : (fault : FileFault) → Fails (count_of (told_lines lines'.text)) (reading order lines'.line) fault → FailsPiece order start piece fault
+  pub piece_fails : (fault : FileFault) → Fails (count_of (told_lines lines'.text)) (reading order lines'.line) fault
+      → FailsPiece order start piece fault
   piece_fails (Line line kind) (number, bad) =
       let stays : StaysBad order (start ++ piece) (count_of (told_lines lines'.text)) kind =
       subst (λ (t : List ℕ). StaysBad order t (count_of (told_lines lines'.text)) kind) goes_on
-      (stays_bad order lines'.text (drop n rest) _ kind (line_bad order lines_.text lines'.text lines'.line list kind reads.so_far tells.told tells.short bad)) in
+      (stays_bad order lines'.text (drop n rest) _ kind (line_bad order lines_.text lines'.text lines'.line list kind reads.so_far
+      tells.told tells.short bad)) in
       subst (λ (l : ℕ). StaysBad order (start ++ piece) l kind) (sym number) stays
   piece_fails (Memory e) (entry, read) =
       let behind : List (List ℕ) = ended_lines (begun_line lines'.text ++ drop n rest) in
@@ -180,7 +201,8 @@ module _ (order : ℕ) (start piece : List ℕ) (lines_ lines' : LineReader) (re
             ∙ ap (λ ls. ls ++ behind) (
             sym (all_told (ended_lines lines'.text) (short_now lines'.text tells.short).0)
             ∙ tells.told
-            ∙ ap (λ ls. ls ++ lines'.line ∷ []) (reads.told ∙ ap (λ ls. ls ++ reads.ended) (all_told (ended_lines start) (short_now start reads.start_short).0))
+            ∙ ap (λ ls. ls ++ lines'.line ∷ []) (reads.told ∙ ap (λ ls. ls ++ reads.ended)
+            (all_told (ended_lines start) (short_now start reads.start_short).0))
             )
             ∙ append_assoc (ended_lines start ++ reads.ended) (lines'.line ∷ []) behind
             ∙ append_assoc (ended_lines start) reads.ended (lines'.line ∷ behind);
@@ -194,7 +216,8 @@ module _ (order : ℕ) (start piece : List ℕ) (lines_ lines' : LineReader) (re
       }
 
 -- a line of the piece is too long
-pub piece_too_long : (order : ℕ) (start piece : List ℕ) (lines_ lines' : LineReader) (rest : List ℕ) (list : List Entry) (n : ℕ) → ReadsPiece order start piece lines_ rest list
+pub piece_too_long : (order : ℕ) (start piece : List ℕ) (lines_ lines' : LineReader) (rest : List ℕ) (list : List Entry) (n : ℕ)
+    → ReadsPiece order start piece lines_ rest list
     → lines'.text ≡ lines_.text ++ take n rest → IsTooLong lines_ lines' → n ≡ length rest
     → FailsPiece order start piece (Line (min (count_of (told_lines lines'.text) + 1) 18446744073709551615) LongLine)
 piece_too_long order start piece lines_ lines' rest list n reads text_is too_long all =
@@ -206,18 +229,24 @@ piece_too_long order start piece lines_ lines' rest list n reads text_is too_lon
     take_whole n rest e = ap (λ (m : ℕ). take m rest) e ∙ take-length rest
 
 -- a last line without an end
-module _ (order : ℕ) (lines_ lines' : LineReader) (list : List Entry) (so_far : IsReadSoFar order lines_.text list) (tells : TellsLine lines_ lines')
+module _ (order : ℕ) (lines_ lines' : LineReader) (list : List Entry) (so_far : IsReadSoFar order lines_.text list)
+    (tells : TellsLine lines_ lines')
     (ended : lines'.text ≡ lines_.text ++ 10 ∷ []) (all : told_lines lines'.text ≡ lines lines_.text) where
   pub last_read : (list' : List Entry) → Takes (reading order lines'.line) list list' → entries_of_text order lines_.text ≡ Ok list'
-  last_read list' takes = ap (entries_from order 1) (sym all ∙ tells.told) ∙ entries_more order (told_lines lines_.text) lines'.line list list' so_far.read takes
+  last_read list' takes =
+      ap (entries_from order 1) (sym all ∙ tells.told)
+      ∙ entries_more order (told_lines lines_.text) lines'.line list list' so_far.read takes
 
-  pub last_fails : (fault : FileFault) → Fails (count_of (told_lines lines'.text)) (reading order lines'.line) fault → Refuses (read_to order lines_.text) fault
+  pub last_fails : (fault : FileFault) → Fails (count_of (told_lines lines'.text)) (reading order lines'.line) fault
+      → Refuses (read_to order lines_.text) fault
   last_fails (Line line kind) (number, bad) = (
     refl,
     record {
       number = 1 + length (told_lines lines_.text);
       line_is = number ∙ ap count_of tells.told ∙ count_last (told_lines lines_.text) lines'.line;
-      bad = ap (entries_from order 1) (sym all ∙ tells.told) ∙ entries_bad order (told_lines lines_.text) [] lines'.line list kind so_far.read bad;
+      bad =
+          ap (entries_from order 1) (sym all ∙ tells.told)
+          ∙ entries_bad order (told_lines lines_.text) [] lines'.line list kind so_far.read bad;
     },
   )
   last_fails (Memory e) (entry, read) =
@@ -233,7 +262,10 @@ module _ (order : ℕ) (lines_ lines' : LineReader) (list : List Entry) (so_far 
             ∙ ap (λ ls. ls ++ lines'.line ∷ []) (all_told (ended_lines lines_.text) (short_now lines_.text so_far.short).0);
         reads = read;
         list = list;
-        good = ap (entries_from order 1) (append-nil (ended_lines lines_.text) ∙ sym (all_told (ended_lines lines_.text) (short_now lines_.text so_far.short).0)) ∙ so_far.read;
+        good =
+            ap (entries_from order 1) (append-nil (ended_lines lines_.text) ∙ sym
+            (all_told (ended_lines lines_.text) (short_now lines_.text so_far.short).0))
+            ∙ so_far.read;
       })
 
 -- what is known of a text that is refused

@@ -1,5 +1,6 @@
 -- The text of entries is that of the tensor that they stand for.
-use Rattle.std.specs.Prelude.{◌≡◌, ◌≢◌, ℕ, ◌^◌, ◌<◌, Bool, true, false, cond, not, nat_eq, List, [], ◌∷◌, ◌++◌, length, map, filter, All, slice_index_or, refl, ◌↔◌}
+use Rattle.std.specs.Prelude.{◌≡◌, ◌≢◌, ℕ, ◌^◌, ◌<◌, Bool, true, false, cond, not, nat_eq, List, [], ◌∷◌, ◌++◌, length, map, filter, All}
+use Rattle.std.specs.Prelude.{slice_index_or, refl, ◌↔◌}
 use Rattle.std.specs.List.{flat_map}
 use Rattle.std.proofs.Common.{arith, ap, sym, ◌∙◌, inl, inr, subst}
 use Rattle.std.proofs.lemmas.List.Elements.{All-filter, All-tail}
@@ -22,32 +23,39 @@ listed_among [] coords listed = listed
 listed_among (entry ∷ entries) coords (inl here) = inl here
 listed_among (entry ∷ entries) coords (inr more) = inr (listed_among entries coords more)
 
-listed_below : (ranges : List ℕ) (entries : List Entry) (coords : List ℕ) → All (λ entry. IsBelow ranges entry.coords) entries → Listed entries coords → IsBelow ranges coords
+listed_below : (ranges : List ℕ) (entries : List Entry) (coords : List ℕ) → All (λ entry. IsBelow ranges entry.coords) entries
+    → Listed entries coords → IsBelow ranges coords
 listed_below ranges [] coords below listed = absurd listed
 listed_below ranges (entry ∷ entries) coords below (inl here) = subst (IsBelow ranges) here (below 0 entry (omega arith))
-listed_below ranges (entry ∷ entries) coords below (inr more) = listed_below ranges entries coords (All-tail (λ e. IsBelow ranges e.coords) entry entries below) more
+listed_below ranges (entry ∷ entries) coords below (inr more) =
+    listed_below ranges entries coords (All-tail (λ e. IsBelow ranges e.coords) entry entries below) more
 
 module _ (a : Arithmetic) where
   -- zeros are passed over
-  text_of_kept : (entries : List Entry) → entries_text a entries ≡ flat_map (λ entry. line_text entry.coords entry.value) (filter (is_nonzero a) entries)
+  text_of_kept : (entries : List Entry)
+      → entries_text a entries ≡ flat_map (λ entry. line_text entry.coords entry.value) (filter (is_nonzero a) entries)
   text_of_kept [] = refl
   text_of_kept (entry ∷ entries) = by (nat_eq entry.value a.zero) (text_of_kept entries)
     where
       by : (b : Bool) → entries_text a entries ≡ flat_map (λ entry. line_text entry.coords entry.value) (filter (is_nonzero a) entries)
           → cond b [] (line_text entry.coords entry.value) ++ entries_text a entries
-          ≡ flat_map (λ entry. line_text entry.coords entry.value) (cond (not b) (entry ∷ filter (is_nonzero a) entries) (filter (is_nonzero a) entries))
+          ≡ flat_map (λ entry. line_text entry.coords entry.value)
+          (cond (not b) (entry ∷ filter (is_nonzero a) entries) (filter (is_nonzero a) entries))
       by true h = h
       by false h = ap (λ t. line_text entry.coords entry.value ++ t) h
 
   text_by_values : (value : List ℕ → ℕ) (entries : List Entry) → All (λ entry. value entry.coords ≡ entry.value) entries
-      → flat_map (λ entry. line_text entry.coords entry.value) entries ≡ flat_map (λ coords. line_text coords (value coords)) (coords_of entries)
+      → flat_map (λ entry. line_text entry.coords entry.value) entries ≡ flat_map (λ coords. line_text coords (value coords))
+      (coords_of entries)
   text_by_values value [] each = refl
   text_by_values value (entry ∷ entries) each =
       let here : value entry.coords ≡ entry.value = each 0 entry (omega arith) in
-      (λ i. line_text entry.coords (sym here i) ++ text_by_values value entries (All-tail (λ e. value e.coords ≡ e.value) entry entries each) i)
+      (λ i. line_text entry.coords (sym here i) ++ text_by_values value entries
+      (All-tail (λ e. value e.coords ≡ e.value) entry entries each) i)
 
 -- entries in increasing order, none at the coordinates of another
-pub entries_are_text : (a : Arithmetic) → Laws a → (ranges : List ℕ) (entries : List Entry) → StrictlyIncreasing entries → All (IsEntry (length ranges)) entries
+pub entries_are_text : (a : Arithmetic) → Laws a → (ranges : List ℕ) (entries : List Entry) → StrictlyIncreasing entries
+    → All (IsEntry (length ranges)) entries
     → All (λ entry. IsBelow ranges entry.coords) entries → IsTnsText a ranges (value_at a entries) (entries_text a entries)
 entries_are_text a laws ranges entries up each below =
     let kept : List Entry = filter (is_nonzero a) entries in

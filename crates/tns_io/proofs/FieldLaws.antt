@@ -7,12 +7,15 @@ use Rattle.tns_io.specs.Reading.{coordinate_of, with_first, entry_of}
 use Rattle.tns_io.specs.declared.line_kind.LineKind.{LineKind}
 use Rattle.tns_io.proofs.WrittenLaws.{entry_of_more}
 
-one_behind : (coords : List ℕ) (c : ℕ) (entry : Result Entry LineKind) → behind_coords coords (with_first (Ok c) entry) ≡ behind_coords (coords ++ c ∷ []) entry
+one_behind : (coords : List ℕ) (c : ℕ) (entry : Result Entry LineKind)
+    → behind_coords coords (with_first (Ok c) entry) ≡ behind_coords (coords ++ c ∷ []) entry
 one_behind coords c (Err kind) = refl
-one_behind coords c (Ok entry) = ap (λ (cs : List ℕ). Ok (record { coords = cs; value = entry.value })) (sym (append_assoc coords (c ∷ []) entry.coords))
+one_behind coords c (Ok entry) =
+    ap (λ (cs : List ℕ). Ok (record { coords = cs; value = entry.value })) (sym (append_assoc coords (c ∷ []) entry.coords))
 
 -- one more token is a coordinate
-pub coordinates_more : (count : ℕ) (ts rs more : List (List ℕ)) (coords : List ℕ) (token : List ℕ) (c : ℕ) → AreCoordinates count ts coords rs
+pub coordinates_more : (count : ℕ) (ts rs more : List (List ℕ)) (coords : List ℕ) (token : List ℕ) (c : ℕ)
+    → AreCoordinates count ts coords rs
     → rs ≡ token ∷ more → coordinate_of token ≡ Ok c → AreCoordinates (count + 1) ts (coords ++ c ∷ []) more
 coordinates_more count ts rs more coords token c are rs_is is = record {
   long = omega (arith, are.long, ap length rs_is);

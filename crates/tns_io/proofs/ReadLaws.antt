@@ -1,5 +1,6 @@
 -- The coordinates of what is read.
-use Rattle.std.specs.Prelude.{◌≡◌, ℕ, zero, suc, ◌+◌, ◌<◌, ◌≤◌, Bool, true, false, cond, ◌==◌, nat_lt, List, [], ◌∷◌, length, All, Option, Some, None, Result, Ok, Err, slice_index_or, refl}
+use Rattle.std.specs.Prelude.{◌≡◌, ℕ, zero, suc, ◌+◌, ◌<◌, ◌≤◌, Bool, true, false, cond, ◌==◌, nat_lt, List, [], ◌∷◌, length, All, Option}
+use Rattle.std.specs.Prelude.{Some, None, Result, Ok, Err, slice_index_or, refl}
 use Rattle.std.proofs.Common.{arith, ap, subst, sym, ◌∙◌, inl, inr}
 use Rattle.std.proofs.lemmas.Bool.{ltb-true}
 use Rattle.std.proofs.lemmas.List.Elements.{All-nil, All-cons, All-tail}
@@ -11,7 +12,8 @@ use Rattle.tensor_map.proofs.Lemmas.{listed_at}
 use Rattle.text_lines.specs.Cutting.{is_long}
 use Rattle.text_lines.specs.Numbers.{number_of}
 use Rattle.text_lines.specs.Tokens.{tokens}
-use Rattle.tns_io.specs.Reading.{Reading, coordinate_from, coordinate_of, value_of, value_alone, with_first, entry_of, is_comment, read_or_bad, reading_of_tokens, reading, BadLine, before_others, entries_from, entries_of_text}
+use Rattle.tns_io.specs.Reading.{Reading, coordinate_from, coordinate_of, value_of, value_alone, with_first, entry_of, is_comment}
+use Rattle.tns_io.specs.Reading.{read_or_bad, reading_of_tokens, reading, BadLine, before_others, entries_from, entries_of_text}
 use Rattle.tns_io.specs.Reading.Reading.{Skipped, Read, Bad}
 use Rattle.tns_io.specs.Text.{AreInRange}
 use Rattle.tns_io.specs.WrittenLaws.{AreInFile}
@@ -45,7 +47,8 @@ entry_in_file : (ts : List (List ℕ)) (entry : Entry) → entry_of ts ≡ Ok en
 entry_in_file [] entry e = absurd (cc)
 entry_in_file (token ∷ []) entry e = alone_in_file (value_of token) entry e
 entry_in_file (token ∷ next ∷ more) entry e =
-    first_in_file (coordinate_of token) (entry_of (next ∷ more)) entry e (λ c h. coordinate_in_file (number_of token) c h) (λ x h. entry_in_file (next ∷ more) x h)
+    first_in_file (coordinate_of token) (entry_of (next ∷ more)) entry e (λ c h. coordinate_in_file (number_of token) c h)
+    (λ x h. entry_in_file (next ∷ more) x h)
 
 read_in_file : (r : Result Entry LineKind) (entry : Entry) → read_or_bad r ≡ Read entry → r ≡ Ok entry
 read_in_file (Ok x) entry e = let same : x ≡ entry = cc in ap Ok same
@@ -55,7 +58,9 @@ tokens_in_file : (order : ℕ) (ts : List (List ℕ)) (entry : Entry) → readin
 tokens_in_file order [] entry e = absurd (cc)
 tokens_in_file order (token ∷ more) entry e = by (is_comment token) (length more == order) e
   where
-    by : (comment long : Bool) → cond comment Skipped (cond long (read_or_bad (entry_of (token ∷ more))) (Bad Fields)) ≡ Read entry → AreInFile entry.coords
+    by : (comment long : Bool)
+        → cond comment Skipped (cond long (read_or_bad (entry_of (token ∷ more))) (Bad Fields)) ≡ Read entry
+        → AreInFile entry.coords
     by true long h = absurd (cc)
     by false false h = absurd (cc)
     by false true h = entry_in_file (token ∷ more) entry (read_in_file (entry_of (token ∷ more)) entry h)
@@ -67,32 +72,44 @@ line_in_file order line entry e = by (is_long line) e
     by true h = absurd (cc)
     by false h = tokens_in_file order (tokens line) entry h
 
-lines_in_file : (order number : ℕ) (ls : List (List ℕ)) (list : List Entry) → entries_from order number ls ≡ Ok list → All (λ entry. AreInFile entry.coords) list
-lines_in_file order number [] list e = let none : [] ≡ list = cc in subst (λ (es : List Entry). All (λ entry. AreInFile entry.coords) es) none (All-nil (λ (entry : Entry). AreInFile entry.coords))
+lines_in_file : (order number : ℕ) (ls : List (List ℕ)) (list : List Entry) → entries_from order number ls ≡ Ok list
+    → All (λ entry. AreInFile entry.coords) list
+lines_in_file order number [] list e =
+    let none : [] ≡ list =
+    cc in subst (λ (es : List Entry). All (λ entry. AreInFile entry.coords) es) none (All-nil (λ (entry : Entry). AreInFile entry.coords))
 lines_in_file order number (line ∷ ls) list e =
-    by (reading order line) (entries_from order (number + 1) ls) e (λ entry h. line_in_file order line entry h) (λ found h. lines_in_file order (number + 1) ls found h)
+    by (reading order line) (entries_from order (number + 1) ls) e (λ entry h. line_in_file order line entry h)
+    (λ found h. lines_in_file order (number + 1) ls found h)
   where
-    by : (r : Reading) (others : Result (List Entry) BadLine) → before_others number r others ≡ Ok list → ((entry : Entry) → r ≡ Read entry → AreInFile entry.coords)
-        → ((found : List Entry) → others ≡ Ok found → All (λ entry. AreInFile entry.coords) found) → All (λ entry. AreInFile entry.coords) list
+    by : (r : Reading) (others : Result (List Entry) BadLine) → before_others number r others ≡ Ok list
+        → ((entry : Entry) → r ≡ Read entry → AreInFile entry.coords)
+        → ((found : List Entry) → others ≡ Ok found → All (λ entry. AreInFile entry.coords) found) → All (λ entry. AreInFile entry.coords)
+        list
     by Skipped others h f g = g list h
     by (Bad kind) others h f g = absurd (cc)
     by (Read entry) (Err bad) h f g = absurd (cc)
     by (Read entry) (Ok found) h f g =
         let same : entry ∷ found ≡ list = cc in
-        subst (λ (es : List Entry). All (λ x. AreInFile x.coords) es) same (All-cons (λ (x : Entry). AreInFile x.coords) entry found (f entry refl) (g found refl))
+        subst (λ (es : List Entry). All (λ x. AreInFile x.coords) es) same
+        (All-cons (λ (x : Entry). AreInFile x.coords) entry found (f entry refl) (g found refl))
 
 -- what is read has coordinates that a file may have
-pub entries_in_file : (order : ℕ) (text : List ℕ) (list : List Entry) → entries_of_text order text ≡ Ok list → All (λ entry. AreInFile entry.coords) list
+pub entries_in_file : (order : ℕ) (text : List ℕ) (list : List Entry) → entries_of_text order text ≡ Ok list
+    → All (λ entry. AreInFile entry.coords) list
 entries_in_file order text list e = lines_in_file order 1 _ list e
 
-listed_in_file : (entries : List Entry) (coords : List ℕ) → All (λ entry. AreInFile entry.coords) entries → Listed entries coords → AreInFile coords
+listed_in_file : (entries : List Entry) (coords : List ℕ) → All (λ entry. AreInFile entry.coords) entries → Listed entries coords
+    → AreInFile coords
 listed_in_file [] coords each listed = absurd listed
 listed_in_file (entry ∷ entries) coords each (inl here) = subst AreInFile here (each 0 entry (omega arith))
-listed_in_file (entry ∷ entries) coords each (inr more) = listed_in_file entries coords (All-tail (λ (e : Entry). AreInFile e.coords) entry entries each) more
+listed_in_file (entry ∷ entries) coords each (inr more) =
+    listed_in_file entries coords (All-tail (λ (e : Entry). AreInFile e.coords) entry entries each) more
 
 -- so entries with no other coordinates may be written
-pub read_in_range : (order : ℕ) (text : List ℕ) (list others : List Entry) → entries_of_text order text ≡ Ok list → SameListed list others → AreInRange others
+pub read_in_range : (order : ℕ) (text : List ℕ) (list others : List Entry) → entries_of_text order text ≡ Ok list
+    → SameListed list others → AreInRange others
 read_in_range order text list others e same = λ k d h k' d' h'.
     let below : AreInFile (slice_index_or others k d).coords =
-    listed_in_file list (slice_index_or others k d).coords (entries_in_file order text list e) ((same (slice_index_or others k d).coords).0 (listed_at others k d h)) in
+    listed_in_file list (slice_index_or others k d).coords (entries_in_file order text list e)
+    ((same (slice_index_or others k d).coords).0 (listed_at others k d h)) in
     omega (arith, below k' d' h', file_coordinates_are_ranges)

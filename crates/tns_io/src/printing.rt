@@ -13,8 +13,8 @@ use tensor_map::Entries;
 use text_lines::{put_all, put_i64, put_u64};
 
 /// Appends the text of entries: a line for each whose value isn't zero, as they stand. Where they are in increasing order
-/// and none has the coordinates of another, that is the text of their tensor. It takes no memory. After a refusal a part of the text at its front
-/// was appended.
+/// and none has the coordinates of another, that is the text of their tensor. It takes no memory. After a refusal a part
+/// of the text at its front was appended.
 pub fn put_tns<S: Semiring, K: Sink>(sink: &mut K, entries: &Entries) -> Result<(), Refusal>
     requires { AreInRange entries.now.list }
     ensures whole { OnOk result (Appends (K.state sink.old) (K.state sink.new) (entries_text S.arithmetic entries.now.list)) }
@@ -29,7 +29,8 @@ pub fn put_tns<S: Semiring, K: Sink>(sink: &mut K, entries: &Entries) -> Result<
 /// Appends the line of an entry, and nothing where its value is zero.
 fn put_entry<S: Semiring, K: Sink>(sink: &mut K, coords: &[u64], value: u64) -> Result<(), Refusal>
     requires { All (λ c. c < greatest_position_count) coords.now }
-    ensures { Prints (K.state sink.old) (K.state sink.new) (entry_text S.arithmetic (record { coords = coords.now; value = value })) result }
+    ensures { Prints (K.state sink.old) (K.state sink.new)
+        (entry_text S.arithmetic (record { coords = coords.now; value = value })) result }
 {
     if value == S::zero() {
         Ok(())

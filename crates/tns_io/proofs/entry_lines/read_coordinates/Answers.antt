@@ -12,5 +12,7 @@ loop-coordinate-preserved c =
     let ts : List (List ℕ) = tokens c.args.line.now in
     let rs : List (List ℕ) = tokens c.in-Some.behind.now in
     subst (λ (coords : List ℕ). AreCoordinates (i + 1) ts coords rs)
-    (sym (take_more_set c.loop-coordinate.coords i c.in_ok-coordinate.field-0 (omega (arith, c.loop-coordinate-test.true, c.loop-coordinate.auto.coords))))
-    (coordinates_more i ts _ rs (take i c.loop-coordinate.coords) _ _ c.loop-coordinate.invariant c.in-Some.ensures (sym c.in_ok-coordinate.ensures))
+    (sym (take_more_set c.loop-coordinate.coords i c.in_ok-coordinate.field-0
+    (omega (arith, c.loop-coordinate-test.true, c.loop-coordinate.auto.coords))))
+    (coordinates_more i ts _ rs (take i c.loop-coordinate.coords) _ _ c.loop-coordinate.invariant c.in-Some.ensures
+    (sym c.in_ok-coordinate.ensures))

@@ -29,9 +29,12 @@ invariant_of-self c =
 pub returns-clause-tells : goal.returns-clause-tells
 returns-clause-tells c =
     let text : List ℕ = c.self.inside.fed.bytes in
-    let kept : c.self.inside.buffer.items ≡ begun_line text = ap (λ v. v.line) c.self.view_is ∙ c.requires.line ∙ sym (ap (λ v. begun_line v.text) c.self.view_is) in
+    let kept : c.self.inside.buffer.items ≡ begun_line text =
+    ap (λ v. v.line) c.self.view_is ∙ c.requires.line ∙ sym (ap (λ v. begun_line v.text) c.self.view_is) in
     let line : c.truncate.new.self.items ≡ strip_carriage_return (begun_line text) =
-    c.truncate.ensures.items ∙ take_strip c.self.inside.buffer.items _ _ c.without_return-length.ensures c.as_slice.ensures.value ∙ ap strip_carriage_return kept in
+    c.truncate.ensures.items
+    ∙ take_strip c.self.inside.buffer.items _ _ c.without_return-length.ensures c.as_slice.ensures.value
+    ∙ ap strip_carriage_return kept in
     record {
       told =
           ap told_lines c.extend.ensures

@@ -13,8 +13,12 @@ returns-then-is_empty c =
     let text_is : text ≡ c.args.self.now.text = c.take_run.ensures.text ∙ append-nil c.args.self.now.text in
     let short : has_long_line text ≡ false = short_of _ _ c.take_run.ensures.short c.if-not-take_run.false in
     let line_is : c.line.result.now ≡ begun_line text = c.line.ensures ∙ c.take_run.ensures.line c.if-not-take_run.false in
-    let none : length c.line.result.now ≡ 0 = eqb-true _ _ (sym c.is_empty.ensures ∙ c.if-is_empty.true) in
-    (record { told = c.take_run.ensures.told; short = short }, text_is, nothing_begun text c.line.result.now short line_is none ∙ ap lines text_is)
+    let none : length c.line.result.now ≡ 0 = eqb-true _ _ (sym c.is_empty.ensures ∙ c.if-is_empty.true) in (
+      record { told = c.take_run.ensures.told; short = short },
+      text_is,
+      nothing_begun text c.line.result.now short line_is none ∙ ap lines
+          text_is,
+    )
 
 pub returns : goal.returns
 returns c =

@@ -27,7 +27,8 @@ returns-then-self-clause-told c =
 
 pub returns-then-self-clause-short : goal.returns-then-self-clause-short
 returns-then-self-clause-short c =
-    sym (ap (λ bytes. not (has_long_line bytes)) c.extend.ensures ∙ ap not (long_stays c.self.inside.fed.bytes c.args.run.now (sym c.self.invariant.long ∙ c.if-self.true)).0)
+    sym (ap (λ bytes. not (has_long_line bytes)) c.extend.ensures ∙ ap not
+    (long_stays c.self.inside.fed.bytes c.args.run.now (sym c.self.invariant.long ∙ c.if-self.true)).0)
 
 pub invariant_of-self-2 : goal.invariant_of-self-2
 invariant_of-self-2 c =
@@ -40,14 +41,22 @@ invariant_of-self-2 c =
     record {
       room = c.append.ensures.room;
       fits = c.append.ensures.fits;
-      count = c.self.invariant.count ∙ ap count_of (sym (told_run text run free)) ∙ ap (λ bytes. count_of (told_lines bytes)) (sym c.extend.ensures);
+      count =
+          c.self.invariant.count
+          ∙ ap count_of (sym (told_run text run free))
+          ∙ ap (λ bytes. count_of (told_lines bytes)) (sym c.extend.ensures);
       long = ap not c.append.ensures.short ∙ not_not _ ∙ ap (λ bytes. is_long (strip_carriage_return (bytes ++ run))) begun ∙ sym long;
-      begun = λ short. c.append.ensures.appended (true_of_not _ short) ∙ ap (λ bytes. bytes ++ run) begun ∙ sym (ap begun_line c.extend.ensures ∙ begun_run text run free);
+      begun =
+          λ short. c.append.ensures.appended (true_of_not _ short)
+          ∙ ap (λ bytes. bytes ++ run) begun
+          ∙ sym (ap begun_line c.extend.ensures ∙ begun_run text run free);
     }
 
 pub returns-clause-told : goal.returns-clause-told
 returns-clause-told c =
-    ap told_lines c.extend.ensures ∙ told_run c.self.inside.fed.bytes c.args.run.now (free_run c.args.run.now c.requires) ∙ ap (λ v. told_lines v.text) c.self.view_is
+    ap told_lines c.extend.ensures
+    ∙ told_run c.self.inside.fed.bytes c.args.run.now (free_run c.args.run.now c.requires)
+    ∙ ap (λ v. told_lines v.text) c.self.view_is
 
 pub returns-clause-short : goal.returns-clause-short
 returns-clause-short c =
@@ -56,7 +65,8 @@ returns-clause-short c =
     not_not _
     ∙ c.append.ensures.short
     ∙ ap (λ bytes. not (is_long (strip_carriage_return (bytes ++ c.args.run.now)))) begun
-    ∙ sym (ap (λ bytes. not (has_long_line bytes)) c.extend.ensures ∙ ap not (long_run text c.args.run.now (free_run c.args.run.now c.requires) (sym c.self.invariant.long ∙ c.if-self.false)))
+    ∙ sym (ap (λ bytes. not (has_long_line bytes)) c.extend.ensures ∙ ap not
+    (long_run text c.args.run.now (free_run c.args.run.now c.requires) (sym c.self.invariant.long ∙ c.if-self.false)))
 
 pub returns-clause-line : goal.returns-clause-line
 returns-clause-line c =

@@ -8,6 +8,8 @@ use Rattle.tns_io.proofs.tns_reader.TnsReader.finish.Goals as goal
 pub returns-in-Some : goal.returns-in-Some
 returns-in-Some c =
     subst (λ reader. Refuses reader c.in-Some.fault)
-    ((λ i. record { order = c.self.inside.entries.order; text = c.self.inside.fed.bytes; wants = is_want (sym c.in-Some.is i) }) ∙ c.self.view_is)
+    ((λ i. record { order = c.self.inside.entries.order; text = c.self.inside.fed.bytes; wants = is_want (sym c.in-Some.is i) }) ∙
+    c.self.view_is)
     (known_refuses c.in-Some.fault c.self.inside.entries.order c.self.inside.fed.bytes c.self.inside.lines.text c.self.inside.entries.list
-    (subst (λ f. IsKnown f c.self.inside.entries.order c.self.inside.fed.bytes c.self.inside.lines.text c.self.inside.entries.list) c.in-Some.is c.self.invariant))
+    (subst (λ f. IsKnown f c.self.inside.entries.order c.self.inside.fed.bytes c.self.inside.lines.text c.self.inside.entries.list)
+    c.in-Some.is c.self.invariant))
