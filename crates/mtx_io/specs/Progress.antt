@@ -34,8 +34,8 @@ rest_of a has_minus order entries (Bad line kind) number more = Err (record { nu
 abbrev pub Follows : Arithmetic → Bool → ℕ → ℕ → List ℕ → List Entry → Stage → List Entry → Stage → Type 0
 Follows a has_minus order count line entries stage entries' stage' =
     (number : ℕ) (more : List (List ℕ)) → counted number ≡ count
-    → told (rest_of a has_minus order entries' stage' (number + 1) more) ≡ told
-    (rest_of a has_minus order entries stage number (line ∷ more))
+    → told (rest_of a has_minus order entries' stage' (number + 1) more)
+    ≡ told (rest_of a has_minus order entries stage number (line ∷ more))
 
 -- a tensor that a matrix can be read as
 abbrev pub IsMatrixOrder : ℕ → Type 0

@@ -41,7 +41,7 @@ IsReadSoFar a has_minus order fed text entries (Sized sized) = ReadsOn a has_min
 IsReadSoFar a has_minus order fed text entries (Bad line kind) =
     (more : List ℕ) → told (matrix_of_text a has_minus order (fed ++ more)) ≡ told (Err (record { number = line; kind = kind }))
 
--- the next line, which is too long, is bad
+-- whether a line was bad
 abbrev pub is_bad : Stage → Bool
 is_bad First = false
 is_bad (Begun banner) = false
