@@ -1,6 +1,6 @@
 -- What one file that was fed whole stands for.
-use Rattle.std.proofs.Common.{◌≡◌, ◌⊎◌, ℕ, Bool, true, false, List, [], ◌∷◌, ◌++◌, Result, Ok, Err, IfOk, IfErr, refl, sym, ap, ◌∙◌, subst, inl, inr, append-nil}
-use Rattle.std.specs.Prelude.{Vec, min, if◌then◌else◌}
+use Rattle.std.proofs.Common.{◌≡◌, ℕ, Bool, true, false, List, [], ◌∷◌, ◌++◌, Result, Ok, Err, IfOk, IfErr, refl, sym, ap, ◌∙◌, subst, inr, append-nil}
+use Rattle.std.specs.Prelude.{Vec, if◌then◌else◌}
 use Rattle.std.specs.declared.alloc.Global.{Global}
 use Rattle.numbers.specs.Arithmetic.{Arithmetic}
 use Rattle.outside.specs.Folder.{FolderState}
@@ -13,7 +13,7 @@ use Rattle.mtx_io.specs.Matrix.{BadLine, Matrix, matrix_of_text}
 use Rattle.mtx_io.specs.Progress.{counted, told}
 use Rattle.mtx_io.specs.declared.line_kind.LineKind.{LineKind}
 use Rattle.operand_files.specs.Decoded.{Operand, of_entries, of_matrix, operand_of}
-use Rattle.operand_files.specs.Reads.{Meaning, IsToldText, IsFront, IsWholeFile, CountsNothing, HasBadLine, ReadsOperand, FeedsFile, FileRefused, DecodesTo}
+use Rattle.operand_files.specs.Reads.{Meaning, IsToldText, IsFront, IsWholeFile, CountsNothing, HasBadLine, ReadsOperand, FeedsFile, FileRefused, DecodesTo, MayOpen}
 use Rattle.operand_files.specs.declared.fault.OperandFault.{OperandFault}
 use Rattle.operand_files.specs.declared.fault.OperandFault.TheVariants.{ReadFault, FileBytes, BadFile, Memory}
 
@@ -44,15 +44,16 @@ file_read means order path bytes old new (Err (FileBytes at)) given whole quiet 
 file_read means order path bytes old new (Err (BadFile at line kind)) given whole quiet decodes =
     (tt, (decodes.0, record { bytes = bytes; given_is = given; whole = whole; bad = decodes.1; quiet = quiet }))
 file_read means order path bytes old new (Err Memory) given whole quiet decodes =
-    (tt, record { last = (path, bytes) ∷ []; given_is = given; last_is = inr (bytes, refl, whole_is_front (old.holds path) bytes whole.told_text) })
+    let may : MayOpen path old new = record { last = (path, bytes) ∷ []; given_is = given; last_is = inr (bytes, refl, whole_is_front (old.holds path) bytes whole.told_text) } in
+    (tt, (may, record { read_faults_are = quiet.read_faults_are; faulted_is = quiet.faulted_is }))
 
-of_matrix_path : (a : Arithmetic) (has_minus : Bool) (order : ℕ) (path bytes : List ℕ) → is_mtx path ≡ true
+pub of_matrix_path : (a : Arithmetic) (has_minus : Bool) (order : ℕ) (path bytes : List ℕ) → is_mtx path ≡ true
     → of_matrix order (matrix_of_text a has_minus order bytes) ≡ operand_of a has_minus order path bytes
 unfolding operand_of
 of_matrix_path a has_minus order path bytes e =
     sym (ap (λ (b : Bool). if b then of_matrix order (matrix_of_text a has_minus order bytes) else of_entries order (entries_of_text order bytes)) e)
 
-of_entries_path : (a : Arithmetic) (has_minus : Bool) (order : ℕ) (path bytes : List ℕ) → is_mtx path ≡ false
+pub of_entries_path : (a : Arithmetic) (has_minus : Bool) (order : ℕ) (path bytes : List ℕ) → is_mtx path ≡ false
     → of_entries order (entries_of_text order bytes) ≡ operand_of a has_minus order path bytes
 unfolding operand_of
 of_entries_path a has_minus order path bytes e =

@@ -2,15 +2,15 @@
 use Rattle.std.proofs.Common.{◌≡◌, ℕ, zero, suc, ◌+◌, ◌<◌, List, [], ◌∷◌, ◌++◌, length, map, take, Some, refl, sym, ap, ◌∙◌, subst, arith, inl, inr, append_assoc, append-nil, length-append, Bor}
 use Rattle.std.proofs.lemmas.List.{length-map}
 use Rattle.std.proofs.lemmas.Option.{slice_get-get_or}
-use Rattle.std.specs.Prelude.{slice_get, slice_index_or, ◌⊎◌}
+use Rattle.std.specs.Prelude.{slice_get, slice_index_or}
 use Rattle.outside.specs.Folder.{FolderState}
 use Rattle.outside.specs.Told.{Told}
 use Rattle.outside.proofs.Feeding.{writing_stays, writing_kept}
 use Rattle.tensor_map.specs.Entries.{Entries}
 use Rattle.expr_terms.specs.declared.bound.Bound.{Bound}
 use Rattle.operand_files.specs.Decoded.{Operand, IsReadable, AreReadable}
-use Rattle.operand_files.specs.Reads.{Meaning, Given, OnlyReads, CountsNothing, IsOperand, AreOperands, paths_of, AreRead, HaveRead, IsNext, IsReadFault, IsOpening, MayOpen, OpensFirst}
-use Rattle.operand_files.specs.Reads.{ReadsOperand, FileRefused, IsRefused, StopsAtFault, StopsAtLength, StopsAtLine}
+use Rattle.operand_files.specs.Reads.{Meaning, Given, OnlyReads, CountsNothing, NoReadFails, IsOperand, AreOperands, paths_of, AreRead, HaveRead, IsNext, IsReadFault, IsOpening, MayOpen, OpensFirst}
+use Rattle.operand_files.specs.Reads.{ReadsOperand, FileRefused, IsRefused, RefusedAtFault, RefusedAtLength, RefusedAtLine}
 use Rattle.operand_files.specs.declared.fault.OperandFault.{OperandFault}
 use Rattle.operand_files.specs.declared.fault.OperandFault.TheVariants.{ReadFault, FileBytes, BadFile, Memory}
 
@@ -32,6 +32,9 @@ mapped_at : {A B : Type 0} (f : A → B) (xs : List A) (n : ℕ) (x : A) → sli
 mapped_at f [] n x is = absurd (cc)
 mapped_at f (y ∷ xs) zero x is = let same : y ≡ x = cc in ap (λ v. Some (f v)) same
 mapped_at f (y ∷ xs) (suc n) x is = mapped_at f xs n x is
+
+no_fails_trans : (old mid new : FolderState) → CountsNothing old mid → NoReadFails mid new → NoReadFails old new
+no_fails_trans old mid new a b = record { read_faults_are = b.read_faults_are ∙ a.read_faults_are; faulted_is = b.faulted_is ∙ a.faulted_is }
 
 -- each path has its order
 pub order_there : (orders : List ℕ) (paths : List (List ℕ)) (n : ℕ) → AreReadable orders paths → n < length paths → n < length orders
@@ -155,9 +158,11 @@ read_more means old mid new orders paths n entries bounds order path operand ent
 
 -- the files that were opened for these operands
 pub opened_for : (means : Meaning) (old new : FolderState) (orders : List ℕ) (paths : List (List ℕ)) (n : ℕ) (entries : List Entries) (bounds : List (List Bound))
-    → HaveRead means old new orders paths n entries bounds → OpensFirst old new paths
-opened_for means old new orders paths n entries bounds have =
-    record { files = have.read.files; given_is = have.read.given_is ∙ ap (λ w. old.given ++ w) (append-nil have.read.files); in_order = have.read.in_order }
+    → HaveRead means old new orders paths n entries bounds → OpensFirst old new paths × NoReadFails old new
+opened_for means old new orders paths n entries bounds have = (
+  record { files = have.read.files; given_is = have.read.given_is ∙ ap (λ w. old.given ++ w) (append-nil have.read.files); in_order = have.read.in_order },
+  record { read_faults_are = have.quiet.read_faults_are; faulted_is = have.quiet.faulted_is },
+)
 
 -- the files that were opened, where one more may have been
 opens_first : (means : Meaning) (old mid new : FolderState) (orders : List ℕ) (paths : List (List ℕ)) (operands : List Operand) (path : List ℕ)
@@ -205,25 +210,27 @@ refused_next means old mid new orders paths n entries bounds order path fault on
 
     by : (fault : OperandFault) → FileRefused means order path mid new fault → IsRefused means old new orders paths fault
     by (ReadFault at) c =
-        let here : StopsAtFault means old new orders paths path = record {
+        let may : MayOpen path mid new = c.2.0 in
+        let here : RefusedAtFault means old new orders paths path = record {
           order = order;
-          last = c.2.last;
-          next = next c.2.last c.2.given_is;
-          last_is = subst (λ t. IsOpening t path c.2.last) holds c.2.last_is;
+          last = may.last;
+          next = next may.last may.given_is;
+          last_is = subst (λ t. IsOpening t path may.last) holds may.last_is;
+          short = c.2.1;
           fault = later_fault old mid new path only.keeps_writing.holds_is have.quiet.read_faults_are c.1;
         } in
-        subst (StopsAtFault means old new orders paths) (sym c.0) here
+        subst (RefusedAtFault means old new orders paths) (sym c.0) here
     by (FileBytes at) c =
-        let here : StopsAtLength means old new orders paths path = record {
+        let here : RefusedAtLength means old new orders paths path = record {
           order = order;
           bytes = c.1.bytes;
           next = next ((path, c.1.bytes) ∷ []) c.1.given_is;
           too_long = rw holds at c.1.too_long;
           quiet = quiet_trans old mid new have.quiet c.1.quiet;
         } in
-        subst (StopsAtLength means old new orders paths) (sym c.0) here
+        subst (RefusedAtLength means old new orders paths) (sym c.0) here
     by (BadFile at line kind) c =
-        let here : StopsAtLine means old new orders paths path line kind = record {
+        let here : RefusedAtLine means old new orders paths path line kind = record {
           order = order;
           bytes = c.1.bytes;
           next = next ((path, c.1.bytes) ∷ []) c.1.given_is;
@@ -231,5 +238,5 @@ refused_next means old mid new orders paths n entries bounds order path fault on
           bad = c.1.bad;
           quiet = quiet_trans old mid new have.quiet c.1.quiet;
         } in
-        subst (λ p. StopsAtLine means old new orders paths p line kind) (sym c.0) here
-    by Memory c = opens_first means old mid new orders paths have.operands path have.read there c
+        subst (λ p. RefusedAtLine means old new orders paths p line kind) (sym c.0) here
+    by Memory c = (opens_first means old mid new orders paths have.operands path have.read there c.0, no_fails_trans old mid new have.quiet c.1)

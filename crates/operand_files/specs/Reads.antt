@@ -46,6 +46,11 @@ pub record CountsNothing (old new : FolderState) : Type 0 where
   pub faulted_is : new.faulted ≡ old.faulted
   pub wants_are : new.wants ≡ old.wants
 
+-- no read failed
+pub record NoReadFails (old new : FolderState) : Type 0 where
+  pub read_faults_are : new.read_faults ≡ old.read_faults
+  pub faulted_is : new.faulted ≡ old.faulted
+
 -- the bytes are the whole file, with no more bytes than may be
 pub record IsWholeFile (told : Told) (bytes : List ℕ) : Type 0 where
   pub told_text : IsToldText told bytes
@@ -73,6 +78,11 @@ IsFront told bytes = IfBytes told (λ text. (rest : List ℕ) × (text ≡ bytes
 -- nothing was opened, or the file of this path alone
 abbrev pub IsOpening : Told → List ℕ → List Given → Type 0
 IsOpening told path last = (last ≡ []) ⊎ ((bytes : List ℕ) × (last ≡ (path, bytes) ∷ []) × IsFront told bytes)
+
+-- each has no more bytes than may be
+abbrev pub AreShort : List Given → Type 0
+AreShort [] = Unit {0}
+AreShort (file ∷ files) = (length file.1 ≤ greatest_file_bytes) × AreShort files
 
 -- reads gave the whole of a file, and it stands for this operand
 pub record IsOperand (means : Meaning) (order : ℕ) (told : Told) (path bytes : List ℕ) (operand : Operand) : Type 0 where
@@ -120,15 +130,16 @@ pub record IsNext (means : Meaning) (old new : FolderState) (orders : List ℕ) 
   pub next_path : slice_get paths (length operands) ≡ Some path
 
 -- the files before this path are good, and reading it failed
-pub record StopsAtFault (means : Meaning) (old new : FolderState) (orders : List ℕ) (paths : List (List ℕ)) (path : List ℕ) : Type 0 where
+pub record RefusedAtFault (means : Meaning) (old new : FolderState) (orders : List ℕ) (paths : List (List ℕ)) (path : List ℕ) : Type 0 where
   pub order : ℕ
   pub last : List Given
   pub next : IsNext means old new orders paths order path last
   pub last_is : IsOpening (old.holds path) path last
+  pub short : AreShort last
   pub fault : IsReadFault old new path
 
 -- the files before this path are good, and it has too many bytes
-pub record StopsAtLength (means : Meaning) (old new : FolderState) (orders : List ℕ) (paths : List (List ℕ)) (path : List ℕ) : Type 0 where
+pub record RefusedAtLength (means : Meaning) (old new : FolderState) (orders : List ℕ) (paths : List (List ℕ)) (path : List ℕ) : Type 0 where
   pub order : ℕ
   pub bytes : List ℕ
   pub next : IsNext means old new orders paths order path ((path, bytes) ∷ [])
@@ -136,7 +147,7 @@ pub record StopsAtLength (means : Meaning) (old new : FolderState) (orders : Lis
   pub quiet : CountsNothing old new
 
 -- the files before this path are good, it was read to its end, and this is its first bad line
-pub record StopsAtLine (means : Meaning) (old new : FolderState) (orders : List ℕ) (paths : List (List ℕ)) (path : List ℕ)
+pub record RefusedAtLine (means : Meaning) (old new : FolderState) (orders : List ℕ) (paths : List (List ℕ)) (path : List ℕ)
     (line : ℕ) (kind : LineKind) : Type 0 where
   pub order : ℕ
   pub bytes : List ℕ
@@ -153,10 +164,10 @@ pub record OpensFirst (old new : FolderState) (paths : List (List ℕ)) : Type 0
 
 -- why operands aren't read, and which files were opened until then
 abbrev pub IsRefused : Meaning → FolderState → FolderState → List ℕ → List (List ℕ) → OperandFault → Type 0
-IsRefused means old new orders paths (ReadFault path) = StopsAtFault means old new orders paths path.now
-IsRefused means old new orders paths (FileBytes path) = StopsAtLength means old new orders paths path.now
-IsRefused means old new orders paths (BadFile path line kind) = StopsAtLine means old new orders paths path.now line kind
-IsRefused means old new orders paths Memory = OpensFirst old new paths
+IsRefused means old new orders paths (ReadFault path) = RefusedAtFault means old new orders paths path.now
+IsRefused means old new orders paths (FileBytes path) = RefusedAtLength means old new orders paths path.now
+IsRefused means old new orders paths (BadFile path line kind) = RefusedAtLine means old new orders paths path.now line kind
+IsRefused means old new orders paths Memory = OpensFirst old new paths × NoReadFails old new
 
 -- of one file: reads gave it whole, and it is an operand
 pub record ReadsOperand (means : Meaning) (order : ℕ) (path : List ℕ) (old new : FolderState) (operand : Operand) : Type 0 where
@@ -196,10 +207,10 @@ pub record ReadsBadLine (means : Meaning) (order : ℕ) (path : List ℕ) (old n
 
 -- why a file isn't fed to its end
 abbrev pub FileStops : List ℕ → FolderState → FolderState → OperandFault → Type 0
-FileStops path old new (ReadFault at) = (at.now ≡ path) × IsReadFault old new path × MayOpen path old new
+FileStops path old new (ReadFault at) = (at.now ≡ path) × IsReadFault old new path × ((may : MayOpen path old new) × AreShort may.last)
 FileStops path old new (FileBytes at) = (at.now ≡ path) × ReadsTooMuch path old new
 FileStops path old new (BadFile at line kind) = ⊥
-FileStops path old new Memory = MayOpen path old new
+FileStops path old new Memory = MayOpen path old new × NoReadFails old new
 
 -- why one file isn't an operand
 abbrev pub FileRefused : Meaning → ℕ → List ℕ → FolderState → FolderState → OperandFault → Type 0

@@ -1,4 +1,4 @@
-use Rattle.std.proofs.Common.{◌≡◌, ◌<◌, arith, sym}
+use Rattle.std.proofs.Common.{◌<◌, arith, sym}
 use Rattle.limits.specs.Limits.{greatest_position_count}
 use Rattle.limits.proofs.Limits.{positions_are_small}
 use Rattle.expr_terms.proofs.RangeLaws.{reach_of_greatest}
