@@ -1,5 +1,6 @@
 -- The operands that are read one after another, and the files that were opened for them.
-use Rattle.std.proofs.Common.{◌≡◌, ℕ, zero, suc, ◌+◌, ◌<◌, List, [], ◌∷◌, ◌++◌, length, map, take, Some, refl, sym, ap, ◌∙◌, subst, arith, inl, inr, append_assoc, append-nil, length-append, Bor}
+use Rattle.std.proofs.Common.{◌≡◌, ℕ, zero, suc, ◌+◌, ◌<◌, List, [], ◌∷◌, ◌++◌, length, map, take, Some, refl, sym, ap, ◌∙◌, subst}
+use Rattle.std.proofs.Common.{arith, inl, inr, append_assoc, append-nil, length-append, Bor}
 use Rattle.std.proofs.lemmas.List.{length-map}
 use Rattle.std.proofs.lemmas.Option.{slice_get-get_or}
 use Rattle.std.specs.Prelude.{slice_get, slice_index_or}
@@ -9,7 +10,8 @@ use Rattle.outside.proofs.Feeding.{writing_stays, writing_kept}
 use Rattle.tensor_map.specs.Entries.{Entries}
 use Rattle.expr_terms.specs.declared.bound.Bound.{Bound}
 use Rattle.operand_files.specs.Decoded.{Operand, IsReadable, AreReadable}
-use Rattle.operand_files.specs.Reads.{Meaning, Given, OnlyReads, CountsNothing, NoReadFails, IsOperand, AreOperands, paths_of, AreRead, HaveRead, IsNext, IsReadFault, IsOpening, MayOpen, OpensFirst}
+use Rattle.operand_files.specs.Reads.{Meaning, Given, OnlyReads, CountsNothing, NoReadFails, IsOperand, AreOperands, paths_of, AreRead}
+use Rattle.operand_files.specs.Reads.{HaveRead, IsNext, IsReadFault, IsOpening, MayOpen, OpensFirst}
 use Rattle.operand_files.specs.Reads.{ReadsOperand, FileRefused, IsRefused, RefusedAtFault, RefusedAtLength, RefusedAtLine}
 use Rattle.operand_files.specs.declared.fault.OperandFault.{OperandFault}
 use Rattle.operand_files.specs.declared.fault.OperandFault.TheVariants.{ReadFault, FileBytes, BadFile, Memory}
@@ -26,7 +28,12 @@ only_reads_trans old mid new a b = record {
 
 quiet_trans : (old mid new : FolderState) → CountsNothing old mid → CountsNothing mid new → CountsNothing old new
 quiet_trans old mid new a b =
-    record { read_faults_are = b.read_faults_are ∙ a.read_faults_are; faulted_is = b.faulted_is ∙ a.faulted_is; wants_are = b.wants_are ∙ a.wants_are }
+    record {
+      read_faults_are = b.read_faults_are ∙ a.read_faults_are;
+      faulted_is = b.faulted_is ∙ a.faulted_is;
+      wants_are = b.wants_are ∙
+          a.wants_are;
+    }
 
 mapped_at : {A B : Type 0} (f : A → B) (xs : List A) (n : ℕ) (x : A) → slice_get xs n ≡ Some x → slice_get (map f xs) n ≡ Some (f x)
 mapped_at f [] n x is = absurd (cc)
@@ -34,7 +41,11 @@ mapped_at f (y ∷ xs) zero x is = let same : y ≡ x = cc in ap (λ v. Some (f 
 mapped_at f (y ∷ xs) (suc n) x is = mapped_at f xs n x is
 
 no_fails_trans : (old mid new : FolderState) → CountsNothing old mid → NoReadFails mid new → NoReadFails old new
-no_fails_trans old mid new a b = record { read_faults_are = b.read_faults_are ∙ a.read_faults_are; faulted_is = b.faulted_is ∙ a.faulted_is }
+no_fails_trans old mid new a b = record {
+  read_faults_are = b.read_faults_are ∙ a.read_faults_are;
+  faulted_is = b.faulted_is ∙
+      a.faulted_is;
+}
 
 -- each path has its order
 pub order_there : (orders : List ℕ) (paths : List (List ℕ)) (n : ℕ) → AreReadable orders paths → n < length paths → n < length orders
@@ -42,9 +53,11 @@ order_there [] [] n are h = h
 order_there [] (path ∷ paths) n are h = absurd are
 order_there (order ∷ orders) [] n are h = absurd are
 order_there (order ∷ orders) (path ∷ paths) zero are h = omega arith
-order_there (order ∷ orders) (path ∷ paths) (suc n) are h = let rest : n < length orders = order_there orders paths n are.1 (omega arith) in omega arith
+order_there (order ∷ orders) (path ∷ paths) (suc n) are h = let rest : n < length orders = order_there orders paths n are.1
+    (omega arith) in omega arith
 
-pub readable_at : (orders : List ℕ) (paths : List (List ℕ)) (n order : ℕ) (path : List ℕ) → AreReadable orders paths → slice_get orders n ≡ Some order → slice_get paths n ≡ Some path → IsReadable order path
+pub readable_at : (orders : List ℕ) (paths : List (List ℕ)) (n order : ℕ) (path : List ℕ) → AreReadable orders paths
+    → slice_get orders n ≡ Some order → slice_get paths n ≡ Some path → IsReadable order path
 readable_at [] paths n order path are o p = absurd (cc)
 readable_at (first ∷ orders) [] n order path are o p = absurd (cc)
 readable_at (first ∷ orders) (at ∷ paths) zero order path are o p =
@@ -59,10 +72,16 @@ pub record IsRow (orders : List ℕ) (paths : List (List ℕ)) (n order : ℕ) (
   pub path_at : slice_get paths n ≡ Some path
   pub readable : IsReadable order path
 
-pub row_at : (orders : List ℕ) (paths : List (Bor (List ℕ))) (n : ℕ) (d : Bor (List ℕ)) → AreReadable orders (map (λ path. path.now) paths) → n < length paths
+pub row_at : (orders : List ℕ) (paths : List (Bor (List ℕ))) (n : ℕ) (d : Bor (List ℕ))
+    → AreReadable orders (map (λ path. path.now) paths) → n < length paths
     → IsRow orders (map (λ path. path.now) paths) n (slice_index_or orders n 0) (slice_index_or paths n d).now
 row_at orders paths n d are h =
-    let below : n < length (map (λ (path : Bor (List ℕ)). path.now) paths) = omega (arith, h, length-map paths (λ (path : Bor (List ℕ)). path.now)) in
+    let below : n < length (map (λ (path : Bor (List ℕ)). path.now) paths) = omega (
+      arith,
+      h,
+      length-map paths (λ (path : Bor
+          (List ℕ)). path.now),
+    ) in
     let o = slice_get-get_or orders n 0 (order_there orders (map (λ path. path.now) paths) n are below) in
     let p = mapped_at (λ (path : Bor (List ℕ)). path.now) paths n (slice_index_or paths n d) (slice_get-get_or paths n d h) in
     record { order_at = o; path_at = p; readable = readable_at orders (map (λ path. path.now) paths) n _ _ are o p }
@@ -81,7 +100,8 @@ take_next (first ∷ paths) zero path is = let same : first ≡ path = cc in ap 
 take_next (first ∷ paths) (suc n) path is = ap (λ w. first ∷ w) (take_next paths n path is)
 
 -- there are as many operands as files
-pub as_many : (means : Meaning) (holds : List ℕ → Told) (orders : List ℕ) (operands : List Operand) (files : List Given) → AreOperands means holds orders operands files → length operands ≡ length files
+pub as_many : (means : Meaning) (holds : List ℕ → Told) (orders : List ℕ) (operands : List Operand) (files : List Given)
+    → AreOperands means holds orders operands files → length operands ≡ length files
 as_many means holds orders [] [] are = refl
 as_many means holds orders [] (file ∷ files) are = absurd are
 as_many means holds orders (operand ∷ operands) [] are = absurd are
@@ -89,8 +109,10 @@ as_many means holds [] (operand ∷ operands) (file ∷ files) are = absurd are
 as_many means holds (order ∷ orders) (operand ∷ operands) (file ∷ files) are = ap suc (as_many means holds orders operands files are.1)
 
 -- one operand more
-operands_more : (means : Meaning) (holds : List ℕ → Told) (orders : List ℕ) (operands : List Operand) (files : List Given) (order : ℕ) (operand : Operand) (path bytes : List ℕ)
-    → AreOperands means holds orders operands files → slice_get orders (length operands) ≡ Some order → IsOperand means order (holds path) path bytes operand
+operands_more : (means : Meaning) (holds : List ℕ → Told) (orders : List ℕ) (operands : List Operand) (files : List Given) (order : ℕ)
+    (operand : Operand) (path bytes : List ℕ)
+    → AreOperands means holds orders operands files → slice_get orders (length operands) ≡ Some order
+    → IsOperand means order (holds path) path bytes operand
     → AreOperands means holds orders (operands ++ operand ∷ []) (files ++ (path, bytes) ∷ [])
 operands_more means holds [] [] [] order operand path bytes are next is = absurd (cc)
 operands_more means holds (first ∷ orders) [] [] order operand path bytes are next is =
@@ -101,24 +123,37 @@ operands_more means holds [] (other ∷ operands) (file ∷ files) order operand
 operands_more means holds (first ∷ orders) (other ∷ operands) (file ∷ files) order operand path bytes are next is =
     (are.0, operands_more means holds orders operands files order operand path bytes are.1 next is)
 
-given_then : (old mid new : FolderState) (files last : List Given) → mid.given ≡ old.given ++ (files ++ []) → new.given ≡ mid.given ++ last → new.given ≡ old.given ++ (files ++ last)
-given_then old mid new files last read e = e ∙ ap (λ g. g ++ last) read ∙ append_assoc old.given (files ++ []) last ∙ ap (λ w. old.given ++ (w ++ last)) (append-nil files)
+given_then : (old mid new : FolderState) (files last : List Given) → mid.given ≡ old.given ++ (files ++ [])
+    → new.given ≡ mid.given ++ last → new.given ≡ old.given ++ (files ++ last)
+given_then old mid new files last read e = e ∙ ap (λ g. g ++ last) read ∙ append_assoc old.given (files ++ []) last ∙ ap
+    (λ w. old.given ++ (w ++ last)) (append-nil files)
 
 -- what was opened behind the files that were read
-read_then : (means : Meaning) (old mid new : FolderState) (orders : List ℕ) (paths : List (List ℕ)) (operands : List Operand) (last : List Given)
+read_then : (means : Meaning) (old mid new : FolderState) (orders : List ℕ) (paths : List (List ℕ)) (operands : List Operand)
+    (last : List Given)
     → AreRead means old mid orders paths operands [] → new.given ≡ mid.given ++ last → AreRead means old new orders paths operands last
 read_then means old mid new orders paths operands last read e =
-    record { files = read.files; given_is = given_then old mid new read.files last read.given_is e; in_order = read.in_order; are = read.are }
+    record {
+      files = read.files;
+      given_is = given_then old mid new read.files last read.given_is e;
+      in_order = read.in_order;
+      are =
+          read.are;
+    }
 
-next_in_order : (files : List Given) (paths : List (List ℕ)) (path bytes : List ℕ) → paths_of files ≡ take (length files) paths → slice_get paths (length files) ≡ Some path
+next_in_order : (files : List Given) (paths : List (List ℕ)) (path bytes : List ℕ) → paths_of files ≡ take (length files) paths
+    → slice_get paths (length files) ≡ Some path
     → paths_of (files ++ (path, bytes) ∷ []) ≡ take (length (files ++ (path, bytes) ∷ [])) paths
 next_in_order files paths path bytes in_order next =
     let long : suc (length files) ≡ length (files ++ (path, bytes) ∷ []) = omega (arith, length-append files ((path, bytes) ∷ [])) in
-    paths-append files ((path, bytes) ∷ []) ∙ ap (λ w. w ++ path ∷ []) in_order ∙ take_next paths (length files) path next ∙ ap (λ k. take k paths) long
+    paths-append files ((path, bytes) ∷ []) ∙ ap (λ w. w ++ path ∷ []) in_order ∙ take_next paths (length files) path next ∙ ap
+    (λ k. take k paths) long
 
 -- one file more is read
-files_more : (means : Meaning) (old mid new : FolderState) (orders : List ℕ) (paths : List (List ℕ)) (operands : List Operand) (order : ℕ) (path : List ℕ) (operand : Operand)
-    → mid.holds ≡ old.holds → AreRead means old mid orders paths operands [] → slice_get orders (length operands) ≡ Some order → slice_get paths (length operands) ≡ Some path
+files_more : (means : Meaning) (old mid new : FolderState) (orders : List ℕ) (paths : List (List ℕ)) (operands : List Operand)
+    (order : ℕ) (path : List ℕ) (operand : Operand)
+    → mid.holds ≡ old.holds → AreRead means old mid orders paths operands [] → slice_get orders (length operands) ≡ Some order
+    → slice_get paths (length operands) ≡ Some path
     → ReadsOperand means order path mid new operand → AreRead means old new orders paths (operands ++ operand ∷ []) []
 files_more means old mid new orders paths operands order path operand same read next_order next_path more =
     let file : Given = (path, more.bytes) in
@@ -133,7 +168,8 @@ files_more means old mid new orders paths operands order path operand same read 
     }
 
 -- no operand was read yet
-pub read_none : (means : Meaning) (files : FolderState) (orders : List ℕ) (paths : List (List ℕ)) → HaveRead means files files orders paths 0 [] []
+pub read_none : (means : Meaning) (files : FolderState) (orders : List ℕ) (paths : List (List ℕ))
+    → HaveRead means files files orders paths 0 [] []
 read_none means files orders paths = record {
   operands = [];
   read = record { files = []; given_is = sym (append-nil files.given); in_order = refl; are = tt };
@@ -144,35 +180,51 @@ read_none means files orders paths = record {
 }
 
 -- one operand more is read
-pub read_more : (means : Meaning) (old mid new : FolderState) (orders : List ℕ) (paths : List (List ℕ)) (n : ℕ) (entries : List Entries) (bounds : List (List Bound)) (order : ℕ) (path : List ℕ) (operand : Operand)
-    (entries' : List Entries) (bounds' : List (List Bound)) → OnlyReads old mid → HaveRead means old mid orders paths n entries bounds → slice_get orders n ≡ Some order → slice_get paths n ≡ Some path
-    → ReadsOperand means order path mid new operand → entries' ≡ entries ++ operand.entries ∷ [] → bounds' ≡ bounds ++ operand.bounds ∷ [] → HaveRead means old new orders paths (n + 1) entries' bounds'
-read_more means old mid new orders paths n entries bounds order path operand entries' bounds' only have next_order next_path more e b = record {
-  operands = have.operands ++ operand ∷ [];
-  read = files_more means old mid new orders paths have.operands order path operand only.keeps_writing.holds_is have.read (ap (slice_get orders) have.count_is ∙ next_order) (ap (slice_get paths) have.count_is ∙ next_path) more;
-  count_is = omega (arith, length-append have.operands (operand ∷ []), have.count_is);
-  entries_are = e ∙ ap (λ w. w ++ operand.entries ∷ []) have.entries_are ∙ sym (map_push (λ (o : Operand). o.entries) have.operands operand);
-  bounds_are = b ∙ ap (λ w. w ++ operand.bounds ∷ []) have.bounds_are ∙ sym (map_push (λ (o : Operand). o.bounds) have.operands operand);
-  quiet = quiet_trans old mid new have.quiet more.quiet;
-}
+pub read_more : (means : Meaning) (old mid new : FolderState) (orders : List ℕ) (paths : List (List ℕ)) (n : ℕ) (entries : List Entries)
+    (bounds : List (List Bound)) (order : ℕ) (path : List ℕ) (operand : Operand)
+    (entries' : List Entries) (bounds' : List (List Bound)) → OnlyReads old mid → HaveRead means old mid orders paths n entries bounds
+    → slice_get orders n ≡ Some order → slice_get paths n ≡ Some path
+    → ReadsOperand means order path mid new operand → entries' ≡ entries ++ operand.entries ∷ []
+    → bounds' ≡ bounds ++ operand.bounds ∷ [] → HaveRead means old new orders paths (n + 1) entries' bounds'
+read_more means old mid new orders paths n entries bounds order path operand entries' bounds' only have next_order next_path more e b =
+    record {
+      operands = have.operands ++ operand ∷ [];
+      read = files_more means old mid new orders paths have.operands order path operand only.keeps_writing.holds_is have.read (ap
+          (slice_get orders) have.count_is ∙ next_order) (ap (slice_get paths) have.count_is ∙ next_path) more;
+      count_is = omega (arith, length-append have.operands (operand ∷ []), have.count_is);
+      entries_are = e ∙ ap (λ w. w ++ operand.entries ∷ []) have.entries_are ∙ sym (map_push (λ
+          (o : Operand). o.entries) have.operands operand);
+      bounds_are = b ∙ ap (λ w. w ++ operand.bounds ∷ []) have.bounds_are ∙ sym (map_push (λ (o : Operand). o.bounds)
+          have.operands operand);
+      quiet = quiet_trans old mid new have.quiet more.quiet;
+    }
 
 -- the files that were opened for these operands
-pub opened_for : (means : Meaning) (old new : FolderState) (orders : List ℕ) (paths : List (List ℕ)) (n : ℕ) (entries : List Entries) (bounds : List (List Bound))
+pub opened_for : (means : Meaning) (old new : FolderState) (orders : List ℕ) (paths : List (List ℕ)) (n : ℕ) (entries : List Entries)
+    (bounds : List (List Bound))
     → HaveRead means old new orders paths n entries bounds → OpensFirst old new paths × NoReadFails old new
 opened_for means old new orders paths n entries bounds have = (
-  record { files = have.read.files; given_is = have.read.given_is ∙ ap (λ w. old.given ++ w) (append-nil have.read.files); in_order = have.read.in_order },
+  record {
+    files = have.read.files;
+    given_is = have.read.given_is ∙ ap (λ w. old.given ++ w)
+        (append-nil have.read.files);
+    in_order = have.read.in_order;
+  },
   record { read_faults_are = have.quiet.read_faults_are; faulted_is = have.quiet.faulted_is },
 )
 
 -- the files that were opened, where one more may have been
-opens_first : (means : Meaning) (old mid new : FolderState) (orders : List ℕ) (paths : List (List ℕ)) (operands : List Operand) (path : List ℕ)
-    → AreRead means old mid orders paths operands [] → slice_get paths (length operands) ≡ Some path → MayOpen path mid new → OpensFirst old new paths
+opens_first : (means : Meaning) (old mid new : FolderState) (orders : List ℕ) (paths : List (List ℕ)) (operands : List Operand)
+    (path : List ℕ)
+    → AreRead means old mid orders paths operands [] → slice_get paths (length operands) ≡ Some path → MayOpen path mid new
+    → OpensFirst old new paths
 opens_first means old mid new orders paths operands path read next may = by may.last may.last_is may.given_is
   where
     by : (last : List Given) → IsOpening (mid.holds path) path last → new.given ≡ mid.given ++ last → OpensFirst old new paths
     by last (inl none) given = record {
       files = read.files;
-      given_is = given ∙ ap (λ w. mid.given ++ w) none ∙ append-nil mid.given ∙ read.given_is ∙ ap (λ w. old.given ++ w) (append-nil read.files);
+      given_is = given ∙ ap (λ w. mid.given ++ w) none ∙ append-nil mid.given ∙ read.given_is ∙ ap (λ w. old.given ++ w)
+          (append-nil read.files);
       in_order = read.in_order;
     }
     by last (inr one) given =
@@ -184,13 +236,16 @@ opens_first means old mid new orders paths operands path read next may = by may.
         }
 
 -- a read fault behind quiet calls is one of the whole
-later_fault : (old mid new : FolderState) (path : List ℕ) → mid.holds ≡ old.holds → mid.read_faults ≡ old.read_faults → IsReadFault mid new path → IsReadFault old new path
+later_fault : (old mid new : FolderState) (path : List ℕ) → mid.holds ≡ old.holds → mid.read_faults ≡ old.read_faults
+    → IsReadFault mid new path → IsReadFault old new path
 later_fault old mid new path h same (inl rose) = inl ((λ small. omega (arith, rose.0 small, same)), rose.1)
 later_fault old mid new path h same (inr none) = inr (sym (ap (λ f. f path) h) ∙ none)
 
 -- the file behind those that are read gives the refusal
-pub refused_next : (means : Meaning) (old mid new : FolderState) (orders : List ℕ) (paths : List (List ℕ)) (n : ℕ) (entries : List Entries) (bounds : List (List Bound)) (order : ℕ) (path : List ℕ) (fault : OperandFault)
-    → OnlyReads old mid → HaveRead means old mid orders paths n entries bounds → slice_get orders n ≡ Some order → slice_get paths n ≡ Some path
+pub refused_next : (means : Meaning) (old mid new : FolderState) (orders : List ℕ) (paths : List (List ℕ)) (n : ℕ)
+    (entries : List Entries) (bounds : List (List Bound)) (order : ℕ) (path : List ℕ) (fault : OperandFault)
+    → OnlyReads old mid → HaveRead means old mid orders paths n entries bounds → slice_get orders n ≡ Some order
+    → slice_get paths n ≡ Some path
     → FileRefused means order path mid new fault → IsRefused means old new orders paths fault
 refused_next means old mid new orders paths n entries bounds order path fault only have next_order next_path = by fault
   where
@@ -239,4 +294,8 @@ refused_next means old mid new orders paths n entries bounds order path fault on
           quiet = quiet_trans old mid new have.quiet c.1.quiet;
         } in
         subst (λ p. RefusedAtLine means old new orders paths p line kind) (sym c.0) here
-    by Memory c = (opens_first means old mid new orders paths have.operands path have.read there c.0, no_fails_trans old mid new have.quiet c.1)
+    by Memory c = (
+      opens_first means old mid new orders paths have.operands path have.read there c.0,
+      no_fails_trans old mid new
+          have.quiet c.1,
+    )

@@ -139,7 +139,8 @@ pub record RefusedAtFault (means : Meaning) (old new : FolderState) (orders : Li
   pub fault : IsReadFault old new path
 
 -- the files before this path are good, and it has too many bytes
-pub record RefusedAtLength (means : Meaning) (old new : FolderState) (orders : List ℕ) (paths : List (List ℕ)) (path : List ℕ) : Type 0 where
+pub record RefusedAtLength (means : Meaning) (old new : FolderState) (orders : List ℕ) (paths : List (List ℕ))
+    (path : List ℕ) : Type 0 where
   pub order : ℕ
   pub bytes : List ℕ
   pub next : IsNext means old new orders paths order path ((path, bytes) ∷ [])

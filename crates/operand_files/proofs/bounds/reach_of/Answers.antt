@@ -7,7 +7,8 @@ use Rattle.operand_files.proofs.bounds.reach_of.Goals as goal
 
 pub overflow_add-result : goal.overflow_add-result
 overflow_add-result c =
-    let small : c.in-Some.coordinate < greatest_position_count = greatest_small c.args.entries.now.list c.args.mode c.in-Some.coordinate c.requires.small c.in-Some.ensures in
+    let small : c.in-Some.coordinate < greatest_position_count = greatest_small c.args.entries.now.list c.args.mode c.in-Some.coordinate
+    c.requires.small c.in-Some.ensures in
     omega (arith, small, positions_are_small)
 
 pub returns-in-Some : goal.returns-in-Some
