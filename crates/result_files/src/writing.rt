@@ -114,11 +114,11 @@ pub fn write_result<S: Semiring, F: Folder, O: Sink>(
     shape: &Shape,
     entries: &Entries,
 ) -> Result<(), WriteRefusal>
-    requires { MayBeWritten (asks_matrix (option_map (λ path. path.now) path.entry)) shape.now entries.now }
-    ensures written { OnOk result (WritesResult S.arithmetic (option_map (λ path. path.now) path.entry) shape.now
+    requires { MayBeWritten (asks_matrix (option_map (λ path. path.now) path)) shape.now entries.now }
+    ensures written { OnOk result (WritesResult S.arithmetic (option_map (λ path. path.now) path) shape.now
         (value_at S.arithmetic entries.now.list)
         (F.state files.old) (F.state files.new) (O.state out.old) (O.state out.new)) }
-    ensures refused { IfErr result (RefusesResult S.arithmetic (option_map (λ path. path.now) path.entry) shape.now
+    ensures refused { IfErr result (RefusesResult S.arithmetic (option_map (λ path. path.now) path) shape.now
         (value_at S.arithmetic entries.now.list)
         (F.state files.old) (F.state files.new) (O.state out.old) (O.state out.new)) }
 {
