@@ -1,6 +1,7 @@
 //! The entries of a dense tensor.
-ghost use Rattle.std.specs.Prelude.{◌≡◌, ◌<◌, ◌≤◌, length, IfOk};
+ghost use Rattle.std.specs.Prelude.{◌≡◌, ◌<◌, ◌≤◌, [], ◌∷◌, ◌++◌, length, filter, IfOk, OnOk};
 ghost use Rattle.limits.specs.Limits.{greatest_order};
+ghost use Rattle.tensor_map.specs.Entries.{is_nonzero};
 ghost use Rattle.tns_io.specs.Positions.{product, coords_at};
 ghost use Rattle.result_files.specs.Dense.{AreDense};
 
@@ -26,6 +27,30 @@ fn coords_of(alloc: Global, sizes: &[u64], count: u64, position: u64) -> Coords
     coords
 }
 
+/// Appends the entry of a value, and nothing where it is zero.
+fn push_value<S: Semiring>(
+    alloc: Global,
+    entries: &mut Entries,
+    sizes: &[u64],
+    count: u64,
+    position: u64,
+    value: u64,
+) -> Result<(), AllocError>
+    requires short { length sizes.now ≤ greatest_order }
+    requires positions { count ≡ product sizes.now }
+    requires within { position < count }
+    requires order { entries.old.order ≡ length sizes.now }
+    ensures order { entries.new.order ≡ entries.old.order }
+    ensures pushed { OnOk result (entries.new.list ≡ entries.old.list
+        ++ filter (is_nonzero S.arithmetic) (record { coords = coords_at sizes.now position; value = value } ∷ [])) }
+{
+    if value == S::zero() {
+        return Ok(());
+    }
+    let coords = coords_of(alloc, sizes, count, position);
+    entries.push(coords.as_slice(), value)
+}
+
 /// The values of a dense tensor that aren't zero, as `S` says, with their coordinates, in lexicographic order of these. There
 /// is a value for each position, in the order of a row-major array. All memory of a written result is taken here.
 pub fn entries_of_dense<S: Semiring>(
@@ -39,10 +64,7 @@ pub fn entries_of_dense<S: Semiring>(
     let mut entries = Entries::new(alloc, shape.order())?;
     let count = values.len() as u64;
     for (i, value) in values.iter().enumerate() {
-        if *value != S::zero() {
-            let coords = coords_of(alloc, shape.ranges(), count, i as u64);
-            entries.push(coords.as_slice(), *value)?;
-        }
+        push_value::<S>(alloc, &mut entries, shape.ranges(), count, i as u64, *value)?;
     }
     Ok(entries)
 }

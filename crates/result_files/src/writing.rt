@@ -32,6 +32,8 @@ fn put_text<S: Semiring, K: Sink>(
     ensures part { IfErr result (AppendsPart (K.state sink.old) (K.state sink.new)
         (result_text is_matrix S.arithmetic shape.now entries.now.list)) }
 {
+    // What is true of every shape is known where it is asked.
+    let _ranges = shape.ranges();
     if is_matrix {
         put_mtx::<S, K>(sink, shape, entries)
     } else {
@@ -54,7 +56,8 @@ fn fill<S: Semiring, K: Sink>(
 {
     let mut batch = Batch::new(sink);
     put_text::<S, Batch<K>>(&mut batch, is_matrix, shape, entries)?;
-    batch.finish()
+    batch.finish()?;
+    Ok(())
 }
 
 /// Writes the text to the output.
@@ -115,13 +118,15 @@ pub fn write_result<S: Semiring, F: Folder, O: Sink>(
     entries: &Entries,
 ) -> Result<(), WriteRefusal>
     requires { MayBeWritten (asks_matrix (option_map (λ path. path.now) path)) shape.now entries.now }
-    ensures written { OnOk result (WritesResult S.arithmetic (option_map (λ path. path.now) path) shape.now
+    ensures written { OnOk result (WritesResult S.arithmetic (option_map (λ path. path.now) path.entry) shape.now
         (value_at S.arithmetic entries.now.list)
         (F.state files.old) (F.state files.new) (O.state out.old) (O.state out.new)) }
-    ensures refused { IfErr result (RefusesResult S.arithmetic (option_map (λ path. path.now) path) shape.now
+    ensures refused { IfErr result (RefusesResult S.arithmetic (option_map (λ path. path.now) path.entry) shape.now
         (value_at S.arithmetic entries.now.list)
         (F.state files.old) (F.state files.new) (O.state out.old) (O.state out.new)) }
 {
+    // What is true of all entries is known where they are asked.
+    let _count = entries.len();
     match path {
         Some(path) => write_file::<S, F>(files, path, shape, entries),
         None => write_out::<S, O>(out, shape, entries),
