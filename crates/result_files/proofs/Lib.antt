@@ -2,5 +2,6 @@ pub mod CoordinateSteps
 pub mod DenseEntries
 pub mod FileTexts
 pub mod FilledFiles
+pub mod ResultTexts
 pub mod Batches
 pub mod Tallies

@@ -5,10 +5,12 @@
 
 mod dense;
 mod handed;
+mod laws;
 mod refusal;
 mod tally;
 mod writing;
 
 pub use dense::entries_of_dense;
+pub use laws::{dense_entries_may_be_written, texts_tell_values_below_the_ranges};
 pub use refusal::WriteRefusal;
 pub use writing::write_result;
