@@ -1,5 +1,5 @@
 -- What a sink holds after a batch over it was refused.
-use Rattle.std.specs.Prelude.{◌≡◌, ℕ, Bool, List, [], ◌∷◌, ◌++◌, drop, Result, Ok, Err, IfErr, refl}
+use Rattle.std.specs.Prelude.{◌≡◌, ℕ, Bool, List, [], ◌∷◌, drop, Result, Ok, Err, IfErr}
 use Rattle.std.specs.Result.{IsErrAnd}
 use Rattle.std.specs.Borrow.{GName}
 use Rattle.std.proofs.Common.{ap, sym, subst, ◌∙◌, append-nil}
@@ -52,7 +52,8 @@ batch_unfinished old mid new start γ γ' γ'' kept kept' b b' b'' text why at w
       kept = kept';
       text_is = sym (append-nil text);
       written_is = refused.written_is ∙ all.written_is ∙ ap (λ o. appended o text) (appended-nil old.written);
-      counted = counted_from why old.faults mid.faults new.faults old.wants mid.wants new.wants all.faults_are all.wants_are refused.counted;
+      counted = counted_from why old.faults mid.faults new.faults old.wants mid.wants new.wants
+          all.faults_are all.wants_are refused.counted;
       beside_is = ap beneath (refused.beside_is ∙ all.beside_is);
     }
 

@@ -1,11 +1,11 @@
 -- The entries of a dense tensor, position by position.
-use Rattle.std.specs.Prelude.{◌≡◌, ◌≢◌, ℕ, zero, suc, ◌+◌, ◌%◌, ◌^◌, ◌<◌, ◌≤◌, Bool, true, false, cond, not, nat_eq, List, [], ◌∷◌, ◌++◌}
+use Rattle.std.specs.Prelude.{◌≡◌, ◌≢◌, ℕ, zero, suc, ◌+◌, ◌%◌, ◌^◌, ◌<◌, ◌≤◌, cond, not, List, [], ◌∷◌, ◌++◌}
 use Rattle.std.specs.Prelude.{All, length, take, filter, slice_index, slice_index_or, refl}
 use Rattle.std.proofs.Common.{arith, ap, subst, sym, ◌∙◌, append-nil, add-one}
 use Rattle.std.proofs.Math.Seq.{take-suc}
 use Rattle.std.proofs.lemmas.Bool.{ne_eqb, eq-eqb}
 use Rattle.std.proofs.lemmas.List.{length-take-le}
-use Rattle.std.proofs.lemmas.List.Elements.{All-cons, All-filter, All-tail, filter-append}
+use Rattle.std.proofs.lemmas.List.Elements.{All-cons, All-filter, filter-append}
 use Rattle.numbers.specs.Arithmetic.{Arithmetic, Laws}
 use Rattle.tensor_map.specs.Order.{IsBeforeAll}
 use Rattle.tensor_map.specs.declared.entries.Entry.{Entry}
@@ -72,7 +72,8 @@ one_more a sizes values i h =
     ∙ ap (λ xs. filter (is_nonzero a) (rows sizes 0 xs)) (take-suc values i 0 h)
     ∙ ap (filter (is_nonzero a)) (rows_append sizes 0 (take i values) (slice_index values i ∷ []))
     ∙ filter-append (is_nonzero a) (rows sizes 0 (take i values)) (rows sizes (0 + length (take i values)) (slice_index values i ∷ []))
-    ∙ ap (λ n. filter (is_nonzero a) (rows sizes 0 (take i values)) ++ filter (is_nonzero a) (rows sizes n (slice_index values i ∷ []))) long
+    ∙ ap (λ n. filter (is_nonzero a) (rows sizes 0 (take i values))
+    ++ filter (is_nonzero a) (rows sizes n (slice_index values i ∷ []))) long
 
 -- a zero makes no entry, and any other value makes one
 pub no_more : (a : Arithmetic) (entry : Entry) (list : List Entry) → entry.value ≡ a.zero

@@ -1,11 +1,9 @@
 -- The text of entries is that of the tensor that they stand for, in either kind of file.
 use Rattle.std.specs.Prelude.{◌≡◌, ℕ, Bool, true, false, List, [], ◌∷◌, length, All, Option, Some, None, refl}
-use Rattle.std.proofs.Common.{arith, ap, sym, subst, ◌∙◌}
-use Rattle.std.proofs.lemmas.List.Elements.{All-cons, All-tail}
+use Rattle.std.proofs.Common.{sym, subst}
 use Rattle.numbers.specs.Arithmetic.{Arithmetic, Laws}
 use Rattle.outside.specs.Folder.{FolderState}
 use Rattle.outside.specs.Sink.{SinkState}
-use Rattle.tensor_map.specs.declared.entries.Entry.{Entry}
 use Rattle.tensor_map.specs.Entries.{Entries, AreEntries, IsEntry, value_at}
 use Rattle.tns_io.specs.Positions.{IsBelow}
 use Rattle.tns_io.proofs.EntryTexts.{entries_are_text}

@@ -1,18 +1,18 @@
 -- What a folder holds after its file was filled, or a part of it.
-use Rattle.std.specs.Prelude.{◌≡◌, ◌≢◌, ℕ, ◌⊎◌, Bool, true, false, List, [], ◌++◌, Option, Some, None, refl}
+use Rattle.std.specs.Prelude.{◌≡◌, ◌≢◌, ℕ, Bool, true, false, List, [], ◌++◌, Option, Some, None, refl}
 use Rattle.std.specs.Borrow.{GName}
 use Rattle.std.specs.Str.{bytes_eq}
-use Rattle.std.proofs.Common.{ap, sym, subst, ◌∙◌, append_assoc, append-nil, inl, inr}
+use Rattle.std.proofs.Common.{ap, sym, subst, ◌∙◌, append_assoc, inr}
 use Rattle.std.proofs.lemmas.Slice.Eq.{bytes_eq-Decides}
 use Rattle.outside.specs.Told.{Told, Untold, NoFile, Bytes, told_bytes, emptied}
-use Rattle.outside.specs.Folder.{FolderState, KeepsReading, KeepsOthers, StartsFile, RefusesToWrite, appended}
+use Rattle.outside.specs.Folder.{FolderState, KeepsReading, KeepsOthers, StartsFile, appended}
 use Rattle.outside.specs.Refusal.{IsCounted}
 use Rattle.outside.specs.Sink.{SinkState, Beside, beside_writing, told_beside, told_written, file_written}
 use Rattle.outside.specs.declared.refusal.Refusal.{Refusal}
 use Rattle.outside.specs.declared.refusal.Refusal.TheVariants.{Failed, Absent, Memory}
 use Rattle.result_files.specs.Fills.{FillsPart}
 use Rattle.result_files.specs.Refused.{refused_as}
-use Rattle.result_files.specs.Writes.{FailsToFill, FillsFile, Holds, HoldsFront, IsCause, PutsAll}
+use Rattle.result_files.specs.Writes.{FailsToFill, FillsFile, IsCause, PutsAll}
 use Rattle.result_files.proofs.Batches.{counted_from}
 
 -- a counted refusal as a cause
@@ -40,7 +40,8 @@ pub record StaysBeside (old new : FolderState) (name : List ℕ) : Type 0 where
   pub others : KeepsOthers name old new
   pub keeps_reading : KeepsReading old new
 
-stays_in : (old new : FolderState) (name : List ℕ) → old.writing ≡ Some name → beside_writing new ≡ beside_writing old → StaysBeside old new name
+stays_in : (old new : FolderState) (name : List ℕ) → old.writing ≡ Some name → beside_writing new ≡ beside_writing old
+    → StaysBeside old new name
 stays_in old new name is same =
     let writing : new.writing ≡ Some name = ap (λ (f : FolderState). f.writing) same ∙ is in
     record {

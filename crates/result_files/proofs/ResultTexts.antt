@@ -1,15 +1,15 @@
 -- What a result's text depends on, and which entries may be written.
-use Rattle.std.specs.Prelude.{◌≡◌, ◌≢◌, ℕ, Bool, true, false, List, [], ◌∷◌, ◌++◌, length, Option, refl}
+use Rattle.std.specs.Prelude.{◌≡◌, ℕ, Bool, true, false, List, [], ◌∷◌, ◌++◌, length, Option, refl}
 use Rattle.std.specs.List.{flat_map}
-use Rattle.std.proofs.Common.{ap, sym, subst, ◌∙◌, inl, inr}
+use Rattle.std.proofs.Common.{sym, subst, ◌∙◌, inl, inr}
 use Rattle.numbers.specs.Arithmetic.{Arithmetic}
 use Rattle.tensor_map.specs.Entries.{Entries}
 use Rattle.tns_io.specs.Positions.{IsBelow}
-use Rattle.tns_io.specs.Text.{IsAmong, IsTnsText, line_text}
+use Rattle.tns_io.specs.Text.{IsAmong, line_text}
 use Rattle.mtx_io.specs.Progress.{IsMatrixOrder}
 use Rattle.result_files.specs.Dense.{AreDense}
 use Rattle.result_files.specs.EntriesText.{MayBeWritten}
-use Rattle.result_files.specs.ResultText.{IsMatrixOf, IsResultText, IsTextIn, asks_matrix}
+use Rattle.result_files.specs.ResultText.{IsResultText, IsTextIn, asks_matrix}
 
 same_lines : (value other : List ℕ → ℕ) (places : List (List ℕ))
     → ((coords : List ℕ) → IsAmong places coords → value coords ≡ other coords)

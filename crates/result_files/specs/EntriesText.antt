@@ -1,7 +1,6 @@
 -- The text of a result's entries.
-use Rattle.std.specs.Prelude.{◌≡◌, ℕ, Bool, true, false, List, length, filter, All, if◌then◌else◌}
+use Rattle.std.specs.Prelude.{◌≡◌, ℕ, Bool, true, List, length, filter, All, if◌then◌else◌}
 use Rattle.numbers.specs.Arithmetic.{Arithmetic}
-use Rattle.tensor_map.specs.Coords.{IsShape}
 use Rattle.tensor_map.specs.Entries.{Entries, StrictlyIncreasing, is_nonzero}
 use Rattle.tensor_map.specs.declared.entries.Entry.{Entry}
 use Rattle.tns_io.specs.Positions.{IsBelow}

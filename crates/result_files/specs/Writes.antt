@@ -1,5 +1,5 @@
 -- What stands after a result was written, or its writing was refused.
-use Rattle.std.specs.Prelude.{◌≡◌, ℕ, ◌⊎◌, true, false, List, ◌++◌, Option, Some, None}
+use Rattle.std.specs.Prelude.{◌≡◌, ℕ, ◌⊎◌, false, List, ◌++◌, Option, Some, None}
 use Rattle.numbers.specs.Arithmetic.{Arithmetic}
 use Rattle.outside.specs.Count.{Rises}
 use Rattle.outside.specs.Told.{told_bytes, emptied}

@@ -1,11 +1,9 @@
 //! A result written to the output, or into a folder's file.
-ghost use Rattle.std.specs.Prelude.{◌≡◌, Bool, true, false, length, All, OnOk, IfErr, Some, None};
+ghost use Rattle.std.specs.Prelude.{◌≡◌, false, OnOk, IfErr, Some, None};
 ghost use Rattle.std.specs.Option.{option_map};
 ghost use Rattle.outside.specs.Sink.{Appends};
-ghost use Rattle.tensor_map.specs.Entries.{StrictlyIncreasing, value_at};
+ghost use Rattle.tensor_map.specs.Entries.{value_at};
 ghost use Rattle.text_lines.specs.Puts.{AppendsPart};
-ghost use Rattle.tns_io.specs.Positions.{IsBelow};
-ghost use Rattle.mtx_io.specs.Progress.{IsMatrixOrder};
 ghost use Rattle.result_files.specs.EntriesText.{result_text, MayBeWritten};
 ghost use Rattle.result_files.specs.Fills.{FillsPart};
 ghost use Rattle.result_files.specs.ResultText.{asks_matrix};
