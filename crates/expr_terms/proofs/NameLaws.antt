@@ -24,7 +24,8 @@ distinct_more (x ∷ xs) v h k =
     let apart : x ≢ v = λ e. k (0, (let l : 0 < length (x ∷ xs) = omega arith in l), e) in
     (each_append (λ y. x ≢ y) xs (v ∷ []) h.0 (apart, tt), distinct_more xs v h.1 (λ c. k (later_contains x v xs c)))
 
-pub distinct_step : (xs : List ℕ) (i : ℕ) → i < length xs → IsDistinct (take i xs) → (Contains (take i xs) (get_or xs i 0) → ⊥) → IsDistinct (take (i + 1) xs)
+pub distinct_step : (xs : List ℕ) (i : ℕ) → i < length xs → IsDistinct (take i xs) → (Contains (take i xs) (get_or xs i 0) → ⊥)
+    → IsDistinct (take (i + 1) xs)
 distinct_step xs i h d k =
     let n : i + 1 ≡ suc i = omega arith in
     subst IsDistinct (sym (ap (λ m. take m xs) n ∙ take-suc xs i 0 h)) (distinct_more (take i xs) (get_or xs i 0) d k)
@@ -35,26 +36,34 @@ number_at zero (y ∷ ys) h = (ys, refl)
 number_at (suc i) [] h = absurd (omega arith)
 number_at (suc i) (y ∷ ys) h = let r = number_at i ys (omega (arith, h)) in (r.0, ap (λ (zs : List ℕ). y ∷ zs) r.1)
 
-split_at : (i : ℕ) (xs : List Access) (x : Access) → i < length xs → x ≡ get_or xs i x → (later : List Access) × (xs ≡ take i xs ++ (x ∷ later))
+split_at : (i : ℕ) (xs : List Access) (x : Access) → i < length xs → x ≡ get_or xs i x
+    → (later : List Access) × (xs ≡ take i xs ++ (x ∷ later))
 split_at zero [] x h e = absurd (omega arith)
 split_at zero (y ∷ ys) x h e = (ys, ap (λ (z : Access). z ∷ ys) (sym e))
 split_at (suc i) [] x h e = absurd (omega arith)
 split_at (suc i) (y ∷ ys) x h e = let r = split_at i ys x (omega (arith, h)) e in (r.0, ap (λ (zs : List Access). y ∷ zs) r.1)
 
-pub repeats : (xs : List ℕ) (i : ℕ) → i < length xs → IsDistinct (take i xs) → Contains (take i xs) (get_or xs i 0) → RepeatsFirst xs (get_or xs i 0)
+pub repeats : (xs : List ℕ) (i : ℕ) → i < length xs → IsDistinct (take i xs) → Contains (take i xs) (get_or xs i 0)
+    → RepeatsFirst xs (get_or xs i 0)
 repeats xs i h d k = let s = number_at i xs h in record { front = take i xs; behind = s.0; all = s.1; again = k; once = d }
 
 -- one access further
-faultless_on : (left : Access) (earlier xs : List Access) (a : Access) → AreFaultless left earlier xs → IsFaultless left (earlier ++ xs) a → AreFaultless left earlier (xs ++ (a ∷ []))
+faultless_on : (left : Access) (earlier xs : List Access) (a : Access) → AreFaultless left earlier xs
+    → IsFaultless left (earlier ++ xs) a → AreFaultless left earlier (xs ++ (a ∷ []))
 faultless_on left earlier [] a h k = (subst (λ (l : List Access). IsFaultless left l a) (append_none earlier) k, tt)
-faultless_on left earlier (x ∷ xs) a h k = (h.0, faultless_on left (earlier ++ (x ∷ [])) xs a h.1 (subst (λ (l : List Access). IsFaultless left l a) (sym (append_assoc earlier (x ∷ []) xs)) k))
+faultless_on left earlier (x ∷ xs) a h k = (
+  h.0,
+  faultless_on left (earlier ++ (x ∷ [])) xs a h.1
+      (subst (λ (l : List Access). IsFaultless left l a) (sym (append_assoc earlier (x ∷ []) xs)) k),
+)
 
 one_more : (xs : List Access) (i : ℕ) (a : Access) → i < length xs → a ≡ get_or xs i a → take (i + 1) xs ≡ take i xs ++ (a ∷ [])
 one_more xs i a h e =
     let n : i + 1 ≡ suc i = omega arith in
     ap (λ m. take m xs) n ∙ take-suc xs i a h ∙ ap (λ (y : Access). take i xs ++ (y ∷ [])) (sym e)
 
-pub faultless_step : (left : Access) (xs : List Access) (i : ℕ) (a : Access) → i < length xs → a ≡ get_or xs i a → AreFaultless left [] (left ∷ take i xs) → IsFaultless left (left ∷ take i xs) a → AreFaultless left [] (left ∷ take (i + 1) xs)
+pub faultless_step : (left : Access) (xs : List Access) (i : ℕ) (a : Access) → i < length xs → a ≡ get_or xs i a
+    → AreFaultless left [] (left ∷ take i xs) → IsFaultless left (left ∷ take i xs) a → AreFaultless left [] (left ∷ take (i + 1) xs)
 faultless_step left xs i a h e f k =
     subst (λ (l : List Access). AreFaultless left [] (left ∷ l)) (sym (one_more xs i a h e)) (faultless_on left [] (left ∷ take i xs) a f k)
 
@@ -72,7 +81,8 @@ left_fault s v h = record {
   is = (refl, (λ r. let k = r.0 in omega (arith, k)), tt, h);
 }
 
-pub right_fault_found : (s : Statement) (xs : List Access) (i : ℕ) (a : Access) (f : NameFault) → xs ≡ s.accesses → i < length xs → a ≡ get_or xs i a → AreFaultless s.left [] (s.left ∷ take i xs) → HasFault s.left (s.left ∷ take i xs) a f → IsFirstNameFault s f
+pub right_fault_found : (s : Statement) (xs : List Access) (i : ℕ) (a : Access) (f : NameFault) → xs ≡ s.accesses → i < length xs
+    → a ≡ get_or xs i a → AreFaultless s.left [] (s.left ∷ take i xs) → HasFault s.left (s.left ∷ take i xs) a f → IsFirstNameFault s f
 right_fault_found s xs i a f same h e n k =
     let p = split_at i xs a h e in
     record {

@@ -37,7 +37,8 @@ each_at : (P : ℕ → Type 0) (front : List ℕ) (v : ℕ) (rest : List ℕ) �
 each_at P [] v rest h = h.0
 each_at P (x ∷ front) v rest h = each_at P front v rest h.1
 
-not_at : (k : ℕ) (front : List ℕ) (v : ℕ) (rest : List ℕ) → IsDistinct (front ++ (v ∷ rest)) → k < length front → slice_index_or front k v ≡ v → ⊥
+not_at : (k : ℕ) (front : List ℕ) (v : ℕ) (rest : List ℕ) → IsDistinct (front ++ (v ∷ rest)) → k < length front
+    → slice_index_or front k v ≡ v → ⊥
 not_at k [] v rest h l s = omega (arith, l)
 not_at zero (x ∷ front) v rest h l s = each_at (λ y. x ≢ y) front v rest h.0 s
 not_at (suc k) (x ∷ front) v rest h l s = not_at k front v rest h.1 (let m : k < length front = omega (arith, l) in m) s
@@ -53,7 +54,8 @@ repeats_once xs v w h k = elim (places h.front k.front v w h.behind k.behind (sy
 ]
 
 -- an access has one fault
-fault_once : (left : Access) (earlier : List Access) (a : Access) (f g : NameFault) → HasFault left earlier a f → HasFault left earlier a g → f ≡ g
+fault_once : (left : Access) (earlier : List Access) (a : Access) (f g : NameFault) → HasFault left earlier a f
+    → HasFault left earlier a g → f ≡ g
 fault_once left earlier a (ResultRead t) (ResultRead u) h k = ap ResultRead (h.0 ∙ sym k.0)
 fault_once left earlier a (ResultRead t) (Arity u) h k = absurd (k.1 h.1)
 fault_once left earlier a (ResultRead t) (RepeatedVariable u w) h k = absurd (k.1 h.1)
@@ -68,23 +70,28 @@ fault_once left earlier a (RepeatedVariable t v) (RepeatedVariable u w) h k =
     λ i. RepeatedVariable (tensor i) (var i)
 
 -- and none beside the fact that it has none
-fault_or_none : {A : Type 0} (left : Access) (earlier : List Access) (a : Access) (f : NameFault) → IsFaultless left earlier a → HasFault left earlier a f → A
+fault_or_none : {A : Type 0} (left : Access) (earlier : List Access) (a : Access) (f : NameFault) → IsFaultless left earlier a
+    → HasFault left earlier a f → A
 fault_or_none left earlier a (ResultRead t) h k = absurd (h.unread k.1)
 fault_or_none left earlier a (Arity t) h k = absurd (k.2 h.order)
 fault_or_none left earlier a (RepeatedVariable t v) h k = never_again k.3.front v k.3.behind (subst IsDistinct k.3.all h.once) k.3.again
 
-none_at : (left : Access) (e a : List Access) (t : Access) (r : List Access) → AreFaultless left e (a ++ (t ∷ r)) → IsFaultless left (e ++ a) t
+none_at : (left : Access) (e a : List Access) (t : Access) (r : List Access) → AreFaultless left e (a ++ (t ∷ r))
+    → IsFaultless left (e ++ a) t
 none_at left e [] t r h = subst (λ (l : List Access). IsFaultless left l t) (sym (append_none e)) h.0
-none_at left e (x ∷ a) t r h = subst (λ (l : List Access). IsFaultless left l t) (append_assoc e (x ∷ []) a) (none_at left (e ++ (x ∷ [])) a t r h.1)
+none_at left e (x ∷ a) t r h =
+    subst (λ (l : List Access). IsFaultless left l t) (append_assoc e (x ∷ []) a) (none_at left (e ++ (x ∷ [])) a t r h.1)
 
 -- where the faulty access stands earlier, there is a fault before the other
-never_earlier : {A : Type 0} (left : Access) (a b c : List Access) (t : Access) (f : NameFault) → b ≡ a ++ (t ∷ c) → HasFault left a t f → AreFaultless left [] b → A
+never_earlier : {A : Type 0} (left : Access) (a b c : List Access) (t : Access) (f : NameFault) → b ≡ a ++ (t ∷ c) → HasFault left a t f
+    → AreFaultless left [] b → A
 never_earlier left a b c t f e h k =
     fault_or_none left a t f (none_at left [] a t c (subst (λ (l : List Access). AreFaultless left [] l) e k)) h
 
 pub name_fault_once : (s : Statement) (f g : NameFault) → IsFirstNameFault s f → IsFirstNameFault s g → f ≡ g
 name_fault_once s f g h k = elim (places h.earlier k.earlier h.access k.access h.later k.later (sym h.all ∙ k.all)) [
-  | same e a ↦ fault_once s.left k.earlier k.access f g (subst (λ (x : Access). HasFault s.left k.earlier x f) a (subst (λ (l : List Access). HasFault s.left l h.access f) e h.is)) k.is
+  | same e a ↦ fault_once s.left k.earlier k.access f g
+      (subst (λ (x : Access). HasFault s.left k.earlier x f) a (subst (λ (l : List Access). HasFault s.left l h.access f) e h.is)) k.is
   | before c e ↦ never_earlier s.left h.earlier k.earlier c h.access f e h.is k.none_before
   | behind c e ↦ never_earlier s.left k.earlier h.earlier c k.access g e k.is h.none_before
 ]

@@ -11,7 +11,8 @@ use Rattle.index_notation.specs.declared.sentence.Sentence.{Sentence}
 use Rattle.index_notation.specs.Statement.{IsAccess, AccessesUnder, IsNumbered}
 use Rattle.lists.specs.Each.{Each}
 use Rattle.index_notation.proofs.StatementLaws.{accesses_under_mul}
-use Rattle.index_notation.specs.Numbering.{is_same, place_of, without, distinct, name_of, accesses_of, variables_of, numbered, product_of, statement_of}
+use Rattle.index_notation.specs.Numbering.{is_same, place_of, without, distinct, name_of, accesses_of, variables_of, numbered}
+use Rattle.index_notation.specs.Numbering.{product_of, statement_of}
 use Rattle.index_notation.specs.NumberingLaws.{Stands, Tested, Within, yes, no}
 
 pub tested : (b : Bool) → Tested b
@@ -27,7 +28,8 @@ same_self a = (bytes_eq-Decides a.bytes a.bytes).1 refl
 pub place_here : (name other : Name) (names : List Name) → is_same other name ≡ true → place_of (other ∷ names) name ≡ 0
 place_here name other names e = ap (λ b. cond b 0 (place_of names name + 1)) e
 
-pub place_later : (name other : Name) (names : List Name) → is_same other name ≡ false → place_of (other ∷ names) name ≡ place_of names name + 1
+pub place_later : (name other : Name) (names : List Name) → is_same other name ≡ false
+    → place_of (other ∷ names) name ≡ place_of names name + 1
 place_later name other names e = ap (λ b. cond b 0 (place_of names name + 1)) e
 
 pub stands_here : (name other : Name) (names : List Name) → is_same other name ≡ true → Stands (other ∷ names) name
@@ -45,15 +47,18 @@ stands_behind name other names e h = let p = place_later name other names e in o
 pub without_drops : (name other : Name) (names : List Name) → is_same name other ≡ true → without name (other ∷ names) ≡ without name names
 without_drops name other names e = ap (λ b. cond b (without name names) (other ∷ without name names)) e
 
-pub without_keeps : (name other : Name) (names : List Name) → is_same name other ≡ false → without name (other ∷ names) ≡ other ∷ without name names
+pub without_keeps : (name other : Name) (names : List Name) → is_same name other ≡ false
+    → without name (other ∷ names) ≡ other ∷ without name names
 without_keeps name other names e = ap (λ b. cond b (without name names) (other ∷ without name names)) e
 
-pub stands_without : (gone name : Name) (names : List Name) → is_same gone name ≡ false → Stands names name → Stands (without gone names) name
+pub stands_without : (gone name : Name) (names : List Name) → is_same gone name ≡ false → Stands names name
+    → Stands (without gone names) name
 stands_without gone name [] e h = h
 stands_without gone name (other ∷ names) e h = elim (tested (is_same gone other)) [
   | yes drops ↦ (
       let apart : is_same other name ≡ false = ap (λ x. is_same x name) (sym (same_names gone other drops)) ∙ e in
-      subst (λ row. Stands row name) (sym (without_drops gone other names drops)) (stands_without gone name names e (stands_behind name other names apart h)))
+      subst (λ row. Stands row name) (sym (without_drops gone other names drops))
+      (stands_without gone name names e (stands_behind name other names apart h)))
   | no keeps ↦ subst (λ row. Stands row name) (sym (without_keeps gone other names keeps)) (elim (tested (is_same other name)) [
     | yes here ↦ stands_here name other (without gone names) here
     | no apart ↦ stands_later name other (without gone names) (stands_without gone name names e (stands_behind name other names apart h))
@@ -65,7 +70,8 @@ pub stands_distinct : (name : Name) (names : List Name) → Stands names name �
 stands_distinct name [] h = h
 stands_distinct name (other ∷ names) h = elim (tested (is_same other name)) [
   | yes here ↦ stands_here name other (without other (distinct names)) here
-  | no apart ↦ stands_later name other (without other (distinct names)) (stands_without other name (distinct names) apart (stands_distinct name names (stands_behind name other names apart h)))
+  | no apart ↦ stands_later name other (without other (distinct names))
+      (stands_without other name (distinct names) apart (stands_distinct name names (stands_behind name other names apart h)))
 ]
 
 pub stands_front : (name : Name) (names more : List Name) → Stands names name → Stands (names ++ more) name
@@ -81,25 +87,32 @@ stands_back name (other ∷ names) more h = stands_later name other (names ++ mo
 
 each_place : (vars row : List Name) → Within vars row → Each (λ v. v < length row) (map (place_of row) vars)
 each_place [] row h = tt
-each_place (var ∷ vars) row h = (h var (stands_here var var vars (same_self var)), each_place vars row (λ name s. h name (stands_later name var vars s)))
+each_place (var ∷ vars) row h =
+    (h var (stands_here var var vars (same_self var)), each_place vars row (λ name s. h name (stands_later name var vars s)))
 
 length_places : (vars row : List Name) → length (map (place_of row) vars) ≡ length vars
 length_places [] row = refl
 length_places (var ∷ vars) row = let h = length_places vars row in omega arith
 
 -- an access's names stand in the rows
-pub numbered_is_access : (tensors vars : List Name) (access : WrittenAccess) → Stands tensors access.name → Within access.vars vars → length access.vars ≤ greatest_order → IsAccess (length tensors) (length vars) (numbered tensors vars access)
+pub numbered_is_access : (tensors vars : List Name) (access : WrittenAccess) → Stands tensors access.name → Within access.vars vars
+    → length access.vars ≤ greatest_order → IsAccess (length tensors) (length vars) (numbered tensors vars access)
 numbered_is_access tensors vars access t v o = record {
   tensor = t;
   vars_stand = each_place access.vars vars v;
   order = let h = length_places access.vars vars in omega arith;
 }
 
-pub numbered_are_accesses : (tensors vars : List Name) (accesses : List WrittenAccess) → Within (map name_of accesses) tensors → Within (variables_of accesses) vars → Each (λ access. length access.vars ≤ greatest_order) accesses → Each (IsAccess (length tensors) (length vars)) (map (numbered tensors vars) accesses)
+pub numbered_are_accesses : (tensors vars : List Name) (accesses : List WrittenAccess) → Within (map name_of accesses) tensors
+    → Within (variables_of accesses) vars → Each (λ access. length access.vars ≤ greatest_order) accesses
+    → Each (IsAccess (length tensors) (length vars)) (map (numbered tensors vars) accesses)
 numbered_are_accesses tensors vars [] t v o = tt
 numbered_are_accesses tensors vars (access ∷ accesses) t v o = (
-  numbered_is_access tensors vars access (t access.name (stands_here access.name access.name (map name_of accesses) (same_self access.name))) (λ name s. v name (stands_front name access.vars (variables_of accesses) s)) o.0,
-  numbered_are_accesses tensors vars accesses (λ name s. t name (stands_later name access.name (map name_of accesses) s)) (λ name s. v name (stands_back name access.vars (variables_of accesses) s)) o.1,
+  numbered_is_access tensors vars access
+      (t access.name (stands_here access.name access.name (map name_of accesses) (same_self access.name)))
+      (λ name s. v name (stands_front name access.vars (variables_of accesses) s)) o.0,
+  numbered_are_accesses tensors vars accesses (λ name s. t name (stands_later name access.name (map name_of accesses) s))
+      (λ name s. v name (stands_back name access.vars (variables_of accesses) s)) o.1,
 )
 
 -- a product reads the accesses below their number
@@ -109,15 +122,20 @@ product_reads_below (suc n) k h =
     rw (accesses_under_mul k (product_of (suc n)) (AccessOf (suc n))) (product_reads_below n k (omega arith), h)
 
 -- the numbers of a sentence's statement stand in its lists
-pub statement_is_numbered : (w : Sentence) → length w.left.vars ≤ greatest_order → Each (λ access. length access.vars ≤ greatest_order) (w.first ∷ w.more) → length (statement_of w).vars ≤ greatest_variables → IsNumbered (statement_of w)
+pub statement_is_numbered : (w : Sentence) → length w.left.vars ≤ greatest_order
+    → Each (λ access. length access.vars ≤ greatest_order) (w.first ∷ w.more) → length (statement_of w).vars ≤ greatest_variables
+    → IsNumbered (statement_of w)
 statement_is_numbered w left right variables =
     let all = accesses_of w in
     let tensors = distinct (map name_of all) in
     let vars = distinct (variables_of all) in
-    let stand = numbered_are_accesses tensors vars all (λ name s. stands_distinct name (map name_of all) s) (λ name s. stands_distinct name (variables_of all) s) (left, right) in
+    let stand = numbered_are_accesses tensors vars all (λ name s. stands_distinct name (map name_of all) s)
+    (λ name s. stands_distinct name (variables_of all) s) (left, right) in
     record {
       left = stand.0;
       right = stand.1;
-      expr = product_reads_below (length w.more) (length (map (numbered tensors vars) (w.first ∷ w.more))) (let h : length (map (numbered tensors vars) (w.first ∷ w.more)) ≡ length (w.first ∷ w.more) = length-map (w.first ∷ w.more) (numbered tensors vars) in omega arith);
+      expr = product_reads_below (length w.more) (length (map (numbered tensors vars) (w.first ∷ w.more)))
+          (let h : length (map (numbered tensors vars) (w.first ∷ w.more)) ≡ length (w.first ∷ w.more) =
+          length-map (w.first ∷ w.more) (numbered tensors vars) in omega arith);
       variables = variables;
     }

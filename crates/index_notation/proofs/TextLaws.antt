@@ -11,7 +11,8 @@ use Rattle.index_notation.specs.Numbering.{statement_of}
 use Rattle.index_notation.specs.Text.{IsText}
 
 -- the statement of a text is that of any sentence that its tokens are
-pub text_is_statement_of : (text : List ℕ) (s : Statement) (w : Sentence) → IsText text s → IsTokens text (sentence_tokens w) → s ≡ statement_of w
+pub text_is_statement_of : (text : List ℕ) (s : Statement) (w : Sentence) → IsText text s → IsTokens text (sentence_tokens w)
+    → s ≡ statement_of w
 text_is_statement_of text s w h k =
     let same : h.sentence ≡ w = sentence_once h.sentence w (tokens_once text (sentence_tokens h.sentence) (sentence_tokens w) h.tokens k) in
     h.is ∙ ap statement_of same

@@ -11,10 +11,13 @@ use Rattle.index_notation.specs.Tokens.{goes_on, BeginsWith, StopsAt, EachPasses
 use Rattle.index_notation.specs.TokenLaws.{mark_at}
 
 -- what passes a test, taken as long as possible, ends at one place
-pub longest_once : (test : ℕ → Bool) (xs ys r s : List ℕ) → EachPasses test xs → EachPasses test ys → StopsAt test r → StopsAt test s → xs ++ r ≡ ys ++ s → (xs ≡ ys) × (r ≡ s)
+pub longest_once : (test : ℕ → Bool) (xs ys r s : List ℕ) → EachPasses test xs → EachPasses test ys → StopsAt test r → StopsAt test s
+    → xs ++ r ≡ ys ++ s → (xs ≡ ys) × (r ≡ s)
 longest_once test [] [] r s h k p q e = (refl, e)
-longest_once test [] (y ∷ ys) r s h k p q e = let stops : test y ≡ false = subst (StopsAt test) e p in absurd (let no : true ≡ false = sym k.0 ∙ stops in cc)
-longest_once test (x ∷ xs) [] r s h k p q e = let stops : test x ≡ false = subst (StopsAt test) (sym e) q in absurd (let no : true ≡ false = sym h.0 ∙ stops in cc)
+longest_once test [] (y ∷ ys) r s h k p q e = let stops : test y ≡ false =
+    subst (StopsAt test) e p in absurd (let no : true ≡ false = sym k.0 ∙ stops in cc)
+longest_once test (x ∷ xs) [] r s h k p q e = let stops : test x ≡ false =
+    subst (StopsAt test) (sym e) q in absurd (let no : true ≡ false = sym h.0 ∙ stops in cc)
 longest_once test (x ∷ xs) (y ∷ ys) r s h k p q e =
     let first : x ≡ y = cc in
     let others : xs ++ r ≡ ys ++ s = cc in
@@ -23,7 +26,8 @@ longest_once test (x ∷ xs) (y ∷ ys) r s h k p q e =
     (cc, more.1)
 
 -- the first byte of two equal texts passes both tests
-begins_both : (p q : ℕ → Bool) (xs ys r s : List ℕ) → BeginsWith p xs → BeginsWith q ys → xs ++ r ≡ ys ++ s → (b : ℕ) × (p b ≡ true) × (q b ≡ true)
+begins_both : (p q : ℕ → Bool) (xs ys r s : List ℕ) → BeginsWith p xs → BeginsWith q ys → xs ++ r ≡ ys ++ s
+    → (b : ℕ) × (p b ≡ true) × (q b ≡ true)
 begins_both p q [] ys r s h k e = absurd h
 begins_both p q (x ∷ xs) [] r s h k e = absurd k
 begins_both p q (x ∷ xs) (y ∷ ys) r s h k e = let same : y ≡ x = cc in (x, h, subst (λ b. q b ≡ true) same k)
@@ -70,15 +74,20 @@ pub token_once : (t u : Token) (r s : List ℕ) → StandsBefore t r → StandsB
 token_once (NameToken n) (NameToken m) r s h k e =
     let same = longest_once goes_on n.bytes m.bytes r s h.each k.each h.stops k.stops e in
     (ap (λ (b : List ℕ). NameToken (record { bytes = b })) same.0, same.1)
-token_once (NameToken n) (NumberToken ds) r s h k e = let b = begins_both is_ascii_alphabetic is_ascii_digit n.bytes ds r s h.begins k.begins e in absurd (letter_no_digit b.0 b.1 b.2)
-token_once (NameToken n) (MarkToken m) r s h k e = absurd (mark_no_letter m (begins_at is_ascii_alphabetic n.bytes r (byte_of m) s h.begins e))
-token_once (NumberToken ds) (NameToken n) r s h k e = let b = begins_both is_ascii_digit is_ascii_alphabetic ds n.bytes r s h.begins k.begins e in absurd (letter_no_digit b.0 b.2 b.1)
+token_once (NameToken n) (NumberToken ds) r s h k e = let b =
+    begins_both is_ascii_alphabetic is_ascii_digit n.bytes ds r s h.begins k.begins e in absurd (letter_no_digit b.0 b.1 b.2)
+token_once (NameToken n) (MarkToken m) r s h k e =
+    absurd (mark_no_letter m (begins_at is_ascii_alphabetic n.bytes r (byte_of m) s h.begins e))
+token_once (NumberToken ds) (NameToken n) r s h k e = let b =
+    begins_both is_ascii_digit is_ascii_alphabetic ds n.bytes r s h.begins k.begins e in absurd (letter_no_digit b.0 b.2 b.1)
 token_once (NumberToken ds) (NumberToken es) r s h k e =
     let same = longest_once is_ascii_digit ds es r s h.each k.each h.stops k.stops e in
     (ap NumberToken same.0, same.1)
 token_once (NumberToken ds) (MarkToken m) r s h k e = absurd (mark_no_digit m (begins_at is_ascii_digit ds r (byte_of m) s h.begins e))
-token_once (MarkToken m) (NameToken n) r s h k e = absurd (mark_no_letter m (begins_at is_ascii_alphabetic n.bytes s (byte_of m) r k.begins (sym e)))
-token_once (MarkToken m) (NumberToken ds) r s h k e = absurd (mark_no_digit m (begins_at is_ascii_digit ds s (byte_of m) r k.begins (sym e)))
+token_once (MarkToken m) (NameToken n) r s h k e =
+    absurd (mark_no_letter m (begins_at is_ascii_alphabetic n.bytes s (byte_of m) r k.begins (sym e)))
+token_once (MarkToken m) (NumberToken ds) r s h k e =
+    absurd (mark_no_digit m (begins_at is_ascii_digit ds s (byte_of m) r k.begins (sym e)))
 token_once (MarkToken m) (MarkToken n) r s h k e =
     let bytes : byte_of m ≡ byte_of n = cc in
     (ap MarkToken (mark_once m n bytes), cc)

@@ -3,8 +3,8 @@ pub mod PlaceLaws
 pub mod SlotLaws
 pub mod ProgressLaws
 pub mod ReaderLaws
-pub mod PrintedPieces
 pub mod WrittenEntries
 pub mod WrittenLaws
 pub mod EndedEntries
 pub mod BelowSizes
+pub mod AnswersTold

@@ -13,7 +13,7 @@ use Rattle.text_lines.proofs.CuttingLaws.{lines_go_on, breaks_off, long_stays_lo
 use Rattle.mtx_io.specs.Matrix.{matrix_from, matrix_of_text, behind_banner, behind_size, sized_from, entries_from, matrix_with}
 use Rattle.mtx_io.specs.Matrix.{before_others, kept, numbered, unless_long}
 use Rattle.mtx_io.specs.Progress.{counted, told, rest_of, behind_entries, Follows}
-use Rattle.mtx_io.specs.Reader.{IsKnown, Leaves, ReadsOn, IsRead, is_bad}
+use Rattle.mtx_io.specs.Reader.{IsKnown, Leaves, ReadsOn, IsReadSoFar, is_bad}
 use Rattle.mtx_io.specs.declared.line_kind.LineKind.{LineKind}
 use Rattle.mtx_io.specs.declared.line_kind.LineKind.TheVariants.{LongLine}
 use Rattle.mtx_io.specs.declared.stage.Stage.{Stage}
@@ -42,7 +42,7 @@ module _ (a : Arithmetic) (has_minus : Bool) (order : ℕ) where
 
   pub is_read : (text : List ℕ) (entries : List Entry) (stage : Stage) → has_long_line text ≡ false
       → Leaves a has_minus order (told_lines text) entries stage → IsKnown stage (told_lines text)
-      → IsRead a has_minus order text text entries stage
+      → IsReadSoFar a has_minus order text text entries stage
   is_read text entries First short leaves known = (refl, short, leaves, known)
   is_read text entries (Begun banner) short leaves known = (refl, short, leaves, known)
   is_read text entries (Sized sized) short leaves known = (refl, short, leaves, known)
@@ -81,7 +81,7 @@ module _ (a : Arithmetic) (has_minus : Bool) (order : ℕ) where
   pub long_is_read : (old text passed : List ℕ) (entries entries' : List Entry) (stage : Stage) (count : ℕ) → is_bad stage ≡ false
       → has_long_line text ≡ true → told_lines text ≡ told_lines old
       → Leaves a has_minus order (told_lines old) entries stage → count ≡ counted (length (told_lines text) + 1)
-      → IsRead a has_minus order (text ++ passed) text entries' (Bad count LongLine)
+      → IsReadSoFar a has_minus order (text ++ passed) text entries' (Bad count LongLine)
   long_is_read old text passed entries entries' stage count good long same leaves counts more =
       let stays : told_lines ((text ++ passed) ++ more) ≡ told_lines old =
       ap told_lines (append_assoc text passed more) ∙ long_stays_told text (passed ++ more) long ∙ same in
@@ -96,7 +96,7 @@ module _ (a : Arithmetic) (has_minus : Bool) (order : ℕ) where
 
   -- behind a bad line all is passed over
   pub bad_passes : (fed piece text text' : List ℕ) (entries entries' : List Entry) (stage : Stage) → is_bad stage ≡ true
-      → IsRead a has_minus order fed text entries stage → IsRead a has_minus order (fed ++ piece) text' entries' stage
+      → IsReadSoFar a has_minus order fed text entries stage → IsReadSoFar a has_minus order (fed ++ piece) text' entries' stage
   bad_passes fed piece text text' entries entries' First e read = absurd (cc)
   bad_passes fed piece text text' entries entries' (Begun banner) e read = absurd (cc)
   bad_passes fed piece text text' entries entries' (Sized sized) e read = absurd (cc)
@@ -105,7 +105,7 @@ module _ (a : Arithmetic) (has_minus : Bool) (order : ℕ) where
 
   -- what is read of a text without a bad line
   pub reads_on : (fed text : List ℕ) (entries : List Entry) (stage : Stage) → is_bad stage ≡ false
-      → IsRead a has_minus order fed text entries stage → ReadsOn a has_minus order fed text entries stage
+      → IsReadSoFar a has_minus order fed text entries stage → ReadsOn a has_minus order fed text entries stage
   reads_on fed text entries First e read = read
   reads_on fed text entries (Begun banner) e read = read
   reads_on fed text entries (Sized sized) e read = read
@@ -113,9 +113,9 @@ module _ (a : Arithmetic) (has_minus : Bool) (order : ℕ) where
 
   pub read_on : (fed text : List ℕ) (entries : List Entry) (stage : Stage) → text ≡ fed → has_long_line text ≡ false
       → Leaves a has_minus order (told_lines text) entries stage → IsKnown stage (told_lines text)
-      → IsRead a has_minus order fed text entries stage
+      → IsReadSoFar a has_minus order fed text entries stage
   read_on fed text entries stage same short leaves known =
-      subst (λ all. IsRead a has_minus order all text entries stage) same (is_read text entries stage short leaves known)
+      subst (λ all. IsReadSoFar a has_minus order all text entries stage) same (is_read text entries stage short leaves known)
 
   -- one step of reading: a line was told, more is needed, or a line is too long
   pub line_read : (fed : List ℕ) (old new : LineReader) (bytes : List ℕ) (entries entries' : List Entry) (stage stage' : Stage)
@@ -123,7 +123,7 @@ module _ (a : Arithmetic) (has_minus : Bool) (order : ℕ) where
       → new.text ≡ old.text ++ bytes → TellsLine old new → count ≡ count_of (told_lines new.text)
       → Follows a has_minus order count new.line entries stage entries' stage'
       → ((taken : List (List ℕ)) → IsKnown stage taken → IsKnown stage' (taken ++ new.line ∷ []))
-      → IsRead a has_minus order fed old.text entries stage → IsRead a has_minus order (fed ++ bytes) new.text entries' stage'
+      → IsReadSoFar a has_minus order fed old.text entries stage → IsReadSoFar a has_minus order (fed ++ bytes) new.text entries' stage'
   line_read fed old new bytes entries entries' stage stage' count good grows tells counts follows knows read =
       let on = reads_on fed old.text entries stage good read in
       let long : length (told_lines new.text) ≡ length (told_lines old.text) + 1 =
@@ -136,7 +136,7 @@ module _ (a : Arithmetic) (has_minus : Bool) (order : ℕ) where
 
   pub more_read : (fed : List ℕ) (old new : LineReader) (bytes : List ℕ) (entries : List Entry) (stage : Stage) → is_bad stage ≡ false
       → new.text ≡ old.text ++ bytes → NeedsMore old new
-      → IsRead a has_minus order fed old.text entries stage → IsRead a has_minus order (fed ++ bytes) new.text entries stage
+      → IsReadSoFar a has_minus order fed old.text entries stage → IsReadSoFar a has_minus order (fed ++ bytes) new.text entries stage
   more_read fed old new bytes entries stage good grows needs read =
       let on = reads_on fed old.text entries stage good read in
       read_on (fed ++ bytes) new.text entries stage (grows ∙ ap (λ all. all ++ bytes) on.0) needs.short
@@ -145,10 +145,11 @@ module _ (a : Arithmetic) (has_minus : Bool) (order : ℕ) where
   pub long_read : (fed : List ℕ) (old new : LineReader) (bytes : List ℕ) (entries : List Entry) (stage : Stage) (count : ℕ)
       → is_bad stage ≡ false → new.text ≡ old.text ++ bytes → IsTooLong old new
       → count ≡ counted (length (told_lines new.text) + 1)
-      → IsRead a has_minus order fed old.text entries stage → IsRead a has_minus order (fed ++ bytes) new.text entries (Bad count LongLine)
+      → IsReadSoFar a has_minus order fed old.text entries stage
+      → IsReadSoFar a has_minus order (fed ++ bytes) new.text entries (Bad count LongLine)
   long_read fed old new bytes entries stage count good grows long counts read =
       let on = reads_on fed old.text entries stage good read in
-      subst (λ all. IsRead a has_minus order all new.text entries (Bad count LongLine))
+      subst (λ all. IsReadSoFar a has_minus order all new.text entries (Bad count LongLine))
       (append-nil new.text ∙ grows ∙ ap (λ all. all ++ bytes) on.0)
       (long_is_read old.text new.text [] entries entries stage count good long.long long.told on.2 counts)
 
@@ -160,7 +161,7 @@ counts_behind text count e = omega (arith, e)
 module _ (a : Arithmetic) (has_minus : Bool) (order : ℕ) where
   -- the end of a text
   pub bad_at_end : (fed text : List ℕ) (number : ℕ) (entries : List Entry) (stage : Stage) → is_bad stage ≡ true
-      → IsRead a has_minus order fed text entries stage
+      → IsReadSoFar a has_minus order fed text entries stage
       → told (matrix_of_text a has_minus order fed) ≡ told (rest_of a has_minus order entries stage number [])
   bad_at_end fed text number entries First e read = absurd (cc)
   bad_at_end fed text number entries (Begun banner) e read = absurd (cc)
@@ -179,7 +180,7 @@ module _ (a : Arithmetic) (has_minus : Bool) (order : ℕ) where
 
   pub more_at_end : (fed : List ℕ) (old new : LineReader) (entries : List Entry) (stage : Stage) → is_bad stage ≡ false
       → told_lines new.text ≡ told_lines old.text → told_lines new.text ≡ lines old.text
-      → IsRead a has_minus order fed old.text entries stage
+      → IsReadSoFar a has_minus order fed old.text entries stage
       → told (matrix_of_text a has_minus order fed) ≡ told
       (rest_of a has_minus order entries stage (length (told_lines new.text) + 1) [])
   more_at_end fed old new entries stage good same all read =
@@ -191,7 +192,7 @@ module _ (a : Arithmetic) (has_minus : Bool) (order : ℕ) where
       → is_bad stage ≡ false
       → told_lines new.text ≡ told_lines old.text ++ new.line ∷ [] → told_lines new.text ≡ lines old.text
       → count ≡ count_of (told_lines new.text) → Follows a has_minus order count new.line entries stage entries' stage'
-      → IsRead a has_minus order fed old.text entries stage
+      → IsReadSoFar a has_minus order fed old.text entries stage
       → told (matrix_of_text a has_minus order fed) ≡ told
       (rest_of a has_minus order entries' stage' (length (told_lines new.text) + 1) [])
   line_at_end fed old new entries entries' stage stage' count good tells all counts follows read =

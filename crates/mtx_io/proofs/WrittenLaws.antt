@@ -312,7 +312,8 @@ module _ (ranges : List ℕ) (are : AreRanges ranges) (entry : Entry) (below : I
         ∙ (λ i. placed (place_from General (index_read (rows_of ranges) (row_of entry.coords) place.0 row_file i)
         (index_read (columns_of ranges) (column_of entry.coords) place.1 column_file i)) (value_read entry.value word i))
 
-    entry_back : (a : Arithmetic) (others : List Entry) → entries_of a (written_header ranges) (placed_entry entry) ++ others ≡ entry ∷ others
+    entry_back : (a : Arithmetic) (others : List Entry)
+        → entries_of a (written_header ranges) (placed_entry entry) ++ others ≡ entry ∷ others
     entry_back a others = ap (λ (coords : List ℕ). record { coords = coords; value = entry.value } ∷ others) place.2
 
 -- what is known of the entries that are written

@@ -85,8 +85,8 @@ mirror_image order told value = record { coords = coords_of order told.place.col
 abbrev pub entries_by : Arithmetic → Symmetry → ℕ → PlacedValue → List Entry
 entries_by a General order told = own_entry order told ∷ []
 entries_by a Symmetric order told =
-    if told.place.row == told.place.column then own_entry order told ∷ [] else own_entry order told ∷ mirror_image order told told.value
-    ∷ []
+    if told.place.row == told.place.column then own_entry order told ∷ []
+    else own_entry order told ∷ mirror_image order told told.value ∷ []
 entries_by a SkewSymmetric order told = own_entry order told ∷ mirror_image order told (a.times a.minus_one told.value) ∷ []
 
 abbrev pub entries_of : Arithmetic → Header → PlacedValue → List Entry

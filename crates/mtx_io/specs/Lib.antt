@@ -3,8 +3,8 @@ pub mod Due
 pub mod Entry
 pub mod Fields
 pub mod Matrix
+pub mod MtxReader
 pub mod Places
-pub mod Prints
 pub mod Progress
 pub mod Reader
 pub mod Size

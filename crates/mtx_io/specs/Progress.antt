@@ -34,8 +34,8 @@ rest_of a has_minus order entries (Bad line kind) number more = Err (record { nu
 abbrev pub Follows : Arithmetic → Bool → ℕ → ℕ → List ℕ → List Entry → Stage → List Entry → Stage → Type 0
 Follows a has_minus order count line entries stage entries' stage' =
     (number : ℕ) (more : List (List ℕ)) → counted number ≡ count
-    → told (rest_of a has_minus order entries' stage' (number + 1) more) ≡ told
-    (rest_of a has_minus order entries stage number (line ∷ more))
+    → told (rest_of a has_minus order entries' stage' (number + 1) more)
+    ≡ told (rest_of a has_minus order entries stage number (line ∷ more))
 
 -- a tensor that a matrix can be read as
 abbrev pub IsMatrixOrder : ℕ → Type 0
@@ -48,10 +48,3 @@ IsStage has_minus order entries First = entries ≡ []
 IsStage has_minus order entries (Begun banner) = (entries ≡ []) × (needs_minus banner.symmetry ≡ true → has_minus ≡ true)
 IsStage has_minus order entries (Sized sized) = (needs_minus sized.header.symmetry ≡ true → has_minus ≡ true) × (sized.header.order ≡ order)
 IsStage has_minus order entries (Bad line kind) = Unit {0}
-
--- entry lines are due, or were all read
-abbrev pub IsSized : Stage → Type 0
-IsSized First = ⊥
-IsSized (Begun banner) = ⊥
-IsSized (Sized sized) = Unit {0}
-IsSized (Bad line kind) = ⊥

@@ -1,7 +1,6 @@
 //! How the reading of a file ends.
-ghost use Rattle.std.specs.Prelude.{◌≡◌, ℕ, ◌+◌, ◌^◌, ◌-◌, min, []};
+ghost use Rattle.std.specs.Prelude.{◌≡◌, ℕ, Bool, []};
 ghost use Rattle.numbers.specs.Arithmetic.{Arithmetic};
-ghost use Rattle.std.specs.Prelude.{Bool};
 ghost use Rattle.mtx_io.specs.Progress.{counted, told, rest_of};
 ghost use Rattle.mtx_io.specs.Reader.{Tells};
 

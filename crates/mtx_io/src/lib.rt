@@ -1,5 +1,7 @@
 //! What Matrix Market files (`.mtx`) say and what is written into them: `specs/Matrix.antt` defines what a text stands
-//! for, by the banner (`specs/Banner.antt`), the size line (`specs/Size.antt`) and the entry lines (`specs/Entry.antt`).
+//! for, by the banner (`specs/Banner.antt`), the size line (`specs/Size.antt`) and the entry lines (`specs/Entry.antt`),
+//! `specs/Text.antt` the text of a tensor. `MtxReader` reads a file in pieces (`specs/MtxReader.antt`), `put_mtx` writes one,
+//! and the functions of `laws` state what follows.
 #![tactic(auto)]
 
 mod banner;

@@ -20,40 +20,40 @@ pub struct MtxReader<S: Semiring> {
     lines: LineReader,
     entries: Entries,
     stage: Stage,
-    is_starved: bool,
+    wants: bool,
     fed: Fed,
     semiring: PhantomData<S>,
 }
 
 impl<S: Semiring> Model for MtxReader<S> {
-    ghost use Rattle.mtx_io.specs.Reader.{MtxReader as Reading, IsReading};
+    ghost use Rattle.mtx_io.specs.MtxReader.{MtxReader as Reading};
+    ghost use Rattle.mtx_io.specs.Reader.{IsReading};
 
     ghost Value = { Reading };
 
-    ghost view = { λ r. record { order = r.entries.order; text = r.fed.bytes; is_starved = r.is_starved } };
+    ghost view = { λ r. record { order = r.entries.order; text = r.fed.bytes; wants = r.wants } };
 
-    ghost invariant = { λ r. IsReading S.arithmetic S.has_minus r.entries r.fed.bytes r.lines r.stage r.is_starved };
+    ghost invariant = { λ r. IsReading S.arithmetic S.has_minus r.entries r.fed.bytes r.lines r.stage r.wants };
 }
 
 impl<S: Semiring> MtxReader<S> {
-    ghost use Rattle.std.specs.Prelude.{◌≡◌, ◌⊎◌, [], true, false, IfOk};
-    ghost use Rattle.mtx_io.specs.Matrix.{matrix_of_text};
-    ghost use Rattle.mtx_io.specs.Progress.{told, IsMatrixOrder};
-    ghost use Rattle.mtx_io.specs.Reader.{Tells, WantsMemory};
+    ghost use Rattle.std.specs.Prelude.{◌≡◌, [], false, IfOk, MatchResult};
+    ghost use Rattle.mtx_io.specs.MtxReader.{IsRead, Refuses};
+    ghost use Rattle.mtx_io.specs.Progress.{IsMatrixOrder};
 
     /// A reader that was fed nothing yet, of a tensor of order 1 or 2. It takes the memory of one line.
     #[tactic(auto, unfolding(limits::specs::Limits::greatest_order))]
     pub fn new(alloc: Global, order: usize) -> Result<MtxReader<S>, AllocError>
         requires { IsMatrixOrder order }
         ensures order { IfOk result (λ reader. reader.order ≡ order) }
-        ensures text { IfOk result (λ reader. reader.text ≡ []) }
-        ensures fed { IfOk result (λ reader. reader.is_starved ≡ false) }
+        ensures empty { IfOk result (λ reader. reader.text ≡ []) }
+        ensures calm { IfOk result (λ reader. reader.wants ≡ false) }
     {
         Ok(MtxReader {
             lines: LineReader::new(alloc)?,
             entries: Entries::new(alloc, order)?,
             stage: Stage::First,
-            is_starved: false,
+            wants: false,
             fed: Fed::new(),
             semiring: PhantomData,
         })
@@ -62,18 +62,17 @@ impl<S: Semiring> MtxReader<S> {
     /// The entries that the file stands for, each before its mirror image, and its numbers of rows and columns; or the
     /// first bad line.
     pub fn finish(self) -> Result<(Entries, u64, u64), FileFault>
-        ensures matrix { Tells (told (matrix_of_text S.arithmetic S.has_minus self.order self.text)) self.order result }
-        ensures starved { self.is_starved ≡ true → WantsMemory result }
+        ensures { MatchResult result (IsRead S.arithmetic S.has_minus self) (Refuses S.arithmetic S.has_minus self) }
     {
         let MtxReader {
             mut lines,
             mut entries,
             stage,
-            is_starved,
+            wants,
             fed: _,
             semiring: _,
         } = self;
-        if is_starved {
+        if wants {
             return Err(FileFault::Memory(AllocError));
         }
         match take_end::<S>(&mut lines, &mut entries, stage) {
@@ -84,26 +83,24 @@ impl<S: Semiring> MtxReader<S> {
 }
 
 impl<S: Semiring> Eater for MtxReader<S> {
-    ghost use Rattle.std.specs.Prelude.{◌≡◌, ◌++◌, ◌⊎◌, true, false, OnOk, OnErr};
-    ghost use Rattle.mtx_io.specs.Reader.{EndsEntry};
+    ghost use Rattle.std.specs.Prelude.{◌≡◌, ◌++◌, true, false, IsErr, OnOk, OnErr};
+    ghost use Rattle.mtx_io.specs.MtxReader.{given_to, WantsMemory};
 
-    ghost eaten = { λ r. r.text };
+    ghost eaten = { given_to };
 
-    ghost refused = { λ old piece new. new.is_starved ≡ true };
+    ghost refused = { WantsMemory S.arithmetic S.has_minus };
 
-    /// Takes a piece. It wants memory only for entries.
+    /// Takes a piece. Memory is wanted for an entry alone, and once it was, at every later call.
     fn feed(&mut self, piece: &[u8]) -> Result<(), AllocError>
-        ensures ok { OnOk result (self.new.text ≡ self.old.text ++ piece.now) }
-        ensures err { OnErr result (self.new.is_starved ≡ true) }
-        ensures order { self.new.order ≡ self.old.order }
-        ensures fed { OnOk result (self.new.is_starved ≡ false) }
-        ensures starved { self.old.is_starved ≡ true → OnOk result ⊥ }
-        ensures memory { OnErr result ((self.old.is_starved ≡ true) ⊎ EndsEntry self.old.text piece.now) }
+        ensures ok { OnOk result (given_to self.new ≡ given_to self.old ++ piece.now) }
+        ensures err { OnErr result (WantsMemory S.arithmetic S.has_minus self.old piece.now self.new) }
+        ensures calm { OnOk result (self.new.wants ≡ false) }
+        ensures stuck { self.old.wants ≡ true → IsErr result }
     {
-        if self.is_starved {
+        self.fed.extend(piece);
+        if self.wants {
             return Err(AllocError);
         }
-        self.fed.extend(piece);
         let stage = mem::replace(&mut self.stage, Stage::First);
         match take_piece::<S>(&mut self.lines, &mut self.entries, stage, piece) {
             Ok(stage) => {
@@ -111,7 +108,7 @@ impl<S: Semiring> Eater for MtxReader<S> {
                 Ok(())
             }
             Err(error) => {
-                self.is_starved = true;
+                self.wants = true;
                 Err(error)
             }
         }

@@ -1,9 +1,10 @@
 //! A file, piece by piece.
-ghost use Rattle.std.specs.Prelude.{◌≡◌, ℕ, ◌<◌, ◌≤◌, ◌+◌, ◌++◌, [], List, false, IfOk, OnErr, length, take};
+ghost use Rattle.std.specs.Prelude.{◌≡◌, ℕ, ◌<◌, ◌≤◌, ◌+◌, ◌++◌, ◌∷◌, [], List, false, IfOk, OnErr, length, take};
 ghost use Rattle.mtx_io.specs.Matrix.{matrix_of_text};
+ghost use Rattle.mtx_io.specs.MtxReader.{EndsEntry};
 ghost use Rattle.mtx_io.specs.Progress.{told, rest_of, IsStage, IsMatrixOrder};
 ghost use Rattle.text_lines.specs.Cutting.{told_lines};
-ghost use Rattle.mtx_io.specs.Reader.{EndsEntry, IsRead, is_bad};
+ghost use Rattle.mtx_io.specs.Reader.{IsReadSoFar, is_bad};
 
 use crate::stage::{Stage, long_line_behind};
 use crate::step::after_line;
@@ -28,11 +29,11 @@ fn take_step<S: Semiring>(
     ensures within { IfOk result (λ taken. taken.0 ≤ length piece.now) }
     ensures progress { IfOk result (λ taken. 0 < taken.0) }
     ensures read { IfOk result
-        (λ taken. (fed : List ℕ) → IsRead S.arithmetic S.has_minus entries.old.order fed lines.old.text entries.old.list stage
-        → IsRead S.arithmetic S.has_minus entries.old.order (fed ++ take taken.0 piece.now) lines.new.text entries.new.list taken.1) }
+        (λ taken. (fed : List ℕ) → IsReadSoFar S.arithmetic S.has_minus entries.old.order fed lines.old.text entries.old.list stage
+        → IsReadSoFar S.arithmetic S.has_minus entries.old.order (fed ++ take taken.0 piece.now) lines.new.text entries.new.list taken.1) }
     ensures ended { OnErr result
-        ((fed : List ℕ) → IsRead S.arithmetic S.has_minus entries.old.order fed lines.old.text entries.old.list stage
-        → EndsEntry fed piece.now) }
+        ((fed : List ℕ) → IsReadSoFar S.arithmetic S.has_minus entries.old.order fed lines.old.text entries.old.list stage
+        → EndsEntry S.arithmetic S.has_minus entries.old.order fed piece.now) }
 {
     let (n, step) = lines.feed(piece);
     match step {
@@ -58,11 +59,11 @@ pub(crate) fn take_piece<S: Semiring>(
     ensures order { entries.new.order ≡ entries.old.order }
     ensures stage { IfOk result (λ after. IsStage S.has_minus entries.old.order entries.new.list after) }
     ensures read { IfOk result
-        (λ after. (fed : List ℕ) → IsRead S.arithmetic S.has_minus entries.old.order fed lines.old.text entries.old.list stage
-        → IsRead S.arithmetic S.has_minus entries.old.order (fed ++ piece.now) lines.new.text entries.new.list after) }
+        (λ after. (fed : List ℕ) → IsReadSoFar S.arithmetic S.has_minus entries.old.order fed lines.old.text entries.old.list stage
+        → IsReadSoFar S.arithmetic S.has_minus entries.old.order (fed ++ piece.now) lines.new.text entries.new.list after) }
     ensures ended { OnErr result
-        ((fed : List ℕ) → IsRead S.arithmetic S.has_minus entries.old.order fed lines.old.text entries.old.list stage
-        → EndsEntry fed piece.now) }
+        ((fed : List ℕ) → IsReadSoFar S.arithmetic S.has_minus entries.old.order fed lines.old.text entries.old.list stage
+        → EndsEntry S.arithmetic S.has_minus entries.old.order fed piece.now) }
 {
     let mut stage = stage;
     let mut rest = piece;
@@ -87,9 +88,12 @@ pub(crate) fn take_end<S: Semiring>(
     requires stage { IsStage S.has_minus entries.old.order entries.old.list stage }
     ensures order { entries.new.order ≡ entries.old.order }
     ensures read { IfOk result
-        (λ after. (fed : List ℕ) → IsRead S.arithmetic S.has_minus entries.old.order fed lines.old.text entries.old.list stage
+        (λ after. (fed : List ℕ) → IsReadSoFar S.arithmetic S.has_minus entries.old.order fed lines.old.text entries.old.list stage
         → told (matrix_of_text S.arithmetic S.has_minus entries.old.order fed)
         ≡ told (rest_of S.arithmetic S.has_minus entries.old.order entries.new.list after (length (told_lines lines.new.text) + 1) [])) }
+    ensures ended { OnErr result
+        ((fed : List ℕ) → IsReadSoFar S.arithmetic S.has_minus entries.old.order fed lines.old.text entries.old.list stage
+        → EndsEntry S.arithmetic S.has_minus entries.old.order fed (10 ∷ [])) }
 {
     if stage.is_bad() {
         return Ok(stage);

@@ -5,8 +5,7 @@ ghost use Rattle.numbers.specs.Signed.{signed_of};
 ghost use Rattle.outside.specs.Sink.{Appends};
 ghost use Rattle.tensor_map.specs.declared.entries.Entry.{Entry};
 ghost use Rattle.tensor_map.specs.Entries.{is_nonzero, StrictlyIncreasing};
-ghost use Rattle.text_lines.specs.Puts.{AppendsPart};
-ghost use Rattle.mtx_io.specs.Prints.{Prints};
+ghost use Rattle.text_lines.specs.Puts.{AppendsPart, Prints};
 ghost use Rattle.mtx_io.specs.Progress.{IsMatrixOrder};
 ghost use Rattle.mtx_io.specs.Text.{AreSmall, IsBelow, line_of, columns_of, entries_text, matrix_text};
 

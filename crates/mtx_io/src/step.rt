@@ -3,8 +3,8 @@ ghost use Rattle.std.specs.Prelude.{◌≡◌, ◌<◌, ◌++◌, ◌∷◌, ℕ
 ghost use Rattle.numbers.specs.Arithmetic.{Arithmetic};
 ghost use Rattle.mtx_io.specs.Matrix.{is_skipped};
 ghost use Rattle.text_lines.specs.Cutting.{is_long};
-ghost use Rattle.mtx_io.specs.Progress.{Follows, IsStage, IsMatrixOrder, IsSized};
-ghost use Rattle.mtx_io.specs.Reader.{IsKnown};
+ghost use Rattle.mtx_io.specs.Progress.{Follows, IsStage, IsMatrixOrder};
+ghost use Rattle.mtx_io.specs.Reader.{IsKnown, TellsEntry};
 ghost use Rattle.mtx_io.specs.declared.stage.Stage.TheVariants.{First, Begun, Sized};
 
 use crate::banner::{Banner, read_first_line};
@@ -75,6 +75,7 @@ fn after_entry<S: Semiring>(
         (λ stage. Follows S.arithmetic S.has_minus entries.old.order number line.now entries.old.list (Sized lines) entries.new.list
         stage) }
     ensures known { IfOk result (λ stage. (taken : List (List ℕ)) → IsKnown (Sized lines) taken → IsKnown stage (taken ++ line.now ∷ [])) }
+    ensures tells { OnErr result (TellsEntry (Sized lines) line.now) }
 {
     let mut lines = lines;
     match lines.take(line) {
@@ -101,7 +102,7 @@ pub(crate) fn after_line<S: Semiring>(
     ensures follows { IfOk result
         (λ after. Follows S.arithmetic S.has_minus entries.old.order number line.now entries.old.list stage entries.new.list after) }
     ensures known { IfOk result (λ after. (taken : List (List ℕ)) → IsKnown stage taken → IsKnown after (taken ++ line.now ∷ [])) }
-    ensures sized { OnErr result (IsSized stage) }
+    ensures tells { OnErr result (TellsEntry stage line.now) }
     ensures kept { OnErr result (is_skipped line.now ≡ false) }
 {
     match stage {

@@ -3,6 +3,8 @@ pub mod Arranging
 pub mod Chains
 pub mod Children
 pub mod Counts
+pub mod EntrySame
+pub mod LevelSame
 pub mod ListLaws
 pub mod Located
 pub mod OneKind
@@ -13,3 +15,4 @@ pub mod Standing
 pub mod Tables
 pub mod WalkLaws
 pub mod TellLaws
+pub mod UniqueLaws

@@ -12,22 +12,22 @@ use Rattle.level_core.specs.Kinds.{properties, capabilities, positions_for}
 use Rattle.level_core.specs.Meaning.{Meaning}
 use Rattle.level_core.specs.Laws.{Laws}
 use Rattle.level_core.specs.Orders.{InOrder}
-use Rattle.level_rows.specs.Rows.{rows_at, begun, IsGreatestBelow, MayAppendRows, MayInsertRows}
+use Rattle.level_rows.specs.Rows.{rows_at, begun, place, IsGreatestBelow, MayAppendRows, MayInsertRows}
 use Rattle.level_rows.specs.Taken.{Takes}
 use Rattle.level_rows.specs.declared.filling.FillRefusal.TheVariants.{TooMany}
 use Rattle.level_rows.specs.Filling.{AreNeeded, MayFill, FillsRows, FillAnswer}
-use Rattle.level_rows.specs.Stacks.{Column, last_positions}
+use Rattle.level_rows.specs.Stacks.{Column, last_place, last_positions}
 use Rattle.level_rows.specs.Tables.{Increase, ShareBy, AreRowsOf}
 use Rattle.level_rows.specs.Growing.{column_of, Growing, IsNext, Grows}
 use Rattle.level_rows.proofs.Growing.{levels_grow}
 use Rattle.format_spec.specs.declared.format.FormatLevel.{FormatLevel}
 use Rattle.format_spec.specs.Formats.{letters_of, Chained, InsertedBelowHashed, IsFormat}
 use Rattle.tensor_storage.specs.Storages.{in_level_order}
-use Rattle.tensor_storage.specs.Built.{IsBuilt, AreBuilt}
+use Rattle.tensor_storage.specs.Built.{counts_of, IsBuilt, AreBuilt}
 use Rattle.tensor_storage.specs.Chains.{chain_length}
 use Rattle.tensor_storage.specs.Counts.{different, greatest_below, positions_at, positions_from, positions_of, last_of, AreFew}
 use Rattle.tensor_storage.specs.New.{IsNew}
-use Rattle.tensor_storage.specs.Packed.{MayFollow, counts_of, ArePacked, IsFirstAbove}
+use Rattle.tensor_storage.specs.Packed.{MayFollow, ArePacked, IsFirstAbove}
 use Rattle.tensor_storage.specs.Tables.{Table, AreBelow, keys_of}
 use Rattle.tensor_storage.proofs.Chains.{chain_of_unique, chain_of_groups, chain_some, letter_left}
 use Rattle.tensor_storage.proofs.Counts.{begun_is, most_is}
@@ -75,21 +75,32 @@ pub last_is : (columns : List Column) (parents : ℕ) → last_of parents (count
 last_is [] parents = refl
 last_is (column ∷ columns) parents = last_is columns column.positions
 
-built_push : {L : Type 0} (means : Meaning L) (table : Table) (ls : List L) (ns : List ℕ) (d e parents : ℕ) (l : L) (n : ℕ) → AreBuilt means table d parents ls ns → length ls ≡ e → IsBuilt means table (d + e) (last_of parents ns) n l
-    → AreBuilt means table d parents (ls ++ l ∷ []) (ns ++ n ∷ [])
-built_push means table [] [] d e parents l n are long is = let same : d + e ≡ d = omega (arith, long) in (subst (λ m. IsBuilt means table m parents n l) same is, tt)
-built_push means table [] (m ∷ ns) d e parents l n are long is = absurd are
-built_push means table (k ∷ ls) [] d e parents l n are long is = absurd are
-built_push means table (k ∷ ls) (m ∷ ns) d e parents l n are long is =
+built_push : {L : Type 0} (means : Meaning L) (table : Table) (letters : List Letter) (ls : List L) (columns : List Column) (d e : ℕ) (parent : ℕ → ℕ) (parents : ℕ) (l : L) (column : Column) (letter : Letter) (rest : List Letter)
+    → AreBuilt means table d parent parents letters ls columns → length ls ≡ e → drop e letters ≡ letter ∷ rest → IsBuilt means table (d + e) ((d + e) + chain_length (letter ∷ rest)) (last_place columns parent) (last_positions columns parents) column l
+    → AreBuilt means table d parent parents letters (ls ++ l ∷ []) (columns ++ column ∷ [])
+built_push means table letters [] [] d e parent parents l column letter rest are long left is =
+    let none : e ≡ 0 = omega (arith, long) in
+    let here : letters ≡ letter ∷ rest = subst (λ n. drop n letters ≡ letter ∷ rest) none left in
+    let same : d + e ≡ d = omega (arith, none) in
+    subst (λ ks. AreBuilt means table d parent parents ks (l ∷ []) (column ∷ [])) (sym here) (subst (λ m. IsBuilt means table m (m + chain_length (letter ∷ rest)) parent parents column l) same is, tt)
+built_push means table letters [] (c ∷ columns) d e parent parents l column letter rest are long left is = absurd are
+built_push means table letters (k ∷ ls) [] d e parent parents l column letter rest are long left is = absurd are
+built_push means table [] (k ∷ ls) (c ∷ columns) d e parent parents l column letter rest are long left is = absurd are
+built_push means table (first ∷ letters) (k ∷ ls) (c ∷ columns) d e parent parents l column letter rest are long left is =
     let one_less : length ls ≡ e - 1 = omega (arith, long) in
-    let same : d + e ≡ suc d + (e - 1) = omega (arith, long) in
-    (are.0, built_push means table ls ns (suc d) (e - 1) m l n are.1 one_less (subst (λ q. IsBuilt means table q (last_of m ns) n l) same is))
+    let deeper : e ≡ suc (e - 1) = omega (arith, long) in
+    let same : d + e ≡ suc d + (e - 1) = omega (arith, long) in (
+      are.0,
+      built_push means table letters ls columns (suc d) (e - 1) c.place c.positions l column letter rest are.1 one_less (subst (λ n. drop n (first ∷ letters) ≡ letter ∷ rest) deeper left)
+          (subst (λ q. IsBuilt means table q (q + chain_length (letter ∷ rest)) (last_place columns c.place) (last_positions columns c.positions) column l) same is),
+    )
 
-as_many_built : {L : Type 0} (means : Meaning L) (table : Table) (ls : List L) (ns : List ℕ) (d parents : ℕ) → AreBuilt means table d parents ls ns → length ns ≡ length ls
-as_many_built means table [] [] d parents are = refl
-as_many_built means table [] (n ∷ ns) d parents are = absurd are
-as_many_built means table (l ∷ ls) [] d parents are = absurd are
-as_many_built means table (l ∷ ls) (n ∷ ns) d parents are = ap suc (as_many_built means table ls ns (suc d) n are.1)
+as_many_built : {L : Type 0} (means : Meaning L) (table : Table) (letters : List Letter) (ls : List L) (columns : List Column) (d : ℕ) (parent : ℕ → ℕ) (parents : ℕ) → AreBuilt means table d parent parents letters ls columns → length columns ≡ length ls
+as_many_built means table letters [] [] d parent parents are = refl
+as_many_built means table letters [] (c ∷ columns) d parent parents are = absurd are
+as_many_built means table letters (l ∷ ls) [] d parent parents are = absurd are
+as_many_built means table [] (l ∷ ls) (c ∷ columns) d parent parents are = absurd are
+as_many_built means table (letter ∷ letters) (l ∷ ls) (c ∷ columns) d parent parents are = ap suc (as_many_built means table letters ls columns (suc d) c.place c.positions are.1)
 
 inserted_unique : (letter : Letter) → (capabilities letter).append ≡ false → ((properties letter).unique ≡ true) × ((properties letter).branchless ≡ false)
 inserted_unique Dense h = (refl, refl)
@@ -165,7 +176,7 @@ module _ {L : Type 0} (means : Meaning L) (laws : Laws means) (letters : List Le
         (rest_is : rest ≡ drop (suc d) letters) where
       packed : (ordered_then : Bool) → ordered_then ≡ (p.ordered && (properties (means.kind old)).ordered)
           → Growing means table.coords table.count (suc d) n (not (properties (means.kind old)).unique) ordered_then (levels ++ new ∷ []) (p.columns ++ column_of (keys_of table d n) places needed ∷ []) (slice_index places) needed
-          → Takes means parents needed (rows_at (keys_of table d n) ps) places old new → IsBuilt means table d parents needed new → ArePacked means letters sizes table (suc d) (levels ++ new ∷ []) places needed
+          → Takes means parents needed (rows_at (keys_of table d n) ps) places old new → IsBuilt means table d n (slice_index ps) parents (column_of (keys_of table d n) places needed) new → ArePacked means letters sizes table (suc d) (levels ++ new ∷ []) places needed
       packed ordered_then o growing t built = record {
         columns = p.columns ++ column_of (keys_of table d n) places needed ∷ [];
         above = n;
@@ -181,8 +192,11 @@ module _ {L : Type 0} (means : Meaning L) (laws : Laws means) (letters : List Le
         counts = one_more (λ column. column.positions) p.columns (column_of (keys_of table d n) places needed) needed (positions_from table (suc d) needed (drop (suc d) letters) (drop (suc d) sizes))
             (positions_from table d parents (drop d letters) (drop d sizes)) (positions_from table 0 1 letters sizes) p.counts (left_from ranges_left rest_is) refl;
         few = subst AreFew (sym pushed) (All-push (λ count. count ≤ greatest_position_count) (counts_of p.columns) needed p.few fits);
-        built = subst (AreBuilt means table 0 1 (levels ++ new ∷ [])) (sym pushed) (built_push means table levels (counts_of p.columns) 0 d 1 new needed p.built p.growing.depth
-            (subst (λ m. IsBuilt means table (0 + d) m needed new) (sym (last_is p.columns 1 ∙ p.growing.parents_are)) (subst (λ m. IsBuilt means table m parents needed new) (sym zero_more) built)));
+        built = built_push means table letters levels p.columns 0 d (λ i. 0) 1 new (column_of (keys_of table d n) places needed) (means.kind old) rest p.built p.growing.depth left
+            (subst (λ m. IsBuilt means table m (m + chain_length (means.kind old ∷ rest)) (last_place p.columns (λ i. 0)) (last_positions p.columns 1) (column_of (keys_of table d n) places needed) new) (sym zero_more)
+            (subst (λ m. IsBuilt means table d (d + chain_length (means.kind old ∷ rest)) (last_place p.columns (λ i. 0)) m (column_of (keys_of table d n) places needed) new) (sym p.growing.parents_are)
+            (subst (λ f. IsBuilt means table d (d + chain_length (means.kind old ∷ rest)) f parents (column_of (keys_of table d n) places needed) new) (sym p.growing.place_is)
+            (subst (λ m. IsBuilt means table d m (slice_index ps) parents (column_of (keys_of table d n) places needed) new) through built))));
       }
         where
           zero_more : 0 + d ≡ d
@@ -196,9 +210,10 @@ module _ {L : Type 0} (means : Meaning L) (laws : Laws means) (letters : List Le
           deep_by false is g = let k = chain_of_groups (means.kind old) rest is in let r = ap chain_length rest_is in omega (arith, through, k, r)
 
       built_here : (t : Takes means parents needed (rows_at (keys_of table d n) ps) places old new)
+          → ((capabilities (means.kind new)).append ≡ true → (i : ℕ) → i < table.count → slice_index places i ≡ place (keys_of table d n).first i)
           → ((properties (means.kind new)).ordered ≡ false → means.width new ≡ Some (slot_width (greatest_below table.coords d table.count table.count)))
-          → ((properties (means.kind new)).ordered ≡ false → (q : ℕ) → q < parents → InOrder means new q) → IsBuilt means table d parents needed new
-      built_here t width order_is = record { keeps = t.keeps; has_parents = t.stored.has_parents; ends = t.stored.ends; width = width; order = order_is }
+          → ((properties (means.kind new)).ordered ≡ false → (q : ℕ) → q < parents → InOrder means new q) → IsBuilt means table d n (slice_index ps) parents (column_of (keys_of table d n) places needed) new
+      built_here t numbered width order_is = record { coord = refl; first = refl; keeps = t.keeps; stores = t.stored; numbered = numbered; width = width; order = order_is }
 
       -- one level more is packed
       pub packed_next : ArePacked means letters sizes table (suc d) (levels ++ new ∷ []) places needed
@@ -214,7 +229,7 @@ module _ {L : Type 0} (means : Meaning L) (laws : Laws means) (letters : List Le
               packed p.ordered (follow_here.0 is ∙ sym both_true)
               (subst (λ m. Growing means table.coords table.count (suc d) n (not (properties (means.kind old)).unique) p.ordered (levels ++ new ∷ []) (p.columns ++ column_of (keys_of table d n) places m ∷ []) (slice_index places) m) count
               (grows.appended n size places old new next are a))
-              t (built_here t (λ o. apart (never o)) (λ o. apart (never o)))
+              t (built_here t (λ _. a.numbered) (λ o. apart (never o)) (λ o. apart (never o)))
           by_append false is =
               let f = fills.inserted is in
               let count : positions_for (means.kind old) (means.size old) parents most ≡ needed = sym (need.inserted is) in
@@ -223,7 +238,7 @@ module _ {L : Type 0} (means : Meaning L) (laws : Laws means) (letters : List Le
               packed (p.ordered && (properties (means.kind old)).ordered) refl
               (grows.inserted n size needed places old new (p.ordered && (properties (means.kind old)).ordered) next (groups_none is) (inserted_unique (means.kind old) is).0 (both p.ordered (properties (means.kind old)).ordered) are t)
               t
-              (built_here t (λ o. let sparse = unordered_sparse (means.kind old) (before o) in f.width sparse ∙ ap (λ m. Some (slot_width m)) (greatest_is is sparse))
+              (built_here t (λ yes. apart (sym yes ∙ ap (λ k. (capabilities k).append) t.kind ∙ is)) (λ o. let sparse = unordered_sparse (means.kind old) (before o) in f.width sparse ∙ ap (λ m. Some (slot_width m)) (greatest_is is sparse))
               (λ o. f.order (before o)))
 
 -- levels that are appended to and inserted into
@@ -348,4 +363,4 @@ module _ {L : Type 0} (means : Meaning L) (laws : Laws means) (format : List For
       }
     where
       counts_long : length (counts_of p.columns) ≡ length levels
-      counts_long = as_many_built means table levels (counts_of p.columns) 0 1 p.built
+      counts_long = length-map p.columns (λ column. column.positions) ∙ as_many_built means table (letters_of format) levels p.columns 0 (λ i. 0) 1 p.built

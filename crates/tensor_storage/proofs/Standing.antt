@@ -14,9 +14,9 @@ use Rattle.level_rows.proofs.Entries.{coord_from}
 use Rattle.level_rows.proofs.Growing.{levels_grow}
 use Rattle.format_spec.specs.declared.format.FormatLevel.{FormatLevel}
 use Rattle.format_spec.specs.Formats.{letters_of, Chained, IsFormat}
-use Rattle.tensor_storage.specs.Built.{AreBuilt, IsStoredAt, GoesOver}
+use Rattle.tensor_storage.specs.Built.{counts_of, IsStoredAt, GoesOver}
 use Rattle.tensor_storage.specs.Counts.{positions_from, last_of, AreFew}
-use Rattle.tensor_storage.specs.Packed.{counts_of, ArePacked}
+use Rattle.tensor_storage.specs.Packed.{ArePacked}
 use Rattle.tensor_storage.specs.Stands.{row_from, MakesPath, Stands, IsPacked}
 use Rattle.tensor_storage.specs.Levels.{StorageLevel, meaning}
 use Rattle.tensor_storage.specs.Laws.{laws}
@@ -51,7 +51,7 @@ module _ {L : Type 0} (means : Meaning L) (table : Table) where
     path_there ls columns (suc d) column.place column.positions st.1 are.1 (λ i. b i × (column.coord i ≡ x)) (λ i. c i × (table.coords d i ≡ x)) (λ i h k. (f i h k.0, are.0.coord i h ∙ k.1)) xs p.2,
   )
 
-  rows_same : (ls : List L) (columns : List Column) (d : ℕ) (parent : ℕ → ℕ) (parents : ℕ) → Stacked means table.count ls columns parent parents → AreColumnsOf means table.coords table.count ls columns d
+  pub rows_same : (ls : List L) (columns : List Column) (d : ℕ) (parent : ℕ → ℕ) (parents : ℕ) → Stacked means table.count ls columns parent parents → AreColumnsOf means table.coords table.count ls columns d
       → (i : ℕ) → i < table.count → coords_of columns i ≡ row_from table.coords i d (map means.kind ls)
   rows_same [] [] d parent parents st are i h = refl
   rows_same [] (column ∷ columns) d parent parents st are i h = absurd st
@@ -194,7 +194,9 @@ module _ {L : Type 0} (means : Meaning L) (laws : Laws means) (format : List For
 
   pub stands : (zero_is : ℕ) (before values : List ℕ) → before ≡ replicate positions zero_is → StoresValues table.count (slice_index ps) table.values before values → Stands means zero_is (letters_of format) sizes table levels values
   stands zero_is before values none s = record {
-    built = subst (AreBuilt means table 0 1 levels) counts_are p.built;
+    columns = p.columns;
+    counted = counts_are;
+    built = p.built;
     many = s.long ∙ ap length none ∙ length-replicate positions zero_is ∙ last_count;
     opened = subst (λ n. IsOpen means levels n (one 0)) (sym (s.long ∙ ap length none ∙ length-replicate positions zero_is)) levels_open;
     alone = on_path;

@@ -12,4 +12,5 @@ pub mod Stands
 pub mod Storages
 pub mod Tables
 pub mod Told
+pub mod Unique
 pub mod Walks

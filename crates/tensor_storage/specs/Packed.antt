@@ -7,7 +7,7 @@ use Rattle.level_core.specs.Meaning.{Meaning}
 use Rattle.level_rows.specs.Stacks.{Column}
 use Rattle.level_rows.specs.Growing.{Growing}
 use Rattle.format_spec.specs.Formats.{Chained}
-use Rattle.tensor_storage.specs.Built.{AreBuilt}
+use Rattle.tensor_storage.specs.Built.{counts_of, AreBuilt}
 use Rattle.tensor_storage.specs.Chains.{chain_length}
 use Rattle.tensor_storage.specs.Counts.{positions_from, AreFew}
 use Rattle.tensor_storage.specs.Tables.{Table}
@@ -19,10 +19,6 @@ abbrev pub MayFollow : Bool → List Letter → Type 0
 MayFollow ordered [] = Unit {0}
 MayFollow ordered (letter ∷ letters) =
     ((capabilities letter).append ≡ true → ordered ≡ true) × MayFollow (ordered && (properties letter).ordered) letters
-
--- how many positions each column's level has
-abbrev pub counts_of : List Column → List ℕ
-counts_of columns = map (λ column. column.positions) columns
 
 -- the first d levels are packed, and positions has the place of each row at the last of them
 pub record ArePacked {L : Type 0} (means : Meaning L) (letters : List Letter) (sizes : List ℕ) (table : Table)
@@ -40,7 +36,7 @@ pub record ArePacked {L : Type 0} (means : Meaning L) (letters : List Letter) (s
   pub ranges : map means.size levels ++ drop d sizes ≡ sizes
   pub counts : counts_of columns ++ positions_from table d parents (drop d letters) (drop d sizes) ≡ positions_from table 0 1 letters sizes
   pub few : AreFew (counts_of columns)
-  pub built : AreBuilt means table 0 1 levels (counts_of columns)
+  pub built : AreBuilt means table 0 (λ i. 0) 1 letters levels columns
 
 -- of levels with so many positions each, the level of this number, counted from 1, is the first that has more than may be, and
 -- has so many

@@ -4,10 +4,10 @@ use Rattle.level_core.specs.declared.letter.Letter.{Letter}
 use Rattle.level_core.specs.Entries.{one}
 use Rattle.level_core.specs.Kinds.{properties}
 use Rattle.level_core.specs.Meaning.{Meaning}
-use Rattle.level_rows.specs.Stacks.{Path}
+use Rattle.level_rows.specs.Stacks.{Path, Column}
 use Rattle.format_spec.specs.declared.format.FormatLevel.{FormatLevel}
 use Rattle.format_spec.specs.Formats.{letters_of}
-use Rattle.tensor_storage.specs.Built.{AreBuilt, IsStoredAt, GoesOver}
+use Rattle.tensor_storage.specs.Built.{counts_of, AreBuilt, IsStoredAt, GoesOver}
 use Rattle.tensor_storage.specs.Counts.{positions_from, positions_of, last_of, AreFew}
 use Rattle.tensor_storage.specs.Levels.{meaning}
 use Rattle.tensor_storage.specs.Storages.{Storage, IsOpen, in_level_order}
@@ -28,13 +28,15 @@ MakesPath table d (letter ∷ letters) (size ∷ sizes) begins (x ∷ xs) =
     × MakesPath table (suc d) letters sizes (λ i. begins i × (table.coords d i ≡ x)) xs
 MakesPath table d _ _ begins _ = ⊥
 
--- the levels keep their rules and have as many positions as the rows tell, with one value each at the last; the paths of the levels are
--- those that the rows make, each once, below each the next level may be asked, and each coordinate that isn't at a dense level is on
--- one; each row's value stands where its path ends, and zero at every position where no row's path ends, also at the end of a path
--- whose coordinates no row has
+-- the levels keep their rules, store the rows and have as many positions as these tell, with one value each at the last; the paths of
+-- the levels are those that the rows make, each once, below each the next level may be asked, and each coordinate that isn't at a
+-- dense level is on one; each row's value stands where its path ends, and zero at every position where no row's path ends, also
+-- at the end of a path whose coordinates no row has
 pub record Stands {L : Type 0} (means : Meaning L) (zero : ℕ) (letters : List Letter) (sizes : List ℕ)
     (table : Table) (levels : List L) (values : List ℕ) : Type 0 where
-  pub built : AreBuilt means table 0 1 levels (positions_from table 0 1 letters sizes)
+  pub columns : List Column
+  pub counted : counts_of columns ≡ positions_from table 0 1 letters sizes
+  pub built : AreBuilt means table 0 (λ i. 0) 1 letters levels columns
   pub many : length values ≡ last_of 1 (positions_from table 0 1 letters sizes)
   pub opened : IsOpen means levels (length values) (one 0)
   pub made : (xs : List ℕ) (pos : ℕ) → Path means levels (one 0) xs pos → MakesPath table 0 letters sizes (λ i. i < table.count) xs

@@ -1,5 +1,6 @@
 //! What follows for packed tensors, as calls whose contracts are the laws. They do nothing.
 ghost use Rattle.tensor_storage.specs.Told.{PackedTellEntries};
+ghost use Rattle.tensor_storage.specs.Unique.{OneStands};
 
 use numbers::Semiring;
 
@@ -7,4 +8,9 @@ use numbers::Semiring;
 /// coordinate list that they name.
 pub fn packed_tensors_tell_their_entries<S: Semiring>()
     ensures { PackedTellEntries S.arithmetic }
+{}
+
+/// At most one storage stands for a table in a format with these ranges: any two have the same arrays and values.
+pub fn one_storage_stands()
+    ensures { OneStands }
 {}

@@ -16,7 +16,7 @@ mod reading;
 mod table;
 mod tensor;
 
-pub use laws::packed_tensors_tell_their_entries;
+pub use laws::{one_storage_stands, packed_tensors_tell_their_entries};
 pub use level::StorageLevel;
 pub use packing::PackRefusal;
 pub use table::RowTable;

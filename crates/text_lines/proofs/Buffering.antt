@@ -1,6 +1,6 @@
 -- Lemmas about what specs/Buffered.antt defines.
-use Rattle.std.specs.Prelude.{◌≡◌, ℕ, ◌+◌, min, Bool, true, false, not, List, [], ◌∷◌, ◌++◌, length, IsTrue, refl}
-use Rattle.std.proofs.Common.{arith, length-append, ap, ◌∙◌, sym}
+use Rattle.std.specs.Prelude.{◌≡◌, ℕ, ◌+◌, min, Bool, true, false, not, List, [], ◌∷◌, ◌++◌, IsTrue, refl}
+use Rattle.std.proofs.Common.{arith, length-append}
 use Rattle.text_lines.specs.Buffered.{count_of}
 
 -- one more line

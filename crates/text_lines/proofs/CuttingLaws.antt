@@ -1,6 +1,6 @@
 -- Lemmas about what specs/Cutting.antt defines.
 use Rattle.std.specs.Prelude.{◌≡◌, ◌≢◌, ℕ, zero, suc, ◌+◌, ◌-◌, ◌<◌, ◌≤◌, ◌==◌, ◌||◌, Bool, true, false, not, cond, nat_lt, List, [], ◌∷◌}
-use Rattle.std.specs.Prelude.{◌++◌, length, map, take, drop, Option, Some, None, slice_index, slice_index_or, refl}
+use Rattle.std.specs.Prelude.{◌++◌, length, map, take, drop, Some, None, slice_index, slice_index_or, refl}
 use Rattle.std.specs.List.{All, slice_split, onto_first, list_any, before_first, after_first, position, position_or_len}
 use Rattle.std.specs.Str.Lines.{strip_carriage_return}
 use Rattle.std.proofs.Common.{arith, ap, subst, sym, ◌∙◌, append-nil, length-append, get_or}
@@ -12,7 +12,6 @@ use Rattle.std.proofs.lemmas.List.Elements.{All-append}
 use Rattle.std.proofs.lemmas.List.Folds.{list_any-append}
 use Rattle.std.proofs.lemmas.List.Splits.{slice_split-cons_no, slice_split_none, slice_split_at, length-slice_split}
 use Rattle.limits.specs.Limits.{greatest_line_bytes}
-use Rattle.text_lines.specs.Parts.{parts_behind}
 use Rattle.text_lines.specs.Lines.{is_line_feed, without_empty_last, lines}
 use Rattle.text_lines.specs.Cutting.{without_last, last_part, ended_lines, begun_line, is_long, has_long_line, told_lines, BreaksOff}
 use Rattle.text_lines.proofs.Parts.{first_part, place_found, place_missed}

@@ -1,6 +1,6 @@
 -- The text of entries is that of the tensor that they stand for.
-use Rattle.std.specs.Prelude.{◌≡◌, ◌≢◌, ℕ, ◌^◌, ◌<◌, Bool, true, false, cond, not, nat_eq, List, [], ◌∷◌, ◌++◌, length, map, filter, All}
-use Rattle.std.specs.Prelude.{slice_index_or, refl, ◌↔◌}
+use Rattle.std.specs.Prelude.{◌≡◌, ℕ, Bool, true, false, cond, not, nat_eq, List, [], ◌∷◌, ◌++◌, length, filter, All}
+use Rattle.std.specs.Prelude.{slice_index_or, refl}
 use Rattle.std.specs.List.{flat_map}
 use Rattle.std.proofs.Common.{arith, ap, sym, ◌∙◌, inl, inr, subst}
 use Rattle.std.proofs.lemmas.List.Elements.{All-filter, All-tail}
@@ -11,7 +11,7 @@ use Rattle.tensor_map.specs.Laws.{AllNonzero}
 use Rattle.tensor_map.proofs.Lemmas.{increasing_filter, listed_nonzero, none_zero_filter, all_nonzero, value_nonzero, value_of_entry}
 use Rattle.tensor_map.proofs.Sorting.{kept_listed}
 use Rattle.tns_io.specs.Positions.{IsBelow}
-use Rattle.tns_io.specs.Text.{line_text, entry_text, entries_text, IsAmong, IsTnsText}
+use Rattle.tns_io.specs.Text.{line_text, entries_text, IsAmong, IsTnsText}
 
 among_listed : (entries : List Entry) (coords : List ℕ) → IsAmong (coords_of entries) coords → Listed entries coords
 among_listed [] coords among = among

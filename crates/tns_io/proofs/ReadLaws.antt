@@ -1,10 +1,10 @@
 -- The coordinates of what is read.
-use Rattle.std.specs.Prelude.{◌≡◌, ℕ, zero, suc, ◌+◌, ◌<◌, ◌≤◌, Bool, true, false, cond, ◌==◌, nat_lt, List, [], ◌∷◌, length, All, Option}
+use Rattle.std.specs.Prelude.{◌≡◌, ℕ, zero, suc, ◌+◌, ◌<◌, Bool, true, false, cond, ◌==◌, nat_lt, List, [], ◌∷◌, length, All, Option}
 use Rattle.std.specs.Prelude.{Some, None, Result, Ok, Err, slice_index_or, refl}
-use Rattle.std.proofs.Common.{arith, ap, subst, sym, ◌∙◌, inl, inr}
+use Rattle.std.proofs.Common.{arith, ap, subst, inl, inr}
 use Rattle.std.proofs.lemmas.Bool.{ltb-true}
 use Rattle.std.proofs.lemmas.List.Elements.{All-nil, All-cons, All-tail}
-use Rattle.limits.specs.Limits.{greatest_file_coordinate, greatest_position_count}
+use Rattle.limits.specs.Limits.{greatest_file_coordinate}
 use Rattle.limits.proofs.Limits.{file_coordinates_are_ranges}
 use Rattle.tensor_map.specs.declared.entries.Entry.{Entry}
 use Rattle.tensor_map.specs.Entries.{Listed, SameListed}

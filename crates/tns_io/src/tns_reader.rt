@@ -1,8 +1,6 @@
 // Reads `.tns` files piece by piece.
-ghost use Rattle.std.specs.Prelude.{◌≡◌, ◌≤◌, ◌++◌, [], false, true, IfErr, IfOk, IsErr, OnOk, OnErr, MatchResult};
+ghost use Rattle.std.specs.Prelude.{◌≡◌, ◌+◌, ◌≤◌, ◌++◌, [], false, true, min, IfErr, IfOk, IsErr, OnOk, OnErr, MatchResult};
 ghost use Rattle.limits.specs.Limits.{greatest_order};
-ghost use Rattle.std.specs.Prelude.{◌+◌, min, Bool};
-ghost use Rattle.tensor_map.specs.Entries.{Entries as Row};
 ghost use Rattle.tns_io.specs.ReadSoFar.{IsReadSoFar, FailsPiece, is_want};
 ghost use Rattle.tns_io.specs.TnsReader.{IsRead, Refuses, read_to};
 

@@ -8,7 +8,10 @@ pub returns-then-is_under-clause-told : goal.returns-then-is_under-clause-told
 unfolding hidden-the_row-Expr-0 hidden
 returns-then-is_under-clause-told t c = λ told.
     let P = AccessesUnder c.args.count in
-    subst P (sym c.in-Add.is) (subst P c.get.ensures (c.is_under.ensures.told c.if-is_under.true), subst P c.get-then-is_under.ensures (c.is_under-then-is_under.ensures.told told))
+    subst P (sym c.in-Add.is) (
+      subst P c.get.ensures (c.is_under.ensures.told c.if-is_under.true),
+      subst P c.get-then-is_under.ensures (c.is_under-then-is_under.ensures.told told),
+    )
 
 pub returns-then-is_under-clause-found : goal.returns-then-is_under-clause-found
 unfolding hidden-the_row-Expr-0 hidden
@@ -26,7 +29,10 @@ pub returns-then-is_under-2-clause-told : goal.returns-then-is_under-2-clause-to
 unfolding hidden-the_row-Expr-0 hidden
 returns-then-is_under-2-clause-told t c = λ told.
     let P = AccessesUnder c.args.count in
-    subst P (sym c.in-Sub.is) (subst P c.get-in-Sub.ensures (c.is_under-in-Sub.ensures.told c.if-is_under-2.true), subst P c.get-then-is_under-2.ensures (c.is_under-then-is_under-2.ensures.told told))
+    subst P (sym c.in-Sub.is) (
+      subst P c.get-in-Sub.ensures (c.is_under-in-Sub.ensures.told c.if-is_under-2.true),
+      subst P c.get-then-is_under-2.ensures (c.is_under-then-is_under-2.ensures.told told),
+    )
 
 pub returns-then-is_under-2-clause-found : goal.returns-then-is_under-2-clause-found
 unfolding hidden-the_row-Expr-0 hidden
@@ -44,7 +50,10 @@ pub returns-then-is_under-3-clause-told : goal.returns-then-is_under-3-clause-to
 unfolding hidden-the_row-Expr-0 hidden
 returns-then-is_under-3-clause-told t c = λ told.
     let P = AccessesUnder c.args.count in
-    subst P (sym c.in-Mul.is) (subst P c.get-in-Mul.ensures (c.is_under-in-Mul.ensures.told c.if-is_under-3.true), subst P c.get-then-is_under-3.ensures (c.is_under-then-is_under-3.ensures.told told))
+    subst P (sym c.in-Mul.is) (
+      subst P c.get-in-Mul.ensures (c.is_under-in-Mul.ensures.told c.if-is_under-3.true),
+      subst P c.get-then-is_under-3.ensures (c.is_under-then-is_under-3.ensures.told told),
+    )
 
 pub returns-then-is_under-3-clause-found : goal.returns-then-is_under-3-clause-found
 unfolding hidden-the_row-Expr-0 hidden

@@ -4,7 +4,12 @@ use Rattle.text_lines.specs.LineReader.{Finishes}
 use Rattle.text_lines.specs.declared.step.Step.{Step}
 use Rattle.text_lines.proofs.CuttingLaws.{told_line_short}
 use Rattle.mtx_io.specs.Progress.{Follows}
-use Rattle.mtx_io.proofs.ReaderLaws.{bad_at_end, more_at_end, line_at_end}
+use Rattle.std.proofs.Common.{◌≡◌, ◌∷◌, [], false}
+use Rattle.mtx_io.specs.Matrix.{is_skipped}
+use Rattle.mtx_io.specs.MtxReader.{EndsEntry}
+use Rattle.mtx_io.specs.Reader.{IsReadSoFar, TellsEntry}
+use Rattle.mtx_io.proofs.EndedEntries.{entry_ends, on_err}
+use Rattle.mtx_io.proofs.ReaderLaws.{reads_on, bad_at_end, more_at_end, line_at_end}
 use Rattle.mtx_io.proofs.pieces.take_end.Goals as goal
 
 pub returns-then-is_bad-clause-read : goal.returns-then-is_bad-clause-read
@@ -39,3 +44,20 @@ returns-in_ok-after-in-Line-clause-read g c = λ fed read.
     line_at_end a has_minus order fed c.args.lines.now c.finish.new.self c.args.entries.now.list entries' c.args.stage
     c.in_ok-after-in-Line.after c.number-number.result
     (sym c.is_bad.ensures ∙ c.if-is_bad.false) ends.0.told ends.2 c.number-number.ensures follows read
+
+pub returns-in_err-after-in-Line-clause-ended : goal.returns-in_err-after-in-Line-clause-ended
+returns-in_err-after-in-Line-clause-ended g c =
+    let a = g.S.Semiring.arithmetic in
+    let has_minus = g.S.Semiring.has_minus in
+    let order = c.args.entries.now.order in
+    let old = c.args.lines.now in
+    let new = c.finish.new.self in
+    let entries = c.args.entries.now.list in
+    let ended : (fed : List ℕ) → IsReadSoFar a has_minus order fed old.text entries c.args.stage
+    → EndsEntry a has_minus order fed (10 ∷ []) = λ fed read.
+    let on = reads_on a has_minus order fed old.text entries c.args.stage (sym c.is_bad.ensures ∙ c.if-is_bad.false) read in
+    let ends = subst (λ (s : Step). Finishes old new s) c.in-Line.is c.finish.ensures in
+    let here : is_skipped new.line ≡ false = ap is_skipped (sym c.line.ensures) ∙ c.in_err-after-in-Line.ensures.kept in
+    let entry = subst (λ (line : List ℕ). TellsEntry c.args.stage line) c.line.ensures c.in_err-after-in-Line.ensures.tells in
+    entry_ends a has_minus order fed old new (10 ∷ []) entries c.args.stage ends.1 ends.0 on here entry in
+    on_err _ _ ended

@@ -2,7 +2,8 @@ use Rattle.std.proofs.Common.{◌≡◌, ℕ, List, [], ◌++◌, take, drop, le
 use Rattle.std.proofs.lemmas.Bool.{eqb-true}
 use Rattle.std.proofs.lemmas.List.{take-append-drop}
 use Rattle.mtx_io.specs.Progress.{IsStage}
-use Rattle.mtx_io.specs.Reader.{EndsEntry, IsRead}
+use Rattle.mtx_io.specs.MtxReader.{EndsEntry}
+use Rattle.mtx_io.specs.Reader.{IsReadSoFar}
 use Rattle.mtx_io.proofs.EndedEntries.{ends_behind, on_err}
 use Rattle.mtx_io.proofs.ReaderLaws.{bad_passes}
 use Rattle.mtx_io.proofs.pieces.take_piece.Goals as goal
@@ -16,7 +17,7 @@ returns-then-is_bad-clause-read g c = λ fed read.
     let rest = c.loop-rest.rest.now in
     let text = c.loop-rest.lines.text in
     let entries = c.loop-rest.entries.list in
-    subst (λ (all : List ℕ). IsRead a has_minus order all text entries c.loop-rest.stage)
+    subst (λ (all : List ℕ). IsReadSoFar a has_minus order all text entries c.loop-rest.stage)
     (append_assoc fed taken rest ∙ ap (λ (piece : List ℕ). fed ++ piece) (sym c.loop-rest.invariant.read.1))
     (bad_passes a has_minus order (fed ++ taken) rest text text entries entries c.loop-rest.stage
     (sym c.is_bad.ensures ∙ c.if-is_bad.true) (c.loop-rest.invariant.read.2 fed read))
@@ -29,8 +30,9 @@ loop-rest-preserved g c =
     let taken = c.loop-rest.invariant.read.0 in
     let rest = c.loop-rest.rest.now in
     let n = c.in_ok-n.n in
-    let step = subst (λ (k : ℕ). (fed : List ℕ) → IsRead a has_minus k fed c.loop-rest.lines.text c.loop-rest.entries.list c.loop-rest.stage
-    → IsRead a has_minus k (fed ++ take n rest) c.take_step.new.lines.text c.take_step.new.entries.list c.in_ok-n.after)
+    let step = subst (λ (k : ℕ). (fed : List ℕ)
+    → IsReadSoFar a has_minus k fed c.loop-rest.lines.text c.loop-rest.entries.list c.loop-rest.stage
+    → IsReadSoFar a has_minus k (fed ++ take n rest) c.take_step.new.lines.text c.take_step.new.entries.list c.in_ok-n.after)
     c.loop-rest.invariant.order c.in_ok-n.ensures.read in
     record {
       order = c.in_ok-n.ensures.order ∙ c.loop-rest.invariant.order;
@@ -41,7 +43,7 @@ loop-rest-preserved g c =
         c.loop-rest.invariant.read.1 ∙ ap (λ (back : List ℕ). taken ++ back) (sym (take-append-drop n rest))
             ∙ sym (append_assoc taken (take n rest) (drop n rest))
             ∙ ap (λ (back : List ℕ). (taken ++ take n rest) ++ back) (sym c.split_at.ensures.back),
-        λ fed read. subst (λ (all : List ℕ). IsRead a has_minus order all c.take_step.new.lines.text c.take_step.new.entries.list
+        λ fed read. subst (λ (all : List ℕ). IsReadSoFar a has_minus order all c.take_step.new.lines.text c.take_step.new.entries.list
             c.in_ok-n.after) (append_assoc fed taken (take n rest)) (step (fed ++ taken) (c.loop-rest.invariant.read.2 fed read)),
       );
     }
@@ -59,7 +61,7 @@ returns-clause-read g c = λ fed read.
     let none = nothing_left rest (eqb-true (length rest) 0 (sym c.is_empty.ensures ∙ c.loop-rest-test.false)) in
     let whole : taken ≡ c.args.piece.now =
     sym (c.loop-rest.invariant.read.1 ∙ ap (λ (back : List ℕ). taken ++ back) none ∙ append-nil taken) in
-    subst (λ (all : List ℕ). IsRead a has_minus c.args.entries.now.order (fed ++ all) c.loop-rest.lines.text c.loop-rest.entries.list
+    subst (λ (all : List ℕ). IsReadSoFar a has_minus c.args.entries.now.order (fed ++ all) c.loop-rest.lines.text c.loop-rest.entries.list
     c.loop-rest.stage) whole
     (c.loop-rest.invariant.read.2 fed read)
 
@@ -72,10 +74,12 @@ returns-in_err-n-clause-ended g c =
     let rest = c.loop-rest.rest.now in
     let text = c.loop-rest.lines.text in
     let entries = c.loop-rest.entries.list in
-    let ended : (fed : List ℕ) → IsRead a has_minus order fed c.args.lines.now.text c.args.entries.now.list c.args.stage
-    → EndsEntry fed c.args.piece.now = λ fed read.
-    let so_far = subst (λ (k : ℕ). IsRead a has_minus k (fed ++ taken) text entries c.loop-rest.stage) (sym c.loop-rest.invariant.order)
-    (c.loop-rest.invariant.read.2 fed read) in
-    let ends = ends_behind fed taken rest (c.in_err-n.ensures.ended (fed ++ taken) so_far) in
-    subst (λ (all : List ℕ). EndsEntry fed all) (sym c.loop-rest.invariant.read.1) ends in
+    let stage = c.loop-rest.stage in
+    let ended : (fed : List ℕ) → IsReadSoFar a has_minus order fed c.args.lines.now.text c.args.entries.now.list c.args.stage
+    → EndsEntry a has_minus order fed c.args.piece.now = λ fed read.
+    let step = subst (λ (k : ℕ). IsReadSoFar a has_minus k (fed ++ taken) text entries stage
+    → EndsEntry a has_minus k (fed ++ taken) rest)
+    c.loop-rest.invariant.order (c.in_err-n.ensures.ended (fed ++ taken)) in
+    let ends = ends_behind a has_minus order fed taken rest (step (c.loop-rest.invariant.read.2 fed read)) in
+    subst (λ (all : List ℕ). EndsEntry a has_minus order fed all) (sym c.loop-rest.invariant.read.1) ends in
     on_err _ _ ended

@@ -1,13 +1,14 @@
 use Rattle.std.proofs.Common.{◌+◌, List, ℕ, subst, ap, sym, ◌∙◌, ◌++◌, ◌∷◌, [], take, drop, false, ◌≡◌}
 use Rattle.std.proofs.lemmas.List.{take-append-drop}
 use Rattle.mtx_io.specs.Matrix.{is_skipped}
-use Rattle.mtx_io.proofs.EndedEntries.{entry_ends, ends_in_more, known_of, on_err}
+use Rattle.mtx_io.proofs.EndedEntries.{entry_ends, ends_in_more, on_err}
+use Rattle.mtx_io.specs.MtxReader.{EndsEntry}
 use Rattle.text_lines.specs.Cutting.{is_long, told_lines}
 use Rattle.text_lines.specs.LineReader.{Feeds, TellsLine}
 use Rattle.text_lines.specs.declared.step.Step.{Step}
 use Rattle.text_lines.proofs.CuttingLaws.{told_line_short}
 use Rattle.mtx_io.specs.Progress.{counted, Follows}
-use Rattle.mtx_io.specs.Reader.{EndsEntry, IsKnown, IsRead}
+use Rattle.mtx_io.specs.Reader.{IsKnown, IsReadSoFar, TellsEntry}
 use Rattle.mtx_io.specs.declared.stage.Stage.{Stage}
 use Rattle.mtx_io.proofs.ReaderLaws.{reads_on, line_read, long_read, counts_behind}
 use Rattle.mtx_io.proofs.pieces.take_step.Goals as goal
@@ -25,7 +26,7 @@ returns-in-LongLine-clause-read g c = λ fed read.
     let a = g.S.Semiring.arithmetic in
     let long = subst (λ (s : Step). Feeds c.args.lines.now c.feed-n.new.self c.args.piece.now c.feed-n.result.0 s) c.in-LongLine.is
     c.feed-n.ensures.step in
-    subst (λ (s : Stage). IsRead a g.S.Semiring.has_minus c.args.entries.now.order (fed ++ take c.feed-n.result.0 c.args.piece.now)
+    subst (λ (s : Stage). IsReadSoFar a g.S.Semiring.has_minus c.args.entries.now.order (fed ++ take c.feed-n.result.0 c.args.piece.now)
     c.feed-n.new.self.text c.args.entries.now.list s) (sym c.long_line_behind.ensures)
     (long_read a g.S.Semiring.has_minus c.args.entries.now.order fed c.args.lines.now c.feed-n.new.self _ c.args.entries.now.list
     c.args.stage (counted (c.number.result + 1))
@@ -61,12 +62,13 @@ returns-in_err-after-in-Line-clause-ended g c =
     let n = c.feed-n.result.0 in
     let piece = c.args.piece.now in
     let entries = c.args.entries.now.list in
-    let ended : (fed : List ℕ) → IsRead a has_minus order fed old.text entries c.args.stage → EndsEntry fed piece = λ fed read.
+    let ended : (fed : List ℕ) → IsReadSoFar a has_minus order fed old.text entries c.args.stage
+    → EndsEntry a has_minus order fed piece = λ fed read.
     let on = reads_on a has_minus order fed old.text entries c.args.stage c.requires.good read in
     let tells : TellsLine old new = subst (λ (s : Step). Feeds old new piece n s) c.in-Line.is c.feed-n.ensures.step in
-    let known = known_of c.args.stage (told_lines old.text) c.in_err-after-in-Line.ensures.sized on.3 in
     let here : is_skipped new.line ≡ false = ap is_skipped (sym c.line.ensures) ∙ c.in_err-after-in-Line.ensures.kept in
-    let ends = entry_ends old new (take n piece) c.feed-n.ensures.text tells on.1 known.0 known.1 here in
-    let so = subst (λ (text : List ℕ). EndsEntry text (take n piece)) on.0 ends in
-    subst (λ (all : List ℕ). EndsEntry fed all) (take-append-drop n piece) (ends_in_more fed (take n piece) (drop n piece) so) in
+    let entry = subst (λ (line : List ℕ). TellsEntry c.args.stage line) c.line.ensures c.in_err-after-in-Line.ensures.tells in
+    let ends = entry_ends a has_minus order fed old new (take n piece) entries c.args.stage c.feed-n.ensures.text tells on here entry in
+    subst (λ (all : List ℕ). EndsEntry a has_minus order fed all) (take-append-drop n piece)
+    (ends_in_more a has_minus order fed (take n piece) (drop n piece) ends) in
     on_err _ _ ended

@@ -3,7 +3,7 @@ use Rattle.std.specs.Prelude.{filter, drop, slice_index_or}
 use Rattle.tensor_map.specs.Entries.{is_nonzero}
 use Rattle.tensor_map.specs.declared.entries.Entry.{Entry}
 use Rattle.mtx_io.specs.Text.{entries_text}
-use Rattle.mtx_io.proofs.PrintedPieces.{more_so_far, rest_told, then_rest, refused}
+use Rattle.text_lines.proofs.PutPieces.{more_so_far, rest_told, then_rest, refused}
 use Rattle.mtx_io.proofs.WrittenEntries.{left_is}
 use Rattle.mtx_io.proofs.printing.put_entries.Goals as goal
 

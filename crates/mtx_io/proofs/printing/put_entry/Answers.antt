@@ -1,4 +1,4 @@
-use Rattle.mtx_io.proofs.PrintedPieces.{then_printed, refused}
+use Rattle.text_lines.proofs.PutPieces.{then_printed, refused}
 use Rattle.mtx_io.proofs.printing.put_entry.Goals as goal
 
 pub returns-in_err-put_spaced : goal.returns-in_err-put_spaced

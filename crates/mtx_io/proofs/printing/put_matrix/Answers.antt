@@ -3,7 +3,7 @@ use Rattle.std.specs.Prelude.{filter}
 use Rattle.std.specs.Fmt.{decimal}
 use Rattle.tensor_map.specs.Entries.{is_nonzero}
 use Rattle.mtx_io.specs.Text.{banner_text, rows_of, columns_of, line_of, size_text, entries_text}
-use Rattle.mtx_io.proofs.PrintedPieces.{then_printed, refused, retold}
+use Rattle.text_lines.proofs.PutPieces.{then_printed, refused, retold}
 use Rattle.mtx_io.proofs.WrittenEntries.{below_small}
 use Rattle.mtx_io.proofs.printing.put_matrix.Goals as goal
 

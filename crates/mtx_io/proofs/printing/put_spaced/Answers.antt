@@ -1,4 +1,4 @@
-use Rattle.mtx_io.proofs.PrintedPieces.{printed, then_printed, refused}
+use Rattle.text_lines.proofs.PutPieces.{printed, then_printed, refused}
 use Rattle.mtx_io.proofs.printing.put_spaced.Goals as goal
 
 pub returns-in_err-put_u64 : goal.returns-in_err-put_u64

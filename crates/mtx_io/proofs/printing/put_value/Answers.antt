@@ -3,7 +3,7 @@ use Rattle.std.specs.Prelude.{codes}
 use Rattle.std.specs.Fmt.{signed_decimal}
 use Rattle.std.proofs.lemmas.Int.{to_z-of_z}
 use mir.Val.{SFits}
-use Rattle.mtx_io.proofs.PrintedPieces.{printed, then_printed, refused, retold}
+use Rattle.text_lines.proofs.PutPieces.{printed, then_printed, refused, retold}
 use Rattle.mtx_io.proofs.printing.put_value.Goals as goal
 
 pub returns-in_err-put_i64 : goal.returns-in_err-put_i64

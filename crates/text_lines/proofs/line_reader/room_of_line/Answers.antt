@@ -1,4 +1,4 @@
-use Rattle.std.proofs.Common.{◌<◌, ◌+◌, ◌^◌, arith}
+use Rattle.std.proofs.Common.{arith}
 use Rattle.limits.proofs.Limits.{lines_are_small}
 use Rattle.text_lines.proofs.line_reader.room_of_line.Goals as goal
 

@@ -1,4 +1,3 @@
-use Rattle.std.proofs.Common.{sym, ◌∙◌}
 use Rattle.text_lines.proofs.CuttingLaws.{run_alone}
 use Rattle.text_lines.proofs.line_reader.LineReader.feed.Goals as goal
 

@@ -1,5 +1,5 @@
-use Rattle.std.specs.Prelude.{◌≡◌, true, List, ℕ}
-use Rattle.std.proofs.Common.{arith, ap, sym, ◌∙◌}
+use Rattle.std.specs.Prelude.{◌≡◌, true}
+use Rattle.std.proofs.Common.{ap, sym, ◌∙◌}
 use Rattle.text_lines.specs.Buffered.{count_of}
 use Rattle.text_lines.specs.Cutting.{has_long_line, told_lines}
 use Rattle.text_lines.proofs.CuttingLaws.{long_stays}

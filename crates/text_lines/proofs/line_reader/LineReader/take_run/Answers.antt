@@ -1,4 +1,4 @@
-use Rattle.std.specs.Prelude.{◌≡◌, ℕ, false, true, not, List, ◌++◌}
+use Rattle.std.specs.Prelude.{◌≡◌, ℕ, true, not, List, ◌++◌}
 use Rattle.std.specs.Str.Lines.{strip_carriage_return}
 use Rattle.std.proofs.Common.{arith, ap, sym, ◌∙◌}
 use Rattle.text_lines.specs.Buffered.{count_of}

@@ -1,0 +1,99 @@
+-- What one file that was fed whole stands for.
+use Rattle.std.proofs.Common.{◌≡◌, ℕ, Bool, true, false, List, [], ◌∷◌, ◌++◌, Result, Ok, Err, IfOk, IfErr, refl, sym, ap, ◌∙◌, subst, inr, append-nil}
+use Rattle.std.specs.Prelude.{Vec, if◌then◌else◌}
+use Rattle.std.specs.declared.alloc.Global.{Global}
+use Rattle.numbers.specs.Arithmetic.{Arithmetic}
+use Rattle.outside.specs.Folder.{FolderState}
+use Rattle.outside.specs.Told.{Told, Untold, NoFile, Bytes}
+use Rattle.tensor_map.specs.Entries.{Entries}
+use Rattle.expr_terms.specs.declared.bound.Bound.{Bound}
+use Rattle.bindings.specs.Words.{is_mtx}
+use Rattle.tns_io.specs.Reading.{entries_of_text}
+use Rattle.mtx_io.specs.Matrix.{BadLine, Matrix, matrix_of_text}
+use Rattle.mtx_io.specs.Progress.{counted, told}
+use Rattle.mtx_io.specs.declared.line_kind.LineKind.{LineKind}
+use Rattle.operand_files.specs.Decoded.{Operand, of_entries, of_matrix, operand_of}
+use Rattle.operand_files.specs.Reads.{Meaning, IsToldText, IsFront, IsWholeFile, CountsNothing, HasBadLine, ReadsOperand, FeedsFile, FileRefused, DecodesTo, MayOpen}
+use Rattle.operand_files.specs.declared.fault.OperandFault.{OperandFault}
+use Rattle.operand_files.specs.declared.fault.OperandFault.TheVariants.{ReadFault, FileBytes, BadFile, Memory}
+
+-- a matrix's first bad line, as it is counted
+pub told_bad : (order : ℕ) (what : Result Matrix BadLine) (line : ℕ) (kind : LineKind) → told what ≡ Err (record { number = line; kind = kind }) → HasBadLine (of_matrix order what) line kind
+told_bad order (Ok matrix) line kind e = absurd (cc)
+told_bad order (Err bad) line kind e =
+    let one : BadLine = record { number = counted bad.number; kind = bad.kind } in
+    let other : BadLine = record { number = line; kind = kind } in
+    let same : one ≡ other = cc in
+    let kinds : bad.kind ≡ kind = ap (λ (b : BadLine). b.kind) same in
+    record { number = bad.number; line_is = sym (ap (λ (b : BadLine). b.number) same); bad = λ i. Err (record { number = bad.number; kind = kinds i }) }
+
+whole_is_front : (told : Told) (bytes : List ℕ) → IsToldText told bytes → IsFront told bytes
+whole_is_front Untold bytes is = tt
+whole_is_front NoFile bytes is = tt
+whole_is_front (Bytes text) bytes is = ([], is ∙ sym (append-nil bytes))
+
+-- a file that was read whole is an operand, or is refused
+pub file_read : (means : Meaning) (order : ℕ) (path bytes : List ℕ) (old new : FolderState) (result : Result (Entries × Vec Bound Global) OperandFault)
+    → new.given ≡ old.given ++ (path, bytes) ∷ [] → IsWholeFile (old.holds path) bytes → CountsNothing old new → DecodesTo (means order path bytes) path result
+    → IfOk result (λ operand. ReadsOperand means order path old new (record { entries = operand.0; bounds = operand.1.items }))
+    × IfErr result (FileRefused means order path old new)
+file_read means order path bytes old new (Ok operand) given whole quiet decodes =
+    (record { bytes = bytes; given_is = given; operand_is = record { whole = whole; stands_for = decodes }; quiet = quiet }, tt)
+file_read means order path bytes old new (Err (ReadFault at)) given whole quiet decodes = absurd decodes
+file_read means order path bytes old new (Err (FileBytes at)) given whole quiet decodes = absurd decodes
+file_read means order path bytes old new (Err (BadFile at line kind)) given whole quiet decodes =
+    (tt, (decodes.0, record { bytes = bytes; given_is = given; whole = whole; bad = decodes.1; quiet = quiet }))
+file_read means order path bytes old new (Err Memory) given whole quiet decodes =
+    let may : MayOpen path old new = record { last = (path, bytes) ∷ []; given_is = given; last_is = inr (bytes, refl, whole_is_front (old.holds path) bytes whole.told_text) } in
+    (tt, (may, record { read_faults_are = quiet.read_faults_are; faulted_is = quiet.faulted_is }))
+
+pub of_matrix_path : (a : Arithmetic) (has_minus : Bool) (order : ℕ) (path bytes : List ℕ) → is_mtx path ≡ true
+    → of_matrix order (matrix_of_text a has_minus order bytes) ≡ operand_of a has_minus order path bytes
+unfolding operand_of
+of_matrix_path a has_minus order path bytes e =
+    sym (ap (λ (b : Bool). if b then of_matrix order (matrix_of_text a has_minus order bytes) else of_entries order (entries_of_text order bytes)) e)
+
+pub of_entries_path : (a : Arithmetic) (has_minus : Bool) (order : ℕ) (path bytes : List ℕ) → is_mtx path ≡ false
+    → of_entries order (entries_of_text order bytes) ≡ operand_of a has_minus order path bytes
+unfolding operand_of
+of_entries_path a has_minus order path bytes e =
+    sym (ap (λ (b : Bool). if b then of_matrix order (matrix_of_text a has_minus order bytes) else of_entries order (entries_of_text order bytes)) e)
+
+-- what a reader was fed that knew its order
+record IsFed (order : ℕ) (bytes : List ℕ) (order' : ℕ) (text' : List ℕ) : Type 0 where
+  same_order : order' ≡ order
+  same_text : text' ≡ bytes
+
+fed : (order first : ℕ) (text bytes : List ℕ) (order' : ℕ) (text' : List ℕ) → first ≡ order → text ≡ [] → order' ∷ text' ≡ (first ∷ text) ++ bytes → IsFed order bytes order' text'
+fed order first text bytes order' text' o t e =
+    let all : order' ∷ text' ≡ order ∷ bytes = e ∙ ap (λ n. n ∷ (text ++ bytes)) o ∙ ap (λ w. order ∷ (w ++ bytes)) t in
+    record { same_order = cc; same_text = cc }
+
+-- the answer for a reader that was fed a file
+answer_of_fed : (means : Meaning) (meaning : ℕ → List ℕ → Result Operand BadLine) (order : ℕ) (path : List ℕ) (old new : FolderState) (first : ℕ) (text : List ℕ) (order' : ℕ) (text' : List ℕ)
+    (result : Result (Entries × Vec Bound Global) OperandFault) → ((bytes : List ℕ) → meaning order bytes ≡ means order path bytes)
+    → first ≡ order → text ≡ [] → FeedsFile path old new (first ∷ text) (order' ∷ text') → DecodesTo (meaning order' text') path result
+    → IfOk result (λ operand. ReadsOperand means order path old new (record { entries = operand.0; bounds = operand.1.items }))
+    × IfErr result (FileRefused means order path old new)
+answer_of_fed means meaning order path old new first text order' text' result same o t feeds decodes =
+    let is : IsFed order feeds.bytes order' text' = fed order first text feeds.bytes order' text' o t feeds.eaten_is in
+    let what : meaning order' text' ≡ means order path feeds.bytes = ap (λ n. meaning n text') is.same_order ∙ ap (λ w. meaning order w) is.same_text ∙ same feeds.bytes in
+    file_read means order path feeds.bytes old new result feeds.given_is feeds.whole feeds.quiet (subst (λ w. DecodesTo w path result) what decodes)
+
+pub matrix_read : (a : Arithmetic) (has_minus : Bool) (order : ℕ) (path : List ℕ) (old new : FolderState) (first : ℕ) (text : List ℕ) (order' : ℕ) (text' : List ℕ)
+    (result : Result (Entries × Vec Bound Global) OperandFault) → is_mtx path ≡ true → first ≡ order → text ≡ [] → FeedsFile path old new (first ∷ text) (order' ∷ text')
+    → DecodesTo (of_matrix order' (matrix_of_text a has_minus order' text')) path result
+    → IfOk result (λ operand. ReadsOperand (operand_of a has_minus) order path old new (record { entries = operand.0; bounds = operand.1.items }))
+    × IfErr result (FileRefused (operand_of a has_minus) order path old new)
+matrix_read a has_minus order path old new first text order' text' result ending =
+    answer_of_fed (operand_of a has_minus) (λ n w. of_matrix n (matrix_of_text a has_minus n w)) order path old new first text order' text' result
+    (λ bytes. of_matrix_path a has_minus order path bytes ending)
+
+pub entries_read : (a : Arithmetic) (has_minus : Bool) (order : ℕ) (path : List ℕ) (old new : FolderState) (first : ℕ) (text : List ℕ) (order' : ℕ) (text' : List ℕ)
+    (result : Result (Entries × Vec Bound Global) OperandFault) → is_mtx path ≡ false → first ≡ order → text ≡ [] → FeedsFile path old new (first ∷ text) (order' ∷ text')
+    → DecodesTo (of_entries order' (entries_of_text order' text')) path result
+    → IfOk result (λ operand. ReadsOperand (operand_of a has_minus) order path old new (record { entries = operand.0; bounds = operand.1.items }))
+    × IfErr result (FileRefused (operand_of a has_minus) order path old new)
+entries_read a has_minus order path old new first text order' text' result ending =
+    answer_of_fed (operand_of a has_minus) (λ n w. of_entries n (entries_of_text n w)) order path old new first text order' text' result
+    (λ bytes. of_entries_path a has_minus order path bytes ending)

@@ -1,0 +1,156 @@
+// The operands of a statement, each from its file.
+ghost use Rattle.std.specs.Prelude.{◌≡◌, false, true, ◌++◌, [], ◌∷◌, length, map, IfOk, IfErr, OnOk};
+ghost use Rattle.bindings.specs.Words.{is_mtx};
+ghost use Rattle.operand_files.specs.Decoded.{IsReadable, AreReadable, operand_of};
+ghost use Rattle.operand_files.specs.Reads.{OnlyReads, ReadsOperand, FileRefused, HaveRead, IsRefused};
+
+use crate::decoding::{decode_entries, decode_matrix};
+use crate::fault::OperandFault;
+use crate::feeding::feed_file;
+use crate::matrix_file::matrix_file;
+use expr_terms::Bound;
+use numbers::Semiring;
+use outside::Folder;
+use std::alloc::{AllocError, Global};
+use tensor_map::Entries;
+use tns_io::TnsReader;
+
+/// Operands in a row.
+#[derive(Drop)]
+pub struct Operands {
+    /// The entries of each, as its file lists them.
+    pub entries: Vec<Entries>,
+    /// What each mode of each gives for the range of a variable.
+    pub bounds: Vec<Vec<Bound>>,
+}
+
+impl Operands {
+    /// No operands. It takes no memory.
+    fn new(alloc: Global) -> Operands
+        ensures entries { result.entries.items ≡ [] }
+        ensures bounds { result.bounds.items ≡ [] }
+    {
+        Operands {
+            entries: Vec::new(alloc),
+            bounds: Vec::new(alloc),
+        }
+    }
+
+    /// Appends an operand.
+    fn push(&mut self, entries: Entries, bounds: Vec<Bound>) -> Result<(), AllocError>
+        ensures entries { OnOk result (self.new.entries.items ≡ self.old.entries.items ++ entries ∷ []) }
+        ensures bounds { OnOk result (self.new.bounds.items ≡ self.old.bounds.items ++ bounds ∷ []) }
+    {
+        self.entries.push(entries)?;
+        self.bounds.push(bounds)?;
+        Ok(())
+    }
+}
+
+/// Whether a path ends in `.mtx`.
+fn is_matrix(path: &str) -> bool
+    ensures { result ≡ is_mtx path.now }
+{
+    path.as_bytes().ends_with(b".mtx")
+}
+
+/// Reads the file of an operand of this order to its end, as a `.tns` file.
+fn read_entries<'a, F: Folder, S: Semiring>(
+    alloc: Global,
+    files: &mut F,
+    path: &'a str,
+    order: usize,
+) -> Result<(Entries, Vec<Bound>), OperandFault<'a>>
+    requires readable { IsReadable order path.now }
+    requires ending { is_mtx path.now ≡ false }
+    ensures only_reads { OnlyReads (F.state files.old) (F.state files.new) }
+    ensures operand { IfOk result (λ operand. ReadsOperand (operand_of S.arithmetic S.has_minus) order path.now
+        (F.state files.old) (F.state files.new) (record { entries = operand.0; bounds = operand.1.items })) }
+    ensures refused { IfErr result (FileRefused (operand_of S.arithmetic S.has_minus) order path.now
+        (F.state files.old) (F.state files.new)) }
+{
+    let mut reader = TnsReader::new(alloc, order)?;
+    match feed_file(files, path, &mut reader) {
+        Ok(()) => decode_entries(alloc, reader, path),
+        Err(fault) => Err(fault),
+    }
+}
+
+/// Reads the file of an operand of this order to its end, as a Matrix Market file.
+fn read_matrix<'a, F: Folder, S: Semiring>(
+    alloc: Global,
+    files: &mut F,
+    path: &'a str,
+    order: usize,
+) -> Result<(Entries, Vec<Bound>), OperandFault<'a>>
+    requires readable { IsReadable order path.now }
+    requires ending { is_mtx path.now ≡ true }
+    ensures only_reads { OnlyReads (F.state files.old) (F.state files.new) }
+    ensures operand { IfOk result (λ operand. ReadsOperand (operand_of S.arithmetic S.has_minus) order path.now
+        (F.state files.old) (F.state files.new) (record { entries = operand.0; bounds = operand.1.items })) }
+    ensures refused { IfErr result (FileRefused (operand_of S.arithmetic S.has_minus) order path.now
+        (F.state files.old) (F.state files.new)) }
+{
+    let mut file = matrix_file::<S>(alloc, order)?;
+    match feed_file(files, path, &mut file) {
+        Ok(()) => decode_matrix(alloc, file, path),
+        Err(fault) => Err(fault),
+    }
+}
+
+/// Reads the file of an operand of this order to its end, and then its lines.
+fn read_file<'a, F: Folder, S: Semiring>(
+    alloc: Global,
+    files: &mut F,
+    path: &'a str,
+    order: usize,
+) -> Result<(Entries, Vec<Bound>), OperandFault<'a>>
+    requires { IsReadable order path.now }
+    ensures only_reads { OnlyReads (F.state files.old) (F.state files.new) }
+    ensures operand { IfOk result (λ operand. ReadsOperand (operand_of S.arithmetic S.has_minus) order path.now
+        (F.state files.old) (F.state files.new) (record { entries = operand.0; bounds = operand.1.items })) }
+    ensures refused { IfErr result (FileRefused (operand_of S.arithmetic S.has_minus) order path.now
+        (F.state files.old) (F.state files.new)) }
+{
+    if is_matrix(path) {
+        read_matrix::<F, S>(alloc, files, path, order)
+    } else {
+        read_entries::<F, S>(alloc, files, path, order)
+    }
+}
+
+/// Reads the operands of a statement, in order: `orders` and `paths` have one for each. A file is read once for each operand,
+/// also where two share a path, to its end, and before the next is opened. A path that ends in `.mtx` is a matrix, of order 1
+/// or 2, and gives the sizes of its modes; any other is read as a `.tns` file, and gives the greatest coordinates.
+///
+/// The first file that isn't good is refused, and none is opened behind it. Of one file a read fault or too many bytes come
+/// before a bad line. Memory may be wanted at any growth.
+pub fn read_operands<'a, F: Folder, S: Semiring>(
+    alloc: Global,
+    files: &mut F,
+    orders: &[usize],
+    paths: &[&'a str],
+) -> Result<Operands, OperandFault<'a>>
+    requires { AreReadable orders.now (map (λ path. path.now) paths.now) }
+
+    // All that belongs to writing is as before, every file among it.
+    ensures only_reads { OnlyReads (F.state files.old) (F.state files.new) }
+
+    // The files opened are those of the paths, in order; each operand is what reads gave of its file.
+    ensures operands { IfOk result (λ operands. HaveRead (operand_of S.arithmetic S.has_minus) (F.state files.old) (F.state files.new)
+        orders.now (map (λ path. path.now) paths.now) (length paths.now)
+        operands.entries.items (map (λ bounds. bounds.items) operands.bounds.items)) }
+
+    // The files before the refused one are good, and why it is refused.
+    ensures refused { IfErr result (IsRefused (operand_of S.arithmetic S.has_minus) (F.state files.old) (F.state files.new)
+        orders.now (map (λ path. path.now) paths.now)) }
+{
+    let mut operands = Operands::new(alloc);
+    for (n, path) in paths.iter().enumerate() {
+        match read_file::<F, S>(alloc, files, *path, orders[n]) {
+            Ok((entries, bounds)) => operands.push(entries, bounds)?,
+            Err(fault) => return Err(fault),
+        }
+    }
+    Ok(operands)
+}
