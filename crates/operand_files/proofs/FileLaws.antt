@@ -11,7 +11,7 @@ use Rattle.expr_terms.specs.declared.bound.Bound.{Bound}
 use Rattle.bindings.specs.Words.{is_mtx}
 use Rattle.tns_io.specs.Reading.{entries_of_text}
 use Rattle.mtx_io.specs.Matrix.{BadLine, Matrix, matrix_of_text}
-use Rattle.mtx_io.specs.Progress.{counted, told}
+use Rattle.mtx_io.specs.Progress.{counted}
 use Rattle.mtx_io.specs.declared.line_kind.LineKind.{LineKind}
 use Rattle.operand_files.specs.Decoded.{Operand, of_entries, of_matrix, operand_of}
 use Rattle.operand_files.specs.Reads.{Meaning, IsToldText, IsFront, IsWholeFile, CountsNothing, HasBadLine, ReadsOperand, FeedsFile}
@@ -20,20 +20,9 @@ use Rattle.operand_files.specs.declared.fault.OperandFault.{OperandFault}
 use Rattle.operand_files.specs.declared.fault.OperandFault.TheVariants.{ReadFault, FileBytes, BadFile, Memory}
 
 -- a matrix's first bad line, as it is counted
-pub told_bad : (order : ℕ) (what : Result Matrix BadLine) (line : ℕ) (kind : LineKind)
-    → told what ≡ Err (record { number = line; kind = kind }) → HasBadLine (of_matrix order what) line kind
-told_bad order (Ok matrix) line kind e = absurd (cc)
-told_bad order (Err bad) line kind e =
-    let one : BadLine = record { number = counted bad.number; kind = bad.kind } in
-    let other : BadLine = record { number = line; kind = kind } in
-    let same : one ≡ other = cc in
-    let kinds : bad.kind ≡ kind = ap (λ (b : BadLine). b.kind) same in
-    record {
-      number = bad.number;
-      line_is = sym (ap (λ (b : BadLine). b.number) same);
-      bad = λ i. Err
-          (record { number = bad.number; kind = kinds i });
-    }
+pub told_bad : (order : ℕ) (what : Result Matrix BadLine) (line number : ℕ) (kind : LineKind) → line ≡ counted number
+    → what ≡ Err (record { number = number; kind = kind }) → HasBadLine (of_matrix order what) line kind
+told_bad order what line number kind is bad = record { number = number; line_is = is; bad = ap (of_matrix order) bad }
 
 whole_is_front : (told : Told) (bytes : List ℕ) → IsToldText told bytes → IsFront told bytes
 whole_is_front Untold bytes is = tt

@@ -6,8 +6,9 @@ use Rattle.operand_files.proofs.decoding.decode_matrix.Goals as goal
 pub returns-in-Err-Line : goal.returns-in-Err-Line
 returns-in-Err-Line g c =
     let file = c.args.file.reader in
+    let bad = (rw c.in-Err-Line.field-0-is at c.in-Err-Line.ensures).1 in
     rw c.in-Err-Line.field-0-is (
       refl,
       told_bad file.order (matrix_of_text g.S.Semiring.arithmetic g.S.Semiring.has_minus file.order file.text)
-          c.in-Err-Line.line c.in-Err-Line.kind (rw c.in-Err-Line.field-0-is at c.in-Err-Line.ensures).matrix,
+          c.in-Err-Line.line bad.number c.in-Err-Line.kind bad.line_is bad.bad,
     )

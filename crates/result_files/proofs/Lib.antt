@@ -1,0 +1,7 @@
+pub mod CoordinateSteps
+pub mod DenseEntries
+pub mod FileTexts
+pub mod FilledFiles
+pub mod ResultTexts
+pub mod Batches
+pub mod Tallies

@@ -1,0 +1,54 @@
+-- What a result's text depends on, and which entries may be written.
+use Rattle.std.specs.Prelude.{◌≡◌, ℕ, Bool, true, false, List, [], ◌∷◌, ◌++◌, length, Option, refl}
+use Rattle.std.specs.List.{flat_map}
+use Rattle.std.proofs.Common.{sym, subst, ◌∙◌, inl, inr}
+use Rattle.numbers.specs.Arithmetic.{Arithmetic}
+use Rattle.tensor_map.specs.Entries.{Entries}
+use Rattle.tns_io.specs.Positions.{IsBelow}
+use Rattle.tns_io.specs.Text.{IsAmong, line_text}
+use Rattle.mtx_io.specs.Progress.{IsMatrixOrder}
+use Rattle.result_files.specs.Dense.{AreDense}
+use Rattle.result_files.specs.EntriesText.{MayBeWritten}
+use Rattle.result_files.specs.ResultText.{IsResultText, IsTextIn, asks_matrix}
+
+same_lines : (value other : List ℕ → ℕ) (places : List (List ℕ))
+    → ((coords : List ℕ) → IsAmong places coords → value coords ≡ other coords)
+    → flat_map (λ coords. line_text coords (value coords)) places ≡ flat_map (λ coords. line_text coords (other coords)) places
+same_lines value other [] same = refl
+same_lines value other (place ∷ places) same =
+    let here : value place ≡ other place = same place (inl refl) in
+    λ i. line_text place (here i) ++ same_lines value other places (λ coords among. same coords (inr among)) i
+
+module _ (a : Arithmetic) (ranges : List ℕ) (value other : List ℕ → ℕ) (text : List ℕ)
+    (same : (coords : List ℕ) → IsBelow ranges coords → value coords ≡ other coords) where
+  same_in : (b : Bool) → IsTextIn b a ranges value text → IsTextIn b a ranges other text
+  same_in true is = record {
+    tensor = is.tensor;
+    inside = λ coords below. is.inside coords below ∙ same coords below;
+    text_is = is.text_is;
+  }
+  same_in false is = record {
+    places = is.places;
+    increasing = is.increasing;
+    exact = λ coords. (
+      λ among.
+          let both = (is.exact coords).0 among in (both.0, λ none. both.1 (same coords both.0 ∙ none)),
+      λ both. (is.exact coords).1 (both.0, λ none. both.1 (sym (same coords both.0) ∙ none)),
+    );
+    lines = is.lines ∙ same_lines value other is.places (λ coords among. same coords ((is.exact coords).0 among).0);
+  }
+
+pub same_text : (a : Arithmetic) (path : Option (List ℕ)) (ranges : List ℕ) (value other : List ℕ → ℕ) (text : List ℕ)
+    → ((coords : List ℕ) → IsBelow ranges coords → value coords ≡ other coords)
+    → IsResultText a path ranges value text → IsResultText a path ranges other text
+same_text a path ranges value other text same is = same_in a ranges value other text same (asks_matrix path) is
+
+pub dense_may_be_written : (a : Arithmetic) (is_matrix : Bool) (sizes values : List ℕ) (entries : Entries)
+    → AreDense a sizes values entries
+    → (is_matrix ≡ true → IsMatrixOrder (length sizes)) → MayBeWritten is_matrix sizes entries
+dense_may_be_written a is_matrix sizes values entries are order = record {
+  order_is = are.order_is;
+  below = are.below;
+  increasing = are.increasing;
+  matrix = λ asks. subst IsMatrixOrder (sym are.order_is) (order asks);
+}

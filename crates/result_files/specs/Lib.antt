@@ -1,0 +1,8 @@
+pub mod Dense
+pub mod Refused
+pub mod Rows
+pub mod EntriesText
+pub mod Fills
+pub mod ResultText
+pub mod Writes
+pub mod Tally

@@ -1,0 +1,26 @@
+-- The text of a result: a `.tns` text, or a Matrix Market text where a path is given that ends in `.mtx`.
+use Rattle.std.specs.Prelude.{◌≡◌, ℕ, Bool, true, false, List, Option, Some, None, nat_eq, codes}
+use Rattle.std.specs.List.{ends_with}
+use Rattle.numbers.specs.Arithmetic.{Arithmetic}
+use Rattle.tns_io.specs.Positions.{IsBelow}
+use Rattle.tns_io.specs.Text.{IsTnsText}
+use Rattle.mtx_io.specs.Text.{IsMatrixText}
+
+-- the path of a Matrix Market file
+abbrev pub asks_matrix : Option (List ℕ) → Bool
+asks_matrix None = false
+asks_matrix (Some path) = ends_with nat_eq path (codes ".mtx")
+
+-- the Matrix Market text of the tensor that has these values below the ranges
+pub record IsMatrixOf (a : Arithmetic) (ranges : List ℕ) (value : List ℕ → ℕ) (text : List ℕ) : Type 0 where
+  pub tensor : List ℕ → ℕ
+  pub inside : (coords : List ℕ) → IsBelow ranges coords → tensor coords ≡ value coords
+  pub text_is : IsMatrixText a ranges tensor text
+
+abbrev pub IsTextIn : Bool → Arithmetic → List ℕ → (List ℕ → ℕ) → List ℕ → Type 0
+IsTextIn true a ranges value text = IsMatrixOf a ranges value text
+IsTextIn false a ranges value text = IsTnsText a ranges value text
+
+-- the text of the tensor that has these values below the ranges, as the path's ending asks
+abbrev pub IsResultText : Arithmetic → Option (List ℕ) → List ℕ → (List ℕ → ℕ) → List ℕ → Type 0
+IsResultText a path ranges value text = IsTextIn (asks_matrix path) a ranges value text
