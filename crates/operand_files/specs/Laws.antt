@@ -1,10 +1,7 @@
 -- What the files that a folder tells stand for together: an answer that depends on nothing else.
-use Rattle.std.specs.Prelude.{ℕ, ◌<◌, ◌≤◌, List, [], ◌∷◌, length, All, Result, Ok, Err}
+use Rattle.std.specs.Prelude.{ℕ, ◌≤◌, List, [], ◌∷◌, length, Result, Ok, Err}
 use Rattle.limits.specs.Limits.{greatest_file_bytes}
 use Rattle.outside.specs.Told.{Told, Untold, NoFile, Bytes}
-use Rattle.expr_terms.specs.declared.bound.Bound.{Bound}
-use Rattle.expr_terms.specs.declared.bound.Bound.TheVariants.{Exact, AtLeast}
-use Rattle.tns_io.specs.Text.{AreInRange}
 use Rattle.mtx_io.specs.Matrix.{BadLine}
 use Rattle.mtx_io.specs.declared.line_kind.LineKind.{LineKind}
 use Rattle.operand_files.specs.Decoded.{Operand}
@@ -54,19 +51,3 @@ IsBadFileOrWant (ReadFault path) = ⊥
 IsBadFileOrWant (FileBytes path) = ⊥
 IsBadFileOrWant (BadFile path line kind) = Unit {0}
 IsBadFileOrWant Memory = Unit {0}
-
--- the size that a mode gives, or that bounds it
-abbrev pub size_in : Bound → ℕ
-size_in (Exact size) = size
-size_in (AtLeast coordinate) = coordinate
-
--- each coordinate is below what its mode gives
-abbrev pub IsWithin : List Bound → List ℕ → Type 0
-IsWithin [] coords = Unit {0}
-IsWithin (bound ∷ bounds) [] = Unit {0}
-IsWithin (bound ∷ bounds) (c ∷ coords) = (c < size_in bound) × IsWithin bounds coords
-
--- and so of all entries, whose coordinates may stand in a tensor's storage
-pub record IsSound (operand : Operand) : Type 0 where
-  pub within : All (λ entry. IsWithin operand.bounds entry.coords) operand.entries.list
-  pub small : AreInRange operand.entries.list

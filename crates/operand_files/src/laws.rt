@@ -7,7 +7,7 @@ ghost use Rattle.tensor_map.specs.Entries.{Entries};
 ghost use Rattle.expr_terms.specs.declared.bound.Bound.{Bound};
 ghost use Rattle.mtx_io.specs.declared.line_kind.LineKind.{LineKind};
 ghost use Rattle.operand_files.specs.Decoded.{Operand, IsReadable, operand_of};
-ghost use Rattle.operand_files.specs.Laws.{AreTold, IsBadFileOrWant, IsSound, told_operands};
+ghost use Rattle.operand_files.specs.Laws.{AreTold, IsBadFileOrWant, told_operands};
 ghost use Rattle.operand_files.specs.Reads.{Meaning, HaveRead, IsRefused, RefusedAtLine};
 ghost use Rattle.operand_files.specs.declared.fault.OperandFault.{OperandFault};
 
@@ -31,10 +31,4 @@ pub fn operands_have_their_order()
     ensures { (a : Arithmetic) (has_minus : Bool) (order : ℕ) (path bytes : List ℕ) (operand : Operand)
         → IsReadable order path → operand_of a has_minus order path bytes ≡ Ok operand
         → (operand.entries.order ≡ order) × (length operand.bounds ≡ order) }
-{}
-
-/// The coordinates of an operand are below what its modes give, and may stand in a tensor's storage.
-pub fn operands_are_sound()
-    ensures { (a : Arithmetic) (has_minus : Bool) (order : ℕ) (path bytes : List ℕ) (operand : Operand)
-        → IsReadable order path → operand_of a has_minus order path bytes ≡ Ok operand → IsSound operand }
 {}

@@ -11,5 +11,5 @@ mod matrix_file;
 mod operands;
 
 pub use fault::OperandFault;
-pub use laws::{operands_are_sound, operands_have_their_order, told_files_have_one_answer};
+pub use laws::{operands_have_their_order, told_files_have_one_answer};
 pub use operands::{Operands, read_operands};
