@@ -1,0 +1,4 @@
+pub mod Run
+pub mod Causes
+pub mod Computed
+pub mod Ends

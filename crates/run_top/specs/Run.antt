@@ -1,0 +1,29 @@
+-- What a run is about: the statement, the operands' files and the result's path, from the words alone.
+use Rattle.std.specs.Prelude.{◌≡◌, ℕ, ◌-◌, ◌==◌, List, [], Option, length, map, unwrap_or}
+use Rattle.std.specs.List.{range_with_len}
+use Rattle.std_collections.specs.Map.{lookup}
+use Rattle.format_spec.specs.declared.format.FormatLevel.{FormatLevel}
+use Rattle.index_notation.specs.declared.syntax.Statement.{Statement}
+use Rattle.bindings.specs.Bindings.{order_of}
+use Rattle.run_request.specs.Asked.{Asks}
+
+-- the path of a tensor's file, if it has one
+abbrev pub path_of : List (ℕ × List ℕ) → ℕ → Option (List ℕ)
+path_of files tensor = lookup (λ k. tensor == k) files
+
+-- the operands are the tensors from number 1 on
+abbrev pub operands_of : Statement → List ℕ
+operands_of s = range_with_len 1 (length s.tensors - 1)
+
+-- the order of each operand
+abbrev pub orders_of : Statement → List ℕ
+orders_of s = map (order_of s) (operands_of s)
+
+-- the path of each operand's file
+abbrev pub paths_of : Statement → List (ℕ × List ℕ) → List (List ℕ)
+paths_of s files = map (λ tensor. unwrap_or (path_of files tensor) []) (operands_of s)
+
+-- the words ask for this statement, with these files of tensors and ranges of variables
+pub record AsksFor (words : List (List ℕ)) (s : Statement) (files : List (ℕ × List ℕ)) (given : List (Option ℕ)) : Type 0 where
+  pub formats : List (List FormatLevel)
+  pub asks : Asks words s formats files given
