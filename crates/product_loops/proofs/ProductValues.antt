@@ -154,7 +154,8 @@ numbers_none p n (suc count) all =
     ∙ ap (λ ns. n ∷ ns) (numbers_none p (n + 1) count (λ v h g. all v (omega arith) (omega arith)))
 
 numbers_parted : (p : ℕ → Bool) (n front back : ℕ) → ((v : ℕ) → n ≤ v → v < n + front → p v ≡ false)
-    → ((v : ℕ) → n + front ≤ v → v < n + front + back → p v ≡ true) → filter p (numbers_from n (front + back)) ≡ numbers_from (n + front) back
+    → ((v : ℕ) → n + front ≤ v → v < n + front + back → p v ≡ true)
+    → filter p (numbers_from n (front + back)) ≡ numbers_from (n + front) back
 numbers_parted p n zero back none all =
     let here : n + 0 ≡ n = omega arith in
     let count : 0 + back ≡ back = omega arith in
@@ -194,7 +195,8 @@ own_after_left s numbered named own =
     ap (λ k. filter (is_own s s.expr) (numbers_from 0 k)) count
     ∙ numbers_parted (is_own s s.expr) 0 left (length s.vars - left)
     (λ v h g. ap (λ b. stands_in s.accesses v s.expr && not b)
-    (ap (λ vs. contains vs v) named.standing ∙ contains_among 0 left v (omega arith) (omega arith)) ∙ and-false (stands_in s.accesses v s.expr))
+    (ap (λ vs. contains vs v) named.standing ∙ contains_among 0 left v (omega arith) (omega arith))
+    ∙ and-false (stands_in s.accesses v s.expr))
     (λ v h g. ap (λ b. b && not (contains s.left.vars v)) (own v (omega arith) (omega arith))
     ∙ ap (λ b. not b) (ap (λ vs. contains vs v) named.standing ∙ contains_above 0 left v (omega arith)))
     ∙ ap (λ m. numbers_from m (length s.vars - left)) (let z : 0 + left ≡ left = omega arith in z)

@@ -1,5 +1,6 @@
 -- The first tensor a level of which would have more positions than may be.
-use Rattle.std.specs.Prelude.{◌≡◌, ℕ, zero, suc, ◌+◌, ◌<◌, ◌≤◌, nat_lt, Bool, true, false, List, [], ◌∷◌, ◌++◌, length, Some, slice_get, refl}
+use Rattle.std.specs.Prelude.{◌≡◌, ℕ, zero, suc, ◌+◌, ◌<◌, ◌≤◌, nat_lt, Bool, true, false, List, [], ◌∷◌, ◌++◌, length, Some, slice_get}
+use Rattle.std.specs.Prelude.{refl}
 use Rattle.std.specs.Prelude.{Result, Ok, Err, IfErr}
 use Rattle.std.specs.Result.{IsErrAnd}
 use Rattle.std.proofs.Common.{◌∙◌, sym, ap, subst, arith}
@@ -80,7 +81,8 @@ length_more [] x = refl
 length_more (y ∷ xs) x = let rest = length_more xs x in omega arith
 
 -- the sizes of one operand more
-pub sizes_more : (s : Statement) (operands : List Entries) (ranges : ℕ → ℕ) (k : ℕ) (entries : Entries) (sizes all : List (List ℕ)) (here : List ℕ)
+pub sizes_more : (s : Statement) (operands : List Entries) (ranges : ℕ
+    → ℕ) (k : ℕ) (entries : Entries) (sizes all : List (List ℕ)) (here : List ℕ)
     → slice_get operands k ≡ Some entries → AreSizes s operands ranges k sizes → here ≡ mode_sizes s ranges (k + 1) entries.order
     → all ≡ sizes ++ here ∷ [] → AreSizes s operands ranges (k + 1) all
 sizes_more s operands ranges k entries sizes all here there are is made =
@@ -98,7 +100,8 @@ sizes_more s operands ranges k entries sizes all here there are is made =
     at n l false less = let higher : k ≤ n = grind (arith, nat_tests, less) in
         let same : length sizes ≡ n = omega (arith, are.long) in
         let last : k ≡ n = omega arith in
-        ap (slice_get (sizes ++ here ∷ [])) (sym same) ∙ get_last sizes here ∙ ap Some own ∙ ap (λ m. Some (operand_sizes s operands ranges m)) last
+        ap (slice_get (sizes ++ here ∷ [])) (sym same) ∙ get_last sizes here ∙ ap Some own
+        ∙ ap (λ m. Some (operand_sizes s operands ranges m)) last
 
 pub fit_more : (s : Statement) (operands : List Entries) (ranges : ℕ → ℕ) (k : ℕ) (entries : Entries) (here : List ℕ)
     → slice_get operands k ≡ Some entries → OperandsFit s operands ranges k → here ≡ mode_sizes s ranges (k + 1) entries.order
@@ -115,7 +118,8 @@ fit_more s operands ranges k entries here there fit is fits = λ n l. at n l (na
         subst (λ m. FitLevels (operand_sizes s operands ranges m)) last (subst FitLevels own fits)
 
 -- a fault that is handed on
-pub handed_on : {A : Type 0} (P : ComputeFault → Type 0) (r : Result A ComputeFault) (fault : ComputeFault) → IsErrAnd r (λ other. other ≡ fault)
+pub handed_on : {A : Type 0} (P : ComputeFault → Type 0) (r : Result A ComputeFault) (fault : ComputeFault)
+    → IsErrAnd r (λ other. other ≡ fault)
     → P fault → IfErr r P
 handed_on P (Ok x) fault is may = tt
 handed_on P (Err other) fault is may = subst P (sym is) may

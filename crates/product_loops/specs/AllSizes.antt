@@ -14,7 +14,8 @@ MayRefuseTensor tensor sizes (SizeLimit other level count) = (other ≡ tensor) 
 MayRefuseTensor tensor sizes (Memory error) = Unit {0}
 
 -- these are the sizes of the operands' levels and of the result's, none of which has more positions than may be
-pub record AreTensorSizes (s : Statement) (operands : List Entries) (ranges : ℕ → ℕ) (sizes : List (List ℕ)) (result : List ℕ) : Type 0 where
+pub record AreTensorSizes (s : Statement) (operands : List Entries) (ranges : ℕ
+    → ℕ) (sizes : List (List ℕ)) (result : List ℕ) : Type 0 where
   pub operands_are : AreSizes s operands ranges (length operands) sizes
   pub operands_fit : OperandsFit s operands ranges (length operands)
   pub result_is : result ≡ mode_sizes s ranges 0 (length s.left.vars)

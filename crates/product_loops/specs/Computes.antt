@@ -62,7 +62,8 @@ MayRefuse s operands ranges (SizeLimit tensor level count) = IsFirstTooLarge s o
 MayRefuse s operands ranges (Memory error) = Unit {0}
 
 -- the statement's values at all positions of the dense result
-pub record IsResult (arithmetic : Arithmetic) (s : Statement) (operands : List Entries) (ranges : ℕ → ℕ) (sizes values : List ℕ) : Type 0 where
+pub record IsResult (arithmetic : Arithmetic) (s : Statement) (operands : List Entries) (ranges : ℕ
+    → ℕ) (sizes values : List ℕ) : Type 0 where
   pub sizes_are : sizes ≡ map ranges s.left.vars
   pub long : length values ≡ product sizes
   pub each : (coords : List ℕ) → IsBelow sizes coords → slice_index values (position sizes coords)

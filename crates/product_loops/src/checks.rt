@@ -44,11 +44,8 @@ fn stand_on_the_right(statement: &Statement, vars: usize) -> bool
     if vars <= statement.left.vars.len() {
         return true;
     }
-    stands_in(
-        statement.accesses.as_slice(),
-        vars - 1,
-        &statement.expr,
-    ) && stand_on_the_right(statement, vars - 1)
+    stands_in(statement.accesses.as_slice(), vars - 1, &statement.expr)
+        && stand_on_the_right(statement, vars - 1)
 }
 
 /// Whether no range is above the greatest number of positions.

@@ -89,7 +89,8 @@ fn run<S: Semiring>(
 ) -> Result<Vec<u64>, AllocError>
     requires computable { IsComputable statement.now operands.now ranges.now }
     requires sizes { AreTensorSizes statement.now operands.now (slice_index ranges.now) sizes.now.operands sizes.now.result }
-    ensures { IfOk result (λ values. IsResult S.arithmetic statement.now operands.now (slice_index ranges.now) sizes.now.result values.items) }
+    ensures { IfOk result
+        (λ values. IsResult S.arithmetic statement.now operands.now (slice_index ranges.now) sizes.now.result values.items) }
 {
     let kernel = compile::<S>(alloc, statement)?;
     let mut machine = load::<S>(alloc, statement, operands, ranges, sizes)?;

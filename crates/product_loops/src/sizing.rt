@@ -59,13 +59,7 @@ pub(crate) fn sizes_of_tensors(
 {
     let mut sizes = Items::new(alloc);
     for (n, entries) in operands.iter().enumerate() {
-        sizes.push(sizes_within(
-            alloc,
-            statement,
-            ranges,
-            n + 1,
-            entries.order(),
-        )?)?;
+        sizes.push(sizes_within(alloc, statement, ranges, n + 1, entries.order())?)?;
     }
     let result = sizes_within(alloc, statement, ranges, 0, statement.left.vars.len())?;
     Ok(TensorSizes {

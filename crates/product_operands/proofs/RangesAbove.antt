@@ -2,13 +2,14 @@
 -- exact and no coordinate passes it, and else it is the greatest bound.
 use Rattle.std.specs.Prelude.{◌≡◌, ℕ, zero, suc, ◌+◌, ◌<◌, ◌≤◌, Bool, true, false, nat_eq, nat_lt, if◌then◌else◌}
 use Rattle.std.specs.Prelude.{List, [], ◌∷◌, ◌++◌, map, length, Option, None, Some, Result, Ok, Err, option_to_list, filter_map}
-use Rattle.std.specs.Prelude.{slice_get, slice_index, slice_index_or, refl}
+use Rattle.std.specs.Prelude.{All, slice_get, slice_index, slice_index_or, refl}
 use Rattle.std.proofs.Common.{◌∙◌, sym, ap, subst, arith}
 use Rattle.std.proofs.lemmas.Bool.{eq-eqb}
 use Rattle.std.proofs.lemmas.Bool.Decides.{nat_tests}
 use Rattle.std.specs.List.{cons_option}
 use Rattle.lists.specs.Each.{Each}
-use Rattle.lists.proofs.Each.{each_get, each_from}
+use Rattle.lists.proofs.Each.{each_get, each_from, each_append}
+use Rattle.std.proofs.lemmas.List.{get_or_default}
 use Rattle.tensor_map.specs.Entries.{Entries}
 use Rattle.index_notation.specs.Statement.{IsAccess, IsNumbered, numbers_from}
 use Rattle.index_notation.specs.declared.syntax.Access.{Access}
@@ -51,9 +52,11 @@ all_least bound range (p ∷ places) none most = by (bound p) refl (all_least bo
         filled n ns e = cc
     by (AtLeast n) is rest =
         let here : least_of (bound p) ≡ n = ap least_of is in
-        let limit : limit_of (bound p) ≡ n = ap limit_of is in
-        (omega (arith, here, limit), rest
-        (sym (ap (λ o. cons_option o (filter_map (λ p. exact_of (bound p)) places)) (ap exact_of is)) ∙ none) (omega arith))
+        let limit : limit_of (bound p) ≡ n = ap limit_of is in (
+          omega (arith, here, limit),
+          rest
+              (sym (ap (λ o. cons_option o (filter_map (λ p. exact_of (bound p)) places)) (ap exact_of is)) ∙ none) (omega arith),
+        )
 
 -- where each exact bound is the range and no other passes it
 all_exact : {A : Type 0} (bound : A → Bound) (range : ℕ) (places : List A)
@@ -67,12 +70,14 @@ all_exact bound range (p ∷ places) exact least = by (bound p) refl (all_exact 
         → EachOf places (λ p. limit_of (bound p) ≤ range))
         → EachOf (p ∷ places) (λ p. limit_of (bound p) ≤ range)
     by (Exact n) is rest =
-        let same = subst (λ o. Each (λ n. n ≡ range) (cons_option o (filter_map (λ p. exact_of (bound p)) places))) (ap exact_of is) exact in
+        let same = subst (λ o. Each (λ n. n ≡ range) (cons_option o (filter_map (λ p. exact_of (bound p)) places)))
+        (ap exact_of is) exact in
         let limit : limit_of (bound p) ≡ n = ap limit_of is in
         let first : n ≡ range = same.0 in
         (omega (arith, limit, first), rest same.1 least.1)
     by (AtLeast n) is rest =
-        let others = subst (λ o. Each (λ n. n ≡ range) (cons_option o (filter_map (λ p. exact_of (bound p)) places))) (ap exact_of is) exact in
+        let others = subst (λ o. Each (λ n. n ≡ range) (cons_option o (filter_map (λ p. exact_of (bound p)) places)))
+        (ap exact_of is) exact in
         let here : least_of (bound p) ≡ n = ap least_of is in
         let limit : limit_of (bound p) ≡ n = ap limit_of is in
         let first : least_of (bound p) ≤ range = least.0 in
@@ -120,7 +125,8 @@ settled_above : (v range : ℕ) (given : Option ℕ) (bounds : ℕ → ℕ → B
     → EachOf places (λ p. limit_of (bounds p.tensor p.mode) ≤ range)
 settled_above v range given bounds places [] none is =
     let greatest = bounded_found v range bounds places is in
-    all_least (λ p. bounds p.tensor p.mode) range places (back (option_to_list given) (filter_map (λ p. exact_of (bounds p.tensor p.mode)) places) none)
+    all_least (λ p. bounds p.tensor p.mode) range places
+    (back (option_to_list given) (filter_map (λ p. exact_of (bounds p.tensor p.mode)) places) none)
     (omega (arith, greatest))
   where
     back : (xs ys : List ℕ) → xs ++ ys ≡ [] → ys ≡ []
@@ -157,7 +163,8 @@ found_each range n (suc count) ranges found =
         subst (λ rs. (length rs ≡ suc count) × ((w : ℕ) → w < suc count → range (n + w) ≡ Ok (slice_index rs w))) all
         (ap suc later.0, at later.1)
       where
-        at : ((w : ℕ) → w < count → range ((n + 1) + w) ≡ Ok (slice_index xs w)) → (w : ℕ) → w < suc count → range (n + w) ≡ Ok (slice_index (x ∷ xs) w)
+        at : ((w : ℕ) → w < count → range ((n + 1) + w) ≡ Ok (slice_index xs w)) → (w : ℕ) → w < suc count
+            → range (n + w) ≡ Ok (slice_index (x ∷ xs) w)
         at later zero h = let here : n + 0 ≡ n = omega arith in ap range here ∙ first
         at later (suc w) h = let next : n + suc w ≡ (n + 1) + w = omega arith in ap range next ∙ later w (omega arith)
 
@@ -170,7 +177,8 @@ there_from P tensor from (w ∷ vars) zero h each =
     subst (P tensor) (sym here) (first (nat_eq w w) (eq-eqb w w refl) each)
   where
     first : (b : Bool) → b ≡ true
-        → EachOf (if b then (record { tensor = tensor; mode = from } ∷ places_from tensor (from + 1) vars w) else places_from tensor (from + 1) vars w) (λ p. P p.tensor p.mode)
+        → EachOf (if b then (record { tensor = tensor; mode = from }
+        ∷ places_from tensor (from + 1) vars w) else places_from tensor (from + 1) vars w) (λ p. P p.tensor p.mode)
         → P tensor from
     first true e each = each.0
     first false e each = absurd cc
@@ -179,7 +187,9 @@ there_from P tensor from (w ∷ vars) (suc mode) h each =
     subst (P tensor) next (there_from P tensor (from + 1) vars mode (omega arith) (later (nat_eq w (slice_index vars mode)) each))
   where
     later : (b : Bool)
-        → EachOf (if b then (record { tensor = tensor; mode = from } ∷ places_from tensor (from + 1) vars (slice_index vars mode)) else places_from tensor (from + 1) vars (slice_index vars mode)) (λ p. P p.tensor p.mode)
+        → EachOf (if b then (record { tensor = tensor; mode = from }
+        ∷ places_from tensor (from + 1) vars (slice_index vars mode)) else places_from tensor (from + 1) vars (slice_index vars mode))
+        (λ p. P p.tensor p.mode)
         → EachOf (places_from tensor (from + 1) vars (slice_index vars mode)) (λ p. P p.tensor p.mode)
     later true each = each.1
     later false each = each
@@ -210,7 +220,8 @@ pub ranges_long : (s : Statement) (given : ℕ → Option ℕ) (bounds : ℕ →
 ranges_long s given bounds ranges found = (found_each (range_of s given bounds) 0 (length s.vars) ranges found).0
 
 -- coordinates that keep to the bounds are below the ranges that are found
-pub bounded_below : (s : Statement) → IsNumbered s → (operands : List Entries) (given : ℕ → Option ℕ) (bounds : ℕ → ℕ → Bound) (ranges : List ℕ)
+pub bounded_below : (s : Statement) → IsNumbered s
+    → (operands : List Entries) (given : ℕ → Option ℕ) (bounds : ℕ → ℕ → Bound) (ranges : List ℕ)
     → ranges_of s given bounds ≡ Ok ranges → AreBounded s operands bounds → AreBelowRanges s operands (slice_index ranges)
 bounded_below s numbered operands given bounds ranges found are =
     each_from (ReadsBelow operands (slice_index ranges)) s.accesses (λ n access is k d h.
@@ -221,9 +232,66 @@ bounded_below s numbered operands given bounds ranges found are =
     let within : v < length s.vars = var_below (length s.vars) access.vars mode
     (each_get (IsAccess (length s.tensors) (length s.vars)) s.accesses n access numbered.right is).vars_stand m in
     let here : 0 + v ≡ v = omega arith in
-    let range = ap (range_of s given bounds) (sym here) ∙ (found_each (range_of s given bounds) 0 (length s.vars) ranges found).1 v within in
+    let range = ap (range_of s given bounds) (sym here)
+    ∙ (found_each (range_of s given bounds) 0 (length s.vars) ranges found).1 v within in
     let above : limit_of (bounds access.tensor mode) ≤ slice_index ranges v =
     there_in (λ tensor mode. limit_of (bounds tensor mode) ≤ slice_index ranges v) s.accesses n access mode is m
-    (settled_above v (slice_index ranges v) (given v) bounds (places_in s.accesses v) (exact_ranges (given v) bounds (places_in s.accesses v)) refl range) in
+    (settled_above v (slice_index ranges v) (given v) bounds (places_in s.accesses v)
+    (exact_ranges (given v) bounds (places_in s.accesses v)) refl range) in
     let below : slice_index coords mode < limit_of (bounds access.tensor mode) = bounded.each mode m in
     omega arith))
+
+-- exact bounds are within what all bounds are within, and so is the greatest of the others
+exact_within : {A : Type 0} (bound : A → Bound) (most : ℕ) → ((p : A) → limit_of (bound p) ≤ most) → (places : List A)
+    → Each (λ n. n ≤ most) (filter_map (λ p. exact_of (bound p)) places)
+exact_within bound most within [] = tt
+exact_within bound most within (p ∷ places) = by (bound p) (within p) (exact_within bound most within places)
+  where
+    by : (b : Bound) → limit_of b ≤ most → Each (λ n. n ≤ most) (filter_map (λ p. exact_of (bound p)) places)
+        → Each (λ n. n ≤ most) (cons_option (exact_of b) (filter_map (λ p. exact_of (bound p)) places))
+    by (Exact n) small rest = (small, rest)
+    by (AtLeast n) small rest = rest
+
+least_within : (bound : Bound) → least_of bound ≤ limit_of bound
+least_within (Exact n) = omega arith
+least_within (AtLeast n) = omega arith
+
+greatest_within : {A : Type 0} (bound : A → Bound) (most : ℕ) → ((p : A) → limit_of (bound p) ≤ most) → (places : List A)
+    → greatest_of (map (λ p. least_of (bound p)) places) ≤ most
+greatest_within bound most within [] = omega arith
+greatest_within bound most within (p ∷ places) =
+    let here = within p in
+    let least = least_within (bound p) in
+    let rest = greatest_within bound most within places in
+    omega arith
+
+given_within : (most : ℕ) (given : Option ℕ) → ((range : ℕ) → given ≡ Some range → range ≤ most)
+    → Each (λ n. n ≤ most) (option_to_list given)
+given_within most None within = tt
+given_within most (Some range) within = (within range refl, tt)
+
+settled_within : (v range most : ℕ) (given : Option ℕ) (bounds : ℕ → ℕ → Bound) (places : _) (exact : List ℕ)
+    → exact_ranges given bounds places ≡ exact → ((word : ℕ) → given ≡ Some word → word ≤ most)
+    → ((tensor mode : ℕ) → limit_of (bounds tensor mode) ≤ most) → settled v exact bounds places ≡ Ok range → range ≤ most
+settled_within v range most given bounds places [] none words within is =
+    let greatest = bounded_found v range bounds places is in
+    let small = greatest_within (λ p. bounds p.tensor p.mode) most (λ p. within p.tensor p.mode) places in
+    omega arith
+settled_within v range most given bounds places (first ∷ others) exact words within is =
+    let found = exact_found v first range bounds (first_other first others) (first_above first bounds places) is in
+    let all = each_append (λ n. n ≤ most) (option_to_list given) (filter_map (λ p. exact_of (bounds p.tensor p.mode)) places)
+    (given_within most given words) (exact_within (λ p. bounds p.tensor p.mode) most (λ p. within p.tensor p.mode) places) in
+    subst (λ r. r ≤ most) found.2 (subst (Each (λ n. n ≤ most)) exact all).0
+
+-- where words and bounds are within a limit, so are the ranges that are found
+pub ranges_within : (s : Statement) (given : ℕ → Option ℕ) (bounds : ℕ → ℕ → Bound) (ranges : List ℕ) (most : ℕ)
+    → ranges_of s given bounds ≡ Ok ranges → ((v word : ℕ) → given v ≡ Some word → word ≤ most)
+    → ((tensor mode : ℕ) → limit_of (bounds tensor mode) ≤ most) → All (λ range. range ≤ most) ranges
+ranges_within s given bounds ranges most found words within = λ v d h.
+    let each = found_each (range_of s given bounds) 0 (length s.vars) ranges found in
+    let here : 0 + v ≡ v = omega arith in
+    let stands : v < length s.vars = omega (arith, each.0) in
+    let range = ap (range_of s given bounds) (sym here) ∙ each.1 v stands in
+    subst (λ r. r ≤ most) (sym (get_or_default ranges v d 0 h))
+    (settled_within v (slice_index ranges v) most (given v) bounds (places_in s.accesses v)
+    (exact_ranges (given v) bounds (places_in s.accesses v)) refl (words v) within range)

@@ -12,27 +12,36 @@ use Rattle.product_loops.proofs.loops.load_operands.Goals as goal
 pub load_operand-requires-clause-small : goal.load_operand-requires-clause-small
 load_operand-requires-clause-small g c =
     let operands = c.args.operands.now in
-    let there = slice_get_read operands (length operands) c.loop-n.n c.index-operands-n.result refl c.loop-n-test.true c.index-operands-n.is in
-    let here = slice_get_read c.args.sizes.now (length c.args.sizes.now) c.loop-n.n c.index-sizes-n.result refl (omega (arith, c.requires.sizes.long)) c.index-sizes-n.is in
-    let may = may_load c.args.statement.now operands c.args.ranges.now c.args.sizes.now c.requires.computable c.requires.sizes c.requires.fit
+    let there = slice_get_read operands
+    (length operands) c.loop-n.n c.index-operands-n.result refl c.loop-n-test.true c.index-operands-n.is in
+    let here = slice_get_read c.args.sizes.now (length c.args.sizes.now) c.loop-n.n c.index-sizes-n.result refl
+    (omega (arith, c.requires.sizes.long)) c.index-sizes-n.is in
+    let may = may_load c.args.statement.now operands c.args.ranges.now c.args.sizes.now c.requires.computable c.requires.sizes
+    c.requires.fit
     c.loop-n.n c.index-operands-n.result c.index-sizes-n.result there here in
     subst (All (λ size. size ≤ greatest_position_count)) (sym c.as_slice.ensures) may.1.small
 
 pub load_operand-requires-clause-fit : goal.load_operand-requires-clause-fit
 load_operand-requires-clause-fit g c =
     let operands = c.args.operands.now in
-    let there = slice_get_read operands (length operands) c.loop-n.n c.index-operands-n.result refl c.loop-n-test.true c.index-operands-n.is in
-    let here = slice_get_read c.args.sizes.now (length c.args.sizes.now) c.loop-n.n c.index-sizes-n.result refl (omega (arith, c.requires.sizes.long)) c.index-sizes-n.is in
-    let may = may_load c.args.statement.now operands c.args.ranges.now c.args.sizes.now c.requires.computable c.requires.sizes c.requires.fit
+    let there = slice_get_read operands
+    (length operands) c.loop-n.n c.index-operands-n.result refl c.loop-n-test.true c.index-operands-n.is in
+    let here = slice_get_read c.args.sizes.now (length c.args.sizes.now) c.loop-n.n c.index-sizes-n.result refl
+    (omega (arith, c.requires.sizes.long)) c.index-sizes-n.is in
+    let may = may_load c.args.statement.now operands c.args.ranges.now c.args.sizes.now c.requires.computable c.requires.sizes
+    c.requires.fit
     c.loop-n.n c.index-operands-n.result c.index-sizes-n.result there here in
     subst FitLevels (sym c.as_slice.ensures) may.1.fit
 
 pub load_operand-requires-clause-below : goal.load_operand-requires-clause-below
 load_operand-requires-clause-below g c =
     let operands = c.args.operands.now in
-    let there = slice_get_read operands (length operands) c.loop-n.n c.index-operands-n.result refl c.loop-n-test.true c.index-operands-n.is in
-    let here = slice_get_read c.args.sizes.now (length c.args.sizes.now) c.loop-n.n c.index-sizes-n.result refl (omega (arith, c.requires.sizes.long)) c.index-sizes-n.is in
-    let may = may_load c.args.statement.now operands c.args.ranges.now c.args.sizes.now c.requires.computable c.requires.sizes c.requires.fit
+    let there = slice_get_read operands
+    (length operands) c.loop-n.n c.index-operands-n.result refl c.loop-n-test.true c.index-operands-n.is in
+    let here = slice_get_read c.args.sizes.now (length c.args.sizes.now) c.loop-n.n c.index-sizes-n.result refl
+    (omega (arith, c.requires.sizes.long)) c.index-sizes-n.is in
+    let may = may_load c.args.statement.now operands c.args.ranges.now c.args.sizes.now c.requires.computable c.requires.sizes
+    c.requires.fit
     c.loop-n.n c.index-operands-n.result c.index-sizes-n.result there here in
     subst (λ (ns : List ℕ). All (λ entry. IsBelow ns entry.coords) c.index-operands-n.result.list) (sym c.as_slice.ensures) may.1.below
 
@@ -41,8 +50,10 @@ loop-n-preserved g c =
     let operands = c.args.operands.now in
     let entries = c.index-operands-n.result in
     let there = slice_get_read operands (length operands) c.loop-n.n entries refl c.loop-n-test.true c.index-operands-n.is in
-    let here = slice_get_read c.args.sizes.now (length c.args.sizes.now) c.loop-n.n c.index-sizes-n.result refl (omega (arith, c.requires.sizes.long)) c.index-sizes-n.is in
-    let may = may_load c.args.statement.now operands c.args.ranges.now c.args.sizes.now c.requires.computable c.requires.sizes c.requires.fit
+    let here = slice_get_read c.args.sizes.now (length c.args.sizes.now) c.loop-n.n c.index-sizes-n.result refl
+    (omega (arith, c.requires.sizes.long)) c.index-sizes-n.is in
+    let may = may_load c.args.statement.now operands c.args.ranges.now c.args.sizes.now c.requires.computable c.requires.sizes
+    c.requires.fit
     c.loop-n.n entries c.index-sizes-n.result there here in
     let arithmetic = g.S.Semiring.arithmetic in
     let loaded = subst (λ ns. IsLoaded arithmetic (state_of c.load_operand.new.machine) (c.loop-n.n + 1) ns entries.list)

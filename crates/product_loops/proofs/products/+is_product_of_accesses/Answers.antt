@@ -8,8 +8,10 @@ pub returns-then-is_product_of_accesses-clause-told : goal.returns-then-is_produ
 unfolding hidden-the_row-Expr-0 hidden
 returns-then-is_product_of_accesses-clause-told t c = λ told.
     let P = IsProductOfAccesses in
-    subst P (sym c.in-Mul.is) (subst P c.get.ensures (c.is_product_of_accesses.ensures.told c.if-is_product_of_accesses.true),
-    subst P c.get-then-is_product_of_accesses.ensures (c.is_product_of_accesses-then-is_product_of_accesses.ensures.told told))
+    subst P (sym c.in-Mul.is) (
+      subst P c.get.ensures (c.is_product_of_accesses.ensures.told c.if-is_product_of_accesses.true),
+      subst P c.get-then-is_product_of_accesses.ensures (c.is_product_of_accesses-then-is_product_of_accesses.ensures.told told),
+    )
 
 pub returns-then-is_product_of_accesses-clause-found : goal.returns-then-is_product_of_accesses-clause-found
 unfolding hidden-the_row-Expr-0 hidden

@@ -7,6 +7,7 @@ use Rattle.product_loops.proofs.products.+push_factors.Goals as goal
 pub returns-in_ok-push_factors-in-Mul : goal.returns-in_ok-push_factors-in-Mul
 returns-in_ok-push_factors-in-Mul t c =
     subst (λ (list : List Access). OnOk c.push_factors-in-Mul.result (c.push_factors-in-Mul.new.list ≡ list))
-    (pushed_product c.args.accesses.now c.args.expr.now c.in-Mul.first c.in-Mul.second c.get.result.now c.get-in-Mul.result.now c.args.list.now
+    (pushed_product c.args.accesses.now c.args.expr.now c.in-Mul.first c.in-Mul.second c.get.result.now c.get-in-Mul.result.now
+    c.args.list.now
     c.push_factors.new.list c.in-Mul.is c.get.ensures c.get-in-Mul.ensures c.in_ok-push_factors-in-Mul.ensures)
     c.push_factors-in-Mul.ensures

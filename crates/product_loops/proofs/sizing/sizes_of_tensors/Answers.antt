@@ -30,9 +30,10 @@ loop-n-preserved c =
     let entries = c.index-operands-n.result in
     let here = c.in_ok-sizes_within.field-0 in
     let there = slice_get_read operands (length operands) n entries refl c.loop-n-test.true c.index-operands-n.is in
-    let is = c.in_ok-sizes_within.ensures.sizes ∙ ap (mode_sizes s ranges (n + 1)) c.order.ensures.value in
-    (sizes_more s operands ranges n entries c.loop-n.sizes c.push.new.self here there c.loop-n.invariant.0 is c.in_ok-push.ensures.ok,
-    fit_more s operands ranges n entries here there c.loop-n.invariant.1 is c.in_ok-sizes_within.ensures.fit)
+    let is = c.in_ok-sizes_within.ensures.sizes ∙ ap (mode_sizes s ranges (n + 1)) c.order.ensures.value in (
+      sizes_more s operands ranges n entries c.loop-n.sizes c.push.new.self here there c.loop-n.invariant.0 is c.in_ok-push.ensures.ok,
+      fit_more s operands ranges n entries here there c.loop-n.invariant.1 is c.in_ok-sizes_within.ensures.fit,
+    )
 
 pub returns-in_err-result-clause-fault : goal.returns-in_err-result-clause-fault
 returns-in_err-result-clause-fault c =

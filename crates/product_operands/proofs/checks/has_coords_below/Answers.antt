@@ -12,7 +12,8 @@ returns-then-not-are_below-clause-found c =
     let d : Entry = record { coords = []; value = 0 } in
     let ranges = map (slice_index c.args.ranges.now) c.args.vars.now in
     let within : c.loop-i.i < length c.args.entries.now.list = omega (arith, c.len-i-end.ensures.value) in
-    λ all. let is : c.are_below.result ≡ true = c.are_below.ensures.found (subst (IsBelow ranges) (sym (c.coords.ensures.value d)) (all c.loop-i.i d within)) in
+    λ all. let is : c.are_below.result ≡ true =
+    c.are_below.ensures.found (subst (IsBelow ranges) (sym (c.coords.ensures.value d)) (all c.loop-i.i d within)) in
     let no = c.if-not-are_below.true in cc
 
 pub loop-i-preserved : goal.loop-i-preserved
@@ -23,7 +24,8 @@ loop-i-preserved c =
     let within : c.loop-i.i < length entries = omega (arith, c.len-i-end.ensures.value) in
     let no = c.if-not-are_below.false in
     let is : c.are_below.result ≡ true = cc in
-    All-more (HasCoordsBelow ranges) entries c.loop-i.i d within c.loop-i.invariant (subst (IsBelow ranges) (c.coords.ensures.value d) (c.are_below.ensures.told is))
+    All-more (HasCoordsBelow ranges) entries c.loop-i.i d within c.loop-i.invariant
+    (subst (IsBelow ranges) (c.coords.ensures.value d) (c.are_below.ensures.told is))
 
 pub returns-clause-told : goal.returns-clause-told
 returns-clause-told c =

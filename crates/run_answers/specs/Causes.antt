@@ -1,6 +1,6 @@
 -- Why a run ends as it does, and what stands then. Each stage has causes of its own: the words, the operands' files, the ranges
 -- and sizes, the writing.
-use Rattle.std.specs.Prelude.{◌≡◌, ℕ, ◌⊎◌, List, [], Option, Some, None, Ok, Err, length, map, slice_index, true, Vec}
+use Rattle.std.specs.Prelude.{◌≡◌, ℕ, ◌⊎◌, List, Option, Some, None, Ok, Err, length, map, slice_index, true, Vec}
 use Rattle.std.specs.declared.alloc.Global.{Global}
 use Rattle.std.specs.declared.alloc.AllocError.{AllocError}
 use Rattle.std.specs.Option.{option_map}
@@ -21,12 +21,11 @@ use Rattle.dense_runs.specs.Runs.{told_ranges, IsTooLarge}
 use Rattle.result_files.specs.Writes.{WritesResult, RefusesResult}
 use Rattle.result_files.specs.declared.refusal.WriteRefusal.{WriteRefusal}
 use Rattle.result_files.specs.declared.refusal.WriteRefusal.TheVariants as write
-use Rattle.refusals.specs.declared.fault.NamedFault.{NamedFault}
 use Rattle.refusals.specs.declared.fault.NamedFault.TheVariants as named
 use Rattle.refusals.specs.declared.fault.Fault.{Fault}
 use Rattle.refusals.specs.declared.fault.Fault.TheVariants as fault
 use Rattle.run_request.specs.Asked.{IsRefusedByWords}
-use Rattle.run_top.specs.Run.{AsksFor, path_of, operands_of, orders_of, paths_of}
+use Rattle.run_answers.specs.Run.{AsksFor, path_of, orders_of, paths_of}
 
 -- what the bytes of an operand's file stand for, where values are added and multiplied modulo 2^64
 abbrev pub means : Meaning
@@ -97,7 +96,8 @@ pub record HasLargeLevel (words : List (List ℕ)) (old new : FolderState) (s : 
 -- why nothing is computed, and what of the folder was opened then
 abbrev pub Stops : List (List ℕ) → FolderState → FolderState → Fault → Type 0
 Stops words old new (fault.ReadFault path) = StopsReading words old new (λ orders paths. RefusedAtFault means old new orders paths path.now)
-Stops words old new (fault.FileBytes path) = StopsReading words old new (λ orders paths. RefusedAtLength means old new orders paths path.now)
+Stops words old new (fault.FileBytes path) =
+    StopsReading words old new (λ orders paths. RefusedAtLength means old new orders paths path.now)
 Stops words old new (fault.BadFile path line kind) =
     StopsReading words old new (λ orders paths. RefusedAtLine means old new orders paths path.now line kind)
 Stops words old new (fault.Named s (named.Range why)) = HasRangeFault words old new s why
@@ -140,12 +140,3 @@ Cause words files files' out out' (Some (fault.WriteFault path)) =
 Cause words files files' out out' (Some fault.Memory) = IsStopped words files files' out out' fault.Memory
     ⊎ ((path : Option (List ℕ)) × (error : AllocError) × IsUnwritten words files files' out out' path (write.Memory error))
 Cause words files files' out out' (Some why) = IsStopped words files files' out out' why
-
--- ---- what each stage alone says
--- why the files of these paths aren't read
-abbrev pub IsReadRefused : FolderState → FolderState → List ℕ → List (List ℕ) → Fault → Type 0
-IsReadRefused old new orders paths (fault.ReadFault path) = RefusedAtFault means old new orders paths path.now
-IsReadRefused old new orders paths (fault.FileBytes path) = RefusedAtLength means old new orders paths path.now
-IsReadRefused old new orders paths (fault.BadFile path line kind) = RefusedAtLine means old new orders paths path.now line kind
-IsReadRefused old new orders paths fault.Memory = (new ≡ old) ⊎ (OpensFirst old new paths × NoReadFails old new)
-IsReadRefused old new orders paths _ = ⊥

@@ -7,7 +7,7 @@ use Rattle.outside.specs.Sink.{SinkState}
 use Rattle.text_lines.specs.Puts.{PutsLess}
 use Rattle.refusals.specs.Lines.{status_of, line_of}
 use Rattle.refusals.specs.declared.fault.Fault.{Fault}
-use Rattle.run_top.specs.Causes.{Cause}
+use Rattle.run_answers.specs.Causes.{Cause}
 
 abbrev pub status_of_end : Option Fault → ℕ
 status_of_end None = 0

@@ -1,4 +1,3 @@
 pub mod Run
 pub mod Causes
-pub mod Computed
 pub mod Ends

@@ -1,5 +1,5 @@
 -- What a run is about: the statement, the operands' files and the result's path, from the words alone.
-use Rattle.std.specs.Prelude.{◌≡◌, ℕ, ◌-◌, ◌==◌, List, [], Option, length, map, unwrap_or}
+use Rattle.std.specs.Prelude.{ℕ, ◌-◌, ◌==◌, List, [], Option, length, map, unwrap_or}
 use Rattle.std.specs.List.{range_with_len}
 use Rattle.std_collections.specs.Map.{lookup}
 use Rattle.format_spec.specs.declared.format.FormatLevel.{FormatLevel}
