@@ -7,8 +7,8 @@ ghost use Rattle.product_loops.specs.AllSizes.{AreTensorSizes, MayRefuseTensor};
 ghost use Rattle.product_loops.specs.Computes.{MayRefuse};
 
 use crate::fault::ComputeFault;
-use product_operands::{positions_of, sizes_of};
 use index_notation::Statement;
+use product_operands::{positions_of, sizes_of};
 use std::alloc::Global;
 use tensor_map::Entries;
 use trees::Items;
