@@ -2,8 +2,8 @@
 //! which is compared with the file `stdout`, where stands what must come.
 //!
 //! A line of a case file is a case, `ORDER | TEXT`, or a comment that begins with `#`, or empty. The order is that of the
-//! tensor that the matrix is read as, 1 or 2. The text has the escapes \t, \r, \n, \\ and \xHH. It is read in pieces of 1, 2
-//! and 4,096 bytes.
+//! tensor that the matrix is read as, 1 or 2. The text has the escapes \t, \r, \n, \\ and \xHH; where a number stands behind
+//! the order, so many spaces come behind the text. It is read in pieces of 1, 2 and 4,096 bytes.
 #![tactic(auto)]
 
 ghost use Rattle.std.specs.Prelude.{◌<◌, IfOk};
@@ -95,12 +95,25 @@ fn answer_of(alloc: Global, order: usize, text: &[u8]) -> Result<String>
     Ok(answer)
 }
 
+/// The bytes of a text, with spaces behind it.
+fn bytes_of(alloc: Global, text: &str, spaces: usize) -> Result<Vec<u8>> {
+    let mut bytes: Vec<u8> = Vec::unescape_bytes(alloc, text)?;
+    for _ in 0..spaces {
+        bytes.push(b' ')?;
+    }
+    Ok(bytes)
+}
+
 /// Runs the case of a line, and prints what came.
 fn run_line<R: Print + AllocGlobal>(rt: &R, line: &str) -> Result<()> {
     let (head, text) = line.split_once('|').context("no text")?;
     let text = text.strip_prefix(' ').unwrap_or(text);
-    let bytes: Vec<u8> = Vec::unescape_bytes(rt.alloc(), text)?;
-    let answer = answer_of(rt.alloc(), order_of(head)?, bytes.as_slice())?;
+    let (order, spaces) = match head.trim().split_once(' ') {
+        Some((order, spaces)) => (order, spaces.parse::<usize>()?),
+        None => (head, 0),
+    };
+    let bytes = bytes_of(rt.alloc(), text, spaces)?;
+    let answer = answer_of(rt.alloc(), order_of(order)?, bytes.as_slice())?;
     println!(rt; "{line}")?;
     println!(rt; "    {answer}")?;
     Ok(())
