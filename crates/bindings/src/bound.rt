@@ -46,8 +46,8 @@ fn order_among(accesses: &[Access], tensor: usize) -> usize
     0
 }
 
-/// The number of variables of a tensor's accesses.
-pub(crate) fn order_of(statement: &Statement, tensor: usize) -> usize
+/// The order of a tensor: the number of variables of its accesses, and 0 where it has none.
+pub fn order_of(statement: &Statement, tensor: usize) -> usize
     ensures { result ≡ order_of_tensor statement.now tensor }
 {
     if statement.left.tensor == tensor {

@@ -8,4 +8,5 @@ mod fault;
 mod word;
 
 pub use binding::{Bindings, bind};
+pub use bound::order_of;
 pub use fault::{BindingFault, WordFault};

@@ -1,5 +1,6 @@
 -- Values added at their positions, entry by entry.
-use Rattle.std.proofs.Common.{◌≡◌, ◌≢◌, ℕ, suc, ◌+◌, ◌<◌, ◌^◌, List, [], ◌∷◌, ◌++◌, length, take, set, get_or, ap, sym, ◌∙◌, add-one, length-set, get_or-set_same, get_or-set_other}
+use Rattle.std.proofs.Common.{◌≡◌, ◌≢◌, ℕ, suc, ◌+◌, ◌<◌, ◌^◌, List, [], ◌∷◌, ◌++◌, length, take, set, get_or, ap, sym, ◌∙◌, add-one}
+use Rattle.std.proofs.Common.{length-set, get_or-set_same, get_or-set_other}
 use Rattle.std.specs.Prelude.{replicate}
 use Rattle.std.proofs.lemmas.List.{length-replicate, get_or-replicate}
 use Rattle.std.proofs.Math.Seq.{take-suc}
@@ -22,13 +23,16 @@ module _ (a : Arithmetic) (laws : Laws a) where
   }
 
   -- one entry more, whose value is added at its position
-  dense_at : (sizes : List ℕ) (front : List Entry) (entry : Entry) (values : List ℕ) → IsBelow sizes entry.coords → entry.value < 2 ^ 64 → IsDense a sizes front values
+  dense_at : (sizes : List ℕ) (front : List Entry) (entry : Entry) (values : List ℕ) → IsBelow sizes entry.coords → entry.value < 2 ^ 64
+      → IsDense a sizes front values
       → (coords : List ℕ) → IsBelow sizes coords
-      → get_or (set values (position sizes entry.coords) (a.plus (get_or values (position sizes entry.coords) 0) entry.value)) (position sizes coords) 0 ≡ value_at a (front ++ entry ∷ []) coords
+      → get_or (set values (position sizes entry.coords) (a.plus (get_or values (position sizes entry.coords) 0) entry.value))
+      (position sizes coords) 0 ≡ value_at a (front ++ entry ∷ []) coords
   dense_at sizes front entry values below fits dense coords there =
       let p : ℕ = position sizes entry.coords in
       let sum : ℕ = a.plus (get_or values p 0) entry.value in
-      let whole : value_at a (front ++ entry ∷ []) coords ≡ a.plus (value_at a front coords) (value_at a (entry ∷ []) coords) = value_append a laws coords front (entry ∷ []) in
+      let whole : value_at a (front ++ entry ∷ []) coords ≡ a.plus (value_at a front coords) (value_at a (entry ∷ []) coords) =
+      value_append a laws coords front (entry ∷ []) in
       elim (tested entry.coords coords) [
         | same is e ↦ (
             let place : position sizes coords ≡ p = ap (position sizes) (sym is) in
@@ -42,15 +46,21 @@ module _ (a : Arithmetic) (laws : Laws a) where
             let apart : position sizes coords ≢ p = λ q. isnt (sym (position_injective sizes coords entry.coords there below q)) in
             get_or-set_other values p (position sizes coords) sum 0 apart
             ∙ dense.each coords there
-            ∙ sym (ap (a.plus (value_at a front coords)) (value_elsewhere a coords entry [] e) ∙ laws.plus_zero (value_at a front coords) (total_fits a laws (values_at front coords)))
+            ∙ sym (ap (a.plus (value_at a front coords)) (value_elsewhere a coords entry [] e)
+            ∙ laws.plus_zero (value_at a front coords) (total_fits a laws (values_at front coords)))
             ∙ sym whole)
       ]
 
-  pub dense_more : (sizes : List ℕ) (entries : List Entry) (i : ℕ) (entry : Entry) (values : List ℕ) → i < length entries → ((d : Entry) → get_or entries i d ≡ entry) → IsBelow sizes entry.coords → entry.value < 2 ^ 64
-      → IsDense a sizes (take i entries) values → IsDense a sizes (take (i + 1) entries) (set values (position sizes entry.coords) (a.plus (get_or values (position sizes entry.coords) 0) entry.value))
+  pub dense_more : (sizes : List ℕ) (entries : List Entry) (i : ℕ) (entry : Entry) (values : List ℕ) → i < length entries
+      → ((d : Entry) → get_or entries i d ≡ entry) → IsBelow sizes entry.coords → entry.value < 2 ^ 64
+      → IsDense a sizes (take i entries) values
+      → IsDense a sizes (take (i + 1) entries)
+      (set values (position sizes entry.coords) (a.plus (get_or values (position sizes entry.coords) 0) entry.value))
   dense_more sizes entries i entry values h is below fits dense =
-      let front : take (suc i) entries ≡ take i entries ++ entry ∷ [] = take-suc entries i entry h ∙ ap (λ e. take i entries ++ e ∷ []) (is entry) in
+      let front : take (suc i) entries ≡ take i entries ++ entry ∷ [] = take-suc entries i entry h
+      ∙ ap (λ e. take i entries ++ e ∷ []) (is entry) in
       rw (add-one, front) (record {
-        long = length-set values (position sizes entry.coords) (a.plus (get_or values (position sizes entry.coords) 0) entry.value) ∙ dense.long;
+        long = length-set values (position sizes entry.coords) (a.plus (get_or values (position sizes entry.coords) 0) entry.value)
+            ∙ dense.long;
         each = dense_at sizes (take i entries) entry values below fits dense;
       })

@@ -1,7 +1,7 @@
+pub mod Below
 pub mod DenseLemmas
 pub mod LevelLaws
 pub mod LevelLemmas
-pub mod ReachLaws
-pub mod ReachLemmas
+pub mod RangesAbove
 pub mod SizeLaws
 pub mod SizeLemmas

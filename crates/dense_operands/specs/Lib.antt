@@ -1,4 +1,3 @@
 pub mod Levels
 pub mod Operands
-pub mod Reaches
 pub mod Sizes

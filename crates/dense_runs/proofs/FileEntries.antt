@@ -35,7 +35,7 @@ use Rattle.mtx_io.specs.SizeLaws.{IsOfSizes}
 use Rattle.mtx_io.specs.Text.{IsBelow}
 use Rattle.mtx_io.proofs.BelowSizes.{text_below}
 use Rattle.operand_files.specs.Decoded.{Operand, IsReadable, reached, sizes, of_entries, of_matrix, operand_of}
-use Rattle.product_operands.specs.Operands.{limit_of, IsBounded}
+use Rattle.dense_operands.specs.Operands.{limit_of, IsBounded}
 
 abbrev pub bound_in : List Bound → ℕ → Bound
 bound_in bounds mode = bound_or_none (slice_get bounds mode)

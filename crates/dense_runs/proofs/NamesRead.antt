@@ -22,7 +22,7 @@ use Rattle.index_notation.proofs.NumberingLaws.{tested, same_self, place_here, p
 use Rattle.std.proofs.lemmas.Bool.Decides.{nat_tests}
 use Rattle.std.specs.Prelude.{nat_lt}
 use Rattle.expr_terms.specs.Terms.{contains, is_at_access, stands_in}
-use Rattle.product_loops.specs.Computes.{IsRead}
+use Rattle.range_loops.specs.Computes.{IsRead}
 use Rattle.expr_terms.proofs.Equations.{stands_in_add, stands_in_sub, stands_in_mul, stands_in_neg}
 
 -- names that differ from one, and from each other

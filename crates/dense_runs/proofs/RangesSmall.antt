@@ -25,7 +25,7 @@ use Rattle.expr_terms.specs.Ranges.{greatest_of, places_in, exact_of, least_of}
 use Rattle.expr_terms.specs.Ranges.{exact_ranges, first_other, first_above, unless_above, exact_range, bounded_range, settled, range_of}
 use Rattle.expr_terms.specs.Ranges.{and_range, ranges_or_first, ranges_of}
 use Rattle.expr_terms.specs.Told.{word_or_none, given_at}
-use Rattle.product_operands.specs.Operands.{limit_of}
+use Rattle.dense_operands.specs.Operands.{limit_of}
 
 abbrev IsSmall : ℕ → Type 0
 IsSmall n = n ≤ greatest_position_count

@@ -8,7 +8,7 @@ use Rattle.numbers.specs.Arithmetic.{Arithmetic}
 use Rattle.tensor_map.specs.Coords.{IsShape}
 use Rattle.tensor_map.specs.Entries.{Entries}
 use Rattle.index_notation.specs.declared.syntax.Statement.{Statement}
-use Rattle.product_loops.specs.Computes.{IsComputable, IsResult}
+use Rattle.range_loops.specs.Computes.{IsComputable, IsResult}
 use Rattle.std.specs.Prelude.{Option, Vec}
 use Rattle.std.specs.declared.alloc.Global.{Global}
 use Rattle.expr_terms.specs.Told as told

@@ -30,9 +30,9 @@ use Rattle.operand_files.specs.Decoded.{Operand, IsReadable, AreReadable}
 use Rattle.operand_files.specs.Decoded as decoded
 use Rattle.operand_files.specs.Reads.{Given, paths_of, HaveRead}
 use Rattle.operand_files.specs.Reads as reads
-use Rattle.product_operands.specs.Operands.{limit_of, operand_of, HasOrder, ReadsOperand, AreOperands, IsBounded, ReadsBounded, AreBounded}
-use Rattle.product_operands.proofs.RangesAbove.{ranges_long, bounded_below}
-use Rattle.product_loops.specs.Products.{IsProductOfAccesses}
+use Rattle.dense_operands.specs.Operands.{limit_of, operand_of, HasOrder, ReadsOperand, AreOperands, IsBounded, ReadsBounded, AreBounded}
+use Rattle.dense_operands.proofs.RangesAbove.{ranges_long, bounded_below}
+use Rattle.range_loops.specs.Products.{IsProductOfAccesses}
 use Rattle.dense_runs.specs.Orders.{operand_orders}
 use Rattle.dense_runs.specs.Runs.{IsRunnable}
 use Rattle.dense_runs.proofs.FileEntries.{bound_in, IsKept, file_kept}

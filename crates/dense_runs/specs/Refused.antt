@@ -1,8 +1,8 @@
 -- Faults of the ranges and of the computing as those of a run.
 use Rattle.expr_terms.specs.declared.range_fault.RangeFault.{RangeFault}
 use Rattle.expr_terms.specs.declared.range_fault.RangeFault.TheVariants as range
-use Rattle.product_loops.specs.declared.fault.ComputeFault.{ComputeFault}
-use Rattle.product_loops.specs.declared.fault.ComputeFault.TheVariants as compute
+use Rattle.range_loops.specs.declared.fault.ComputeFault.{ComputeFault}
+use Rattle.range_loops.specs.declared.fault.ComputeFault.TheVariants as compute
 use Rattle.dense_runs.specs.declared.fault.RunFault.{RunFault}
 use Rattle.dense_runs.specs.declared.fault.RunFault.TheVariants.{Range, SizeLimit, Memory}
 

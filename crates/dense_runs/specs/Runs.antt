@@ -11,7 +11,7 @@ use Rattle.expr_terms.specs.Told.{given_at, bound_at}
 use Rattle.expr_terms.specs.declared.bound.Bound.{Bound}
 use Rattle.expr_terms.specs.declared.range_fault.RangeFault.{RangeFault}
 use Rattle.tns_io.specs.Positions.{IsBelow}
-use Rattle.product_loops.specs.Computes.{AllFit, IsComputable, IsFirstTooLarge}
+use Rattle.range_loops.specs.Computes.{AllFit, IsComputable, IsFirstTooLarge}
 use Rattle.dense_runs.specs.declared.fault.RunFault.{RunFault}
 use Rattle.dense_runs.specs.declared.fault.RunFault.TheVariants.{Range, SizeLimit, Memory}
 

@@ -2,7 +2,7 @@
 ghost use Rattle.dense_runs.specs.Refused.{of_ranges, of_compute};
 
 use expr_terms::RangeFault;
-use product_loops::ComputeFault;
+use range_loops::ComputeFault;
 use std::alloc::AllocError;
 
 /// Why a statement isn't computed over its operands.

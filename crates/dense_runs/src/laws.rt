@@ -14,7 +14,7 @@ ghost use Rattle.bindings.specs.Bindings.{first_in, path_in};
 ghost use Rattle.bindings.specs.Outcome.{Binds};
 ghost use Rattle.operand_files.specs.Decoded.{AreReadable, operand_of};
 ghost use Rattle.operand_files.specs.Reads.{HaveRead};
-ghost use Rattle.product_loops.specs.Products.{IsProductOfAccesses};
+ghost use Rattle.range_loops.specs.Products.{IsProductOfAccesses};
 ghost use Rattle.dense_runs.specs.Orders.{operand_orders};
 ghost use Rattle.dense_runs.specs.Runs.{IsRunnable};
 

@@ -3,7 +3,7 @@ ghost use Rattle.std.specs.Prelude.{◌≡◌, ◌≤◌, Bool, true, length, ma
 ghost use Rattle.limits.specs.Limits.{greatest_order, greatest_position_count};
 ghost use Rattle.tns_io.specs.Positions.{product};
 ghost use Rattle.mtx_io.specs.Progress.{IsMatrixOrder};
-ghost use Rattle.product_loops.specs.Computes.{IsComputable, IsResult};
+ghost use Rattle.range_loops.specs.Computes.{IsComputable, IsResult};
 ghost use Rattle.result_files.specs.EntriesText.{MayBeWritten};
 ghost use Rattle.dense_runs.specs.Runs.{IsRunnable, IsTensorOf, IsRun, MayRefuse};
 
@@ -12,7 +12,7 @@ use expr_terms::ranges;
 use index_notation::Statement;
 use numbers::Semiring;
 use operand_files::Operands;
-use product_loops::{Dense, compute};
+use range_loops::{Dense, compute};
 use result_files::entries_of_dense;
 use std::alloc::{AllocError, Global};
 use tensor_map::{Entries, Shape};

@@ -1,9 +1,11 @@
 pub mod Values
 pub mod LoopLaws
 pub mod Totals
+pub mod ProductMade
+pub mod ProductValues
 pub mod Result
 pub mod MachineStates
-pub mod RangesAre
 pub mod OperandLemmas
 pub mod Ready
 pub mod Reading
+pub mod TooLarge

@@ -1,5 +1,6 @@
 -- What loading arrays into a machine leaves, and how a run that ends is told.
-use Rattle.std.specs.Prelude.{◌≡◌, ◌≢◌, ℕ, ◌+◌, ◌≤◌, max, true, false, Bool, ◌==◌, ◌&&◌, nat_le, if◌then◌else◌, List, [], ◌∷◌, length, replicate, slice_index, Some, Result, Ok, Err, OnOk, refl}
+use Rattle.std.specs.Prelude.{◌≡◌, ◌≢◌, ℕ, ◌+◌, ◌≤◌, max, true, false, Bool, ◌==◌, ◌&&◌, nat_le, if◌then◌else◌, List, [], ◌∷◌, length}
+use Rattle.std.specs.Prelude.{replicate, slice_index, Some, Result, Ok, Err, OnOk, refl}
 use Rattle.std.proofs.Common.{◌∙◌, sym, ap, subst, arith, get_or, drop}
 use Rattle.std.proofs.lemmas.Bool.Decides.{nat_tests}
 use Rattle.std.proofs.lemmas.Bool.{ne_eqb}
@@ -36,22 +37,31 @@ this_level tensor level = same (tensor == tensor) (level == level) (grind (arith
     same : (a b : Bool) → a ≡ true → b ≡ true → (a && b) ≡ true
     same a b p q = ap (λ x. x && b) p ∙ q
 
-pub sizes_more : (s t u : State) (tensor level first : ℕ) (rest : List ℕ) → t ≡ set_array s (Dimension tensor level) (first ∷ []) → SizesFrom u tensor (level + 1) rest → KeepsBelow tensor (level + 1) t u
+pub sizes_more : (s t u : State) (tensor level first : ℕ) (rest : List ℕ) → t ≡ set_array s (Dimension tensor level) (first ∷ [])
+    → SizesFrom u tensor (level + 1) rest → KeepsBelow tensor (level + 1) t u
     → SizesFrom u tensor level (first ∷ rest)
-sizes_more s t u tensor level first rest e h keeps =
-    (keeps (Dimension tensor level) (λ k le. other_level tensor k level le) ∙ ap (λ (x : State). x.arrays (Dimension tensor level)) e ∙ this_array s (Dimension tensor level) (Dimension tensor level) (first ∷ []) (this_level tensor level), h)
+sizes_more s t u tensor level first rest e h keeps = (
+  keeps (Dimension tensor level) (λ k le. other_level tensor k level le) ∙ ap (λ (x : State). x.arrays (Dimension tensor level)) e
+      ∙ this_array s (Dimension tensor level) (Dimension tensor level) (first ∷ []) (this_level tensor level),
+  h,
+)
 
-pub keeps_more : (s t u : State) (tensor level first : ℕ) → t ≡ set_array s (Dimension tensor level) (first ∷ []) → KeepsBelow tensor (level + 1) t u → KeepsBelow tensor level s u
+pub keeps_more : (s t u : State) (tensor level first : ℕ) → t ≡ set_array s (Dimension tensor level) (first ∷ [])
+    → KeepsBelow tensor (level + 1) t u → KeepsBelow tensor level s u
 keeps_more s t u tensor level first e keeps = λ a apart.
-    keeps a (λ k le. apart k (omega arith)) ∙ ap (λ (x : State). x.arrays a) e ∙ other_array s (Dimension tensor level) a (first ∷ []) (apart level (omega arith))
+    keeps a (λ k le. apart k (omega arith)) ∙ ap (λ (x : State). x.arrays a) e
+    ∙ other_array s (Dimension tensor level) a (first ∷ []) (apart level (omega arith))
 
-pub values_kept : (s t u : State) (tensor : ℕ) (xs : List ℕ) → t ≡ set_array s (Values tensor) xs → KeepsBelow tensor 1 t u → u.arrays (Values tensor) ≡ Some xs
-values_kept s t u tensor xs e keeps = keeps (Values tensor) (λ k le. refl) ∙ ap (λ (x : State). x.arrays (Values tensor)) e ∙ this_array s (Values tensor) (Values tensor) xs (same tensor)
+pub values_kept : (s t u : State) (tensor : ℕ) (xs : List ℕ) → t ≡ set_array s (Values tensor) xs → KeepsBelow tensor 1 t u
+    → u.arrays (Values tensor) ≡ Some xs
+values_kept s t u tensor xs e keeps = keeps (Values tensor) (λ k le. refl) ∙ ap (λ (x : State). x.arrays (Values tensor)) e
+    ∙ this_array s (Values tensor) (Values tensor) xs (same tensor)
   where
     same : (tensor : ℕ) → (tensor == tensor) ≡ true
     same tensor = grind (arith, nat_tests)
 
-pub others_kept : (s t u : State) (tensor : ℕ) (xs : List ℕ) → t ≡ set_array s (Values tensor) xs → KeepsBelow tensor 1 t u → KeepsOthers tensor s u
+pub others_kept : (s t u : State) (tensor : ℕ) (xs : List ℕ) → t ≡ set_array s (Values tensor) xs → KeepsBelow tensor 1 t u
+    → KeepsOthers tensor s u
 others_kept s t u tensor xs e keeps = λ a apart values.
     keeps a (λ k le. apart k) ∙ ap (λ (x : State). x.arrays a) e ∙ other_array s (Values tensor) a xs values
 
@@ -68,13 +78,15 @@ told_end n (Stuck t) s e = which (nat_le (all_turns t) n) e
     which false e = cc
 told_end n (Over t a count) s e = which (nat_le (all_turns t) n) e
   where
-    which : {t : LoopKind → ℕ} {a : Arr} {count : ℕ} {s : State} (b : Bool) → Ended s ≡ (if b then Over t a count else More) → Over t a count ≡ Ended s
+    which : {t : LoopKind → ℕ} {a : Arr} {count : ℕ} {s : State} (b : Bool) → Ended s ≡ (if b then Over t a count else More)
+        → Over t a count ≡ Ended s
     which true e = cc
     which false e = cc
 told_end n More s e = cc
 
 -- a run that was told to end has ended where the code ends
-pub ended_there : (c : Setting) (code : List KStmt) (start told final : State) (n : ℕ) → Ended told ≡ within n (run_list c n code start) → RunsInto c code start final → told ≡ final
+pub ended_there : (c : Setting) (code : List KStmt) (start told final : State) (n : ℕ) → Ended told ≡ within n (run_list c n code start)
+    → RunsInto c code start final → told ≡ final
 ended_there c code start told final n e runs =
     let m : ℕ = max n runs.enough in
     let ended = told_end n (run_list c n code start) told e in
@@ -103,12 +115,17 @@ on_ok_both (Err e) P Q S f g h = h
 apart_level : (tensor other k level : ℕ) → tensor ≢ other → same_arr (Dimension tensor k) (Dimension other level) ≡ false
 apart_level tensor other k level h = ap (λ b. b && (k == level)) (ne_eqb tensor other h)
 
-sizes_stay : (s t : State) (tensor other level : ℕ) (sizes : List ℕ) → tensor ≢ other → KeepsOthers tensor s t → SizesFrom s other level sizes → SizesFrom t other level sizes
+sizes_stay : (s t : State) (tensor other level : ℕ) (sizes : List ℕ) → tensor ≢ other → KeepsOthers tensor s t
+    → SizesFrom s other level sizes → SizesFrom t other level sizes
 sizes_stay s t tensor other level [] apart keeps h = tt
-sizes_stay s t tensor other level (n ∷ ns) apart keeps h =
-    (keeps (Dimension other level) (λ k. apart_level tensor other k level apart) refl ∙ h.0, sizes_stay s t tensor other (level + 1) ns apart keeps h.1)
+sizes_stay s t tensor other level (n ∷ ns) apart keeps h = (
+  keeps (Dimension other level) (λ k. apart_level tensor other k level apart) refl
+      ∙ h.0,
+  sizes_stay s t tensor other (level + 1) ns apart keeps h.1,
+)
 
-pub loaded_stays : (arithmetic : Arithmetic) (s t : State) (tensor other : ℕ) (sizes : List ℕ) (entries : List Entry) → tensor ≢ other → KeepsOthers tensor s t → IsLoaded arithmetic s other sizes entries → IsLoaded arithmetic t other sizes entries
+pub loaded_stays : (arithmetic : Arithmetic) (s t : State) (tensor other : ℕ) (sizes : List ℕ) (entries : List Entry) → tensor ≢ other
+    → KeepsOthers tensor s t → IsLoaded arithmetic s other sizes entries → IsLoaded arithmetic t other sizes entries
 loaded_stays arithmetic s t tensor other sizes entries apart keeps h = record {
   sizes_are = sizes_stay s t tensor other 1 sizes apart keeps h.sizes_are;
   values = h.values;
@@ -116,22 +133,36 @@ loaded_stays arithmetic s t tensor other sizes entries apart keeps h = record {
   dense = h.dense;
 }
 
-sizes_with_range : (s : State) (ranges : List ℕ) (tensor level : ℕ) (sizes : List ℕ) → SizesFrom s tensor level sizes → SizesFrom (set_array s Range ranges) tensor level sizes
+sizes_with_range : (s : State) (ranges : List ℕ) (tensor level : ℕ) (sizes : List ℕ) → SizesFrom s tensor level sizes
+    → SizesFrom (set_array s Range ranges) tensor level sizes
 sizes_with_range s ranges tensor level [] h = tt
 sizes_with_range s ranges tensor level (n ∷ ns) h = (h.0, sizes_with_range s ranges tensor (level + 1) ns h.1)
 
-loaded_with_range : (arithmetic : Arithmetic) (s : State) (ranges : List ℕ) (tensor : ℕ) (sizes : List ℕ) (entries : List Entry) → IsLoaded arithmetic s tensor sizes entries → IsLoaded arithmetic (set_array s Range ranges) tensor sizes entries
-loaded_with_range arithmetic s ranges tensor sizes entries h = record { sizes_are = sizes_with_range s ranges tensor 1 sizes h.sizes_are; values = h.values; values_are = h.values_are; dense = h.dense }
+loaded_with_range : (arithmetic : Arithmetic) (s : State) (ranges : List ℕ) (tensor : ℕ) (sizes : List ℕ) (entries : List Entry)
+    → IsLoaded arithmetic s tensor sizes entries → IsLoaded arithmetic (set_array s Range ranges) tensor sizes entries
+loaded_with_range arithmetic s ranges tensor sizes entries h =
+    record {
+      sizes_are = sizes_with_range s ranges tensor 1 sizes h.sizes_are;
+      values = h.values;
+      values_are = h.values_are;
+      dense =
+          h.dense;
+    }
 
 -- all arrays are there once the operands, the result and the ranges are loaded
-pub machine_of : (arithmetic : Arithmetic) (before mid after : State) (statement : Statement) (operands : List Entries) (ranges sizes zeros : List ℕ)
-    → AreLoaded arithmetic before statement operands (slice_index ranges) (length operands) → KeepsOthers 0 before mid → SizesFrom mid 0 1 sizes → mid.arrays (Values 0) ≡ Some zeros
-    → zeros ≡ replicate (product sizes) arithmetic.zero → after ≡ set_array mid Range ranges → IsMachineOf arithmetic after statement operands ranges sizes
+pub machine_of : (arithmetic : Arithmetic) (before mid after : State) (statement : Statement) (operands : List Entries)
+    (ranges sizes zeros : List ℕ)
+    → AreLoaded arithmetic before statement operands (slice_index ranges) (length operands) → KeepsOthers 0 before mid
+    → SizesFrom mid 0 1 sizes → mid.arrays (Values 0) ≡ Some zeros
+    → zeros ≡ replicate (product sizes) arithmetic.zero → after ≡ set_array mid Range ranges
+    → IsMachineOf arithmetic after statement operands ranges sizes
 machine_of arithmetic before mid after statement operands ranges sizes zeros loaded keeps result_sizes result is e =
     subst (λ state. IsMachineOf arithmetic state statement operands ranges sizes) (sym e) (record {
       range = refl;
-      loaded = λ n l. loaded_with_range arithmetic mid ranges (n + 1) (operand_sizes statement operands (slice_index ranges) n) (entries_of operands (n + 1))
-          (loaded_stays arithmetic before mid 0 (n + 1) (operand_sizes statement operands (slice_index ranges) n) (entries_of operands (n + 1)) (λ z. absurd (omega (arith, z))) keeps (loaded n l));
+      loaded = λ n l. loaded_with_range arithmetic mid ranges (n + 1) (operand_sizes statement operands (slice_index ranges) n)
+          (entries_of operands (n + 1))
+          (loaded_stays arithmetic before mid 0 (n + 1) (operand_sizes statement operands (slice_index ranges) n)
+          (entries_of operands (n + 1)) (λ z. absurd (omega (arith, z))) keeps (loaded n l));
       result_sizes = sizes_with_range mid ranges 0 1 sizes result_sizes;
       result = result ∙ ap Some is;
     })

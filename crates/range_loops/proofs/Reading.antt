@@ -13,7 +13,8 @@ read_later first others tensor h = record { place = suc h.place; access = h.acce
 pub read_in_none : (tensor : ℕ) → IsRead [] tensor → ⊥
 read_in_none tensor h = let stands = h.stands in cc
 
-pub read_behind : (first : Access) (others : List Access) (tensor : ℕ) → (first.tensor ≡ tensor → ⊥) → IsRead (first ∷ others) tensor → IsRead others tensor
+pub read_behind : (first : Access) (others : List Access) (tensor : ℕ) → (first.tensor ≡ tensor → ⊥) → IsRead (first ∷ others) tensor
+    → IsRead others tensor
 read_behind first others tensor apart h = at h.place h.stands
   where
     at : (place : ℕ) → slice_get (first ∷ others) place ≡ Some h.access → IsRead others tensor

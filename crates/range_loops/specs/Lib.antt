@@ -1,3 +1,5 @@
+pub mod AllSizes
 pub mod Code
 pub mod Computes
+pub mod Products
 pub mod Runs

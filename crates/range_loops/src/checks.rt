@@ -1,10 +1,14 @@
 //! Whether the loops can compute a statement.
-ghost use Rattle.std.specs.Prelude.{◌+◌, ◌<◌, ℕ, IsTrue};
+ghost use Rattle.std.specs.Prelude.{◌≡◌, ◌+◌, ◌<◌, ◌≤◌, ◌↔◌, ℕ, true, All, IsTrue, length};
+ghost use Rattle.limits.specs.Limits.{greatest_position_count};
+ghost use Rattle.expr_terms.specs.Terms.{stands_in};
 ghost use Rattle.range_loops.specs.Computes.{IsRead, IsComputable};
 
-use dense_operands::are_operands;
-use expr_terms::is_product;
+use crate::products::is_product_of_accesses;
+use expr_terms::stands_in;
 use index_notation::{Access, Statement};
+use limits::greatest_positions;
+use dense_operands::{are_below_ranges, are_operands};
 use tensor_map::Entries;
 
 /// Whether one of these accesses reads the tensor.
@@ -30,14 +34,41 @@ fn are_read(accesses: &[Access], operands: usize) -> bool
     is_read(accesses, operands) && are_read(accesses, operands - 1)
 }
 
-/// Whether `compute` takes the statement and these operands: the operands fit the statement and each is read, its
-/// names pass the checks, and its right side is the product of all its accesses, in which each variable stands.
-pub fn is_computable(statement: &Statement, operands: &[Entries]) -> bool
-    ensures told { IsTrue result → IsComputable statement.now operands.now }
-    ensures found { IsComputable statement.now operands.now → IsTrue result }
+/// Whether each of the first so many variables that comes after those of the left side stands on the right.
+fn stand_on_the_right(statement: &Statement, vars: usize) -> bool
+    ensures told { IsTrue result → (v : ℕ) → length statement.now.left.vars ≤ v → v < vars
+        → stands_in statement.now.accesses v statement.now.expr ≡ true }
+    ensures found { ((v : ℕ) → length statement.now.left.vars ≤ v → v < vars
+        → stands_in statement.now.accesses v statement.now.expr ≡ true) → IsTrue result }
+{
+    if vars <= statement.left.vars.len() {
+        return true;
+    }
+    stands_in(statement.accesses.as_slice(), vars - 1, &statement.expr)
+        && stand_on_the_right(statement, vars - 1)
+}
+
+/// Whether no range is above the greatest number of positions.
+fn are_small(ranges: &[u64]) -> bool
+    ensures { IsTrue result ↔ All (λ range. range ≤ greatest_position_count) ranges.now }
+{
+    ranges.iter().all(|range| *range <= greatest_positions())
+}
+
+/// Whether `compute` takes the statement with these operands and ranges: the operands fit the statement and each is
+/// read, its names pass the checks, its right side is a product of accesses, however bracketed, in which each variable
+/// stands that doesn't stand on the left, and there is a range for each variable, none above the greatest number of
+/// positions, and above the coordinates that are read at the variable.
+pub fn is_computable(statement: &Statement, operands: &[Entries], ranges: &[u64]) -> bool
+    ensures told { IsTrue result → IsComputable statement.now operands.now ranges.now }
+    ensures found { IsComputable statement.now operands.now ranges.now → IsTrue result }
 {
     are_operands(statement, operands)
         && statement.is_well_named()
-        && is_product(statement)
+        && is_product_of_accesses(&statement.expr)
+        && stand_on_the_right(statement, statement.vars.len())
         && are_read(statement.accesses.as_slice(), operands.len())
+        && ranges.len() == statement.vars.len()
+        && are_small(ranges)
+        && are_below_ranges(statement, operands, ranges)
 }

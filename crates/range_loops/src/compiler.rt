@@ -1,7 +1,9 @@
 ghost use Rattle.std.specs.Prelude.{◌≡◌, ◌+◌, ◌<◌, ◌^◌, [], ◌∷◌, ◌++◌, length, IfOk};
 ghost use Rattle.range_loops.specs.Code.{position_below, position_code, access_code, product_after, product_code, loop_code, loops_code};
 ghost use Rattle.range_loops.specs.Code.{body_code};
+ghost use Rattle.range_loops.specs.Products.{right_factors};
 
+use crate::products::right_factors;
 use index_notation::{Access, Statement};
 use kernel_code::{
     Arr, KExpr, KStmt, Kernel, LoopKind, Op, ValueOp, binary, one_statement, word_at,
@@ -135,12 +137,13 @@ fn loops_over(alloc: Global, count: u64, body: Items<KStmt>) -> Result<Items<KSt
 /// variable after those of the loops.
 pub fn compile<S: Semiring>(alloc: Global, statement: &Statement) -> Result<Kernel, AllocError>
     ensures body { IfOk result (λ kernel. kernel.body ≡ loops_code 0 (length statement.now.vars)
-        (body_code S.arithmetic.one (length statement.now.vars) statement.now.left statement.now.accesses)) }
+        (body_code S.arithmetic.one (length statement.now.vars) statement.now.left (right_factors statement.now))) }
     ensures workspaces { IfOk result (λ kernel. kernel.workspaces ≡ []) }
 {
     let vars = statement.vars.len() as u64;
     let place = position_of(alloc, &statement.left)?;
-    let mut body = product_of::<S>(alloc, vars, statement.accesses.as_slice())?;
+    let factors = right_factors(alloc, statement)?;
+    let mut body = product_of::<S>(alloc, vars, factors.as_slice())?;
     body.push(KStmt::AddTo(Arr::Values(0), place, KExpr::Var(vars)))?;
     let body = loops_over(alloc, vars, body)?;
     Ok(Kernel {

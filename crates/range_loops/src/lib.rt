@@ -5,9 +5,13 @@
 
 mod checks;
 mod compiler;
+mod fault;
 mod loading;
 mod loops;
+mod products;
 mod sizing;
 
 pub use checks::is_computable;
+pub use fault::ComputeFault;
 pub use loops::{Dense, compute};
+pub use products::is_product_of_accesses;

@@ -1,15 +1,14 @@
-ghost use Rattle.std.specs.Prelude.{◌≡◌, ◌+◌, ◌^◌, ◌<◌, length, slice_index, Some, [], All, OnOk};
+ghost use Rattle.std.specs.Prelude.{◌≡◌, ◌+◌, ◌^◌, ◌<◌, ◌≤◌, length, Some, [], All, OnOk};
+ghost use Rattle.limits.specs.Limits.{greatest_position_count};
 ghost use Rattle.tns_io.specs.Positions.{IsBelow};
 ghost use Rattle.dense_operands.specs.Levels.{FitLevels};
-ghost use Rattle.dense_operands.specs.Sizes.{mode_sizes};
 ghost use Rattle.kernel_code.specs.Meaning.{State};
 ghost use Rattle.kernel_code.specs.Store.{state_of, setting, restarted};
 ghost use Rattle.range_loops.specs.Runs.{RunsInto, RunsToEnd, SizesFrom, KeepsBelow, KeepsOthers, IsLoaded};
 
-use dense_operands::{sizes_of, values_of};
-use index_notation::Statement;
 use kernel_code::{Arr, Ending, KStmt, Machine};
 use numbers::Semiring;
+use dense_operands::values_of;
 use std::alloc::{AllocError, Global};
 use tensor_map::Entries;
 
@@ -55,21 +54,19 @@ pub(crate) fn load_tensor(
 pub(crate) fn load_operand<S: Semiring>(
     alloc: Global,
     machine: &mut Machine,
-    statement: &Statement,
-    ranges: &[u64],
     tensor: usize,
+    sizes: &[u64],
     entries: &Entries,
 ) -> Result<(), AllocError>
-    requires fit { FitLevels (mode_sizes statement.now (slice_index ranges.now) tensor entries.now.order) }
-    requires below { All
-        (λ entry. IsBelow (mode_sizes statement.now (slice_index ranges.now) tensor entries.now.order) entry.coords) entries.now.list }
-    ensures loaded { OnOk result (IsLoaded S.arithmetic (state_of machine.new) tensor
-        (mode_sizes statement.now (slice_index ranges.now) tensor entries.now.order) entries.now.list) }
+    requires order { length sizes.now < 2 ^ 62 }
+    requires small { All (λ size. size ≤ greatest_position_count) sizes.now }
+    requires fit { FitLevels sizes.now }
+    requires below { All (λ entry. IsBelow sizes.now entry.coords) entries.now.list }
+    ensures loaded { OnOk result (IsLoaded S.arithmetic (state_of machine.new) tensor sizes.now entries.now.list) }
     ensures others { OnOk result (KeepsOthers tensor (state_of machine.old) (state_of machine.new)) }
 {
-    let sizes = sizes_of(alloc, statement, ranges, tensor, entries.order())?;
-    let values = values_of::<S>(alloc, entries, sizes.as_slice())?;
-    load_tensor(alloc, machine, tensor as u64, sizes.as_slice(), values)
+    let values = values_of::<S>(alloc, entries, sizes)?;
+    load_tensor(alloc, machine, tensor as u64, sizes, values)
 }
 
 /// Runs code that ends. A run of more than 2^64 - 1 turns, which takes centuries, is answered as want of

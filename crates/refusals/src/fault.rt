@@ -1,11 +1,13 @@
 // The faults of all layers, gathered.
 ghost use Rattle.std.specs.Prelude.{◌≡◌};
 ghost use Rattle.refusals.specs.Lines.{status_of, notation_status, named_status};
+ghost use Rattle.refusals.specs.declared.fault.Fault.TheVariants.{Memory};
 
 use bindings::{BindingFault, WordFault};
 use expr_terms::{NameFault, RangeFault};
 use index_notation::{NotationFault, Statement};
 use mtx_io::LineKind;
+use std::alloc::AllocError;
 use thiserror::Error;
 
 /// A fault that is told by names of the statement.
@@ -79,6 +81,15 @@ impl<'a> Fault<'a> {
             Fault::FileBytes(_) => 6,
             Fault::Memory => 5,
         }
+    }
+}
+
+/// Want of memory in any part ends the command.
+impl<'a> From<AllocError> for Fault<'a> {
+    ghost from_gives = { λ _ fault. fault ≡ Memory };
+
+    fn from(_error: AllocError) -> Fault<'a> {
+        Fault::Memory
     }
 }
 

@@ -15,8 +15,8 @@ use Rattle.expr_terms.specs.declared.bound.Bound.{Bound}
 use Rattle.expr_terms.specs.declared.range_fault.RangeFault.{RangeFault}
 use Rattle.operand_files.specs.Decoded.{operand_of}
 use Rattle.operand_files.specs.Reads.{OnlyReads, HaveRead, Meaning, RefusedAtFault, RefusedAtLength, RefusedAtLine, OpensFirst, NoReadFails}
-use Rattle.product_loops.specs.Products.{IsProductOfAccesses}
-use Rattle.product_loops.specs.Computes.{AllFit}
+use Rattle.range_loops.specs.Products.{IsProductOfAccesses}
+use Rattle.range_loops.specs.Computes.{AllFit}
 use Rattle.dense_runs.specs.Runs.{told_ranges, IsTooLarge}
 use Rattle.result_files.specs.Writes.{WritesResult, RefusesResult}
 use Rattle.result_files.specs.declared.refusal.WriteRefusal.{WriteRefusal}

@@ -10,10 +10,14 @@ use Rattle.range_loops.proofs.loading.+load_sizes.Goals as goal
 pub returns-in_ok-add_array-in-len1-up-clause-sizes : goal.returns-in_ok-add_array-in-len1-up-clause-sizes
 returns-in_ok-add_array-in-len1-up-clause-sizes t c =
     let put = ap (set_array (state_of c.args.machine.now) (Dimension c.args.tensor c.args.level)) c.in_ok-vec-in-len1-up.ensures.items in
-    let rest = subst (λ (xs : List ℕ). OnOk c.load_sizes.result (SizesFrom (state_of c.load_sizes.new.machine) c.args.tensor (c.args.level + 1) xs)) c.split_at.ensures.back c.load_sizes.ensures.sizes in
-    subst (λ (xs : List ℕ). OnOk c.load_sizes.result (SizesFrom (state_of c.load_sizes.new.machine) c.args.tensor c.args.level xs)) (first_rest c.args.sizes.now c.in-len1-up.len_at_least)
+    let rest = subst (λ (xs : List ℕ). OnOk c.load_sizes.result
+    (SizesFrom (state_of c.load_sizes.new.machine) c.args.tensor (c.args.level + 1) xs)) c.split_at.ensures.back
+    c.load_sizes.ensures.sizes in
+    subst (λ (xs : List ℕ). OnOk c.load_sizes.result (SizesFrom (state_of c.load_sizes.new.machine) c.args.tensor c.args.level xs))
+    (first_rest c.args.sizes.now c.in-len1-up.len_at_least)
     (on_ok_both c.load_sizes.result _ _ _
-    (sizes_more (state_of c.args.machine.now) (state_of c.add_array.new.self) (state_of c.load_sizes.new.machine) c.args.tensor c.args.level (get_or c.args.sizes.now 0 0) (drop 1 c.args.sizes.now)
+    (sizes_more (state_of c.args.machine.now) (state_of c.add_array.new.self)
+    (state_of c.load_sizes.new.machine) c.args.tensor c.args.level (get_or c.args.sizes.now 0 0) (drop 1 c.args.sizes.now)
     (c.in_ok-add_array-in-len1-up.ensures.ok ∙ put))
     rest c.load_sizes.ensures.others)
 
@@ -21,6 +25,7 @@ pub returns-in_ok-add_array-in-len1-up-clause-others : goal.returns-in_ok-add_ar
 returns-in_ok-add_array-in-len1-up-clause-others t c =
     let put = ap (set_array (state_of c.args.machine.now) (Dimension c.args.tensor c.args.level)) c.in_ok-vec-in-len1-up.ensures.items in
     on_ok_then c.load_sizes.result _ _
-    (keeps_more (state_of c.args.machine.now) (state_of c.add_array.new.self) (state_of c.load_sizes.new.machine) c.args.tensor c.args.level (get_or c.args.sizes.now 0 0)
+    (keeps_more (state_of c.args.machine.now) (state_of c.add_array.new.self)
+    (state_of c.load_sizes.new.machine) c.args.tensor c.args.level (get_or c.args.sizes.now 0 0)
     (c.in_ok-add_array-in-len1-up.ensures.ok ∙ put))
     c.load_sizes.ensures.others

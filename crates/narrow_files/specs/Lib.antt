@@ -1,5 +1,0 @@
-pub mod Narrow
-pub mod NarrowLaws
-pub mod PlaceLaws
-pub mod Places
-pub mod Readings

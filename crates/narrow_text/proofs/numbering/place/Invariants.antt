@@ -1,6 +1,0 @@
-use Rattle.std.proofs.Common.{◌≡◌, ◌+◌, drop}
-use Rattle.index_notation.specs.Numbering.{place_of}
-use Rattle.narrow_text.proofs.numbering.place.Given as goal
-
-abbrev pub invariant-loop-i : goal.invariant-loop-i
-invariant-loop-i l = place_of l.names l.name ≡ place_of (drop l.i l.names) l.name + l.i

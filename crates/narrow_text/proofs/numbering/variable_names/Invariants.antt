@@ -1,7 +1,0 @@
-use Rattle.std.proofs.Common.{◌≡◌, drop, []}
-use Rattle.index_notation.specs.Numbering.{variables_of, accesses_of}
-use Rattle.narrow_text.specs.Added.{with_names}
-use Rattle.narrow_text.proofs.numbering.variable_names.Given as goal
-
-abbrev pub invariant-loop-access : goal.invariant-loop-access
-invariant-loop-access l = with_names [] (variables_of (accesses_of l.sentence)) ≡ with_names l.names (variables_of (drop l.access-index l.sentence.more))
