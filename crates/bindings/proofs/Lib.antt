@@ -2,3 +2,4 @@ pub mod Words
 pub mod Tables
 pub mod Rows
 pub mod Formats
+pub mod OneAnswer

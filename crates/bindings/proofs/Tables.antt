@@ -64,7 +64,7 @@ files_in_more s (first ∷ words) word = ap (with_file s (said_of first)) (files
     ∙ files_more s (said_of first) (files_in s words) (with_file s (said_of word) [])
 
 -- ---- whether a tensor has a file
-eq_turned : (n m : ℕ) → (n == m) ≡ (m == n)
+pub eq_turned : (n m : ℕ) → (n == m) ≡ (m == n)
 eq_turned n m = by_case (m == n) refl
   where
     by_case : (b : Bool) → (m == n) ≡ b → (n == m) ≡ b

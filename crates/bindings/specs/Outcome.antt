@@ -120,3 +120,8 @@ IsRefused built s words need (Word word fault) = IsFirstFault s words word fault
 IsRefused built s words need (NoFile tensor) = LacksFile s words need tensor
 IsRefused built s words need (BadFormat tensor fault) = HasBadFormat built s words need tensor fault
 IsRefused built s words need (Memory error) = Unit {0}
+
+-- a refusal for want of memory
+abbrev pub IsWant : BindingFault → Type 0
+IsWant (Memory error) = Unit {0}
+IsWant fault = ⊥

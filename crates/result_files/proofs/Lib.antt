@@ -5,3 +5,4 @@ pub mod FilledFiles
 pub mod ResultTexts
 pub mod Batches
 pub mod Tallies
+pub mod OneText

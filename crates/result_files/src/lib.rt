@@ -11,6 +11,8 @@ mod tally;
 mod writing;
 
 pub use dense::entries_of_dense;
-pub use laws::{dense_entries_may_be_written, texts_tell_values_below_the_ranges};
+pub use laws::{
+    dense_entries_may_be_written, results_have_one_text, texts_tell_values_below_the_ranges,
+};
 pub use refusal::WriteRefusal;
 pub use writing::write_result;

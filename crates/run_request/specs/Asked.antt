@@ -66,3 +66,8 @@ IsRefusedByWords words (Named s (Name fault)) = (text : List ℕ) × (rest : Lis
 IsRefusedByWords words (Named s (Binding fault)) = (rest : List (List ℕ)) × Names words s rest × IsBindingFault s rest fault
 IsRefusedByWords words Memory = Unit {0}
 IsRefusedByWords words _ = ⊥
+
+-- a refusal for want of memory
+abbrev pub IsWant : Fault → Type 0
+IsWant Memory = Unit {0}
+IsWant _ = ⊥

@@ -3,5 +3,7 @@
 #![tactic(auto)]
 
 mod asked;
+mod laws;
 
 pub use asked::{Asked, ask};
+pub use laws::one_request_a_command_line;

@@ -1,7 +1,4 @@
-pub mod EndLaws
-pub mod ReadsLaws
-pub mod SmallCoords
-pub mod Stands
-pub mod TopLemmas
-pub mod WordLaws
-pub mod OperandsRead
+pub mod Paths
+pub mod Stopped
+pub mod WholeLaws
+pub mod UsageLaws

@@ -1,9 +1,2 @@
-pub mod SmallCoords
-pub mod Stands
-pub mod WordLaws
-pub mod Built
-pub mod Puts
-pub mod Answer
-pub mod Reads
-pub mod Ends
-pub mod EndLaws
+pub mod Prepared
+pub mod Whole

@@ -1,13 +1,14 @@
-//! The program: what a command line does, from its words to the bytes of the result. `taco` is generic
-//! over the folder with the files and over the streams, so that its contract speaks of any of them; the
-//! crate above makes the real ones.
+//! The program: what a command line does, from its words to the bytes of the result. `taco` is generic over the folder with
+//! the files and over the streams, so that its contract speaks of any of them; the crate above makes the real ones. What a
+//! call answers, and why, is said in `run_answers`.
 #![tactic(auto)]
 
-mod fault;
-mod files;
+mod asking;
+mod computing;
 mod laws;
-mod put;
+mod operands;
 mod top;
+mod writing;
 
-pub use laws::whole_input_is_computed;
+pub use laws::{usage_is_of_words_alone, whole_input_is_computed};
 pub use top::taco;

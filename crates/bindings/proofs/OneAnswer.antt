@@ -1,0 +1,73 @@
+-- Words have one answer.
+use Rattle.std.specs.Prelude.{◌≡◌, ℕ, ◌<◌, Bool, true, false, List, [], ◌∷◌, length, Option, Some, None, is_some, Result, Ok, Err}
+use Rattle.std.specs.Prelude.{slice_index_or, refl}
+use Rattle.std.proofs.Common.{◌∙◌, sym, ap, subst, arith}
+use Rattle.format_spec.specs.declared.format.FormatLevel.{FormatLevel}
+use Rattle.format_spec.specs.declared.fault.FormatFault.{FormatFault}
+use Rattle.format_spec.specs.declared.fault.FormatFault.TheVariants.{BadLetter}
+use Rattle.format_spec.specs.Words.{Answers}
+use Rattle.format_spec.proofs.WordLaws.{one_answer}
+use Rattle.index_notation.specs.declared.syntax.Statement.{Statement}
+use Rattle.bindings.specs.Words.{FormatText}
+use Rattle.bindings.specs.Bindings.{AreSound, IsFirstFault, first_in, format_in, path_in, range_in, order_of}
+use Rattle.bindings.specs.Outcome.{are_built, TextFormat, HasFormat, FormatIs, AreFormats, IsFirstBad, HaveFiles, LacksFile}
+use Rattle.bindings.specs.Outcome.{HasBadFormat, Binds, IsRefused, IsWant}
+use Rattle.bindings.specs.declared.fault.BindingFault.{BindingFault}
+use Rattle.bindings.specs.declared.fault.BindingFault.TheVariants.{Word, NoFile, BadFormat, Memory}
+
+pub same_files : (built : List ℕ) (s : Statement) (words : List (List ℕ)) (need : Bool)
+    (formats layouts : List (List FormatLevel)) (files others : List (ℕ × List ℕ)) (ranges given : List (Option ℕ))
+    → Binds built s words need formats files ranges → Binds built s words need layouts others given → files ≡ others
+same_files built s words need formats layouts files others ranges given binds bind = binds.files_are ∙ sym bind.files_are
+
+-- two lists of one length that agree at each place
+lists_agree : (xs ys : List (Option ℕ)) → length xs ≡ length ys
+    → ((k : ℕ) (d : Option ℕ) → k < length xs → slice_index_or xs k d ≡ slice_index_or ys k d) → xs ≡ ys
+lists_agree [] [] long agree = refl
+lists_agree [] (y ∷ ys) long agree = cc
+lists_agree (x ∷ xs) [] long agree = cc
+lists_agree (x ∷ xs) (y ∷ ys) long agree =
+    ap (λ head. head ∷ xs) (agree 0 x (omega arith))
+    ∙ ap (λ tail. y ∷ tail) (lists_agree xs ys (omega (arith, long)) (λ k d lt. agree (k + 1) d (omega (arith, lt))))
+
+pub same_ranges : (built : List ℕ) (s : Statement) (words : List (List ℕ)) (need : Bool)
+    (formats layouts : List (List FormatLevel)) (files others : List (ℕ × List ℕ)) (ranges given : List (Option ℕ))
+    → Binds built s words need formats files ranges → Binds built s words need layouts others given → ranges ≡ given
+same_ranges built s words need formats layouts files others ranges given binds bind =
+    lists_agree ranges given (binds.variables ∙ sym bind.variables) (λ var d lt.
+      let within : var < length s.vars = subst (λ n. var < n) binds.variables lt in
+      binds.ranges_are var d within ∙ sym (bind.ranges_are var d within))
+
+-- a format is there or isn't
+text_apart : (b : Bool) (text : FormatText) (order : ℕ) (levels : List FormatLevel) (fault : FormatFault)
+    → TextFormat b text order (Ok levels) → TextFormat b text order (Err fault) → ⊥
+text_apart true text order levels fault is bad = apart (one_answer text.letters text.order order (Ok levels) (Err fault) is bad)
+  where
+    apart : {A B : Type 0} {x : A} {y : B} → Ok x ≡ Err y → ⊥
+    apart h = cc
+text_apart false text order levels fault is bad = cc
+
+format_apart : (built : List ℕ) (text : Option FormatText) (order : ℕ) (levels : List FormatLevel) (fault : FormatFault)
+    → HasFormat built text order (Ok levels) → HasFormat built text order (Err fault) → ⊥
+format_apart built None order levels fault is bad = bad
+format_apart built (Some text) order levels fault is bad = text_apart (are_built built text.letters) text order levels fault is bad
+
+none_is_some : (o : Option (List ℕ)) → is_some o ≡ true → o ≡ None → ⊥
+none_is_some None some none = cc
+none_is_some (Some x) some none = cc
+
+pub never_both : (built : List ℕ) (s : Statement) (words : List (List ℕ)) (need : Bool)
+    (formats : List (List FormatLevel)) (files : List (ℕ × List ℕ)) (ranges : List (Option ℕ)) (fault : BindingFault)
+    → Binds built s words need formats files ranges → IsRefused built s words need fault → IsWant fault
+never_both built s words need formats files ranges (Word word why) binds first =
+    apart (sym (binds.sound first.at first.within) ∙ first.is)
+  where
+    apart : {A : Type 0} {x : A} → None ≡ Some x → ⊥
+    apart h = cc
+never_both built s words need formats files ranges (NoFile tensor) binds lacks =
+    none_is_some (first_in (path_in s tensor) words)
+      (binds.all_read lacks.needed tensor lacks.lacks.operand lacks.lacks.within) lacks.lacks.lacks
+never_both built s words need formats files ranges (BadFormat tensor why) binds bad =
+    format_apart built (first_in (format_in s tensor) words) (order_of s tensor) (slice_index_or formats tensor []) why
+      (binds.formats_are.are tensor [] bad.bad.within) bad.bad.is
+never_both built s words need formats files ranges (Memory error) binds want = want

@@ -1,0 +1,11 @@
+use Rattle.bindings.proofs.OneAnswer.{same_files, same_ranges, never_both}
+use Rattle.bindings.proofs.laws.one_answer_of_words.Goals as goal
+
+pub returns-clause-files : goal.returns-clause-files
+returns-clause-files c = same_files
+
+pub returns-clause-ranges : goal.returns-clause-ranges
+returns-clause-ranges c = same_ranges
+
+pub returns-clause-never_both : goal.returns-clause-never_both
+returns-clause-never_both c = never_both

@@ -1,0 +1,14 @@
+use Rattle.run_request.proofs.OneRequest.{same_statement, same_files, same_ranges, never_both}
+use Rattle.run_request.proofs.laws.one_request_a_command_line.Goals as goal
+
+pub returns-clause-statement : goal.returns-clause-statement
+returns-clause-statement c = same_statement
+
+pub returns-clause-files : goal.returns-clause-files
+returns-clause-files c = same_files
+
+pub returns-clause-ranges : goal.returns-clause-ranges
+returns-clause-ranges c = same_ranges
+
+pub returns-clause-never_both : goal.returns-clause-never_both
+returns-clause-never_both c = never_both

@@ -1,0 +1,155 @@
+-- Why a run stops, from why its parts do.
+use Rattle.std.specs.Prelude.{◌≡◌, ℕ, ◌⊎◌, List, ◌++◌, Option, Some, None, map, length, Vec, slice_index, Ok, Err, refl}
+use Rattle.std.specs.Option.{option_map}
+use Rattle.std.proofs.Common.{◌∙◌, sym, ap, subst, inl, inr}
+use Rattle.std.proofs.lemmas.List.{append-nil}
+use Rattle.std.specs.declared.alloc.Global.{Global}
+use Rattle.std.specs.declared.alloc.AllocError.{AllocError}
+use Rattle.numbers.specs.Ring.{ring}
+use Rattle.outside.specs.Folder.{FolderState}
+use Rattle.outside.specs.Sink.{SinkState}
+use Rattle.tensor_map.specs.Entries.{Entries, value_at}
+use Rattle.index_notation.specs.declared.syntax.Statement.{Statement}
+use Rattle.expr_terms.specs.declared.bound.Bound.{Bound}
+use Rattle.operand_files.specs.Reads.{OnlyReads, IsRefused}
+use Rattle.operand_files.specs.declared.fault.OperandFault.TheVariants as operand
+use Rattle.range_loops.specs.Products.{IsProductOfAccesses}
+use Rattle.result_files.specs.Writes.{Puts, WritesResult, RefusesResult}
+use Rattle.result_files.specs.ResultText.{IsResultText}
+use Rattle.result_files.specs.declared.refusal.WriteRefusal.{WriteRefusal}
+use Rattle.result_files.specs.declared.refusal.WriteRefusal.TheVariants as write
+use Rattle.result_files.proofs.ResultTexts.{same_text}
+use Rattle.refusals.specs.declared.fault.NamedFault.TheVariants as named
+use Rattle.refusals.specs.declared.fault.Fault.{Fault}
+use Rattle.refusals.specs.declared.fault.Fault.TheVariants as fault
+use Rattle.run_request.specs.Asked.{IsRefusedByWords}
+use Rattle.run_answers.specs.Causes.{IsBuilt, HasOperands, IsComputed, result_ranges, result_value, OpensOperands, HasRangeFault}
+use Rattle.run_answers.specs.Causes.{HasLargeLevel, Stops, IsWritten, IsUnwritten, IsStopped, Cause}
+use Rattle.run_answers.specs.Run.{AsksFor, path_of, orders_of, paths_of}
+use Rattle.taco_top.specs.Prepared.{IsPrepared, IsUncomputed, StopsWriting}
+
+-- the words are refused, and no file was opened
+pub stops_by_words : (words : List (List ℕ)) (why : Fault) (files : FolderState) → IsRefusedByWords words why → Stops words files files why
+stops_by_words words fault.Usage files is = (refl, is)
+stops_by_words words (fault.Notation why) files is = (refl, is)
+stops_by_words words (fault.Named s (named.Name why)) files is = (refl, is)
+stops_by_words words (fault.Named s (named.Binding why)) files is = (refl, is)
+stops_by_words words (fault.Named s (named.Range why)) files is = absurd is
+stops_by_words words (fault.Named s (named.SizeLimit tensor level count)) files is = absurd is
+stops_by_words words fault.NotBuilt files is = absurd is
+stops_by_words words (fault.ReadFault path) files is = absurd is
+stops_by_words words (fault.FileBytes path) files is = absurd is
+stops_by_words words (fault.BadFile path line kind) files is = absurd is
+stops_by_words words (fault.WriteFault path) files is = absurd is
+stops_by_words words fault.Memory files is = inl refl
+
+-- operands that were read were opened
+opened : (words : List (List ℕ)) (old new : FolderState) (s : Statement) (files : List (ℕ × List ℕ)) (given : List (Option ℕ))
+    (entries : List Entries) (bounds : List (Vec Bound Global)) → HasOperands words old new s files given entries bounds
+    → OpensOperands words old new
+opened words old new s files given entries bounds operands = record {
+  s = s;
+  files = files;
+  given = given;
+  built = operands.built;
+  opens = record {
+    files = operands.read.read.files;
+    given_is = operands.read.read.given_is ∙ ap (λ fs. old.given ++ fs) (append-nil operands.read.read.files);
+    in_order = operands.read.read.in_order;
+  };
+  no_fault = record { read_faults_are = operands.read.quiet.read_faults_are; faulted_is = operands.read.quiet.faulted_is };
+}
+
+-- what the words ask for isn't computed over its operands
+pub stops_uncomputed : (words : List (List ℕ)) (old new : FolderState) (s : Statement) (files : List (ℕ × List ℕ)) (given : List (Option ℕ))
+    (entries : List Entries) (bounds : List (Vec Bound Global)) (why : Fault) → HasOperands words old new s files given entries bounds
+    → IsUncomputed s given entries bounds why → Stops words old new why
+stops_uncomputed words old new s files given entries bounds (fault.Named t (named.Range why)) operands (same, is) =
+    subst (λ u. HasRangeFault words old new u why) (sym same) (record {
+      files = files; given = given; entries = entries; bounds = bounds; operands = operands; is = is;
+    })
+stops_uncomputed words old new s files given entries bounds (fault.Named t (named.SizeLimit tensor level count)) operands (same, is) =
+    subst (λ u. HasLargeLevel words old new u tensor level count) (sym same) (record {
+      files = files; given = given; entries = entries; bounds = bounds; operands = operands; large = is;
+    })
+stops_uncomputed words old new s files given entries bounds (fault.Named t (named.Name why)) operands is = absurd is
+stops_uncomputed words old new s files given entries bounds (fault.Named t (named.Binding why)) operands is = absurd is
+stops_uncomputed words old new s files given entries bounds fault.Usage operands is = absurd is
+stops_uncomputed words old new s files given entries bounds (fault.Notation why) operands is = absurd is
+stops_uncomputed words old new s files given entries bounds fault.NotBuilt operands is = absurd is
+stops_uncomputed words old new s files given entries bounds (fault.ReadFault path) operands is = absurd is
+stops_uncomputed words old new s files given entries bounds (fault.FileBytes path) operands is = absurd is
+stops_uncomputed words old new s files given entries bounds (fault.BadFile path line kind) operands is = absurd is
+stops_uncomputed words old new s files given entries bounds (fault.WriteFault path) operands is = absurd is
+stops_uncomputed words old new s files given entries bounds fault.Memory operands is = inr (opened words old new s files given entries bounds operands)
+
+-- a run stops before it writes
+pub stopped : (words : List (List ℕ)) (files files' : FolderState) (out : SinkState) (why : Fault) → OnlyReads files files'
+    → Stops words files files' why → Cause words files files' out out (Some why)
+stopped words files files' out fault.Usage reads is = record { only_reads = reads; stops = is; out_is = refl }
+stopped words files files' out (fault.Notation why) reads is = record { only_reads = reads; stops = is; out_is = refl }
+stopped words files files' out (fault.Named s why) reads is = record { only_reads = reads; stops = is; out_is = refl }
+stopped words files files' out fault.NotBuilt reads is = record { only_reads = reads; stops = is; out_is = refl }
+stopped words files files' out (fault.ReadFault path) reads is = record { only_reads = reads; stops = is; out_is = refl }
+stopped words files files' out (fault.FileBytes path) reads is = record { only_reads = reads; stops = is; out_is = refl }
+stopped words files files' out (fault.BadFile path line kind) reads is = record { only_reads = reads; stops = is; out_is = refl }
+stopped words files files' out (fault.WriteFault path) reads is = absurd is
+stopped words files files' out fault.Memory reads is = inl (record { only_reads = reads; stops = is; out_is = refl })
+
+-- ---- the writing of a result that was prepared
+module _ (words : List (List ℕ)) (files between files' : FolderState) (out out' : SinkState) (path : Option (List ℕ)) (shape : List ℕ)
+    (entries : Entries) (reads : OnlyReads files between) (is : IsPrepared words files between path shape entries) where
+  ranges_are : shape ≡ result_ranges is.computed.s is.computed.ranges
+  ranges_are = is.tensor.shape_is
+
+  -- the text of the result's entries is that of the statement's values
+  text_of_values : (text : List ℕ) → IsResultText ring path shape (value_at ring entries.list) text
+      → IsResultText ring (path_of is.computed.files 0) (result_ranges is.computed.s is.computed.ranges)
+          (result_value is.computed.s is.computed.entries is.computed.ranges) text
+  text_of_values text text_is =
+      subst (λ p. IsResultText ring p (result_ranges is.computed.s is.computed.ranges)
+          (result_value is.computed.s is.computed.entries is.computed.ranges) text) (sym is.path_is)
+        (subst (λ ranges. IsResultText ring path ranges (result_value is.computed.s is.computed.entries is.computed.ranges) text) ranges_are
+          (same_text ring path shape (value_at ring entries.list) (result_value is.computed.s is.computed.entries is.computed.ranges) text
+            is.tensor.values_are text_is))
+
+  pub written : WritesResult ring path shape (value_at ring entries.list) between files' out out' → IsWritten words files files' out out'
+  written writes = record {
+    between = between;
+    only_reads = reads;
+    computed = is.computed;
+    writes = record {
+      text = writes.text;
+      text_is = text_of_values writes.text writes.text_is;
+      puts = subst (λ p. Puts p writes.text between files' out out') (sym is.path_is) writes.puts;
+    };
+  }
+
+  refused : (why : WriteRefusal) → RefusesResult ring path shape (value_at ring entries.list) between files' out out' why
+      → IsUnwritten words files files' out out' path why
+  refused why refuses = record {
+    between = between;
+    only_reads = reads;
+    computed = is.computed;
+    path_is = is.path_is;
+    refuses = record {
+      text = refuses.text;
+      text_is = subst (λ p. IsResultText ring p (result_ranges is.computed.s is.computed.ranges)
+          (result_value is.computed.s is.computed.entries is.computed.ranges) refuses.text) is.path_is
+          (text_of_values refuses.text refuses.text_is);
+      puts = refuses.puts;
+    };
+  }
+
+  pub unwritten : (why : Fault) → StopsWriting path shape (value_at ring entries.list) between files' out out' why
+      → Cause words files files' out out' (Some why)
+  unwritten (fault.WriteFault at) (path_is, refuses) =
+      subst (λ p. IsUnwritten words files files' out out' p write.Fault) (sym path_is) (refused write.Fault refuses)
+  unwritten fault.Memory (error, refuses) = inr (path, (error, refused (write.Memory error) refuses))
+  unwritten fault.Usage stops = absurd stops
+  unwritten (fault.Notation why) stops = absurd stops
+  unwritten (fault.Named s why) stops = absurd stops
+  unwritten fault.NotBuilt stops = absurd stops
+  unwritten (fault.ReadFault at) stops = absurd stops
+  unwritten (fault.FileBytes at) stops = absurd stops
+  unwritten (fault.BadFile at line kind) stops = absurd stops

@@ -1,0 +1,98 @@
+-- Status 2 is that of words that are no command line.
+use Rattle.std.specs.Prelude.{◌≡◌, ℕ, ◌⊎◌, List, Option, Some, None, map, String, string_bytes, refl}
+use Rattle.std.proofs.Common.{◌∙◌, sym, ap, subst, inl, inr}
+use Rattle.std.specs.declared.alloc.Global.{Global}
+use Rattle.outside.specs.Folder.{FolderState}
+use Rattle.outside.specs.Sink.{SinkState}
+use Rattle.index_notation.specs.declared.fault.NotationFault.{NotationFault}
+use Rattle.index_notation.specs.declared.fault.NotationFault.TheVariants as notation
+use Rattle.expr_terms.specs.declared.range_fault.RangeFault.TheVariants as range
+use Rattle.bindings.specs.declared.fault.WordFault.{WordFault}
+use Rattle.bindings.specs.declared.fault.WordFault.TheVariants.{BadBinding, UnknownName, Twice, NotMatrix, RangeLimit}
+use Rattle.bindings.specs.declared.fault.BindingFault.TheVariants as binding
+use Rattle.refusals.specs.Lines.{status_of, named_status, notation_status, word_status}
+use Rattle.refusals.specs.declared.fault.NamedFault.{NamedFault}
+use Rattle.refusals.specs.declared.fault.NamedFault.TheVariants as named
+use Rattle.refusals.specs.declared.fault.Fault.{Fault}
+use Rattle.refusals.specs.declared.fault.Fault.TheVariants as fault
+use Rattle.command_line.specs.CommandLine.{CommandLine, command_line_of}
+use Rattle.run_answers.specs.Causes.{Stops, Cause}
+use Rattle.run_answers.specs.Ends.{Ends, status_of_end}
+
+apart : {A : Type 0} {x : A} → None ≡ Some x → ⊥
+apart h = cc
+
+-- ---- no other fault has this status
+notation_not_two : (why : NotationFault) → 2 ≡ notation_status why → ⊥
+notation_not_two notation.TextLength is = cc
+notation_not_two (notation.BadNotation at) is = cc
+notation_not_two (notation.TooDeep at) is = cc
+notation_not_two (notation.TooMany what at) is = cc
+notation_not_two (notation.LiteralRange at) is = cc
+notation_not_two (notation.Memory error) is = cc
+
+word_not_two : (why : WordFault) → 2 ≡ word_status why → ⊥
+word_not_two BadBinding is = cc
+word_not_two UnknownName is = cc
+word_not_two Twice is = cc
+word_not_two NotMatrix is = cc
+word_not_two RangeLimit is = cc
+
+named_not_two : (why : NamedFault) → 2 ≡ named_status why → ⊥
+named_not_two (named.Name why) is = cc
+named_not_two (named.Binding (binding.Word word why)) is = word_not_two why is
+named_not_two (named.Binding (binding.NoFile tensor)) is = cc
+named_not_two (named.Binding (binding.BadFormat tensor why)) is = cc
+named_not_two (named.Binding (binding.Memory error)) is = cc
+named_not_two (named.Range (range.NoRange var)) is = cc
+named_not_two (named.Range (range.RangeConflict var first other)) is = cc
+named_not_two (named.Range (range.OutOfRange tensor coordinate exact)) is = cc
+named_not_two (named.Range (range.Memory error)) is = cc
+named_not_two (named.SizeLimit tensor level count) is = cc
+
+module _ (words : List (List ℕ)) (files files' : FolderState) (out out' : SinkState) where
+  told : (ended : Option Fault) → 2 ≡ status_of_end ended → Cause words files files' out out' ended → command_line_of words ≡ None
+  told None is cause = absurd cc
+  told (Some fault.Usage) is cause = cause.stops.1
+  told (Some (fault.Notation why)) is cause = absurd (notation_not_two why is)
+  told (Some (fault.Named s why)) is cause = absurd (named_not_two why is)
+  told (Some fault.NotBuilt) is cause = absurd cc
+  told (Some (fault.ReadFault path)) is cause = absurd cc
+  told (Some (fault.FileBytes path)) is cause = absurd cc
+  told (Some (fault.BadFile path line kind)) is cause = absurd cc
+  told (Some (fault.WriteFault path)) is cause = absurd cc
+  told (Some fault.Memory) is cause = absurd cc
+
+  -- ---- no other cause has words that are no command line
+  module _ (none : command_line_of words ≡ None) where
+    never : {line : CommandLine} → command_line_of words ≡ Some line → ⊥
+    never is = apart (sym none ∙ is)
+
+    found : (ended : Option Fault) → Cause words files files' out out' ended
+        → (status_of_end ended ≡ 2) ⊎ (status_of_end ended ≡ 5)
+    found None cause = absurd (never cause.computed.operands.built.asks.asks.names.line)
+    found (Some fault.Usage) cause = inl refl
+    found (Some (fault.Notation why)) cause = absurd (never cause.stops.1.2.0)
+    found (Some (fault.Named s (named.Name why))) cause = absurd (never cause.stops.1.2.0)
+    found (Some (fault.Named s (named.Binding why))) cause = absurd (never cause.stops.1.1.line)
+    found (Some (fault.Named s (named.Range why))) cause = absurd (never cause.stops.operands.built.asks.asks.names.line)
+    found (Some (fault.Named s (named.SizeLimit tensor level count))) cause =
+        absurd (never cause.stops.operands.built.asks.asks.names.line)
+    found (Some fault.NotBuilt) cause = absurd (never cause.stops.1.3.0.asks.names.line)
+    found (Some (fault.ReadFault path)) cause = absurd (never cause.stops.3.0.asks.asks.names.line)
+    found (Some (fault.FileBytes path)) cause = absurd (never cause.stops.3.0.asks.asks.names.line)
+    found (Some (fault.BadFile path line kind)) cause = absurd (never cause.stops.3.0.asks.asks.names.line)
+    found (Some (fault.WriteFault path)) cause = absurd (never cause.computed.operands.built.asks.asks.names.line)
+    found (Some fault.Memory) cause = inr refl
+
+pub usage_told : (words : List (String Global)) (files files' : FolderState) (out out' err err' : SinkState)
+    → Ends words files files' out out' err err' 2 → command_line_of (map string_bytes words) ≡ None
+usage_told words files files' out out' err err' ends =
+    told (map string_bytes words) files files' out out' ends.ended ends.status_is ends.cause
+
+pub usage_found : (words : List (String Global)) (files files' : FolderState) (out out' err err' : SinkState) (status : ℕ)
+    → command_line_of (map string_bytes words) ≡ None → Ends words files files' out out' err err' status
+    → (status ≡ 2) ⊎ (status ≡ 5)
+usage_found words files files' out out' err err' status none ends =
+    subst (λ n. (n ≡ 2) ⊎ (n ≡ 5)) (sym ends.status_is)
+      (found (map string_bytes words) files files' out out' none ends.ended ends.cause)

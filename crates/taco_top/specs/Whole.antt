@@ -1,0 +1,39 @@
+-- Where all input is whole: then a run ends with its result, unless a fault occurs or memory is wanted.
+use Rattle.std.specs.Prelude.{◌≡◌, ℕ, zero, suc, List, [], map, Option, Result, Ok, slice_get, slice_index, unwrap_or}
+use Rattle.outside.specs.Told.{Told}
+use Rattle.index_notation.specs.declared.syntax.Statement.{Statement}
+use Rattle.expr_terms.specs.Ranges.{ranges_of}
+use Rattle.expr_terms.specs.Told.{given_at, bound_or_none}
+use Rattle.expr_terms.specs.declared.bound.Bound.{Bound}
+use Rattle.expr_terms.specs.declared.range_fault.RangeFault.{RangeFault}
+use Rattle.operand_files.specs.Decoded.{Operand}
+use Rattle.operand_files.specs.Laws.{AreTold, told_operands}
+use Rattle.range_loops.specs.Computes.{AllFit}
+use Rattle.run_answers.specs.Causes.{IsBuilt, means}
+use Rattle.run_answers.specs.Run.{orders_of, paths_of}
+
+-- what the modes of a tensor tell, where tensor 1, tensor 2 and so on stand in a row; tensor 0, the result, tells nothing
+abbrev pub modes_told : List (List Bound) → ℕ → List Bound
+modes_told bounds zero = []
+modes_told bounds (suc n) = unwrap_or (slice_get bounds n) []
+
+abbrev pub bound_told : List (List Bound) → ℕ → ℕ → Bound
+bound_told bounds tensor mode = bound_or_none (slice_get (modes_told bounds tensor) mode)
+
+-- the ranges of the variables by words and operands, or their first fault
+abbrev pub ranges_told : Statement → List (Option ℕ) → List Operand → Result (List ℕ) RangeFault
+ranges_told s given operands = ranges_of s (given_at given) (bound_told (map (λ operand. operand.bounds) operands))
+
+-- the words pass; every operand's file is there and stands for entries; the ranges agree; and no level of a tensor has more
+-- positions than may be
+pub record IsWhole (words : List (List ℕ)) (holds : List ℕ → Told) : Type 0 where
+  pub s : Statement
+  pub files : List (ℕ × List ℕ)
+  pub given : List (Option ℕ)
+  pub operands : List Operand
+  pub ranges : List ℕ
+  pub built : IsBuilt words s files given
+  pub told : AreTold holds (paths_of s files)
+  pub operands_are : told_operands means holds (orders_of s) (paths_of s files) ≡ Ok operands
+  pub ranges_are : ranges_told s given operands ≡ Ok ranges
+  pub fits : AllFit s (map (λ operand. operand.entries) operands) (slice_index ranges)

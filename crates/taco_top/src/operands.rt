@@ -1,0 +1,81 @@
+//! The operands of what the words ask for, from their files.
+ghost use Rattle.std.specs.Prelude.{◌≡◌, ℕ, List, length, map, IfOk, IfErr};
+ghost use Rattle.std.specs.Option.{option_map};
+ghost use Rattle.index_notation.specs.Statement.{IsNumbered};
+ghost use Rattle.bindings.specs.Tables.{file_in};
+ghost use Rattle.operand_files.specs.Reads.{OnlyReads, HaveRead};
+ghost use Rattle.run_answers.specs.Causes.{IsBuilt, Stops, means};
+ghost use Rattle.run_answers.specs.Run.{orders_of as orders_of_operands, path_of as path_of_tensor, paths_of as paths_of_operands};
+
+use bindings::{Bindings, order_of};
+use index_notation::Statement;
+use numbers::Ring;
+use operand_files::{OperandFault, Operands, read_operands};
+use outside::Folder;
+use refusals::Fault;
+use run_request::Asked;
+use std::alloc::{AllocError, Global};
+
+/// The path of a tensor's file, if it has one.
+pub(crate) fn path_of<'a>(bindings: &Bindings<'a>, tensor: usize) -> Option<&'a str>
+    ensures { option_map (λ path. path.now) result ≡ path_of_tensor (map file_in bindings.now.files.entries) tensor }
+{
+    bindings.files.get(&tensor).copied()
+}
+
+/// The order of each operand.
+fn orders_of(alloc: Global, statement: &Statement) -> Result<Vec<usize>, AllocError>
+    ensures { IfOk result (λ orders. orders.items ≡ orders_of_operands statement.now) }
+{
+    let mut orders = Vec::new(alloc);
+    for tensor in 1..statement.tensors.len() {
+        orders.push(order_of(statement, tensor))?;
+    }
+    Ok(orders)
+}
+
+/// The path of each operand's file.
+fn paths_of<'a>(
+    alloc: Global,
+    statement: &Statement,
+    bindings: &Bindings<'a>,
+) -> Result<Vec<&'a str>, AllocError>
+    ensures { IfOk result (λ paths. map (λ path. path.now) paths.items
+        ≡ paths_of_operands statement.now (map file_in bindings.now.files.entries)) }
+{
+    let mut paths = Vec::new(alloc);
+    for tensor in 1..statement.tensors.len() {
+        paths.push(path_of(bindings, tensor).unwrap_or(""))?;
+    }
+    Ok(paths)
+}
+
+/// Reads the operands' files, each to its end, in the order of the tensors' numbers.
+pub(crate) fn operands_of<'a, F: Folder>(
+    alloc: Global,
+    asked: &Asked<'a>,
+    files: &mut F,
+) -> Result<Operands, Fault<'a>>
+    requires built { (words : List (List ℕ)) × IsBuilt words asked.now.statement
+        (map file_in asked.now.bindings.files.entries) asked.now.bindings.ranges.items }
+    requires numbered { IsNumbered asked.now.statement }
+    ensures only_reads { OnlyReads (F.state files.old) (F.state files.new) }
+    ensures read { IfOk result (λ operands. HaveRead means (F.state files.old) (F.state files.new)
+        (orders_of_operands asked.now.statement)
+        (paths_of_operands asked.now.statement (map file_in asked.now.bindings.files.entries))
+        (length (paths_of_operands asked.now.statement (map file_in asked.now.bindings.files.entries)))
+        operands.entries.items (map (λ bounds. bounds.items) operands.bounds.items)) }
+    ensures refused { IfErr result (λ fault. (words : List (List ℕ)) → IsBuilt words asked.now.statement
+        (map file_in asked.now.bindings.files.entries) asked.now.bindings.ranges.items
+        → Stops words (F.state files.old) (F.state files.new) fault) }
+{
+    let orders = orders_of(alloc, &asked.statement)?;
+    let paths = paths_of(alloc, &asked.statement, &asked.bindings)?;
+    match read_operands::<F, Ring>(alloc, files, orders.as_slice(), paths.as_slice()) {
+        Ok(operands) => Ok(operands),
+        Err(OperandFault::ReadFault(path)) => Err(Fault::ReadFault(path)),
+        Err(OperandFault::FileBytes(path)) => Err(Fault::FileBytes(path)),
+        Err(OperandFault::BadFile { path, line, kind }) => Err(Fault::BadFile { path, line, kind }),
+        Err(OperandFault::Memory) => Err(Fault::Memory),
+    }
+}
