@@ -41,6 +41,14 @@ fn print_file(rt: &impl Print, file: &CaseFile, folder: &MemFolder) -> io::Resul
     }
 }
 
+// Whether a finish of the folder's writing is due.
+fn print_folder(rt: &impl Print, folder: &MemFolder) -> io::Result<()> {
+    if folder.is_unfinished() {
+        println!(rt; "folder unfinished")?;
+    }
+    Ok(())
+}
+
 // How the case ended.
 fn print_end(rt: &impl Print, case: &Case, status: u8) -> io::Result<()> {
     println!(rt; "case {}", case.name.as_str())?;
@@ -50,6 +58,7 @@ fn print_end(rt: &impl Print, case: &Case, status: u8) -> io::Result<()> {
     for file in &case.files {
         print_file(rt, file, &case.folder)?;
     }
+    print_folder(rt, &case.folder)?;
     println!(rt; "")
 }
 
