@@ -6,7 +6,6 @@ ghost use Rattle.tensor_map.specs.declared.entries.Entry.{Entry};
 ghost use Rattle.tns_io.specs.Text.{AreInRange};
 
 use crate::case::Case;
-use crate::texts::entries_text;
 use anyhow::{Context, Result, bail};
 use limits::greatest_order_of_tensor;
 use outside::{Eater, MemSink};
@@ -70,6 +69,18 @@ fn read_in_pieces(
         }
     }
     reader.finish()
+}
+
+// Each entry with its coordinates, counted from 0, and its value.
+fn entries_text(alloc: Global, entries: &Entries) -> Result<String, AllocError> {
+    let mut answer = String::new(alloc);
+    for i in 0..entries.len() {
+        let coords = entries.coords(i);
+        let value = entries.value(i);
+        write!(answer, "{coords:?} {value} ")?;
+    }
+    answer.push_str(".")?;
+    Ok(answer)
 }
 
 fn entries_or_fault(alloc: Global, read: Result<Entries, FileFault>) -> Result<String, AllocError> {

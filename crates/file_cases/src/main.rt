@@ -10,8 +10,7 @@
 //! tokens | 1 2                The tokens of a line.
 //! index 5 | 007               The number of a token, which is at most 5.
 //! whole | 1.0                 The signed whole number of a token.
-//! entries 2 | 1 1 2\n         The entries of a file for a tensor of order 2.
-//! tns 2 | 1 1 2\n            The entries or the fault of a `.tns` file, in pieces of 1, 2 and 4,096 bytes.
+//! tns 2 | 1 1 2\n            The entries or the fault of a `.tns` file of order 2, in pieces of 1, 2 and 4,096 bytes.
 //! tns 2 65537 | 1 1 2\n      So is a file with a comment of so many bytes in front.
 //! put_tns 2 | 1 1 2\n        The text that is written of its entries, added.
 //! put cut 1 3 fail 3 | -12    A number is put into a sink.

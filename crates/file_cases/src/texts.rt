@@ -1,11 +1,8 @@
-// Cases of texts: lines, tokens, numbers and entries.
+// Cases of texts: lines, tokens and numbers.
 use crate::case::Case;
-use anyhow::{Result, ensure};
-use limits::greatest_order_of_tensor;
-use narrow_files::read_entries;
+use anyhow::Result;
 use std::alloc::{AllocError, Global};
 use std::fmt::Display;
-use tensor_map::Entries;
 use text_lines::{NumFault, cut_line, cut_token, read_index, read_whole};
 
 /// What comes of the case, if it is one of texts.
@@ -16,7 +13,6 @@ pub(crate) fn answer(alloc: Global, case: &Case) -> Result<Option<String>> {
         "tokens" => tokens_of(alloc, text)?,
         "index" => number_or_fault(alloc, read_index(text, case.number()?))?,
         "whole" => number_or_fault(alloc, read_whole(text))?,
-        "entries" => entries_of(alloc, text, case.number()?)?,
         _ => return Ok(None),
     };
     Ok(Some(answer))
@@ -61,24 +57,5 @@ fn number_or_fault<N: Display + Drop>(
     match number {
         Ok(number) => format!(in alloc; "{number}"),
         Err(fault) => format!(in alloc; "{fault:?}"),
-    }
-}
-
-pub(crate) fn entries_text(alloc: Global, entries: &Entries) -> Result<String, AllocError> {
-    let mut answer = String::new(alloc);
-    for i in 0..entries.len() {
-        let coords = entries.coords(i);
-        let value = entries.value(i);
-        write!(answer, "{coords:?} {value} ")?;
-    }
-    answer.push_str(".")?;
-    Ok(answer)
-}
-
-fn entries_of(alloc: Global, text: &[u8], order: u64) -> Result<String> {
-    ensure!(order <= greatest_order_of_tensor(), "order {order}");
-    match read_entries(alloc, text, order as usize)? {
-        Some(entries) => Ok(entries_text(alloc, &entries)?),
-        None => Ok(String::from_str(alloc, "not built")?),
     }
 }

@@ -16,8 +16,6 @@
 //! dense 3                      The dense format of this order.
 //! numbers 3 2 0:0 1:0,1 2:1 *2 Whether a statement of so many tensors and variables is well formed: its accesses by
 //!                              the numbers of tensor and variables, the left one first, and the number of factors.
-//! built y = A * x              The statement of a text in the form that is compiled so far. The last one is kept.
-//! paths A=a.tns x=x.tns        The paths that words give to the tensors of the statement that was built.
 //! ```
 //!
 //! In the text of a statement `\t` is a tab, `\\` a backslash, and `{33 -}` stands for 33 minuses.
@@ -27,7 +25,6 @@ mod checks;
 mod formats;
 mod graphs;
 mod grouped;
-mod narrow;
 mod ranged;
 mod session;
 mod shapes;

@@ -3,7 +3,6 @@ use crate::checks::checked_numbers;
 use crate::formats::{dense_shape, format_shape};
 use crate::graphs::{edge_shape, graph_shape};
 use crate::grouped::group_shape;
-use crate::narrow::{built_shape, path_shape};
 use crate::ranged::range_shape;
 use crate::shapes::{fault_shape, name_shape, statement_shape};
 use crate::texts::spelled;
@@ -17,7 +16,6 @@ use std::alloc::Global;
 pub(crate) struct Session {
     alloc: Global,
     statement: Option<Statement>,
-    built: Option<Statement>,
 }
 
 impl Session {
@@ -25,7 +23,6 @@ impl Session {
         Session {
             alloc,
             statement: None,
-            built: None,
         }
     }
 
@@ -48,11 +45,6 @@ impl Session {
             "format" => format_shape(self.alloc, rest),
             "dense" => dense_shape(self.alloc, rest),
             "numbers" => checked_numbers(self.alloc, rest),
-            "built" => self.read_built(rest),
-            "paths" => match &self.built {
-                Some(statement) => path_shape(self.alloc, statement, rest),
-                None => bail!("no statement"),
-            },
             _ => bail!("no such line"),
         }
     }
@@ -84,19 +76,6 @@ impl Session {
         match parse(self.alloc, text) {
             Ok(statement) => Ok(group_shape(self.alloc, &statement)?),
             Err(_) => bail!("no statement"),
-        }
-    }
-
-    // The statement of a text that is built so far, which is kept.
-    fn read_built(&mut self, text: &str) -> Result<String> {
-        let text = spelled(self.alloc, text)?;
-        match narrow_text::read_text(self.alloc, text.as_bytes())? {
-            Some(statement) => {
-                let shape = statement_shape(self.alloc, &statement)?;
-                self.built = Some(statement);
-                Ok(shape)
-            }
-            None => Ok(built_shape(self.alloc)?),
         }
     }
 }
