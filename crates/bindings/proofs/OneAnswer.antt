@@ -1,10 +1,9 @@
 -- Words have one answer.
 use Rattle.std.specs.Prelude.{◌≡◌, ℕ, ◌<◌, Bool, true, false, List, [], ◌∷◌, length, Option, Some, None, is_some, Result, Ok, Err}
 use Rattle.std.specs.Prelude.{slice_index_or, refl}
-use Rattle.std.proofs.Common.{◌∙◌, sym, ap, subst, arith}
+use Rattle.std.proofs.Common.{◌∙◌, sym, ap, subst, arith, inl, inr}
 use Rattle.format_spec.specs.declared.format.FormatLevel.{FormatLevel}
 use Rattle.format_spec.specs.declared.fault.FormatFault.{FormatFault}
-use Rattle.format_spec.specs.declared.fault.FormatFault.TheVariants.{BadLetter}
 use Rattle.format_spec.specs.Words.{Answers}
 use Rattle.format_spec.proofs.WordLaws.{one_answer}
 use Rattle.index_notation.specs.declared.syntax.Statement.{Statement}
@@ -39,13 +38,20 @@ same_ranges built s words need formats layouts files others ranges given binds b
       binds.ranges_are var d within ∙ sym (bind.ranges_are var d within))
 
 -- a format is there or isn't
-text_apart : (b : Bool) (text : FormatText) (order : ℕ) (levels : List FormatLevel) (fault : FormatFault)
-    → TextFormat b text order (Ok levels) → TextFormat b text order (Err fault) → ⊥
-text_apart true text order levels fault is bad = apart (one_answer text.letters text.order order (Ok levels) (Err fault) is bad)
+answers_apart : (text : FormatText) (order : ℕ) (levels : List FormatLevel) (fault : FormatFault)
+    → Answers text.letters text.order order (Ok levels) → Answers text.letters text.order order (Err fault) → ⊥
+answers_apart text order levels fault is bad = apart (one_answer text.letters text.order order (Ok levels) (Err fault) is bad)
   where
     apart : {A B : Type 0} {x : A} {y : B} → Ok x ≡ Err y → ⊥
     apart h = cc
-text_apart false text order levels fault is bad = cc
+
+text_apart : (built : Bool) (text : FormatText) (order : ℕ) (levels : List FormatLevel) (fault : FormatFault)
+    → TextFormat built text order (Ok levels) → TextFormat built text order (Err fault) → ⊥
+text_apart built text order levels fault is (inl bad) = answers_apart text order levels fault is.1 bad
+text_apart built text order levels fault is (inr bad) = true_or_false (sym is.0 ∙ bad.0)
+  where
+    true_or_false : true ≡ false → ⊥
+    true_or_false h = cc
 
 format_apart : (built : List ℕ) (text : Option FormatText) (order : ℕ) (levels : List FormatLevel) (fault : FormatFault)
     → HasFormat built text order (Ok levels) → HasFormat built text order (Err fault) → ⊥

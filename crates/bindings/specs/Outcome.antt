@@ -1,7 +1,7 @@
 -- What words bind, whole, and why they bind nothing.
 use Rattle.std.specs.Prelude.{◌≡◌, ℕ, ◌<◌, Bool, true, false, List, [], ◌∷◌, length, Option, Some, None, is_some, Result, Ok, Err}
 use Rattle.std.specs.Prelude.{slice_index_or}
-use Rattle.std.specs.Prelude.{replicate, ◌==◌}
+use Rattle.std.specs.Prelude.{replicate, ◌==◌, ◌⊎◌}
 use Rattle.std.specs.List.{list_all, list_any}
 use Rattle.level_core.specs.declared.letter.Letter.TheVariants.{Dense}
 use Rattle.format_spec.specs.declared.format.FormatLevel.{FormatLevel}
@@ -20,10 +20,11 @@ use Rattle.bindings.specs.declared.fault.BindingFault.TheVariants.{Word, NoFile,
 abbrev pub are_built : List ℕ → List ℕ → Bool
 are_built built letters = list_all (λ letter. list_any (λ other. letter == other) built) letters
 
--- the format of a text whose letters are all built, or whose letters aren't
+-- the format of a text, whose letters are all built; or why there is none: a letter that isn't built is told behind all else
 abbrev pub TextFormat : Bool → FormatText → ℕ → Result (List FormatLevel) FormatFault → Type 0
-TextFormat true text order answer = Answers text.letters text.order order answer
-TextFormat false text order answer = answer ≡ Err BadLetter
+TextFormat built text order (Ok levels) = (built ≡ true) × Answers text.letters text.order order (Ok levels)
+TextFormat built text order (Err fault) = Answers text.letters text.order order (Err fault) ⊎ ((built ≡ false) × (fault ≡ BadLetter)
+    × ((levels : List FormatLevel) × Answers text.letters text.order order (Ok levels)))
 
 -- the format of a tensor of this order, or why there is none: by its word, or all dense, the modes in their own order. `built`
 -- has the letters that formats may have

@@ -110,7 +110,7 @@ fn are_built(built: &[u8], letters: &[u8]) -> bool
     true
 }
 
-/// The format of a text for a tensor of this order.
+/// The format of a text for a tensor of this order. A letter that isn't built is told behind all other faults.
 fn format_of_text(
     alloc: Global,
     built: &[u8],
@@ -120,10 +120,15 @@ fn format_of_text(
     requires { order ≤ greatest_order }
     ensures { TextFormat (are_built_letters built.now text.entry.letters.now) (text_in text.entry) order result }
 {
-    if are_built(built, text.letters.as_bytes()) {
-        parse_format(alloc, text.letters, text.order, order)
-    } else {
-        Err(FormatFault::BadLetter)
+    match parse_format(alloc, text.letters, text.order, order) {
+        Ok(format) => {
+            if are_built(built, text.letters.as_bytes()) {
+                Ok(format)
+            } else {
+                Err(FormatFault::BadLetter)
+            }
+        }
+        Err(fault) => Err(fault),
     }
 }
 
@@ -173,8 +178,8 @@ fn formats_of(
 }
 
 /// What the words behind EXPR bind, or the first refusal in order: of the words, of the files where they are needed, of the
-/// formats. Refused for want of memory besides. `built` has the letters that formats may have so far: any other is a letter
-/// that there isn't.
+/// formats. Refused for want of memory besides. `built` has the letters that formats may have so far: any other is told as a
+/// letter that there isn't, tensor by tensor, behind all other faults of that tensor's format.
 pub fn bind<'a>(
     alloc: Global,
     built: &[u8],
