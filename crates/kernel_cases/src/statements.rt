@@ -373,7 +373,7 @@ pub fn statement_of(
     let mut accesses = Items::new(alloc);
     for (n, vars) in right.iter().enumerate() {
         accesses.push(Access {
-            tensor: n + first,
+            tensor: first.saturating_add(n),
             vars: Items::from_slice(alloc, vars)?,
         })?;
     }
