@@ -22,7 +22,7 @@ fn assert_presence<S: Semiring>(
     steps: &[Step],
     wanted: [Option<u64>; 4],
 ) -> Result<(), Fail> {
-    let statement = statement_of(alloc, 1, &[0], &[&[0], &[0]], steps)?;
+    let statement = statement_of(alloc, 1, &[0], 1, &[&[0], &[0]], steps)?;
     let mut operands = Vec::new(alloc);
     operands.push(entries_of(rt, alloc, 1, &[(&[0], 3), (&[1], 0)])?)?;
     operands.push(entries_of(rt, alloc, 1, &[(&[2], 3), (&[1], 5), (&[2], 4)])?)?;

@@ -3,7 +3,7 @@ use crate::least::Least;
 use expr_terms::{has_meaning, is_product, value_at};
 use index_notation::{Access, Expr, Name, Statement};
 use numbers::{Ring, Semiring};
-use range_loops::{compute, is_computable};
+use range_loops::{ComputeFault, compute, is_computable, is_product_of_accesses};
 use std::alloc::{AllocError, Global};
 use std::process::Abort;
 use std::test::Fail;
@@ -23,12 +23,24 @@ pub enum Step {
 }
 
 /// What the loops answer.
+#[derive(Clone, Copy)]
 enum Answer {
     /// They can't compute the statement.
     No,
-    TooLarge,
+    /// The number of the first tensor that is too large, of its first such level, and the number of that one's positions.
+    TooLarge(usize, usize, u64),
     /// The sizes of the result, its values, and its costs.
     Dense(&'static [u64], &'static [u64], &'static [u64]),
+}
+
+/// What a right side is.
+#[derive(Clone, Copy, PartialEq)]
+enum Form {
+    /// The product of all accesses, grouped to the left, in which each variable stands.
+    Grouped,
+    /// Another product of accesses.
+    Product,
+    Other,
 }
 
 struct Row {
@@ -44,6 +56,7 @@ struct Row {
     value: u64,
     /// The value over costs. There is none where a minus stands.
     cost: Option<u64>,
+    form: Form,
     answer: Answer,
 }
 
@@ -53,7 +66,7 @@ const MATRIX: &[Line] = &[(&[0, 1], 4), (&[1, 0], 2), (&[1, 2], 5), (&[1, 2], 1)
 
 const PRODUCT: &[Step] = &[Step::Access(0), Step::Access(1), Step::Mul];
 
-const ROWS: [Row; 14] = [
+const ROWS: [Row; 17] = [
     Row {
         name: "a = b(i) + 5",
         vars: 1,
@@ -65,6 +78,7 @@ const ROWS: [Row; 14] = [
         coords: &[],
         value: 8,
         cost: Some(1),
+        form: Form::Other,
         answer: Answer::No,
     },
     Row {
@@ -84,6 +98,7 @@ const ROWS: [Row; 14] = [
         coords: &[],
         value: 26,
         cost: Some(3),
+        form: Form::Other,
         answer: Answer::No,
     },
     Row {
@@ -104,6 +119,7 @@ const ROWS: [Row; 14] = [
         coords: &[],
         value: 14,
         cost: None,
+        form: Form::Other,
         answer: Answer::No,
     },
     Row {
@@ -117,6 +133,7 @@ const ROWS: [Row; 14] = [
         coords: &[],
         value: 2,
         cost: None,
+        form: Form::Other,
         answer: Answer::No,
     },
     Row {
@@ -130,6 +147,7 @@ const ROWS: [Row; 14] = [
         coords: &[0],
         value: 28,
         cost: Some(11),
+        form: Form::Grouped,
         answer: Answer::Dense(&[2], &[28, 66], &[11, 5]),
     },
     Row {
@@ -143,6 +161,7 @@ const ROWS: [Row; 14] = [
         coords: &[1],
         value: 5,
         cost: None,
+        form: Form::Other,
         answer: Answer::No,
     },
     Row {
@@ -156,10 +175,11 @@ const ROWS: [Row; 14] = [
         coords: &[6],
         value: 3,
         cost: Some(3),
+        form: Form::Other,
         answer: Answer::No,
     },
     Row {
-        name: "y(i) = x(j)",
+        name: "y(i) = x(j), a left variable alone",
         vars: 2,
         left: &[0],
         accesses: &[&[1]],
@@ -169,7 +189,8 @@ const ROWS: [Row; 14] = [
         coords: &[2],
         value: 3,
         cost: Some(1),
-        answer: Answer::No,
+        form: Form::Product,
+        answer: Answer::Dense(&[3], &[3, 3, 3], &[1, 1, 1]),
     },
     Row {
         name: "a = b(i)",
@@ -182,6 +203,7 @@ const ROWS: [Row; 14] = [
         coords: &[],
         value: 3,
         cost: Some(1),
+        form: Form::Grouped,
         answer: Answer::Dense(&[], &[3], &[1]),
     },
     Row {
@@ -195,6 +217,7 @@ const ROWS: [Row; 14] = [
         coords: &[1, 0],
         value: 15,
         cost: Some(8),
+        form: Form::Grouped,
         answer: Answer::Dense(&[2, 2], &[10, 14, 15, 21], &[7, 9, 8, 10]),
     },
     Row {
@@ -208,6 +231,7 @@ const ROWS: [Row; 14] = [
         coords: &[2, 1],
         value: 6,
         cost: Some(1),
+        form: Form::Grouped,
         answer: Answer::Dense(&[3, 2], &[0, 2, 4, 0, 0, 6], &[LAST, 2, 4, LAST, LAST, 1]),
     },
     Row {
@@ -221,7 +245,8 @@ const ROWS: [Row; 14] = [
         coords: &[0],
         value: 0,
         cost: Some(LAST),
-        answer: Answer::Dense(&[0], &[], &[]),
+        form: Form::Grouped,
+        answer: Answer::Dense(&[1], &[0], &[LAST]),
     },
     Row {
         name: "C(i,j) = a(i) * b(j), too large a result",
@@ -234,10 +259,11 @@ const ROWS: [Row; 14] = [
         coords: &[65_535, 65_535],
         value: 1,
         cost: Some(2),
-        answer: Answer::TooLarge,
+        form: Form::Grouped,
+        answer: Answer::TooLarge(0, 2, 4_294_967_296),
     },
     Row {
-        name: "y(i) = A(i,j), too large an operand",
+        name: "y(i) = A(i,j), a coordinate past its range",
         vars: 2,
         left: &[0],
         accesses: &[&[0, 1]],
@@ -247,7 +273,56 @@ const ROWS: [Row; 14] = [
         coords: &[1],
         value: 0,
         cost: Some(LAST),
-        answer: Answer::TooLarge,
+        form: Form::Grouped,
+        answer: Answer::No,
+    },
+    Row {
+        name: "y(i) = A(i,j) * (x(j) * b(i))",
+        vars: 2,
+        left: &[0],
+        accesses: &[&[0, 1], &[1], &[0]],
+        steps: &[
+            Step::Access(0),
+            Step::Access(1),
+            Step::Access(2),
+            Step::Mul,
+            Step::Mul,
+        ],
+        operands: &[MATRIX, &[(&[0], 3), (&[1], 7), (&[2], 10)], ONE_AND_TWO],
+        ranges: &[2, 3],
+        coords: &[1],
+        value: 132,
+        cost: Some(7),
+        form: Form::Product,
+        answer: Answer::Dense(&[2], &[28, 132], &[12, 7]),
+    },
+    Row {
+        name: "C(i,j) = A(i,j), too large an operand",
+        vars: 2,
+        left: &[0, 1],
+        accesses: &[&[0, 1]],
+        steps: &[Step::Access(0)],
+        operands: &[&[(&[1, 1_073_741_823], 1)]],
+        ranges: &[2, 1_073_741_824],
+        coords: &[1, 1_073_741_823],
+        value: 1,
+        cost: Some(1),
+        form: Form::Grouped,
+        answer: Answer::TooLarge(1, 2, 2_147_483_648),
+    },
+    Row {
+        name: "C(i,j,k) = a(i) * B(i,j,k), too large a level above one without positions",
+        vars: 3,
+        left: &[0, 1, 2],
+        accesses: &[&[0], &[0, 1, 2]],
+        steps: PRODUCT,
+        operands: &[&[(&[1], 2)], &[]],
+        ranges: &[65_536, 65_536, 0],
+        coords: &[1, 2, 0],
+        value: 0,
+        cost: Some(LAST),
+        form: Form::Grouped,
+        answer: Answer::TooLarge(2, 2, 4_294_967_296),
     },
 ];
 
@@ -286,18 +361,19 @@ fn names_of(alloc: Global, count: usize) -> Result<Items<Name>, AllocError> {
     Ok(names)
 }
 
-/// A statement of these accesses on the right; access n is to tensor n + 1.
+/// A statement of these accesses on the right, the first of which is to this tensor, the next to the next.
 pub fn statement_of(
     alloc: Global,
     vars: usize,
     left: &[usize],
+    first: usize,
     right: &[&[usize]],
     steps: &[Step],
 ) -> Result<Statement, Fail> {
     let mut accesses = Items::new(alloc);
     for (n, vars) in right.iter().enumerate() {
         accesses.push(Access {
-            tensor: n + 1,
+            tensor: first.saturating_add(n),
             vars: Items::from_slice(alloc, vars)?,
         })?;
     }
@@ -337,19 +413,34 @@ fn value_of<S: Semiring>(
     Ok(Some(value))
 }
 
-/// Whether the loops answer these sizes and values, or, without them, that something is too large.
+/// Whether the loops answer as the row says, with these values of the result.
 fn is_answer<S: Semiring>(
     rt: &impl Abort,
     alloc: Global,
+    row: &Row,
     statement: &Statement,
     operands: &[Entries],
-    wanted: Option<(&[u64], &[u64])>,
+    wanted: &[u64],
 ) -> Result<bool, AllocError> {
-    assert!(rt; is_computable(statement, operands));
-    let Some(dense) = compute::<S>(alloc, statement, operands)? else {
-        return Ok(wanted.is_none());
-    };
-    Ok(wanted == Some((dense.sizes.as_slice(), dense.values.as_slice())))
+    assert!(rt; is_computable(statement, operands, row.ranges));
+    let told = compute::<S>(alloc, statement, operands, row.ranges);
+    match (told, row.answer) {
+        (Ok(dense), Answer::Dense(sizes, _, _)) => {
+            Ok(dense.sizes.as_slice() == sizes && dense.values.as_slice() == wanted)
+        }
+        (
+            Err(
+                ComputeFault::SizeLimit {
+                    tensor,
+                    level,
+                    count,
+                },
+            ),
+            Answer::TooLarge(t, l, c),
+        ) => { Ok((tensor, level, count) == (t, l, c)) }
+        (Err(ComputeFault::Memory(error)), _) => Err(error),
+        _ => Ok(false),
+    }
 }
 
 fn assert_values(
@@ -359,8 +450,14 @@ fn assert_values(
     statement: &Statement,
     operands: &[Entries],
 ) -> Result<(), AllocError> {
-    let wanted = !matches!(row.answer, Answer::No);
-    assert_eq!(rt; is_product(statement), wanted, "{}", row.name);
+    assert_eq!(rt;
+        is_product(statement),
+        row.form == Form::Grouped,
+        "{}",
+        row.name
+    );
+    let is_product = is_product_of_accesses(&statement.expr);
+    assert_eq!(rt; is_product, row.form != Form::Other, "{}", row.name);
     let value = value_of::<Ring>(rt, alloc, row, statement, operands)?;
     assert_eq!(rt; value, Some(row.value), "{}", row.name);
     let cost = value_of::<Least>(rt, alloc, row, statement, operands)?;
@@ -368,62 +465,120 @@ fn assert_values(
     Ok(())
 }
 
+fn assert_loops(
+    rt: &impl Abort,
+    alloc: Global,
+    row: &Row,
+    statement: &Statement,
+    operands: &[Entries],
+) -> Result<(), AllocError> {
+    let (values, costs): (&[u64], &[u64]) = match row.answer {
+        Answer::No => {
+            assert!(rt;
+                !is_computable(statement, operands, row.ranges),
+                "{}",
+                row.name
+            );
+            return Ok(());
+        }
+        Answer::TooLarge(_, _, _) => (&[], &[]),
+        Answer::Dense(_, values, costs) => (values, costs),
+    };
+    let told = is_answer::<Ring>(rt, alloc, row, statement, operands, values)?;
+    assert!(rt; told, "{}", row.name);
+    let told = is_answer::<Least>(rt, alloc, row, statement, operands, costs)?;
+    assert!(rt; told, "{}, costs", row.name);
+    Ok(())
+}
+
 #[test]
-fn values_are_those_computed_by_hand(rt: HostRuntime) -> Result<(), Fail> {
+fn statements_have_their_values(rt: HostRuntime) -> Result<(), Fail> {
     let alloc = rt.alloc();
     for row in &ROWS {
-        let statement = statement_of(alloc, row.vars, row.left, row.accesses, row.steps)?;
+        let statement = statement_of(alloc, row.vars, row.left, 1, row.accesses, row.steps)?;
         let operands = operands_of(&rt, alloc, row)?;
         assert_values(&rt, alloc, row, &statement, operands.as_slice())?;
+        assert_loops(&rt, alloc, row, &statement, operands.as_slice())?;
     }
     Ok(())
 }
 
-#[test]
-fn loops_compute_products(rt: HostRuntime) -> Result<(), Fail> {
-    let alloc = rt.alloc();
-    for row in &ROWS {
-        let statement = statement_of(alloc, row.vars, row.left, row.accesses, row.steps)?;
-        let operands = operands_of(&rt, alloc, row)?;
-        let operands = operands.as_slice();
-        match row.answer {
-            Answer::No => assert!(rt; !is_computable(&statement, operands), "{}", row.name),
-            Answer::TooLarge => {
-                let told = is_answer::<Ring>(&rt, alloc, &statement, operands, None)?;
-                assert!(rt; told, "{}", row.name);
-            }
-            Answer::Dense(sizes, values, costs) => {
-                let values = Some((sizes, values));
-                let told = is_answer::<Ring>(&rt, alloc, &statement, operands, values)?;
-                assert!(rt; told, "{}", row.name);
-                let costs = Some((sizes, costs));
-                let told = is_answer::<Least>(&rt, alloc, &statement, operands, costs)?;
-                assert!(rt; told, "{}, costs", row.name);
-            }
-        }
-    }
-    Ok(())
+/// Accesses, of which there are two, operands, each with an entry, and ranges, and whether the loops compute the product.
+struct Taken {
+    accesses: &'static [&'static [usize]],
+    operands: &'static [&'static [u64]],
+    ranges: &'static [u64],
+    is_taken: bool,
 }
 
+const TAKEN: [Taken; 9] = [
+    Taken {
+        accesses: &[&[0, 1], &[1]],
+        operands: &[&[1, 2], &[2]],
+        ranges: &[2, 3],
+        is_taken: true,
+    },
+    Taken {
+        accesses: &[&[0, 1], &[1]],
+        operands: &[&[1, 2]],
+        ranges: &[2, 3],
+        is_taken: false,
+    },
+    Taken {
+        accesses: &[&[0, 1], &[1]],
+        operands: &[&[1], &[2]],
+        ranges: &[2, 3],
+        is_taken: false,
+    },
+    Taken {
+        accesses: &[&[0, 1], &[1]],
+        operands: &[&[1, 2], &[2], &[0]],
+        ranges: &[2, 3],
+        is_taken: false,
+    },
+    Taken {
+        accesses: &[&[0, 0], &[1]],
+        operands: &[&[1, 1], &[2]],
+        ranges: &[2, 3],
+        is_taken: false,
+    },
+    Taken {
+        accesses: &[&[0, 1], &[1]],
+        operands: &[&[1, 2], &[2]],
+        ranges: &[2, 2],
+        is_taken: false,
+    },
+    Taken {
+        accesses: &[&[0, 1], &[1]],
+        operands: &[&[1, 2], &[2]],
+        ranges: &[2, 3, 1],
+        is_taken: false,
+    },
+    Taken {
+        accesses: &[&[0, 1], &[1]],
+        operands: &[&[1, 2], &[2]],
+        ranges: &[2, 2_147_483_648],
+        is_taken: false,
+    },
+    Taken {
+        accesses: &[&[0], &[0]],
+        operands: &[&[1], &[1]],
+        ranges: &[2, 3],
+        is_taken: false,
+    },
+];
+
 #[test]
-fn what_is_not_computable(rt: HostRuntime) -> Result<(), Fail> {
+fn what_is_computable(rt: HostRuntime) -> Result<(), Fail> {
     let alloc = rt.alloc();
-    // The variables of the accesses, of which there are two, with the operands' orders, and whether that is computed.
-    let table: [(&[&[usize]], &[usize], bool); 5] = [
-        (&[&[0, 1], &[1]], &[2, 1], true),
-        (&[&[0, 1], &[1]], &[2], false),
-        (&[&[0, 1], &[1]], &[1, 1], false),
-        (&[&[0, 1], &[1]], &[2, 1, 1], false),
-        (&[&[0, 0], &[1]], &[2, 1], false),
-    ];
-    for (accesses, orders, is_computed) in table {
-        let statement = statement_of(alloc, 2, &[0], accesses, PRODUCT)?;
+    for row in &TAKEN {
+        let statement = statement_of(alloc, 2, &[0], 1, row.accesses, PRODUCT)?;
         let mut operands = Vec::new(alloc);
-        for order in orders {
-            operands.push(entries_of(&rt, alloc, *order, &[])?)?;
+        for coords in row.operands {
+            operands.push(entries_of(&rt, alloc, coords.len(), &[(*coords, 1)])?)?;
         }
-        let told = is_computable(&statement, operands.as_slice());
-        assert_eq!(rt; told, is_computed, "{orders:?}");
+        let told = is_computable(&statement, operands.as_slice(), row.ranges);
+        assert_eq!(rt; told, row.is_taken, "{:?} {:?}", row.operands, row.ranges);
     }
     expr_terms::sums_change_places();
     expr_terms::values_depend_on_little();

@@ -3,11 +3,15 @@
 //!
 //! A line of a case file is a case, `ORDER | TEXT`, or a comment that begins with `#`, or empty. The order is that of the
 //! tensor that the matrix is read as, 1 or 2. The text has the escapes \t, \r, \n, \\ and \xHH; where a number stands behind
-//! the order, so many spaces come behind the text. It is read in pieces of 1, 2 and 4,096 bytes.
+//! the order, so many spaces come behind the text. It is read in pieces of 1, 2 and 4,096 bytes. In a case `put ORDER | TEXT`
+//! the matrix is written as well, and that text is printed.
 #![tactic(auto)]
 
 ghost use Rattle.std.specs.Prelude.{◌<◌, IfOk};
 ghost use Rattle.mtx_io.specs.Progress.{IsMatrixOrder};
+ghost use Rattle.matrix_cases.specs.Written.{IsMatrix};
+
+mod writing;
 
 use anyhow::{Context, Result, bail};
 use bstr::ByteVec;
@@ -18,6 +22,7 @@ use std::alloc::{AllocError, Global};
 use std::rt::{Env, Files};
 use std::{env, fs};
 use tensor_map::Entries;
+use writing::written_text;
 
 /// How long the pieces are.
 const PIECES: [usize; 3] = [1, 2, 4_096];
@@ -40,6 +45,7 @@ fn order_of(head: &str) -> Result<usize>
 fn read_in_pieces(alloc: Global, order: usize, text: &[u8], length: usize) -> Read
     requires order { IsMatrixOrder order }
     requires length { 0 < length }
+    ensures { IfOk result (IsMatrix order) }
 {
     let mut reader: MtxReader<Ring> = match MtxReader::new(alloc, order) {
         Ok(reader) => reader,
@@ -77,8 +83,8 @@ fn matrix_or_fault(alloc: Global, read: Read) -> Result<String, AllocError> {
     }
 }
 
-/// The answer, which is the same for all lengths of pieces.
-fn answer_of(alloc: Global, order: usize, text: &[u8]) -> Result<String>
+/// The matrix or the fault, which is the same for all lengths of pieces.
+fn matrix_of(alloc: Global, order: usize, text: &[u8]) -> Result<String>
     requires { IsMatrixOrder order }
 {
     let mut answers = Vec::new(alloc);
@@ -104,16 +110,35 @@ fn bytes_of(alloc: Global, text: &str, spaces: usize) -> Result<Vec<u8>> {
     Ok(bytes)
 }
 
-/// Runs the case of a line, and prints what came.
-fn run_line<R: Print + AllocGlobal>(rt: &R, line: &str) -> Result<()> {
-    let (head, text) = line.split_once('|').context("no text")?;
-    let text = text.strip_prefix(' ').unwrap_or(text);
+/// What is written of the matrix that a text stands for.
+fn put_of(alloc: Global, order: usize, text: &[u8]) -> Result<String>
+    requires { IsMatrixOrder order }
+{
+    match read_in_pieces(alloc, order, text, 4_096) {
+        Ok(read) => written_text(alloc, order, read),
+        Err(fault) => bail!("{fault:?}"),
+    }
+}
+
+/// What comes of a case.
+fn answer_of(alloc: Global, head: &str, text: &str) -> Result<String> {
+    if let Some(order) = head.strip_prefix("put ") {
+        let bytes = bytes_of(alloc, text, 0)?;
+        return put_of(alloc, order_of(order)?, bytes.as_slice());
+    }
     let (order, spaces) = match head.trim().split_once(' ') {
         Some((order, spaces)) => (order, spaces.parse::<usize>()?),
         None => (head, 0),
     };
-    let bytes = bytes_of(rt.alloc(), text, spaces)?;
-    let answer = answer_of(rt.alloc(), order_of(order)?, bytes.as_slice())?;
+    let bytes = bytes_of(alloc, text, spaces)?;
+    matrix_of(alloc, order_of(order)?, bytes.as_slice())
+}
+
+/// Runs the case of a line, and prints what came.
+fn run_line<R: Print + AllocGlobal>(rt: &R, line: &str) -> Result<()> {
+    let (head, text) = line.split_once('|').context("no text")?;
+    let text = text.strip_prefix(' ').unwrap_or(text);
+    let answer = answer_of(rt.alloc(), head, text)?;
     println!(rt; "{line}")?;
     println!(rt; "    {answer}")?;
     Ok(())
