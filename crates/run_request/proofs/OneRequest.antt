@@ -1,5 +1,5 @@
 -- A command line asks for one thing, or is refused.
-use Rattle.std.specs.Prelude.{◌≡◌, ℕ, Bool, true, List, Option, Some, None, refl}
+use Rattle.std.specs.Prelude.{◌≡◌, ℕ, true, List, [], Option, Some, None, refl}
 use Rattle.std.proofs.Common.{◌∙◌, sym, ap, subst}
 use Rattle.format_spec.specs.declared.format.FormatLevel.{FormatLevel}
 use Rattle.index_notation.specs.declared.syntax.Statement.{Statement}
@@ -96,15 +96,15 @@ binding_apart s words formats files ranges (binding.Memory error) binds is = is
 pub never_both : (words : List (List ℕ)) (s : Statement) (formats : List (List FormatLevel)) (files : List (ℕ × List ℕ))
     (ranges : List (Option ℕ)) (why : Fault) → Asks words s formats files ranges → IsRefusedByWords words why → IsWant why
 never_both words s formats files ranges fault.Usage asks is = apart (sym is ∙ asks.names.line)
-never_both words s formats files ranges (fault.Notation why) asks (text, (rest, (line, is))) =
+never_both words s formats files ranges (fault.Notation why) asks (text, rest, line, is) =
     notations.never_both text s why
     (subst (λ t. IsNotationOf t s) (one_text words asks.names.text text asks.rest rest asks.names.line line) asks.names.notation) is
-never_both words s formats files ranges (fault.Named t (named.Name why)) asks (text, (rest, (line, (notation, is)))) =
+never_both words s formats files ranges (fault.Named t (named.Name why)) asks (text, rest, line, notation, is) =
     names_never_both t why
     (subst HasNoNameFault (notations.statement_once text s t
     (subst (λ u. IsNotationOf u s) (one_text words asks.names.text text asks.rest rest asks.names.line line) asks.names.notation)
     notation) asks.names.names) is
-never_both words s formats files ranges (fault.Named t (named.Binding why)) asks (rest, (names, is)) =
+never_both words s formats files ranges (fault.Named t (named.Binding why)) asks (rest, names, is) =
     binding_apart t rest formats files ranges why
     (subst (λ u. Binds built_letters u rest true formats files ranges)
     (one_statement words s t asks.rest rest asks.names names)

@@ -150,7 +150,7 @@ module _ (words : List (List ℕ)) (files between files' : FolderState) (out out
       → Cause words files files' out out' (Some why)
   unwritten (fault.WriteFault at) (path_is, refuses) =
       subst (λ p. IsUnwritten words files files' out out' p write.Fault) (sym path_is) (refused write.Fault refuses)
-  unwritten fault.Memory (error, refuses) = inr (path, (error, refused (write.Memory error) refuses))
+  unwritten fault.Memory (error, refuses) = inr (path, error, refused (write.Memory error) refuses)
   unwritten fault.Usage stops = absurd stops
   unwritten (fault.Notation why) stops = absurd stops
   unwritten (fault.Named s why) stops = absurd stops

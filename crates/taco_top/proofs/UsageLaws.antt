@@ -76,16 +76,16 @@ module _ (words : List (List ℕ)) (files files' : FolderState) (out out' : Sink
     found (Some (fault.Notation why)) cause = by cause.stops.refused
       where
         by : IsRefusedByWords words (fault.Notation why) → (notation_status why ≡ 2) ⊎ (notation_status why ≡ 5)
-        by (text, (rest, (line, is))) = absurd (never line)
+        by (text, rest, line, is) = absurd (never line)
     found (Some (fault.Named s (named.Name why))) cause = by cause.stops.refused
       where
         by : IsRefusedByWords words (fault.Named s (named.Name why)) → (1 ≡ 2) ⊎ (1 ≡ 5)
-        by (text, (rest, (line, is))) = absurd (never line)
+        by (text, rest, line, notation, is) = absurd (never line)
     found (Some (fault.Named s (named.Binding why))) cause = by cause.stops.refused
       where
         by : IsRefusedByWords words (fault.Named s (named.Binding why))
             → (named_status (named.Binding why) ≡ 2) ⊎ (named_status (named.Binding why) ≡ 5)
-        by (rest, (names, is)) = absurd (never names.line)
+        by (rest, names, is) = absurd (never names.line)
     found (Some (fault.Named s (named.Range why))) cause = absurd (never cause.stops.operands.built.asks.names.line)
     found (Some (fault.Named s (named.SizeLimit tensor level count))) cause = absurd (never cause.stops.operands.built.asks.names.line)
     found (Some fault.NotBuilt) cause = absurd (never cause.stops.1.asks.names.line)
