@@ -1,9 +1,10 @@
 -- Words have one answer.
-use Rattle.std.specs.Prelude.{◌≡◌, ℕ, ◌<◌, Bool, true, false, List, [], ◌∷◌, length, Option, Some, None, is_some, Result, Ok, Err}
+use Rattle.std.specs.Prelude.{◌≡◌, ℕ, suc, ◌<◌, Bool, true, false, List, [], ◌∷◌, length, Option, Some, None, is_some, Result, Ok, Err}
 use Rattle.std.specs.Prelude.{slice_index_or, refl}
 use Rattle.std.proofs.Common.{◌∙◌, sym, ap, subst, arith, inl, inr}
 use Rattle.format_spec.specs.declared.format.FormatLevel.{FormatLevel}
 use Rattle.format_spec.specs.declared.fault.FormatFault.{FormatFault}
+use Rattle.format_spec.specs.Formats.{letters_of, modes_of}
 use Rattle.format_spec.specs.Words.{Answers}
 use Rattle.format_spec.proofs.WordLaws.{one_answer}
 use Rattle.index_notation.specs.declared.syntax.Statement.{Statement}
@@ -20,22 +21,55 @@ pub same_files : (built : List ℕ) (s : Statement) (words : List (List ℕ)) (n
 same_files built s words need formats layouts files others ranges given binds bind = binds.files_are ∙ sym bind.files_are
 
 -- two lists of one length that agree at each place
-lists_agree : (xs ys : List (Option ℕ)) → length xs ≡ length ys
-    → ((k : ℕ) (d : Option ℕ) → k < length xs → slice_index_or xs k d ≡ slice_index_or ys k d) → xs ≡ ys
+lists_agree : {A : Type 0} (xs ys : List A) → length xs ≡ length ys
+    → ((k : ℕ) (d : A) → k < length xs → slice_index_or xs k d ≡ slice_index_or ys k d) → xs ≡ ys
 lists_agree [] [] long agree = refl
 lists_agree [] (y ∷ ys) long agree = cc
 lists_agree (x ∷ xs) [] long agree = cc
 lists_agree (x ∷ xs) (y ∷ ys) long agree =
     ap (λ head. head ∷ xs) (agree 0 x (omega arith))
-    ∙ ap (λ tail. y ∷ tail) (lists_agree xs ys (omega (arith, long)) (λ k d lt. agree (k + 1) d (omega (arith, lt))))
+    ∙ ap (λ tail. y ∷ tail) (lists_agree xs ys (omega (arith, long)) (λ k d lt. agree (suc k) d (omega (arith, lt))))
 
 pub same_ranges : (built : List ℕ) (s : Statement) (words : List (List ℕ)) (need : Bool)
     (formats layouts : List (List FormatLevel)) (files others : List (ℕ × List ℕ)) (ranges given : List (Option ℕ))
     → Binds built s words need formats files ranges → Binds built s words need layouts others given → ranges ≡ given
 same_ranges built s words need formats layouts files others ranges given binds bind =
     lists_agree ranges given (binds.variables ∙ sym bind.variables) (λ var d lt.
-      let within : var < length s.vars = subst (λ n. var < n) binds.variables lt in
-      binds.ranges_are var d within ∙ sym (bind.ranges_are var d within))
+    let within : var < length s.vars = subst (λ n. var < n) binds.variables lt in
+    binds.ranges_are var d within ∙ sym (bind.ranges_are var d within))
+
+-- levels are told by their letters and their modes
+levels_same : (xs ys : List FormatLevel) → letters_of xs ≡ letters_of ys → modes_of xs ≡ modes_of ys → xs ≡ ys
+levels_same [] [] letters modes = refl
+levels_same [] (y ∷ ys) letters modes = absurd cc
+levels_same (x ∷ xs) [] letters modes = absurd cc
+levels_same (x ∷ xs) (y ∷ ys) letters modes =
+    let letter : x.letter ≡ y.letter = cc in
+    let mode : x.mode ≡ y.mode = cc in
+    let letters_left : letters_of xs ≡ letters_of ys = cc in
+    let modes_left : modes_of xs ≡ modes_of ys = cc in
+    let rest = levels_same xs ys letters_left modes_left in
+    λ i. record { letter = letter i; mode = mode i } ∷ rest i
+
+abbrev ok_or : List FormatLevel → Result (List FormatLevel) FormatFault → List FormatLevel
+ok_or d (Ok levels) = levels
+ok_or d (Err fault) = d
+
+format_once : (built : List ℕ) (text : Option FormatText) (order : ℕ) (levels others : List FormatLevel)
+    → HasFormat built text order (Ok levels) → HasFormat built text order (Ok others) → levels ≡ others
+format_once built None order levels others is be =
+    levels_same levels others (is.0 ∙ sym be.0) (is.1 ∙ sym be.1)
+format_once built (Some text) order levels others is be =
+    ap (ok_or []) (one_answer text.letters text.order order (Ok levels) (Ok others) is.1 be.1)
+
+pub same_formats : (built : List ℕ) (s : Statement) (words : List (List ℕ)) (need : Bool)
+    (formats layouts : List (List FormatLevel)) (files others : List (ℕ × List ℕ)) (ranges given : List (Option ℕ))
+    → Binds built s words need formats files ranges → Binds built s words need layouts others given → formats ≡ layouts
+same_formats built s words need formats layouts files others ranges given binds bind =
+    lists_agree formats layouts (binds.formats_are.tensors ∙ sym bind.formats_are.tensors) (λ tensor d lt.
+    let within : tensor < length s.tensors = subst (λ n. tensor < n) binds.formats_are.tensors lt in
+    format_once built (first_in (format_in s tensor) words) (order_of s tensor) (slice_index_or formats tensor d)
+    (slice_index_or layouts tensor d) (binds.formats_are.are tensor d within) (bind.formats_are.are tensor d within))
 
 -- a format is there or isn't
 answers_apart : (text : FormatText) (order : ℕ) (levels : List FormatLevel) (fault : FormatFault)
@@ -72,8 +106,8 @@ never_both built s words need formats files ranges (Word word why) binds first =
     apart h = cc
 never_both built s words need formats files ranges (NoFile tensor) binds lacks =
     none_is_some (first_in (path_in s tensor) words)
-      (binds.all_read lacks.needed tensor lacks.lacks.operand lacks.lacks.within) lacks.lacks.lacks
+    (binds.all_read lacks.needed tensor lacks.lacks.operand lacks.lacks.within) lacks.lacks.lacks
 never_both built s words need formats files ranges (BadFormat tensor why) binds bad =
     format_apart built (first_in (format_in s tensor) words) (order_of s tensor) (slice_index_or formats tensor []) why
-      (binds.formats_are.are tensor [] bad.bad.within) bad.bad.is
+    (binds.formats_are.are tensor [] bad.bad.within) bad.bad.is
 never_both built s words need formats files ranges (Memory error) binds want = want

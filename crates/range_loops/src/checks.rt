@@ -5,10 +5,10 @@ ghost use Rattle.expr_terms.specs.Terms.{stands_in};
 ghost use Rattle.range_loops.specs.Computes.{IsRead, IsComputable};
 
 use crate::products::is_product_of_accesses;
+use dense_operands::{are_below_ranges, are_operands};
 use expr_terms::stands_in;
 use index_notation::{Access, Statement};
 use limits::greatest_positions;
-use dense_operands::{are_below_ranges, are_operands};
 use tensor_map::Entries;
 
 /// Whether one of these accesses reads the tensor.

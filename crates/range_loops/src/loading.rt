@@ -6,9 +6,9 @@ ghost use Rattle.kernel_code.specs.Meaning.{State};
 ghost use Rattle.kernel_code.specs.Store.{state_of, setting, restarted};
 ghost use Rattle.range_loops.specs.Runs.{RunsInto, RunsToEnd, SizesFrom, KeepsBelow, KeepsOthers, IsLoaded};
 
+use dense_operands::values_of;
 use kernel_code::{Arr, Ending, KStmt, Machine};
 use numbers::Semiring;
-use dense_operands::values_of;
 use std::alloc::{AllocError, Global};
 use tensor_map::Entries;
 

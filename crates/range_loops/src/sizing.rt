@@ -7,8 +7,8 @@ ghost use Rattle.range_loops.specs.AllSizes.{AreTensorSizes, MayRefuseTensor};
 ghost use Rattle.range_loops.specs.Computes.{MayRefuse};
 
 use crate::fault::ComputeFault;
-use index_notation::Statement;
 use dense_operands::{positions_of, sizes_of};
+use index_notation::Statement;
 use std::alloc::Global;
 use tensor_map::Entries;
 use trees::Items;

@@ -42,10 +42,10 @@ module _ (a : Arithmetic) (laws : Laws a) (ranges : List ℕ) (value : List ℕ 
   one_matrix : (first second : List ℕ) → IsMatrixOf a ranges value first → IsMatrixOf a ranges value second → first ≡ second
   one_matrix first second one two =
       let same : one.text_is.entries ≡ two.text_is.entries = one_row a laws one.text_is.entries two.text_is.entries
-        one.text_is.increasing two.text_is.increasing
-        (all_nonzero a (length ranges) one.text_is.entries one.text_is.each one.text_is.nonzero)
-        (all_nonzero a (length ranges) two.text_is.entries two.text_is.each two.text_is.nonzero)
-        (λ coords. agree coords (tell_below ranges coords)) in
+      one.text_is.increasing two.text_is.increasing
+      (all_nonzero a (length ranges) one.text_is.entries one.text_is.each one.text_is.nonzero)
+      (all_nonzero a (length ranges) two.text_is.entries two.text_is.each two.text_is.nonzero)
+      (λ coords. agree coords (tell_below ranges coords)) in
       one.text_is.text_is ∙ ap (matrix_text ranges) same ∙ sym two.text_is.text_is
     where
       agree : (coords : List ℕ) → IsBelow ranges coords ⊎ (IsBelow ranges coords → ⊥)
@@ -55,7 +55,7 @@ module _ (a : Arithmetic) (laws : Laws a) (ranges : List ℕ) (value : List ℕ 
       agree coords (inr above) =
           value_unlisted a laws coords one.text_is.entries (λ listed. above (listed_below ranges one.text_is.entries coords one.text_is.below listed))
           ∙ sym (value_unlisted a laws coords two.text_is.entries
-            (λ listed. above (listed_below ranges two.text_is.entries coords two.text_is.below listed)))
+          (λ listed. above (listed_below ranges two.text_is.entries coords two.text_is.below listed)))
 
   one_in : (b : Bool) (first second : List ℕ) → IsTextIn b a ranges value first → IsTextIn b a ranges value second → first ≡ second
   one_in true first second one two = one_matrix first second one two

@@ -25,34 +25,39 @@ use Rattle.refusals.specs.declared.fault.NamedFault.TheVariants as named
 use Rattle.refusals.specs.declared.fault.Fault.{Fault}
 use Rattle.refusals.specs.declared.fault.Fault.TheVariants as fault
 use Rattle.run_request.specs.Asked.{IsRefusedByWords}
-use Rattle.run_answers.specs.Run.{AsksFor, path_of, orders_of, paths_of}
+use Rattle.run_answers.specs.Run.{Request, AsksFor, path_of, orders_of, paths_of}
 
 -- what the bytes of an operand's file stand for, where values are added and multiplied modulo 2^64
 abbrev pub means : Meaning
 means = operand_of ring true
 
 -- the words ask for a product of accesses
-pub record IsBuilt (words : List (List ℕ)) (s : Statement) (files : List (ℕ × List ℕ)) (given : List (Option ℕ)) : Type 0 where
-  pub asks : AsksFor words s files given
-  pub product : IsProductOfAccesses s.expr
+pub record IsBuilt (words : List (List ℕ)) (r : Request) : Type 0 where
+  pub asks : AsksFor words r
+  pub product : IsProductOfAccesses r.statement.expr
+
+-- the orders and the paths of its operands' files
+abbrev pub asked_orders : Request → List ℕ
+asked_orders r = orders_of r.statement
+
+abbrev pub asked_paths : Request → List (List ℕ)
+asked_paths r = paths_of r.statement r.files
 
 -- and its operands were read: these are their entries, and what their modes give
-pub record HasOperands (words : List (List ℕ)) (old new : FolderState) (s : Statement) (files : List (ℕ × List ℕ))
-    (given : List (Option ℕ)) (entries : List Entries) (bounds : List (Vec Bound Global)) : Type 0 where
-  pub built : IsBuilt words s files given
-  pub read : HaveRead means old new (orders_of s) (paths_of s files) (length (paths_of s files)) entries (map (λ b. b.items) bounds)
+pub record HasOperands (words : List (List ℕ)) (old new : FolderState) (r : Request) (entries : List Entries)
+    (bounds : List (Vec Bound Global)) : Type 0 where
+  pub built : IsBuilt words r
+  pub read : HaveRead means old new (asked_orders r) (asked_paths r) (length (asked_paths r)) entries (map (λ b. b.items) bounds)
 
 -- what a run computes: the statement over its operands, where the ranges agree and no level has too many positions
 pub record IsComputed (words : List (List ℕ)) (old new : FolderState) : Type 0 where
-  pub s : Statement
-  pub files : List (ℕ × List ℕ)
-  pub given : List (Option ℕ)
+  pub request : Request
   pub entries : List Entries
   pub bounds : List (Vec Bound Global)
   pub ranges : List ℕ
-  pub operands : HasOperands words old new s files given entries bounds
-  pub ranges_are : told_ranges s given bounds ≡ Ok ranges
-  pub fits : AllFit s entries (slice_index ranges)
+  pub operands : HasOperands words old new request entries bounds
+  pub ranges_are : told_ranges request.statement request.given bounds ≡ Ok ranges
+  pub fits : AllFit request.statement entries (slice_index ranges)
 
 -- the result's ranges, and its values
 abbrev pub result_ranges : Statement → List ℕ → List ℕ
@@ -63,58 +68,66 @@ result_value s entries ranges = statement_value ring s (operand_values ring entr
 
 -- the words ask for a product, and no more was opened of its operands' files than the first of them, in order
 pub record OpensOperands (words : List (List ℕ)) (old new : FolderState) : Type 0 where
-  pub s : Statement
-  pub files : List (ℕ × List ℕ)
-  pub given : List (Option ℕ)
-  pub built : IsBuilt words s files given
-  pub opens : OpensFirst old new (paths_of s files)
+  pub request : Request
+  pub built : IsBuilt words request
+  pub opens : OpensFirst old new (asked_paths request)
   pub no_fault : NoReadFails old new
 
 -- why the operands of what the words ask for aren't read
-abbrev pub StopsReading : List (List ℕ) → FolderState → FolderState → ((orders : List ℕ) (paths : List (List ℕ)) → Type 0) → Type 0
-StopsReading words old new Why = (s : Statement) × (files : List (ℕ × List ℕ)) × (given : List (Option ℕ))
-    × IsBuilt words s files given × Why (orders_of s) (paths_of s files)
+pub record StopsReading (words : List (List ℕ)) (Why : (orders : List ℕ) (paths : List (List ℕ)) → Type 0) : Type 0 where
+  pub request : Request
+  pub built : IsBuilt words request
+  pub why : Why (asked_orders request) (asked_paths request)
 
 -- why the ranges of this statement don't agree
 pub record HasRangeFault (words : List (List ℕ)) (old new : FolderState) (s : Statement) (why : RangeFault) : Type 0 where
-  pub files : List (ℕ × List ℕ)
-  pub given : List (Option ℕ)
+  pub request : Request
+  pub statement_is : request.statement ≡ s
   pub entries : List Entries
   pub bounds : List (Vec Bound Global)
-  pub operands : HasOperands words old new s files given entries bounds
-  pub is : told_ranges s given bounds ≡ Err why
+  pub operands : HasOperands words old new request entries bounds
+  pub is : told_ranges s request.given bounds ≡ Err why
 
 -- this level of this tensor is the first with too many positions
 pub record HasLargeLevel (words : List (List ℕ)) (old new : FolderState) (s : Statement) (tensor level count : ℕ) : Type 0 where
-  pub files : List (ℕ × List ℕ)
-  pub given : List (Option ℕ)
+  pub request : Request
+  pub statement_is : request.statement ≡ s
   pub entries : List Entries
   pub bounds : List (Vec Bound Global)
-  pub operands : HasOperands words old new s files given entries bounds
-  pub large : IsTooLarge s given entries bounds tensor level count
+  pub operands : HasOperands words old new request entries bounds
+  pub large : IsTooLarge s request.given entries bounds tensor level count
+
+-- no refusal of the words comes, and the right side is no product
+pub record IsNoProduct (words : List (List ℕ)) : Type 0 where
+  pub request : Request
+  pub asks : AsksFor words request
+  pub no_product : IsProductOfAccesses request.statement.expr → ⊥
+
+-- no file was opened, and the words are refused so
+pub record RefusesWords (words : List (List ℕ)) (old new : FolderState) (why : Fault) : Type 0 where
+  pub folder_is : new ≡ old
+  pub refused : IsRefusedByWords words why
 
 -- why nothing is computed, and what of the folder was opened then
 abbrev pub Stops : List (List ℕ) → FolderState → FolderState → Fault → Type 0
-Stops words old new (fault.ReadFault path) = StopsReading words old new (λ orders paths. RefusedAtFault means old new orders paths path.now)
-Stops words old new (fault.FileBytes path) =
-    StopsReading words old new (λ orders paths. RefusedAtLength means old new orders paths path.now)
+Stops words old new (fault.ReadFault path) = StopsReading words (λ orders paths. RefusedAtFault means old new orders paths path.now)
+Stops words old new (fault.FileBytes path) = StopsReading words (λ orders paths. RefusedAtLength means old new orders paths path.now)
 Stops words old new (fault.BadFile path line kind) =
-    StopsReading words old new (λ orders paths. RefusedAtLine means old new orders paths path.now line kind)
+    StopsReading words (λ orders paths. RefusedAtLine means old new orders paths path.now line kind)
 Stops words old new (fault.Named s (named.Range why)) = HasRangeFault words old new s why
 Stops words old new (fault.Named s (named.SizeLimit tensor level count)) = HasLargeLevel words old new s tensor level count
 Stops words old new (fault.WriteFault path) = ⊥
-Stops words old new fault.NotBuilt = (new ≡ old) × ((s : Statement) × (files : List (ℕ × List ℕ)) × (given : List (Option ℕ))
-    × AsksFor words s files given × (IsProductOfAccesses s.expr → ⊥))
+Stops words old new fault.NotBuilt = (new ≡ old) × IsNoProduct words
 Stops words old new fault.Memory = (new ≡ old) ⊎ OpensOperands words old new
-Stops words old new why = (new ≡ old) × IsRefusedByWords words why
+Stops words old new why = RefusesWords words old new why
 
--- the result was written: what was read until then stands in `files-between`
+-- the result was written; `between` is the folder as it was when the writing began
 pub record IsWritten (words : List (List ℕ)) (files files' : FolderState) (out out' : SinkState) : Type 0 where
   pub between : FolderState
   pub only_reads : OnlyReads files between
   pub computed : IsComputed words files between
-  pub writes : WritesResult ring (path_of computed.files 0) (result_ranges computed.s computed.ranges)
-      (result_value computed.s computed.entries computed.ranges) between files' out out'
+  pub writes : WritesResult ring (path_of computed.request.files 0) (result_ranges computed.request.statement computed.ranges)
+      (result_value computed.request.statement computed.entries computed.ranges) between files' out out'
 
 -- its writing was refused
 pub record IsUnwritten (words : List (List ℕ)) (files files' : FolderState) (out out' : SinkState) (path : Option (List ℕ))
@@ -122,9 +135,9 @@ pub record IsUnwritten (words : List (List ℕ)) (files files' : FolderState) (o
   pub between : FolderState
   pub only_reads : OnlyReads files between
   pub computed : IsComputed words files between
-  pub path_is : path_of computed.files 0 ≡ path
-  pub refuses : RefusesResult ring path (result_ranges computed.s computed.ranges)
-      (result_value computed.s computed.entries computed.ranges) between files' out out' why
+  pub path_is : path_of computed.request.files 0 ≡ path
+  pub refuses : RefusesResult ring path (result_ranges computed.request.statement computed.ranges)
+      (result_value computed.request.statement computed.entries computed.ranges) between files' out out' why
 
 -- nothing was written, and why
 pub record IsStopped (words : List (List ℕ)) (files files' : FolderState) (out out' : SinkState) (why : Fault) : Type 0 where

@@ -23,7 +23,12 @@ orders_of s = map (order_of s) (operands_of s)
 abbrev pub paths_of : Statement → List (ℕ × List ℕ) → List (List ℕ)
 paths_of s files = map (λ tensor. unwrap_or (path_of files tensor) []) (operands_of s)
 
--- the words ask for this statement, with these files of tensors and ranges of variables
-pub record AsksFor (words : List (List ℕ)) (s : Statement) (files : List (ℕ × List ℕ)) (given : List (Option ℕ)) : Type 0 where
+-- what words ask for: a statement, a format for each tensor, the files of tensors, and the ranges that words give variables
+pub record Request : Type 0 where
+  pub statement : Statement
   pub formats : List (List FormatLevel)
-  pub asks : Asks words s formats files given
+  pub files : List (ℕ × List ℕ)
+  pub given : List (Option ℕ)
+
+abbrev pub AsksFor : List (List ℕ) → Request → Type 0
+AsksFor words r = Asks words r.statement r.formats r.files r.given

@@ -17,11 +17,11 @@ use Rattle.refusals.specs.declared.fault.Fault.{Fault}
 use Rattle.refusals.specs.declared.fault.Fault.TheVariants as fault
 use Rattle.run_request.specs.Asked.{Asks, Names, IsRefusedByWords, IsBindingFault, IsWant, built_letters}
 
-expr_of : Option CommandLine → List ℕ
+abbrev expr_of : Option CommandLine → List ℕ
 expr_of None = []
 expr_of (Some (Run expr words)) = expr
 
-words_of : Option CommandLine → List (List ℕ)
+abbrev words_of : Option CommandLine → List (List ℕ)
 words_of None = []
 words_of (Some (Run expr words)) = words
 
@@ -38,7 +38,7 @@ one_statement : (words : List (List ℕ)) (s t : Statement) (rest others : List 
     → Names words s rest → Names words t others → s ≡ t
 one_statement words s t rest others is be =
     notations.statement_once be.text s t
-      (subst (λ text. IsNotationOf text s) (one_text words is.text be.text rest others is.line be.line) is.notation) be.notation
+    (subst (λ text. IsNotationOf text s) (one_text words is.text be.text rest others is.line be.line) is.notation) be.notation
 
 pub same_statement : (words : List (List ℕ)) (s t : Statement) (formats layouts : List (List FormatLevel))
     (files others : List (ℕ × List ℕ)) (ranges given : List (Option ℕ))
@@ -53,23 +53,30 @@ same_binds : (words : List (List ℕ)) (s t : Statement) (formats layouts : List
     → Binds built_letters s asks.rest true layouts others given
 same_binds words s t formats layouts files others ranges given asks ask =
     subst (λ u. Binds built_letters u asks.rest true layouts others given)
-      (sym (same_statement words s t formats layouts files others ranges given asks ask))
-      (subst (λ rest. Binds built_letters t rest true layouts others given)
-        (one_rest words ask.names.text asks.names.text ask.rest asks.rest ask.names.line asks.names.line) ask.binds)
+    (sym (same_statement words s t formats layouts files others ranges given asks ask))
+    (subst (λ rest. Binds built_letters t rest true layouts others given)
+    (one_rest words ask.names.text asks.names.text ask.rest asks.rest ask.names.line asks.names.line) ask.binds)
+
+pub same_formats : (words : List (List ℕ)) (s t : Statement) (formats layouts : List (List FormatLevel))
+    (files others : List (ℕ × List ℕ)) (ranges given : List (Option ℕ))
+    → Asks words s formats files ranges → Asks words t layouts others given → formats ≡ layouts
+same_formats words s t formats layouts files others ranges given asks ask =
+    bindings.same_formats built_letters s asks.rest true formats layouts files others ranges given asks.binds
+    (same_binds words s t formats layouts files others ranges given asks ask)
 
 pub same_files : (words : List (List ℕ)) (s t : Statement) (formats layouts : List (List FormatLevel))
     (files others : List (ℕ × List ℕ)) (ranges given : List (Option ℕ))
     → Asks words s formats files ranges → Asks words t layouts others given → files ≡ others
 same_files words s t formats layouts files others ranges given asks ask =
     bindings.same_files built_letters s asks.rest true formats layouts files others ranges given asks.binds
-      (same_binds words s t formats layouts files others ranges given asks ask)
+    (same_binds words s t formats layouts files others ranges given asks ask)
 
 pub same_ranges : (words : List (List ℕ)) (s t : Statement) (formats layouts : List (List FormatLevel))
     (files others : List (ℕ × List ℕ)) (ranges given : List (Option ℕ))
     → Asks words s formats files ranges → Asks words t layouts others given → ranges ≡ given
 same_ranges words s t formats layouts files others ranges given asks ask =
     bindings.same_ranges built_letters s asks.rest true formats layouts files others ranges given asks.binds
-      (same_binds words s t formats layouts files others ranges given asks ask)
+    (same_binds words s t formats layouts files others ranges given asks ask)
 
 apart : {A : Type 0} {x : A} → None ≡ Some x → ⊥
 apart h = cc
@@ -91,18 +98,18 @@ pub never_both : (words : List (List ℕ)) (s : Statement) (formats : List (List
 never_both words s formats files ranges fault.Usage asks is = apart (sym is ∙ asks.names.line)
 never_both words s formats files ranges (fault.Notation why) asks (text, (rest, (line, is))) =
     notations.never_both text s why
-      (subst (λ t. IsNotationOf t s) (one_text words asks.names.text text asks.rest rest asks.names.line line) asks.names.notation) is
+    (subst (λ t. IsNotationOf t s) (one_text words asks.names.text text asks.rest rest asks.names.line line) asks.names.notation) is
 never_both words s formats files ranges (fault.Named t (named.Name why)) asks (text, (rest, (line, (notation, is)))) =
     names_never_both t why
-      (subst HasNoNameFault (notations.statement_once text s t
-        (subst (λ u. IsNotationOf u s) (one_text words asks.names.text text asks.rest rest asks.names.line line) asks.names.notation)
-        notation) asks.names.names) is
+    (subst HasNoNameFault (notations.statement_once text s t
+    (subst (λ u. IsNotationOf u s) (one_text words asks.names.text text asks.rest rest asks.names.line line) asks.names.notation)
+    notation) asks.names.names) is
 never_both words s formats files ranges (fault.Named t (named.Binding why)) asks (rest, (names, is)) =
     binding_apart t rest formats files ranges why
-      (subst (λ u. Binds built_letters u rest true formats files ranges)
-        (one_statement words s t asks.rest rest asks.names names)
-        (subst (λ r. Binds built_letters s r true formats files ranges)
-          (one_rest words asks.names.text names.text asks.rest rest asks.names.line names.line) asks.binds)) is
+    (subst (λ u. Binds built_letters u rest true formats files ranges)
+    (one_statement words s t asks.rest rest asks.names names)
+    (subst (λ r. Binds built_letters s r true formats files ranges)
+    (one_rest words asks.names.text names.text asks.rest rest asks.names.line names.line) asks.binds)) is
 never_both words s formats files ranges (fault.Named t (named.Range why)) asks is = is
 never_both words s formats files ranges (fault.Named t (named.SizeLimit tensor level count)) asks is = is
 never_both words s formats files ranges fault.NotBuilt asks is = is

@@ -5,12 +5,15 @@ ghost use Rattle.index_notation.specs.declared.syntax.Statement.{Statement};
 ghost use Rattle.refusals.specs.declared.fault.Fault.{Fault};
 ghost use Rattle.run_request.specs.Asked.{Asks, IsRefusedByWords, IsWant};
 
-/// A command line asks for one statement, with one list of files and one list of ranges; and one that asks for something is
+/// A command line asks for one statement, with one list of formats, of files and of ranges; and one that asks for something is
 /// refused for want of memory alone.
 pub fn one_request_a_command_line()
     ensures statement { (words : List (List ℕ)) (s t : Statement) (formats layouts : List (List FormatLevel))
         (files others : List (ℕ × List ℕ)) (ranges given : List (Option ℕ))
         → Asks words s formats files ranges → Asks words t layouts others given → s ≡ t }
+    ensures formats { (words : List (List ℕ)) (s t : Statement) (formats layouts : List (List FormatLevel))
+        (files others : List (ℕ × List ℕ)) (ranges given : List (Option ℕ))
+        → Asks words s formats files ranges → Asks words t layouts others given → formats ≡ layouts }
     ensures files { (words : List (List ℕ)) (s t : Statement) (formats layouts : List (List FormatLevel))
         (files others : List (ℕ × List ℕ)) (ranges given : List (Option ℕ))
         → Asks words s formats files ranges → Asks words t layouts others given → files ≡ others }

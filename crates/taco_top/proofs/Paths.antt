@@ -32,7 +32,7 @@ path_in_view n (file ∷ files) = by_key (n == file.0) (path_in_view n files)
   where
     by_key : (b : Bool) → option_map (λ path. path.now) (lookup (λ k. n == k) files) ≡ path_of (map file_in files) n
         → option_map (λ path. path.now) (cond b (Some file.1) (lookup (λ k. n == k) files))
-          ≡ cond b (Some file.1.now) (path_of (map file_in files) n)
+        ≡ cond b (Some file.1.now) (path_of (map file_in files) n)
     by_key true later = refl
     by_key false later = later
 
@@ -80,15 +80,15 @@ pub paths_readable : (built : List ℕ) (s : Statement) (words : List (List ℕ)
     → AreReadable (operand_orders s) (paths_of s files)
 paths_readable built s words formats files given binds numbered =
     files_readable built s words true formats files given binds numbered (paths_of s files) (paths_long s files) (λ n path is.
-      let there = range_there (λ tensor. unwrap_or (path_of files tensor) []) 1 (length s.tensors - 1) n path is in
-      let named : path_of files (1 + n) ≡ first_in (path_in s (1 + n)) words =
-        ap (λ fs. path_of fs (1 + n)) binds.files_are ∙ path_found s (1 + n) words in
-      let within : 1 + n < length s.tensors = omega (arith, there.1) in
-      let some = binds.all_read refl (1 + n) (omega arith) within in
-      let path_is : path ≡ unwrap_or (first_in (path_in s (1 + n)) words) [] = there.0 ∙ ap (λ o. unwrap_or o []) named in
-      let turned : n + 1 ≡ 1 + n = omega arith in
-      subst (λ k. first_in (path_in s k) words ≡ Some path) (sym turned)
-        (unwrapped (first_in (path_in s (1 + n)) words) some ∙ ap (λ p. Some p) (sym path_is)))
+    let there = range_there (λ tensor. unwrap_or (path_of files tensor) []) 1 (length s.tensors - 1) n path is in
+    let named : path_of files (1 + n) ≡ first_in (path_in s (1 + n)) words =
+    ap (λ fs. path_of fs (1 + n)) binds.files_are ∙ path_found s (1 + n) words in
+    let within : 1 + n < length s.tensors = omega (arith, there.1) in
+    let some = binds.all_read refl (1 + n) (omega arith) within in
+    let path_is : path ≡ unwrap_or (first_in (path_in s (1 + n)) words) [] = there.0 ∙ ap (λ o. unwrap_or o []) named in
+    let turned : n + 1 ≡ 1 + n = omega arith in
+    subst (λ k. first_in (path_in s k) words ≡ Some path) (sym turned)
+    (unwrapped (first_in (path_in s (1 + n)) words) some ∙ ap (λ p. Some p) (sym path_is)))
 
 -- a result that goes to a matrix has the order of one
 pub result_is_matrix : (built : List ℕ) (s : Statement) (words : List (List ℕ)) (formats : List (List FormatLevel))
@@ -103,7 +103,7 @@ result_is_matrix built s words formats files given binds left matrix = by_path (
     by_path None is m = absurd cc
     by_path (Some path) is m =
         let named : first_in (path_in s 0) words ≡ Some path =
-          sym (path_found s 0 words) ∙ ap (λ fs. path_of fs 0) (sym binds.files_are) ∙ is in
+        sym (path_found s 0 words) ∙ ap (λ fs. path_of fs 0) (sym binds.files_are) ∙ is in
         let found = first_found (path_in s 0) words path named in
         subst IsMatrixOrder order
-          (file_readable s (take found.0 words) (said_of (slice_index_or words found.0 [])) 0 path (binds.sound found.0 found.1) found.2 m)
+        (file_readable s (take found.0 words) (said_of (slice_index_or words found.0 [])) 0 path (binds.sound found.0 found.1) found.2 m)

@@ -11,9 +11,7 @@ use Rattle.outside.specs.Sink.{SinkState}
 use Rattle.tensor_map.specs.Entries.{Entries, value_at}
 use Rattle.index_notation.specs.declared.syntax.Statement.{Statement}
 use Rattle.expr_terms.specs.declared.bound.Bound.{Bound}
-use Rattle.operand_files.specs.Reads.{OnlyReads, IsRefused}
-use Rattle.operand_files.specs.declared.fault.OperandFault.TheVariants as operand
-use Rattle.range_loops.specs.Products.{IsProductOfAccesses}
+use Rattle.operand_files.specs.Reads.{OnlyReads}
 use Rattle.result_files.specs.Writes.{Puts, WritesResult, RefusesResult}
 use Rattle.result_files.specs.ResultText.{IsResultText}
 use Rattle.result_files.specs.declared.refusal.WriteRefusal.{WriteRefusal}
@@ -23,17 +21,17 @@ use Rattle.refusals.specs.declared.fault.NamedFault.TheVariants as named
 use Rattle.refusals.specs.declared.fault.Fault.{Fault}
 use Rattle.refusals.specs.declared.fault.Fault.TheVariants as fault
 use Rattle.run_request.specs.Asked.{IsRefusedByWords}
-use Rattle.run_answers.specs.Causes.{IsBuilt, HasOperands, IsComputed, result_ranges, result_value, OpensOperands, HasRangeFault}
-use Rattle.run_answers.specs.Causes.{HasLargeLevel, Stops, IsWritten, IsUnwritten, IsStopped, Cause}
-use Rattle.run_answers.specs.Run.{AsksFor, path_of, orders_of, paths_of}
+use Rattle.run_answers.specs.Causes.{HasOperands, result_ranges, result_value, OpensOperands, Stops, IsWritten, IsUnwritten, Cause}
+use Rattle.dense_runs.specs.Runs.{told_ranges, IsTooLarge}
+use Rattle.run_answers.specs.Run.{Request, path_of}
 use Rattle.taco_top.specs.Prepared.{IsPrepared, IsUncomputed, StopsWriting}
 
 -- the words are refused, and no file was opened
 pub stops_by_words : (words : List (List ℕ)) (why : Fault) (files : FolderState) → IsRefusedByWords words why → Stops words files files why
-stops_by_words words fault.Usage files is = (refl, is)
-stops_by_words words (fault.Notation why) files is = (refl, is)
-stops_by_words words (fault.Named s (named.Name why)) files is = (refl, is)
-stops_by_words words (fault.Named s (named.Binding why)) files is = (refl, is)
+stops_by_words words fault.Usage files is = record { folder_is = refl; refused = is }
+stops_by_words words (fault.Notation why) files is = record { folder_is = refl; refused = is }
+stops_by_words words (fault.Named s (named.Name why)) files is = record { folder_is = refl; refused = is }
+stops_by_words words (fault.Named s (named.Binding why)) files is = record { folder_is = refl; refused = is }
 stops_by_words words (fault.Named s (named.Range why)) files is = absurd is
 stops_by_words words (fault.Named s (named.SizeLimit tensor level count)) files is = absurd is
 stops_by_words words fault.NotBuilt files is = absurd is
@@ -44,13 +42,10 @@ stops_by_words words (fault.WriteFault path) files is = absurd is
 stops_by_words words fault.Memory files is = inl refl
 
 -- operands that were read were opened
-opened : (words : List (List ℕ)) (old new : FolderState) (s : Statement) (files : List (ℕ × List ℕ)) (given : List (Option ℕ))
-    (entries : List Entries) (bounds : List (Vec Bound Global)) → HasOperands words old new s files given entries bounds
-    → OpensOperands words old new
-opened words old new s files given entries bounds operands = record {
-  s = s;
-  files = files;
-  given = given;
+opened : (words : List (List ℕ)) (old new : FolderState) (r : Request) (entries : List Entries) (bounds : List (Vec Bound Global))
+    → HasOperands words old new r entries bounds → OpensOperands words old new
+opened words old new r entries bounds operands = record {
+  request = r;
   built = operands.built;
   opens = record {
     files = operands.read.read.files;
@@ -61,27 +56,37 @@ opened words old new s files given entries bounds operands = record {
 }
 
 -- what the words ask for isn't computed over its operands
-pub stops_uncomputed : (words : List (List ℕ)) (old new : FolderState) (s : Statement) (files : List (ℕ × List ℕ)) (given : List (Option ℕ))
-    (entries : List Entries) (bounds : List (Vec Bound Global)) (why : Fault) → HasOperands words old new s files given entries bounds
-    → IsUncomputed s given entries bounds why → Stops words old new why
-stops_uncomputed words old new s files given entries bounds (fault.Named t (named.Range why)) operands (same, is) =
-    subst (λ u. HasRangeFault words old new u why) (sym same) (record {
-      files = files; given = given; entries = entries; bounds = bounds; operands = operands; is = is;
-    })
-stops_uncomputed words old new s files given entries bounds (fault.Named t (named.SizeLimit tensor level count)) operands (same, is) =
-    subst (λ u. HasLargeLevel words old new u tensor level count) (sym same) (record {
-      files = files; given = given; entries = entries; bounds = bounds; operands = operands; large = is;
-    })
-stops_uncomputed words old new s files given entries bounds (fault.Named t (named.Name why)) operands is = absurd is
-stops_uncomputed words old new s files given entries bounds (fault.Named t (named.Binding why)) operands is = absurd is
-stops_uncomputed words old new s files given entries bounds fault.Usage operands is = absurd is
-stops_uncomputed words old new s files given entries bounds (fault.Notation why) operands is = absurd is
-stops_uncomputed words old new s files given entries bounds fault.NotBuilt operands is = absurd is
-stops_uncomputed words old new s files given entries bounds (fault.ReadFault path) operands is = absurd is
-stops_uncomputed words old new s files given entries bounds (fault.FileBytes path) operands is = absurd is
-stops_uncomputed words old new s files given entries bounds (fault.BadFile path line kind) operands is = absurd is
-stops_uncomputed words old new s files given entries bounds (fault.WriteFault path) operands is = absurd is
-stops_uncomputed words old new s files given entries bounds fault.Memory operands is = inr (opened words old new s files given entries bounds operands)
+module _ (words : List (List ℕ)) (old new : FolderState) (r : Request) (entries : List Entries) (bounds : List (Vec Bound Global))
+    (operands : HasOperands words old new r entries bounds) where
+  pub stops_uncomputed : (why : Fault) → IsUncomputed r.statement r.given entries bounds why → Stops words old new why
+  stops_uncomputed (fault.Named t (named.Range why)) (same, is) =
+      record {
+        request = r;
+        statement_is = sym same;
+        entries = entries;
+        bounds = bounds;
+        operands = operands;
+        is = subst (λ u. told_ranges u r.given bounds ≡ Err why) (sym same) is;
+      }
+  stops_uncomputed (fault.Named t (named.SizeLimit tensor level count)) (same, is) =
+      record {
+        request = r;
+        statement_is = sym same;
+        entries = entries;
+        bounds = bounds;
+        operands = operands;
+        large = subst (λ u. IsTooLarge u r.given entries bounds tensor level count) (sym same) is;
+      }
+  stops_uncomputed (fault.Named t (named.Name why)) is = absurd is
+  stops_uncomputed (fault.Named t (named.Binding why)) is = absurd is
+  stops_uncomputed fault.Usage is = absurd is
+  stops_uncomputed (fault.Notation why) is = absurd is
+  stops_uncomputed fault.NotBuilt is = absurd is
+  stops_uncomputed (fault.ReadFault path) is = absurd is
+  stops_uncomputed (fault.FileBytes path) is = absurd is
+  stops_uncomputed (fault.BadFile path line kind) is = absurd is
+  stops_uncomputed (fault.WriteFault path) is = absurd is
+  stops_uncomputed fault.Memory is = inr (opened words old new r entries bounds operands)
 
 -- a run stops before it writes
 pub stopped : (words : List (List ℕ)) (files files' : FolderState) (out : SinkState) (why : Fault) → OnlyReads files files'
@@ -99,19 +104,19 @@ stopped words files files' out fault.Memory reads is = inl (record { only_reads 
 -- ---- the writing of a result that was prepared
 module _ (words : List (List ℕ)) (files between files' : FolderState) (out out' : SinkState) (path : Option (List ℕ)) (shape : List ℕ)
     (entries : Entries) (reads : OnlyReads files between) (is : IsPrepared words files between path shape entries) where
-  ranges_are : shape ≡ result_ranges is.computed.s is.computed.ranges
+  ranges_are : shape ≡ result_ranges is.computed.request.statement is.computed.ranges
   ranges_are = is.tensor.shape_is
 
   -- the text of the result's entries is that of the statement's values
   text_of_values : (text : List ℕ) → IsResultText ring path shape (value_at ring entries.list) text
-      → IsResultText ring (path_of is.computed.files 0) (result_ranges is.computed.s is.computed.ranges)
-          (result_value is.computed.s is.computed.entries is.computed.ranges) text
+      → IsResultText ring (path_of is.computed.request.files 0) (result_ranges is.computed.request.statement is.computed.ranges)
+      (result_value is.computed.request.statement is.computed.entries is.computed.ranges) text
   text_of_values text text_is =
-      subst (λ p. IsResultText ring p (result_ranges is.computed.s is.computed.ranges)
-          (result_value is.computed.s is.computed.entries is.computed.ranges) text) (sym is.path_is)
-        (subst (λ ranges. IsResultText ring path ranges (result_value is.computed.s is.computed.entries is.computed.ranges) text) ranges_are
-          (same_text ring path shape (value_at ring entries.list) (result_value is.computed.s is.computed.entries is.computed.ranges) text
-            is.tensor.values_are text_is))
+      subst (λ p. IsResultText ring p (result_ranges is.computed.request.statement is.computed.ranges)
+      (result_value is.computed.request.statement is.computed.entries is.computed.ranges) text) (sym is.path_is)
+      (subst (λ ranges. IsResultText ring path ranges (result_value is.computed.request.statement is.computed.entries is.computed.ranges) text) ranges_are
+      (same_text ring path shape (value_at ring entries.list) (result_value is.computed.request.statement is.computed.entries is.computed.ranges) text
+      is.tensor.values_are text_is))
 
   pub written : WritesResult ring path shape (value_at ring entries.list) between files' out out' → IsWritten words files files' out out'
   written writes = record {
@@ -134,8 +139,8 @@ module _ (words : List (List ℕ)) (files between files' : FolderState) (out out
     path_is = is.path_is;
     refuses = record {
       text = refuses.text;
-      text_is = subst (λ p. IsResultText ring p (result_ranges is.computed.s is.computed.ranges)
-          (result_value is.computed.s is.computed.entries is.computed.ranges) refuses.text) is.path_is
+      text_is = subst (λ p. IsResultText ring p (result_ranges is.computed.request.statement is.computed.ranges)
+          (result_value is.computed.request.statement is.computed.entries is.computed.ranges) refuses.text) is.path_is
           (text_of_values refuses.text refuses.text_is);
       puts = refuses.puts;
     };

@@ -16,7 +16,8 @@ use Rattle.refusals.specs.declared.fault.NamedFault.TheVariants as named
 use Rattle.refusals.specs.declared.fault.Fault.{Fault}
 use Rattle.refusals.specs.declared.fault.Fault.TheVariants as fault
 use Rattle.command_line.specs.CommandLine.{CommandLine, command_line_of}
-use Rattle.run_answers.specs.Causes.{Stops, Cause}
+use Rattle.run_request.specs.Asked.{IsRefusedByWords}
+use Rattle.run_answers.specs.Causes.{Cause}
 use Rattle.run_answers.specs.Ends.{Ends, status_of_end}
 
 apart : {A : Type 0} {x : A} → None ≡ Some x → ⊥
@@ -53,7 +54,7 @@ named_not_two (named.SizeLimit tensor level count) is = cc
 module _ (words : List (List ℕ)) (files files' : FolderState) (out out' : SinkState) where
   told : (ended : Option Fault) → 2 ≡ status_of_end ended → Cause words files files' out out' ended → command_line_of words ≡ None
   told None is cause = absurd cc
-  told (Some fault.Usage) is cause = cause.stops.1
+  told (Some fault.Usage) is cause = cause.stops.refused
   told (Some (fault.Notation why)) is cause = absurd (notation_not_two why is)
   told (Some (fault.Named s why)) is cause = absurd (named_not_two why is)
   told (Some fault.NotBuilt) is cause = absurd cc
@@ -70,19 +71,28 @@ module _ (words : List (List ℕ)) (files files' : FolderState) (out out' : Sink
 
     found : (ended : Option Fault) → Cause words files files' out out' ended
         → (status_of_end ended ≡ 2) ⊎ (status_of_end ended ≡ 5)
-    found None cause = absurd (never cause.computed.operands.built.asks.asks.names.line)
+    found None cause = absurd (never cause.computed.operands.built.asks.names.line)
     found (Some fault.Usage) cause = inl refl
-    found (Some (fault.Notation why)) cause = absurd (never cause.stops.1.2.0)
-    found (Some (fault.Named s (named.Name why))) cause = absurd (never cause.stops.1.2.0)
-    found (Some (fault.Named s (named.Binding why))) cause = absurd (never cause.stops.1.1.line)
-    found (Some (fault.Named s (named.Range why))) cause = absurd (never cause.stops.operands.built.asks.asks.names.line)
-    found (Some (fault.Named s (named.SizeLimit tensor level count))) cause =
-        absurd (never cause.stops.operands.built.asks.asks.names.line)
-    found (Some fault.NotBuilt) cause = absurd (never cause.stops.1.3.0.asks.names.line)
-    found (Some (fault.ReadFault path)) cause = absurd (never cause.stops.3.0.asks.asks.names.line)
-    found (Some (fault.FileBytes path)) cause = absurd (never cause.stops.3.0.asks.asks.names.line)
-    found (Some (fault.BadFile path line kind)) cause = absurd (never cause.stops.3.0.asks.asks.names.line)
-    found (Some (fault.WriteFault path)) cause = absurd (never cause.computed.operands.built.asks.asks.names.line)
+    found (Some (fault.Notation why)) cause = by cause.stops.refused
+      where
+        by : IsRefusedByWords words (fault.Notation why) → (notation_status why ≡ 2) ⊎ (notation_status why ≡ 5)
+        by (text, (rest, (line, is))) = absurd (never line)
+    found (Some (fault.Named s (named.Name why))) cause = by cause.stops.refused
+      where
+        by : IsRefusedByWords words (fault.Named s (named.Name why)) → (1 ≡ 2) ⊎ (1 ≡ 5)
+        by (text, (rest, (line, is))) = absurd (never line)
+    found (Some (fault.Named s (named.Binding why))) cause = by cause.stops.refused
+      where
+        by : IsRefusedByWords words (fault.Named s (named.Binding why))
+            → (named_status (named.Binding why) ≡ 2) ⊎ (named_status (named.Binding why) ≡ 5)
+        by (rest, (names, is)) = absurd (never names.line)
+    found (Some (fault.Named s (named.Range why))) cause = absurd (never cause.stops.operands.built.asks.names.line)
+    found (Some (fault.Named s (named.SizeLimit tensor level count))) cause = absurd (never cause.stops.operands.built.asks.names.line)
+    found (Some fault.NotBuilt) cause = absurd (never cause.stops.1.asks.names.line)
+    found (Some (fault.ReadFault path)) cause = absurd (never cause.stops.built.asks.names.line)
+    found (Some (fault.FileBytes path)) cause = absurd (never cause.stops.built.asks.names.line)
+    found (Some (fault.BadFile path line kind)) cause = absurd (never cause.stops.built.asks.names.line)
+    found (Some (fault.WriteFault path)) cause = absurd (never cause.computed.operands.built.asks.names.line)
     found (Some fault.Memory) cause = inr refl
 
 pub usage_told : (words : List (String Global)) (files files' : FolderState) (out out' err err' : SinkState)
@@ -95,4 +105,4 @@ pub usage_found : (words : List (String Global)) (files files' : FolderState) (o
     → (status ≡ 2) ⊎ (status ≡ 5)
 usage_found words files files' out out' err err' status none ends =
     subst (λ n. (n ≡ 2) ⊎ (n ≡ 5)) (sym ends.status_is)
-      (found (map string_bytes words) files files' out out' none ends.ended ends.cause)
+    (found (map string_bytes words) files files' out out' none ends.ended ends.cause)

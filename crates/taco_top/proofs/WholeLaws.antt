@@ -37,9 +37,9 @@ use Rattle.refusals.specs.declared.fault.Fault.TheVariants as fault
 use Rattle.refusals.specs.Lines.{status_of}
 use Rattle.run_request.specs.Asked.{IsRefusedByWords, IsWant}
 use Rattle.run_request.proofs.OneRequest as request
-use Rattle.run_answers.specs.Run.{AsksFor, path_of, paths_of, orders_of}
-use Rattle.run_answers.specs.Causes.{means, IsBuilt, HasOperands, IsComputed, result_ranges, result_value, StopsReading}
-use Rattle.run_answers.specs.Causes.{HasRangeFault, HasLargeLevel, Stops, IsWritten, IsUnwritten, IsStopped, Cause}
+use Rattle.run_answers.specs.Run.{Request, AsksFor, path_of}
+use Rattle.run_answers.specs.Causes.{means, asked_orders, asked_paths, HasOperands, IsComputed, result_ranges, result_value}
+use Rattle.run_answers.specs.Causes.{StopsReading, HasRangeFault, HasLargeLevel, Stops, IsWritten, IsUnwritten, Cause}
 use Rattle.run_answers.specs.Ends.{Ends, status_of_end}
 use Rattle.taco_top.specs.Whole.{IsWhole, modes_told, bound_told, ranges_told}
 
@@ -53,7 +53,7 @@ modes_same (modes ∷ bounds) (suc (suc n)) = modes_same bounds (suc n)
 bounds_same : (bounds : List (Vec Bound Global)) → bound_at bounds ≡ bound_told (map (λ b. b.items) bounds)
 bounds_same bounds = λ i tensor mode. bound_or_none (slice_get (modes_same bounds tensor i) mode)
 
-ok_of : {A B : Type 0} → A → Result A B → A
+abbrev ok_of : {A B : Type 0} → A → Result A B → A
 ok_of d (Ok x) = x
 ok_of d (Err y) = d
 
@@ -68,95 +68,100 @@ fault_rose None text between files' out out' puts = inr puts.1.cause.0.rose
 fault_rose (Some name) text between files' out out' puts = inl puts.0.cause.0.rose
 
 module _ (words : List (List ℕ)) (files : FolderState) (whole : IsWhole words files.holds) where
-  as_many : length (orders_of whole.s) ≡ length (paths_of whole.s whole.files)
-  as_many = length-map-range_with_len (order_of whole.s) 1 (length whole.s.tensors - 1)
-      ∙ sym (length-map-range_with_len (λ tensor. unwrap_or (path_of whole.files tensor) []) 1 (length whole.s.tensors - 1))
+  as_many : length (asked_orders whole.request) ≡ length (asked_paths whole.request)
+  as_many = length-map-range_with_len (order_of whole.request.statement) 1 (length whole.request.statement.tensors - 1)
+      ∙ sym (length-map-range_with_len (λ tensor. unwrap_or (path_of whole.request.files tensor) []) 1
+      (length whole.request.statement.tensors - 1))
 
-  -- another reading of the same words
-  module _ (t : Statement) (paths : List (ℕ × List ℕ)) (ranges : List (Option ℕ)) (asks : AsksFor words t paths ranges) where
-    statement_is : t ≡ whole.s
-    statement_is = request.same_statement words t whole.s asks.formats whole.built.asks.formats paths whole.files ranges whole.given
-        asks.asks whole.built.asks.asks
+  -- another reading of the same words asks for the same
+  request_is : (r : Request) → AsksFor words r → r ≡ whole.request
+  request_is r asks =
+      let s = request.same_statement words r.statement whole.request.statement r.formats whole.request.formats r.files whole.request.files
+      r.given whole.request.given asks whole.built.asks in
+      let formats = request.same_formats words r.statement whole.request.statement r.formats whole.request.formats r.files
+      whole.request.files r.given whole.request.given asks whole.built.asks in
+      let fs = request.same_files words r.statement whole.request.statement r.formats whole.request.formats r.files whole.request.files
+      r.given whole.request.given asks whole.built.asks in
+      let gs = request.same_ranges words r.statement whole.request.statement r.formats whole.request.formats r.files whole.request.files
+      r.given whole.request.given asks whole.built.asks in
+      λ i. record { statement = s i; formats = formats i; files = fs i; given = gs i }
 
-    files_are : paths ≡ whole.files
-    files_are = request.same_files words t whole.s asks.formats whole.built.asks.formats paths whole.files ranges whole.given
-        asks.asks whole.built.asks.asks
-
-    given_is : ranges ≡ whole.given
-    given_is = request.same_ranges words t whole.s asks.formats whole.built.asks.formats paths whole.files ranges whole.given
-        asks.asks whole.built.asks.asks
-
-  reading_at : (new : FolderState) (Why : (orders : List ℕ) (paths : List (List ℕ)) → Type 0) → StopsReading words files new Why
-      → Why (orders_of whole.s) (paths_of whole.s whole.files)
-  reading_at new Why (t, (paths, (ranges, (built, why)))) =
-      subst (λ s. Why (orders_of s) (paths_of s whole.files)) (statement_is t paths ranges built.asks)
-        (subst (λ fs. Why (orders_of t) (paths_of t fs)) (files_are t paths ranges built.asks) why)
+  reading_at : (Why : (orders : List ℕ) (paths : List (List ℕ)) → Type 0) → StopsReading words Why
+      → Why (asked_orders whole.request) (asked_paths whole.request)
+  reading_at Why is = subst (λ r. Why (asked_orders r) (asked_paths r)) (request_is is.request is.built.asks) is.why
 
   -- ---- the operands that were read are those that the folder tells
-  module _ (new : FolderState) (t : Statement) (paths : List (ℕ × List ℕ)) (ranges : List (Option ℕ)) (entries : List Entries)
-      (bounds : List (Vec Bound Global)) (operands : HasOperands words files new t paths ranges entries bounds) where
-    here : HasOperands words files new whole.s whole.files whole.given entries bounds
-    here =
-        subst (λ s. HasOperands words files new s whole.files whole.given entries bounds) (statement_is t paths ranges operands.built.asks)
-          (subst (λ fs. HasOperands words files new t fs whole.given entries bounds) (files_are t paths ranges operands.built.asks)
-            (subst (λ gs. HasOperands words files new t paths gs entries bounds) (given_is t paths ranges operands.built.asks) operands))
-
-    operands_are : here.read.operands ≡ whole.operands
+  module _ (new : FolderState) (entries : List Entries) (bounds : List (Vec Bound Global))
+      (operands : HasOperands words files new whole.request entries bounds) where
+    operands_are : operands.read.operands ≡ whole.operands
     operands_are = ap (ok_of [])
-        (sym (told_answer means files new (orders_of whole.s) (paths_of whole.s whole.files) entries (map (λ b. b.items) bounds)
-          whole.told as_many here.read)
+        (sym (told_answer means files new (asked_orders whole.request) (asked_paths whole.request) entries (map (λ b. b.items) bounds)
+        whole.told as_many operands.read)
         ∙ whole.operands_are)
 
     entries_are : entries ≡ map (λ operand. operand.entries) whole.operands
-    entries_are = here.read.entries_are ∙ ap (map (λ operand. operand.entries)) operands_are
+    entries_are = operands.read.entries_are ∙ ap (map (λ operand. operand.entries)) operands_are
 
     bounds_are : map (λ b. b.items) bounds ≡ map (λ operand. operand.bounds) whole.operands
-    bounds_are = here.read.bounds_are ∙ ap (map (λ operand. operand.bounds)) operands_are
+    bounds_are = operands.read.bounds_are ∙ ap (map (λ operand. operand.bounds)) operands_are
 
-    ranges_are : told_ranges whole.s whole.given bounds ≡ Ok whole.ranges
-    ranges_are = ap (ranges_of whole.s (given_at whole.given)) (bounds_same bounds ∙ ap bound_told bounds_are) ∙ whole.ranges_are
+    told_there : told_ranges whole.request.statement whole.request.given bounds ≡ Ok whole.ranges
+    told_there = ap (ranges_of whole.request.statement (given_at whole.request.given)) (bounds_same bounds ∙ ap bound_told bounds_are)
+        ∙ whole.ranges_are
 
-    told_there : told_ranges t ranges bounds ≡ Ok whole.ranges
-    told_there =
-        subst (λ s. told_ranges s ranges bounds ≡ Ok whole.ranges) (sym (statement_is t paths ranges operands.built.asks))
-          (subst (λ gs. told_ranges whole.s gs bounds ≡ Ok whole.ranges) (sym (given_is t paths ranges operands.built.asks)) ranges_are)
-
-    no_large_level : (tensor level count : ℕ) → IsTooLarge t ranges entries bounds tensor level count → ⊥
+    no_large_level : (tensor level count : ℕ) → IsTooLarge whole.request.statement whole.request.given entries bounds tensor level count → ⊥
     no_large_level tensor level count large =
         let same : large.ranges ≡ whole.ranges = ap (ok_of []) (sym large.ranges_are ∙ told_there) in
-        let fits = subst (λ s. AllFit s (map (λ operand. operand.entries) whole.operands) (slice_index whole.ranges))
-          (sym (statement_is t paths ranges operands.built.asks)) whole.fits in
-        let fits_here = subst (λ es. AllFit t es (slice_index whole.ranges)) (sym entries_are) fits in
-        let fits_by = subst (λ rs. AllFit t entries (slice_index rs)) (sym same) fits_here in
-        none_above (level_sizes t entries (slice_index large.ranges) tensor) level count large.first.first
-          (fits_by tensor large.first.stands)
+        let fits_here = subst (λ es. AllFit whole.request.statement es (slice_index whole.ranges)) (sym entries_are) whole.fits in
+        let fits_by = subst (λ rs. AllFit whole.request.statement entries (slice_index rs)) (sym same) fits_here in
+        none_above (level_sizes whole.request.statement entries (slice_index large.ranges) tensor) level count large.first.first
+        (fits_by tensor large.first.stands)
+
+  operands_at : (new : FolderState) (r : Request) (entries : List Entries) (bounds : List (Vec Bound Global))
+      → HasOperands words files new r entries bounds → HasOperands words files new whole.request entries bounds
+  operands_at new r entries bounds operands =
+      subst (λ q. HasOperands words files new q entries bounds) (request_is r operands.built.asks) operands
 
   -- ---- no stage has a cause
   module _ (new : FolderState) (no_fault : Rose files.read_faults new.read_faults → ⊥) where
     never_by_words : (why : Fault) → IsRefusedByWords words why → IsWant why
-    never_by_words why is = request.never_both words whole.s whole.built.asks.formats whole.files whole.given why whole.built.asks.asks is
+    never_by_words why is = request.never_both words whole.request.statement whole.request.formats whole.request.files whole.request.given
+        why whole.built.asks is
+
+    no_range_fault : (s : Statement) (why : RangeFault) → HasRangeFault words files new s why → ⊥
+    no_range_fault s why is =
+        let r = request_is is.request is.operands.built.asks in
+        let there = told_there new is.entries is.bounds (operands_at new is.request is.entries is.bounds is.operands) in
+        let here : told_ranges is.request.statement is.request.given is.bounds ≡ Ok whole.ranges =
+        subst (λ q. told_ranges q.statement q.given is.bounds ≡ Ok whole.ranges) (sym r) there in
+        apart (sym here ∙ ap (λ u. told_ranges u is.request.given is.bounds) is.statement_is ∙ is.is)
+
+    no_level_fault : (s : Statement) (tensor level count : ℕ) → HasLargeLevel words files new s tensor level count → ⊥
+    no_level_fault s tensor level count is =
+        no_large_level new is.entries is.bounds (operands_at new is.request is.entries is.bounds is.operands) tensor level count
+        (subst (λ q. IsTooLarge q.statement q.given is.entries is.bounds tensor level count)
+        (request_is is.request is.operands.built.asks)
+        (subst (λ u. IsTooLarge u is.request.given is.entries is.bounds tensor level count) (sym is.statement_is) is.large))
 
     never_stops : (why : Fault) → Stops words files new why → why ≡ fault.Memory
-    never_stops fault.Usage is = absurd (never_by_words fault.Usage is.1)
-    never_stops (fault.Notation why) is = absurd (never_by_words (fault.Notation why) is.1)
-    never_stops (fault.Named s (named.Name why)) is = absurd (never_by_words (fault.Named s (named.Name why)) is.1)
-    never_stops (fault.Named s (named.Binding why)) is = absurd (never_by_words (fault.Named s (named.Binding why)) is.1)
-    never_stops (fault.Named s (named.Range why)) is =
-        absurd (apart (sym (told_there new s is.files is.given is.entries is.bounds is.operands) ∙ is.is))
-    never_stops (fault.Named s (named.SizeLimit tensor level count)) is =
-        absurd (no_large_level new s is.files is.given is.entries is.bounds is.operands tensor level count is.large)
-    never_stops fault.NotBuilt (same, (t, (paths, (ranges, (asks, no))))) =
-        absurd (no (subst (λ s. IsProductOfAccesses s.expr) (sym (statement_is t paths ranges asks)) whole.built.product))
+    never_stops fault.Usage is = absurd (never_by_words fault.Usage is.refused)
+    never_stops (fault.Notation why) is = absurd (never_by_words (fault.Notation why) is.refused)
+    never_stops (fault.Named s (named.Name why)) is = absurd (never_by_words (fault.Named s (named.Name why)) is.refused)
+    never_stops (fault.Named s (named.Binding why)) is = absurd (never_by_words (fault.Named s (named.Binding why)) is.refused)
+    never_stops (fault.Named s (named.Range why)) is = absurd (no_range_fault s why is)
+    never_stops (fault.Named s (named.SizeLimit tensor level count)) is = absurd (no_level_fault s tensor level count is)
+    never_stops fault.NotBuilt (same, is) =
+        absurd (is.no_product (subst (λ q. IsProductOfAccesses q.statement.expr) (sym (request_is is.request is.asks)) whole.built.product))
     never_stops (fault.ReadFault path) is =
-        absurd (told_others means files new (orders_of whole.s) (paths_of whole.s whole.files) (operand.ReadFault path) whole.told no_fault
-          (reading_at new (λ orders paths. RefusedAtFault means files new orders paths path.now) is))
+        absurd (told_others means files new (asked_orders whole.request) (asked_paths whole.request) (operand.ReadFault path) whole.told
+        no_fault (reading_at (λ orders paths. RefusedAtFault means files new orders paths path.now) is))
     never_stops (fault.FileBytes path) is =
-        absurd (told_others means files new (orders_of whole.s) (paths_of whole.s whole.files) (operand.FileBytes path) whole.told no_fault
-          (reading_at new (λ orders paths. RefusedAtLength means files new orders paths path.now) is))
+        absurd (told_others means files new (asked_orders whole.request) (asked_paths whole.request) (operand.FileBytes path) whole.told
+        no_fault (reading_at (λ orders paths. RefusedAtLength means files new orders paths path.now) is))
     never_stops (fault.BadFile path line kind) is =
         absurd (apart (sym whole.operands_are
-          ∙ told_bad_line means files new (orders_of whole.s) (paths_of whole.s whole.files) path.now line kind whole.told
-            (reading_at new (λ orders paths. RefusedAtLine means files new orders paths path.now line kind) is)))
+        ∙ told_bad_line means files new (asked_orders whole.request) (asked_paths whole.request) path.now line kind whole.told
+        (reading_at (λ orders paths. RefusedAtLine means files new orders paths path.now line kind) is)))
     never_stops (fault.WriteFault path) is = absurd is
     never_stops fault.Memory is = refl
 
@@ -194,21 +199,22 @@ module _ (words : List (List ℕ)) (files : FolderState) (whole : IsWhole words 
 
   -- ---- the text is that of the values over the operands that the folder tells
   text_at : (new : FolderState) (c : IsComputed words files new) (text : List ℕ)
-      → IsResultText ring (path_of c.files 0) (result_ranges c.s c.ranges) (result_value c.s c.entries c.ranges) text
-      → IsResultText ring (path_of whole.files 0) (result_ranges whole.s whole.ranges)
-          (result_value whole.s (map (λ operand. operand.entries) whole.operands) whole.ranges) text
+      → IsResultText ring (path_of c.request.files 0) (result_ranges c.request.statement c.ranges)
+      (result_value c.request.statement c.entries c.ranges) text
+      → IsResultText ring (path_of whole.request.files 0) (result_ranges whole.request.statement whole.ranges)
+      (result_value whole.request.statement (map (λ operand. operand.entries) whole.operands) whole.ranges) text
   text_at new c text is =
-      let ranges : c.ranges ≡ whole.ranges = ap (ok_of [])
-        (sym c.ranges_are ∙ told_there new c.s c.files c.given c.entries c.bounds c.operands) in
-      let s = statement_is c.s c.files c.given c.operands.built.asks in
-      let fs = files_are c.s c.files c.given c.operands.built.asks in
-      let es = entries_are new c.s c.files c.given c.entries c.bounds c.operands in
-      subst (λ u. IsResultText ring (path_of whole.files 0) (result_ranges u whole.ranges)
-          (result_value u (map (λ operand. operand.entries) whole.operands) whole.ranges) text) s
-        (subst (λ rs. IsResultText ring (path_of whole.files 0) (result_ranges c.s rs)
-            (result_value c.s (map (λ operand. operand.entries) whole.operands) rs) text) ranges
-          (subst (λ xs. IsResultText ring (path_of whole.files 0) (result_ranges c.s c.ranges) (result_value c.s xs c.ranges) text) es
-            (subst (λ ps. IsResultText ring (path_of ps 0) (result_ranges c.s c.ranges) (result_value c.s c.entries c.ranges) text) fs is)))
+      let r = request_is c.request c.operands.built.asks in
+      let here = operands_at new c.request c.entries c.bounds c.operands in
+      let told : told_ranges whole.request.statement whole.request.given c.bounds ≡ Ok c.ranges =
+      subst (λ q. told_ranges q.statement q.given c.bounds ≡ Ok c.ranges) r c.ranges_are in
+      let ranges : c.ranges ≡ whole.ranges = ap (ok_of []) (sym told ∙ told_there new c.entries c.bounds here) in
+      subst (λ q. IsResultText ring (path_of q.files 0) (result_ranges q.statement whole.ranges)
+      (result_value q.statement (map (λ operand. operand.entries) whole.operands) whole.ranges) text) r
+      (subst (λ rs. IsResultText ring (path_of c.request.files 0) (result_ranges c.request.statement rs)
+      (result_value c.request.statement (map (λ operand. operand.entries) whole.operands) rs) text) ranges
+      (subst (λ xs. IsResultText ring (path_of c.request.files 0) (result_ranges c.request.statement c.ranges)
+      (result_value c.request.statement xs c.ranges) text) (entries_are new c.entries c.bounds here) is))
 
 pub whole_ends : (words : List (String Global)) (files files' : FolderState) (out out' err err' : SinkState) (status : ℕ)
     → IsWhole (map string_bytes words) files.holds → (Rose files.read_faults files'.read_faults → ⊥)
@@ -216,26 +222,27 @@ pub whole_ends : (words : List (String Global)) (files files' : FolderState) (ou
     → Ends words files files' out out' err err' status → (status ≡ 0) ⊎ (status ≡ 5)
 whole_ends words files files' out out' err err' status whole no_read no_write no_out ends =
     subst (λ n. (n ≡ 0) ⊎ (n ≡ 5)) (sym ends.status_is)
-      (ends_well (map string_bytes words) files whole files' out out' ends.ended no_read no_write no_out ends.cause)
+    (ends_well (map string_bytes words) files whole files' out out' ends.ended no_read no_write no_out ends.cause)
 
 pub whole_text : (words : List (List ℕ)) (files files' others others' : FolderState) (out out' away away' : SinkState)
     → IsWhole words files.holds → others.holds ≡ files.holds → (first : IsWritten words files files' out out')
     → (second : IsWritten words others others' away away') → first.writes.text ≡ second.writes.text
 whole_text words files files' others others' out out' away away' whole holds first second =
-    one_text ring ring_laws (path_of whole.files 0) (result_ranges whole.s whole.ranges)
-      (result_value whole.s (map (λ operand. operand.entries) whole.operands) whole.ranges) first.writes.text second.writes.text
-      (text_at words files whole first.between first.computed first.writes.text first.writes.text_is)
-      (text_there holds whole second)
+    one_text ring ring_laws (path_of whole.request.files 0) (result_ranges whole.request.statement whole.ranges)
+    (result_value whole.request.statement (map (λ operand. operand.entries) whole.operands) whole.ranges)
+    first.writes.text second.writes.text
+    (text_at words files whole first.between first.computed first.writes.text first.writes.text_is)
+    (text_at words others there second.between second.computed second.writes.text second.writes.text_is)
   where
-    text_there : others.holds ≡ files.holds → (w : IsWhole words files.holds) → (second : IsWritten words others others' away away')
-        → IsResultText ring (path_of w.files 0) (result_ranges w.s w.ranges)
-            (result_value w.s (map (λ operand. operand.entries) w.operands) w.ranges) second.writes.text
-    text_there same w second =
-        let there : IsWhole words others.holds = record {
-          s = w.s; files = w.files; given = w.given; operands = w.operands; ranges = w.ranges; built = w.built;
-          told = subst (λ h. AreTold h (paths_of w.s w.files)) (sym same) w.told;
-          operands_are = subst (λ h. told_operands means h (orders_of w.s) (paths_of w.s w.files) ≡ Ok w.operands) (sym same) w.operands_are;
-          ranges_are = w.ranges_are;
-          fits = w.fits;
-        } in
-        text_at words others there second.between second.computed second.writes.text second.writes.text_is
+    there : IsWhole words others.holds
+    there = record {
+      request = whole.request;
+      operands = whole.operands;
+      ranges = whole.ranges;
+      built = whole.built;
+      told = subst (λ h. AreTold h (asked_paths whole.request)) (sym holds) whole.told;
+      operands_are = subst (λ h. told_operands means h (asked_orders whole.request) (asked_paths whole.request) ≡ Ok whole.operands)
+          (sym holds) whole.operands_are;
+      ranges_are = whole.ranges_are;
+      fits = whole.fits;
+    }

@@ -38,8 +38,8 @@ IsUncomputed s given entries bounds _ = ⊥
 pub record IsPrepared (words : List (List ℕ)) (old new : FolderState) (path : Option (List ℕ)) (shape : List ℕ)
     (entries : Entries) : Type 0 where
   pub computed : IsComputed words old new
-  pub path_is : path_of computed.files 0 ≡ path
-  pub tensor : IsTensorOf ring computed.s computed.entries (slice_index computed.ranges) shape entries
+  pub path_is : path_of computed.request.files 0 ≡ path
+  pub tensor : IsTensorOf ring computed.request.statement computed.entries (slice_index computed.ranges) shape entries
   pub written : MayBeWritten (asks_matrix path) shape entries
 
 -- why a result isn't written

@@ -9,8 +9,8 @@ use Rattle.expr_terms.specs.declared.range_fault.RangeFault.{RangeFault}
 use Rattle.operand_files.specs.Decoded.{Operand}
 use Rattle.operand_files.specs.Laws.{AreTold, told_operands}
 use Rattle.range_loops.specs.Computes.{AllFit}
-use Rattle.run_answers.specs.Causes.{IsBuilt, means}
-use Rattle.run_answers.specs.Run.{orders_of, paths_of}
+use Rattle.run_answers.specs.Causes.{IsBuilt, asked_orders, asked_paths, means}
+use Rattle.run_answers.specs.Run.{Request}
 
 -- what the modes of a tensor tell, where tensor 1, tensor 2 and so on stand in a row; tensor 0, the result, tells nothing
 abbrev pub modes_told : List (List Bound) → ℕ → List Bound
@@ -27,13 +27,11 @@ ranges_told s given operands = ranges_of s (given_at given) (bound_told (map (λ
 -- the words pass; every operand's file is there and stands for entries; the ranges agree; and no level of a tensor has more
 -- positions than may be
 pub record IsWhole (words : List (List ℕ)) (holds : List ℕ → Told) : Type 0 where
-  pub s : Statement
-  pub files : List (ℕ × List ℕ)
-  pub given : List (Option ℕ)
+  pub request : Request
   pub operands : List Operand
   pub ranges : List ℕ
-  pub built : IsBuilt words s files given
-  pub told : AreTold holds (paths_of s files)
-  pub operands_are : told_operands means holds (orders_of s) (paths_of s files) ≡ Ok operands
-  pub ranges_are : ranges_told s given operands ≡ Ok ranges
-  pub fits : AllFit s (map (λ operand. operand.entries) operands) (slice_index ranges)
+  pub built : IsBuilt words request
+  pub told : AreTold holds (asked_paths request)
+  pub operands_are : told_operands means holds (asked_orders request) (asked_paths request) ≡ Ok operands
+  pub ranges_are : ranges_told request.statement request.given operands ≡ Ok ranges
+  pub fits : AllFit request.statement (map (λ operand. operand.entries) operands) (slice_index ranges)

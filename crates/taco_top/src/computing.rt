@@ -46,11 +46,13 @@ fn compute<'a>(
             statement,
             fault: NamedFault::Range(why),
         }),
-        Err(RunFault::SizeLimit {
-            tensor,
-            level,
-            count,
-        }) => Err(Fault::Named {
+        Err(
+            RunFault::SizeLimit {
+                tensor,
+                level,
+                count,
+            },
+        ) => Err(Fault::Named {
             statement,
             fault: NamedFault::SizeLimit {
                 tensor,
@@ -83,7 +85,12 @@ pub(crate) fn prepare<'a, F: Folder>(
         Ok(operands) => operands,
         Err(fault) => return Err(fault),
     };
-    match compute(alloc, asked.statement, asked.bindings.ranges.as_slice(), &operands) {
+    match compute(
+        alloc,
+        asked.statement,
+        asked.bindings.ranges.as_slice(),
+        &operands,
+    ) {
         Ok(result) => Ok(Prepared { path, result }),
         Err(fault) => Err(fault),
     }

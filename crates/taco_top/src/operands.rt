@@ -1,11 +1,12 @@
 //! The operands of what the words ask for, from their files.
-ghost use Rattle.std.specs.Prelude.{◌≡◌, ℕ, List, length, map, IfOk, IfErr};
+ghost use Rattle.std.specs.Prelude.{◌≡◌, ℕ, List, map, IfOk, IfErr};
 ghost use Rattle.std.specs.Option.{option_map};
 ghost use Rattle.index_notation.specs.Statement.{IsNumbered};
 ghost use Rattle.bindings.specs.Tables.{file_in};
-ghost use Rattle.operand_files.specs.Reads.{OnlyReads, HaveRead};
-ghost use Rattle.run_answers.specs.Causes.{IsBuilt, Stops, means};
+ghost use Rattle.operand_files.specs.Reads.{OnlyReads};
+ghost use Rattle.run_answers.specs.Causes.{IsBuilt, HasOperands, Stops};
 ghost use Rattle.run_answers.specs.Run.{orders_of as orders_of_operands, path_of as path_of_tensor, paths_of as paths_of_operands};
+ghost use Rattle.taco_top.specs.Asked.{request_of};
 
 use bindings::{Bindings, order_of};
 use index_notation::Statement;
@@ -56,17 +57,12 @@ pub(crate) fn operands_of<'a, F: Folder>(
     asked: &Asked<'a>,
     files: &mut F,
 ) -> Result<Operands, Fault<'a>>
-    requires built { (words : List (List ℕ)) × IsBuilt words asked.now.statement
-        (map file_in asked.now.bindings.files.entries) asked.now.bindings.ranges.items }
+    requires built { (words : List (List ℕ)) × IsBuilt words (request_of asked.now) }
     requires numbered { IsNumbered asked.now.statement }
     ensures only_reads { OnlyReads (F.state files.old) (F.state files.new) }
-    ensures read { IfOk result (λ operands. HaveRead means (F.state files.old) (F.state files.new)
-        (orders_of_operands asked.now.statement)
-        (paths_of_operands asked.now.statement (map file_in asked.now.bindings.files.entries))
-        (length (paths_of_operands asked.now.statement (map file_in asked.now.bindings.files.entries)))
-        operands.entries.items (map (λ bounds. bounds.items) operands.bounds.items)) }
-    ensures refused { IfErr result (λ fault. (words : List (List ℕ)) → IsBuilt words asked.now.statement
-        (map file_in asked.now.bindings.files.entries) asked.now.bindings.ranges.items
+    ensures read { IfOk result (λ operands. (words : List (List ℕ)) → IsBuilt words (request_of asked.now)
+        → HasOperands words (F.state files.old) (F.state files.new) (request_of asked.now) operands.entries.items operands.bounds.items) }
+    ensures refused { IfErr result (λ fault. (words : List (List ℕ)) → IsBuilt words (request_of asked.now)
         → Stops words (F.state files.old) (F.state files.new) fault) }
 {
     let orders = orders_of(alloc, &asked.statement)?;

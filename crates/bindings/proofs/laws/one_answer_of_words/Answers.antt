@@ -1,5 +1,8 @@
-use Rattle.bindings.proofs.OneAnswer.{same_files, same_ranges, never_both}
+use Rattle.bindings.proofs.OneAnswer.{same_formats, same_files, same_ranges, never_both}
 use Rattle.bindings.proofs.laws.one_answer_of_words.Goals as goal
+
+pub returns-clause-formats : goal.returns-clause-formats
+returns-clause-formats c = same_formats
 
 pub returns-clause-files : goal.returns-clause-files
 returns-clause-files c = same_files

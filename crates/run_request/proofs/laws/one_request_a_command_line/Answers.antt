@@ -1,8 +1,11 @@
-use Rattle.run_request.proofs.OneRequest.{same_statement, same_files, same_ranges, never_both}
+use Rattle.run_request.proofs.OneRequest.{same_statement, same_formats, same_files, same_ranges, never_both}
 use Rattle.run_request.proofs.laws.one_request_a_command_line.Goals as goal
 
 pub returns-clause-statement : goal.returns-clause-statement
 returns-clause-statement c = same_statement
+
+pub returns-clause-formats : goal.returns-clause-formats
+returns-clause-formats c = same_formats
 
 pub returns-clause-files : goal.returns-clause-files
 returns-clause-files c = same_files
