@@ -1,6 +1,11 @@
+pub mod EmptyResults
 pub mod FileEntries
 pub mod FilesReadable
+pub mod FirstLarge
+pub mod FormatsBound
+pub mod ModeOrders
 pub mod NamesRead
 pub mod RangesSmall
 pub mod Results
 pub mod Runnable
+pub mod StandingFits

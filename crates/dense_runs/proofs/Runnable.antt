@@ -32,10 +32,12 @@ use Rattle.operand_files.specs.Reads.{Given, paths_of, HaveRead}
 use Rattle.operand_files.specs.Reads as reads
 use Rattle.dense_operands.specs.Operands.{limit_of, operand_of, HasOrder, ReadsOperand, AreOperands, IsBounded, ReadsBounded, AreBounded}
 use Rattle.dense_operands.proofs.RangesAbove.{ranges_long, bounded_below}
+use Rattle.range_loops.specs.Computes as computes
 use Rattle.range_loops.specs.Products.{IsProductOfAccesses}
 use Rattle.dense_runs.specs.Orders.{operand_orders}
 use Rattle.dense_runs.specs.Runs.{IsRunnable}
 use Rattle.dense_runs.proofs.FileEntries.{bound_in, IsKept, file_kept}
+use Rattle.dense_runs.proofs.FormatsBound.{formats_bound}
 use Rattle.dense_runs.proofs.NamesRead.{notation_read, notation_stands}
 use Rattle.dense_runs.proofs.RangesSmall.{ranges_small, given_small}
 
@@ -198,6 +200,19 @@ module _ (a : Arithmetic) (has_minus : Bool) (s : Statement) (old new : FolderSt
               kept = subst (λ k. IsKept k from.0) (ap (order_of s) next ∙ order) (kept_at n from.0 from.1);
             }
 
+    -- words and entries give each tensor one order
+    pub orders_are : (tensor : ℕ) → tensor ≤ length entries → order_of s tensor ≡ computes.order_of s entries tensor
+    orders_are zero h =
+        ap (order_of s) (sym named.result) ∙ order_is (s.left ∷ s.accesses) 0 s.left named.orders refl
+    orders_are (suc n) h =
+        let there : (e : Entries) × (slice_get entries n ≡ Some e) = some_at entries n (omega arith) in
+        let mapped : slice_get (map (λ (operand : Operand). operand.entries) read.operands) n ≡ Some there.0 =
+        ap (λ (xs : List Entries). slice_get xs n) (sym read.entries_are) ∙ there.1 in
+        let from = unmapped_at (λ (operand : Operand). operand.entries) read.operands n there.0 mapped in
+        let next : suc n ≡ n + 1 = omega arith in
+        ap (order_of s) next ∙ sym (kept_at n from.0 from.1).order_is ∙ ap (λ (e : Entries). e.order) from.2
+        ∙ sym (ap computes.order_or_zero there.1)
+
     pub are_operands : AreOperands s entries
     are_operands = record {
       numbered = numbered;
@@ -223,12 +238,14 @@ pub read_is_runnable : (a : Arithmetic) (has_minus : Bool) (text : List ℕ) (s 
     → (old new : FolderState) (paths : List (List ℕ)) (count : ℕ) (entries : List Entries) (bounds : List (Vec Bound Global))
     → AreReadable (operand_orders s) paths → count ≡ length paths
     → HaveRead (decoded.operand_of a has_minus) old new (operand_orders s) paths count entries (map (λ b. b.items) bounds)
-    → IsRunnable s given entries bounds
+    → IsRunnable s formats given entries bounds
 read_is_runnable a has_minus text s notation names numbered product built words need formats files given binds old new paths count entries
     bounds readable all read =
     let named = notation_well_named text s notation names in
     let long = many a has_minus s old new paths count entries bounds readable all read in
     record {
+      formats_are = formats_bound built s words formats binds.formats_are entries (omega (arith, long, numbered.left.tensor))
+          (orders_are a has_minus s old new paths count entries bounds readable all read numbered named);
       computable = λ ranges found. record {
         operands_fit = are_operands a has_minus s old new paths count entries bounds readable all read numbered named;
         named = named;

@@ -1,3 +1,5 @@
+pub mod LevelFaults
 pub mod Orders
 pub mod Refused
 pub mod Runs
+pub mod Stored

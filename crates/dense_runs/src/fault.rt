@@ -1,8 +1,7 @@
 //! Why a statement over dense formats isn't computed.
-ghost use Rattle.dense_runs.specs.Refused.{of_ranges, of_compute};
+ghost use Rattle.dense_runs.specs.Refused.{of_ranges};
 
 use expr_terms::RangeFault;
-use range_loops::ComputeFault;
 use std::alloc::AllocError;
 
 /// Why a statement isn't computed over its operands.
@@ -11,9 +10,9 @@ pub enum RunFault {
     /// A variable has no range, or two, or a coordinate is above it: the first fault in standing order of the variables. It
     /// is never the fault of memory.
     Range(RangeFault),
-    /// A level of a dense tensor would have more positions than may be: the first such level, the top one being number 1,
-    /// of the first such tensor, where the operands come in order of their numbers and then the result, which is
-    /// tensor 0. It would have so many.
+    /// A level of a tensor would have more positions than may be: the first such level in the order of its format's modes,
+    /// the top one being number 1, of the first such tensor, where the operands come in order of their numbers and then the
+    /// result, which is tensor 0. It would have so many.
     SizeLimit {
         tensor: usize,
         level: usize,
@@ -44,28 +43,6 @@ impl From<RangeFault> for RunFault {
         match refusal {
             RangeFault::Memory(error) => RunFault::Memory(error),
             other => RunFault::Range(other),
-        }
-    }
-}
-
-impl From<ComputeFault> for RunFault {
-    ghost use Rattle.std.specs.Prelude.{◌≡◌};
-    ghost use Rattle.dense_runs.specs.Refused.{of_compute};
-
-    ghost from_gives = { λ refusal fault. fault ≡ of_compute refusal };
-
-    fn from(refusal: ComputeFault) -> RunFault {
-        match refusal {
-            ComputeFault::SizeLimit {
-                tensor,
-                level,
-                count,
-            } => RunFault::SizeLimit {
-                tensor,
-                level,
-                count,
-            },
-            ComputeFault::Memory(error) => RunFault::Memory(error),
         }
     }
 }

@@ -19,7 +19,8 @@ ghost use Rattle.dense_runs.specs.Orders.{operand_orders};
 ghost use Rattle.dense_runs.specs.Runs.{IsRunnable};
 
 /// The statement of a text can be computed over the operands that were read for it: where its names have no fault and its
-/// right side is a product of accesses, the words bind these ranges, and each operand is what reads gave of its file.
+/// right side is a product of accesses, the words bind these formats and ranges, and each operand is what reads gave of its
+/// file.
 pub fn read_statements_are_runnable()
     ensures { (a : Arithmetic) (has_minus : Bool) (text : List ℕ) (s : AStatement) → IsNotationOf text s → HasNoNameFault s
         → IsNumbered s → IsProductOfAccesses s.expr
@@ -28,7 +29,7 @@ pub fn read_statements_are_runnable()
         → (old new : FolderState) (paths : List (List ℕ)) (count : ℕ) (entries : List SomeEntries) (bounds : List (Vec ABound AnAllocator))
         → AreReadable (operand_orders s) paths → count ≡ length paths
         → HaveRead (operand_of a has_minus) old new (operand_orders s) paths count entries (map (λ b. b.items) bounds)
-        → IsRunnable s given entries bounds }
+        → IsRunnable s formats given entries bounds }
 {}
 
 /// The files that words bind to a statement's operands, tensor 1 and on, may be read at the orders of its accesses: no order

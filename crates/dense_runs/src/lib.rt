@@ -5,6 +5,7 @@
 mod fault;
 mod laws;
 mod runs;
+mod sizing;
 
 pub use fault::RunFault;
 pub use laws::{bound_files_are_readable, read_statements_are_runnable};
