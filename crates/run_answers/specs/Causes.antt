@@ -16,7 +16,7 @@ use Rattle.expr_terms.specs.declared.range_fault.RangeFault.{RangeFault}
 use Rattle.operand_files.specs.Decoded.{operand_of}
 use Rattle.operand_files.specs.Reads.{OnlyReads, HaveRead, Meaning, RefusedAtFault, RefusedAtLength, RefusedAtLine, OpensFirst, NoReadFails}
 use Rattle.range_loops.specs.Products.{IsProductOfAccesses}
-use Rattle.range_loops.specs.Computes.{AllFit}
+use Rattle.dense_runs.specs.Stored.{AllLevelsFit}
 use Rattle.dense_runs.specs.Runs.{told_ranges, IsTooLarge}
 use Rattle.result_files.specs.Writes.{WritesResult, RefusesResult}
 use Rattle.result_files.specs.declared.refusal.WriteRefusal.{WriteRefusal}
@@ -57,7 +57,7 @@ pub record IsComputed (words : List (List ℕ)) (old new : FolderState) : Type 0
   pub ranges : List ℕ
   pub operands : HasOperands words old new request entries bounds
   pub ranges_are : told_ranges request.statement request.given bounds ≡ Ok ranges
-  pub fits : AllFit request.statement entries (slice_index ranges)
+  pub fits : AllLevelsFit request.statement request.formats entries (slice_index ranges)
 
 -- the result's ranges, and its values
 abbrev pub result_ranges : Statement → List ℕ → List ℕ
@@ -95,7 +95,7 @@ pub record HasLargeLevel (words : List (List ℕ)) (old new : FolderState) (s : 
   pub entries : List Entries
   pub bounds : List (Vec Bound Global)
   pub operands : HasOperands words old new request entries bounds
-  pub large : IsTooLarge s request.given entries bounds tensor level count
+  pub large : IsTooLarge s request.formats request.given entries bounds tensor level count
 
 -- no refusal of the words comes, and the right side is no product
 pub record IsNoProduct (words : List (List ℕ)) : Type 0 where

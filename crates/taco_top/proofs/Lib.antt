@@ -1,4 +1,6 @@
 pub mod Paths
+pub mod Reading
+pub mod Prepares
 pub mod Stopped
-pub mod WholeLaws
 pub mod UsageLaws
+pub mod WholeLaws

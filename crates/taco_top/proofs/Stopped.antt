@@ -1,5 +1,5 @@
 -- Why a run stops, from why its parts do.
-use Rattle.std.specs.Prelude.{◌≡◌, ℕ, ◌⊎◌, List, ◌++◌, Option, Some, None, map, length, Vec, slice_index, Ok, Err, refl}
+use Rattle.std.specs.Prelude.{◌≡◌, ℕ, ◌⊎◌, Bool, true, false, IsTrue, List, ◌++◌, Option, Some, None, map, length, Vec, slice_index, Ok, Err, refl}
 use Rattle.std.specs.Option.{option_map}
 use Rattle.std.proofs.Common.{◌∙◌, sym, ap, subst, inl, inr}
 use Rattle.std.proofs.lemmas.List.{append-nil}
@@ -25,6 +25,12 @@ use Rattle.run_answers.specs.Causes.{HasOperands, result_ranges, result_value, O
 use Rattle.dense_runs.specs.Runs.{told_ranges, IsTooLarge}
 use Rattle.run_answers.specs.Run.{Request, path_of}
 use Rattle.taco_top.specs.Prepared.{IsPrepared, IsUncomputed, StopsWriting}
+
+pub not_true : (b : Bool) → IsTrue b → b ≡ false → ⊥
+not_true b told not = true_or_false (sym told ∙ not)
+  where
+    true_or_false : true ≡ false → ⊥
+    true_or_false h = cc
 
 -- the words are refused, and no file was opened
 pub stops_by_words : (words : List (List ℕ)) (why : Fault) (files : FolderState) → IsRefusedByWords words why → Stops words files files why
@@ -58,7 +64,7 @@ opened words old new r entries bounds operands = record {
 -- what the words ask for isn't computed over its operands
 module _ (words : List (List ℕ)) (old new : FolderState) (r : Request) (entries : List Entries) (bounds : List (Vec Bound Global))
     (operands : HasOperands words old new r entries bounds) where
-  pub stops_uncomputed : (why : Fault) → IsUncomputed r.statement r.given entries bounds why → Stops words old new why
+  pub stops_uncomputed : (why : Fault) → IsUncomputed r.statement r.formats r.given entries bounds why → Stops words old new why
   stops_uncomputed (fault.Named t (named.Range why)) (same, is) =
       record {
         request = r;
@@ -75,7 +81,7 @@ module _ (words : List (List ℕ)) (old new : FolderState) (r : Request) (entrie
         entries = entries;
         bounds = bounds;
         operands = operands;
-        large = subst (λ u. IsTooLarge u r.given entries bounds tensor level count) (sym same) is;
+        large = subst (λ u. IsTooLarge u r.formats r.given entries bounds tensor level count) (sym same) is;
       }
   stops_uncomputed (fault.Named t (named.Name why)) is = absurd is
   stops_uncomputed (fault.Named t (named.Binding why)) is = absurd is

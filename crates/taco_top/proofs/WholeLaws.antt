@@ -3,7 +3,7 @@ use Rattle.std.specs.Prelude.{◌≡◌, ℕ, zero, suc, ◌-◌, ◌⊎◌, Lis
 use Rattle.std.specs.Prelude.{Vec, String, string_bytes, slice_get, slice_index, unwrap_or, refl}
 use Rattle.std.specs.Option.{option_map}
 use Rattle.std.proofs.Common.{◌∙◌, sym, ap, subst, inl, inr}
-use Rattle.std.proofs.lemmas.List.{length-map-range_with_len}
+use Rattle.std.proofs.lemmas.List.FromFn.{length-map-range_with_len}
 use Rattle.std.specs.declared.alloc.Global.{Global}
 use Rattle.numbers.specs.Ring.{ring}
 use Rattle.numbers.specs.RingLaws.{ring_laws}
@@ -24,7 +24,7 @@ use Rattle.operand_files.specs.Reads.{OnlyReads, RefusedAtFault, RefusedAtLength
 use Rattle.operand_files.specs.declared.fault.OperandFault.TheVariants as operand
 use Rattle.operand_files.proofs.ToldLaws.{told_answer, told_bad_line, told_others}
 use Rattle.range_loops.specs.Products.{IsProductOfAccesses}
-use Rattle.range_loops.specs.Computes.{AllFit, level_sizes}
+use Rattle.dense_runs.specs.Stored.{AllLevelsFit, stored_sizes}
 use Rattle.dense_operands.proofs.LevelLemmas.{none_above}
 use Rattle.dense_runs.specs.Runs.{told_ranges, IsTooLarge}
 use Rattle.result_files.specs.ResultText.{IsResultText}
@@ -109,12 +109,12 @@ module _ (words : List (List ℕ)) (files : FolderState) (whole : IsWhole words 
     told_there = ap (ranges_of whole.request.statement (given_at whole.request.given)) (bounds_same bounds ∙ ap bound_told bounds_are)
         ∙ whole.ranges_are
 
-    no_large_level : (tensor level count : ℕ) → IsTooLarge whole.request.statement whole.request.given entries bounds tensor level count → ⊥
+    no_large_level : (tensor level count : ℕ) → IsTooLarge whole.request.statement whole.request.formats whole.request.given entries bounds tensor level count → ⊥
     no_large_level tensor level count large =
         let same : large.ranges ≡ whole.ranges = ap (ok_of []) (sym large.ranges_are ∙ told_there) in
-        let fits_here = subst (λ es. AllFit whole.request.statement es (slice_index whole.ranges)) (sym entries_are) whole.fits in
-        let fits_by = subst (λ rs. AllFit whole.request.statement entries (slice_index rs)) (sym same) fits_here in
-        none_above (level_sizes whole.request.statement entries (slice_index large.ranges) tensor) level count large.first.first
+        let fits_here = subst (λ es. AllLevelsFit whole.request.statement whole.request.formats es (slice_index whole.ranges)) (sym entries_are) whole.fits in
+        let fits_by = subst (λ rs. AllLevelsFit whole.request.statement whole.request.formats entries (slice_index rs)) (sym same) fits_here in
+        none_above (stored_sizes whole.request.statement whole.request.formats entries (slice_index large.ranges) tensor) level count large.first.first
         (fits_by tensor large.first.stands)
 
   operands_at : (new : FolderState) (r : Request) (entries : List Entries) (bounds : List (Vec Bound Global))
@@ -139,9 +139,9 @@ module _ (words : List (List ℕ)) (files : FolderState) (whole : IsWhole words 
     no_level_fault : (s : Statement) (tensor level count : ℕ) → HasLargeLevel words files new s tensor level count → ⊥
     no_level_fault s tensor level count is =
         no_large_level new is.entries is.bounds (operands_at new is.request is.entries is.bounds is.operands) tensor level count
-        (subst (λ q. IsTooLarge q.statement q.given is.entries is.bounds tensor level count)
+        (subst (λ q. IsTooLarge q.statement q.formats q.given is.entries is.bounds tensor level count)
         (request_is is.request is.operands.built.asks)
-        (subst (λ u. IsTooLarge u is.request.given is.entries is.bounds tensor level count) (sym is.statement_is) is.large))
+        (subst (λ u. IsTooLarge u is.request.formats is.request.given is.entries is.bounds tensor level count) (sym is.statement_is) is.large))
 
     never_stops : (why : Fault) → Stops words files new why → why ≡ fault.Memory
     never_stops fault.Usage is = absurd (never_by_words fault.Usage is.refused)

@@ -8,6 +8,7 @@ use Rattle.numbers.specs.Ring.{ring}
 use Rattle.outside.specs.Folder.{FolderState}
 use Rattle.outside.specs.Sink.{SinkState}
 use Rattle.tensor_map.specs.Entries.{Entries}
+use Rattle.format_spec.specs.declared.format.FormatLevel.{FormatLevel}
 use Rattle.index_notation.specs.declared.syntax.Statement.{Statement}
 use Rattle.expr_terms.specs.declared.bound.Bound.{Bound}
 use Rattle.dense_runs.specs.Runs.{IsTensorOf, IsTooLarge, told_ranges}
@@ -27,12 +28,12 @@ end_of (Ok x) = None
 end_of (Err why) = Some why
 
 -- why a statement isn't computed over these operands
-abbrev pub IsUncomputed : Statement → List (Option ℕ) → List Entries → List (Vec Bound Global) → Fault → Type 0
-IsUncomputed s given entries bounds (fault.Named t (named.Range why)) = (t ≡ s) × (told_ranges s given bounds ≡ Err why)
-IsUncomputed s given entries bounds (fault.Named t (named.SizeLimit tensor level count)) =
-    (t ≡ s) × IsTooLarge s given entries bounds tensor level count
-IsUncomputed s given entries bounds fault.Memory = Unit {0}
-IsUncomputed s given entries bounds _ = ⊥
+abbrev pub IsUncomputed : Statement → List (List FormatLevel) → List (Option ℕ) → List Entries → List (Vec Bound Global) → Fault → Type 0
+IsUncomputed s formats given entries bounds (fault.Named t (named.Range why)) = (t ≡ s) × (told_ranges s given bounds ≡ Err why)
+IsUncomputed s formats given entries bounds (fault.Named t (named.SizeLimit tensor level count)) =
+    (t ≡ s) × IsTooLarge s formats given entries bounds tensor level count
+IsUncomputed s formats given entries bounds fault.Memory = Unit {0}
+IsUncomputed s formats given entries bounds _ = ⊥
 
 -- the result of what the words ask for, and the path that it goes to
 pub record IsPrepared (words : List (List ℕ)) (old new : FolderState) (path : Option (List ℕ)) (shape : List ℕ)

@@ -8,7 +8,7 @@ use Rattle.expr_terms.specs.declared.bound.Bound.{Bound}
 use Rattle.expr_terms.specs.declared.range_fault.RangeFault.{RangeFault}
 use Rattle.operand_files.specs.Decoded.{Operand}
 use Rattle.operand_files.specs.Laws.{AreTold, told_operands}
-use Rattle.range_loops.specs.Computes.{AllFit}
+use Rattle.dense_runs.specs.Stored.{AllLevelsFit}
 use Rattle.run_answers.specs.Causes.{IsBuilt, asked_orders, asked_paths, means}
 use Rattle.run_answers.specs.Run.{Request}
 
@@ -34,4 +34,4 @@ pub record IsWhole (words : List (List ℕ)) (holds : List ℕ → Told) : Type 
   pub told : AreTold holds (asked_paths request)
   pub operands_are : told_operands means holds (asked_orders request) (asked_paths request) ≡ Ok operands
   pub ranges_are : ranges_told request.statement request.given operands ≡ Ok ranges
-  pub fits : AllFit request.statement (map (λ operand. operand.entries) operands) (slice_index ranges)
+  pub fits : AllLevelsFit request.statement request.formats (map (λ operand. operand.entries) operands) (slice_index ranges)

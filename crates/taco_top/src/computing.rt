@@ -12,11 +12,13 @@ ghost use Rattle.taco_top.specs.Prepared.{IsPrepared, IsUncomputed};
 use crate::asking::ask_product;
 use crate::operands::{operands_of, path_of};
 use dense_runs::{DenseResult, RunFault, run_dense};
+use format_spec::Format;
 use index_notation::Statement;
 use numbers::Ring;
 use operand_files::Operands;
 use outside::Folder;
 use refusals::{Fault, NamedFault};
+use run_request::Asked;
 use std::alloc::Global;
 
 /// A result, and the path that it goes to, if one is given.
@@ -30,17 +32,18 @@ pub(crate) struct Prepared<'a> {
 fn compute<'a>(
     alloc: Global,
     statement: Statement,
+    formats: &[Format],
     given: &[Option<u64>],
     operands: &Operands,
 ) -> Result<DenseResult, Fault<'a>>
-    requires { IsRunnable statement given.now operands.now.entries.items operands.now.bounds.items }
-    ensures run { IfOk result (λ run. IsRun ring statement given.now operands.now.entries.items operands.now.bounds.items
+    requires { IsRunnable statement formats.now given.now operands.now.entries.items operands.now.bounds.items }
+    ensures run { IfOk result (λ run. IsRun ring statement formats.now given.now operands.now.entries.items operands.now.bounds.items
         run.shape run.entries) }
     ensures written { IfOk result (λ run. (is_matrix : Bool) → (is_matrix ≡ true → IsMatrixOrder (length statement.left.vars))
         → MayBeWritten is_matrix run.shape run.entries) }
-    ensures refused { IfErr result (IsUncomputed statement given.now operands.now.entries.items operands.now.bounds.items) }
+    ensures refused { IfErr result (IsUncomputed statement formats.now given.now operands.now.entries.items operands.now.bounds.items) }
 {
-    match run_dense::<Ring>(alloc, &statement, given, operands) {
+    match run_dense::<Ring>(alloc, &statement, formats, given, operands) {
         Ok(result) => Ok(result),
         Err(RunFault::Range(why)) => Err(Fault::Named {
             statement,
@@ -85,12 +88,13 @@ pub(crate) fn prepare<'a, F: Folder>(
         Ok(operands) => operands,
         Err(fault) => return Err(fault),
     };
-    match compute(
-        alloc,
-        asked.statement,
-        asked.bindings.ranges.as_slice(),
-        &operands,
-    ) {
+    let Asked {
+        statement,
+        bindings,
+    } = asked;
+    let formats = bindings.formats.as_slice();
+    let given = bindings.ranges.as_slice();
+    match compute(alloc, statement, formats, given, &operands) {
         Ok(result) => Ok(Prepared { path, result }),
         Err(fault) => Err(fault),
     }

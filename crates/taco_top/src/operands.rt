@@ -1,5 +1,5 @@
 //! The operands of what the words ask for, from their files.
-ghost use Rattle.std.specs.Prelude.{◌≡◌, ℕ, List, map, IfOk, IfErr};
+ghost use Rattle.std.specs.Prelude.{◌≡◌, ℕ, List, [], map, unwrap_or, IfOk, IfErr};
 ghost use Rattle.std.specs.Option.{option_map};
 ghost use Rattle.index_notation.specs.Statement.{IsNumbered};
 ghost use Rattle.bindings.specs.Tables.{file_in};
@@ -24,13 +24,23 @@ pub(crate) fn path_of<'a>(bindings: &Bindings<'a>, tensor: usize) -> Option<&'a 
     bindings.files.get(&tensor).copied()
 }
 
+/// The path of a tensor's file, empty where it has none.
+fn path_or_empty<'a>(bindings: &Bindings<'a>, tensor: usize) -> &'a str
+    ensures { result.now ≡ unwrap_or (path_of_tensor (map file_in bindings.now.files.entries) tensor) [] }
+{
+    match path_of(bindings, tensor) {
+        Some(path) => path,
+        None => "",
+    }
+}
+
 /// The order of each operand.
 fn orders_of(alloc: Global, statement: &Statement) -> Result<Vec<usize>, AllocError>
     ensures { IfOk result (λ orders. orders.items ≡ orders_of_operands statement.now) }
 {
     let mut orders = Vec::new(alloc);
-    for tensor in 1..statement.tensors.len() {
-        orders.push(order_of(statement, tensor))?;
+    for n in 0..statement.tensors.len().saturating_sub(1) {
+        orders.push(order_of(statement, n + 1))?;
     }
     Ok(orders)
 }
@@ -45,8 +55,8 @@ fn paths_of<'a>(
         ≡ paths_of_operands statement.now (map file_in bindings.now.files.entries)) }
 {
     let mut paths = Vec::new(alloc);
-    for tensor in 1..statement.tensors.len() {
-        paths.push(path_of(bindings, tensor).unwrap_or(""))?;
+    for n in 0..statement.tensors.len().saturating_sub(1) {
+        paths.push(path_or_empty(bindings, n + 1))?;
     }
     Ok(paths)
 }

@@ -1,0 +1,82 @@
+-- What reading the operands leaves, told of what the words ask for.
+use Rattle.std.specs.Prelude.{◌≡◌, ℕ, ◌⊎◌, true, List, length, map, Vec, refl}
+use Rattle.std.proofs.Common.{◌∙◌, sym, ap, subst, inl, inr}
+use Rattle.std.specs.declared.alloc.Global.{Global}
+use Rattle.numbers.specs.Ring.{ring}
+use Rattle.outside.specs.Folder.{FolderState}
+use Rattle.tensor_map.specs.Entries.{Entries}
+use Rattle.index_notation.specs.Statement.{IsNumbered}
+use Rattle.expr_terms.specs.declared.bound.Bound.{Bound}
+use Rattle.operand_files.specs.Decoded.{AreReadable}
+use Rattle.operand_files.specs.Reads.{HaveRead, IsRefused, RefusedAtFault, RefusedAtLength, RefusedAtLine, OpensFirst}
+use Rattle.operand_files.specs.declared.fault.OperandFault.{OperandFault}
+use Rattle.operand_files.specs.declared.fault.OperandFault.TheVariants as operand
+use Rattle.dense_runs.specs.Runs.{IsRunnable}
+use Rattle.dense_runs.proofs.Runnable.{read_is_runnable}
+use Rattle.refusals.specs.declared.fault.Fault.{Fault}
+use Rattle.refusals.specs.declared.fault.Fault.TheVariants as fault
+use Rattle.run_request.specs.Asked.{built_letters}
+use Rattle.run_answers.specs.Run.{Request}
+use Rattle.run_answers.specs.Causes.{means, IsBuilt, HasOperands, asked_orders, asked_paths, Stops}
+use Rattle.taco_top.proofs.Paths.{paths_readable}
+
+-- a fault of the operands as the program's
+abbrev pub fault_of : OperandFault → Fault
+fault_of (operand.ReadFault path) = fault.ReadFault path
+fault_of (operand.FileBytes path) = fault.FileBytes path
+fault_of (operand.BadFile path line kind) = fault.BadFile path line kind
+fault_of operand.Memory = fault.Memory
+
+pub request_readable : (words : List (List ℕ)) (r : Request) → IsBuilt words r → IsNumbered r.statement
+    → AreReadable (asked_orders r) (asked_paths r)
+request_readable words r built numbered =
+    paths_readable built_letters r.statement built.asks.rest r.formats r.files r.given built.asks.binds numbered
+
+-- the orders and paths that were handed in are those of the request
+module _ (words : List (List ℕ)) (old new : FolderState) (r : Request) (orders : List ℕ) (paths : List (List ℕ))
+    (orders_are : orders ≡ asked_orders r) (paths_are : paths ≡ asked_paths r) where
+  pub readable : IsBuilt words r → IsNumbered r.statement → AreReadable orders paths
+  readable built numbered =
+      subst (λ os. AreReadable os paths) (sym orders_are)
+        (subst (λ ps. AreReadable (asked_orders r) ps) (sym paths_are) (request_readable words r built numbered))
+
+  pub have_operands : (count : ℕ) (entries : List Entries) (bounds : List (Vec Bound Global)) → count ≡ length paths → IsBuilt words r
+      → HaveRead means old new orders paths count entries (map (λ b. b.items) bounds) → HasOperands words old new r entries bounds
+  have_operands count entries bounds many built read = record {
+    built = built;
+    read = subst (λ n. HaveRead means old new (asked_orders r) (asked_paths r) n entries (map (λ b. b.items) bounds))
+      (many ∙ ap length paths_are)
+      (subst (λ os. HaveRead means old new os (asked_paths r) count entries (map (λ b. b.items) bounds)) orders_are
+        (subst (λ ps. HaveRead means old new orders ps count entries (map (λ b. b.items) bounds)) paths_are read));
+  }
+
+  refused_at : (why : OperandFault) → IsRefused means old new orders paths why
+      → IsRefused means old new (asked_orders r) (asked_paths r) why
+  refused_at why is =
+      subst (λ os. IsRefused means old new os (asked_paths r) why) orders_are
+        (subst (λ ps. IsRefused means old new orders ps why) paths_are is)
+
+  pub stops_reading : (why : OperandFault) → IsBuilt words r → IsRefused means old new orders paths why
+      → Stops words old new (fault_of why)
+  stops_reading (operand.ReadFault path) built is = record {
+    request = r; built = built; why = refused_at (operand.ReadFault path) is;
+  }
+  stops_reading (operand.FileBytes path) built is = record {
+    request = r; built = built; why = refused_at (operand.FileBytes path) is;
+  }
+  stops_reading (operand.BadFile path line kind) built is = record {
+    request = r; built = built; why = refused_at (operand.BadFile path line kind) is;
+  }
+  stops_reading operand.Memory built is =
+      let here = refused_at operand.Memory is in
+      inr (record { request = r; built = built; opens = here.0; no_fault = here.1 })
+
+-- a statement can be computed over the operands that were read for it
+pub request_runnable : (words : List (List ℕ)) (old new : FolderState) (r : Request) (entries : List Entries)
+    (bounds : List (Vec Bound Global)) → HasOperands words old new r entries bounds → IsNumbered r.statement
+    → IsRunnable r.statement r.formats r.given entries bounds
+request_runnable words old new r entries bounds operands numbered =
+    let names = operands.built.asks.names in
+    read_is_runnable ring true names.text r.statement names.notation names.names numbered operands.built.product built_letters
+      operands.built.asks.rest true r.formats r.files r.given operands.built.asks.binds old new (asked_paths r) (length (asked_paths r))
+      entries bounds (request_readable words r operands.built numbered) refl operands.read
