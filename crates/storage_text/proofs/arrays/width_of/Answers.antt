@@ -10,7 +10,8 @@ returns-then-parents-eq0 c = hashed_none c.args.level.now c.args.parents c.requi
 
 pub segment-first-requires : goal.segment-first-requires
 segment-first-requires c =
-    laws.parents c.args.level.now c.args.parents 0 c.requires.parents.has_parents (let some = c.if-parents-eq0.false in omega (arith, some))
+    laws.parents c.args.level.now c.args.parents 0 c.requires.parents.has_parents
+    (let some = c.if-parents-eq0.false in omega (arith, some))
 
 pub returns : goal.returns
 returns c =

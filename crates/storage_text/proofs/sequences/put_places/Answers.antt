@@ -10,8 +10,11 @@ use Rattle.storage_text.proofs.ListTexts.{text_step}
 use Rattle.storage_text.proofs.sequences.put_places.Goals as goal
 
 pub place_at-requires-clause-parents : goal.place_at-requires-clause-parents
-place_at-requires-clause-parents g c =
-    (c.args.parents, subst (λ (n : ℕ). c.loop-position.position < n) c.positions_of-position-end.ensures c.loop-position-test.true, c.requires.parents)
+place_at-requires-clause-parents g c = (
+  c.args.parents,
+  subst (λ (n : ℕ). c.loop-position.position < n) c.positions_of-position-end.ensures c.loop-position-test.true,
+  c.requires.parents,
+)
 
 pub loop-position-init : goal.loop-position-init
 loop-position-init g c = none_so_far _ (flat_map place_text (places_in c.args.level.now))
