@@ -1,5 +1,5 @@
 -- Why a run stops, from why its parts do.
-use Rattle.std.specs.Prelude.{◌≡◌, ℕ, ◌⊎◌, Bool, true, false, IsTrue, List, ◌++◌, Option, Some, None, map, length, Vec, slice_index, Ok, Err, refl}
+use Rattle.std.specs.Prelude.{◌≡◌, ℕ, ◌⊎◌, Bool, true, false, IsTrue, List, ◌++◌, Option, Some, None, map, length, Vec, slice_index, Result, Ok, Err, OnOk, IfErr, refl}
 use Rattle.std.specs.Option.{option_map}
 use Rattle.std.proofs.Common.{◌∙◌, sym, ap, subst, inl, inr}
 use Rattle.std.proofs.lemmas.List.{append-nil}
@@ -24,7 +24,7 @@ use Rattle.run_request.specs.Asked.{IsRefusedByWords}
 use Rattle.run_answers.specs.Causes.{HasOperands, result_ranges, result_value, OpensOperands, Stops, IsWritten, IsUnwritten, Cause}
 use Rattle.dense_runs.specs.Runs.{told_ranges, IsTooLarge}
 use Rattle.run_answers.specs.Run.{Request, path_of}
-use Rattle.taco_top.specs.Prepared.{IsPrepared, IsUncomputed, StopsWriting}
+use Rattle.taco_top.specs.Prepared.{IsPrepared, IsUncomputed, StopsWriting, end_of}
 
 pub not_true : (b : Bool) → IsTrue b → b ≡ false → ⊥
 not_true b told not = true_or_false (sym told ∙ not)
@@ -164,3 +164,11 @@ module _ (words : List (List ℕ)) (files between files' : FolderState) (out out
   unwritten (fault.ReadFault at) stops = absurd stops
   unwritten (fault.FileBytes at) stops = absurd stops
   unwritten (fault.BadFile at line kind) stops = absurd stops
+
+  -- what stands after the writing
+  pub cause_of_write : (result : Result (Unit {0}) Fault)
+      → OnOk result (WritesResult ring path shape (value_at ring entries.list) between files' out out')
+      → IfErr result (StopsWriting path shape (value_at ring entries.list) between files' out out')
+      → Cause words files files' out out' (end_of result)
+  cause_of_write (Ok done) writes stops = written writes
+  cause_of_write (Err why) writes stops = unwritten why stops

@@ -42,7 +42,7 @@ impl Tensor {
     ghost use Rattle.tensor_storage.specs.Arranged.{AreInside, IsPackedFrom, IsRefusalOf};
     ghost use Rattle.tensor_storage.specs.Routes.{ListsPaths};
     ghost use Rattle.tensor_storage.specs.Stands.{IsPacked};
-    ghost use Rattle.tensor_storage.specs.Storages.{IsStorage, EndsAt, in_level_order};
+    ghost use Rattle.tensor_storage.specs.Storages.{IsStorage, EndsAt, in_level_order, storage_of};
 
     /// Packs the entries of a tensor, which increase in the order of the modes: each is stored, those of value zero too. Every other
     /// value is the zero of `S`. Refused for want of memory, or exactly where a level would have more positions than may be: the first
@@ -181,5 +181,36 @@ impl Tensor {
         )?;
         sort_entries::<S>(&mut entries)?;
         Ok(entries)
+    }
+
+    /// The format, as one value.
+    pub fn whole_format(&self) -> &Format
+        ensures { result.now ≡ self.now.format }
+    {
+        &self.format
+    }
+
+    /// The values at the positions of the last level, moved out. It takes no memory.
+    pub fn into_values(self) -> Vec<u64>
+        ensures { result.items ≡ self.values }
+    {
+        let Tensor {
+            format: _format,
+            levels: _levels,
+            values,
+        } = self;
+        values.into_vec()
+    }
+
+    /// The tensor of these levels and values. It takes no memory.
+    pub fn from_levels(format: Format, levels: Items<StorageLevel>, values: Items<u64>) -> Tensor
+        requires { IsStorage (storage_of format levels values) }
+        ensures { result ≡ storage_of format levels values }
+    {
+        Tensor {
+            format,
+            levels,
+            values,
+        }
     }
 }

@@ -1,0 +1,4 @@
+pub mod LevelArrays
+pub mod Lines
+pub mod ListTexts
+pub mod Packed

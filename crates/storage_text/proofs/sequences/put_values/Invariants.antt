@@ -1,0 +1,10 @@
+use Rattle.std.specs.Prelude.{drop}
+use Rattle.std.specs.List.{flat_map}
+use Rattle.outside.specs.Sink.{AppendsSoFar}
+use Rattle.storage_text.specs.StoreText.{value_text}
+use Rattle.storage_text.proofs.sequences.put_values.Given as goal
+
+abbrev pub invariant-loop-value : goal.invariant-loop-value
+invariant-loop-value g l =
+    AppendsSoFar (g.S.Sink.state l.fn.sink) (g.S.Sink.state l.sink) (flat_map value_text l.values)
+    (flat_map value_text (drop l.value-index l.values))
