@@ -1,5 +1,5 @@
 -- The paths of a statement's tensors, as words bind them.
-use Rattle.std.specs.Prelude.{◌≡◌, ℕ, zero, suc, ◌+◌, ◌-◌, ◌<◌, ◌==◌, Bool, true, false, cond, if◌then◌else◌, List, [], ◌∷◌, ◌++◌, length, map}
+use Rattle.std.specs.Prelude.{◌≡◌, ℕ, zero, suc, ◌+◌, ◌-◌, ◌<◌, ◌==◌, Bool, true, false, cond, if◌then◌else◌, List, [], ◌∷◌, length, map}
 use Rattle.std.specs.Prelude.{Option, Some, None, is_some, unwrap_or, slice_get, slice_index_or, take, refl}
 use Rattle.std.specs.List.{range_with_len}
 use Rattle.std.specs.Option.{option_map}
@@ -14,7 +14,7 @@ use Rattle.index_notation.specs.Statement.{IsNumbered}
 use Rattle.bindings.specs.Words.{Said, SaysFormat, SaysFile, SaysRange, said_of}
 use Rattle.mtx_io.specs.Progress.{IsMatrixOrder}
 use Rattle.bindings.specs.Bindings.{first_in, path_in, order_in, order_of, or_later}
-use Rattle.bindings.specs.Outcome.{files_in, with_file, HaveFiles, Binds}
+use Rattle.bindings.specs.Outcome.{files_in, with_file, Binds}
 use Rattle.bindings.specs.Tables.{file_in}
 use Rattle.bindings.proofs.Tables.{eq_turned}
 use Rattle.operand_files.specs.Decoded.{AreReadable}
@@ -22,7 +22,7 @@ use Rattle.dense_runs.specs.Orders.{operand_orders}
 use Rattle.dense_runs.proofs.FilesReadable.{files_readable, file_readable}
 use Rattle.dense_runs.proofs.RangesSmall.{first_found}
 use Rattle.result_files.specs.ResultText.{asks_matrix}
-use Rattle.run_answers.specs.Run.{path_of, paths_of, operands_of}
+use Rattle.run_answers.specs.Run.{path_of, paths_of}
 
 -- a path that is looked up among lent ones
 pub path_in_view : (n : ℕ) (files : List (ℕ × Bor (List ℕ)))

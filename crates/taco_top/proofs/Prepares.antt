@@ -1,6 +1,6 @@
 -- A result that was computed is one that may be written.
-use Rattle.std.specs.Prelude.{◌≡◌, ℕ, Bool, true, List, length, Option, Vec, slice_index, refl}
-use Rattle.std.proofs.Common.{sym, subst, ap, ◌∙◌}
+use Rattle.std.specs.Prelude.{◌≡◌, ℕ, Bool, true, List, length, Option, Vec}
+use Rattle.std.proofs.Common.{sym, subst}
 use Rattle.std.specs.declared.alloc.Global.{Global}
 use Rattle.numbers.specs.Ring.{ring}
 use Rattle.outside.specs.Folder.{FolderState}
@@ -27,12 +27,17 @@ prepared words old new r path entries bounds shape result path_is operands run m
     let named = notation_well_named names.text r.statement names.notation names.names in
     record {
       computed = record {
-        request = r; entries = entries; bounds = bounds; ranges = run.ranges; operands = operands; ranges_are = run.ranges_are;
+        request = r;
+        entries = entries;
+        bounds = bounds;
+        ranges = run.ranges;
+        operands = operands;
+        ranges_are = run.ranges_are;
         fits = run.fit;
       };
       path_is = sym path_is;
       tensor = run.tensor;
       written = subst (λ p. MayBeWritten (asks_matrix p) shape result) (sym path_is)
-        (may (asks_matrix (path_of r.files 0)) (λ matrix. result_is_matrix built_letters r.statement operands.built.asks.rest r.formats
+          (may (asks_matrix (path_of r.files 0)) (λ matrix. result_is_matrix built_letters r.statement operands.built.asks.rest r.formats
           r.files r.given operands.built.asks.binds named.result matrix));
     }

@@ -1,15 +1,12 @@
 -- Why a run stops, from why its parts do.
-use Rattle.std.specs.Prelude.{◌≡◌, ℕ, ◌⊎◌, Bool, true, false, IsTrue, List, ◌++◌, Option, Some, None, map, length, Vec, slice_index, Result, Ok, Err, OnOk, IfErr, refl}
-use Rattle.std.specs.Option.{option_map}
+use Rattle.std.specs.Prelude.{◌≡◌, ℕ, Bool, true, false, IsTrue, List, ◌++◌, Option, Some, Vec, Result, Ok, Err, OnOk, IfErr, refl}
 use Rattle.std.proofs.Common.{◌∙◌, sym, ap, subst, inl, inr}
 use Rattle.std.proofs.lemmas.List.{append-nil}
 use Rattle.std.specs.declared.alloc.Global.{Global}
-use Rattle.std.specs.declared.alloc.AllocError.{AllocError}
 use Rattle.numbers.specs.Ring.{ring}
 use Rattle.outside.specs.Folder.{FolderState}
 use Rattle.outside.specs.Sink.{SinkState}
 use Rattle.tensor_map.specs.Entries.{Entries, value_at}
-use Rattle.index_notation.specs.declared.syntax.Statement.{Statement}
 use Rattle.expr_terms.specs.declared.bound.Bound.{Bound}
 use Rattle.operand_files.specs.Reads.{OnlyReads}
 use Rattle.result_files.specs.Writes.{Puts, WritesResult, RefusesResult}

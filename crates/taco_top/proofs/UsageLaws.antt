@@ -1,6 +1,6 @@
 -- Status 2 is that of words that are no command line.
 use Rattle.std.specs.Prelude.{◌≡◌, ℕ, ◌⊎◌, List, Option, Some, None, map, String, string_bytes, refl}
-use Rattle.std.proofs.Common.{◌∙◌, sym, ap, subst, inl, inr}
+use Rattle.std.proofs.Common.{◌∙◌, sym, subst, inl, inr}
 use Rattle.std.specs.declared.alloc.Global.{Global}
 use Rattle.outside.specs.Folder.{FolderState}
 use Rattle.outside.specs.Sink.{SinkState}
@@ -10,7 +10,7 @@ use Rattle.expr_terms.specs.declared.range_fault.RangeFault.TheVariants as range
 use Rattle.bindings.specs.declared.fault.WordFault.{WordFault}
 use Rattle.bindings.specs.declared.fault.WordFault.TheVariants.{BadBinding, UnknownName, Twice, NotMatrix, RangeLimit}
 use Rattle.bindings.specs.declared.fault.BindingFault.TheVariants as binding
-use Rattle.refusals.specs.Lines.{status_of, named_status, notation_status, word_status}
+use Rattle.refusals.specs.Lines.{named_status, notation_status, word_status}
 use Rattle.refusals.specs.declared.fault.NamedFault.{NamedFault}
 use Rattle.refusals.specs.declared.fault.NamedFault.TheVariants as named
 use Rattle.refusals.specs.declared.fault.Fault.{Fault}

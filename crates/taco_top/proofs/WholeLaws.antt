@@ -10,17 +10,15 @@ use Rattle.numbers.specs.RingLaws.{ring_laws}
 use Rattle.outside.specs.Count.{Rose}
 use Rattle.outside.specs.Folder.{FolderState}
 use Rattle.outside.specs.Sink.{SinkState}
-use Rattle.outside.specs.Told.{Told}
 use Rattle.tensor_map.specs.Entries.{Entries}
 use Rattle.index_notation.specs.declared.syntax.Statement.{Statement}
 use Rattle.expr_terms.specs.Ranges.{ranges_of}
-use Rattle.expr_terms.specs.Told.{given_at, bound_at, bound_or_none, modes_of, modes_or_none}
+use Rattle.expr_terms.specs.Told.{given_at, bound_at, bound_or_none, modes_of}
 use Rattle.expr_terms.specs.declared.bound.Bound.{Bound}
 use Rattle.expr_terms.specs.declared.range_fault.RangeFault.{RangeFault}
 use Rattle.bindings.specs.Bindings.{order_of}
-use Rattle.operand_files.specs.Decoded.{Operand}
 use Rattle.operand_files.specs.Laws.{AreTold, told_operands}
-use Rattle.operand_files.specs.Reads.{OnlyReads, RefusedAtFault, RefusedAtLength, RefusedAtLine}
+use Rattle.operand_files.specs.Reads.{RefusedAtFault, RefusedAtLength, RefusedAtLine}
 use Rattle.operand_files.specs.declared.fault.OperandFault.TheVariants as operand
 use Rattle.operand_files.proofs.ToldLaws.{told_answer, told_bad_line, told_others}
 use Rattle.range_loops.specs.Products.{IsProductOfAccesses}
@@ -41,7 +39,7 @@ use Rattle.run_answers.specs.Run.{Request, AsksFor, path_of}
 use Rattle.run_answers.specs.Causes.{means, asked_orders, asked_paths, HasOperands, IsComputed, result_ranges, result_value}
 use Rattle.run_answers.specs.Causes.{StopsReading, HasRangeFault, HasLargeLevel, Stops, IsWritten, IsUnwritten, Cause}
 use Rattle.run_answers.specs.Ends.{Ends, status_of_end}
-use Rattle.taco_top.specs.Whole.{IsWhole, modes_told, bound_told, ranges_told}
+use Rattle.taco_top.specs.Whole.{IsWhole, modes_told, bound_told}
 
 -- ---- bounds that are lent say what they hold
 modes_same : (bounds : List (Vec Bound Global)) (tensor : ℕ) → modes_of bounds tensor ≡ modes_told (map (λ b. b.items) bounds) tensor
