@@ -117,8 +117,10 @@ module _ (words : List (List ℕ)) (files between files' : FolderState) (out out
   text_of_values text text_is =
       subst (λ p. IsResultText ring p (result_ranges is.computed.request.statement is.computed.ranges)
       (result_value is.computed.request.statement is.computed.entries is.computed.ranges) text) (sym is.path_is)
-      (subst (λ ranges. IsResultText ring path ranges (result_value is.computed.request.statement is.computed.entries is.computed.ranges) text) ranges_are
-      (same_text ring path shape (value_at ring entries.list) (result_value is.computed.request.statement is.computed.entries is.computed.ranges) text
+      (subst (λ ranges. IsResultText ring path ranges
+      (result_value is.computed.request.statement is.computed.entries is.computed.ranges) text) ranges_are
+      (same_text ring path shape (value_at ring entries.list)
+      (result_value is.computed.request.statement is.computed.entries is.computed.ranges) text
       is.tensor.values_are text_is))
 
   pub written : WritesResult ring path shape (value_at ring entries.list) between files' out out' → IsWritten words files files' out out'

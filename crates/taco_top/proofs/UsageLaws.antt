@@ -79,7 +79,8 @@ module _ (words : List (List ℕ)) (files files' : FolderState) (out out' : Sink
         by (text, rest, line, is) = absurd (never line)
     found (Some (fault.Named s (named.Name why))) cause = by cause.stops.refused
       where
-        by : IsRefusedByWords words (fault.Named s (named.Name why)) → (named_status (named.Name why) ≡ 2) ⊎ (named_status (named.Name why) ≡ 5)
+        by : IsRefusedByWords words (fault.Named s (named.Name why))
+            → (named_status (named.Name why) ≡ 2) ⊎ (named_status (named.Name why) ≡ 5)
         by (text, rest, line, notation, is) = absurd (never line)
     found (Some (fault.Named s (named.Binding why))) cause = by cause.stops.refused
       where

@@ -107,12 +107,16 @@ module _ (words : List (List ℕ)) (files : FolderState) (whole : IsWhole words 
     told_there = ap (ranges_of whole.request.statement (given_at whole.request.given)) (bounds_same bounds ∙ ap bound_told bounds_are)
         ∙ whole.ranges_are
 
-    no_large_level : (tensor level count : ℕ) → IsTooLarge whole.request.statement whole.request.formats whole.request.given entries bounds tensor level count → ⊥
+    no_large_level : (tensor level count : ℕ)
+        → IsTooLarge whole.request.statement whole.request.formats whole.request.given entries bounds tensor level count → ⊥
     no_large_level tensor level count large =
         let same : large.ranges ≡ whole.ranges = ap (ok_of []) (sym large.ranges_are ∙ told_there) in
-        let fits_here = subst (λ es. AllLevelsFit whole.request.statement whole.request.formats es (slice_index whole.ranges)) (sym entries_are) whole.fits in
-        let fits_by = subst (λ rs. AllLevelsFit whole.request.statement whole.request.formats entries (slice_index rs)) (sym same) fits_here in
-        none_above (stored_sizes whole.request.statement whole.request.formats entries (slice_index large.ranges) tensor) level count large.first.first
+        let fits_here = subst (λ es. AllLevelsFit whole.request.statement whole.request.formats es (slice_index whole.ranges))
+        (sym entries_are) whole.fits in
+        let fits_by = subst (λ rs. AllLevelsFit whole.request.statement whole.request.formats entries (slice_index rs))
+        (sym same) fits_here in
+        none_above (stored_sizes whole.request.statement whole.request.formats entries (slice_index large.ranges) tensor)
+        level count large.first.first
         (fits_by tensor large.first.stands)
 
   operands_at : (new : FolderState) (r : Request) (entries : List Entries) (bounds : List (Vec Bound Global))
@@ -139,7 +143,8 @@ module _ (words : List (List ℕ)) (files : FolderState) (whole : IsWhole words 
         no_large_level new is.entries is.bounds (operands_at new is.request is.entries is.bounds is.operands) tensor level count
         (subst (λ q. IsTooLarge q.statement q.formats q.given is.entries is.bounds tensor level count)
         (request_is is.request is.operands.built.asks)
-        (subst (λ u. IsTooLarge u is.request.formats is.request.given is.entries is.bounds tensor level count) (sym is.statement_is) is.large))
+        (subst (λ u. IsTooLarge u is.request.formats is.request.given is.entries is.bounds tensor level count)
+        (sym is.statement_is) is.large))
 
     never_stops : (why : Fault) → Stops words files new why → why ≡ fault.Memory
     never_stops fault.Usage is = absurd (never_by_words fault.Usage is.refused)

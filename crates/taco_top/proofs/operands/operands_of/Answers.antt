@@ -40,7 +40,8 @@ returns-in-Err-BadFile-clause-refused g c = λ words built.
     c.as_slice.result.now (map (λ (path : Bor (List ℕ)). path.now) c.as_slice-2.result.now)
     (c.as_slice.ensures.value ∙ c.in_ok-orders.ensures)
     (ap (map (λ (path : Bor (List ℕ)). path.now)) c.as_slice-2.ensures.value ∙ c.in_ok-paths.ensures)
-    c.in-Err-BadFile.field-0 (operand.BadFile c.in-Err-BadFile.path c.in-Err-BadFile.line c.in-Err-BadFile.kind) same built c.in-Err-BadFile.ensures.refused
+    c.in-Err-BadFile.field-0 (operand.BadFile c.in-Err-BadFile.path c.in-Err-BadFile.line c.in-Err-BadFile.kind)
+    same built c.in-Err-BadFile.ensures.refused
 
 pub returns-clause-refused : goal.returns-clause-refused
 returns-clause-refused g c = λ words built.
