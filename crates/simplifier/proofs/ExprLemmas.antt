@@ -2,14 +2,16 @@
 use Rattle.std.specs.Prelude.{◌≡◌, ℕ, zero, suc, min, Option, Some, None, refl}
 use Rattle.std.specs.Prelude.{Result, Ok, Err, IfOk}
 use Rattle.std.specs.declared.alloc.AllocError.{AllocError}
-use Rattle.std.proofs.Common.{◌∙◌, ap, sym, subst}
+use Rattle.std.specs.Prelude.{◌==◌, true}
+use Rattle.std.proofs.lemmas.Bool.Decides.{nat_tests}
+use Rattle.std.proofs.Common.{arith, ◌∙◌, ap, sym, subst}
 use Rattle.kernel_code.specs.declared.syntax.Arr.{Arr}
 use Rattle.kernel_code.specs.declared.syntax.Op.{Op}
 use Rattle.kernel_code.specs.declared.syntax.Op.TheVariants.{Add, Sub, Mul, BitAnd, Less, Equal, NotEqual, And, Or}
 use Rattle.kernel_code.specs.declared.syntax.KExpr.{KExpr, Num, Var, At', Len, Bin', Min', Width', At, Bin, Min, Width}
 use Rattle.kernel_code.specs.Meaning.{State, value, apply_each, apply_both, width_of, word_at}
 use Rattle.kernel_code.proofs.Equations.{value_at, value_bin, value_min, value_width}
-use Rattle.simplifier.specs.Folded.{number_of}
+use Rattle.simplifier.specs.Folded.{number_of, is_zero}
 use Rattle.simplifier.specs.Same.{SameValue}
 
 pub number_is : (e : KExpr) (n : ℕ) → number_of e ≡ Some n → (s : State) → value e s ≡ Some n
@@ -125,3 +127,15 @@ built (Err x) e P h p = tt
 pub same_result : (r : Result KExpr AllocError) (e f : KExpr) → IfOk r (λ x. SameValue x e) → SameValue e f → IfOk r (λ x. SameValue x f)
 same_result (Ok x) e f h g = same_then x e f h g
 same_result (Err x) e f h g = tt
+
+zero_number : (n : ℕ) → (n == 0) ≡ true → Some n ≡ Some 0
+zero_number n h = let is : n ≡ 0 = grind (arith, nat_tests, h) in ap Some is
+
+pub zero_is : (e : KExpr) → is_zero e ≡ true → number_of e ≡ Some 0
+zero_is (Num n) h = zero_number n h
+zero_is (Var x) h = cc
+zero_is (At' a p i) h = cc
+zero_is (Len a) h = cc
+zero_is (Bin' o p a q b) h = cc
+zero_is (Min' p a q b) h = cc
+zero_is (Width' p e) h = cc

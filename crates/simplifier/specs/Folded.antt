@@ -1,7 +1,9 @@
 -- What isn't left in simple code: what numbers settle.
-use Rattle.std.specs.Prelude.{◌≡◌, ℕ, min, Option, Some, None}
+use Rattle.std.specs.Prelude.{◌≡◌, ℕ, min, Bool, false, ◌==◌, List, [], ◌∷◌, Option, Some, None}
 use Rattle.kernel_code.specs.declared.syntax.KExpr.{KExpr, Num, Var, At', Len, Bin', Min', Width', Row_of-KExpr, end_of-KExpr}
 use Rattle.kernel_code.specs.declared.syntax.KExpr.{more_of-KExpr}
+use Rattle.kernel_code.specs.declared.syntax.KStmt.{KStmt, Set, Combine, Put, AddTo, Push, Extend, Cut, Sort, SortSum, If', While'}
+use Rattle.kernel_code.specs.declared.syntax.KStmt.{Row_of-KStmt, end_of-KStmt, more_of-KStmt}
 use Rattle.kernel_code.specs.Meaning.{apply_each, apply_both, width_of}
 
 -- the number that an expression is, if it is one
@@ -13,6 +15,16 @@ number_of (Len a) = None
 number_of (Bin' o p a q b) = None
 number_of (Min' p a q b) = None
 number_of (Width' p e) = None
+
+-- whether an expression is the number 0
+abbrev pub is_zero : KExpr → Bool
+is_zero (Num n) = n == 0
+is_zero (Var x) = false
+is_zero (At' a p i) = false
+is_zero (Len a) = false
+is_zero (Bin' o p a q b) = false
+is_zero (Min' p a q b) = false
+is_zero (Width' p e) = false
 
 abbrev pub number_in : {m : _} → Row_of-KExpr m → Option ℕ
 number_in end_of-KExpr = None
@@ -36,3 +48,29 @@ abbrev mutual
 
 pub record SimpleExpr (e : KExpr) : Type 0 where
   pub folded : Folded e
+
+abbrev mutual
+  -- each expression is simple, no `if` has a number for a test, and no loop has 0
+  pub FoldedStep : KStmt → Type 0
+  FoldedStep (Set x e) = SimpleExpr e
+  FoldedStep (Combine x o e f) = SimpleExpr e × SimpleExpr f
+  FoldedStep (Put a i e) = SimpleExpr i × SimpleExpr e
+  FoldedStep (AddTo a i e) = SimpleExpr i × SimpleExpr e
+  FoldedStep (Push a e) = SimpleExpr e
+  FoldedStep (Extend a count e) = SimpleExpr count × SimpleExpr e
+  FoldedStep (Cut a e) = SimpleExpr e
+  FoldedStep (Sort g) = Unit {0}
+  FoldedStep (SortSum w) = Unit {0}
+  FoldedStep (If' e p first q second) = (number_of e ≡ None) × (SimpleExpr e × (FoldedRow first × FoldedRow second))
+  FoldedStep (While' k e p body) = (is_zero e ≡ false) × (SimpleExpr e × FoldedRow body)
+
+  pub FoldedRow : {m : _} → Row_of-KStmt m → Type 0
+  FoldedRow end_of-KStmt = Unit {0}
+  FoldedRow (more_of-KStmt s rest) = FoldedStep s × FoldedRow rest
+
+abbrev pub FoldedCode : List KStmt → Type 0
+FoldedCode [] = Unit {0}
+FoldedCode (s ∷ rest) = FoldedStep s × FoldedCode rest
+
+pub record SimpleCode (code : List KStmt) : Type 0 where
+  pub folded : FoldedCode code

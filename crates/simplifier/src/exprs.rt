@@ -1,6 +1,6 @@
 // Expressions.
 ghost use Rattle.std.specs.Prelude.{◌≡◌, IfOk};
-ghost use Rattle.simplifier.specs.Folded.{SimpleExpr, number_of};
+ghost use Rattle.simplifier.specs.Folded.{SimpleExpr, is_zero, number_of};
 ghost use Rattle.simplifier.specs.Same.{SameValue};
 
 use crate::words::{least, of_operands, width_of_operand};
@@ -15,6 +15,16 @@ pub(crate) fn number(e: &KExpr) -> Option<u64>
     match e {
         KExpr::Num(n) => Some(*n),
         _ => None,
+    }
+}
+
+/// Whether an expression is the number 0.
+pub(crate) fn is_zero(e: &KExpr) -> bool
+    ensures { result ≡ is_zero e.now }
+{
+    match e {
+        KExpr::Num(n) => *n == 0,
+        _ => false,
     }
 }
 

@@ -1,0 +1,12 @@
+use Rattle.kernel_code.specs.declared.syntax.KStmt.{AddTo}
+use Rattle.simplifier.proofs.CodeLemmas.{same_add_to, added, added_simple}
+use Rattle.simplifier.proofs.steps.add_sum.Goals as goal
+
+pub returns-clause-same : goal.returns-clause-same
+returns-clause-same c =
+    added c.push.result c.push.new.self c.args.out.now (AddTo c.args.array c.in_ok-index.index c.in_ok-e.e) (AddTo c.args.array c.args.index.now c.args.e.now) c.push.ensures.ok
+    (same_add_to c.args.array c.in_ok-index.index c.in_ok-e.e c.args.index.now c.args.e.now c.in_ok-index.ensures.same c.in_ok-e.ensures.same)
+
+pub returns-clause-simple : goal.returns-clause-simple
+returns-clause-simple c =
+    added_simple c.push.result c.push.new.self c.args.out.now (AddTo c.args.array c.in_ok-index.index c.in_ok-e.e) c.push.ensures.ok (c.in_ok-index.ensures.folded, c.in_ok-e.ensures.folded)
