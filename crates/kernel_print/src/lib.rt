@@ -11,4 +11,4 @@ mod statements;
 mod tests;
 
 pub use kernels::put_kernel;
-pub use laws::{names_tell_arrays, texts_tell_exprs};
+pub use laws::{names_tell_arrays, texts_tell_exprs, texts_tell_kernels};
