@@ -8,7 +8,8 @@ use Rattle.std.proofs.lemmas.Fmt.{digits_decimal, decimal_nonempty}
 use Rattle.kernel_code.specs.declared.syntax.Arr.{Arr}
 use Rattle.kernel_code.specs.declared.syntax.Arr.TheVariants as array
 use Rattle.kernel_code.specs.declared.syntax.Kernel.{Kernel}
-use Rattle.kernel_code.specs.declared.syntax.KStmt.{KStmt, map-KStmt, Set, Combine, Put, AddTo, Push, Extend, Cut, Sort, SortSum, If', While'}
+use Rattle.kernel_code.specs.declared.syntax.KStmt.{KStmt, map-KStmt, Set, Combine, Put, AddTo, Push, Extend, Cut, Sort, SortSum}
+use Rattle.kernel_code.specs.declared.syntax.KStmt.{If', While'}
 use Rattle.kernel_code.specs.declared.syntax.KStmt.TheVariants.{rolls-Set, rolls-Combine, rolls-Put, rolls-AddTo, rolls-Push, rolls-Extend}
 use Rattle.kernel_code.specs.declared.syntax.KStmt.TheVariants.{rolls-Cut, rolls-Sort, rolls-SortSum, rolls-If, rolls-While}
 use Rattle.kernel_code.specs.declared.syntax.KStmt.TheFolds.{ind-KStmt}
@@ -169,7 +170,8 @@ lists_are_told : (more first n : ℕ) (behind : List ℕ) → more ≤ n → IsW
     → lists_told n (lists_text first more ++ behind) ≡ (more, behind)
 lists_are_told zero first zero behind small word other = refl
 lists_are_told zero first (suc n) behind small word other =
-    ap (λ (b : Bool). if b then lists_end (lists_told n) (number_in (drop 11 behind)) (behind_digits (drop 11 behind)) else (0, behind)) other
+    ap (λ (b : Bool). if b then lists_end (lists_told n) (number_in (drop 11 behind)) (behind_digits (drop 11 behind))
+    else (0, behind)) other
 lists_are_told (suc more) first zero behind small word other = absurd (omega (arith, small))
 lists_are_told (suc more) first (suc n) behind small word other =
     let read = lists_told n in
@@ -209,7 +211,8 @@ kernel_is_told k n small words =
     let few : length k.workspaces ≤ n = omega (arith, small) in
     let few_lists : k.lists ≤ n = omega (arith, small) in
     let few_parts : code_size k.body ≤ n = omega (arith, small) in
-    ap (kernel_workspaces n) (workspaces_are_told k.workspaces 0 n (lists_text 0 k.lists ++ end) few (from_zero (length k.workspaces) words.workspaces) words.keys
+    ap (kernel_workspaces n) (workspaces_are_told k.workspaces 0 n (lists_text 0 k.lists ++ end) few
+    (from_zero (length k.workspaces) words.workspaces) words.keys
     (lists_other k.lists end other.0))
     ∙ ap (kernel_lists n k.workspaces) (lists_are_told k.lists 0 n end few_lists (from_zero k.lists words.lists) other.1)
     ∙ ap (kernel_end k.workspaces k.lists) (code_is_told k.body n 0 (10 ∷ []) few_parts words.body)

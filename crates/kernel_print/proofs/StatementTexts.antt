@@ -14,7 +14,8 @@ use Rattle.kernel_code.specs.declared.syntax.LoopKind.TheVariants as kind
 use Rattle.kernel_code.specs.declared.syntax.ValueOp.{ValueOp}
 use Rattle.kernel_code.specs.declared.syntax.ValueOp.TheVariants as value_op
 use Rattle.kernel_code.specs.declared.syntax.KExpr.{KExpr, Num, Var, Len, At', Bin', Min', Width'}
-use Rattle.kernel_code.specs.declared.syntax.KStmt.{KStmt, Set, Combine, Put, AddTo, Push, Extend, Cut, Sort, SortSum, If, While, If', While'}
+use Rattle.kernel_code.specs.declared.syntax.KStmt.{KStmt, Set, Combine, Put, AddTo, Push, Extend, Cut, Sort, SortSum, If, While}
+use Rattle.kernel_code.specs.declared.syntax.KStmt.{If', While'}
 use Rattle.kernel_code.specs.declared.syntax.KStmt.{Row_of-KStmt, end_of-KStmt, more_of-KStmt, items-the_row-KStmt}
 use Rattle.kernel_code.specs.declared.syntax.KStmt.{items_hidden-the_row-KStmt-0}
 use Rattle.kernel_code.specs.declared.syntax.KStmt.TheBlock.{hidden-the_row-KStmt-0}
@@ -22,7 +23,8 @@ use Rattle.text_lines.proofs.NumberLaws.{digits_model}
 use Rattle.kernel_print.specs.ArrayNames.{IsWord, HasWords, BeginsWithoutDigit}
 use Rattle.kernel_print.specs.ExprTexts.{ExprHasWords}
 use Rattle.kernel_print.specs.KernelTexts.{StatementHasWords, RowHasWords, CodeHasWords}
-use Rattle.kernel_print.specs.Text.{array_text, expr_text, boxed_text, indentation, kind_text, combining_text, statement_text, statements_text}
+use Rattle.kernel_print.specs.Text.{array_text, expr_text, boxed_text, indentation, kind_text, combining_text, statement_text}
+use Rattle.kernel_print.specs.Text.{statements_text}
 use Rattle.kernel_print.proofs.ArrayNames.{number_in, behind_digits, second_byte, told, told_name, cut_number, second_digit, all_first}
 use Rattle.kernel_print.proofs.Equations.{if_text, while_text}
 use Rattle.kernel_print.proofs.ExprTexts.{Read, expr_told, size, expr_is_told}
@@ -441,7 +443,8 @@ blanks_left (suc depth) text = blanks_left depth text
 pub nothing_told : CodeTold []
 nothing_told zero depth behind small words = absurd (omega (arith, small))
 nothing_told (suc n) depth behind small words =
-    ap (λ (t : List ℕ). code_at t (statement_told (expr_told n) (code_told n (suc depth))) (code_told n depth)) (behind_is depth (125 ∷ behind))
+    ap (λ (t : List ℕ). code_at t (statement_told (expr_told n) (code_told n (suc depth))) (code_told n depth))
+    (behind_is depth (125 ∷ behind))
 
 fits_rest : (a b n : ℕ) → suc (a + b) ≤ suc n → a + b ≤ n
 fits_rest a b n small = omega (arith, small)
@@ -461,5 +464,6 @@ more_told s rest ts tr (suc n) depth behind small words =
     ap (code_told (suc n) depth) (append_assoc (indentation (suc depth)) (t ++ r) end
     ∙ ap (λ (x : List ℕ). indentation (suc depth) ++ x) (append_assoc t r end))
     ∙ ap (λ (x : List ℕ). code_at x statement code) (blanks_left depth (t ++ (r ++ end)))
-    ∙ ap (λ (x : KStmt × List ℕ). code_rest x code) (ts n (suc depth) (r ++ end) (le_left (statement_size s) (code_size rest) n fits) words.0)
+    ∙ ap (λ (x : KStmt × List ℕ). code_rest x code)
+    (ts n (suc depth) (r ++ end) (le_left (statement_size s) (code_size rest) n fits) words.0)
     ∙ ap (λ (x : List KStmt × List ℕ). (s ∷ x.0, x.1)) (tr n depth behind (le_right (statement_size s) (code_size rest) n fits) words.1)

@@ -46,6 +46,7 @@ abbrev mutual
   Folded_in end_of-KExpr = Unit {0}
   Folded_in (more_of-KExpr e rest) = Folded e
 
+-- an expression in which numbers settle nothing
 pub record SimpleExpr (e : KExpr) : Type 0 where
   pub folded : Folded e
 
@@ -72,5 +73,6 @@ abbrev pub FoldedCode : List KStmt → Type 0
 FoldedCode [] = Unit {0}
 FoldedCode (s ∷ rest) = FoldedStep s × FoldedCode rest
 
+-- statements in which numbers settle nothing
 pub record SimpleCode (code : List KStmt) : Type 0 where
   pub folded : FoldedCode code

@@ -19,8 +19,8 @@ pub record SameRuns (a b : List KStmt) : Type 0 where
   pub from : (c : Setting) (n : ℕ) (s : State) → run_list c n a s ≡ run_list c n b s
 
 -- Two kernels have the same workspaces and scratch lists, and on the same arrays, within the same number of turns in all, their
--- runs end alike: they finish with the same arrays and turns, are stuck, are refused a growth at the same place with the same
--- count, or don't finish.
+-- runs end alike: they finish with the same arrays and as many turns of each kind, are stuck, are refused a growth at the same
+-- place with the same count, or don't finish.
 pub record SameKernel (j k : Kernel) : Type 0 where
   pub workspaces : j.workspaces ≡ k.workspaces
   pub lists : j.lists ≡ k.lists

@@ -13,8 +13,8 @@ add_loop-returns-then-is_zero-clause-same t c = no_loop c.args.out.now c.args.ki
 pub add_loop-returns-clause-same : goal.add_loop-returns-clause-same
 add_loop-returns-clause-same t c =
     let new = c.in_ok-body in
-    added c.push.result c.push.new.self c.args.out.now (While c.args.kind c.args.test new.body) (While c.args.kind c.args.test c.args.body.now)
-    c.push.ensures.ok
+    let old = While c.args.kind c.args.test c.args.body.now in
+    added c.push.result c.push.new.self c.args.out.now (While c.args.kind c.args.test new.body) old c.push.ensures.ok
     (same_while c.args.kind c.args.test c.args.test new.body c.args.body.now (same_value c.args.test) new.ensures.same)
 
 pub add_loop-returns-clause-simple : goal.add_loop-returns-clause-simple

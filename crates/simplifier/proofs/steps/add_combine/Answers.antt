@@ -4,9 +4,16 @@ use Rattle.simplifier.proofs.steps.add_combine.Goals as goal
 
 pub returns-clause-same : goal.returns-clause-same
 returns-clause-same c =
-    added c.push.result c.push.new.self c.args.out.now (Combine c.args.x c.args.op c.in_ok-e.e c.in_ok-f.f) (Combine c.args.x c.args.op c.args.e.now c.args.f.now) c.push.ensures.ok
-    (same_combine c.args.x c.args.op c.in_ok-e.e c.in_ok-f.f c.args.e.now c.args.f.now c.in_ok-e.ensures.same c.in_ok-f.ensures.same)
+    let first = c.in_ok-e in
+    let second = c.in_ok-f in
+    let new = Combine c.args.x c.args.op first.e second.f in
+    let old = Combine c.args.x c.args.op c.args.e.now c.args.f.now in
+    added c.push.result c.push.new.self c.args.out.now new old c.push.ensures.ok
+    (same_combine c.args.x c.args.op first.e second.f c.args.e.now c.args.f.now first.ensures.same second.ensures.same)
 
 pub returns-clause-simple : goal.returns-clause-simple
 returns-clause-simple c =
-    added_simple c.push.result c.push.new.self c.args.out.now (Combine c.args.x c.args.op c.in_ok-e.e c.in_ok-f.f) c.push.ensures.ok (c.in_ok-e.ensures.folded, c.in_ok-f.ensures.folded)
+    let first = c.in_ok-e in
+    let second = c.in_ok-f in
+    let new = Combine c.args.x c.args.op first.e second.f in
+    added_simple c.push.result c.push.new.self c.args.out.now new c.push.ensures.ok (first.ensures.folded, second.ensures.folded)

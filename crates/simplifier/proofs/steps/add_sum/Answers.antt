@@ -4,9 +4,16 @@ use Rattle.simplifier.proofs.steps.add_sum.Goals as goal
 
 pub returns-clause-same : goal.returns-clause-same
 returns-clause-same c =
-    added c.push.result c.push.new.self c.args.out.now (AddTo c.args.array c.in_ok-index.index c.in_ok-e.e) (AddTo c.args.array c.args.index.now c.args.e.now) c.push.ensures.ok
-    (same_add_to c.args.array c.in_ok-index.index c.in_ok-e.e c.args.index.now c.args.e.now c.in_ok-index.ensures.same c.in_ok-e.ensures.same)
+    let first = c.in_ok-index in
+    let second = c.in_ok-e in
+    let new = AddTo c.args.array first.index second.e in
+    let old = AddTo c.args.array c.args.index.now c.args.e.now in
+    added c.push.result c.push.new.self c.args.out.now new old c.push.ensures.ok
+    (same_add_to c.args.array first.index second.e c.args.index.now c.args.e.now first.ensures.same second.ensures.same)
 
 pub returns-clause-simple : goal.returns-clause-simple
 returns-clause-simple c =
-    added_simple c.push.result c.push.new.self c.args.out.now (AddTo c.args.array c.in_ok-index.index c.in_ok-e.e) c.push.ensures.ok (c.in_ok-index.ensures.folded, c.in_ok-e.ensures.folded)
+    let first = c.in_ok-index in
+    let second = c.in_ok-e in
+    let new = AddTo c.args.array first.index second.e in
+    added_simple c.push.result c.push.new.self c.args.out.now new c.push.ensures.ok (first.ensures.folded, second.ensures.folded)
