@@ -25,7 +25,7 @@ use Rattle.kernel_print.specs.ExprTexts.{ExprHasWords, TextsTellExprs}
 use Rattle.kernel_print.specs.Text.{array_text, operator_text, expr_text}
 use Rattle.kernel_print.proofs.ArrayNames.{number_in, behind_digits, second_byte, told, told_name, cut_number, second_digit, all_first}
 
-abbrev Read : Type 0
+abbrev pub Read : Type 0
 Read = List ℕ → KExpr × List ℕ
 
 -- an operator and what stands behind it
@@ -100,13 +100,13 @@ other_told read byte text =
     else at_told read (told (byte ∷ text))))))
 
 -- the expression in front of a text, nested so deep at most
-abbrev expr_told : ℕ → Read
+abbrev pub expr_told : ℕ → Read
 expr_told zero text = (Num 0, [])
 expr_told (suc n) [] = (Num 0, [])
 expr_told (suc n) (byte ∷ text) = if is_ascii_digit byte then number_told (byte ∷ text) else other_told (expr_told n) byte text
 
 abbrev mutual
-  size : KExpr → ℕ
+  pub size : KExpr → ℕ
   size (Num n) = 1
   size (Var x) = 1
   size (At' a p i) = suc (boxed_size i)
@@ -115,7 +115,7 @@ abbrev mutual
   size (Min' p a q b) = suc (boxed_size a + boxed_size b)
   size (Width' p e) = suc (boxed_size e)
 
-  boxed_size : {m : _} → Row_of-KExpr m → ℕ
+  pub boxed_size : {m : _} → Row_of-KExpr m → ℕ
   boxed_size end_of-KExpr = 0
   boxed_size (more_of-KExpr e rest) = size e
 

@@ -1,4 +1,5 @@
 pub mod ArrayNames
 pub mod ExprTexts
+pub mod KernelTexts
 pub mod Prints
 pub mod Text

@@ -7,8 +7,6 @@ mod kernels;
 mod laws;
 mod names;
 mod statements;
-#[cfg(test)]
-mod tests;
 
 pub use kernels::put_kernel;
-pub use laws::{names_tell_arrays, texts_tell_exprs};
+pub use laws::{names_tell_arrays, texts_tell_exprs, texts_tell_kernels};

@@ -1,0 +1,30 @@
+// Kernels.
+ghost use Rattle.std.specs.Prelude.{◌≡◌, IfOk};
+ghost use Rattle.simplifier.specs.Folded.{SimpleCode};
+ghost use Rattle.simplifier.specs.Same.{SameKernel, SameRuns};
+
+use crate::code::simplify_code;
+use kernel_code::Kernel;
+use std::alloc::{AllocError, Global};
+
+/// A kernel that does the same, in which numbers are folded, an `if` on a number is the body that it takes, and a loop on 0 is
+/// gone. What is stuck stays stuck: an operand that isn't evaluated may be dropped, one that is evaluated and may be stuck
+/// isn't. Refused only for want of memory. It takes time linear in the kernel's size, and calls itself as deep as the kernel's
+/// statements and expressions are nested.
+pub fn simplify(alloc: Global, kernel: Kernel) -> Result<Kernel, AllocError>
+    ensures code { IfOk result (λ simple. SameRuns simple.body kernel.body) }
+    ensures runs { IfOk result (λ simple. SameKernel simple kernel) }
+    ensures simple { IfOk result (λ simple. SimpleCode simple.body) }
+{
+    let Kernel {
+        workspaces,
+        lists,
+        body,
+    } = kernel;
+    let body = simplify_code(alloc, body.as_slice())?;
+    Ok(Kernel {
+        workspaces,
+        lists,
+        body,
+    })
+}
