@@ -1,0 +1,4 @@
+pub mod Contributions
+pub mod Nesting
+pub mod Nests
+pub mod Right

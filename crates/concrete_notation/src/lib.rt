@@ -1,0 +1,8 @@
+//! Concrete notation: a statement as a tree of loops. `specs/Contributions.antt` says what such a tree contributes to the
+//! result, `specs/Right.antt` when it is right for a statement, and `concretize` makes one.
+#![tactic(auto)]
+
+mod concrete;
+mod nesting;
+
+pub use concrete::Concrete;
