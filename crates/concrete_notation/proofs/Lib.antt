@@ -1,6 +1,12 @@
+pub mod Around
 pub mod LoopSums
 pub mod LoopSupports
+pub mod Made
 pub mod Pinned
 pub mod Points
+pub mod Right
+pub mod SomeTerm
+pub mod Somes
 pub mod SumsOf
+pub mod Through
 pub mod Trees

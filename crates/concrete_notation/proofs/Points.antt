@@ -173,3 +173,12 @@ numbers_distinct n (suc count) =
 pub number_below : (count w : ℕ) → contains (numbers_from 0 count) w ≡ true → w < count
 number_below count w = each_contained (λ v. v < count) (numbers_from 0 count) (each_number (λ v. v < count) 0 count (λ v above below. omega
     (arith, below))) w
+
+-- the same variables in another order
+pub turned : (vs ws : List ℕ) → ((v : ℕ) → contains vs v ≡ contains ws v) → (xs : List ℕ)
+    → point_of ws (map (point_of vs xs) ws) ≡ point_of vs xs
+turned vs ws are xs = λ i w. at w (contains ws w) refl i
+  where
+    at : (w : ℕ) (b : Bool) → contains ws w ≡ b → point_of ws (map (point_of vs xs) ws) w ≡ point_of vs xs w
+    at w true is = point_of_map (point_of vs xs) ws w is
+    at w false is = point_elsewhere ws (map (point_of vs xs) ws) w is ∙ sym (point_elsewhere vs xs w (are w ∙ is))

@@ -1,10 +1,12 @@
 -- A term in its loops, alone and put behind others.
-use Rattle.std.specs.Prelude.{◌≡◌, ℕ, Bool, false, if◌then◌else◌, List, [], ◌∷◌, ◌++◌}
+use Rattle.std.specs.Prelude.{◌≡◌, ℕ, Bool, false, if◌then◌else◌, List, [], ◌∷◌, ◌++◌, map, Option, None, Some}
 use Rattle.std.specs.List.Sorted.{IsPermutation}
+use Rattle.index_notation.specs.declared.syntax.Statement.{Statement}
 use Rattle.expr_terms.specs.Terms.{contains}
+use Rattle.expr_terms.specs.declared.group.Group.{Group}
 use Rattle.expr_terms.specs.declared.term.Term.{Term}
 use Rattle.concrete_notation.specs.declared.concrete.Concrete.{Concrete}
-use Rattle.concrete_notation.specs.Nests.{Nest, nests, workspaces, next_loops, SharesLoops}
+use Rattle.concrete_notation.specs.Nests.{Nest, nests, workspaces, next_loops, SharesLoops, loops_of}
 
 abbrev pub nest_in : List ℕ → Term → Nest
 nest_in loops t = record { loops = loops; term = t }
@@ -36,3 +38,26 @@ pub record IsPut (loops : List ℕ) (t : Term) (before after : Concrete) : Type 
   pub plain : workspaces after ≡ workspaces before
   pub next : next_loops after ≡ with_next (next_loops before) loops
   pub shared : SharesLoops before → SharesLoops after
+
+-- the terms with their loops, the workspaces and the loops side by side of what is made so far, if anything is
+abbrev pub nests_made : Option Concrete → List Nest
+nests_made None = []
+nests_made (Some c) = nests c
+
+abbrev pub workspaces_made : Option Concrete → List (List ℕ)
+workspaces_made None = []
+workspaces_made (Some c) = workspaces c
+
+abbrev pub SharesMade : Option Concrete → Type 0
+SharesMade None = Unit {0}
+SharesMade (Some c) = SharesLoops c
+
+-- of these terms in their loops, and no others, something is made
+pub record IsMade (done : List Nest) (made : Option Concrete) : Type 0 where
+  pub terms : IsPermutation done (nests_made made)
+  pub plain : workspaces_made made ≡ []
+  pub shared : SharesMade made
+
+-- the terms of a group in their loops
+abbrev pub nests_of_group : Statement → List ℕ → Group → List Nest
+nests_of_group s order g = map (nest_in (loops_of s order g.vars)) g.terms

@@ -81,7 +81,7 @@ nest_of s order t = record { loops = loops_of s order (own_variables s t); term 
 
 -- the left variables in loop order
 abbrev pub left_in_order : Statement → List ℕ → List ℕ
-left_in_order s order = filter (contains s.left.vars) order
+left_in_order s order = loops_of s order []
 
 -- the concrete statement has each term of the statement once, and no other, in its loops
 abbrev pub HasTerms : Statement → List ℕ → Concrete → Type 0

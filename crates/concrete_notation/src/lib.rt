@@ -4,5 +4,7 @@
 
 mod concrete;
 mod nesting;
+mod statement_loops;
 
 pub use concrete::Concrete;
+pub use statement_loops::concretize;
