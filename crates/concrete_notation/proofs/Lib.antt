@@ -2,6 +2,7 @@ pub mod Around
 pub mod LoopSums
 pub mod LoopSupports
 pub mod Made
+pub mod Orders
 pub mod Pinned
 pub mod Points
 pub mod Right

@@ -1,15 +1,16 @@
 -- The row of the sums of pairs has their coordinates, each once and in increasing order, with the sums of their values.
-use Rattle.std.specs.Prelude.{◌≡◌, ◌⊎◌, ◌↔◌, ℕ, Bool, true, false, nat_eq, List, [], ◌∷◌, map, refl}
+use Rattle.std.specs.Prelude.{◌≡◌, ◌⊎◌, ◌↔◌, ℕ, suc, ◌<◌, Bool, true, false, nat_eq, List, [], ◌∷◌, All, length, map, refl}
 use Rattle.std.specs.declared.cmp.Ordering.{Ordering}
 use Rattle.std.specs.declared.cmp.Ordering.TheVariants.{Less, Equal, Greater}
 use Rattle.std.specs.Ordering.{nat_cmp, MatchOrdering}
 use Rattle.std.specs.Cmp.Lexicographic.{pointwise, slice_cmp}
-use Rattle.std.proofs.Common.{◌∙◌, sym, ap, subst, inl, inr}
+use Rattle.std.proofs.Common.{◌∙◌, sym, ap, subst, arith, inl, inr}
+use Rattle.std.proofs.lemmas.List.Elements.{All-nil, All-cons}
 use Rattle.numbers.specs.Arithmetic.{Arithmetic, Laws}
 use Rattle.lists.specs.Each.{Each}
 use Rattle.tensor_map.specs.declared.entries.Entry.{Entry}
 use Rattle.tensor_map.specs.Order.{IsBefore, IsBeforeAll}
-use Rattle.tensor_map.specs.Entries.{coords_of, is_at, value_at, Listed, StrictlyIncreasing}
+use Rattle.tensor_map.specs.Entries.{IsEntry, coords_of, is_at, value_at, Listed, StrictlyIncreasing}
 use Rattle.tensor_map.specs.Laws.{same, other}
 use Rattle.tensor_map.proofs.OrderLaws.{compared_as, before_all_trans}
 use Rattle.tensor_map.proofs.Lemmas.{tested, value_here, value_elsewhere, value_cons}
@@ -171,3 +172,34 @@ are_sums a laws pairs = record {
   values = λ coords. sums_value a laws coords pairs;
   increasing = sums_increasing a pairs;
 }
+
+each_of_all : (P : Entry → Type 0) (rows : List Entry) → All P rows → Each P rows
+each_of_all P [] all = tt
+each_of_all P (row ∷ rows) all = (all 0 row (omega arith), each_of_all P rows (λ k d h. all (suc k) d (omega arith)))
+
+all_of_each : (P : Entry → Type 0) (rows : List Entry) → Each P rows → All P rows
+all_of_each P [] each = All-nil P
+all_of_each P (row ∷ rows) each = All-cons P row rows each.0 (all_of_each P rows each.1)
+
+-- sums of entries are entries
+put_entries : (a : Arithmetic) → Laws a → (keys : ℕ) (pair : Entry) (row : List Entry) → IsEntry keys pair → Each (IsEntry keys) row
+    → Each (IsEntry keys) (put_pair a pair row)
+put_entries a laws keys pair [] is each = (is, tt)
+put_entries a laws keys pair (first ∷ others) is each =
+    by (slice_cmp nat_cmp pair.coords first.coords) (put_entries a laws keys pair others is each.1)
+  where
+    by : (r : Ordering) → Each (IsEntry keys) (put_pair a pair others)
+        → Each (IsEntry keys) (put_by a r pair first others (put_pair a pair others))
+    by Less later = (is, each)
+    by Equal later =
+        (record { long = each.0.long; words = each.0.words; word = laws.plus_fits pair.value first.value }, each.1)
+    by Greater later = (each.0, later)
+
+sums_entries : (a : Arithmetic) → Laws a → (keys : ℕ) (pairs : List Entry) → Each (IsEntry keys) pairs → Each (IsEntry keys) (sums_of a pairs)
+sums_entries a laws keys [] each = tt
+sums_entries a laws keys (pair ∷ pairs) each =
+    put_entries a laws keys pair (sums_of a pairs) each.0 (sums_entries a laws keys pairs each.1)
+
+pub all_entries : (a : Arithmetic) → Laws a → (keys : ℕ) (pairs : List Entry) → All (IsEntry keys) pairs → All (IsEntry keys) (sums_of a pairs)
+all_entries a laws keys pairs all =
+    all_of_each (IsEntry keys) (sums_of a pairs) (sums_entries a laws keys pairs (each_of_all (IsEntry keys) pairs all))
