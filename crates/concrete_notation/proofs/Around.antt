@@ -1,13 +1,13 @@
 -- The loops of a term: the left variables and its own ones, each once.
-use Rattle.std.specs.Prelude.{◌≡◌, ℕ, ◌<◌, Bool, true, false, not, nat_eq, ◌||◌, ◌&&◌, List, [], ◌∷◌, ◌++◌, map, length, filter, refl}
+use Rattle.std.specs.Prelude.{◌≡◌, ℕ, ◌<◌, Bool, true, false, not, ◌||◌, ◌&&◌, List, ◌++◌, length, refl}
 use Rattle.std.proofs.Common.{◌∙◌, sym, ap, true≢false}
-use Rattle.index_notation.specs.Statement.{IsDistinct, IsNumbered, IsWellNamed, numbers_from}
+use Rattle.index_notation.specs.Statement.{IsDistinct, IsNumbered, numbers_from}
 use Rattle.index_notation.specs.declared.syntax.Statement.{Statement}
 use Rattle.expr_terms.specs.Terms.{contains, stands_in, is_own, own_variables}
 use Rattle.expr_terms.specs.declared.term.Term.{Term}
 use Rattle.concrete_notation.specs.Nests.{IsOrderOf, loops_of, left_in_order}
-use Rattle.concrete_notation.proofs.Points.{contains_filtered, contains_both, distinct_filtered, distinct_both, each_contained, neither}
-use Rattle.concrete_notation.proofs.Points.{numbers_distinct, number_below, or_first, or_second}
+use Rattle.concrete_notation.proofs.Points.{contains_filtered, contains_both, distinct_filtered, distinct_both, each_contained}
+use Rattle.concrete_notation.proofs.Points.{numbers_distinct, number_below}
 
 both_of : (b c : Bool) → (b && c) ≡ true → (b ≡ true) × (c ≡ true)
 both_of true c h = (refl, h)

@@ -9,5 +9,6 @@ pub mod Right
 pub mod SomeTerm
 pub mod Somes
 pub mod SumsOf
+pub mod TermsBelow
 pub mod Through
 pub mod Trees

@@ -1,6 +1,6 @@
 -- The coordinates to which loops contribute: those at which some term is present.
-use Rattle.std.specs.Prelude.{◌≡◌, ◌≢◌, ◌⊎◌, ℕ, zero, suc, ◌<◌, Bool, true, false, nat_eq, ◌||◌, if◌then◌else◌, List, [], ◌∷◌, ◌++◌, map, refl}
-use Rattle.std.proofs.Common.{◌∙◌, sym, ap, subst, arith, inl, inr, true≢false}
+use Rattle.std.specs.Prelude.{◌≡◌, ◌⊎◌, ℕ, zero, suc, ◌<◌, Bool, true, false, nat_eq, ◌||◌, if◌then◌else◌, List, [], ◌∷◌, ◌++◌, map, refl}
+use Rattle.std.proofs.Common.{◌∙◌, sym, ap, subst, arith, inl, inr}
 use Rattle.std.proofs.lemmas.Bool.{cases_eq, eqb-true, eqb-false, eq-eqb}
 use Rattle.numbers.specs.Arithmetic.{Arithmetic}
 use Rattle.tensor_map.specs.declared.entries.Entry.{Entry}
@@ -175,8 +175,11 @@ module _ (a : Arithmetic) (inputs : Inputs) (accesses : List Access) (target coo
     listed_loops (Add t) plain point (inr s) = absurd s
     listed_loops (Forall' v p body) plain point r =
         let w = inside_some (Reaches point) (λ x. Reaches (with_coordinate point v x)) v (inputs.ranges v) (nests_in body)
-        (λ n s. (s.at v, first_below inputs.ranges (IsThere n.term) v n.loops point s,
-        out_of_loop inputs.ranges (IsThere n.term) v n.loops point s)) r in
+        (λ n s. (
+          s.at v,
+          first_below inputs.ranges (IsThere n.term) v n.loops point s,
+          out_of_loop inputs.ranges (IsThere n.term) v n.loops point s,
+        )) r in
         below_listed (inputs.ranges v) (λ x. contributions_in a inputs accesses target body (with_coordinate point v x)) coords w.x w.below
         (listed_inside body plain (with_coordinate point v w.x) w.some)
     listed_loops (Both' p first q second) plain point r =

@@ -3,7 +3,7 @@ use Rattle.std.specs.Prelude.{◌≡◌, ℕ, ◌+◌, ◌<◌, List, [], ◌∷
 use Rattle.std.specs.List.{flat_map}
 use Rattle.std.specs.List.Sorted.{IsPermutation}
 use Rattle.std.proofs.Common.{◌∙◌, sym, ap, subst, append_assoc, get_or}
-use Rattle.std.proofs.lemmas.List.{append-nil, take_more, map-append}
+use Rattle.std.proofs.lemmas.List.{append-nil, take_more}
 use Rattle.std.proofs.lemmas.List.Concat.{flat_map-append}
 use Rattle.std.proofs.lemmas.List.Sorted.{IsPermutation-append_left, IsPermutation-to_front, IsPermutation-cons, IsPermutation-trans}
 use Rattle.std.proofs.lemmas.List.Sorted.{IsPermutation-map, IsPermutation-refl}
@@ -16,11 +16,11 @@ use Rattle.expr_terms.specs.Groups.{groups}
 use Rattle.expr_terms.specs.GroupLaws.{IsGroup}
 use Rattle.expr_terms.proofs.OneGroup.{all_terms_gathered, each_is_group}
 use Rattle.concrete_notation.specs.declared.concrete.Concrete.{Concrete}
-use Rattle.concrete_notation.specs.Nests.{Nest, nests, workspaces, SharesLoops, loops_of, nest_of, HasTerms}
+use Rattle.concrete_notation.specs.Nests.{Nest, nests, loops_of, nest_of}
 use Rattle.concrete_notation.specs.Nesting.{nest_in, nests_of_group, nests_made, workspaces_made, SharesMade, IsNest, IsPut, IsMade}
 use Rattle.concrete_notation.specs.Right.{IsSome}
 use Rattle.concrete_notation.proofs.LoopSums.{map_both}
-use Rattle.concrete_notation.proofs.SomeTerm.{has_term, AnyTerm}
+use Rattle.concrete_notation.proofs.SomeTerm.{has_term}
 use Rattle.concrete_notation.proofs.Somes.{some_moved, mapped_some}
 
 module _ (loops : List ℕ) (t : Term) (c : Concrete) (before : Option Concrete) (done : List Nest) where

@@ -1,6 +1,6 @@
 -- A loop order has each variable, and none twice.
-use Rattle.std.specs.Prelude.{◌≡◌, ◌≢◌, ℕ, zero, suc, ◌+◌, ◌<◌, Bool, true, nat_eq, ◌||◌, List, [], ◌∷◌, length, slice_index, slice_index_or, All, AllPairs, refl}
-use Rattle.std.proofs.Common.{◌∙◌, sym, ap, subst, arith}
+use Rattle.std.specs.Prelude.{◌≡◌, ◌≢◌, ℕ, zero, suc, ◌<◌, true, nat_eq, List, [], ◌∷◌, length, slice_index, refl}
+use Rattle.std.proofs.Common.{◌∙◌, ap, arith}
 use Rattle.std.proofs.lemmas.Bool.{eq-eqb}
 use Rattle.lists.specs.Each.{Each}
 use Rattle.index_notation.specs.Statement.{IsDistinct}
@@ -18,9 +18,10 @@ each_at P (x ∷ xs) h = (h 0 (omega arith), each_at P xs (λ k below. h (suc k)
 
 distinct_at : (xs : List ℕ) → ((j k : ℕ) → j < k → k < length xs → slice_index xs j ≢ slice_index xs k) → IsDistinct xs
 distinct_at [] h = tt
-distinct_at (x ∷ xs) h =
-    (each_at (λ y. x ≢ y) xs (λ k below. h 0 (suc k) (omega arith) (omega arith)),
-    distinct_at xs (λ j k before below. h (suc j) (suc k) (omega arith) (omega arith)))
+distinct_at (x ∷ xs) h = (
+  each_at (λ y. x ≢ y) xs (λ k below. h 0 (suc k) (omega arith) (omega arith)),
+  distinct_at xs (λ j k before below. h (suc j) (suc k) (omega arith) (omega arith)),
+)
 
 contains_at : (xs : List ℕ) (k v : ℕ) → k < length xs → slice_index xs k ≡ v → contains xs v ≡ true
 contains_at [] k v below is = absurd (omega arith)

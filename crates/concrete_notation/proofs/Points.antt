@@ -1,5 +1,5 @@
 -- Points that some variables' coordinates make, and lists of variables.
-use Rattle.std.specs.Prelude.{◌≡◌, ◌≢◌, ℕ, zero, suc, ◌+◌, ◌<◌, ◌≤◌, Bool, true, false, cond, nat_eq, if◌then◌else◌, ◌||◌, ◌&&◌}
+use Rattle.std.specs.Prelude.{◌≡◌, ◌≢◌, ℕ, zero, suc, ◌+◌, ◌<◌, Bool, true, false, cond, nat_eq, if◌then◌else◌, ◌||◌, ◌&&◌}
 use Rattle.std.specs.Prelude.{List, [], ◌∷◌, ◌++◌, length, map, filter, refl}
 use Rattle.std.proofs.Common.{◌∙◌, sym, ap, subst, arith, true≢false}
 use Rattle.std.proofs.lemmas.Bool.{eqb-true, eqb-false, eq-eqb}
@@ -76,9 +76,10 @@ below_long r (v ∷ vs) (x ∷ xs) below = let more = below_long r vs xs below.1
 
 pub all_below : (r p : ℕ → ℕ) (vs : List ℕ) → ((w : ℕ) → contains vs w ≡ true → p w < r w) → AreBelow (map p vs) (map r vs)
 all_below r p [] h = tt
-all_below r p (v ∷ vs) h =
-    (h v (or_first (nat_eq v v) (contains vs v) (eq-eqb v v refl)),
-    all_below r p vs (λ w there. h w (or_second (nat_eq v w) (contains vs w) there)))
+all_below r p (v ∷ vs) h = (
+  h v (or_first (nat_eq v v) (contains vs v) (eq-eqb v v refl)),
+  all_below r p vs (λ w there. h w (or_second (nat_eq v w) (contains vs w) there)),
+)
 
 pub map_long : {A B : Type 0} (f : A → B) (xs : List A) → length (map f xs) ≡ length xs
 map_long f [] = refl
@@ -161,9 +162,10 @@ apart_from_all v (w ∷ ws) h =
 pub distinct_both : (vs ws : List ℕ) → IsDistinct vs → IsDistinct ws → ((u : ℕ) → contains vs u ≡ true → contains ws u ≡ false)
     → IsDistinct (vs ++ ws)
 distinct_both [] ws first second apart = second
-distinct_both (v ∷ vs) ws first second apart =
-    (each_both (λ w. v ≢ w) vs ws first.0 (apart_from_all v ws (apart v (or_first (nat_eq v v) (contains vs v) (eq-eqb v v refl)))),
-    distinct_both vs ws first.1 second (λ u there. apart u (or_second (nat_eq v u) (contains vs u) there)))
+distinct_both (v ∷ vs) ws first second apart = (
+  each_both (λ w. v ≢ w) vs ws first.0 (apart_from_all v ws (apart v (or_first (nat_eq v v) (contains vs v) (eq-eqb v v refl)))),
+  distinct_both vs ws first.1 second (λ u there. apart u (or_second (nat_eq v u) (contains vs u) there)),
+)
 
 pub numbers_distinct : (n count : ℕ) → IsDistinct (numbers_from n count)
 numbers_distinct n zero = tt

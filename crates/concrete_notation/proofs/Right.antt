@@ -1,32 +1,29 @@
 -- A concrete statement that has each term of a statement once, in the loops over the left variables and its own ones, is right:
 -- by itself, and as the producer of a workspace that is keyed by the left variables.
-use Rattle.std.specs.Prelude.{◌≡◌, ◌≢◌, ◌⊎◌, ◌↔◌, ℕ, ◌<◌, Bool, true, false, cond, nat_eq, ◌||◌, List, [], ◌∷◌, ◌++◌, map, length, refl}
-use Rattle.std.specs.List.Sorted.{IsPermutation}
+use Rattle.std.specs.Prelude.{◌≡◌, ℕ, ◌<◌, Bool, true, false, cond, nat_eq, ◌||◌, List, [], ◌++◌, map, length, refl}
 use Rattle.std.specs.Cmp.Lexicographic.{pointwise}
-use Rattle.std.proofs.Common.{◌∙◌, sym, ap, subst, inl, inr, arith, true≢false}
+use Rattle.std.proofs.Common.{◌∙◌, sym, ap, subst}
 use Rattle.std.proofs.lemmas.List.Sorted.{IsPermutation-map, IsPermutation-sym}
-use Rattle.lists.specs.Each.{Each}
 use Rattle.numbers.specs.Arithmetic.{Arithmetic, Laws}
 use Rattle.numbers.specs.Sums.{total_of}
-use Rattle.tensor_map.specs.declared.entries.Entry.{Entry}
 use Rattle.tensor_map.specs.Entries.{value_at, Listed}
 use Rattle.tensor_map.proofs.Permutations.{total_permutation}
 use Rattle.index_notation.specs.Statement.{IsDistinct, IsNumbered, IsWellNamed}
 use Rattle.index_notation.specs.declared.syntax.Statement.{Statement}
 use Rattle.expr_terms.specs.Points.{point_of, sum_over}
 use Rattle.expr_terms.specs.Result.{AreBelow}
-use Rattle.expr_terms.specs.Terms.{terms, contains, own_variables, term_value, term_sum, statement_value}
+use Rattle.expr_terms.specs.Terms.{terms, contains, own_variables, term_value, term_sum}
 use Rattle.expr_terms.specs.declared.term.Term.{Term}
 use Rattle.expr_terms.proofs.PointLaws.{sum_over_order}
 use Rattle.workspaces.specs.PresenceLaws.{AreZeroElsewhere}
-use Rattle.concrete_notation.specs.declared.concrete.Concrete.{Concrete, Where}
-use Rattle.concrete_notation.specs.Contributions.{Inputs, contributions, with_coordinates, sums_of, passed_on}
-use Rattle.concrete_notation.specs.Nests.{Nest, nests, workspaces, IsOrderOf, loops_of, nest_of, left_in_order, HasTerms}
-use Rattle.concrete_notation.specs.Right.{IsSome, IsPresentAt, IsInSupport, whole_contributions, IsRight}
-use Rattle.concrete_notation.proofs.Around.{left_below, own_below, own_is_not_left, left_is_not_own, loops_distinct, loops_contain}
-use Rattle.concrete_notation.proofs.Around.{keys_distinct, keys_contain, around_distinct, around_contain}
+use Rattle.concrete_notation.specs.declared.concrete.Concrete.{Concrete}
+use Rattle.concrete_notation.specs.Contributions.{Inputs, contributions}
+use Rattle.concrete_notation.specs.Nests.{Nest, nests, workspaces, IsOrderOf, loops_of, nest_of, HasTerms}
+use Rattle.concrete_notation.specs.Right.{IsSome, IsPresentAt, IsInSupport, IsRight}
+use Rattle.concrete_notation.proofs.Around.{left_is_not_own, loops_distinct, loops_contain}
+use Rattle.concrete_notation.proofs.Around.{around_distinct, around_contain}
 use Rattle.concrete_notation.proofs.LoopSums.{nest_sum, loops_add, map_map}
-use Rattle.concrete_notation.proofs.LoopSupports.{Reaches, IsThere, SomePoint, loops_listed, listed_loops}
+use Rattle.concrete_notation.proofs.LoopSupports.{Reaches, loops_listed, listed_loops}
 use Rattle.concrete_notation.proofs.Pinned.{counted, same_totals, pinned}
 use Rattle.concrete_notation.proofs.Points.{point_elsewhere, point_of_map, coordinates_of, coordinate_below, below_long, all_below, from_zero}
 use Rattle.concrete_notation.proofs.Points.{neither, or_first, or_second, turned, map_long}
@@ -71,17 +68,18 @@ module _ (s : Statement) (numbered : IsNumbered s) (order : List ℕ) (ordered :
         → Reaches a inputs s.accesses keys ks (λ v. 0) (nest_of s order t) → IsThereBelow t
     reached at t r =
         let same : point_of s.left.vars coords ≡ point_of keys ks =
-        ap (point_of s.left.vars) at ∙ turned keys s.left.vars are ks in
-        (subst (λ cs. AreBelow cs (map inputs.ranges s.left.vars)) (sym at)
-        (all_below inputs.ranges (point_of keys ks) s.left.vars (λ w h. subst (λ x. x < inputs.ranges w) (here w h)
-        (r.below w (loops_contain s numbered order ordered t w ∙ or_first (contains s.left.vars w) (contains (own_variables s t) w) h)))),
-        record {
-          point = r.at;
-          chosen = λ v own. r.below v (loops_contain s numbered order ordered t v
-              ∙ or_second (contains s.left.vars v) (contains (own_variables s t) v) own);
-          others = λ v other. by same v other (contains s.left.vars v) refl;
-          present = r.holds.1;
-        })
+        ap (point_of s.left.vars) at ∙ turned keys s.left.vars are ks in (
+          subst (λ cs. AreBelow cs (map inputs.ranges s.left.vars)) (sym at)
+              (all_below inputs.ranges (point_of keys ks) s.left.vars (λ w h. subst (λ x. x < inputs.ranges w) (here w h)
+              (r.below w (loops_contain s numbered order ordered t w ∙ or_first (contains s.left.vars w) (contains (own_variables s t) w) h)))),
+          record {
+            point = r.at;
+            chosen = λ v own. r.below v (loops_contain s numbered order ordered t v
+                ∙ or_second (contains s.left.vars v) (contains (own_variables s t) v) own);
+            others = λ v other. by same v other (contains s.left.vars v) refl;
+            present = r.holds.1;
+          },
+        )
       where
         here : (w : ℕ) → contains s.left.vars w ≡ true → r.at w ≡ point_of keys ks w
         here w h = sym (point_of_map r.at keys w (are w ∙ h)) ∙ ap (λ xs. point_of keys xs w) r.holds.0
@@ -101,8 +99,11 @@ module _ (s : Statement) (numbered : IsNumbered s) (order : List ℕ) (ordered :
           let apart = neither (contains s.left.vars v) (contains (own_variables s t) v) (sym (loops_contain s numbered order ordered t v) ∙ out) in
           p.others v apart.1 ∙ point_elsewhere s.left.vars coords v apart.0;
       below = λ v inside. by v (sym (loops_contain s numbered order ordered t v) ∙ inside) (contains s.left.vars v) refl;
-      holds = (map_same p.point (point_of s.left.vars coords) keys
-          (λ v h. p.others v (left_is_not_own s numbered t v (sym (are v) ∙ h))) ∙ sym at, p.present);
+      holds = (
+        map_same p.point (point_of s.left.vars coords) keys
+            (λ v h. p.others v (left_is_not_own s numbered t v (sym (are v) ∙ h))) ∙ sym at,
+        p.present,
+      );
     }
       where
         by : (v : ℕ) → (contains s.left.vars v || contains (own_variables s t) v) ≡ true → (b : Bool) → contains s.left.vars v ≡ b
@@ -122,9 +123,10 @@ module _ (s : Statement) (numbered : IsNumbered s) (order : List ℕ) (ordered :
           (IsPermutation-sym (map (nest_of s order) (terms s.expr)) (nests c) has)
           (loops_listed a inputs s.accesses keys ks c plain (λ v. 0) listed)) in
           let there : IsSome IsThereBelow (terms s.expr) =
-          some_as (λ t. Reaches a inputs s.accesses keys ks (λ v. 0) (nest_of s order t)) IsThereBelow (terms s.expr) (reached at) some in
-          (some_is IsThereBelow (AreBelow coords (map inputs.ranges s.left.vars)) (terms s.expr) (λ t h. h.0) there,
-          some_as IsThereBelow (IsPresentAt s inputs coords) (terms s.expr) (λ t h. h.1) there)
+          some_as (λ t. Reaches a inputs s.accesses keys ks (λ v. 0) (nest_of s order t)) IsThereBelow (terms s.expr) (reached at) some in (
+            some_is IsThereBelow (AreBelow coords (map inputs.ranges s.left.vars)) (terms s.expr) (λ t h. h.0) there,
+            some_as IsThereBelow (IsPresentAt s inputs coords) (terms s.expr) (λ t h. h.1) there,
+          )
 
       pub support_listed : ks ≡ map (point_of s.left.vars coords) keys → IsInSupport s inputs coords
           → Listed (contributions a inputs s.accesses keys c (λ v. 0)) ks
@@ -148,10 +150,10 @@ plain_is_right s numbered named order ordered c plain has = record {
   values = λ a laws inputs elsewhere coords below. loops_value s numbered order ordered s.left.vars named.left_once (λ v. refl) a laws
       inputs elsewhere coords below c plain has;
   support = λ a inputs coords.
-      let long = listed_long s numbered order ordered s.left.vars named.left_once (λ v. refl) a inputs coords coords c plain has in
-      (
-      (λ listed. in_support s numbered order ordered s.left.vars named.left_once (λ v. refl) a inputs coords coords c plain has
-      (sym (coordinates_of s.left.vars coords named.left_once (long listed))) listed),
-      (λ support. support_listed s numbered order ordered s.left.vars named.left_once (λ v. refl) a inputs coords coords c plain has
-      (sym (coordinates_of s.left.vars coords named.left_once (below_long inputs.ranges s.left.vars coords support.0))) support));
+      let long = listed_long s numbered order ordered s.left.vars named.left_once (λ v. refl) a inputs coords coords c plain has in (
+        (λ listed. in_support s numbered order ordered s.left.vars named.left_once (λ v. refl) a inputs coords coords c plain has
+            (sym (coordinates_of s.left.vars coords named.left_once (long listed))) listed),
+        (λ support. support_listed s numbered order ordered s.left.vars named.left_once (λ v. refl) a inputs coords coords c plain has
+            (sym (coordinates_of s.left.vars coords named.left_once (below_long inputs.ranges s.left.vars coords support.0))) support),
+      );
 }

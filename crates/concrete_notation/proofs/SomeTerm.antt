@@ -1,5 +1,5 @@
 -- An expression has some term.
-use Rattle.std.specs.Prelude.{◌≡◌, List, map, refl}
+use Rattle.std.specs.Prelude.{map}
 use Rattle.std.proofs.Common.{sym, subst, inl}
 use denote.Hole.Carrier.{hidden}
 use Rattle.index_notation.specs.declared.syntax.Expr.{Expr, map-Expr, Num, Access as AccessOf, Add, Sub, Mul, Neg}

@@ -1,5 +1,5 @@
 -- Some element of a list, of a moved list and of a mapped one.
-use Rattle.std.specs.Prelude.{◌⊎◌, ℕ, zero, suc, ◌+◌, ◌<◌, List, [], ◌∷◌, length, map, Contains}
+use Rattle.std.specs.Prelude.{ℕ, zero, suc, ◌<◌, List, [], ◌∷◌, length, map, Contains}
 use Rattle.std.specs.List.Sorted.{IsPermutation}
 use Rattle.std.proofs.Common.{arith, inl, inr, refl, get_or, subst, sym}
 use Rattle.std.proofs.lemmas.List.Sorted.{Contains-permutation}

@@ -1,10 +1,10 @@
 -- The row of the sums of pairs has their coordinates, each once and in increasing order, with the sums of their values.
-use Rattle.std.specs.Prelude.{◌≡◌, ◌⊎◌, ◌↔◌, ℕ, suc, ◌<◌, Bool, true, false, nat_eq, List, [], ◌∷◌, All, length, map, refl}
+use Rattle.std.specs.Prelude.{◌≡◌, ◌⊎◌, ◌↔◌, ℕ, suc, true, false, nat_eq, List, [], ◌∷◌, All, refl}
 use Rattle.std.specs.declared.cmp.Ordering.{Ordering}
 use Rattle.std.specs.declared.cmp.Ordering.TheVariants.{Less, Equal, Greater}
 use Rattle.std.specs.Ordering.{nat_cmp, MatchOrdering}
 use Rattle.std.specs.Cmp.Lexicographic.{pointwise, slice_cmp}
-use Rattle.std.proofs.Common.{◌∙◌, sym, ap, subst, arith, inl, inr}
+use Rattle.std.proofs.Common.{◌∙◌, sym, ap, arith, inl, inr}
 use Rattle.std.proofs.lemmas.List.Elements.{All-nil, All-cons}
 use Rattle.numbers.specs.Arithmetic.{Arithmetic, Laws}
 use Rattle.lists.specs.Each.{Each}
@@ -48,41 +48,43 @@ put_listed a pair (first ∷ others) coords =
         → (Listed (put_by a r pair first others (put_pair a pair others)) coords ↔ ((pair.coords ≡ coords) ⊎ Listed (first ∷ others) coords))
     by Less is later = ((λ h. h), (λ h. h))
     by Equal is later = (
-        (λ h. inr h),
-        (λ h. elim h [
-          | inl here ↦ inl (sym is ∙ here)
-          | inr there ↦ there
-        ]))
+      (λ h. inr h),
+      (λ h. elim h [
+        | inl here ↦ inl (sym is ∙ here)
+        | inr there ↦ there
+      ]),
+    )
     by Greater is later = (
-        (λ h. elim h [
-          | inl here ↦ inr (inl here)
-          | inr there ↦ elim (later.0 there) [
-            | inl here ↦ inl here
-            | inr more ↦ inr (inr more)
-          ]
-        ]),
-        (λ h. elim h [
-          | inl here ↦ inr (later.1 (inl here))
-          | inr there ↦ elim there [
-            | inl here ↦ inl here
-            | inr more ↦ inr (later.1 (inr more))
-          ]
-        ]))
+      (λ h. elim h [
+        | inl here ↦ inr (inl here)
+        | inr there ↦ elim (later.0 there) [
+          | inl here ↦ inl here
+          | inr more ↦ inr (inr more)
+        ]
+      ]),
+      (λ h. elim h [
+        | inl here ↦ inr (later.1 (inl here))
+        | inr there ↦ elim there [
+          | inl here ↦ inl here
+          | inr more ↦ inr (later.1 (inr more))
+        ]
+      ]),
+    )
 
 pub sums_listed : (a : Arithmetic) (pairs : List Entry) (coords : List ℕ) → Listed (sums_of a pairs) coords ↔ Listed pairs coords
 sums_listed a [] coords = ((λ h. h), (λ h. h))
 sums_listed a (pair ∷ pairs) coords =
     let put = put_listed a pair (sums_of a pairs) coords in
-    let rest = sums_listed a pairs coords in
-    (
-    (λ h. elim (put.0 h) [
-      | inl here ↦ inl here
-      | inr there ↦ inr (rest.0 there)
-    ]),
-    (λ h. put.1 (elim h [
-      | inl here ↦ inl here
-      | inr there ↦ inr (rest.1 there)
-    ])))
+    let rest = sums_listed a pairs coords in (
+      (λ h. elim (put.0 h) [
+        | inl here ↦ inl here
+        | inr there ↦ inr (rest.0 there)
+      ]),
+      (λ h. put.1 (elim h [
+        | inl here ↦ inl here
+        | inr there ↦ inr (rest.1 there)
+      ])),
+    )
 
 module _ (a : Arithmetic) (laws : Laws a) (coords : List ℕ) where
   -- a pair adds its value

@@ -1,5 +1,5 @@
 -- Loops whose rows go through a workspace that is keyed by the left variables, in any order, are right too.
-use Rattle.std.specs.Prelude.{◌≡◌, ◌≢◌, ◌⊎◌, ◌↔◌, ℕ, Bool, true, false, nat_eq, List, [], ◌∷◌, map, length, refl}
+use Rattle.std.specs.Prelude.{◌≡◌, ◌↔◌, ℕ, Bool, true, false, nat_eq, List, [], ◌∷◌, map, length, refl}
 use Rattle.std.specs.Cmp.Lexicographic.{pointwise}
 use Rattle.std.proofs.Common.{◌∙◌, sym, ap, subst, inl, inr}
 use denote.Hole.Carrier.{hidden}
@@ -7,7 +7,7 @@ use Rattle.lists.specs.Each.{Each}
 use Rattle.numbers.specs.Arithmetic.{Arithmetic, Laws}
 use Rattle.numbers.specs.Sums.{total_of}
 use Rattle.tensor_map.specs.declared.entries.Entry.{Entry}
-use Rattle.tensor_map.specs.Entries.{is_at, value_at, Listed}
+use Rattle.tensor_map.specs.Entries.{value_at, Listed}
 use Rattle.tensor_map.specs.Laws.{same, other}
 use Rattle.tensor_map.proofs.Lemmas.{tested, at_itself, value_here, value_elsewhere}
 use Rattle.index_notation.specs.Statement.{IsDistinct, IsNumbered, IsWellNamed}
@@ -21,10 +21,9 @@ use Rattle.workspaces.specs.PresenceLaws.{AreZeroElsewhere}
 use Rattle.concrete_notation.specs.declared.concrete.Concrete.{Concrete, Where}
 use Rattle.concrete_notation.specs.declared.concrete.Concrete.TheBlock.{hidden-the_row-Concrete-0}
 use Rattle.concrete_notation.specs.Contributions.{Inputs, contributions, with_coordinates, sums_of, passed_on}
-use Rattle.concrete_notation.specs.Nests.{workspaces, IsOrderOf, left_in_order, HasTerms}
+use Rattle.concrete_notation.specs.Nests.{workspaces, IsOrderOf, HasTerms}
 use Rattle.concrete_notation.specs.Right.{IsInSupport, IsRight}
-use Rattle.concrete_notation.proofs.Around.{keys_distinct, keys_contain}
-use Rattle.concrete_notation.proofs.Points.{coordinates_of, coordinate_below, below_long, all_below, from_zero, turned, map_long}
+use Rattle.concrete_notation.proofs.Points.{coordinates_of, coordinate_below, below_long, all_below, from_zero, turned}
 use Rattle.concrete_notation.proofs.Right.{loops_value, in_support, support_listed, listed_long}
 use Rattle.concrete_notation.proofs.SumsOf.{sums_listed, sums_value}
 
@@ -131,17 +130,18 @@ module _ (s : Statement) (numbered : IsNumbered s) (named : IsWellNamed s) (orde
   keyed_support : (a : Arithmetic) (inputs : Inputs) (coords : List ℕ)
       → Listed (contributions a inputs s.accesses s.left.vars (Where keys c) (λ v. 0)) coords ↔ IsInSupport s inputs coords
   keyed_support a inputs coords = (
-      (λ listed.
-      let p = passed_from s.left.vars keys (sums_of a pairs) coords (subst (λ rows. Listed rows coords) rows_are listed) in
-      in_support s numbered order ordered keys once are a inputs coords p.ks c plain has
-      (sym p.is ∙ ap (λ q. map q s.left.vars) (from_zero keys p.ks)) ((sums_listed a pairs p.ks).0 p.listed)),
-      (λ support.
-      let ks : List ℕ = map (point_of s.left.vars coords) keys in
-      subst (λ rows. Listed rows coords) (sym rows_are)
-      (subst (Listed (map (passed_on s.left.vars (λ v. 0) keys) (sums_of a pairs)))
-      (back_and_forth s.left.vars keys named.left_once once are coords (below_long inputs.ranges s.left.vars coords support.0))
-      (passed_listed s.left.vars keys (sums_of a pairs) ks ((sums_listed a pairs ks).1
-      (support_listed s numbered order ordered keys once are a inputs coords ks c plain has refl support))))))
+    (λ listed.
+        let p = passed_from s.left.vars keys (sums_of a pairs) coords (subst (λ rows. Listed rows coords) rows_are listed) in
+        in_support s numbered order ordered keys once are a inputs coords p.ks c plain has
+        (sym p.is ∙ ap (λ q. map q s.left.vars) (from_zero keys p.ks)) ((sums_listed a pairs p.ks).0 p.listed)),
+    (λ support.
+        let ks : List ℕ = map (point_of s.left.vars coords) keys in
+        subst (λ rows. Listed rows coords) (sym rows_are)
+        (subst (Listed (map (passed_on s.left.vars (λ v. 0) keys) (sums_of a pairs)))
+        (back_and_forth s.left.vars keys named.left_once once are coords (below_long inputs.ranges s.left.vars coords support.0))
+        (passed_listed s.left.vars keys (sums_of a pairs) ks ((sums_listed a pairs ks).1
+        (support_listed s numbered order ordered keys once are a inputs coords ks c plain has refl support))))),
+  )
     where
       pairs : List Entry
       pairs = contributions a inputs s.accesses keys c (λ v. 0)

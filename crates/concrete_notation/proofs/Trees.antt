@@ -1,5 +1,5 @@
 -- What is so of a concrete statement that is made of its parts.
-use Rattle.std.specs.Prelude.{◌≡◌, ◌≢◌, ℕ, Bool, true, false, nat_eq, if◌then◌else◌, ◌||◌, List, [], ◌∷◌, ◌++◌, map, refl}
+use Rattle.std.specs.Prelude.{◌≡◌, ℕ, Bool, true, false, nat_eq, if◌then◌else◌, ◌||◌, List, [], ◌∷◌, ◌++◌, map, refl}
 use Rattle.std.specs.List.Sorted.{IsPermutation}
 use Rattle.std.proofs.Common.{◌∙◌, sym, ap, subst, append_assoc}
 use Rattle.std.proofs.lemmas.Bool.{eqb-true, eq-eqb}
@@ -12,7 +12,7 @@ use Rattle.expr_terms.specs.Terms.{contains}
 use Rattle.expr_terms.specs.declared.term.Term.{Term}
 use Rattle.concrete_notation.specs.declared.concrete.Concrete.{Concrete, Add as AddOf, Forall, Both, Where, Forall', Both', Where'}
 use Rattle.concrete_notation.specs.declared.concrete.Concrete.TheBlock.{hidden-the_row-Concrete-0}
-use Rattle.concrete_notation.specs.Nests.{Nest, inside, nests, workspaces, next_loops, SharesLoops}
+use Rattle.concrete_notation.specs.Nests.{inside, nests, workspaces, next_loops, SharesLoops}
 use Rattle.concrete_notation.specs.Nesting.{nest_in, next_of, shares, with_next, IsNest, IsPut}
 use Rattle.concrete_notation.proofs.Points.{contains_both, distinct_both, or_first}
 

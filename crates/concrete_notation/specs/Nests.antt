@@ -1,5 +1,5 @@
 -- Which loops stand around each term of a concrete statement, and which workspaces it has.
-use Rattle.std.specs.Prelude.{◌≡◌, ℕ, ◌<◌, Bool, true, ◌||◌, List, [], ◌∷◌, ◌++◌, map, filter}
+use Rattle.std.specs.Prelude.{◌≡◌, ℕ, ◌<◌, true, ◌||◌, List, [], ◌∷◌, ◌++◌, map, filter}
 use Rattle.std.specs.List.Sorted.{IsPermutation}
 use Rattle.index_notation.specs.Statement.{IsDistinct}
 use Rattle.index_notation.specs.declared.syntax.Statement.{Statement}
@@ -29,6 +29,10 @@ abbrev mutual
   pub nests_in : {m : _} → Row_of-Concrete m → List Nest
   nests_in end_of-Concrete = []
   nests_in (more_of-Concrete c rest) = nests c
+
+-- the terms of a concrete statement, in order
+abbrev pub terms_below : Concrete → List Term
+terms_below c = map (λ (nest : Nest). nest.term) (nests c)
 
 abbrev mutual
   -- the keys of each workspace, in order

@@ -1,4 +1,5 @@
-ghost use Rattle.std.specs.Prelude.{◌≡◌, IfOk};
+ghost use Rattle.std.specs.Prelude.{◌≡◌, ◌++◌, IfOk, OnOk};
+ghost use Rattle.concrete_notation.specs.Nests.{terms_below};
 
 use expr_terms::Term;
 use index_notation::copy_expr;
@@ -29,4 +30,33 @@ pub(crate) fn copy_term(alloc: Global, term: &Term) -> Result<Term, AllocError>
         negated: term.negated,
         expr,
     })
+}
+
+/// Puts the terms of a concrete statement at the end of a list.
+fn push_terms(alloc: Global, tree: &Concrete, list: &mut Items<Term>) -> Result<(), AllocError>
+    ensures { OnOk result (list.new ≡ list.old ++ terms_below tree.now) }
+{
+    match tree {
+        Concrete::Add(term) => {
+            let term = copy_term(alloc, term)?;
+            list.push(term)?;
+        }
+        Concrete::Forall(_, body) => push_terms(alloc, body.get(), list)?,
+        Concrete::Both(first, second) => {
+            push_terms(alloc, first.get(), list)?;
+            push_terms(alloc, second.get(), list)?;
+        }
+        Concrete::Where(_, body) => push_terms(alloc, body.get(), list)?,
+    }
+    Ok(())
+}
+
+/// The terms of a concrete statement, in order: of the body of a loop, those that stand below it. Refused only for want of
+/// memory.
+pub fn terms_below(alloc: Global, tree: &Concrete) -> Result<Items<Term>, AllocError>
+    ensures { IfOk result (λ list. list ≡ terms_below tree.now) }
+{
+    let mut list = Items::new(alloc);
+    push_terms(alloc, tree, &mut list)?;
+    Ok(list)
 }

@@ -1,4 +1,3 @@
-use Rattle.std.specs.Prelude.{◌≡◌}
 use Rattle.std.proofs.Common.{◌∙◌, sym, ap}
 use Rattle.expr_terms.specs.Terms.{contains}
 use Rattle.expr_terms.proofs.Made.{either_first, either_second}

@@ -1,5 +1,5 @@
-use Rattle.std.specs.Prelude.{◌≡◌, refl}
-use Rattle.std.proofs.Common.{◌∙◌, sym, ap, subst}
+use Rattle.std.specs.Prelude.{refl}
+use Rattle.std.proofs.Common.{sym, subst}
 use Rattle.concrete_notation.specs.declared.concrete.Concrete.{Forall}
 use Rattle.concrete_notation.specs.Nesting.{IsNest}
 use Rattle.concrete_notation.proofs.Trees.{nest_inside}

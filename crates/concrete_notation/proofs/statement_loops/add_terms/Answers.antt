@@ -1,5 +1,5 @@
 use Rattle.std.specs.Prelude.{[], ◌∷◌, ◌++◌, Some, map, take}
-use Rattle.std.proofs.Common.{◌∙◌, sym, ap, subst}
+use Rattle.std.proofs.Common.{subst}
 use Rattle.concrete_notation.specs.Nesting.{nest_in, IsMade}
 use Rattle.concrete_notation.proofs.Made.{next_term}
 use Rattle.concrete_notation.proofs.statement_loops.add_terms.Goals as goal

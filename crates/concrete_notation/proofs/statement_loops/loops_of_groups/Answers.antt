@@ -1,8 +1,8 @@
-use Rattle.std.specs.Prelude.{◌≡◌, ◌<◌, ◌++◌, length, map, take}
+use Rattle.std.specs.Prelude.{◌<◌, length, take}
 use Rattle.std.specs.List.{flat_map}
-use Rattle.std.proofs.Common.{◌∙◌, sym, ap, subst, get_or}
+use Rattle.std.proofs.Common.{◌∙◌, ap, subst, get_or}
 use Rattle.concrete_notation.specs.Nests.{loops_of}
-use Rattle.concrete_notation.specs.Nesting.{nest_in, nests_of_group, IsMade}
+use Rattle.concrete_notation.specs.Nesting.{nests_of_group}
 use Rattle.concrete_notation.proofs.Made.{next_group, group_as}
 use Rattle.concrete_notation.proofs.statement_loops.loops_of_groups.Goals as goal
 

@@ -1,7 +1,7 @@
-use Rattle.std.specs.Prelude.{◌≡◌, List, map, Option, None, Some, refl}
+use Rattle.std.specs.Prelude.{◌≡◌, map, Option, None, Some, refl}
 use Rattle.std.specs.List.Sorted.{IsPermutation}
 use Rattle.std.specs.Option.{IsSome}
-use Rattle.std.proofs.Common.{◌∙◌, sym, ap, subst}
+use Rattle.std.proofs.Common.{subst}
 use Rattle.expr_terms.specs.Terms.{terms}
 use Rattle.concrete_notation.specs.declared.concrete.Concrete.{Concrete}
 use Rattle.concrete_notation.specs.Nests.{nest_of}
