@@ -52,13 +52,15 @@ module _ (a : Arithmetic) (laws : Laws a) (coords : List ℕ) where
       ∙ laws.plus_comm (sum_below a n (λ x. value_at a (f x) coords)) (value_at a (f n) coords)
 
   module _ (inputs : Inputs) (elsewhere : AreZeroElsewhere a inputs.paths inputs.values) (accesses : List Access) (target : List ℕ) where
-    absent_term : (p : ℕ → ℕ) (t : Term) → is_present inputs.paths accesses p t.expr ≡ false → term_value a inputs.values accesses p t ≡ a.zero
+    absent_term : (p : ℕ → ℕ) (t : Term) → is_present inputs.paths accesses p t.expr ≡ false
+        → term_value a inputs.values accesses p t ≡ a.zero
     absent_term p t absent = by t.negated
       where
         none : value_of a inputs.values accesses p t.expr ≡ a.zero
         none = absent_is_zero a laws inputs.paths inputs.values elsewhere accesses p t.expr absent
 
-        by : (b : Bool) → cond b (minus a (value_of a inputs.values accesses p t.expr)) (value_of a inputs.values accesses p t.expr) ≡ a.zero
+        by : (b : Bool) → cond b (minus a (value_of a inputs.values accesses p t.expr)) (value_of a inputs.values accesses p t.expr)
+            ≡ a.zero
         by true = ap (minus a) none ∙ laws.times_zero a.minus_one
         by false = none
 
@@ -83,10 +85,14 @@ module _ (a : Arithmetic) (laws : Laws a) (coords : List ℕ) where
         row = record { coords = map p target; value = term_value a inputs.values accesses p t }
 
         by : (b : Bool) → is_present inputs.paths accesses p t.expr ≡ b
-            → value_at a (if b then (record { coords = map p target; value = term_value a inputs.values accesses p t } ∷ []) else []) coords ≡ a.plus (share t p) a.zero
+            → value_at a (if b then
+            (record { coords = map p target; value = term_value a inputs.values accesses p t } ∷ []) else []) coords
+            ≡ a.plus (share t p) a.zero
         by true present = elim (tested (map p target) coords) [
-          | same is e ↦ value_here a coords (record { coords = map p target; value = term_value a inputs.values accesses p t }) [] e ∙ ap (λ b. a.plus (cond b (term_value a inputs.values accesses p t) a.zero) a.zero) (sym e)
-          | other is e ↦ value_elsewhere a coords (record { coords = map p target; value = term_value a inputs.values accesses p t }) [] e ∙ zero_twice
+          | same is e ↦ value_here a coords (record { coords = map p target; value = term_value a inputs.values accesses p t }) [] e
+              ∙ ap (λ b. a.plus (cond b (term_value a inputs.values accesses p t) a.zero) a.zero) (sym e)
+          | other is e ↦ value_elsewhere a coords
+              (record { coords = map p target; value = term_value a inputs.values accesses p t }) [] e ∙ zero_twice
               ∙ ap (λ b. a.plus (cond b (term_value a inputs.values accesses p t) a.zero) a.zero) (sym e)
         ]
         by false absent = zero_twice ∙ ap (λ z. a.plus z a.zero) (none (pointwise nat_eq (map p target) coords))
@@ -101,14 +107,18 @@ module _ (a : Arithmetic) (laws : Laws a) (coords : List ℕ) where
       loops_add (Add t) plain point = term_adds t point
       loops_add (Forall' v p body) plain point =
           value_below (inputs.ranges v) (λ x. contributions_in a inputs accesses target body (with_coordinate point v x))
-          ∙ sum_same a (inputs.ranges v) (λ x. value_at a (contributions_in a inputs accesses target body (with_coordinate point v x)) coords)
-          (λ x. total_of a (map (nest_sum (with_coordinate point v x)) (nests_in body))) (λ x h. inside_adds body plain (with_coordinate point v x))
+          ∙ sum_same a (inputs.ranges v)
+          (λ x. value_at a (contributions_in a inputs accesses target body (with_coordinate point v x)) coords)
+          (λ x. total_of a (map (nest_sum (with_coordinate point v x)) (nests_in body)))
+          (λ x h. inside_adds body plain (with_coordinate point v x))
           ∙ sum_totals a laws (inputs.ranges v) (λ x. nest_sum (with_coordinate point v x)) (nests_in body)
           ∙ ap (total_of a) (sym (map_map (inside v) (nest_sum point) (nests_in body)))
       loops_add (Both' p first q second) plain point =
           let parts = none_of_both (workspaces_in first) (workspaces_in second) plain in
-          value_append a laws coords (contributions_in a inputs accesses target first point) (contributions_in a inputs accesses target second point)
-          ∙ ap (λ x. a.plus x (value_at a (contributions_in a inputs accesses target second point) coords)) (inside_adds first parts.0 point)
+          value_append a laws coords (contributions_in a inputs accesses target first point)
+          (contributions_in a inputs accesses target second point)
+          ∙ ap (λ x. a.plus x (value_at a (contributions_in a inputs accesses target second point) coords))
+          (inside_adds first parts.0 point)
           ∙ ap (a.plus (total_of a (map (nest_sum point) (nests_in first)))) (inside_adds second parts.1 point)
           ∙ sym (total_append a laws (map (nest_sum point) (nests_in first)) (map (nest_sum point) (nests_in second)))
           ∙ ap (total_of a) (sym (map_both (nest_sum point) (nests_in first) (nests_in second)))

@@ -64,7 +64,8 @@ below_listed (suc n) f coords x l h = elim (within_or_last n x l) [
   | inr k ↦ (listed_append coords (rows_below n f) (f n)).1 (inr (subst (λ y. Listed (f y) coords) k h))
 ]
 
-some_inside : (P Q : Nest → Type 0) (v : ℕ) (ns : List Nest) → ((n : Nest) → P n → Q (inside v n)) → IsSome P ns → IsSome Q (map (inside v) ns)
+some_inside : (P Q : Nest → Type 0) (v : ℕ) (ns : List Nest) → ((n : Nest) → P n → Q (inside v n)) → IsSome P ns
+    → IsSome Q (map (inside v) ns)
 some_inside P Q v [] f h = absurd h
 some_inside P Q v (n ∷ ns) f (inl h) = inl (f n h)
 some_inside P Q v (n ∷ ns) f (inr h) = inr (some_inside P Q v ns f h)
@@ -130,7 +131,8 @@ module _ (a : Arithmetic) (inputs : Inputs) (accesses : List Access) (target coo
   term_listed t p = by (is_present inputs.paths accesses p t.expr) refl
     where
       by : (b : Bool) → is_present inputs.paths accesses p t.expr ≡ b
-          → Listed (if b then (record { coords = map p target; value = term_value a inputs.values accesses p t } ∷ []) else []) coords → IsThere t p
+          → Listed (if b then (record { coords = map p target; value = term_value a inputs.values accesses p t } ∷ []) else []) coords
+          → IsThere t p
       by true present (inl here) = (here, present)
       by true present (inr more) = absurd more
       by false absent h = absurd h
@@ -138,7 +140,8 @@ module _ (a : Arithmetic) (inputs : Inputs) (accesses : List Access) (target coo
   listed_term : (t : Term) (p : ℕ → ℕ) → IsThere t p → Listed (rows_of_term a inputs accesses target p t) coords
   listed_term t p h = by (is_present inputs.paths accesses p t.expr) h.1
     where
-      by : (b : Bool) → b ≡ true → Listed (if b then (record { coords = map p target; value = term_value a inputs.values accesses p t } ∷ []) else []) coords
+      by : (b : Bool) → b ≡ true
+          → Listed (if b then (record { coords = map p target; value = term_value a inputs.values accesses p t } ∷ []) else []) coords
       by true is = inl h.0
       by false is = cc
 
@@ -148,7 +151,8 @@ module _ (a : Arithmetic) (inputs : Inputs) (accesses : List Access) (target coo
     loops_listed (Add t) plain point r =
         inl (record { at = point; others = λ w e. refl; below = λ w e. cc; holds = term_listed t point r })
     loops_listed (Forall' v p body) plain point r =
-        let b = listed_below (inputs.ranges v) (λ x. contributions_in a inputs accesses target body (with_coordinate point v x)) coords r in
+        let b = listed_below (inputs.ranges v)
+        (λ x. contributions_in a inputs accesses target body (with_coordinate point v x)) coords r in
         some_inside (Reaches (with_coordinate point v b.x)) (Reaches point) v (nests_in body)
         (λ n s. into_loop inputs.ranges (IsThere n.term) v n.loops point b.x b.below s)
         (inside_listed body plain (with_coordinate point v b.x) b.listed)
@@ -180,7 +184,8 @@ module _ (a : Arithmetic) (inputs : Inputs) (accesses : List Access) (target coo
           first_below inputs.ranges (IsThere n.term) v n.loops point s,
           out_of_loop inputs.ranges (IsThere n.term) v n.loops point s,
         )) r in
-        below_listed (inputs.ranges v) (λ x. contributions_in a inputs accesses target body (with_coordinate point v x)) coords w.x w.below
+        below_listed (inputs.ranges v)
+        (λ x. contributions_in a inputs accesses target body (with_coordinate point v x)) coords w.x w.below
         (listed_inside body plain (with_coordinate point v w.x) w.some)
     listed_loops (Both' p first q second) plain point r =
         let parts = none_of_both (workspaces_in first) (workspaces_in second) plain in

@@ -32,9 +32,11 @@ module _ (loops : List ℕ) (t : Term) (c : Concrete) (before : Option Concrete)
     shared = nest.shared;
   }
 
-  pub made_more : (tree : Concrete) → before ≡ Some tree → IsPut loops t tree c → IsMade done before → IsMade (done ++ nest_in loops t ∷ []) (Some c)
+  pub made_more : (tree : Concrete) → before ≡ Some tree → IsPut loops t tree c → IsMade done before
+      → IsMade (done ++ nest_in loops t ∷ []) (Some c)
   made_more tree is put made = record {
-    terms = IsPermutation-trans (done ++ nest_in loops t ∷ []) (nest_in loops t ∷ done) (nests c) (IsPermutation-to_front done (nest_in loops t))
+    terms = IsPermutation-trans (done ++ nest_in loops t ∷ []) (nest_in loops t ∷ done) (nests c)
+        (IsPermutation-to_front done (nest_in loops t))
         (IsPermutation-trans (nest_in loops t ∷ done) (nest_in loops t ∷ nests tree) (nests c)
         (IsPermutation-cons (nest_in loops t) done (nests tree) (subst (IsPermutation done) (ap nests_made is) made.terms)) put.terms);
     plain = put.plain ∙ ap workspaces_made (sym is) ∙ made.plain;
@@ -56,12 +58,14 @@ next_term loops ts i t done made inside is h =
     ∙ ap (map (nest_in loops)) (sym (take_more ts i t inside)))) h
 
 -- one group more
-pub next_group : (s : Statement) (order : List ℕ) (gs : List Group) (i : ℕ) (g : Group) (made : Option Concrete) → i < length gs → g ≡ get_or gs i g
+pub next_group : (s : Statement) (order : List ℕ) (gs : List Group) (i : ℕ) (g : Group) (made : Option Concrete) → i < length gs
+    → g ≡ get_or gs i g
     → IsMade (flat_map (nests_of_group s order) (take i gs) ++ nests_of_group s order g) made
     → IsMade (flat_map (nests_of_group s order) (take (i + 1) gs)) made
 next_group s order gs i g made inside is h =
     subst (λ ns. IsMade ns made)
-    (ap (λ ns. flat_map (nests_of_group s order) (take i gs) ++ ns) (sym (append-nil (nests_of_group s order g)) ∙ ap (λ k. nests_of_group s order k ++ []) is)
+    (ap (λ ns. flat_map (nests_of_group s order) (take i gs) ++ ns)
+    (sym (append-nil (nests_of_group s order g)) ∙ ap (λ k. nests_of_group s order k ++ []) is)
     ∙ sym (flat_map-append (nests_of_group s order) (take i gs) (get_or gs i g ∷ []))
     ∙ ap (flat_map (nests_of_group s order)) (sym (take_more gs i g inside))) h
 
@@ -83,13 +87,15 @@ module _ (s : Statement) (order : List ℕ) where
 
   all_nests : IsPermutation (map (nest_of s order) (terms s.expr)) (flat_map (nests_of_group s order) (groups s))
   all_nests = subst (IsPermutation (map (nest_of s order) (terms s.expr))) (nests_of_groups (groups s) (each_is_group s (terms s.expr)))
-      (IsPermutation-map (nest_of s order) (terms s.expr) (flat_map (λ (g : Group). g.terms) (groups s)) (all_terms_gathered s (terms s.expr)))
+      (IsPermutation-map (nest_of s order) (terms s.expr) (flat_map (λ (g : Group). g.terms) (groups s))
+      (all_terms_gathered s (terms s.expr)))
 
   -- all terms of the statement are in what is made of its groups
   pub all_made : (gs : List Group) (made : Option Concrete) → gs ≡ groups s → IsMade (flat_map (nests_of_group s order) gs) made
       → IsPermutation (map (nest_of s order) (terms s.expr)) (nests_made made)
   all_made gs made are h =
-      IsPermutation-trans (map (nest_of s order) (terms s.expr)) (flat_map (nests_of_group s order) (groups s)) (nests_made made) all_nests
+      IsPermutation-trans (map (nest_of s order) (terms s.expr)) (flat_map (nests_of_group s order) (groups s))
+      (nests_made made) all_nests
       (subst (λ hs. IsPermutation (flat_map (nests_of_group s order) hs) (nests_made made)) are h.terms)
 
   -- so something is made
@@ -102,5 +108,6 @@ module _ (s : Statement) (order : List ℕ) where
 
 -- the loops and the terms that were read of a group
 pub group_as : (s : Statement) (order : List ℕ) (g : Group) (loops : List ℕ) (ts : List Term) (done : List Nest) (made : Option Concrete)
-    → loops ≡ loops_of s order g.vars → ts ≡ g.terms → IsMade (done ++ map (nest_in loops) ts) made → IsMade (done ++ nests_of_group s order g) made
+    → loops ≡ loops_of s order g.vars → ts ≡ g.terms → IsMade (done ++ map (nest_in loops) ts) made
+    → IsMade (done ++ nests_of_group s order g) made
 group_as s order g loops ts done made is are h = subst (λ ns. IsMade (done ++ ns) made) (λ i. map (nest_in (is i)) (are i)) h

@@ -31,7 +31,8 @@ module _ (a : Arithmetic) (laws : Laws a) where
   pub sum_one : (n c : ℕ) (g : ℕ → ℕ) → c < n → ((x : ℕ) → x < n → x ≢ c → g x ≡ a.zero) → sum_below a n g ≡ counted (g c)
   sum_one zero c g below none = absurd (omega (arith, below))
   sum_one (suc n) c g below none = elim (cases_eq n c) [
-    | inl is ↦ ap (a.plus (g n)) (sum_same a n g (λ x. a.zero) (λ x h. none x (omega (arith, h)) (λ same. absurd (omega (arith, h, is, same))))
+    | inl is ↦ ap (a.plus (g n))
+        (sum_same a n g (λ x. a.zero) (λ x h. none x (omega (arith, h)) (λ same. absurd (omega (arith, h, is, same))))
         ∙ sum_zeros a laws n) ∙ ap (λ k. counted (g k)) is
     | inr apart ↦ ap (λ y. a.plus y (sum_below a n g)) (none n (omega arith) apart)
         ∙ zero_before a laws (sum_below a n g) (sum_fits a laws n g)
@@ -39,7 +40,8 @@ module _ (a : Arithmetic) (laws : Laws a) where
   ]
 
   -- totals of what counts the same
-  pub same_totals : {X : Type 0} (f g : X → ℕ) (xs : List X) → ((x : X) → counted (f x) ≡ counted (g x)) → total_of a (map f xs) ≡ total_of a (map g xs)
+  pub same_totals : {X : Type 0} (f g : X → ℕ) (xs : List X) → ((x : X) → counted (f x) ≡ counted (g x))
+      → total_of a (map f xs) ≡ total_of a (map g xs)
   same_totals f g [] same = refl
   same_totals f g (x ∷ xs) same =
       counts_in (f x) (g x) (total_of a (map f xs)) (total_fits a laws (map f xs)) (same x)

@@ -173,7 +173,8 @@ numbers_distinct n (suc count) =
     (each_number (λ w. n ≢ w) (n + 1) count (λ w above below same. absurd (omega (arith, above, same))), numbers_distinct (n + 1) count)
 
 pub number_below : (count w : ℕ) → contains (numbers_from 0 count) w ≡ true → w < count
-number_below count w = each_contained (λ v. v < count) (numbers_from 0 count) (each_number (λ v. v < count) 0 count (λ v above below. omega
+number_below count w = each_contained (λ v. v < count) (numbers_from 0 count)
+    (each_number (λ v. v < count) 0 count (λ v above below. omega
     (arith, below))) w
 
 -- the same variables in another order

@@ -25,14 +25,16 @@ use Rattle.concrete_notation.proofs.Around.{around_distinct, around_contain}
 use Rattle.concrete_notation.proofs.LoopSums.{nest_sum, loops_add, map_map}
 use Rattle.concrete_notation.proofs.LoopSupports.{Reaches, loops_listed, listed_loops}
 use Rattle.concrete_notation.proofs.Pinned.{counted, same_totals, pinned}
-use Rattle.concrete_notation.proofs.Points.{point_elsewhere, point_of_map, coordinates_of, coordinate_below, below_long, all_below, from_zero}
+use Rattle.concrete_notation.proofs.Points.{point_elsewhere, point_of_map, coordinates_of}
+use Rattle.concrete_notation.proofs.Points.{coordinate_below, below_long, all_below, from_zero}
 use Rattle.concrete_notation.proofs.Points.{neither, or_first, or_second, turned, map_long}
 use Rattle.expr_terms.proofs.ValueLaws.{map_same}
 use Rattle.concrete_notation.proofs.Somes.{some_moved, some_mapped, mapped_some, some_as, some_is}
 
 module _ (s : Statement) (numbered : IsNumbered s) (order : List ℕ) (ordered : IsOrderOf (length s.vars) order)
     (keys : List ℕ) (once : IsDistinct keys) (are : (v : ℕ) → contains keys v ≡ contains s.left.vars v) where
-  module _ (a : Arithmetic) (laws : Laws a) (inputs : Inputs) (elsewhere : AreZeroElsewhere a inputs.paths inputs.values) (coords : List ℕ)
+  module _ (a : Arithmetic) (laws : Laws a) (inputs : Inputs) (elsewhere : AreZeroElsewhere a inputs.paths inputs.values)
+      (coords : List ℕ)
       (below : AreBelow coords (map inputs.ranges keys)) where
     -- a term's loops add what it adds to the statement's value
     nest_adds : (t : Term)
@@ -57,7 +59,8 @@ module _ (s : Statement) (numbered : IsNumbered s) (order : List ℕ) (ordered :
         ∙ total_permutation a laws (map adds (map (nest_of s order) (terms s.expr))) (map adds (nests c))
         (IsPermutation-map adds (map (nest_of s order) (terms s.expr)) (nests c) has)
         ∙ ap (total_of a) (map_map (nest_of s order) adds (terms s.expr))
-        ∙ same_totals a laws (λ t. adds (nest_of s order t)) (term_sum a s inputs.values inputs.ranges (point_of keys coords)) (terms s.expr) nest_adds
+        ∙ same_totals a laws (λ t. adds (nest_of s order t)) (term_sum a s inputs.values inputs.ranges (point_of keys coords))
+        (terms s.expr) nest_adds
 
   module _ (a : Arithmetic) (inputs : Inputs) (coords ks : List ℕ) where
     -- loops that reach a point at which the term is present tell that it is present at the point's left coordinates
@@ -71,7 +74,8 @@ module _ (s : Statement) (numbered : IsNumbered s) (order : List ℕ) (ordered :
         ap (point_of s.left.vars) at ∙ turned keys s.left.vars are ks in (
           subst (λ cs. AreBelow cs (map inputs.ranges s.left.vars)) (sym at)
               (all_below inputs.ranges (point_of keys ks) s.left.vars (λ w h. subst (λ x. x < inputs.ranges w) (here w h)
-              (r.below w (loops_contain s numbered order ordered t w ∙ or_first (contains s.left.vars w) (contains (own_variables s t) w) h)))),
+              (r.below w (loops_contain s numbered order ordered t w
+              ∙ or_first (contains s.left.vars w) (contains (own_variables s t) w) h)))),
           record {
             point = r.at;
             chosen = λ v own. r.below v (loops_contain s numbered order ordered t v
@@ -96,7 +100,8 @@ module _ (s : Statement) (numbered : IsNumbered s) (order : List ℕ) (ordered :
     reaches at below t p = record {
       at = p.point;
       others = λ v out.
-          let apart = neither (contains s.left.vars v) (contains (own_variables s t) v) (sym (loops_contain s numbered order ordered t v) ∙ out) in
+          let apart = neither (contains s.left.vars v) (contains (own_variables s t) v)
+          (sym (loops_contain s numbered order ordered t v) ∙ out) in
           p.others v apart.1 ∙ point_elsewhere s.left.vars coords v apart.0;
       below = λ v inside. by v (sym (loops_contain s numbered order ordered t v) ∙ inside) (contains s.left.vars v) refl;
       holds = (
@@ -123,7 +128,8 @@ module _ (s : Statement) (numbered : IsNumbered s) (order : List ℕ) (ordered :
           (IsPermutation-sym (map (nest_of s order) (terms s.expr)) (nests c) has)
           (loops_listed a inputs s.accesses keys ks c plain (λ v. 0) listed)) in
           let there : IsSome IsThereBelow (terms s.expr) =
-          some_as (λ t. Reaches a inputs s.accesses keys ks (λ v. 0) (nest_of s order t)) IsThereBelow (terms s.expr) (reached at) some in (
+          some_as (λ t. Reaches a inputs s.accesses keys ks (λ v. 0) (nest_of s order t)) IsThereBelow (terms s.expr)
+          (reached at) some in (
             some_is IsThereBelow (AreBelow coords (map inputs.ranges s.left.vars)) (terms s.expr) (λ t h. h.0) there,
             some_as IsThereBelow (IsPresentAt s inputs coords) (terms s.expr) (λ t h. h.1) there,
           )

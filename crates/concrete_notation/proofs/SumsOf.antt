@@ -40,12 +40,15 @@ put_listed : (a : Arithmetic) (pair : Entry) (row : List Entry) (coords : List �
     → Listed (put_pair a pair row) coords ↔ ((pair.coords ≡ coords) ⊎ Listed row coords)
 put_listed a pair [] coords = ((λ h. h), (λ h. h))
 put_listed a pair (first ∷ others) coords =
-    by (slice_cmp nat_cmp pair.coords first.coords) (compared_as pair.coords first.coords (slice_cmp nat_cmp pair.coords first.coords) refl)
+    by (slice_cmp nat_cmp pair.coords first.coords)
+    (compared_as pair.coords first.coords (slice_cmp nat_cmp pair.coords first.coords) refl)
     (put_listed a pair others coords)
   where
-    by : (r : Ordering) → MatchOrdering r (IsBefore pair.coords first.coords) (pair.coords ≡ first.coords) (IsBefore first.coords pair.coords)
+    by : (r : Ordering) → MatchOrdering r (IsBefore pair.coords first.coords) (pair.coords ≡ first.coords)
+        (IsBefore first.coords pair.coords)
         → (Listed (put_pair a pair others) coords ↔ ((pair.coords ≡ coords) ⊎ Listed others coords))
-        → (Listed (put_by a r pair first others (put_pair a pair others)) coords ↔ ((pair.coords ≡ coords) ⊎ Listed (first ∷ others) coords))
+        → (Listed (put_by a r pair first others (put_pair a pair others)) coords ↔
+        ((pair.coords ≡ coords) ⊎ Listed (first ∷ others) coords))
     by Less is later = ((λ h. h), (λ h. h))
     by Equal is later = (
       (λ h. inr h),
@@ -91,7 +94,8 @@ module _ (a : Arithmetic) (laws : Laws a) (coords : List ℕ) where
   put_value : (pair : Entry) (row : List Entry) → value_at a (put_pair a pair row) coords ≡ value_at a (pair ∷ row) coords
   put_value pair [] = refl
   put_value pair (first ∷ others) =
-      by (slice_cmp nat_cmp pair.coords first.coords) (compared_as pair.coords first.coords (slice_cmp nat_cmp pair.coords first.coords) refl)
+      by (slice_cmp nat_cmp pair.coords first.coords)
+      (compared_as pair.coords first.coords (slice_cmp nat_cmp pair.coords first.coords) refl)
       (put_value pair others)
     where
       joined : pair.coords ≡ first.coords
@@ -128,7 +132,8 @@ module _ (a : Arithmetic) (laws : Laws a) (coords : List ℕ) where
         ]
       ]
 
-      by : (r : Ordering) → MatchOrdering r (IsBefore pair.coords first.coords) (pair.coords ≡ first.coords) (IsBefore first.coords pair.coords)
+      by : (r : Ordering) → MatchOrdering r (IsBefore pair.coords first.coords) (pair.coords ≡ first.coords)
+          (IsBefore first.coords pair.coords)
           → value_at a (put_pair a pair others) coords ≡ value_at a (pair ∷ others) coords
           → value_at a (put_by a r pair first others (put_pair a pair others)) coords ≡ value_at a (pair ∷ first ∷ others) coords
       by Less is later = refl
@@ -141,10 +146,12 @@ module _ (a : Arithmetic) (laws : Laws a) (coords : List ℕ) where
       put_value pair (sums_of a pairs) ∙ value_cons a laws coords pair (sums_of a pairs) pairs (sums_value pairs)
 
 -- a coordinate list before a pair and before each of a row is before each of both
-put_after : (a : Arithmetic) (coords : List ℕ) (pair : Entry) (row : List Entry) → IsBefore coords pair.coords → IsBeforeAll coords (coords_of row)
+put_after : (a : Arithmetic) (coords : List ℕ) (pair : Entry) (row : List Entry) → IsBefore coords pair.coords
+    → IsBeforeAll coords (coords_of row)
     → IsBeforeAll coords (coords_of (put_pair a pair row))
 put_after a coords pair [] here all = (here, tt)
-put_after a coords pair (first ∷ others) here all = by (slice_cmp nat_cmp pair.coords first.coords) (put_after a coords pair others here all.1)
+put_after a coords pair (first ∷ others) here all = by (slice_cmp nat_cmp pair.coords first.coords)
+    (put_after a coords pair others here all.1)
   where
     by : (r : Ordering) → IsBeforeAll coords (coords_of (put_pair a pair others))
         → IsBeforeAll coords (coords_of (put_by a r pair first others (put_pair a pair others)))
@@ -155,10 +162,12 @@ put_after a coords pair (first ∷ others) here all = by (slice_cmp nat_cmp pair
 put_increasing : (a : Arithmetic) (pair : Entry) (row : List Entry) → StrictlyIncreasing row → StrictlyIncreasing (put_pair a pair row)
 put_increasing a pair [] up = (tt, tt)
 put_increasing a pair (first ∷ others) up =
-    by (slice_cmp nat_cmp pair.coords first.coords) (compared_as pair.coords first.coords (slice_cmp nat_cmp pair.coords first.coords) refl)
+    by (slice_cmp nat_cmp pair.coords first.coords)
+    (compared_as pair.coords first.coords (slice_cmp nat_cmp pair.coords first.coords) refl)
     (put_increasing a pair others up.1)
   where
-    by : (r : Ordering) → MatchOrdering r (IsBefore pair.coords first.coords) (pair.coords ≡ first.coords) (IsBefore first.coords pair.coords)
+    by : (r : Ordering) → MatchOrdering r (IsBefore pair.coords first.coords) (pair.coords ≡ first.coords)
+        (IsBefore first.coords pair.coords)
         → StrictlyIncreasing (put_pair a pair others) → StrictlyIncreasing (put_by a r pair first others (put_pair a pair others))
     by Less before later = ((before, before_all_trans pair.coords first.coords (coords_of others) before up.0), up)
     by Equal is later = up
@@ -197,11 +206,13 @@ put_entries a laws keys pair (first ∷ others) is each =
         (record { long = each.0.long; words = each.0.words; word = laws.plus_fits pair.value first.value }, each.1)
     by Greater later = (each.0, later)
 
-sums_entries : (a : Arithmetic) → Laws a → (keys : ℕ) (pairs : List Entry) → Each (IsEntry keys) pairs → Each (IsEntry keys) (sums_of a pairs)
+sums_entries : (a : Arithmetic) → Laws a → (keys : ℕ) (pairs : List Entry) → Each (IsEntry keys) pairs
+    → Each (IsEntry keys) (sums_of a pairs)
 sums_entries a laws keys [] each = tt
 sums_entries a laws keys (pair ∷ pairs) each =
     put_entries a laws keys pair (sums_of a pairs) each.0 (sums_entries a laws keys pairs each.1)
 
-pub all_entries : (a : Arithmetic) → Laws a → (keys : ℕ) (pairs : List Entry) → All (IsEntry keys) pairs → All (IsEntry keys) (sums_of a pairs)
+pub all_entries : (a : Arithmetic) → Laws a → (keys : ℕ) (pairs : List Entry) → All (IsEntry keys) pairs
+    → All (IsEntry keys) (sums_of a pairs)
 all_entries a laws keys pairs all =
     all_of_each (IsEntry keys) (sums_of a pairs) (sums_entries a laws keys pairs (each_of_all (IsEntry keys) pairs all))

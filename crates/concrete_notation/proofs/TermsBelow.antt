@@ -15,7 +15,9 @@ module _ (old new : List Term) (whole : Concrete) where
       → new ≡ old ++ terms_below whole
   below_forall v body part is read grown =
       grown ∙ ap (λ c. old ++ terms_below c) read
-      ∙ ap (λ ts. old ++ ts) (sym (map_map (inside v) (λ (nest : Nest). nest.term) (nests body)) ∙ ap (map (λ (nest : Nest). nest.term)) (sym (nests_forall v body)))
+      ∙ ap (λ ts. old ++ ts)
+      (sym (map_map (inside v) (λ (nest : Nest). nest.term) (nests body))
+      ∙ ap (map (λ (nest : Nest). nest.term)) (sym (nests_forall v body)))
       ∙ ap (λ c. old ++ terms_below c) (sym is)
 
   pub below_where : (keys : List ℕ) (body part : Concrete) → whole ≡ Where keys body → part ≡ body → new ≡ old ++ terms_below part

@@ -38,7 +38,8 @@ each_listed : (P : List ℕ → Type 0) (rows : List Entry) → ((coords : List 
 each_listed P [] h = tt
 each_listed P (row ∷ rows) h = (h row.coords (inl refl), each_listed P rows (λ coords there. h coords (inr there)))
 
-module _ (left keys : List ℕ) (left_once : IsDistinct left) (once : IsDistinct keys) (are : (v : ℕ) → contains keys v ≡ contains left v) where
+module _ (left keys : List ℕ) (left_once : IsDistinct left) (once : IsDistinct keys)
+    (are : (v : ℕ) → contains keys v ≡ contains left v) where
   -- the coordinates of the keys are passed on to the left variables, and come from there
   forth : List ℕ → List ℕ
   forth ks = map (with_coordinates (λ v. 0) keys ks) left
@@ -72,7 +73,8 @@ module _ (left keys : List ℕ) (left_once : IsDistinct left) (once : IsDistinct
   passed_value a coords long (row ∷ rows) each =
       by (pointwise nat_eq row.coords (map (point_of left coords) keys)) refl (passed_value a coords long rows each.1)
     where
-      test : pointwise nat_eq (map (with_coordinates (λ v. 0) keys row.coords) left) coords ≡ pointwise nat_eq row.coords (map (point_of left coords) keys)
+      test : pointwise nat_eq (map (with_coordinates (λ v. 0) keys row.coords) left) coords
+          ≡ pointwise nat_eq row.coords (map (point_of left coords) keys)
       test = passed_test coords row.coords long each.0
 
       by : (b : Bool) → pointwise nat_eq row.coords (map (point_of left coords) keys) ≡ b
@@ -119,7 +121,8 @@ module _ (s : Statement) (numbered : IsNumbered s) (named : IsWellNamed s) (orde
       all_below inputs.ranges (point_of s.left.vars coords) keys
       (λ w h. coordinate_below inputs.ranges s.left.vars coords below w (sym (are w) ∙ h)) in
       ap (λ rows. value_at a rows coords) (contributions_where a inputs s.accesses s.left.vars keys c (λ v. 0))
-      ∙ passed_value s.left.vars keys named.left_once once are a coords (below_long inputs.ranges s.left.vars coords below) (sums_of a pairs)
+      ∙ passed_value s.left.vars keys named.left_once once are a coords (below_long inputs.ranges s.left.vars coords below)
+      (sums_of a pairs)
       (each_listed (λ rs. length rs ≡ length keys) (sums_of a pairs)
       (λ rs there. listed_long s numbered order ordered keys once are a inputs rs rs c plain has ((sums_listed a pairs rs).0 there)))
       ∙ sums_value a laws ks pairs

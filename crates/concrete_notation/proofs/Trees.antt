@@ -98,7 +98,8 @@ nest_alone t = record { terms = refl; plain = refl; next = refl; shared = tt }
 pub nest_inside : (v w : ℕ) (inner loops : List ℕ) (t : Term) (body : Concrete) → loops ≡ v ∷ inner → w ≡ v → IsNest inner t body
     → IsNest loops t (Forall w body)
 nest_inside v w inner loops t body is same nest = record {
-  terms = nests_forall w body ∙ ap (map (inside w)) nest.terms ∙ (λ i. nest_in (same i ∷ inner) t ∷ []) ∙ ap (λ vs. nest_in vs t ∷ []) (sym is);
+  terms = nests_forall w body ∙ ap (map (inside w)) nest.terms ∙ (λ i. nest_in (same i ∷ inner) t ∷ [])
+      ∙ ap (λ vs. nest_in vs t ∷ []) (sym is);
   plain = workspaces_forall w body ∙ nest.plain;
   next = next_forall w body ∙ ap (λ u. u ∷ []) same ∙ ap next_of (sym is);
   shared = shared_forall w body nest.shared;
@@ -130,7 +131,8 @@ module _ (loops : List ℕ) (t : Term) where
       put.next ∙ ap (λ b. if b then next_loops first else (next_loops first ++ next_of loops)) here in
       let among : shares (next_loops whole) loops ≡ true =
       ap (λ c. shares (next_loops c) loops) was ∙ ap (λ vs. shares vs loops) (next_both first second)
-      ∙ shares_both (next_loops first) (next_loops second) loops ∙ or_first (shares (next_loops first) loops) (shares (next_loops second) loops) here in
+      ∙ shares_both (next_loops first) (next_loops second) loops
+      ∙ or_first (shares (next_loops first) loops) (shares (next_loops second) loops) here in
       let next : next_loops all ≡ next_loops whole =
       ap next_loops is ∙ next_both after second ∙ ap (λ vs. vs ++ next_loops second) there ∙ sym (next_both first second)
       ∙ ap next_loops (sym was) in
@@ -179,7 +181,8 @@ module _ (loops : List ℕ) (t : Term) where
             parts.0 (put.shared parts.1));
       }
     where
-      joined : (fs ss : List ℕ) (b : Bool) → fs ++ (if b then ss else (ss ++ next_of loops)) ≡ (if b then fs ++ ss else ((fs ++ ss) ++ next_of loops))
+      joined : (fs ss : List ℕ) (b : Bool)
+          → fs ++ (if b then ss else (ss ++ next_of loops)) ≡ (if b then fs ++ ss else ((fs ++ ss) ++ next_of loops))
       joined fs ss true = refl
       joined fs ss false = sym (append_assoc fs ss (next_of loops))
 
@@ -200,5 +203,6 @@ module _ (loops : List ℕ) (t : Term) where
       }
 
 -- a whole by the parts that were read of it
-pub whole_is : (whole first second left right : Concrete) → whole ≡ Both first second → left ≡ first → right ≡ second → whole ≡ Both left right
+pub whole_is : (whole first second left right : Concrete) → whole ≡ Both first second → left ≡ first → right ≡ second
+    → whole ≡ Both left right
 whole_is whole first second left right is one two = is ∙ (λ i. Both (sym one i) (sym two i))

@@ -25,4 +25,5 @@ returns-in_ok-body-in-Some-2 t c =
     subst (λ b. IsPut c.args.loops.now c.args.term c.args.tree (Forall c.in-Forall.var b)) (sym c.in_ok-body-in-Some-2.ensures)
     (put_inside c.args.loops.now c.args.term c.in-Forall.var c.in-Some.first.now c.in-Some.inner.now c.into_inner.result
     c.in_ok-body-in-Some.body c.args.tree
-    (c.in-Forall.is ∙ ap (Forall c.in-Forall.var) (sym c.into_inner.ensures)) c.in-Some.ensures.cases.0 c.if-first-var.true c.in_ok-body-in-Some.ensures)
+    (c.in-Forall.is ∙ ap (Forall c.in-Forall.var)
+    (sym c.into_inner.ensures)) c.in-Some.ensures.cases.0 c.if-first-var.true c.in_ok-body-in-Some.ensures)

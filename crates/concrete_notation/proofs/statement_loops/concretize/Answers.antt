@@ -56,5 +56,6 @@ returns-clause-workspaces c =
     record {
       none = λ dense. absurd (never c.is_all_dense.result (c.is_all_dense.ensures.1 (subst AreAllDense
           (read_within c.args.formats.now level [] here c.requires.format ∙ sym read) dense)) c.if-is_all_dense.false);
-      one = λ other. ap workspaces c.in_ok-all.ensures ∙ workspaces_where keys c.in_ok-tree.tree ∙ ap (λ ks. keys ∷ ks) c.in_ok-tree.ensures.plain;
+      one = λ other. ap workspaces c.in_ok-all.ensures ∙ workspaces_where keys c.in_ok-tree.tree
+          ∙ ap (λ ks. keys ∷ ks) c.in_ok-tree.ensures.plain;
     }

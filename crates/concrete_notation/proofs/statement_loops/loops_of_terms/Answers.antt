@@ -20,5 +20,6 @@ unwrap-all-requires c =
 
 pub returns-clause-terms : goal.returns-clause-terms
 returns-clause-terms c =
-    subst (λ m. IsPermutation (map (nest_of c.args.statement.now c.args.order.now) (terms c.args.statement.now.expr)) (nests_made m)) c.unwrap-all.ensures
+    subst (λ m. IsPermutation (map (nest_of c.args.statement.now c.args.order.now) (terms c.args.statement.now.expr))
+    (nests_made m)) c.unwrap-all.ensures
     (all_made c.args.statement.now c.args.order.now c.args.groups.now.list c.in_ok-made.made c.requires.groups c.in_ok-made.ensures)
