@@ -14,7 +14,8 @@ returns-then-left t c =
     ∙ sym (contains_both (next_loops c.get.result.now) (next_loops c.get-in-Both.result.now) c.args.var)
     ∙ ap (λ vs. contains vs c.args.var) (sym (next_both c.get.result.now c.get-in-Both.result.now))
     ∙ ap (λ e. contains (next_loops e) c.args.var)
-    (sym (whole_is c.args.tree.now c.in-Both.first c.in-Both.second c.get.result.now c.get-in-Both.result.now c.in-Both.is c.get.ensures c.get-in-Both.ensures))
+    (sym (whole_is c.args.tree.now c.in-Both.first c.in-Both.second c.get.result.now c.get-in-Both.result.now c.in-Both.is
+    c.get.ensures c.get-in-Both.ensures))
 
 pub returns-else-left : goal.returns-else-left
 returns-else-left t c =
@@ -24,4 +25,5 @@ returns-else-left t c =
     ∙ sym (contains_both (next_loops c.get.result.now) (next_loops c.get-in-Both.result.now) c.args.var)
     ∙ ap (λ vs. contains vs c.args.var) (sym (next_both c.get.result.now c.get-in-Both.result.now))
     ∙ ap (λ e. contains (next_loops e) c.args.var)
-    (sym (whole_is c.args.tree.now c.in-Both.first c.in-Both.second c.get.result.now c.get-in-Both.result.now c.in-Both.is c.get.ensures c.get-in-Both.ensures))
+    (sym (whole_is c.args.tree.now c.in-Both.first c.in-Both.second c.get.result.now c.get-in-Both.result.now c.in-Both.is
+    c.get.ensures c.get-in-Both.ensures))

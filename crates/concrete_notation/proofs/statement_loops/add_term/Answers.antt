@@ -7,4 +7,5 @@ returns-in_ok-all-in-None c done made =
 
 pub returns-in_ok-all-in-Some : goal.returns-in_ok-all-in-Some
 returns-in_ok-all-in-Some c done made =
-    made_more c.args.loops.now c.args.term c.in_ok-all-in-Some.all c.args.before done c.in-Some.tree c.in-Some.is c.in_ok-all-in-Some.ensures made
+    made_more c.args.loops.now c.args.term c.in_ok-all-in-Some.all c.args.before done c.in-Some.tree c.in-Some.is
+    c.in_ok-all-in-Some.ensures made
