@@ -1,0 +1,14 @@
+pub mod Around
+pub mod LoopSums
+pub mod LoopSupports
+pub mod Made
+pub mod Orders
+pub mod Pinned
+pub mod Points
+pub mod Right
+pub mod SomeTerm
+pub mod Somes
+pub mod SumsOf
+pub mod TermsBelow
+pub mod Through
+pub mod Trees

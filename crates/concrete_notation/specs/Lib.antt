@@ -1,0 +1,5 @@
+pub mod Contributions
+pub mod Nesting
+pub mod Nests
+pub mod Right
+pub mod Workspaces
