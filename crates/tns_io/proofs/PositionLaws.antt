@@ -21,7 +21,8 @@ position_below [] [] h = omega arith
 position_below [] (c ∷ cs) h = absurd h
 position_below (n ∷ ns) [] h = absurd h
 position_below (n ∷ ns) (c ∷ cs) h =
-    let row : c * product ns + position ns cs < product ns * n = mul-add-lt c (product ns) (position ns cs) n h.0 (position_below ns cs h.1) in
+    let row : c * product ns + position ns cs < product ns * n =
+    mul-add-lt c (product ns) (position ns cs) n h.0 (position_below ns cs h.1) in
     subst (λ (k : ℕ). c * product ns + position ns cs < k) (mul_comm (product ns) n) row
 
 -- no two coordinate lists below the sizes have one position
@@ -39,12 +40,15 @@ position_injective (n ∷ ns) (x ∷ xs) (y ∷ ys) h g e =
 -- the coordinates at a position are below the sizes, and have that position
 pub coords_below : (sizes : List ℕ) (i : ℕ) → i < product sizes → IsBelow sizes (coords_at sizes i)
 coords_below [] i h = tt
-coords_below (n ∷ ns) i h = (div_below i (product ns) n (factor_positive i n (product ns) h) h, coords_below ns (i % product ns) (mod_below i (product ns) (factor_positive i n (product ns) h)))
+coords_below (n ∷ ns) i h =
+    let some = factor_positive i n (product ns) h in
+    (div_below i (product ns) n some h, coords_below ns (i % product ns) (mod_below i (product ns) some))
 
 pub position_of_coords : (sizes : List ℕ) (i : ℕ) → i < product sizes → position sizes (coords_at sizes i) ≡ i
 position_of_coords [] i h = omega arith
 position_of_coords (n ∷ ns) i h =
-    ap (λ k. i / product ns * product ns + k) (position_of_coords ns (i % product ns) (mod_below i (product ns) (factor_positive i n (product ns) h)))
+    ap (λ k. i / product ns * product ns + k)
+    (position_of_coords ns (i % product ns) (mod_below i (product ns) (factor_positive i n (product ns) h)))
     ∙ div-add-mod' i (product ns)
 
 -- and the coordinates at the position of coordinates are those
@@ -55,7 +59,8 @@ coords_of_position (n ∷ ns) [] h = absurd h
 coords_of_position (n ∷ ns) (c ∷ cs) h =
     let low : position ns cs < product ns = position_below ns cs h.1 in
     let first : (c * product ns + position ns cs) / product ns ≡ c = div-mul-add c (product ns) (position ns cs) low in
-    let rest : (c * product ns + position ns cs) % product ns ≡ position ns cs = mul-add-mod_self_right c (product ns) (position ns cs) ∙ mod-eq_of_lt low in
+    let rest : (c * product ns + position ns cs) % product ns ≡ position ns cs =
+    mul-add-mod_self_right c (product ns) (position ns cs) ∙ mod-eq_of_lt low in
     λ i. first i ∷ (ap (coords_at ns) rest ∙ coords_of_position ns cs h.1) i
 
 -- a later position has later coordinates

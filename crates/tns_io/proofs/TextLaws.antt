@@ -24,18 +24,23 @@ among_behind first coords (place ∷ places) before (inl here) = subst (IsBefore
 among_behind first coords (place ∷ places) before (inr more) = among_behind first coords places before.1 more
 
 -- a place that is among others, whose first is behind it
-never_among : (first second : List ℕ) (others : List (List ℕ)) → IsBefore first second → IsBeforeAll second others → IsAmong (second ∷ others) first → ⊥
+never_among : (first second : List ℕ) (others : List (List ℕ)) → IsBefore first second → IsBeforeAll second others
+    → IsAmong (second ∷ others) first → ⊥
 never_among first second others before up (inl here) = before_irreflexive first (subst (IsBefore first) here before)
-never_among first second others before up (inr more) = before_irreflexive first (before_trans first second first before (among_behind second first others up more))
+never_among first second others before up (inr more) =
+    before_irreflexive first (before_trans first second first before (among_behind second first others up more))
 
-rest_among : (first : List ℕ) (xs ys : List (List ℕ)) → IsBeforeAll first xs → ((coords : List ℕ) → IsAmong (first ∷ xs) coords → IsAmong (first ∷ ys) coords) → (coords : List ℕ) → IsAmong xs coords → IsAmong ys coords
+rest_among : (first : List ℕ) (xs ys : List (List ℕ)) → IsBeforeAll first xs
+    → ((coords : List ℕ) → IsAmong (first ∷ xs) coords → IsAmong (first ∷ ys) coords)
+    → (coords : List ℕ) → IsAmong xs coords → IsAmong ys coords
 rest_among first xs ys up same coords among = elim (same coords (inr among)) [
   | inl here ↦ absurd (before_among first xs up (subst (IsAmong xs) (sym here) among))
   | inr more ↦ more
 ]
 
 -- of increasing lists each is told by what is among it
-pub one_list : (xs ys : List (List ℕ)) → Increasing xs → Increasing ys → ((coords : List ℕ) → IsAmong xs coords → IsAmong ys coords) → ((coords : List ℕ) → IsAmong ys coords → IsAmong xs coords) → xs ≡ ys
+pub one_list : (xs ys : List (List ℕ)) → Increasing xs → Increasing ys → ((coords : List ℕ) → IsAmong xs coords → IsAmong ys coords)
+    → ((coords : List ℕ) → IsAmong ys coords → IsAmong xs coords) → xs ≡ ys
 one_list [] [] up up' to from = refl
 one_list [] (y ∷ ys) up up' to from = absurd (from y (inl refl))
 one_list (x ∷ xs) [] up up' to from = absurd (to x (inl refl))
@@ -51,7 +56,8 @@ one_list (x ∷ xs) (y ∷ ys) up up' to from =
     by Equal is rest = λ i. is i ∷ rest is i
 
 -- a tensor has one text
-pub one_text : (a : Arithmetic) (ranges : List ℕ) (value : List ℕ → ℕ) (first second : List ℕ) → IsTnsText a ranges value first → IsTnsText a ranges value second → first ≡ second
+pub one_text : (a : Arithmetic) (ranges : List ℕ) (value : List ℕ → ℕ) (first second : List ℕ) → IsTnsText a ranges value first
+    → IsTnsText a ranges value second → first ≡ second
 one_text a ranges value first second is is' =
     is.lines
     ∙ ap (flat_map (λ coords. line_text coords (value coords)))

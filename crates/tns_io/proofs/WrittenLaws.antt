@@ -1,5 +1,6 @@
 -- Lemmas about what specs/WrittenLaws.antt defines.
-use Rattle.std.specs.Prelude.{◌≡◌, ℕ, suc, pos, negsuc, ◌+◌, ◌-◌, ◌*◌, ◌^◌, ◌<◌, ◌≤◌, Bool, true, false, cond, nat_lt, ◌==◌, List, [], ◌∷◌, ◌++◌, length, All, Some, Ok, Err, refl, slice_index}
+use Rattle.std.specs.Prelude.{◌≡◌, ℕ, suc, pos, negsuc, ◌+◌, ◌-◌, ◌*◌, ◌^◌, ◌<◌, ◌≤◌, Bool, true, false, cond, nat_lt, ◌==◌, List, []}
+use Rattle.std.specs.Prelude.{◌∷◌, ◌++◌, length, All, Some, Ok, Err, refl, slice_index}
 use Rattle.std.specs.Fmt.{decimal, signed_decimal}
 use Rattle.std.specs.List.{flat_map}
 use Rattle.std.proofs.Common.{arith, ap, subst, sym, ◌∙◌, inl, inr, append_assoc, length-append, add-one, lit≤}
@@ -21,13 +22,15 @@ use Rattle.text_lines.specs.Lines.{lines}
 use Rattle.text_lines.proofs.NumberLaws.{number_of_decimal, read_whole_of_signed_decimal}
 use Rattle.text_lines.specs.Numbers.{fits_word}
 use Rattle.text_lines.specs.PrintedLaws.{IsFilled}
-use Rattle.text_lines.proofs.PrintedLaws.{decimal_filled, decimal_is_token, decimal_short, signed_filled, signed_decimal_is_token, signed_short, high_line}
+use Rattle.text_lines.proofs.PrintedLaws.{decimal_filled, decimal_is_token, decimal_short, signed_filled, signed_decimal_is_token}
+use Rattle.text_lines.proofs.PrintedLaws.{signed_short, high_line}
 use Rattle.text_lines.specs.TokenLaws.{IsToken}
 use Rattle.text_lines.proofs.TokenLaws.{tokens_joined}
 use Rattle.text_lines.specs.Tokens.{tokens}
 use Rattle.tns_io.specs.Positions.{IsBelow}
 use Rattle.tns_io.proofs.PositionLaws.{below_long}
-use Rattle.tns_io.specs.Reading.{coordinate_from, coordinate_of, value_from, value_of, value_alone, with_first, entry_of, is_comment, read_or_bad, reading_of_tokens, reading, before_others, entries_from, entries_of_text}
+use Rattle.tns_io.specs.Reading.{coordinate_from, coordinate_of, value_from, value_of, value_alone, with_first, entry_of, is_comment}
+use Rattle.tns_io.specs.Reading.{read_or_bad, reading_of_tokens, reading, before_others, entries_from, entries_of_text}
 use Rattle.tns_io.specs.Reading.Reading.{Skipped, Read, Bad}
 use Rattle.tns_io.specs.Text.{coords_text, line_text, IsAmong, IsTnsText}
 use Rattle.tns_io.proofs.TextLaws.{before_among}
@@ -61,16 +64,20 @@ coordinate_read c h =
 value_read : (v : ℕ) → v < 2 ^ 64 → value_of (signed_decimal (signed_of v)) ≡ Ok v
 value_read v h = ap value_from (read_whole_of_signed_decimal (signed_of v) (signed_fits v h)) ∙ ap Ok (word_back v h)
 
-pub entry_of_more : (token : List ℕ) (others : List (List ℕ)) → 0 < length others → entry_of (token ∷ others) ≡ with_first (coordinate_of token) (entry_of others)
+pub entry_of_more : (token : List ℕ) (others : List (List ℕ)) → 0 < length others
+    → entry_of (token ∷ others) ≡ with_first (coordinate_of token) (entry_of others)
 entry_of_more token [] h = absurd (omega arith)
 entry_of_more token (next ∷ more) h = refl
 
-entry_read : (coords : List ℕ) (v : ℕ) → AreInFile coords → v < 2 ^ 64 → entry_of (coordinate_texts coords ++ signed_decimal (signed_of v) ∷ []) ≡ Ok (record { coords = coords; value = v })
+entry_read : (coords : List ℕ) (v : ℕ) → AreInFile coords → v < 2 ^ 64
+    → entry_of (coordinate_texts coords ++ signed_decimal (signed_of v) ∷ []) ≡ Ok (record { coords = coords; value = v })
 entry_read [] v in_file h = ap value_alone (value_read v h)
 entry_read (c ∷ coords) v in_file h =
-    let some : 0 < length (coordinate_texts coords ++ signed_decimal (signed_of v) ∷ []) = omega (arith, length-append (coordinate_texts coords) (signed_decimal (signed_of v) ∷ [])) in
+    let some : 0 < length (coordinate_texts coords ++ signed_decimal (signed_of v) ∷ []) =
+    omega (arith, length-append (coordinate_texts coords) (signed_decimal (signed_of v) ∷ [])) in
     entry_of_more (decimal (c + 1)) (coordinate_texts coords ++ signed_decimal (signed_of v) ∷ []) some
-    ∙ (λ i. with_first (coordinate_read c (in_file 0 0 (omega arith)) i) (entry_read coords v (All-tail (λ x. x < greatest_file_coordinate) c coords in_file) h i))
+    ∙ (λ i. with_first (coordinate_read c (in_file 0 0 (omega arith)) i)
+    (entry_read coords v (All-tail (λ x. x < greatest_file_coordinate) c coords in_file) h i))
 
 -- the tokens of the line
 texts_are_tokens : (coords : List ℕ) → AreInFile coords → All IsToken (coordinate_texts coords)
@@ -79,10 +86,12 @@ texts_are_tokens (c ∷ coords) in_file =
     All-cons IsToken (decimal (c + 1)) (coordinate_texts coords) (decimal_is_token (c + 1) (file_word c (in_file 0 0 (omega arith))))
     (texts_are_tokens coords (All-tail (λ x. x < greatest_file_coordinate) c coords in_file))
 
-line_tokens : (coords : List ℕ) (v : ℕ) → AreInFile coords → v < 2 ^ 64 → tokens (bare_text coords v) ≡ coordinate_texts coords ++ signed_decimal (signed_of v) ∷ []
+line_tokens : (coords : List ℕ) (v : ℕ) → AreInFile coords → v < 2 ^ 64
+    → tokens (bare_text coords v) ≡ coordinate_texts coords ++ signed_decimal (signed_of v) ∷ []
 line_tokens coords v in_file h =
     ap (λ text. tokens (text ++ signed_decimal (signed_of v))) (sym (flat_map-map (λ part. part ++ 32 ∷ []) (λ c. decimal (c + 1)) coords))
-    ∙ tokens_joined (coordinate_texts coords) (signed_decimal (signed_of v)) (texts_are_tokens coords in_file) (signed_decimal_is_token (signed_of v) (signed_fits v h))
+    ∙ tokens_joined (coordinate_texts coords) (signed_decimal (signed_of v)) (texts_are_tokens coords in_file)
+    (signed_decimal_is_token (signed_of v) (signed_fits v h))
 
 -- its bytes
 coords_high : (coords : List ℕ) → AreInFile coords → All (λ byte. 13 < byte) (coords_text coords)
@@ -90,13 +99,16 @@ coords_high [] in_file = All-nil (λ byte. 13 < byte)
 coords_high (c ∷ coords) in_file =
     let first = decimal_filled (c + 1) (file_word c (in_file 0 0 (omega arith))) in
     All-append (λ byte. 13 < byte) (decimal (c + 1) ++ 32 ∷ []) (coords_text coords)
-    (All-append (λ byte. 13 < byte) (decimal (c + 1)) (32 ∷ []) (All-weaker IsFilled (λ byte. 13 < byte) (λ x high. omega arith) (decimal (c + 1)) first) (All-cons (λ byte. 13 < byte) 32 [] (omega arith) (All-nil (λ byte. 13 < byte))))
+    (All-append (λ byte. 13 < byte) (decimal (c + 1)) (32 ∷ [])
+    (All-weaker IsFilled (λ byte. 13 < byte) (λ x high. omega arith) (decimal (c + 1)) first)
+    (All-cons (λ byte. 13 < byte) 32 [] (omega arith) (All-nil (λ byte. 13 < byte))))
     (coords_high coords (All-tail (λ x. x < greatest_file_coordinate) c coords in_file))
 
 line_high : (coords : List ℕ) (v : ℕ) → AreInFile coords → v < 2 ^ 64 → All (λ byte. 13 < byte) (bare_text coords v)
 line_high coords v in_file h =
     All-append (λ byte. 13 < byte) (coords_text coords) (signed_decimal (signed_of v)) (coords_high coords in_file)
-    (All-weaker IsFilled (λ byte. 13 < byte) (λ x high. omega arith) (signed_decimal (signed_of v)) (signed_filled (signed_of v) (signed_fits v h)))
+    (All-weaker IsFilled (λ byte. 13 < byte) (λ x high. omega arith) (signed_decimal (signed_of v))
+    (signed_filled (signed_of v) (signed_fits v h)))
 
 -- its length
 coords_short : (coords : List ℕ) → AreInFile coords → length (coords_text coords) ≤ 21 * length coords
@@ -110,7 +122,8 @@ lines_have_room : 21 * greatest_order + 21 ≤ greatest_line_bytes
 unfolding greatest_order greatest_line_bytes
 lines_have_room = lit≤ tt
 
-line_short : (coords : List ℕ) (v : ℕ) → AreInFile coords → v < 2 ^ 64 → length coords ≤ greatest_order → length (bare_text coords v) ≤ greatest_line_bytes
+line_short : (coords : List ℕ) (v : ℕ) → AreInFile coords → v < 2 ^ 64 → length coords ≤ greatest_order
+    → length (bare_text coords v) ≤ greatest_line_bytes
 line_short coords v in_file h few =
     let front = coords_short coords in_file in
     let back = signed_short (signed_of v) (signed_fits v h) in
@@ -121,30 +134,40 @@ not_comment : (token : List ℕ) → 0 < length token → All (λ byte. 35 < byt
 not_comment token some high = ne_eqb (slice_index token 0) 35 (λ e. let above = high 0 0 some in omega (arith, above, e))
 
 -- the line is read as its entry
-reading_by : (coords : List ℕ) (v : ℕ) → AreInFile coords → v < 2 ^ 64 → reading_of_tokens (length coords) (coordinate_texts coords ++ signed_decimal (signed_of v) ∷ []) ≡ Read (record { coords = coords; value = v })
+reading_by : (coords : List ℕ) (v : ℕ) → AreInFile coords → v < 2 ^ 64
+    → reading_of_tokens (length coords) (coordinate_texts coords ++ signed_decimal (signed_of v) ∷ [])
+    ≡ Read (record { coords = coords; value = v })
 reading_by [] v in_file h =
     let token = signed_decimal_is_token (signed_of v) (signed_fits v h) in
-    let high = All-weaker IsFilled (λ byte. 35 < byte) (λ x filled. omega arith) (signed_decimal (signed_of v)) (signed_filled (signed_of v) (signed_fits v h)) in
-    ap (λ b. cond b Skipped (read_or_bad (entry_of (signed_decimal (signed_of v) ∷ [])))) (not_comment (signed_decimal (signed_of v)) token.some high)
+    let high =
+    All-weaker IsFilled (λ byte. 35 < byte) (λ x filled. omega arith) (signed_decimal (signed_of v))
+    (signed_filled (signed_of v) (signed_fits v h)) in
+    ap (λ b. cond b Skipped (read_or_bad (entry_of (signed_decimal (signed_of v) ∷ []))))
+    (not_comment (signed_decimal (signed_of v)) token.some high)
     ∙ ap read_or_bad (entry_read [] v in_file h)
 reading_by (c ∷ coords) v in_file h =
     let word = file_word c (in_file 0 0 (omega arith)) in
     let token = decimal_is_token (c + 1) word in
     let high = All-weaker IsFilled (λ byte. 35 < byte) (λ x filled. omega arith) (decimal (c + 1)) (decimal_filled (c + 1) word) in
     let others : List (List ℕ) = coordinate_texts coords ++ signed_decimal (signed_of v) ∷ [] in
-    let count : length others ≡ suc (length coords) = omega (arith, length-append (coordinate_texts coords) (signed_decimal (signed_of v) ∷ []), length-map coords (λ x. decimal (x + 1))) in
-    ap (λ b. cond b Skipped (cond (length others == suc (length coords)) (read_or_bad (entry_of (decimal (c + 1) ∷ others))) (Bad Fields))) (not_comment (decimal (c + 1)) token.some high)
+    let count : length others ≡ suc (length coords) =
+    omega (arith, length-append (coordinate_texts coords) (signed_decimal (signed_of v) ∷ []), length-map coords (λ x. decimal (x + 1))) in
+    ap (λ b. cond b Skipped (cond (length others == suc (length coords)) (read_or_bad (entry_of (decimal (c + 1) ∷ others))) (Bad Fields)))
+    (not_comment (decimal (c + 1)) token.some high)
     ∙ ap (λ b. cond b (read_or_bad (entry_of (decimal (c + 1) ∷ others))) (Bad Fields)) (eq-eqb (length others) (suc (length coords)) count)
     ∙ ap read_or_bad (entry_read (c ∷ coords) v in_file h)
 
-pub reading_written : (coords : List ℕ) (v : ℕ) → AreInFile coords → v < 2 ^ 64 → length coords ≤ greatest_order → reading (length coords) (bare_text coords v) ≡ Read (record { coords = coords; value = v })
+pub reading_written : (coords : List ℕ) (v : ℕ) → AreInFile coords → v < 2 ^ 64 → length coords ≤ greatest_order
+    → reading (length coords) (bare_text coords v) ≡ Read (record { coords = coords; value = v })
 reading_written coords v in_file h few =
-    ap (λ b. cond b (Bad LongLine) (reading_of_tokens (length coords) (tokens (bare_text coords v)))) (le-ltb greatest_line_bytes (length (bare_text coords v)) (line_short coords v in_file h few))
+    ap (λ b. cond b (Bad LongLine) (reading_of_tokens (length coords) (tokens (bare_text coords v))))
+    (le-ltb greatest_line_bytes (length (bare_text coords v)) (line_short coords v in_file h few))
     ∙ ap (reading_of_tokens (length coords)) (line_tokens coords v in_file h)
     ∙ reading_by coords v in_file h
 
 -- so the lines are read as the entries
-pub lines_read : (order : ℕ) (value : List ℕ → ℕ) (places : List (List ℕ)) (number : ℕ) → order ≤ greatest_order → All (IsPlace order value) places
+pub lines_read : (order : ℕ) (value : List ℕ → ℕ) (places : List (List ℕ)) (number : ℕ) → order ≤ greatest_order
+    → All (IsPlace order value) places
     → entries_from order number (lines (flat_map (λ coords. line_text coords (value coords)) places)) ≡ Ok (entries_at value places)
 lines_read order value [] number few each = refl
 lines_read order value (coords ∷ places) number few each =
@@ -156,10 +179,12 @@ lines_read order value (coords ∷ places) number few each =
     ap (λ text. text ++ others) (sym (append_assoc (coords_text coords) (signed_decimal (signed_of (value coords))) (10 ∷ [])))
     ∙ append_assoc bare (10 ∷ []) others in
     let read : reading order bare ≡ Read (record { coords = coords; value = value coords }) =
-    ap (λ n. reading n bare) (sym place.long) ∙ reading_written coords (value coords) place.in_file place.word (omega (arith, place.long)) in
+    ap (λ n. reading n bare) (sym place.long)
+    ∙ reading_written coords (value coords) place.in_file place.word (omega (arith, place.long)) in
     ap (λ text. entries_from order number (lines text)) parts
     ∙ ap (entries_from order number) (lines_more bare others line.one ∙ ap (λ first. first ∷ lines others) (bare_line bare line.bare))
-    ∙ (λ i. before_others number (read i) (lines_read order value places (number + 1) few (All-tail (IsPlace order value) coords places each) i))
+    ∙ (λ i. before_others number (read i)
+    (lines_read order value places (number + 1) few (All-tail (IsPlace order value) coords places each) i))
 
 -- the places of a tensor's text
 below_file : (ranges coords : List ℕ) → All (λ range. range ≤ greatest_file_coordinate) ranges → IsBelow ranges coords → AreInFile coords
@@ -168,13 +193,17 @@ below_file [] (c ∷ coords) within h = absurd h
 below_file (n ∷ ranges) [] within h = absurd h
 below_file (n ∷ ranges) (c ∷ coords) within h =
     let first = within 0 0 (omega arith) in
-    All-cons (λ x. x < greatest_file_coordinate) c coords (omega (arith, h.0, first)) (below_file ranges coords (All-tail (λ range. range ≤ greatest_file_coordinate) n ranges within) h.1)
+    All-cons (λ x. x < greatest_file_coordinate) c coords (omega (arith, h.0, first))
+    (below_file ranges coords (All-tail (λ range. range ≤ greatest_file_coordinate) n ranges within) h.1)
 
 each_place : (P : List ℕ → Type 0) (places : List (List ℕ)) → ((coords : List ℕ) → IsAmong places coords → P coords) → All P places
 each_place P [] each = All-nil P
-each_place P (place ∷ places) each = All-cons P place places (each place (inl refl)) (each_place P places (λ coords among. each coords (inr among)))
+each_place P (place ∷ places) each =
+    All-cons P place places (each place (inl refl)) (each_place P places (λ coords among. each coords (inr among)))
 
-pub text_read : (a : Arithmetic) (ranges : List ℕ) (value : List ℕ → ℕ) (text : List ℕ) (is : IsTnsText a ranges value text) → length ranges ≤ greatest_order → All (λ range. range ≤ greatest_file_coordinate) ranges → ((coords : List ℕ) → IsBelow ranges coords → value coords < 2 ^ 64)
+pub text_read : (a : Arithmetic) (ranges : List ℕ) (value : List ℕ → ℕ) (text : List ℕ) (is : IsTnsText a ranges value text)
+    → length ranges ≤ greatest_order → All (λ range. range ≤ greatest_file_coordinate) ranges
+    → ((coords : List ℕ) → IsBelow ranges coords → value coords < 2 ^ 64)
     → entries_of_text (length ranges) text ≡ Ok (entries_at value is.places)
 text_read a ranges value text is few within words =
     ap (entries_of_text (length ranges)) is.lines
@@ -183,16 +212,20 @@ text_read a ranges value text is few within words =
     record { long = below_long ranges coords below; in_file = below_file ranges coords within below; word = words coords below }))
 
 -- what those entries stand for
-listed_among : (value : List ℕ → ℕ) (places : List (List ℕ)) (coords : List ℕ) → Listed (entries_at value places) coords → IsAmong places coords
+listed_among : (value : List ℕ → ℕ) (places : List (List ℕ)) (coords : List ℕ) → Listed (entries_at value places) coords
+    → IsAmong places coords
 listed_among value [] coords listed = listed
 listed_among value (place ∷ places) coords (inl here) = inl here
 listed_among value (place ∷ places) coords (inr more) = inr (listed_among value places coords more)
 
 module _ (a : Arithmetic) (laws : Laws a) where
-  value_not_among : (value : List ℕ → ℕ) (places : List (List ℕ)) (coords : List ℕ) → (IsAmong places coords → ⊥) → value_at a (entries_at value places) coords ≡ a.zero
-  value_not_among value places coords none = value_unlisted a laws coords (entries_at value places) (λ listed. none (listed_among value places coords listed))
+  value_not_among : (value : List ℕ → ℕ) (places : List (List ℕ)) (coords : List ℕ) → (IsAmong places coords → ⊥)
+      → value_at a (entries_at value places) coords ≡ a.zero
+  value_not_among value places coords none =
+      value_unlisted a laws coords (entries_at value places) (λ listed. none (listed_among value places coords listed))
 
-  value_among : (value : List ℕ → ℕ) (places : List (List ℕ)) (coords : List ℕ) → Increasing places → IsAmong places coords → value coords < 2 ^ 64 → value_at a (entries_at value places) coords ≡ value coords
+  value_among : (value : List ℕ → ℕ) (places : List (List ℕ)) (coords : List ℕ) → Increasing places → IsAmong places coords
+      → value coords < 2 ^ 64 → value_at a (entries_at value places) coords ≡ value coords
   value_among value [] coords up among h = absurd among
   value_among value (place ∷ places) coords up among h = elim (tested place coords) [
     | same here t ↦ (
@@ -206,16 +239,20 @@ module _ (a : Arithmetic) (laws : Laws a) where
         ∙ value_among value places coords up.1 (elim among [ inl here ↦ absurd (away here) | inr more ↦ more ]) h)
   ]
 
-  pub written_value : (ranges : List ℕ) (value : List ℕ → ℕ) (text : List ℕ) (is : IsTnsText a ranges value text) (coords : List ℕ) → IsBelow ranges coords → value coords < 2 ^ 64 → value_at a (entries_at value is.places) coords ≡ value coords
+  pub written_value : (ranges : List ℕ) (value : List ℕ → ℕ) (text : List ℕ) (is : IsTnsText a ranges value text) (coords : List ℕ)
+      → IsBelow ranges coords → value coords < 2 ^ 64 → value_at a (entries_at value is.places) coords ≡ value coords
   written_value ranges value text is coords below h = elim (cases_eq (value coords) a.zero) [
     | inl zero' ↦ (value_not_among value is.places coords (λ among. ((is.exact coords).0 among).1 zero') ∙ sym zero')
     | inr some ↦ value_among value is.places coords is.increasing ((is.exact coords).1 (below, some)) h
   ]
 
-  pub written_zero : (ranges : List ℕ) (value : List ℕ → ℕ) (text : List ℕ) (is : IsTnsText a ranges value text) (coords : List ℕ) → (IsBelow ranges coords → ⊥) → value_at a (entries_at value is.places) coords ≡ a.zero
+  pub written_zero : (ranges : List ℕ) (value : List ℕ → ℕ) (text : List ℕ) (is : IsTnsText a ranges value text) (coords : List ℕ)
+      → (IsBelow ranges coords → ⊥) → value_at a (entries_at value is.places) coords ≡ a.zero
   written_zero ranges value text is coords outside = value_not_among value is.places coords (λ among. outside ((is.exact coords).0 among).0)
 
-pub written_stands : (a : Arithmetic) → Laws a → (ranges : List ℕ) (value : List ℕ → ℕ) (text : List ℕ) → IsTnsText a ranges value text → length ranges ≤ greatest_order → All (λ range. range ≤ greatest_file_coordinate) ranges → ((coords : List ℕ) → IsBelow ranges coords → value coords < 2 ^ 64)
+pub written_stands : (a : Arithmetic) → Laws a → (ranges : List ℕ) (value : List ℕ → ℕ) (text : List ℕ) → IsTnsText a ranges value text
+    → length ranges ≤ greatest_order → All (λ range. range ≤ greatest_file_coordinate) ranges
+    → ((coords : List ℕ) → IsBelow ranges coords → value coords < 2 ^ 64)
     → StandsFor a ranges value (entries_of_text (length ranges) text)
 written_stands a laws ranges value text is few within words =
     subst (StandsFor a ranges value) (sym (text_read a ranges value text is few within words)) (

@@ -1,4 +1,5 @@
 pub mod Fields
+pub mod Plain
 pub mod Positions
 pub mod ReadSoFar
 pub mod ReaderState

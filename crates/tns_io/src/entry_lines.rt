@@ -8,6 +8,7 @@ ghost use Rattle.tns_io.specs.ReadSoFar.{Fails, Takes};
 
 use crate::file_fault::FileFault;
 use crate::line_kind::LineKind;
+use crate::plain_lines::read_plain;
 use tensor_map::Entries;
 use text_lines::{NumFault, cut_token, read_index, read_whole};
 
@@ -34,8 +35,20 @@ pub(crate) fn take_line(line: &[u8], number: u64, entries: &mut Entries) -> Resu
     }
 }
 
-/// Reads a line: the coordinates of an entry into `coords`, and its value. None where the line is skipped.
+/// Reads a line: the coordinates of an entry into `coords`, and its value. None where the line is skipped. A plainly
+/// written line, as most are, is read in one pass.
 fn read_line(line: &[u8], coords: &mut [u64]) -> Result<Option<u64>, LineKind>
+    requires { is_long line.now ≡ false }
+    ensures { IsReading (reading (length coords.old) line.now) coords.new result }
+{
+    match read_plain(line, coords) {
+        Some(value) => Ok(Some(value)),
+        None => read_other(line, coords),
+    }
+}
+
+/// Reads a line that may be written in any way.
+fn read_other(line: &[u8], coords: &mut [u64]) -> Result<Option<u64>, LineKind>
     requires { is_long line.now ≡ false }
     ensures { IsReading (reading (length coords.old) line.now) coords.new result }
 {

@@ -7,6 +7,7 @@ mod entry_lines;
 mod file_fault;
 mod laws;
 mod line_kind;
+mod plain_lines;
 mod printing;
 mod tns_reader;
 
