@@ -1,6 +1,7 @@
 -- Lemmas about what specs/Fields.antt defines.
-use Rattle.std.specs.Prelude.{◌≡◌, ℕ, ◌+◌, List, [], ◌∷◌, ◌++◌, length, Result, Ok, Err, refl}
-use Rattle.std.proofs.Common.{arith, ap, sym, ◌∙◌, append_assoc}
+use Rattle.std.specs.Prelude.{◌≡◌, ℕ, ◌+◌, ◌<◌, List, [], ◌∷◌, ◌++◌, length, take, slice_set, Result, Ok, Err, refl}
+use Rattle.std.proofs.Common.{arith, ap, subst, sym, ◌∙◌, append_assoc}
+use Rattle.std.proofs.lemmas.List.{take_more_set}
 use Rattle.tensor_map.specs.declared.entries.Entry.{Entry}
 use Rattle.tns_io.specs.Fields.{AreCoordinates, behind_coords}
 use Rattle.tns_io.specs.Reading.{coordinate_of, with_first, entry_of}
@@ -14,7 +15,7 @@ one_behind coords c (Ok entry) =
     ap (λ (cs : List ℕ). Ok (record { coords = cs; value = entry.value })) (sym (append_assoc coords (c ∷ []) entry.coords))
 
 -- one more token is a coordinate
-pub coordinates_more : (count : ℕ) (ts rs more : List (List ℕ)) (coords : List ℕ) (token : List ℕ) (c : ℕ)
+coordinates_more : (count : ℕ) (ts rs more : List (List ℕ)) (coords : List ℕ) (token : List ℕ) (c : ℕ)
     → AreCoordinates count ts coords rs
     → rs ≡ token ∷ more → coordinate_of token ≡ Ok c → AreCoordinates (count + 1) ts (coords ++ c ∷ []) more
 coordinates_more count ts rs more coords token c are rs_is is = record {
@@ -25,3 +26,11 @@ coordinates_more count ts rs more coords token c are rs_is is = record {
       ∙ ap (behind_coords coords) (entry_of_more token more some ∙ ap (λ first. with_first first (entry_of more)) is)
       ∙ one_behind coords c (entry_of more);
 }
+
+-- it is put aside at its place
+pub coordinates_set : (i : ℕ) (ts rs more : List (List ℕ)) (coords token : List ℕ) (c : ℕ) → i < length coords
+    → AreCoordinates i ts (take i coords) rs → rs ≡ token ∷ more → coordinate_of token ≡ Ok c
+    → AreCoordinates (i + 1) ts (take (i + 1) (slice_set coords i c)) more
+coordinates_set i ts rs more coords token c within are rs_is is =
+    subst (λ (cs : List ℕ). AreCoordinates (i + 1) ts cs more) (sym (take_more_set coords i c within))
+    (coordinates_more i ts rs more (take i coords) token c are rs_is is)

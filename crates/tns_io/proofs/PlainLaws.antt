@@ -167,7 +167,7 @@ no_comment (c ∷ text) more entry e = by (c == 35) refl
         (subst (λ (x : ℕ). entry_of ((x ∷ text) ∷ more) ≡ Ok entry) (eqb-true c 35 t) e))
 
 -- a line whose tokens are an entry is read as that
-tokens_are_read : (order : ℕ) (ts : List (List ℕ)) (entry : Entry) → length ts ≡ order + 1 → entry_of ts ≡ Ok entry
+pub tokens_are_read : (order : ℕ) (ts : List (List ℕ)) (entry : Entry) → length ts ≡ order + 1 → entry_of ts ≡ Ok entry
     → reading_of_tokens order ts ≡ Read entry
 tokens_are_read order [] entry long e = absurd (omega arith)
 tokens_are_read order (token ∷ more) entry long e =

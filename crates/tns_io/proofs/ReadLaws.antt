@@ -72,31 +72,26 @@ line_in_file order line entry e = by (is_long line) e
     by true h = absurd (cc)
     by false h = tokens_in_file order (tokens line) entry h
 
-lines_in_file : (order number : ℕ) (ls : List (List ℕ)) (list : List Entry) → entries_from order number ls ≡ Ok list
-    → All (λ entry. AreInFile entry.coords) list
-lines_in_file order number [] list e =
-    let none : [] ≡ list =
-    cc in subst (λ (es : List Entry). All (λ entry. AreInFile entry.coords) es) none (All-nil (λ (entry : Entry). AreInFile entry.coords))
-lines_in_file order number (line ∷ ls) list e =
-    by (reading order line) (entries_from order (number + 1) ls) e (λ entry h. line_in_file order line entry h)
-    (λ found h. lines_in_file order (number + 1) ls found h)
+-- what holds of the entry of each line holds of all entries
+pub lines_each : (P : Entry → Type 0) (order number : ℕ) (ls : List (List ℕ)) (list : List Entry)
+    → ((line : List ℕ) (entry : Entry) → reading order line ≡ Read entry → P entry) → entries_from order number ls ≡ Ok list → All P list
+lines_each P order number [] list each e = let none : [] ≡ list = cc in subst (All P) none (All-nil P)
+lines_each P order number (line ∷ ls) list each e =
+    by (reading order line) (entries_from order (number + 1) ls) e (each line)
+    (λ found h. lines_each P order (number + 1) ls found each h)
   where
     by : (r : Reading) (others : Result (List Entry) BadLine) → before_others number r others ≡ Ok list
-        → ((entry : Entry) → r ≡ Read entry → AreInFile entry.coords)
-        → ((found : List Entry) → others ≡ Ok found → All (λ entry. AreInFile entry.coords) found) → All (λ entry. AreInFile entry.coords)
-        list
+        → ((entry : Entry) → r ≡ Read entry → P entry) → ((found : List Entry) → others ≡ Ok found → All P found) → All P list
     by Skipped others h f g = g list h
     by (Bad kind) others h f g = absurd (cc)
     by (Read entry) (Err bad) h f g = absurd (cc)
     by (Read entry) (Ok found) h f g =
-        let same : entry ∷ found ≡ list = cc in
-        subst (λ (es : List Entry). All (λ x. AreInFile x.coords) es) same
-        (All-cons (λ (x : Entry). AreInFile x.coords) entry found (f entry refl) (g found refl))
+        let same : entry ∷ found ≡ list = cc in subst (All P) same (All-cons P entry found (f entry refl) (g found refl))
 
 -- what is read has coordinates that a file may have
 pub entries_in_file : (order : ℕ) (text : List ℕ) (list : List Entry) → entries_of_text order text ≡ Ok list
     → All (λ entry. AreInFile entry.coords) list
-entries_in_file order text list e = lines_in_file order 1 _ list e
+entries_in_file order text list e = lines_each (λ entry. AreInFile entry.coords) order 1 _ list (line_in_file order) e
 
 listed_in_file : (entries : List Entry) (coords : List ℕ) → All (λ entry. AreInFile entry.coords) entries → Listed entries coords
     → AreInFile coords

@@ -1,10 +1,10 @@
 -- Lemmas about what specs/WrittenLaws.antt defines.
-use Rattle.std.specs.Prelude.{◌≡◌, ℕ, suc, pos, negsuc, ◌+◌, ◌-◌, ◌*◌, ◌^◌, ◌<◌, ◌≤◌, Bool, true, false, cond, nat_lt, ◌==◌, List, []}
-use Rattle.std.specs.Prelude.{◌∷◌, ◌++◌, length, All, Some, Ok, Err, refl, slice_index}
+use Rattle.std.specs.Prelude.{◌≡◌, ℕ, pos, negsuc, ◌+◌, ◌-◌, ◌*◌, ◌^◌, ◌<◌, ◌≤◌, Bool, true, false, cond, nat_lt, List, []}
+use Rattle.std.specs.Prelude.{◌∷◌, ◌++◌, length, All, Some, Ok, Err, refl}
 use Rattle.std.specs.Fmt.{decimal, signed_decimal}
 use Rattle.std.specs.List.{flat_map}
 use Rattle.std.proofs.Common.{arith, ap, subst, sym, ◌∙◌, inl, inr, append_assoc, length-append, add-one, lit≤}
-use Rattle.std.proofs.lemmas.Bool.{ne_eqb, eq-eqb, lt-ltb, le-ltb, ltb-false, cases_eq}
+use Rattle.std.proofs.lemmas.Bool.{lt-ltb, le-ltb, ltb-false, cases_eq}
 use Rattle.std.proofs.lemmas.List.{length-map}
 use Rattle.std.proofs.lemmas.List.Elements.{All-nil, All-cons, All-append, All-tail, All-weaker}
 use Rattle.std.proofs.lemmas.List.Folds.{flat_map-map}
@@ -28,13 +28,14 @@ use Rattle.text_lines.specs.TokenLaws.{IsToken}
 use Rattle.text_lines.proofs.TokenLaws.{tokens_joined}
 use Rattle.text_lines.specs.Tokens.{tokens}
 use Rattle.tns_io.specs.Positions.{IsBelow}
+use Rattle.tns_io.proofs.PlainLaws.{tokens_are_read}
 use Rattle.tns_io.proofs.PositionLaws.{below_long}
-use Rattle.tns_io.specs.Reading.{coordinate_from, coordinate_of, value_from, value_of, value_alone, with_first, entry_of, is_comment}
-use Rattle.tns_io.specs.Reading.{read_or_bad, reading_of_tokens, reading, before_others, entries_from, entries_of_text}
-use Rattle.tns_io.specs.Reading.Reading.{Skipped, Read, Bad}
+use Rattle.tns_io.specs.Reading.{coordinate_from, coordinate_of, value_from, value_of, value_alone, with_first, entry_of}
+use Rattle.tns_io.specs.Reading.{reading_of_tokens, reading, before_others, entries_from, entries_of_text}
+use Rattle.tns_io.specs.Reading.Reading.{Read, Bad}
 use Rattle.tns_io.specs.Text.{coords_text, line_text, IsAmong, IsTnsText}
 use Rattle.tns_io.proofs.TextLaws.{before_among}
-use Rattle.tns_io.specs.declared.line_kind.LineKind.TheVariants.{LongLine, Fields, NumRange}
+use Rattle.tns_io.specs.declared.line_kind.LineKind.TheVariants.{LongLine, NumRange}
 use Rattle.tns_io.specs.WrittenLaws.{coordinate_texts, bare_text, AreInFile, entries_at, IsPlace, StandsFor}
 
 -- a word is the word of its signed number, which is one of 64 bits
@@ -129,33 +130,15 @@ line_short coords v in_file h few =
     let back = signed_short (signed_of v) (signed_fits v h) in
     omega (arith, lines_have_room, length-append (coords_text coords) (signed_decimal (signed_of v)))
 
--- no comment: its first byte is above `#`
-not_comment : (token : List ℕ) → 0 < length token → All (λ byte. 35 < byte) token → is_comment token ≡ false
-not_comment token some high = ne_eqb (slice_index token 0) 35 (λ e. let above = high 0 0 some in omega (arith, above, e))
-
 -- the line is read as its entry
 reading_by : (coords : List ℕ) (v : ℕ) → AreInFile coords → v < 2 ^ 64
     → reading_of_tokens (length coords) (coordinate_texts coords ++ signed_decimal (signed_of v) ∷ [])
     ≡ Read (record { coords = coords; value = v })
-reading_by [] v in_file h =
-    let token = signed_decimal_is_token (signed_of v) (signed_fits v h) in
-    let high =
-    All-weaker IsFilled (λ byte. 35 < byte) (λ x filled. omega arith) (signed_decimal (signed_of v))
-    (signed_filled (signed_of v) (signed_fits v h)) in
-    ap (λ b. cond b Skipped (read_or_bad (entry_of (signed_decimal (signed_of v) ∷ []))))
-    (not_comment (signed_decimal (signed_of v)) token.some high)
-    ∙ ap read_or_bad (entry_read [] v in_file h)
-reading_by (c ∷ coords) v in_file h =
-    let word = file_word c (in_file 0 0 (omega arith)) in
-    let token = decimal_is_token (c + 1) word in
-    let high = All-weaker IsFilled (λ byte. 35 < byte) (λ x filled. omega arith) (decimal (c + 1)) (decimal_filled (c + 1) word) in
-    let others : List (List ℕ) = coordinate_texts coords ++ signed_decimal (signed_of v) ∷ [] in
-    let count : length others ≡ suc (length coords) =
-    omega (arith, length-append (coordinate_texts coords) (signed_decimal (signed_of v) ∷ []), length-map coords (λ x. decimal (x + 1))) in
-    ap (λ b. cond b Skipped (cond (length others == suc (length coords)) (read_or_bad (entry_of (decimal (c + 1) ∷ others))) (Bad Fields)))
-    (not_comment (decimal (c + 1)) token.some high)
-    ∙ ap (λ b. cond b (read_or_bad (entry_of (decimal (c + 1) ∷ others))) (Bad Fields)) (eq-eqb (length others) (suc (length coords)) count)
-    ∙ ap read_or_bad (entry_read (c ∷ coords) v in_file h)
+reading_by coords v in_file h =
+    let last : List (List ℕ) = signed_decimal (signed_of v) ∷ [] in
+    let long : length (coordinate_texts coords ++ last) ≡ length coords + 1 =
+    omega (arith, length-append (coordinate_texts coords) last, length-map coords (λ x. decimal (x + 1))) in
+    tokens_are_read (length coords) (coordinate_texts coords ++ last) _ long (entry_read coords v in_file h)
 
 pub reading_written : (coords : List ℕ) (v : ℕ) → AreInFile coords → v < 2 ^ 64 → length coords ≤ greatest_order
     → reading (length coords) (bare_text coords v) ≡ Read (record { coords = coords; value = v })

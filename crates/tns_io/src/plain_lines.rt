@@ -1,5 +1,5 @@
 // Reads plainly written lines in one pass: digits alone with a space between two numbers, and a minus or none before the value.
-ghost use Rattle.std.specs.Prelude.{◌≡◌, ◌+◌, ◌*◌, ◌-◌, ◌^◌, ◌<◌, ◌≤◌, [], Ok, IsTrue, IfSome, length, drop, take};
+ghost use Rattle.std.specs.Prelude.{◌≡◌, ◌+◌, ◌*◌, ◌-◌, ◌^◌, ◌<◌, ◌≤◌, [], Ok, IsTrue, IfSome, length, take};
 ghost use Rattle.std.specs.Char.{is_ascii_digit};
 ghost use Rattle.std.specs.Str.Parse.{AllDigits, digits_value};
 ghost use Rattle.numbers.specs.Signed.{word_of_signed};
@@ -7,7 +7,6 @@ ghost use Rattle.text_lines.specs.Numbers.{with_sign};
 ghost use Rattle.text_lines.specs.Tokens.{tokens};
 ghost use Rattle.tns_io.specs.Fields.{AreCoordinates, IsEntryOf};
 ghost use Rattle.tns_io.specs.Plain.{BeginsWith, FirstIs, IsNumber};
-ghost use Rattle.tns_io.specs.Reading.{value_of};
 
 /// A number below this is one of 63 bits with one more digit behind it.
 const ROOM: u64 = 100_000_000_000_000_000;

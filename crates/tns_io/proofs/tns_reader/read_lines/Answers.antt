@@ -2,7 +2,9 @@ use Rattle.std.specs.Prelude.{◌≡◌, ℕ, ◌+◌, min, List, [], ◌∷◌,
 use Rattle.std.proofs.Common.{ap, subst, sym, ◌∙◌}
 use Rattle.text_lines.specs.Buffered.{count_of}
 use Rattle.text_lines.specs.Cutting.{told_lines}
-use Rattle.text_lines.specs.LineReader.{Feeds, TellsLine, IsTooLong}
+use Rattle.text_lines.specs.LineReader.{Feeds, LineReader, TellsLine, IsTooLong}
+use Rattle.text_lines.specs.declared.step.Step.{Step}
+use Rattle.text_lines.specs.declared.step.Step.TheVariants.{Line as Told}
 use Rattle.text_lines.proofs.CuttingLaws.{told_line_short}
 use Rattle.tns_io.specs.Reading.{reading}
 use Rattle.tns_io.specs.ReadSoFar.{Fails, FailsPiece, ReadsPiece, Takes}
@@ -10,6 +12,10 @@ use Rattle.tns_io.specs.declared.file_fault.FileFault.TheVariants.{Line}
 use Rattle.tns_io.specs.declared.line_kind.LineKind.TheVariants.{LongLine}
 use Rattle.tns_io.proofs.EntryLaws.{piece_more, piece_fails, piece_too_long}
 use Rattle.tns_io.proofs.tns_reader.read_lines.Goals as goal
+
+line_told : (old new : LineReader) (piece : List ℕ) (taken : ℕ) (step : Step) → step ≡ Told → Feeds old new piece taken step
+    → TellsLine old new
+line_told old new piece taken step is feeds = subst (Feeds old new piece taken) is feeds
 
 pub returns-in-LongLine-clause-fails : goal.returns-in-LongLine-clause-fails
 returns-in-LongLine-clause-fails c =
@@ -30,9 +36,7 @@ returns-in-LongLine-clause-fails c =
 
 pub take_line-requires : goal.take_line-requires
 take_line-requires c =
-    let tells : TellsLine c.loop-lines.lines c.feed-taken.new.self =
-    subst (Feeds c.loop-lines.lines c.feed-taken.new.self c.loop-lines.rest.now c.feed-taken.result.0) c.in-Line.is
-    c.feed-taken.ensures.step in
+    let tells = line_told _ _ _ _ _ c.in-Line.is c.feed-taken.ensures.step in
     told_line_short c.feed-taken.new.self.text c.line.result.now (told_lines c.loop-lines.lines.text) tells.short
     (tells.told ∙ ap (λ l. told_lines c.loop-lines.lines.text ++ l ∷ []) (sym c.line.ensures))
 
@@ -41,9 +45,7 @@ loop-lines-preserved c =
     let start : List ℕ = c.args.lines.now.text in
     let piece : List ℕ = c.args.piece.now in
     let order : ℕ = c.loop-lines.entries.order in
-    let tells : TellsLine c.loop-lines.lines c.feed-taken.new.self =
-    subst (Feeds c.loop-lines.lines c.feed-taken.new.self c.loop-lines.rest.now c.feed-taken.result.0) c.in-Line.is
-    c.feed-taken.ensures.step in
+    let tells = line_told _ _ _ _ _ c.in-Line.is c.feed-taken.ensures.step in
     let more : ReadsPiece order start piece c.feed-taken.new.self (drop c.feed-taken.result.0 c.loop-lines.rest.now)
     c.take_line.new.entries.list =
     piece_more order start piece c.loop-lines.lines c.feed-taken.new.self c.loop-lines.rest.now c.loop-lines.entries.list
@@ -64,9 +66,7 @@ returns-in-Err-clause-fails c =
     let start : List ℕ = c.args.lines.now.text in
     let piece : List ℕ = c.args.piece.now in
     let order : ℕ = c.loop-lines.entries.order in
-    let tells : TellsLine c.loop-lines.lines c.feed-taken.new.self =
-    subst (Feeds c.loop-lines.lines c.feed-taken.new.self c.loop-lines.rest.now c.feed-taken.result.0) c.in-Line.is
-    c.feed-taken.ensures.step in
+    let tells = line_told _ _ _ _ _ c.in-Line.is c.feed-taken.ensures.step in
     let fails : FailsPiece order start piece c.in-Err.fault =
     piece_fails order start piece c.loop-lines.lines c.feed-taken.new.self c.loop-lines.rest.now c.loop-lines.entries.list
     c.feed-taken.result.0
