@@ -1,0 +1,5 @@
+pub mod Children
+pub mod CursorLaws
+pub mod Fronts
+pub mod LocateLaws
+pub mod RangeLaws
