@@ -1,0 +1,4 @@
+pub mod CodeEnds
+pub mod Ends
+pub mod Sound
+pub mod Starts

@@ -1,0 +1,125 @@
+-- What a kernel is run on: the ranges of the variables, packed operands, and the arrays with which its run starts.
+use Rattle.std.specs.Prelude.{◌≡◌, ℕ, zero, suc, ◌*◌, ◌≤◌, ◌<◌, ◌^◌, if◌then◌else◌, List, [], ◌∷◌, length, map, All}
+use Rattle.std.specs.Prelude.{Option, Some, None, option_map, option_and_then, unwrap_or, is_some, slice_get, slice_index, replicate}
+use Rattle.limits.specs.Limits.{greatest_position_count}
+use Rattle.kernel_code.specs.declared.syntax.Arr.TheVariants.{Range, Values}
+use Rattle.level_core.specs.declared.letter.Letter.{Letter}
+use Rattle.level_core.specs.declared.span.Span.{Span}
+use Rattle.level_core.specs.Entries.{one}
+use Rattle.level_core.specs.Kinds.{properties}
+use Rattle.level_core.specs.Laws.{AreAtStart}
+use Rattle.level_core.specs.Meaning.{Arrays}
+use Rattle.format_spec.specs.declared.format.FormatLevel.{FormatLevel}
+use Rattle.format_spec.specs.Formats.{letters_of, IsFormat}
+use Rattle.index_notation.specs.declared.syntax.Statement.{Statement}
+use Rattle.iteration_graph.specs.Edges.{format_of}
+use Rattle.expr_terms.specs.Ranges.{mode_size}
+use Rattle.concrete_notation.specs.Contributions.{Inputs}
+use Rattle.tensor_storage.specs.Children.{child_of}
+use Rattle.tensor_storage.specs.declared.level.StorageLevel.{StorageLevel}
+use Rattle.tensor_storage.specs.Levels.{meaning}
+use Rattle.tensor_storage.specs.Storages.{Storage, IsStorage, in_level_order}
+
+-- the range of each variable in standing order, the operands by their numbers from 1 on, and the result's format
+pub record Store : Type 0 where
+  pub ranges : List ℕ
+  pub operands : List Storage
+  pub format : List FormatLevel
+
+-- the ranges that the result's levels store: those of the left side's variables, which come first
+abbrev pub result_sizes : Store → List ℕ
+result_sizes store = in_level_order store.format store.ranges
+
+-- the arrays of these levels of a tensor, from the level of this number on, are those of the levels
+abbrev pub AreHeld : List StorageLevel → ℕ → ℕ → Arrays → Type 0
+AreHeld [] tensor level arrays = Unit {0}
+AreHeld (l ∷ ls) tensor level arrays = meaning.holds l tensor level arrays × AreHeld ls tensor (suc level) arrays
+
+-- the arrays of a tensor are those of what is stored of it; its levels are numbered from 1
+pub record IsHeld (storage : Storage) (tensor : ℕ) (arrays : Arrays) : Type 0 where
+  pub levels : AreHeld storage.levels tensor 1 arrays
+  pub values : arrays (Values tensor) ≡ Some storage.values
+
+-- so are those of each operand, from the tensor of this number on
+abbrev pub OperandsHeld : List Storage → ℕ → Arrays → Type 0
+OperandsHeld [] tensor arrays = Unit {0}
+OperandsHeld (operand ∷ operands) tensor arrays = IsHeld operand tensor arrays × OperandsHeld operands (suc tensor) arrays
+
+-- the parents of the next level as a run starts: the positions of a dense level, and none below any other
+abbrev pub parents_below : Letter → ℕ → ℕ → ℕ
+parents_below letter size parents = if (properties letter).full then parents * size else 0
+
+-- the result's arrays as a run starts, from the level of this number on: each level has the parents that dense levels alone make
+-- above it, and none below another level; the values are a zero for each parent behind the last level
+abbrev pub StartsBelow : ℕ → List Letter → List ℕ → ℕ → ℕ → Arrays → Type 0
+StartsBelow nothing (letter ∷ letters) (size ∷ sizes) parents level arrays =
+    AreAtStart letter size parents 0 level arrays
+    × StartsBelow nothing letters sizes (parents_below letter size parents) (suc level) arrays
+StartsBelow nothing _ _ parents level arrays = arrays (Values 0) ≡ Some (replicate parents nothing)
+
+-- the arrays with which the run of a kernel starts
+pub record IsGiven (nothing : ℕ) (store : Store) (arrays : Arrays) : Type 0 where
+  pub ranges : arrays Range ≡ Some store.ranges
+  pub operands : OperandsHeld store.operands 1 arrays
+  pub result : StartsBelow nothing (letters_of store.format) (result_sizes store) 1 1 arrays
+
+-- no dense level that has dense levels alone above it would have more positions than may be
+abbrev pub StartsFew : List Letter → List ℕ → ℕ → Type 0
+StartsFew (letter ∷ letters) (size ∷ sizes) parents =
+    (parents_below letter size parents ≤ greatest_position_count) × StartsFew letters sizes (parents_below letter size parents)
+StartsFew _ _ parents = Unit {0}
+
+-- the ranges that the levels of a tensor store: each the greatest range of the variables that stand at its mode in any access
+abbrev pub level_sizes : Statement → (ℕ → ℕ) → ℕ → List FormatLevel → List ℕ
+level_sizes s ranges tensor format = map (λ level. mode_size s ranges tensor level.mode) format
+
+-- what is stored of an operand keeps the rules of its format, for levels of these ranges, and its values are words
+pub record IsOperand (format : List FormatLevel) (sizes : List ℕ) (operand : Storage) : Type 0 where
+  pub format_is : operand.format ≡ format
+  pub storage : IsStorage operand
+  pub keeps : All meaning.keeps operand.levels
+  pub sizes_are : map meaning.size operand.levels ≡ sizes
+  pub words : All (λ v. v < 2 ^ 64) operand.values
+
+-- so does each operand of a statement, from the tensor of this number on
+abbrev pub AreOperands : Statement → List (List FormatLevel) → (ℕ → ℕ) → ℕ → List Storage → Type 0
+AreOperands s formats ranges tensor [] = Unit {0}
+AreOperands s formats ranges tensor (operand ∷ operands) =
+    IsOperand (format_of formats tensor) (level_sizes s ranges tensor (format_of formats tensor)) operand
+    × AreOperands s formats ranges (suc tensor) operands
+
+-- a store of a statement and formats: a range for each variable, none above the limit, an operand for each tensor of the right side,
+-- and a result that can be begun
+pub record IsStoreOf (s : Statement) (formats : List (List FormatLevel)) (store : Store) : Type 0 where
+  pub each : length store.ranges ≡ length s.vars
+  pub small : All (λ range. range ≤ greatest_position_count) store.ranges
+  pub operands : suc (length store.operands) ≡ length s.tensors
+  pub operands_keep : AreOperands s formats (slice_index store.ranges) 1 store.operands
+  pub format_is : store.format ≡ format_of formats 0
+  pub format : IsFormat store.format
+  pub few : StartsFew (letters_of store.format) (result_sizes store) 1
+
+-- the position where the path with these coordinates, in the order of the levels, ends below a span
+abbrev pub end_below : List StorageLevel → Span → List ℕ → Option ℕ
+end_below [] span [] = Some span.lo
+end_below [] span (x ∷ xs) = None
+end_below (l ∷ ls) span [] = None
+end_below (l ∷ ls) span (x ∷ xs) = option_and_then (λ child. end_below ls child xs) (child_of (meaning.entries l span) x)
+
+-- where the path with these coordinates, in the order of the modes, ends
+abbrev pub end_of : Storage → List ℕ → Option ℕ
+end_of storage coords = end_below storage.levels (one 0) (in_level_order storage.format coords)
+
+-- what is stored of a tensor of the right side; the result is tensor 0
+abbrev pub operand_of : Store → ℕ → Option Storage
+operand_of store zero = None
+operand_of store (suc n) = slice_get store.operands n
+
+-- what a store tells a statement: the paths of each operand, with the value at which each ends, and else nothing
+abbrev pub inputs_of : ℕ → Store → Inputs
+inputs_of nothing store = record {
+  paths = λ tensor coords. is_some (option_and_then (λ operand. end_of operand coords) (operand_of store tensor));
+  values = λ tensor coords. unwrap_or (option_and_then
+      (λ operand. option_map (slice_index operand.values) (end_of operand coords)) (operand_of store tensor)) nothing;
+  ranges = slice_index store.ranges;
+}

@@ -1,0 +1,8 @@
+//! What a kernel is run on and what it is to leave: stores, their arrays, and when a kernel is right for a statement and formats, or
+//! sound. `specs/Stores.antt` has the stores, `specs/Results.antt` what is left, `specs/Kernels.antt` the kernels. There is no code here
+//! but laws.
+#![tactic(auto)]
+
+mod laws;
+
+pub use laws::{ends_are_found, kernels_start_on_stores, right_kernels_are_sound};
