@@ -1,9 +1,9 @@
 -- The children of coordinates, and where entries stand.
-use Rattle.std.specs.Prelude.{◌≡◌, ℕ, ◌+◌, ◌^◌, ◌≤◌, ◌<◌, ◌==◌, Bool, true, false, if◌then◌else◌, List, [], ◌∷◌, Option, Some, None, refl}
-use Rattle.std.proofs.Common.{◌∙◌, ap, subst, arith, inl, inr}
+use Rattle.std.specs.Prelude.{◌≡◌, ℕ, ◌≤◌, ◌<◌, ◌==◌, Bool, true, false, if◌then◌else◌, List, [], ◌∷◌, Some, None, refl}
+use Rattle.std.proofs.Common.{◌∙◌, ap, arith, inl, inr}
 use Rattle.level_core.specs.declared.span.Span.{Span}
 use Rattle.level_core.specs.declared.span.Entry.{Entry}
-use Rattle.level_core.specs.Entries.{one, IsIn, Placed, Single, StandsAt, coord_at, position_of}
+use Rattle.level_core.specs.Entries.{IsIn, Placed, Single, StandsAt, coord_at, position_of}
 use Rattle.level_core.proofs.EntryLaws.{coord_here, coord_past, placed_within}
 use Rattle.level_cursors.specs.Children.{child_of, one_of}
 
@@ -12,9 +12,9 @@ pub child_is_one : (es : List Entry) (x : ℕ) → Single es → child_of es x �
 child_is_one [] x s = refl
 child_is_one (e ∷ es) x s = elim (e.coord == x) as (λ b. (if b then Some e.child else child_of es x) ≡ one_of
     (if b then Some e.child.lo else position_of es x)) [
-  | true ↦ ap (λ hi. Some (record { lo = e.child.lo; hi = hi })) s.0
-  | false ↦ child_is_one es x s.1
-]
+      | true ↦ ap (λ hi. Some (record { lo = e.child.lo; hi = hi })) s.0
+      | false ↦ child_is_one es x s.1
+    ]
 
 stands_from : (pos hi : ℕ) (es : List Entry) (e : Entry) → Placed pos hi es → StandsAt e.child.lo e es → pos ≤ e.child.lo
 stands_from pos hi [] e p h = absurd h
