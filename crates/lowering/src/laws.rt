@@ -1,0 +1,1 @@
+//! What follows from the definitions, as calls whose contract is the law. They do nothing.
