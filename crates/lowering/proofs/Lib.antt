@@ -1,5 +1,6 @@
 pub mod Equations
 pub mod Fits
+pub mod HeldStorages
 pub mod Reached
 pub mod RightLoops
 pub mod Rows

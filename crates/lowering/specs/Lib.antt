@@ -4,3 +4,4 @@ pub mod Lowered
 pub mod Right
 pub mod Seeking
 pub mod Shapes
+pub mod Stored

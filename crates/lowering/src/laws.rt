@@ -13,6 +13,10 @@ ghost use Rattle.lowering.specs.Held.{AreHeld};
 ghost use Rattle.lowering.specs.Layouts.{layout_of};
 ghost use Rattle.lowering.specs.Lowered.{AddsRows, IsInOrder, plain};
 ghost use Rattle.lowering.specs.Right.{AreRight, pairs, rows_to};
+ghost use Rattle.lowering.specs.Stored.{HasStorage, stored_of};
+ghost use Rattle.tensor_storage.specs.Storages.{Storage};
+ghost use Rattle.expr_terms.specs.ValueLaws.{AreWords};
+ghost use Rattle.lists.specs.Each.{Each};
 
 /// The rows that loops add have the values of the statement that they were lowered from, and its support, also through a
 /// workspace.
@@ -32,4 +36,12 @@ pub fn rows_are_pairs()
         → AddsRows s formats c loops → (a : Arithmetic) → Laws a → (inputs : Inputs) (stored : Stored)
         → AreHeld a (layout_of s formats) stored s.accesses inputs → (target : List ℕ)
         → length (rows_to a s formats inputs stored target loops) ≡ pairs s in_order.order inputs }
+{}
+
+/// Where each access's tensor has a storage of its format, and the storages are what the inputs tell, that is what is held. The
+/// tensors of storage that are packed have such storages.
+pub fn packed_tensors_stand()
+    ensures { (a : Arithmetic) (s : Statement) (formats : List (List FormatLevel)) (storages : ℕ → Storage) (inputs : Inputs)
+        → AreWords inputs.values → Each (HasStorage a formats storages inputs) s.accesses
+        → AreHeld a (layout_of s formats) (stored_of s storages) s.accesses inputs }
 {}
