@@ -1,5 +1,7 @@
 -- In a loop order each term fits its loops.
-use Rattle.std.specs.Prelude.{◌≡◌, ◌≢◌, ◌⊎◌, ℕ, zero, suc, ◌+◌, ◌≤◌, ◌<◌, ◌==◌, nat_eq, Bool, true, false, not, ◌||◌, ◌&&◌, cond, if◌then◌else◌, List, [], ◌∷◌, ◌++◌, length, map, filter, take, All, Some, slice_get, slice_index, slice_index_or, refl}
+use Rattle.std.specs.Prelude.{◌≡◌, ◌≢◌, ◌⊎◌, ℕ, zero, suc, ◌+◌, ◌≤◌, ◌<◌, ◌==◌, nat_eq, Bool, true, false, not, ◌||◌}
+use Rattle.std.specs.Prelude.{◌&&◌, cond, if◌then◌else◌, List, [], ◌∷◌, ◌++◌, length}
+use Rattle.std.specs.Prelude.{map, filter, take, All, Some, slice_get, slice_index, slice_index_or, refl}
 use Rattle.std.specs.List.{list_any, list_all}
 use Rattle.std.proofs.Common.{◌∙◌, sym, ap, subst, arith, inl, inr}
 use Rattle.std.proofs.lemmas.Bool.Decides.{nat_tests}
@@ -59,14 +61,16 @@ mutual
   terms_under : (n : ℕ) (e : Expr) → AccessesUnder n e → Each (λ (t : Term). EachAccess (λ k. k < n) t.expr) (terms e)
   terms_under n (Num k) h = (tt, tt)
   terms_under n (AccessOf k) h = (h, tt)
-  terms_under n (Add' p e q f) h = each_append (λ (t : Term). EachAccess (λ k. k < n) t.expr) (terms_in e) (terms_in f) (terms_under_in n e h.0) (terms_under_in n f h.1)
+  terms_under n (Add' p e q f) h = each_append (λ (t : Term). EachAccess (λ k. k < n) t.expr) (terms_in e) (terms_in f)
+      (terms_under_in n e h.0) (terms_under_in n f h.1)
   terms_under n (Sub' p e q f) h =
       each_append (λ (t : Term). EachAccess (λ k. k < n) t.expr) (terms_in e) (map negated_term (terms_in f)) (terms_under_in n e h.0)
       (negated n (terms_in f) (terms_under_in n f h.1))
   terms_under n (Mul' p e q f) h = ((under_in n e h.0, under_in n f h.1), tt)
   terms_under n (Neg' p e) h = negated n (terms_in e) (terms_under_in n e h)
 
-  terms_under_in : {m : _} (n : ℕ) (row : Row_of-Expr m) → AccessesUnder_in n row → Each (λ (t : Term). EachAccess (λ k. k < n) t.expr) (terms_in row)
+  terms_under_in : {m : _} (n : ℕ) (row : Row_of-Expr m) → AccessesUnder_in n row
+      → Each (λ (t : Term). EachAccess (λ k. k < n) t.expr) (terms_in row)
   terms_under_in n end_of-Expr h = tt
   terms_under_in n (more_of-Expr e rest) h = terms_under n e h
 
@@ -151,10 +155,12 @@ any_second f [] ys h = h
 any_second f (x ∷ xs) ys h = or_right (f x) (list_any f (xs ++ ys)) (any_second f xs ys h)
 
 -- two levels one below the other give an edge
-neighbours_edge : (ws : List ℕ) (i d : ℕ) → suc i < length ws → list_any (leads (slice_index_or ws i d) (slice_index_or ws (suc i) d)) (neighbours ws) ≡ true
+neighbours_edge : (ws : List ℕ) (i d : ℕ) → suc i < length ws
+    → list_any (leads (slice_index_or ws i d) (slice_index_or ws (suc i) d)) (neighbours ws) ≡ true
 neighbours_edge [] i d l = absurd (omega (arith, l))
 neighbours_edge (v ∷ []) i d l = absurd (omega (arith, l))
-neighbours_edge (v ∷ w ∷ rest) zero d l = or_left (leads v w (v, w)) (list_any (leads v w) (neighbours (w ∷ rest))) (both_same (v == v) (w == w) (eq_self v) (eq_self w))
+neighbours_edge (v ∷ w ∷ rest) zero d l = or_left (leads v w (v, w)) (list_any (leads v w) (neighbours (w ∷ rest))) (both_same (v == v)
+    (w == w) (eq_self v) (eq_self w))
   where
     eq_self : (n : ℕ) → (n == n) ≡ true
     eq_self n = grind (arith, nat_tests)
@@ -174,7 +180,8 @@ all_full (l ∷ levels) zero h = first (properties l.letter).full (list_all (λ 
     first : (b c : Bool) → (b && c) ≡ true → b ≡ true
     first true c h = refl
     first false c h = absurd (cc h)
-all_full (l ∷ levels) (suc d) h = all_full levels d (second (properties l.letter).full (list_all (λ level. (properties level.letter).full) levels) h)
+all_full (l ∷ levels) (suc d) h = all_full levels d (second (properties l.letter).full (list_all (λ level.
+    (properties level.letter).full) levels) h)
   where
     second : (b c : Bool) → (b && c) ≡ true → c ≡ true
     second true c h = h
@@ -191,12 +198,15 @@ in_accesses formats (a ∷ accesses) zero access f h any =
     same : Some a ≡ Some access → access ≡ a
     same h = cc
 in_accesses formats (a ∷ accesses) (suc k) access f h any =
-    any_second f (access_edges (format_of formats a.tensor) a.vars) (edges_of formats accesses) (in_accesses formats accesses k access f h any)
+    any_second f (access_edges (format_of formats a.tensor) a.vars) (edges_of formats accesses)
+    (in_accesses formats accesses k access f h any)
 
-module _ (s : Statement) (formats : List (List FormatLevel)) (numbered : IsNumbered s) (formed : Each (λ (a : Access). IsFormat (format_of formats a.tensor)) s.accesses)
+module _ (s : Statement) (formats : List (List FormatLevel)) (numbered : IsNumbered s) (formed : Each (λ (a : Access). IsFormat
+    (format_of formats a.tensor)) s.accesses)
     (orders : Each (HasFormat formats) s.accesses) where
   -- what is so of each access is so of the one with a number
-  of_number : (P : Access → Type 0) (accesses : List Access) (k : ℕ) (access : Access) → Each P accesses → slice_get accesses k ≡ Some access → P access
+  of_number : (P : Access → Type 0) (accesses : List Access) (k : ℕ) (access : Access) → Each P accesses
+      → slice_get accesses k ≡ Some access → P access
   of_number P [] k access h is = absurd (cc is)
   of_number P (a ∷ accesses) zero access h is = subst P (same a access is) h.0
     where
@@ -205,14 +215,16 @@ module _ (s : Statement) (formats : List (List FormatLevel)) (numbered : IsNumbe
   of_number P (a ∷ accesses) (suc k) access h is = of_number P accesses k access h.1 is
 
   -- each of the variables of the levels of an access is one of its variables
-  each_mapped : (vars modes : List ℕ) → Each (λ mode. mode < length vars) modes → Each (λ w. contains vars w ≡ true) (map (slice_index vars) modes)
+  each_mapped : (vars modes : List ℕ) → Each (λ mode. mode < length vars) modes
+      → Each (λ w. contains vars w ≡ true) (map (slice_index vars) modes)
   each_mapped vars [] h = tt
   each_mapped vars (m ∷ modes) h = (at vars m h.0, each_mapped vars modes h.1)
     where
       at : (vars : List ℕ) (m : ℕ) → m < length vars → contains vars (slice_index vars m) ≡ true
       at [] m l = absurd (omega (arith, l))
       at (v ∷ vars) zero l = or_left (nat_eq v v) (contains vars v) (self_test v)
-      at (v ∷ vars) (suc m) l = or_right (nat_eq v (slice_index vars m)) (contains vars (slice_index vars m)) (at vars m (omega (arith, l)))
+      at (v ∷ vars) (suc m) l = or_right (nat_eq v (slice_index vars m)) (contains vars (slice_index vars m)) (at vars m (omega
+          (arith, l)))
 
   all_each : (n : ℕ) (modes : List ℕ) → All (λ mode. mode < n) modes → Each (λ mode. mode < n) modes
   all_each n [] h = tt
@@ -259,10 +271,12 @@ module _ (s : Statement) (formats : List (List FormatLevel)) (numbered : IsNumbe
           by false left =
               contains_filtered (is_own s t.expr) (numbers_from 0 (length s.vars)) w
               ∙ both (stands_in s.accesses w t.expr) (contains s.left.vars w) (contains (numbers_from 0 (length s.vars)) w) stands left
-              (number_in 0 (length s.vars) w (omega arith) (let below = variable_below w h in let high : w < 0 + length s.vars = omega (arith, below) in high))
+              (number_in 0 (length s.vars) w (omega arith) (let below = variable_below w h in let high : w < 0 + length s.vars = omega
+              (arith, below) in high))
 
       -- a loop that comes next reaches one level at most of an access with edges
-      next_reaches : (done rest bound : List ℕ) (v : ℕ) → order ≡ done ++ v ∷ rest → ((w : ℕ) → contains bound w ≡ true → contains done w ≡ true)
+      next_reaches : (done rest bound : List ℕ) (v : ℕ) → order ≡ done ++ v ∷ rest → ((w : ℕ) → contains bound w ≡ true
+          → contains done w ≡ true)
           → contains done v ≡ false → MayLoop s formats bound v k
       next_reaches done rest bound v all known fresh d below part = elim (less_or_more (reached (v ∷ bound) ws) (suc (reached bound ws))) [
         | inl few ↦ few
@@ -290,7 +304,8 @@ module _ (s : Statement) (formats : List (List FormatLevel)) (numbered : IsNumbe
 
           first_is : suc (reached bound ws) < reached (v ∷ bound) ws → v ≡ first
           first_is many =
-              same_by v first (by_first (nat_eq v first) (contains bound first) (reached_bound (v ∷ bound) ws (reached bound ws) 0 (omega (arith, many)))
+              same_by v first (by_first (nat_eq v first) (contains bound first) (reached_bound (v ∷ bound) ws (reached bound ws) 0
+              (omega (arith, many)))
               (reached_stops bound ws 0 (omega (arith, many, within))))
 
           edges_here : list_all (λ level. (properties level.letter).full) (format_of formats access.tensor) ≡ false
@@ -307,13 +322,15 @@ module _ (s : Statement) (formats : List (List FormatLevel)) (numbered : IsNumbe
           edge many =
               any_second (leads v second) (access_edges (format_of formats s.left.tensor) s.left.vars) (edges_of formats s.accesses)
               (in_accesses formats s.accesses k access (leads v second) is
-              (ap (λ b. list_any (leads v second) (if b then [] else neighbours (by_level (format_of formats access.tensor) access.vars))) edges_here
+              (ap (λ b. list_any (leads v second) (if b then [] else neighbours (by_level
+              (format_of formats access.tensor) access.vars))) edges_here
               ∙ ap (λ o. list_any (leads v second) (neighbours (variables_of formats o))) (sym is)
               ∙ ap (λ u. list_any (leads u second) (neighbours ws)) (first_is many)
               ∙ neighbours_edge ws (reached bound ws) 0 (omega (arith, many, within))))
 
           second_known : suc (reached bound ws) < reached (v ∷ bound) ws → contains (done ++ v ∷ []) second ≡ true
-          second_known many = contains_both done (v ∷ []) second ∙ by (or_split (nat_eq v second) (contains bound second) (reached_bound (v ∷ bound) ws (suc (reached bound ws)) 0 many))
+          second_known many = contains_both done (v ∷ []) second
+              ∙ by (or_split (nat_eq v second) (contains bound second) (reached_bound (v ∷ bound) ws (suc (reached bound ws)) 0 many))
             where
               by : (nat_eq v second ≡ true) ⊎ (contains bound second ≡ true) → (contains done second || (nat_eq v second || false)) ≡ true
               by (inl h) = or_right (contains done second) (nat_eq v second || false) (or_left (nat_eq v second) false h)
@@ -339,8 +356,10 @@ module _ (s : Statement) (formats : List (List FormatLevel)) (numbered : IsNumbe
               let in_order : slice_index_or order p.0 0 ≡ second =
               ap (λ xs. slice_index_or xs p.0 0) order_is ∙ at_front (done ++ v ∷ []) rest p.0 0 p.1 ∙ p.2 in
               let v_in : contains access.vars v ≡ true =
-              ap (contains access.vars) (first_is many) ∙ each_at (λ w. contains access.vars w ≡ true) ws (reached bound ws) 0 variables (omega (arith, many, within)) in
-              let forward = each_forward (length s.vars) (statement_edges s formats) order v p.0 0 placed (omega (arith, p.1, total, count)) (variable_below v v_in)
+              ap (contains access.vars) (first_is many) ∙ each_at (λ w. contains access.vars w ≡ true) ws
+              (reached bound ws) 0 variables (omega (arith, many, within)) in
+              let forward = each_forward (length s.vars) (statement_edges s formats) order v p.0 0 placed (omega
+              (arith, p.1, total, count)) (variable_below v v_in)
               (ap (has_edge (statement_edges s formats) v) in_order ∙ edge many) in
               among_front done (v ∷ rest) p.0 v (omega (arith, p.1, size)) (ap (λ xs. is_among (take p.0 xs) v) (sym all) ∙ forward)
 
@@ -388,7 +407,8 @@ module _ (s : Statement) (formats : List (List FormatLevel)) (numbered : IsNumbe
         at w = contains_both done (v ∷ []) w
 
         still : around v ≡ false → (w : ℕ) → contains bound w ≡ (around w && contains (done ++ v ∷ []) w)
-        still skips w = are w ∙ cases (nat_eq v w) (around w) (contains done w) (λ h. ap around (sym (same_by v w h)) ∙ skips) ∙ ap (λ b. around w && b) (sym (at w))
+        still skips w = are w ∙ cases (nat_eq v w) (around w) (contains done w) (λ h. ap around (sym (same_by v w h)) ∙ skips)
+            ∙ ap (λ b. around w && b) (sym (at w))
           where
             cases : (x a c : Bool) → (x ≡ true → a ≡ false) → (a && c) ≡ (a && (c || (x || false)))
             cases true a c f = ap (λ b. b && c) (f refl) ∙ sym (ap (λ b. b && (c || true)) (f refl))
@@ -399,7 +419,8 @@ module _ (s : Statement) (formats : List (List FormatLevel)) (numbered : IsNumbe
         more : around v ≡ true → (w : ℕ) → contains (v ∷ bound) w ≡ (around w && contains (done ++ v ∷ []) w)
         more takes w =
             ap (λ b. nat_eq v w || b) (are w)
-            ∙ cases (nat_eq v w) (around w) (contains done w) (λ h. ap around (sym (same_by v w h)) ∙ takes) ∙ ap (λ b. around w && b) (sym (at w))
+            ∙ cases (nat_eq v w) (around w) (contains done w) (λ h. ap around (sym (same_by v w h)) ∙ takes)
+            ∙ ap (λ b. around w && b) (sym (at w))
           where
             or_true : (c : Bool) → (c || true) ≡ true
             or_true true = refl

@@ -1,6 +1,8 @@
 pub mod Equations
 pub mod Fits
+pub mod HeldStorages
 pub mod Reached
+pub mod RightLoops
 pub mod Rows
 pub mod Shapes
 pub mod Steps

@@ -1,5 +1,6 @@
 -- The levels of an access that bound variables reach, and the seeks of a loop.
-use Rattle.std.specs.Prelude.{◌≡◌, ◌≢◌, ◌⊎◌, ℕ, zero, suc, ◌+◌, ◌-◌, ◌≤◌, ◌<◌, nat_eq, Bool, true, false, ◌||◌, if◌then◌else◌, List, [], ◌∷◌, ◌++◌, length, slice_index_or, slice_get, refl}
+use Rattle.std.specs.Prelude.{◌≡◌, ◌≢◌, ◌⊎◌, ℕ, zero, suc, ◌+◌, ◌-◌, ◌≤◌, ◌<◌, nat_eq, Bool}
+use Rattle.std.specs.Prelude.{true, false, ◌||◌, if◌then◌else◌, List, [], ◌∷◌, ◌++◌, length, slice_index_or, slice_get, refl}
 use Rattle.std.proofs.Common.{◌∙◌, sym, ap, subst, arith, inl, inr}
 use Rattle.std.proofs.lemmas.Bool.Decides.{nat_tests, eqb_tells}
 use Rattle.format_spec.specs.declared.format.FormatLevel.{FormatLevel}
@@ -58,7 +59,8 @@ reached_bound bound (w ∷ ws) e d l = by (reached_bound bound ws) e (contains b
     by rest (suc e) true is k = rest e d (omega (arith, k))
 
 -- and that of the next level isn't
-pub reached_stops : (bound ws : List ℕ) (d : ℕ) → reached bound ws < length ws → contains bound (slice_index_or ws (reached bound ws) d) ≡ false
+pub reached_stops : (bound ws : List ℕ) (d : ℕ) → reached bound ws < length ws
+    → contains bound (slice_index_or ws (reached bound ws) d) ≡ false
 reached_stops bound [] d l = absurd (omega (arith, l))
 reached_stops bound (w ∷ ws) d l = by (contains bound w) refl l (reached_stops bound ws d)
   where
@@ -88,7 +90,8 @@ depth_chain full k d zero depth j = by (nat_eq k j) (same_by k j)
     by false h = refl
 depth_chain full k d (suc n) depth j =
     depth_chain full k (suc d) n (deeper depth k) j
-    ∙ ap (λ b. if nat_eq k j then (if b then suc (depth k) else depth k) + n else (if nat_eq k j then suc (depth k) else depth j)) (test_self k)
+    ∙ ap (λ b. if nat_eq k j then (if b then suc (depth k) else depth k) + n else (if nat_eq k j then suc (depth k) else depth j))
+    (test_self k)
     ∙ by (nat_eq k j)
   where
     by : (b : Bool) → (if b then suc (depth k) + n else (if b then suc (depth k) else depth j)) ≡ (if b then depth k + suc n else depth j)
@@ -130,9 +133,11 @@ module _ (s : Statement) (formats : List (List FormatLevel)) (v : ℕ) (bound : 
       variable_is : d ≡ reached bound ws → slice_index_or ws d 0 ≡ v
       variable_is first =
           let stops : contains bound (slice_index_or ws d 0) ≡ false =
-          subst (λ e. contains bound (slice_index_or ws e 0) ≡ false) (sym first) (reached_stops bound ws 0 (omega (arith, first, high, within))) in
+          subst (λ e. contains bound (slice_index_or ws e 0) ≡ false) (sym first) (reached_stops bound ws 0 (omega
+          (arith, first, high, within))) in
           let found : contains (v ∷ bound) (slice_index_or ws d 0) ≡ true = reached_bound (v ∷ bound) ws d 0 (omega (arith, high)) in
-          sym (same_by v (slice_index_or ws d 0) (by (nat_eq v (slice_index_or ws d 0)) (contains bound (slice_index_or ws d 0)) found stops))
+          sym (same_by v (slice_index_or ws d 0) (by (nat_eq v (slice_index_or ws d 0)) (contains bound
+          (slice_index_or ws d 0)) found stops))
         where
           by : (b c : Bool) → (b || c) ≡ true → c ≡ false → b ≡ true
           by true c h g = refl
@@ -169,7 +174,8 @@ module _ (s : Statement) (formats : List (List FormatLevel)) (v : ℕ) (bound : 
         ap (λ b. depth_after (seeks_if b (full_of k) k (variables_at s formats k) bound (v ∷ bound)) depth k) is
         ∙ depth_chain (full_of k) k (reached bound (variables_at s formats k))
         (reached (v ∷ bound) (variables_at s formats k) - reached bound (variables_at s formats k)) depth k
-        ∙ ap (λ b. if b then depth k + (reached (v ∷ bound) (variables_at s formats k) - reached bound (variables_at s formats k)) else depth k)
+        ∙ ap (λ b. if b then depth k + (reached (v ∷ bound) (variables_at s formats k) - reached bound
+        (variables_at s formats k)) else depth k)
         (test_self k)
         ∙ omega (arith, here, low, more)
 
@@ -181,7 +187,8 @@ module _ (s : Statement) (formats : List (List FormatLevel)) (v : ℕ) (bound : 
         by true =
             depth_chain (full_of k) k (reached bound (variables_at s formats k))
             (reached (v ∷ bound) (variables_at s formats k) - reached bound (variables_at s formats k)) depth j
-            ∙ ap (λ b. if b then depth k + (reached (v ∷ bound) (variables_at s formats k) - reached bound (variables_at s formats k)) else depth j)
+            ∙ ap (λ b. if b then depth k + (reached (v ∷ bound) (variables_at s formats k) - reached bound
+            (variables_at s formats k)) else depth j)
             (test_other k j other)
 
     pub all_are : (ks : List ℕ) → IsDistinct ks → Each (λ k. k < length s.accesses) ks → (depth : ℕ → ℕ)
@@ -189,7 +196,8 @@ module _ (s : Statement) (formats : List (List FormatLevel)) (v : ℕ) (bound : 
         → AreSeeks (layout_of s formats) (length s.accesses) v bound above depth (seeks_below ks)
     all_are [] once below depth here = tt
     all_are (k ∷ ks) once below depth here =
-        are_both (layout_of s formats) (length s.accesses) v bound above (of_access k) (seeks_below ks) depth (access_are k below.0 depth here.0)
+        are_both (layout_of s formats) (length s.accesses) v bound above (of_access k) (seeks_below ks) depth
+        (access_are k below.0 depth here.0)
         (all_are ks once.1 below.1 (depth_after (of_access k) depth) (still ks once.0 here.1))
       where
         still : (js : List ℕ) → Each (λ j. k ≢ j) js → Each (λ j. depth j ≡ above j) js
@@ -219,7 +227,8 @@ module _ (s : Statement) (formats : List (List FormatLevel)) (v : ℕ) (bound : 
         in_rest true h g = absurd (cc g)
         in_rest false h g = h
 
-        by : (contains ks j ≡ true → depth_after (seeks_below ks) (depth_after (of_access k) depth) j ≡ reached (v ∷ bound) (variables_at s formats j))
+        by : (contains ks j ≡ true → depth_after (seeks_below ks) (depth_after (of_access k) depth) j ≡ reached (v ∷ bound)
+            (variables_at s formats j))
             → ((nat_eq k j ≡ true) × (k ≡ j)) ⊎ ((nat_eq k j ≡ false) × (k ≢ j))
             → depth_after (seeks_below ks) (depth_after (of_access k) depth) j ≡ reached (v ∷ bound) (variables_at s formats j)
         by later (inl same) =
@@ -233,7 +242,8 @@ pub only_used : (s : Statement) (formats : List (List FormatLevel)) (used : ℕ 
     → Each (λ (x : Seek). used x.access ≡ true) (seeks_at s formats used outer inner ks)
 only_used s formats used outer inner [] = tt
 only_used s formats used outer inner (k ∷ ks) =
-    each_both (seeks_if (used k) (full_at (levels_of formats (slice_get s.accesses k))) k (variables_of formats (slice_get s.accesses k)) outer inner)
+    each_both (seeks_if (used k) (full_at (levels_of formats (slice_get s.accesses k))) k (variables_of formats
+    (slice_get s.accesses k)) outer inner)
     (seeks_at s formats used outer inner ks) (of_one (used k) refl) (only_used s formats used outer inner ks)
   where
     each_both : (xs ys : List Seek) → Each (λ (x : Seek). used x.access ≡ true) xs → Each (λ (x : Seek). used x.access ≡ true) ys

@@ -26,5 +26,6 @@ path_value layout stored point k = word_of (stored.word k) (path_span layout sto
 pub record AreHeld (a : Arithmetic) (layout : Layout) (stored : Stored) (accesses : List Access) (inputs : Inputs) : Type 0 where
   pub words : AreWords inputs.values
   pub told : (k : ℕ) → k < length accesses → (point : ℕ → ℕ)
-      → TellsPart a (access_is_present inputs.paths point (slice_get accesses k)) (access_value_or_zero a inputs.values point (slice_get accesses k))
+      → TellsPart a (access_is_present inputs.paths point (slice_get accesses k)) (access_value_or_zero a inputs.values point
+      (slice_get accesses k))
       (path_value layout stored point k)
