@@ -33,7 +33,8 @@ pub record SinkLaws {K : Type 0} (sink : Sink K) : Type 0 where
       → ((y : ℕ) → sink.mine k y → t.vars y ≡ s.vars y) → ((b : Arr) → t.arrays b ≡ s.arrays b)
       → sink.holds k a ranges rows s → sink.holds k a ranges rows t
   -- more rows are refused no less
-  pub more : (k : K) (rows others : List Entry) (b : Arr) (count : ℕ) → sink.refused k rows b count → sink.refused k (rows ++ others) b count
+  pub more : (k : K) (rows others : List Entry) (b : Arr) (count : ℕ) → sink.refused k rows b count
+      → sink.refused k (rows ++ others) b count
 
 -- the code adds rows to those that the sink holds, and leaves all else below free, within so many turns of each kind; or it is
 -- refused a growth, as the sink may be

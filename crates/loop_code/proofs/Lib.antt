@@ -1,0 +1,5 @@
+pub mod Equations
+pub mod Merged
+pub mod Parts
+pub mod PresentParts
+pub mod Turns

@@ -1,0 +1,6 @@
+pub mod Loops
+pub mod Merged
+pub mod Parts
+pub mod Places
+pub mod PresentValues
+pub mod Turns

@@ -1,0 +1,11 @@
+//! A concrete statement lowered to loops over the levels of its tensors. `specs/Layouts.antt` says which levels the accesses
+//! of a statement have, `specs/Held.antt` when what is stored of them is what the operands tell, `specs/Lowered.antt` what
+//! the loops of a concrete statement are, and `lower` makes them.
+#![tactic(auto)]
+
+mod laws;
+mod lowering;
+mod seeking;
+
+pub use laws::{bodies_have_the_terms, loops_are_right, packed_tensors_stand, rows_are_pairs};
+pub use lowering::lower;

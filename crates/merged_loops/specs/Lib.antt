@@ -1,0 +1,9 @@
+pub mod Cursors
+pub mod Either
+pub mod EitherLaws
+pub mod Fronts
+pub mod Laws
+pub mod Merges
+pub mod Parts
+pub mod PieceLaws
+pub mod Pieces

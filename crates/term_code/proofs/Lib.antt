@@ -1,0 +1,4 @@
+pub mod OptionLaws
+pub mod Parts
+pub mod PlaceLaws
+pub mod PresenceLaws

@@ -1,0 +1,4 @@
+pub mod OptionCodes
+pub mod Options
+pub mod Places
+pub mod Presence

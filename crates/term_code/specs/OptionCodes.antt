@@ -1,0 +1,34 @@
+-- The code of values that may be absent: 1 and the value, or 0.
+use Rattle.std.specs.Prelude.{ℕ, ◌+◌, List, [], ◌∷◌}
+use Rattle.kernel_code.specs.declared.syntax.Arr.TheVariants.{Values}
+use Rattle.kernel_code.specs.declared.syntax.ValueOp.TheVariants.{Plus, Times}
+use Rattle.kernel_code.specs.declared.syntax.KExpr.{Num, Var, At}
+use Rattle.kernel_code.specs.declared.syntax.KStmt.{KStmt, Set, Combine, If}
+use Rattle.term_code.specs.Places.{AccessPlace}
+
+abbrev pub number_code : ℕ → ℕ → List KStmt
+number_code n free = Set free (Num 1) ∷ Set (free + 1) (Num n) ∷ []
+
+-- the value at an access's first position, where the access is present
+abbrev pub access_code : AccessPlace → ℕ → List KStmt
+access_code p free = If (Var p.cursor) (Set free (Num 1) ∷ Set (free + 1) (At (Values p.tensor) (Var (p.cursor + 1))) ∷ []) (Set free (Num 0) ∷ []) ∷ []
+
+-- of two values, one from free on and the other from free + 2 on, the sum where both are there, else the one that is
+abbrev pub either_code : ℕ → List KStmt
+either_code free =
+    If (Var (free + 2))
+    (If (Var free)
+    (Combine (free + 1) Plus (Var (free + 1)) (Var (free + 2 + 1)) ∷ [])
+    (Set free (Num 1) ∷ Set (free + 1) (Var (free + 2 + 1)) ∷ []) ∷ [])
+    [] ∷ []
+
+-- their product, where both are there
+abbrev pub both_code : ℕ → List KStmt
+both_code free =
+    If (Var free)
+    (If (Var (free + 2)) (Combine (free + 1) Times (Var (free + 1)) (Var (free + 2 + 1)) ∷ []) (Set free (Num 0) ∷ []) ∷ [])
+    [] ∷ []
+
+-- a value by a number, where it is there
+abbrev pub each_code : ℕ → ℕ → List KStmt
+each_code n free = If (Var free) (Combine (free + 1) Times (Num n) (Var (free + 1)) ∷ []) [] ∷ []

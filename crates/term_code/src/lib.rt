@@ -1,0 +1,13 @@
+//! The code of one term: whether the term is present where the loops around stand, its value there, and the row that it adds.
+//! `specs/Places.antt` says where a kernel keeps what loops have found, `specs/Options.antt` what it is that code leaves a value
+//! that may be absent, and `specs/Terms.antt` that code adds a term's row to a sink. Two sinks take the rows: the values of a
+//! dense result, and a workspace.
+#![tactic(auto)]
+
+mod places;
+mod presence;
+mod values;
+
+pub use places::{AccessPlace, Places, at_top};
+pub use presence::{fullness_of, presence_of};
+pub use values::emit_value;
