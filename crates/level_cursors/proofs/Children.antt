@@ -5,7 +5,8 @@ use Rattle.level_core.specs.declared.span.Span.{Span}
 use Rattle.level_core.specs.declared.span.Entry.{Entry}
 use Rattle.level_core.specs.Entries.{IsIn, Placed, Single, StandsAt, coord_at, position_of}
 use Rattle.level_core.proofs.EntryLaws.{coord_here, coord_past, placed_within}
-use Rattle.level_cursors.specs.Children.{child_of, one_of}
+use Rattle.tensor_storage.specs.Children.{child_of}
+use Rattle.level_cursors.specs.Children.{one_of}
 
 -- where each coordinate has one child position, that position tells the child
 pub child_is_one : (es : List Entry) (x : ℕ) → Single es → child_of es x ≡ one_of (position_of es x)

@@ -20,7 +20,8 @@ use Rattle.level_core.specs.Fragments.{Reads, OptionLeft, probe_turns}
 use Rattle.level_core.specs.Codes.{LocateCode}
 use Rattle.level_core.specs.Meaning.{Meaning}
 use Rattle.level_core.specs.Laws.{Laws}
-use Rattle.level_cursors.specs.Children.{child_of, ChildLeft, one_of}
+use Rattle.tensor_storage.specs.Children.{child_of}
+use Rattle.level_cursors.specs.Children.{ChildLeft, one_of}
 use Rattle.level_cursors.specs.Located.{Locates, locate_code}
 use Rattle.level_cursors.proofs.Children.{child_is_one, position_below}
 

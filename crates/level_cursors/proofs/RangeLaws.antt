@@ -13,7 +13,7 @@ use Rattle.kernel_code.specs.Keeps.{Leaves, EveryArray, no_turns}
 use Rattle.kernel_code.proofs.Keeps.{this_var, leaves_set, leaves_none}
 use Rattle.kernel_code.proofs.Words.{binary_is, sum_is}
 use Rattle.level_core.specs.Entries.{Rising, one}
-use Rattle.level_cursors.specs.Children.{child_of}
+use Rattle.tensor_storage.specs.Children.{child_of}
 use Rattle.level_cursors.specs.Cursors.{no_coordinate, front, after}
 use Rattle.level_cursors.specs.Ranges.{coordinates, all_coordinates, RangeStands, StartsRange, StepsRange, start_range_code}
 use Rattle.level_cursors.specs.Ranges.{step_range_code}
