@@ -1,0 +1,4 @@
+pub mod Finished
+pub mod Holding
+pub mod Packed
+pub mod Seen

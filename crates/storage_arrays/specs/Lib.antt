@@ -1,0 +1,4 @@
+pub mod Arrays
+pub mod Done
+pub mod Kinds
+pub mod Views
