@@ -1,5 +1,5 @@
 -- What storages of the operands' tensors hold is what the operands tell.
-use Rattle.std.specs.Prelude.{◌≡◌, ◌⊎◌, ℕ, zero, suc, ◌+◌, ◌<◌, ◌≤◌, true, false, List}
+use Rattle.std.specs.Prelude.{◌≡◌, ◌⊎◌, ℕ, zero, suc, ◌+◌, ◌<◌, ◌≤◌, List}
 use Rattle.std.specs.Prelude.{[], ◌∷◌, length, map, drop, Option, Some, None, slice_get, slice_index, slice_index_or, refl}
 use Rattle.std.proofs.Common.{◌∙◌, sym, ap, subst, arith, inl, inr, get_or}
 use Rattle.numbers.specs.Arithmetic.{Arithmetic}
@@ -7,7 +7,7 @@ use Rattle.level_core.specs.declared.letter.Letter.TheVariants.{Dense}
 use Rattle.level_core.specs.declared.span.Span.{Span}
 use Rattle.level_core.specs.Entries.{one}
 use Rattle.format_spec.specs.declared.format.FormatLevel.{FormatLevel}
-use Rattle.format_spec.specs.Formats.{letters_of, modes_of, IsFormat}
+use Rattle.format_spec.specs.Formats.{modes_of}
 use Rattle.index_notation.specs.declared.syntax.Access.{Access}
 use Rattle.index_notation.specs.declared.syntax.Statement.{Statement}
 use Rattle.expr_terms.specs.Value.{access_value_or_zero}
@@ -20,7 +20,7 @@ use Rattle.tensor_storage.specs.Children.{child_of}
 use Rattle.tensor_storage.specs.Laws.{laws}
 use Rattle.tensor_storage.specs.declared.level.StorageLevel.{StorageLevel}
 use Rattle.tensor_storage.specs.Levels.{entries_of, meaning}
-use Rattle.tensor_storage.specs.Storages.{Storage, IsStorage, EndsAt, in_level_order}
+use Rattle.tensor_storage.specs.Storages.{Storage, in_level_order}
 use Rattle.tensor_storage.proofs.Paths.{Reached, none_reached, coordinate_left, next_reached, none_further, path_ends, mode_below}
 use Rattle.concrete_notation.specs.Contributions.{Inputs}
 use Rattle.loop_code.specs.Loops.{follow, word_of}
@@ -28,7 +28,7 @@ use Rattle.lowering.specs.Held.{path_span, path_value, AreHeld}
 use Rattle.lowering.specs.Layouts.{layout_of, variables_of}
 use Rattle.lowering.specs.Stored.{entries_behind, stored_of, levels_stored, values_stored, IsToldBy, HasStorage}
 
-map_long : {X Y : Type 0} (f : X → Y) (xs : List X) → length (map f xs) ≡ length xs
+pub map_long : {X Y : Type 0} (f : X → Y) (xs : List X) → length (map f xs) ≡ length xs
 map_long f [] = refl
 map_long f (x ∷ xs) = ap suc (map_long f xs)
 
@@ -50,7 +50,7 @@ level_behind (x ∷ levels) zero l = record { level = x; is = refl; entries = λ
 level_behind (x ∷ levels) (suc depth) l =
     let b = level_behind levels depth (omega (arith, l)) in record { level = b.level; is = b.is; entries = b.entries }
 
-some_or_none : {X : Type 0} (o : Option X) → ((x : X) × (o ≡ Some x)) ⊎ (o ≡ None)
+pub some_or_none : {X : Type 0} (o : Option X) → ((x : X) × (o ≡ Some x)) ⊎ (o ≡ None)
 some_or_none None = inr refl
 some_or_none (Some x) = inl (x, refl)
 

@@ -7,3 +7,4 @@ pub mod Rows
 pub mod Shapes
 pub mod Steps
 pub mod Told
+pub mod Walked

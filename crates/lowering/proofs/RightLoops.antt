@@ -17,7 +17,6 @@ use Rattle.expr_terms.specs.Points.{with_coordinate}
 use Rattle.expr_terms.specs.Terms.{terms, term_value}
 use Rattle.expr_terms.specs.declared.term.Term.{Term}
 use Rattle.workspaces.specs.Presence.{is_present}
-use Rattle.workspaces.specs.PresenceLaws.{AreZeroElsewhere}
 use Rattle.iteration_graph.specs.Edges.{statement_edges}
 use Rattle.concrete_notation.specs.declared.concrete.Concrete.{Concrete, map-Concrete, Add, Forall, Both, Where, Forall', Both', Where'}
 use Rattle.concrete_notation.specs.declared.concrete.Concrete.{Row_of-Concrete, end_of-Concrete, more_of-Concrete}
@@ -28,8 +27,8 @@ use Rattle.concrete_notation.specs.declared.concrete.Concrete.TheViews.{roll-Con
 use Rattle.concrete_notation.specs.declared.concrete.Concrete.TheOpen as view
 use Rattle.concrete_notation.specs.Contributions.{Inputs, rows_below, passed_on, sums_of}
 use Rattle.concrete_notation.specs.Contributions as concrete
-use Rattle.concrete_notation.specs.Nests.{Nest, inside, nests, nests_in, nest_of, workspaces, workspaces_in, HasTerms}
-use Rattle.concrete_notation.specs.Right.{IsInSupport, IsRight}
+use Rattle.concrete_notation.specs.Nests.{inside, nests, nests_in, nest_of, workspaces, workspaces_in, HasTerms}
+use Rattle.concrete_notation.specs.Right.{IsInSupport}
 use Rattle.concrete_notation.proofs.LoopSums.{none_of_both}
 use Rattle.concrete_notation.proofs.Orders.{is_order_of}
 use Rattle.concrete_notation.proofs.Right.{plain_is_right}
@@ -42,7 +41,7 @@ use Rattle.loop_code.proofs.Turns.{count_none, count_plus}
 use Rattle.lowering.specs.Held.{AreHeld}
 use Rattle.lowering.specs.Layouts.{layout_of}
 use Rattle.lowering.specs.Lowered.{plain, plain_in, AddsRows, IsInOrder}
-use Rattle.lowering.specs.Right.{rows_to, AreKeys, HaveValues, AreRight, count_over, one_if, pairs_of, pairs}
+use Rattle.lowering.specs.Right.{rows_to, AreRight, one_if, pairs_of, pairs}
 
 -- without workspaces there is none
 mutual
