@@ -2,3 +2,5 @@ pub mod OptionLaws
 pub mod Parts
 pub mod PlaceLaws
 pub mod PresenceLaws
+pub mod TermLaws
+pub mod WorkspaceLaws

@@ -6,8 +6,12 @@
 
 mod places;
 mod presence;
+mod terms;
 mod values;
+mod workspace_sink;
 
 pub use places::{AccessPlace, Places, at_top};
 pub use presence::{fullness_of, presence_of};
+pub use terms::emit_term;
 pub use values::emit_value;
+pub use workspace_sink::WorkspaceSink;
