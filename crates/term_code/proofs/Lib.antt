@@ -1,3 +1,4 @@
+pub mod DenseLaws
 pub mod OptionLaws
 pub mod Parts
 pub mod PlaceLaws

@@ -1,17 +1,17 @@
 -- Expressions that tell of parts tell of what is made of them.
-use Rattle.std.specs.Prelude.{◌≡◌, ℕ, ◌<◌, ◌≤◌, ◌+◌, Bool, true, false, ◌||◌, ◌&&◌, not, List, [], Option, Some, None, slice_get, refl}
-use Rattle.std.proofs.Common.{◌∙◌, sym, ap, subst, arith}
+use Rattle.std.specs.Prelude.{◌≡◌, ℕ, ◌<◌, Bool, true, false, ◌||◌, ◌&&◌, Option, Some, None, slice_get, refl}
+use Rattle.std.proofs.Common.{◌∙◌, ap, arith}
 use Rattle.kernel_code.specs.declared.syntax.Op.TheVariants.{And, Or}
 use Rattle.kernel_code.specs.declared.syntax.KExpr.{KExpr, Num, Var, Bin}
-use Rattle.kernel_code.specs.Meaning.{State, value, word_of, apply_both}
-use Rattle.kernel_code.specs.Keeps.{Below, EveryArray}
+use Rattle.kernel_code.specs.Meaning.{State, word_of, apply_both}
+use Rattle.kernel_code.specs.Keeps.{EveryArray}
 use Rattle.kernel_code.proofs.Keeps.{mentions_bin}
 use Rattle.kernel_code.proofs.Words.{binary_is}
 use Rattle.level_core.specs.declared.span.Span.{Span}
 use Rattle.level_cursors.specs.Children.{ChildLeft}
 use Rattle.loop_code.specs.Loops.{Env}
 use Rattle.loop_code.specs.Parts.{is_some}
-use Rattle.term_code.specs.Places.{Places, AccessPlace, AreBelow, Keeps}
+use Rattle.term_code.specs.Places.{Places, AccessPlace}
 use Rattle.term_code.specs.Presence.{Tells}
 
 pub tells_number : (places : Places) (b : Bool) → Tells places (λ env. b) (Num (word_of b))

@@ -1,13 +1,12 @@
 -- What the code of a term does.
-use Rattle.std.specs.Prelude.{◌≡◌, ℕ, zero, suc, ◌+◌, ◌≤◌, ◌<◌, Bool, true, false, List, [], ◌∷◌, ◌++◌, length, map, Option, Some, None, All, slice_index, slice_index_or, refl}
+use Rattle.std.specs.Prelude.{◌≡◌, ℕ, zero, suc, ◌+◌, ◌<◌, true, false, List, [], ◌∷◌, ◌++◌, length, map, Option, Some, None, All, slice_index, slice_index_or, refl}
 use Rattle.std.proofs.Common.{◌∙◌, sym, ap, subst, arith}
 use Rattle.std.proofs.lemmas.List.{append-nil}
 use Rattle.numbers.specs.Arithmetic.{Arithmetic, Laws}
-use Rattle.kernel_code.specs.declared.syntax.Arr.{Arr}
 use Rattle.kernel_code.specs.declared.syntax.KExpr.{Var}
 use Rattle.kernel_code.specs.declared.syntax.KStmt.{KStmt, If}
 use Rattle.kernel_code.specs.Meaning.{Setting, State}
-use Rattle.kernel_code.specs.Does.{Does, Never}
+use Rattle.kernel_code.specs.Does.{Never}
 use Rattle.kernel_code.proofs.Does.{does_append, does_nothing, does_if_yes, does_if_no, does_weaker}
 use Rattle.kernel_code.specs.Keeps.{Leaves, no_turns}
 use Rattle.kernel_code.proofs.Keeps.{leaves_none}
@@ -17,7 +16,7 @@ use Rattle.expr_terms.specs.Points.{coords_at}
 use Rattle.expr_terms.specs.Terms.{contains}
 use Rattle.expr_terms.specs.declared.term.Term.{Term}
 use Rattle.row_sinks.specs.Sinks.{Sink, SinkLaws, Adds, AddsTo, VarsAre}
-use Rattle.loop_code.specs.Loops.{Env, Stored, access_values, row_of, term_value}
+use Rattle.loop_code.specs.Loops.{Env, access_values, row_of, term_value}
 use Rattle.loop_code.specs.PresentValues.{present_value, signed}
 use Rattle.term_code.specs.Places.{Places, AreBelow, Keeps}
 use Rattle.term_code.specs.Options.{LeavesOption}

@@ -1,3 +1,4 @@
+pub mod DenseSinks
 pub mod OptionCodes
 pub mod Options
 pub mod Places

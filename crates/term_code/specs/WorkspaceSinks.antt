@@ -6,7 +6,6 @@ use Rattle.kernel_code.specs.declared.syntax.Arr.TheVariants.{Range, Values, Dim
 use Rattle.kernel_code.specs.declared.syntax.Arr.TheVariants.{ListCoordinates, ListPositions}
 use Rattle.kernel_code.specs.declared.syntax.KExpr.{Var}
 use Rattle.kernel_code.specs.declared.syntax.KStmt.{KStmt, Push}
-use Rattle.kernel_code.specs.Meaning.{State}
 use Rattle.kernel_code.specs.Keeps.{NoVariable}
 use Rattle.tensor_map.specs.declared.entries.Entry.{Entry}
 use Rattle.row_sinks.specs.Sinks.{Sink}

@@ -1,13 +1,12 @@
 use Rattle.std.specs.Prelude.{◌<◌, length, ◌||◌, ◌&&◌, IfOk}
-use Rattle.std.proofs.Common.{◌∙◌, sym, ap, subst}
-use Rattle.index_notation.specs.declared.syntax.Expr.{Expr, Num, Access, Add, Sub, Mul, Neg}
-use Rattle.kernel_code.specs.declared.syntax.KExpr.{KExpr}
+use Rattle.std.proofs.Common.{sym, subst}
+use Rattle.index_notation.specs.declared.syntax.Expr.{Add, Sub, Mul, Neg}
 use Rattle.expr_terms.proofs.Heights.{falls, parts_of_add, parts_of_sub, parts_of_mul, part_of_neg}
 use Rattle.loop_code.specs.Parts.{here, is_full, is_other}
 use Rattle.term_code.specs.Presence.{Tells}
-use Rattle.term_code.proofs.Parts.{first_added, second_added, first_subtracted, second_subtracted, first_factor, second_factor, negated_part, read_access}
+use Rattle.term_code.proofs.Parts.{first_added, second_added, first_subtracted, second_subtracted, first_factor, second_factor, negated_part}
 use Rattle.term_code.proofs.Parts.{full_add, full_sub, full_mul, full_neg}
-use Rattle.term_code.proofs.PresenceLaws.{tells_either, tells_both, tells_same, tells_number}
+use Rattle.term_code.proofs.PresenceLaws.{tells_either, tells_both, tells_same}
 use Rattle.term_code.proofs.presence.+fullness_of.Goals as goal
 
 pub fullness_of-requires : goal.fullness_of-requires

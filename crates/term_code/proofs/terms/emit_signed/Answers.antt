@@ -1,5 +1,5 @@
-use Rattle.std.specs.Prelude.{◌≡◌, ◌++◌, true, false, not}
-use Rattle.std.proofs.Common.{sym, subst, rules, arith}
+use Rattle.std.specs.Prelude.{◌≡◌, true, false}
+use Rattle.std.proofs.Common.{sym, subst, arith}
 use Rattle.term_code.specs.Options.{LeavesOption}
 use Rattle.loop_code.specs.Loops.{term_value}
 use Rattle.term_code.proofs.TermLaws.{plain_leaves, signed_leaves}

@@ -1,7 +1,7 @@
-use Rattle.std.specs.Prelude.{◌≡◌, ◌<◌, ◌≤◌, ◌+◌, ◌++◌, length, Some, slice_get, slice_index_or, IfOk}
-use Rattle.std.proofs.Common.{◌∙◌, sym, ap, subst, rules, arith}
+use Rattle.std.specs.Prelude.{◌≡◌, ◌<◌, ◌+◌, length, Some, slice_get, slice_index_or}
+use Rattle.std.proofs.Common.{sym, subst, rules, arith}
 use Rattle.std.proofs.lemmas.Option.{slice_get-get_or}
-use Rattle.index_notation.specs.declared.syntax.Expr.{Expr, Num, Access, Add, Sub, Mul, Neg}
+use Rattle.index_notation.specs.declared.syntax.Expr.{Add, Sub, Mul, Neg}
 use Rattle.expr_terms.specs.Value.{minus}
 use Rattle.expr_terms.proofs.Heights.{falls, parts_of_add, parts_of_sub, parts_of_mul, part_of_neg}
 use Rattle.expr_terms.proofs.Meanings as meant
@@ -18,71 +18,106 @@ use Rattle.term_code.proofs.values.+emit_value.Goals as goal
 pub emit_value-requires : goal.emit_value-requires
 emit_value-requires g t c κs within = (
   falls t c.args.expr.now (Add c.in-Add.first c.in-Add.second) c.in-Add.first c.get.result.now c.in-Add.is c.get.ensures (parts_of_add c.in-Add.first c.in-Add.second).0 c.decreases,
-  (search (rules, within), (
-    first_added (λ k. k < length c.args.places.now.accesses) c.args.expr.now c.in-Add.first c.in-Add.second c.get.result.now c.in-Add.is c.get.ensures c.requires.placed,
-    (meant.first_added g.S.Semiring.has_minus c.args.expr.now c.in-Add.first c.in-Add.second c.get.result.now c.in-Add.is c.get.ensures c.requires.meant,
-    (c.requires.below, c.requires.room)),
-  )),
+  (
+    search (rules, within),
+    (
+      first_added (λ k. k < length c.args.places.now.accesses) c.args.expr.now c.in-Add.first c.in-Add.second c.get.result.now c.in-Add.is c.get.ensures c.requires.placed,
+      (
+        meant.first_added g.S.Semiring.has_minus c.args.expr.now c.in-Add.first c.in-Add.second c.get.result.now c.in-Add.is c.get.ensures c.requires.meant,
+        (c.requires.below, c.requires.room),
+      ),
+    ),
+  ),
 )
 
 pub emit_value-requires-in-Add : goal.emit_value-requires-in-Add
 emit_value-requires-in-Add g t c κs within = (
   falls t c.args.expr.now (Add c.in-Add.first c.in-Add.second) c.in-Add.second c.get-in-Add.result.now c.in-Add.is c.get-in-Add.ensures (parts_of_add c.in-Add.first c.in-Add.second).1 c.decreases,
-  (search (rules, within), (
-    second_added (λ k. k < length c.args.places.now.accesses) c.args.expr.now c.in-Add.first c.in-Add.second c.get-in-Add.result.now c.in-Add.is c.get-in-Add.ensures c.requires.placed,
-    (meant.second_added g.S.Semiring.has_minus c.args.expr.now c.in-Add.first c.in-Add.second c.get-in-Add.result.now c.in-Add.is c.get-in-Add.ensures c.requires.meant,
-    (below_more c.args.free (c.args.free + 2) c.args.places.now (omega arith) c.requires.below, omega (arith, c.if-free.false))),
-  )),
+  (
+    search (rules, within),
+    (
+      second_added (λ k. k < length c.args.places.now.accesses) c.args.expr.now c.in-Add.first c.in-Add.second c.get-in-Add.result.now c.in-Add.is c.get-in-Add.ensures c.requires.placed,
+      (
+        meant.second_added g.S.Semiring.has_minus c.args.expr.now c.in-Add.first c.in-Add.second c.get-in-Add.result.now c.in-Add.is c.get-in-Add.ensures c.requires.meant,
+        (below_more c.args.free (c.args.free + 2) c.args.places.now (omega arith) c.requires.below, omega (arith, c.if-free.false)),
+      ),
+    ),
+  ),
 )
 
 pub emit_value-requires-in-Sub : goal.emit_value-requires-in-Sub
 emit_value-requires-in-Sub g t c κs within = (
   falls t c.args.expr.now (Sub c.in-Sub.first c.in-Sub.second) c.in-Sub.first c.get-in-Sub.result.now c.in-Sub.is c.get-in-Sub.ensures (parts_of_sub c.in-Sub.first c.in-Sub.second).0 c.decreases,
-  (search (rules, within), (
-    first_subtracted (λ k. k < length c.args.places.now.accesses) c.args.expr.now c.in-Sub.first c.in-Sub.second c.get-in-Sub.result.now c.in-Sub.is c.get-in-Sub.ensures c.requires.placed,
-    (meant.all_meant g.S.Semiring.has_minus c.get-in-Sub.result.now (meant.minus_subtracts g.S.Semiring.has_minus c.args.expr.now c.in-Sub.first c.in-Sub.second c.in-Sub.is c.requires.meant),
-    (c.requires.below, c.requires.room)),
-  )),
+  (
+    search (rules, within),
+    (
+      first_subtracted (λ k. k < length c.args.places.now.accesses) c.args.expr.now c.in-Sub.first c.in-Sub.second c.get-in-Sub.result.now c.in-Sub.is c.get-in-Sub.ensures c.requires.placed,
+      (
+        meant.all_meant g.S.Semiring.has_minus c.get-in-Sub.result.now (meant.minus_subtracts g.S.Semiring.has_minus c.args.expr.now c.in-Sub.first c.in-Sub.second c.in-Sub.is c.requires.meant),
+        (c.requires.below, c.requires.room),
+      ),
+    ),
+  ),
 )
 
 pub emit_value-requires-in-Sub-2 : goal.emit_value-requires-in-Sub-2
 emit_value-requires-in-Sub-2 g t c κs within = (
   falls t c.args.expr.now (Sub c.in-Sub.first c.in-Sub.second) c.in-Sub.second c.get-in-Sub-2.result.now c.in-Sub.is c.get-in-Sub-2.ensures (parts_of_sub c.in-Sub.first c.in-Sub.second).1 c.decreases,
-  (search (rules, within), (
-    second_subtracted (λ k. k < length c.args.places.now.accesses) c.args.expr.now c.in-Sub.first c.in-Sub.second c.get-in-Sub-2.result.now c.in-Sub.is c.get-in-Sub-2.ensures c.requires.placed,
-    (meant.all_meant g.S.Semiring.has_minus c.get-in-Sub-2.result.now (meant.minus_subtracts g.S.Semiring.has_minus c.args.expr.now c.in-Sub.first c.in-Sub.second c.in-Sub.is c.requires.meant),
-    (below_more c.args.free (c.args.free + 2) c.args.places.now (omega arith) c.requires.below, omega (arith, c.if-free.false))),
-  )),
+  (
+    search (rules, within),
+    (
+      second_subtracted (λ k. k < length c.args.places.now.accesses) c.args.expr.now c.in-Sub.first c.in-Sub.second c.get-in-Sub-2.result.now c.in-Sub.is c.get-in-Sub-2.ensures c.requires.placed,
+      (
+        meant.all_meant g.S.Semiring.has_minus c.get-in-Sub-2.result.now (meant.minus_subtracts g.S.Semiring.has_minus c.args.expr.now c.in-Sub.first c.in-Sub.second c.in-Sub.is c.requires.meant),
+        (below_more c.args.free (c.args.free + 2) c.args.places.now (omega arith) c.requires.below, omega (arith, c.if-free.false)),
+      ),
+    ),
+  ),
 )
 
 pub emit_value-requires-in-Mul : goal.emit_value-requires-in-Mul
 emit_value-requires-in-Mul g t c κs within = (
   falls t c.args.expr.now (Mul c.in-Mul.first c.in-Mul.second) c.in-Mul.first c.get-in-Mul.result.now c.in-Mul.is c.get-in-Mul.ensures (parts_of_mul c.in-Mul.first c.in-Mul.second).0 c.decreases,
-  (search (rules, within), (
-    first_factor (λ k. k < length c.args.places.now.accesses) c.args.expr.now c.in-Mul.first c.in-Mul.second c.get-in-Mul.result.now c.in-Mul.is c.get-in-Mul.ensures c.requires.placed,
-    (meant.first_factor g.S.Semiring.has_minus c.args.expr.now c.in-Mul.first c.in-Mul.second c.get-in-Mul.result.now c.in-Mul.is c.get-in-Mul.ensures c.requires.meant,
-    (c.requires.below, c.requires.room)),
-  )),
+  (
+    search (rules, within),
+    (
+      first_factor (λ k. k < length c.args.places.now.accesses) c.args.expr.now c.in-Mul.first c.in-Mul.second c.get-in-Mul.result.now c.in-Mul.is c.get-in-Mul.ensures c.requires.placed,
+      (
+        meant.first_factor g.S.Semiring.has_minus c.args.expr.now c.in-Mul.first c.in-Mul.second c.get-in-Mul.result.now c.in-Mul.is c.get-in-Mul.ensures c.requires.meant,
+        (c.requires.below, c.requires.room),
+      ),
+    ),
+  ),
 )
 
 pub emit_value-requires-in-Mul-2 : goal.emit_value-requires-in-Mul-2
 emit_value-requires-in-Mul-2 g t c κs within = (
   falls t c.args.expr.now (Mul c.in-Mul.first c.in-Mul.second) c.in-Mul.second c.get-in-Mul-2.result.now c.in-Mul.is c.get-in-Mul-2.ensures (parts_of_mul c.in-Mul.first c.in-Mul.second).1 c.decreases,
-  (search (rules, within), (
-    second_factor (λ k. k < length c.args.places.now.accesses) c.args.expr.now c.in-Mul.first c.in-Mul.second c.get-in-Mul-2.result.now c.in-Mul.is c.get-in-Mul-2.ensures c.requires.placed,
-    (meant.second_factor g.S.Semiring.has_minus c.args.expr.now c.in-Mul.first c.in-Mul.second c.get-in-Mul-2.result.now c.in-Mul.is c.get-in-Mul-2.ensures c.requires.meant,
-    (below_more c.args.free (c.args.free + 2) c.args.places.now (omega arith) c.requires.below, omega (arith, c.if-free.false))),
-  )),
+  (
+    search (rules, within),
+    (
+      second_factor (λ k. k < length c.args.places.now.accesses) c.args.expr.now c.in-Mul.first c.in-Mul.second c.get-in-Mul-2.result.now c.in-Mul.is c.get-in-Mul-2.ensures c.requires.placed,
+      (
+        meant.second_factor g.S.Semiring.has_minus c.args.expr.now c.in-Mul.first c.in-Mul.second c.get-in-Mul-2.result.now c.in-Mul.is c.get-in-Mul-2.ensures c.requires.meant,
+        (below_more c.args.free (c.args.free + 2) c.args.places.now (omega arith) c.requires.below, omega (arith, c.if-free.false)),
+      ),
+    ),
+  ),
 )
 
 pub emit_value-requires-in-Neg : goal.emit_value-requires-in-Neg
 emit_value-requires-in-Neg g t c κs within = (
   falls t c.args.expr.now (Neg c.in-Neg.inner) c.in-Neg.inner c.get-in-Neg.result.now c.in-Neg.is c.get-in-Neg.ensures (part_of_neg c.in-Neg.inner) c.decreases,
-  (search (rules, within), (
-    negated_part (λ k. k < length c.args.places.now.accesses) c.args.expr.now c.in-Neg.inner c.get-in-Neg.result.now c.in-Neg.is c.get-in-Neg.ensures c.requires.placed,
-    (meant.all_meant g.S.Semiring.has_minus c.get-in-Neg.result.now (meant.minus_negates g.S.Semiring.has_minus c.args.expr.now c.in-Neg.inner c.in-Neg.is c.requires.meant),
-    (c.requires.below, c.requires.room)),
-  )),
+  (
+    search (rules, within),
+    (
+      negated_part (λ k. k < length c.args.places.now.accesses) c.args.expr.now c.in-Neg.inner c.get-in-Neg.result.now c.in-Neg.is c.get-in-Neg.ensures c.requires.placed,
+      (
+        meant.all_meant g.S.Semiring.has_minus c.get-in-Neg.result.now (meant.minus_negates g.S.Semiring.has_minus c.args.expr.now c.in-Neg.inner c.in-Neg.is c.requires.meant),
+        (c.requires.below, c.requires.room),
+      ),
+    ),
+  ),
 )
 
 pub negated-requires : goal.negated-requires
