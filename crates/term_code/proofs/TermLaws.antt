@@ -1,5 +1,6 @@
 -- What the code of a term does.
-use Rattle.std.specs.Prelude.{◌≡◌, ℕ, zero, suc, ◌+◌, ◌<◌, true, false, List, [], ◌∷◌, ◌++◌, length, map, Option, Some, None, All, slice_index, slice_index_or, refl}
+use Rattle.std.specs.Prelude.{◌≡◌, ℕ, zero, suc, ◌+◌, ◌<◌, true, false, List, [], ◌∷◌, ◌++◌, length, map, Option, Some, None, All}
+use Rattle.std.specs.Prelude.{slice_index, slice_index_or, refl}
 use Rattle.std.proofs.Common.{◌∙◌, sym, ap, subst, arith}
 use Rattle.std.proofs.lemmas.List.{append-nil}
 use Rattle.numbers.specs.Arithmetic.{Arithmetic, Laws}
@@ -30,12 +31,15 @@ module _ (a : Arithmetic) (places : Places) (free : ℕ) (t : Term) (x : List KS
     (leaves : LeavesOption a places (λ stored env. present_value a (access_values stored env) t.expr) free x) where
   pub plain_leaves : t.negated ≡ false → LeavesOption a places (λ stored env. term_value a stored env t) free x
   plain_leaves is =
-      leaves_same a places free (λ stored env. present_value a (access_values stored env) t.expr) (λ stored env. term_value a stored env t) x
+      leaves_same a places free (λ stored env. present_value a (access_values stored env) t.expr)
+          (λ stored env. term_value a stored env t) x
       (λ stored env. ap (λ b. signed a b (present_value a (access_values stored env) t.expr)) (sym is)) leaves
 
-  pub signed_leaves : t.negated ≡ true → LeavesOption a places (λ stored env. term_value a stored env t) free (x ++ each_code a.minus_one free)
+  pub signed_leaves : t.negated ≡ true → LeavesOption a places (λ stored env. term_value a stored env t) free
+      (x ++ each_code a.minus_one free)
   signed_leaves is =
-      leaves_same a places free (λ stored env. signed a true (present_value a (access_values stored env) t.expr)) (λ stored env. term_value a stored env t)
+      leaves_same a places free (λ stored env. signed a true (present_value a (access_values stored env) t.expr))
+          (λ stored env. term_value a stored env t)
       (x ++ each_code a.minus_one free)
       (λ stored env. ap (λ b. signed a b (present_value a (access_values stored env) t.expr)) (sym is))
       (negated_leaves a places free (λ stored env. present_value a (access_values stored env) t.expr) x leaves)
@@ -57,7 +61,8 @@ keys_are places bound env s keeps (v ∷ vs) all =
 module _ {K : Type 0} (sink : Sink K) (laws : SinkLaws sink) (k : K) (free : ℕ) (keys : List ℕ) (row : List KStmt)
     (row_law : AddsTo sink k keys (free + 1) (free + 2) row) where
   -- the row is added where the flag is set
-  adds_row : (c : Setting) → Laws c.arithmetic → ((y : ℕ) → sink.mine k y → y < free) → (ranges : List ℕ) (before : List Entry) (coords : List ℕ) (o : Option ℕ)
+  adds_row : (c : Setting) → Laws c.arithmetic → ((y : ℕ) → sink.mine k y → y < free)
+      → (ranges : List ℕ) (before : List Entry) (coords : List ℕ) (o : Option ℕ)
       → ((v : ℕ) → o ≡ Some v → sink.takes k ranges (record { coords = coords; value = v })) → (s : State) → VarsAre keys coords s
       → OptionLeft free o s → sink.holds k c.arithmetic ranges before s
       → Adds sink k c ranges (If (Var free) row [] ∷ []) free no_turns before (row_of coords o) s
@@ -71,7 +76,8 @@ module _ {K : Type 0} (sink : Sink K) (laws : SinkLaws sink) (k : K) (free : ℕ
   adds_row c arithmetic apart ranges before coords (Some v) takes s at left holds =
       does_if_yes c (Var free) row [] [] s 0 _ _ _ left.0
       (does_weaker c row s _ _ _ _
-      (row_law c arithmetic (λ y m. let b = apart y m in omega (arith, b)) ranges before (record { coords = coords; value = v }) (takes v refl) s at left.1 holds)
+      (row_law c arithmetic (λ y m. let b = apart y m in omega (arith, b)) ranges before (record { coords = coords; value = v })
+          (takes v refl) s at left.1 holds)
       (λ t q. (record { below = λ y b m. q.0.below y (omega (arith, b)) m; arrays = q.0.arrays; turns = q.0.turns }, q.1)) (λ t b n z. z))
       (λ t q. does_nothing c t _ _ q)
 
@@ -83,7 +89,8 @@ module _ {K : Type 0} (sink : Sink K) (laws : SinkLaws sink) (k : K) (free : ℕ
       let coords = coords_at env.point target in
       let refused = sink.refused k (before ++ row_of coords o) in
       does_append c x (If (Var free) row [] ∷ []) s _ _ _
-      (does_weaker c x s _ _ Never (RefusedWithin no_turns s refused) (leaves c is stored bound env s keeps has) (λ u q. q) (λ u b n z. absurd z))
+      (does_weaker c x s _ _ Never (RefusedWithin no_turns s refused) (leaves c is stored bound env s keeps has) (λ u q. q)
+          (λ u b n z. absurd z))
       (λ u q.
       let same : (y : ℕ) → y < free → u.vars y ≡ s.vars y = λ y b. q.0.below y b (λ z. z) in
       let keeps_u = keeps_kept free places bound env s u are same keeps in
