@@ -47,11 +47,11 @@ below_is s level above a (y ∷ ys) (n ∷ ns) (x ∷ xs) h sizes have b l =
     let small : a * n + x < 2 ^ 64 = omega arith in
     let size : value (At (Dimension 0 level) (Num 0)) s ≡ Some n = word_is (Dimension 0 level) (Num 0) (n ∷ []) 0 n s sizes.0 refl refl in
     let begin : value (Bin Mul above (At (Dimension 0 level) (Num 0))) s ≡ Some (a * n) =
-        product_is above (At (Dimension 0 level) (Num 0)) a n s h size (omega arith) in
+    product_is above (At (Dimension 0 level) (Num 0)) a n s h size (omega arith) in
     let here : value (Bin Add (Bin Mul above (At (Dimension 0 level) (Num 0))) (Var y)) s ≡ Some (a * n + x) =
     sum_is (Bin Mul above (At (Dimension 0 level) (Num 0))) (Var y) (a * n) x s begin have.0 small in
     below_is s (level + 1) (Bin Add (Bin Mul above (At (Dimension 0 level) (Num 0))) (Var y)) (a * n + x) ys ns xs here sizes.1 have.1 b.1
-        (omega arith)
+    (omega arith)
     ∙ ap Some equal
 below_is s level above a [] [] (x ∷ xs) h sizes have b l = absurd b
 below_is s level above a [] (n ∷ ns) [] h sizes have b l = absurd b
@@ -136,7 +136,7 @@ module _ (modes ranges : List ℕ) (are : AreModes modes) (many : length ranges 
   place_injective xs ys b d e =
       same_coords modes xs ys are (coords_long xs b) (coords_long ys d)
       (positions.position_injective (by_level modes ranges) (by_level modes xs) (by_level modes ys)
-          (levels_below modes ranges xs within b) (levels_below modes ranges ys within d) e)
+      (levels_below modes ranges xs within b) (levels_below modes ranges ys within d) e)
 
 -- the sizes stay where the arrays of sizes do
 sizes_other : (level : ℕ) (ns : List ℕ) (a b : Arr → Option (List ℕ)) → ((l : ℕ) → b (Dimension 0 l) ≡ a (Dimension 0 l))
@@ -152,20 +152,24 @@ adds_in_place k keys v free = λ c laws apart ranges rows r ok s vars at h.
     let a = c.arithmetic in
     let modes = k.modes in
     let all : All (λ m. m < length r.coords) modes = λ j d l. let b = ok.stored.below j d l in
-        let long = coords_long modes ranges ok.stored ok.many r.coords ok.below in omega (arith, b, long) in
+    let long = coords_long modes ranges ok.stored ok.many r.coords ok.below in omega (arith, b, long) in
     let spot = place modes ranges r.coords in
     let low : spot < length h.words = let b = place_below modes ranges ok.stored ok.many r.coords ok.below in omega (arith, b, h.long) in
     let sum = a.plus (slice_index h.words spot) r.value in
     let t = set_array s (Values 0) (slice_set h.words spot sum) in
     let here : value (position_code (by_level modes keys)) s ≡ Some spot =
     position_is s (by_level modes keys) (by_level modes ranges) (by_level modes r.coords) h.sizes
-        (levels_are modes keys r.coords s all vars)
+    (levels_are modes keys r.coords s all vars)
     (levels_below modes ranges r.coords (within modes ranges ok.stored ok.many) ok.below)
-        (omega (arith, low, h.few, positions_are_small)) in
+    (omega (arith, low, h.few, positions_are_small)) in
     does_add_to c (Values 0) (position_code (by_level modes keys)) (Var v) [] s spot r.value h.words _ _ here at refl h.held low
     (does_nothing c t _ _ (
-      record { below = λ y b z. refl; arrays = λ b out. other_array s (Values 0) b (slice_set h.words spot sum) out; turns =
-          λ j. omega arith },
+      record {
+        below = λ y b z. refl;
+        arrays = λ b out. other_array s (Values 0) b (slice_set h.words spot sum) out;
+        turns =
+            λ j. omega arith;
+      },
       record {
         sizes = sizes_other 1 (by_level modes ranges) s.arrays t.arrays
             (λ l. other_array s (Values 0) (Dimension 0 l) (slice_set h.words spot sum) refl) h.sizes;
@@ -179,13 +183,13 @@ adds_in_place k keys v free = λ c laws apart ranges rows r ok s vars at h.
               ∙ get_or-set_same h.words spot sum 0 low
               ∙ ap (λ x. a.plus x r.value) (ap (λ cs. slice_index h.words (place modes ranges cs)) e ∙ h.each coords is)
               ∙ sym (value_append a laws coords rows (r ∷ [])
-                  ∙ ap (a.plus (value_at a rows coords)) (value_here a coords r [] q ∙ laws.plus_zero r.value ok.word))
+              ∙ ap (a.plus (value_at a rows coords)) (value_here a coords r [] q ∙ laws.plus_zero r.value ok.word))
           | other e q ↦
               get_or-set_other h.words spot (place modes ranges coords) sum 0
-                  (λ z. e (place_injective modes ranges ok.stored ok.many r.coords coords ok.below is (sym z)))
+              (λ z. e (place_injective modes ranges ok.stored ok.many r.coords coords ok.below is (sym z)))
               ∙ h.each coords is
               ∙ sym (value_append a laws coords rows (r ∷ []) ∙ ap (a.plus (value_at a rows coords)) (value_elsewhere a coords r [] q)
-                  ∙ laws.plus_zero (value_at a rows coords) (total_fits a laws (values_at rows coords)))
+              ∙ laws.plus_zero (value_at a rows coords) (total_fits a laws (values_at rows coords)))
         ];
       },
     ))

@@ -59,13 +59,13 @@ then_reads : (c : Setting) (first second : List KStmt) (free more : ℕ) (s : St
     → Reads c (first ++ second) free no_turns s Q
 then_reads c first second free more s P Q le d next =
     does_append c first second s _ _ Never d (λ t h. does_weaker c second t _ _ Never Never (next t h.0 h.1) (λ u k. (
-  record {
-    below = λ y b z. k.0.below y (omega (arith, b, le)) z ∙ h.0.below y b z;
-    arrays = λ b z. k.0.arrays b z ∙ h.0.arrays b z;
-    turns = λ j. let x = h.0.turns j in let y = k.0.turns j in omega (arith, x, y);
-  },
-  k.1,
-)) (λ t b n z. z))
+      record {
+        below = λ y b z. k.0.below y (omega (arith, b, le)) z ∙ h.0.below y b z;
+        arrays = λ b z. k.0.arrays b z ∙ h.0.arrays b z;
+        turns = λ j. let x = h.0.turns j in let y = k.0.turns j in omega (arith, x, y);
+      },
+      k.1,
+    )) (λ t b n z. z))
 
 -- 1 and a value
 two_set : (c : Setting) (free v : ℕ) (e : KExpr) (s : State) → value e (set_var s free 1) ≡ Some v
@@ -152,7 +152,7 @@ module _ (a : Arithmetic) (places : Places) (free : ℕ) (are : AreBelow free pl
           → Reads c (access_code p free) free no_turns s (OptionLeft free (word_of (stored.word k) o))
       by_cursor c stored s None left has =
           else_read c free p.cursor _ _ s (OptionLeft free None) left
-              (set_read c free free 0 (Num 0) s (OptionLeft free None) (omega arith) refl (this_var s free 0))
+          (set_read c free free 0 (Num 0) s (OptionLeft free None) (omega arith) refl (this_var s free 0))
       by_cursor c stored s (Some span) left has =
           let h = has span refl in
           let v = stored.word k span.lo in
@@ -160,18 +160,18 @@ module _ (a : Arithmetic) (places : Places) (free : ℕ) (are : AreBelow free pl
           let lo : t.vars (p.cursor + 1) ≡ Some span.lo = other_var s free (p.cursor + 1) 1 (λ q. omega (arith, q, low)) ∙ left.1.lo in
           if_read c free p.cursor 0 _ _ s _ left.0
           (two_set c free v (At (Values p.tensor) (Var (p.cursor + 1))) s
-              (word_is (Values p.tensor) (Var (p.cursor + 1)) h.words span.lo v t h.held lo h.is))
+          (word_is (Values p.tensor) (Var (p.cursor + 1)) h.words span.lo v t h.held lo h.is))
 
   -- the second of two values beside the first one
   beside : (f g : Options) (x y : List KStmt) → LeavesOption a places f free x → LeavesOption a places g (free + 2) y
       → (c : Setting) → c.arithmetic ≡ a → (stored : Stored) (bound : List ℕ) (env : Env) (s : State) → Keeps places bound env s
-          → HasValues places stored env s
+      → HasValues places stored env s
       → Reads c (x ++ y) free no_turns s (λ t. OptionLeft free (f stored env) t × OptionLeft (free + 2) (g stored env) t)
   beside f g x y h k c is stored bound env s keeps has =
       then_reads c x y free free s _ _ (omega arith) (h c is stored bound env s keeps has)
       (λ t l o. does_weaker c y t _ _ Never Never
       (k c is stored bound env t (keeps_kept free places bound env s t are (λ y b. l.below y b (λ z. z)) keeps)
-          (values_kept places stored env s t (λ b. l.arrays b tt) has))
+      (values_kept places stored env s t (λ b. l.arrays b tt) has))
       (λ u r. (
         record { below = λ y b z. r.0.below y (omega (arith, b)) z; arrays = r.0.arrays; turns = r.0.turns },
         (option_kept free (f stored env) t u (r.0.below free (omega arith) (λ z. z)) (r.0.below (free + 1) (omega arith) (λ z. z)) o, r.1),

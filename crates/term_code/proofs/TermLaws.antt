@@ -32,14 +32,14 @@ module _ (a : Arithmetic) (places : Places) (free : ℕ) (t : Term) (x : List KS
   pub plain_leaves : t.negated ≡ false → LeavesOption a places (λ stored env. term_value a stored env t) free x
   plain_leaves is =
       leaves_same a places free (λ stored env. present_value a (access_values stored env) t.expr)
-          (λ stored env. term_value a stored env t) x
+      (λ stored env. term_value a stored env t) x
       (λ stored env. ap (λ b. signed a b (present_value a (access_values stored env) t.expr)) (sym is)) leaves
 
   pub signed_leaves : t.negated ≡ true → LeavesOption a places (λ stored env. term_value a stored env t) free
       (x ++ each_code a.minus_one free)
   signed_leaves is =
       leaves_same a places free (λ stored env. signed a true (present_value a (access_values stored env) t.expr))
-          (λ stored env. term_value a stored env t)
+      (λ stored env. term_value a stored env t)
       (x ++ each_code a.minus_one free)
       (λ stored env. ap (λ b. signed a b (present_value a (access_values stored env) t.expr)) (sym is))
       (negated_leaves a places free (λ stored env. present_value a (access_values stored env) t.expr) x leaves)
@@ -77,7 +77,7 @@ module _ {K : Type 0} (sink : Sink K) (laws : SinkLaws sink) (k : K) (free : ℕ
       does_if_yes c (Var free) row [] [] s 0 _ _ _ left.0
       (does_weaker c row s _ _ _ _
       (row_law c arithmetic (λ y m. let b = apart y m in omega (arith, b)) ranges before (record { coords = coords; value = v })
-          (takes v refl) s at left.1 holds)
+      (takes v refl) s at left.1 holds)
       (λ t q. (record { below = λ y b m. q.0.below y (omega (arith, b)) m; arrays = q.0.arrays; turns = q.0.turns }, q.1)) (λ t b n z. z))
       (λ t q. does_nothing c t _ _ q)
 
@@ -90,7 +90,7 @@ module _ {K : Type 0} (sink : Sink K) (laws : SinkLaws sink) (k : K) (free : ℕ
       let refused = sink.refused k (before ++ row_of coords o) in
       does_append c x (If (Var free) row [] ∷ []) s _ _ _
       (does_weaker c x s _ _ Never (RefusedWithin no_turns s refused) (leaves c is stored bound env s keeps has) (λ u q. q)
-          (λ u b n z. absurd z))
+      (λ u b n z. absurd z))
       (λ u q.
       let same : (y : ℕ) → y < free → u.vars y ≡ s.vars y = λ y b. q.0.below y b (λ z. z) in
       let keeps_u = keeps_kept free places bound env s u are same keeps in

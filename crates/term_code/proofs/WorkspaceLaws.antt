@@ -82,9 +82,9 @@ index_at (y ∷ before) after x = index_at before after x
 
 push_does : (c : Setting) (w keys : ℕ) (rows : List Entry) (r : Entry) (free v : ℕ) (s0 : State) → s0.vars v ≡ Some r.value
     → (ys xs before : List ℕ) (k : ℕ) (s : State) → r.coords ≡ before ++ xs → length before ≡ k → k + length xs ≡ keys → VarsAre ys xs s
-        → Half w keys k rows r s0 s
+    → Half w keys k rows r s0 s
     → Does c (push_code w k ys v) s (λ t. Leaves NoVariable (λ a. IsOfWorkspace w a → ⊥) free no_turns s0 t
-        × HoldsRows w keys (rows ++ r ∷ []) t.arrays) (RefusedWithin no_turns s0 (PassesPairs w (rows ++ r ∷ [])))
+    × HoldsRows w keys (rows ++ r ∷ []) t.arrays) (RefusedWithin no_turns s0 (PassesPairs w (rows ++ r ∷ [])))
 push_does c w keys rows r free v s0 has [] [] before k s is long count vars h =
     does_push c (Sums w) (Var v) [] s r.value (values rows) _ _ (h.vars v ∙ has) refl h.sums
     (λ may. let t = set_array s (Sums w) (values rows ++ r.value ∷ []) in does_nothing c t _ _ (
@@ -99,18 +99,20 @@ push_does c w keys rows r free v s0 has [] [] before k s is long count vars h =
             ∙ ap Some (sym (map_append (λ (e : Entry). e.value) rows (r ∷ [])));
       },
     ))
-    (λ over. (λ j. let old = h.turns j in omega (arith, old),
-        refused_row w rows r (Sums w) (length (values rows) + 1) refl (ap (λ n. n + 1) (length_map (λ (e : Entry). e.value) rows)) over))
+    (λ over. (
+      λ j. let old = h.turns j in omega (arith, old),
+      refused_row w rows r (Sums w) (length (values rows) + 1) refl (ap (λ n. n + 1) (length_map (λ (e : Entry). e.value) rows)) over,
+    ))
 push_does c w keys rows r free v s0 has [] (x ∷ xs) before k s is long count vars h = absurd vars
 push_does c w keys rows r free v s0 has (y ∷ ys) [] before k s is long count vars h = absurd vars
 push_does c w keys rows r free v s0 has (y ∷ ys) (x ∷ xs) before k s is long count vars h =
     let t = set_array s (Key w k) (column k rows ++ x ∷ []) in
     let here : slice_index r.coords k ≡ x = ap (λ cs. slice_index cs k) is ∙ ap (slice_index (before ++ x ∷ xs)) (sym long)
-        ∙ index_at before xs x in
+    ∙ index_at before xs x in
     does_push c (Key w k) (Var y) (push_code w (k + 1) ys v) s x (column k rows) _ _ vars.0 refl
-        (h.due k (omega arith) (omega (arith, count)))
+    (h.due k (omega arith) (omega (arith, count)))
     (λ may. push_does c w keys rows r free v s0 has ys xs (before ++ x ∷ []) (k + 1) t (is ∙ sym (append_assoc before (x ∷ []) xs))
-        (let l = length_append before (x ∷ []) in omega (arith, l, long)) (omega (arith, count)) (vars_kept ys xs s t (λ y. refl) vars.1)
+    (let l = length_append before (x ∷ []) in omega (arith, l, long)) (omega (arith, count)) (vars_kept ys xs s t (λ y. refl) vars.1)
     (record {
       done = λ j l. elim (eqb_tells k j) [
         | inl equal ↦ subst (λ i. t.arrays (Key w i) ≡ Some (column i (rows ++ r ∷ []))) equal.1
@@ -127,24 +129,26 @@ push_does c w keys rows r free v s0 has (y ∷ ys) (x ∷ xs) before k s is long
       kept = λ a out. other_array s (Key w k) a (column k rows ++ x ∷ []) (not_of_workspace w (Key w k) a refl out) ∙ h.kept a out;
       turns = h.turns;
     }))
-    (λ over. (λ j. let old = h.turns j in omega (arith, old),
-        refused_row w rows r (Key w k) (length (column k rows) + 1) refl
-        (ap (λ n. n + 1) (length_map (λ (e : Entry). slice_index e.coords k) rows)) over))
+    (λ over. (
+      λ j. let old = h.turns j in omega (arith, old),
+      refused_row w rows r (Key w k) (length (column k rows) + 1) refl
+          (ap (λ n. n + 1) (length_map (λ (e : Entry). slice_index e.coords k) rows)) over,
+    ))
 
 -- a row pushed on a workspace
 pub push_row : (c : Setting) (w : ℕ) (rows : List Entry) (r : Entry) (free v : ℕ) (ys : List ℕ) (s : State) → s.vars v ≡ Some r.value
     → VarsAre ys r.coords s → HoldsRows w (length r.coords) rows s.arrays
     → Does c (push_code w 0 ys v) s (λ t. Leaves NoVariable (λ a. IsOfWorkspace w a → ⊥) free no_turns s t
-        × HoldsRows w (length r.coords) (rows ++ r ∷ []) t.arrays) (RefusedWithin no_turns s (PassesPairs w (rows ++ r ∷ [])))
+    × HoldsRows w (length r.coords) (rows ++ r ∷ []) t.arrays) (RefusedWithin no_turns s (PassesPairs w (rows ++ r ∷ [])))
 push_row c w rows r free v ys s has vars h = push_does c w (length r.coords) rows r free v s has ys r.coords [] 0 s refl refl
     (omega arith) vars (record {
-  done = λ j l. absurd (omega (arith, l));
-  due = λ j l b. h.key j b;
-  sums = h.sums;
-  vars = λ y. refl;
-  kept = λ a out. refl;
-  turns = λ j. omega arith;
-})
+      done = λ j l. absurd (omega (arith, l));
+      due = λ j l b. h.key j b;
+      sums = h.sums;
+      vars = λ y. refl;
+      kept = λ a out. refl;
+      turns = λ j. omega arith;
+    })
 
 -- the code of a row of a workspace
 pub pushes : (k : WorkspaceSink) (ys : List ℕ) (v free : ℕ) → AddsTo workspace_sink k ys v free (push_code k.number 0 ys v)

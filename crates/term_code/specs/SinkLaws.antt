@@ -13,8 +13,12 @@ pub workspace_laws : SinkLaws workspace_sink
 workspace_laws = record {
   long = λ k ranges row h. h;
   same = λ k a ranges rows s t f g h. record { key = λ j l. g (Key k.number j) ∙ h.key j l; sums = g (Sums k.number) ∙ h.sums };
-  more = λ k rows others b count r. record { array = r.array; above = r.above; within = let l = length-append rows others in
-      let b = r.within in omega (arith, l, b) };
+  more = λ k rows others b count r. record {
+    array = r.array;
+    above = r.above;
+    within = let l = length-append rows others in
+        let b = r.within in omega (arith, l, b);
+  };
 }
 
 sizes_kept : (level : ℕ) (ns : List ℕ) (a b : Arr → Option (List ℕ)) → ((x : Arr) → b x ≡ a x) → HasSizes level ns a → HasSizes level ns b

@@ -77,7 +77,7 @@ returns-in_ok-either-in-Add t c =
     subst (λ whole. Tells places (λ env. is_full F (here env) whole) c.in_ok-either-in-Add.either) (sym c.in-Add.is)
     (subst (Tells places (λ env. is_full F (here env) (Add e f))) (sym c.in_ok-either-in-Add.ensures)
     (tells_same places (λ env. is_full F (here env) e || is_full F (here env) f) (λ env. is_full F (here env) (Add e f)) _
-        (λ env. sym (full_add F (here env) e f))
+    (λ env. sym (full_add F (here env) e f))
     (tells_either places (λ env. is_full F (here env) e) (λ env. is_full F (here env) f) c.in_ok-x-in-Add.x c.in_ok-y-in-Add.y one two)))
 
 pub returns-in_ok-either-in-Sub : goal.returns-in_ok-either-in-Sub
@@ -88,11 +88,11 @@ returns-in_ok-either-in-Sub t c =
     let f = c.in-Sub.second in
     let one = subst (λ x. Tells places (λ env. is_full F (here env) x) c.in_ok-x-in-Sub.x) c.get-in-Sub.ensures c.in_ok-x-in-Sub.ensures in
     let two = subst (λ x. Tells places (λ env. is_full F (here env) x) c.in_ok-y-in-Sub.y) c.get-in-Sub-2.ensures c.in_ok-y-in-Sub.ensures
-        in
+    in
     subst (λ whole. Tells places (λ env. is_full F (here env) whole) c.in_ok-either-in-Sub.either) (sym c.in-Sub.is)
     (subst (Tells places (λ env. is_full F (here env) (Sub e f))) (sym c.in_ok-either-in-Sub.ensures)
     (tells_same places (λ env. is_full F (here env) e || is_full F (here env) f) (λ env. is_full F (here env) (Sub e f)) _
-        (λ env. sym (full_sub F (here env) e f))
+    (λ env. sym (full_sub F (here env) e f))
     (tells_either places (λ env. is_full F (here env) e) (λ env. is_full F (here env) f) c.in_ok-x-in-Sub.x c.in_ok-y-in-Sub.y one two)))
 
 pub returns-in_ok-both-in-Mul : goal.returns-in_ok-both-in-Mul
@@ -103,11 +103,11 @@ returns-in_ok-both-in-Mul t c =
     let f = c.in-Mul.second in
     let one = subst (λ x. Tells places (λ env. is_full F (here env) x) c.in_ok-x-in-Mul.x) c.get-in-Mul.ensures c.in_ok-x-in-Mul.ensures in
     let two = subst (λ x. Tells places (λ env. is_full F (here env) x) c.in_ok-y-in-Mul.y) c.get-in-Mul-2.ensures c.in_ok-y-in-Mul.ensures
-        in
+    in
     subst (λ whole. Tells places (λ env. is_full F (here env) whole) c.in_ok-both-in-Mul.both) (sym c.in-Mul.is)
     (subst (Tells places (λ env. is_full F (here env) (Mul e f))) (sym c.in_ok-both-in-Mul.ensures)
     (tells_same places (λ env. is_full F (here env) e && is_full F (here env) f) (λ env. is_full F (here env) (Mul e f)) _
-        (λ env. sym (full_mul F (here env) e f))
+    (λ env. sym (full_mul F (here env) e f))
     (tells_both places (λ env. is_full F (here env) e) (λ env. is_full F (here env) f) c.in_ok-x-in-Mul.x c.in_ok-y-in-Mul.y one two)))
 
 pub returns-in-Neg : goal.returns-in-Neg
@@ -118,4 +118,4 @@ returns-in-Neg t c =
     subst (λ whole. IfOk c.fullness_of-in-Neg.result (Tells places (λ env. is_full F (here env) whole))) (sym c.in-Neg.is)
     (subst (λ f. IfOk c.fullness_of-in-Neg.result (Tells places f)) (λ i env. sym (full_neg F (here env) e) i)
     (subst (λ x. IfOk c.fullness_of-in-Neg.result (Tells places (λ env. is_full F (here env) x))) c.get-in-Neg.ensures
-        c.fullness_of-in-Neg.ensures))
+    c.fullness_of-in-Neg.ensures))

@@ -143,12 +143,18 @@ emit_value-requires-in-Neg g t c κs within = (
 )
 
 pub negated-requires : goal.negated-requires
-negated-requires g t c = record { minus = meant.minus_subtracts g.S.Semiring.has_minus c.args.expr.now c.in-Sub.first c.in-Sub.second
-    c.in-Sub.is c.requires.meant; room = omega (arith, c.requires.room) }
+negated-requires g t c = record {
+  minus = meant.minus_subtracts g.S.Semiring.has_minus c.args.expr.now c.in-Sub.first c.in-Sub.second
+      c.in-Sub.is c.requires.meant;
+  room = omega (arith, c.requires.room);
+}
 
 pub negated-requires-in-Neg : goal.negated-requires-in-Neg
-negated-requires-in-Neg g t c = record { minus = meant.minus_negates g.S.Semiring.has_minus c.args.expr.now c.in-Neg.inner c.in-Neg.is
-    c.requires.meant; room = omega (arith, c.requires.room) }
+negated-requires-in-Neg g t c = record {
+  minus = meant.minus_negates g.S.Semiring.has_minus c.args.expr.now c.in-Neg.inner c.in-Neg.is
+      c.requires.meant;
+  room = omega (arith, c.requires.room);
+}
 
 pub returns-in_ok-code-in-Add : goal.returns-in_ok-code-in-Add
 returns-in_ok-code-in-Add g t c =
@@ -158,18 +164,18 @@ returns-in_ok-code-in-Add g t c =
     let e = c.in-Add.first in
     let f = c.in-Add.second in
     let one = subst (λ x. LeavesOption a places (λ stored env. present_value a (access_values stored env) x) free c.in_ok-x-in-Add.x)
-        c.get.ensures c.in_ok-x-in-Add.ensures in
+    c.get.ensures c.in_ok-x-in-Add.ensures in
     let two = subst (λ x. LeavesOption a places (λ stored env. present_value a (access_values stored env) x)
-        (free + 2) c.in_ok-y-in-Add.y) c.get-in-Add.ensures c.in_ok-y-in-Add.ensures in
+    (free + 2) c.in_ok-y-in-Add.y) c.get-in-Add.ensures c.in_ok-y-in-Add.ensures in
     subst (λ whole. LeavesOption a places (λ stored env. present_value a (access_values stored env) whole) free c.in_ok-code-in-Add.code)
-        (sym c.in-Add.is)
+    (sym c.in-Add.is)
     (subst (LeavesOption a places (λ stored env. present_value a (access_values stored env) (Add e f)) free)
-        (sym c.in_ok-code-in-Add.ensures)
+    (sym c.in_ok-code-in-Add.ensures)
     (leaves_same a places free (λ stored env. either a.plus (present_value a (access_values stored env) e)
-        (present_value a (access_values stored env) f)) (λ stored env. present_value a (access_values stored env) (Add e f)) _
-        (λ stored env. sym (value_add a (access_values stored env) e f))
+    (present_value a (access_values stored env) f)) (λ stored env. present_value a (access_values stored env) (Add e f)) _
+    (λ stored env. sym (value_add a (access_values stored env) e f))
     (sum_leaves a places free c.requires.below (λ stored env. present_value a (access_values stored env) e)
-        (λ stored env. present_value a (access_values stored env) f) c.in_ok-x-in-Add.x c.in_ok-y-in-Add.y one two)))
+    (λ stored env. present_value a (access_values stored env) f) c.in_ok-x-in-Add.x c.in_ok-y-in-Add.y one two)))
 
 pub returns-in_ok-code-in-Sub : goal.returns-in_ok-code-in-Sub
 returns-in_ok-code-in-Sub g t c =
@@ -179,22 +185,22 @@ returns-in_ok-code-in-Sub g t c =
     let e = c.in-Sub.first in
     let f = c.in-Sub.second in
     let one = subst (λ x. LeavesOption a places (λ stored env. present_value a (access_values stored env) x) free c.in_ok-x-in-Sub.x)
-        c.get-in-Sub.ensures c.in_ok-x-in-Sub.ensures in
+    c.get-in-Sub.ensures c.in_ok-x-in-Sub.ensures in
     let two = subst (λ x. LeavesOption a places (λ stored env. present_value a (access_values stored env) x)
-        (free + 2) c.in_ok-y-in-Sub.y) c.get-in-Sub-2.ensures c.in_ok-y-in-Sub.ensures in
+    (free + 2) c.in_ok-y-in-Sub.y) c.get-in-Sub-2.ensures c.in_ok-y-in-Sub.ensures in
     subst (λ whole. LeavesOption a places (λ stored env. present_value a (access_values stored env) whole) free c.in_ok-code-in-Sub.code)
-        (sym c.in-Sub.is)
+    (sym c.in-Sub.is)
     (subst (LeavesOption a places (λ stored env. present_value a (access_values stored env) (Sub e f)) free)
-        (sym c.in_ok-code-in-Sub.ensures)
+    (sym c.in_ok-code-in-Sub.ensures)
     (leaves_same a places free (λ stored env. either a.plus (present_value a (access_values stored env) e)
-        (each (minus a) (present_value a (access_values stored env) f)))
-        (λ stored env. present_value a (access_values stored env) (Sub e f)) _
-        (λ stored env. sym (value_sub a (access_values stored env) e f))
+    (each (minus a) (present_value a (access_values stored env) f)))
+    (λ stored env. present_value a (access_values stored env) (Sub e f)) _
+    (λ stored env. sym (value_sub a (access_values stored env) e f))
     (sum_leaves a places free c.requires.below (λ stored env. present_value a (access_values stored env) e)
-        (λ stored env. each (minus a) (present_value a (access_values stored env) f)) c.in_ok-x-in-Sub.x c.in_ok-less-in-Sub.less one
+    (λ stored env. each (minus a) (present_value a (access_values stored env) f)) c.in_ok-x-in-Sub.x c.in_ok-less-in-Sub.less one
     (subst (LeavesOption a places (λ stored env. each (minus a) (present_value a (access_values stored env) f)) (free + 2))
-        (sym c.in_ok-less-in-Sub.ensures) (negated_leaves a places (free + 2)
-        (λ stored env. present_value a (access_values stored env) f) c.in_ok-y-in-Sub.y two)))))
+    (sym c.in_ok-less-in-Sub.ensures) (negated_leaves a places (free + 2)
+    (λ stored env. present_value a (access_values stored env) f) c.in_ok-y-in-Sub.y two)))))
 
 pub returns-in_ok-code-in-Mul : goal.returns-in_ok-code-in-Mul
 returns-in_ok-code-in-Mul g t c =
@@ -204,18 +210,18 @@ returns-in_ok-code-in-Mul g t c =
     let e = c.in-Mul.first in
     let f = c.in-Mul.second in
     let one = subst (λ x. LeavesOption a places (λ stored env. present_value a (access_values stored env) x) free c.in_ok-x-in-Mul.x)
-        c.get-in-Mul.ensures c.in_ok-x-in-Mul.ensures in
+    c.get-in-Mul.ensures c.in_ok-x-in-Mul.ensures in
     let two = subst (λ x. LeavesOption a places (λ stored env. present_value a (access_values stored env) x)
-        (free + 2) c.in_ok-y-in-Mul.y) c.get-in-Mul-2.ensures c.in_ok-y-in-Mul.ensures in
+    (free + 2) c.in_ok-y-in-Mul.y) c.get-in-Mul-2.ensures c.in_ok-y-in-Mul.ensures in
     subst (λ whole. LeavesOption a places (λ stored env. present_value a (access_values stored env) whole) free c.in_ok-code-in-Mul.code)
-        (sym c.in-Mul.is)
+    (sym c.in-Mul.is)
     (subst (LeavesOption a places (λ stored env. present_value a (access_values stored env) (Mul e f)) free)
-        (sym c.in_ok-code-in-Mul.ensures)
+    (sym c.in_ok-code-in-Mul.ensures)
     (leaves_same a places free (λ stored env. both a.times (present_value a (access_values stored env) e)
-        (present_value a (access_values stored env) f)) (λ stored env. present_value a (access_values stored env) (Mul e f)) _
-        (λ stored env. sym (value_mul a (access_values stored env) e f))
+    (present_value a (access_values stored env) f)) (λ stored env. present_value a (access_values stored env) (Mul e f)) _
+    (λ stored env. sym (value_mul a (access_values stored env) e f))
     (product_leaves a places free c.requires.below (λ stored env. present_value a (access_values stored env) e)
-        (λ stored env. present_value a (access_values stored env) f) c.in_ok-x-in-Mul.x c.in_ok-y-in-Mul.y one two)))
+    (λ stored env. present_value a (access_values stored env) f) c.in_ok-x-in-Mul.x c.in_ok-y-in-Mul.y one two)))
 
 pub returns-in_ok-code-in-Neg : goal.returns-in_ok-code-in-Neg
 returns-in_ok-code-in-Neg g t c =
@@ -224,12 +230,12 @@ returns-in_ok-code-in-Neg g t c =
     let free = c.args.free in
     let e = c.in-Neg.inner in
     let one = subst (λ x. LeavesOption a places (λ stored env. present_value a (access_values stored env) x) free c.in_ok-x-in-Neg.x)
-        c.get-in-Neg.ensures c.in_ok-x-in-Neg.ensures in
+    c.get-in-Neg.ensures c.in_ok-x-in-Neg.ensures in
     subst (λ whole. LeavesOption a places (λ stored env. present_value a (access_values stored env) whole) free c.in_ok-code-in-Neg.code)
-        (sym c.in-Neg.is)
+    (sym c.in-Neg.is)
     (subst (LeavesOption a places (λ stored env. present_value a (access_values stored env) (Neg e)) free) (sym c.in_ok-code-in-Neg.ensures)
     (leaves_same a places free (λ stored env. each (minus a) (present_value a (access_values stored env) e))
-        (λ stored env. present_value a (access_values stored env) (Neg e)) _ (λ stored env. sym (value_neg a (access_values stored env) e))
+    (λ stored env. present_value a (access_values stored env) (Neg e)) _ (λ stored env. sym (value_neg a (access_values stored env) e))
     (negated_leaves a places free (λ stored env. present_value a (access_values stored env) e) c.in_ok-x-in-Neg.x one)))
 
 pub returns-in_ok-code-in-Num : goal.returns-in_ok-code-in-Num
@@ -238,9 +244,9 @@ returns-in_ok-code-in-Num g t c =
     let places = c.args.places.now in
     let free = c.args.free in
     subst (λ whole. LeavesOption a places (λ stored env. present_value a (access_values stored env) whole) free c.in_ok-code-in-Num.code)
-        (sym c.in-Num.is)
+    (sym c.in-Num.is)
     (subst (LeavesOption a places (λ stored env. Some c.in-Num.n) free) (sym c.in_ok-code-in-Num.ensures)
-        (number_leaves a places c.in-Num.n free))
+    (number_leaves a places c.in-Num.n free))
 
 abbrev none : AccessPlace
 none = record { cursor = 0; tensor = 0 }
@@ -253,11 +259,11 @@ returns-in_ok-code-in-Access g t c =
     let k = c.in-Access.k in
     let p : AccessPlace = slice_index_or c.as_slice.result.now k none in
     let within : k < length places.accesses = read_access
-        (λ k. k < length places.accesses) c.args.expr.now k c.in-Access.is c.requires.placed in
+    (λ k. k < length places.accesses) c.args.expr.now k c.in-Access.is c.requires.placed in
     let at : slice_get places.accesses k ≡ Some p =
-        subst (λ ps. slice_get places.accesses k ≡ Some (slice_index_or ps k none)) (sym c.as_slice.ensures)
-        (slice_get-get_or places.accesses k none within) in
+    subst (λ ps. slice_get places.accesses k ≡ Some (slice_index_or ps k none)) (sym c.as_slice.ensures)
+    (slice_get-get_or places.accesses k none within) in
     subst (λ whole. LeavesOption a places (λ stored env. present_value a (access_values stored env) whole) free
-        c.in_ok-code-in-Access.code) (sym c.in-Access.is)
+    c.in_ok-code-in-Access.code) (sym c.in-Access.is)
     (subst (LeavesOption a places (λ stored env. access_values stored env k) free) (sym c.in_ok-code-in-Access.ensures)
-        (access_leaves a places free c.requires.below k p at))
+    (access_leaves a places free c.requires.below k p at))

@@ -14,6 +14,6 @@ returns c =
     let keys = c.args.keys.now in
     let value = c.args.value in
     let ordered : c.as_slice-2.result.now ≡ by_level k.modes keys =
-        c.as_slice-2.ensures ∙ c.in_ok-ordered.ensures ∙ ap (λ ms. by_level ms keys) c.as_slice.ensures in
+    c.as_slice-2.ensures ∙ c.in_ok-ordered.ensures ∙ ap (λ ms. by_level ms keys) c.as_slice.ensures in
     let code = c.in_ok-code.ensures ∙ ap (λ e. AddTo (Values 0) e (Var value) ∷ []) (c.in_ok-position.ensures ∙ ap position_code ordered) in
     subst (AddsTo dense_sink k keys value c.args._free) (sym code) (adds_in_place k keys value c.args._free)
