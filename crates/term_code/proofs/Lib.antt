@@ -1,4 +1,7 @@
+pub mod DenseLaws
 pub mod OptionLaws
 pub mod Parts
 pub mod PlaceLaws
 pub mod PresenceLaws
+pub mod TermLaws
+pub mod WorkspaceLaws

@@ -1,13 +1,13 @@
 -- What the code of values that may be absent does.
-use Rattle.std.specs.Prelude.{◌≡◌, ℕ, suc, ◌+◌, ◌≤◌, ◌<◌, List, [], ◌∷◌, ◌++◌, Option, Some, None, slice_get, refl}
-use Rattle.std.proofs.Common.{◌∙◌, sym, ap, subst, arith}
+use Rattle.std.specs.Prelude.{◌≡◌, ℕ, suc, ◌+◌, ◌≤◌, List, [], ◌∷◌, ◌++◌, Option, Some, None, slice_get, refl}
+use Rattle.std.proofs.Common.{◌∙◌, subst, arith}
 use Rattle.numbers.specs.Arithmetic.{Arithmetic}
 use Rattle.kernel_code.specs.declared.syntax.Arr.TheVariants.{Values}
 use Rattle.kernel_code.specs.declared.syntax.ValueOp.TheVariants.{Plus, Times}
 use Rattle.kernel_code.specs.declared.syntax.KExpr.{KExpr, Num, Var, At}
-use Rattle.kernel_code.specs.declared.syntax.KStmt.{KStmt, Set, Combine, If}
+use Rattle.kernel_code.specs.declared.syntax.KStmt.{KStmt, Set, If}
 use Rattle.kernel_code.specs.Meaning.{Setting, State, value, set_var}
-use Rattle.kernel_code.specs.Does.{Does, Never}
+use Rattle.kernel_code.specs.Does.{Never}
 use Rattle.kernel_code.proofs.Does.{does_append, does_set, does_combine, does_nothing, does_if_yes, does_if_no, does_weaker}
 use Rattle.kernel_code.specs.Keeps.{Leaves, NoVariable, EveryArray, no_turns}
 use Rattle.kernel_code.proofs.Keeps.{this_var, other_var}
@@ -57,14 +57,15 @@ then_reads : (c : Setting) (first second : List KStmt) (free more : ℕ) (s : St
     → Reads c first free no_turns s P
     → ((t : State) → Leaves NoVariable EveryArray free no_turns s t → P t → Reads c second more no_turns t Q)
     → Reads c (first ++ second) free no_turns s Q
-then_reads c first second free more s P Q le d next = does_append c first second s _ _ Never d (λ t h. does_weaker c second t _ _ Never Never (next t h.0 h.1) (λ u k. (
-  record {
-    below = λ y b z. k.0.below y (omega (arith, b, le)) z ∙ h.0.below y b z;
-    arrays = λ b z. k.0.arrays b z ∙ h.0.arrays b z;
-    turns = λ j. let x = h.0.turns j in let y = k.0.turns j in omega (arith, x, y);
-  },
-  k.1,
-)) (λ t b n z. z))
+then_reads c first second free more s P Q le d next =
+    does_append c first second s _ _ Never d (λ t h. does_weaker c second t _ _ Never Never (next t h.0 h.1) (λ u k. (
+      record {
+        below = λ y b z. k.0.below y (omega (arith, b, le)) z ∙ h.0.below y b z;
+        arrays = λ b z. k.0.arrays b z ∙ h.0.arrays b z;
+        turns = λ j. let x = h.0.turns j in let y = k.0.turns j in omega (arith, x, y);
+      },
+      k.1,
+    )) (λ t b n z. z))
 
 -- 1 and a value
 two_set : (c : Setting) (free v : ℕ) (e : KExpr) (s : State) → value e (set_var s free 1) ≡ Some v
@@ -113,8 +114,10 @@ both_does c free (Some x) (Some y) s h g =
 
 either_does : (c : Setting) (free : ℕ) (x y : Option ℕ) (s : State) → OptionLeft free x s → OptionLeft (free + 2) y s
     → Reads c (either_code free) free no_turns s (OptionLeft free (either c.arithmetic.plus x y))
-either_does c free None None s h g = else_read c free (free + 2) _ [] s (OptionLeft free None) g (nothing_read c free s (OptionLeft free None) h)
-either_does c free (Some x) None s h g = else_read c free (free + 2) _ [] s (OptionLeft free (Some x)) g (nothing_read c free s (OptionLeft free (Some x)) h)
+either_does c free None None s h g = else_read c free (free + 2) _ [] s (OptionLeft free None) g
+    (nothing_read c free s (OptionLeft free None) h)
+either_does c free (Some x) None s h g = else_read c free (free + 2) _ [] s (OptionLeft free (Some x)) g
+    (nothing_read c free s (OptionLeft free (Some x)) h)
 either_does c free None (Some y) s h g =
     if_read c free (free + 2) 0 _ [] s _ g.0
     (else_read c free free _ _ s _ h
@@ -138,7 +141,8 @@ number_leaves a places n free = λ c is stored bound env s keeps has. two_set c 
 module _ (a : Arithmetic) (places : Places) (free : ℕ) (are : AreBelow free places) where
   pub access_leaves : (k : ℕ) (p : AccessPlace) → slice_get places.accesses k ≡ Some p
       → LeavesOption a places (λ stored env. word_of (stored.word k) (env.cursor k)) free (access_code p free)
-  access_leaves k p at = λ c is stored bound env s keeps has. by_cursor c stored s (env.cursor k) (keeps.cursors k p at) (λ span. has k p span at)
+  access_leaves k p at = λ c is stored bound env s keeps has. by_cursor c stored s (env.cursor k) (keeps.cursors k p at)
+      (λ span. has k p span at)
     where
       low : p.cursor + 3 ≤ free
       low = are.accesses k p at
@@ -147,23 +151,27 @@ module _ (a : Arithmetic) (places : Places) (free : ℕ) (are : AreBelow free pl
           → ((span : Span) → o ≡ Some span → HasValue stored p.tensor k span.lo s)
           → Reads c (access_code p free) free no_turns s (OptionLeft free (word_of (stored.word k) o))
       by_cursor c stored s None left has =
-          else_read c free p.cursor _ _ s (OptionLeft free None) left (set_read c free free 0 (Num 0) s (OptionLeft free None) (omega arith) refl (this_var s free 0))
+          else_read c free p.cursor _ _ s (OptionLeft free None) left
+          (set_read c free free 0 (Num 0) s (OptionLeft free None) (omega arith) refl (this_var s free 0))
       by_cursor c stored s (Some span) left has =
           let h = has span refl in
           let v = stored.word k span.lo in
           let t = set_var s free 1 in
           let lo : t.vars (p.cursor + 1) ≡ Some span.lo = other_var s free (p.cursor + 1) 1 (λ q. omega (arith, q, low)) ∙ left.1.lo in
           if_read c free p.cursor 0 _ _ s _ left.0
-          (two_set c free v (At (Values p.tensor) (Var (p.cursor + 1))) s (word_is (Values p.tensor) (Var (p.cursor + 1)) h.words span.lo v t h.held lo h.is))
+          (two_set c free v (At (Values p.tensor) (Var (p.cursor + 1))) s
+          (word_is (Values p.tensor) (Var (p.cursor + 1)) h.words span.lo v t h.held lo h.is))
 
   -- the second of two values beside the first one
   beside : (f g : Options) (x y : List KStmt) → LeavesOption a places f free x → LeavesOption a places g (free + 2) y
-      → (c : Setting) → c.arithmetic ≡ a → (stored : Stored) (bound : List ℕ) (env : Env) (s : State) → Keeps places bound env s → HasValues places stored env s
+      → (c : Setting) → c.arithmetic ≡ a → (stored : Stored) (bound : List ℕ) (env : Env) (s : State) → Keeps places bound env s
+      → HasValues places stored env s
       → Reads c (x ++ y) free no_turns s (λ t. OptionLeft free (f stored env) t × OptionLeft (free + 2) (g stored env) t)
   beside f g x y h k c is stored bound env s keeps has =
       then_reads c x y free free s _ _ (omega arith) (h c is stored bound env s keeps has)
       (λ t l o. does_weaker c y t _ _ Never Never
-      (k c is stored bound env t (keeps_kept free places bound env s t are (λ y b. l.below y b (λ z. z)) keeps) (values_kept places stored env s t (λ b. l.arrays b tt) has))
+      (k c is stored bound env t (keeps_kept free places bound env s t are (λ y b. l.below y b (λ z. z)) keeps)
+      (values_kept places stored env s t (λ b. l.arrays b tt) has))
       (λ u r. (
         record { below = λ y b z. r.0.below y (omega (arith, b)) z; arrays = r.0.arrays; turns = r.0.turns },
         (option_kept free (f stored env) t u (r.0.below free (omega arith) (λ z. z)) (r.0.below (free + 1) (omega arith) (λ z. z)) o, r.1),
@@ -190,7 +198,8 @@ negated_leaves a places free f x h = λ c is stored bound env s keeps has.
     (λ t l o. subst (λ b. Reads c (each_code b.minus_one free) free no_turns t (OptionLeft free (each (minus b) (f stored env)))) is
     (each_does c free (f stored env) t o))
 
-pub leaves_same : (a : Arithmetic) (places : Places) (free : ℕ) (f g : Options) (x : List KStmt) → ((stored : Stored) (env : Env) → f stored env ≡ g stored env)
+pub leaves_same : (a : Arithmetic) (places : Places) (free : ℕ) (f g : Options) (x : List KStmt)
+    → ((stored : Stored) (env : Env) → f stored env ≡ g stored env)
     → LeavesOption a places f free x → LeavesOption a places g free x
 leaves_same a places free f g x same h = λ c is stored bound env s keeps has.
     subst (λ o. Reads c x free no_turns s (OptionLeft free o)) (same stored env) (h c is stored bound env s keeps has)

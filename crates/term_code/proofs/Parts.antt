@@ -1,8 +1,9 @@
 -- What is so of the parts of an expression.
-use Rattle.std.specs.Prelude.{◌≡◌, ℕ, Bool, ◌||◌, ◌&&◌, true, false, Option, refl}
+use Rattle.std.specs.Prelude.{◌≡◌, ℕ, Bool, ◌||◌, ◌&&◌, true, Option, refl}
 use denote.Hole.Carrier.{hidden}
 use Rattle.std.proofs.Common.{◌∙◌, sym, ap, subst}
-use Rattle.index_notation.specs.declared.syntax.Expr.{Expr, Num, Access, Add, Sub, Mul, Neg, Add', Sub', Mul', Neg', Row_of-Expr, end_of-Expr}
+use Rattle.index_notation.specs.declared.syntax.Expr.{Expr, Num, Access, Add, Sub, Mul, Neg, Add', Sub', Mul', Neg', Row_of-Expr}
+use Rattle.index_notation.specs.declared.syntax.Expr.{end_of-Expr}
 use Rattle.index_notation.specs.declared.syntax.Expr.{more_of-Expr}
 use Rattle.index_notation.specs.declared.syntax.Expr.TheBlock.{hidden-the_row-Expr-0}
 use Rattle.numbers.specs.Arithmetic.{Arithmetic}

@@ -11,7 +11,8 @@ number_code n free = Set free (Num 1) ∷ Set (free + 1) (Num n) ∷ []
 
 -- the value at an access's first position, where the access is present
 abbrev pub access_code : AccessPlace → ℕ → List KStmt
-access_code p free = If (Var p.cursor) (Set free (Num 1) ∷ Set (free + 1) (At (Values p.tensor) (Var (p.cursor + 1))) ∷ []) (Set free (Num 0) ∷ []) ∷ []
+access_code p free = If (Var p.cursor) (Set free (Num 1) ∷ Set (free + 1) (At (Values p.tensor) (Var (p.cursor + 1))) ∷ [])
+    (Set free (Num 0) ∷ []) ∷ []
 
 -- of two values, one from free on and the other from free + 2 on, the sum where both are there, else the one that is
 abbrev pub either_code : ℕ → List KStmt

@@ -4,10 +4,16 @@
 //! dense result, and a workspace.
 #![tactic(auto)]
 
+mod dense_sink;
 mod places;
 mod presence;
+mod terms;
 mod values;
+mod workspace_sink;
 
+pub use dense_sink::DenseSink;
 pub use places::{AccessPlace, Places, at_top};
 pub use presence::{fullness_of, presence_of};
+pub use terms::emit_term;
 pub use values::emit_value;
+pub use workspace_sink::WorkspaceSink;

@@ -50,12 +50,7 @@ fn combined(alloc: Global, op: ValueOp, free: u64) -> Result<Items<KStmt>, Alloc
 {
     one_statement(
         alloc,
-        KStmt::Combine(
-            free + 1,
-            op,
-            KExpr::Var(free + 1),
-            KExpr::Var(free + 2 + 1),
-        ),
+        KStmt::Combine(free + 1, op, KExpr::Var(free + 1), KExpr::Var(free + 2 + 1)),
     )
 }
 
@@ -75,11 +70,7 @@ fn sum(
     let there = one_statement(alloc, KStmt::If(KExpr::Var(free), two, other))?;
     let mut code = first;
     code.append(second)?;
-    code.push(KStmt::If(
-        KExpr::Var(free + 2),
-        there,
-        Items::new(alloc),
-    ))?;
+    code.push(KStmt::If(KExpr::Var(free + 2), there, Items::new(alloc)))?;
     Ok(code)
 }
 

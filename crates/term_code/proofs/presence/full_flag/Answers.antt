@@ -14,7 +14,9 @@ returns c =
     let k = c.args.access in
     let d : AccessPlace = record { cursor = 0; tensor = 0 } in
     let p : AccessPlace = slice_index_or c.as_slice.result.now k d in
-    let at : slice_get places.accesses k ≡ Some p = subst (λ ps. slice_get places.accesses k ≡ Some (slice_index_or ps k d)) (sym c.as_slice.ensures) (slice_get-get_or places.accesses k d c.requires) in
+    let at : slice_get places.accesses k ≡ Some p =
+    subst (λ ps. slice_get places.accesses k ≡ Some (slice_index_or ps k d)) (sym c.as_slice.ensures)
+    (slice_get-get_or places.accesses k d c.requires) in
     let no : false ≡ is_iterator seeks k = sym c.if-is_iterator.false ∙ c.is_iterator.ensures in
     tells_same places (λ env. is_some (env.cursor k)) (λ env. is_full (is_other seeks) (here env) (Access k)) _
     (λ env. ap (λ b. not b && is_some (env.cursor k)) no) (tells_flag places k p at)
