@@ -1,4 +1,3 @@
 pub mod CodeEnds
-pub mod Ends
 pub mod Sound
 pub mod Starts

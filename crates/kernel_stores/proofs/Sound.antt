@@ -20,12 +20,12 @@ use Rattle.tensor_storage.specs.Levels.{meaning}
 use Rattle.tensor_storage.specs.Stands.{row_from}
 use Rattle.tensor_storage.specs.Storages.{storage_of}
 use Rattle.tensor_storage.specs.Tables.{Table}
-use Rattle.storage_text.specs.Arrays.{positions_in}
-use Rattle.storage_text.proofs.Packed.{packed_are_done, positions_same, heads, tails}
+use Rattle.storage_arrays.specs.Arrays.{positions_in}
+use Rattle.storage_arrays.proofs.Packed.{packed_are_done, positions_same, heads, tails}
 use Rattle.kernel_stores.specs.Laws.{RightIsSound}
 use Rattle.kernel_stores.specs.Kernels.{IsRightOutcome, IsSoundOutcome}
 use Rattle.kernel_stores.specs.Results.{LeavesResult, LeavesStorage, positions_below}
-use Rattle.kernel_stores.specs.Stores.{Store, inputs_of, result_sizes}
+use Rattle.kernel_stores.specs.Stores.{Store, told_by, result_sizes}
 
 -- the last level has as many positions as the rows tell
 many_below : (table : Table) (letters : List Letter) (sizes : List ℕ) (ls : List StorageLevel) (cs : List Column) (d : ℕ)
@@ -90,4 +90,4 @@ sound_outcome a s inputs store NotFinished is_format r = absurd r
 pub right_is_sound : RightIsSound
 right_is_sound a s formats kernel right store is arrays given =
     let e = right store is arrays given in
-    record { turns = e.turns; outcome = e.outcome; is = e.is; so = sound_outcome a s (inputs_of a.zero store) store e.outcome is.format e.so }
+    record { turns = e.turns; outcome = e.outcome; is = e.is; so = sound_outcome a s (told_by a store) store e.outcome is.format e.so }

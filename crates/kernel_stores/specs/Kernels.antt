@@ -7,12 +7,17 @@ use Rattle.kernel_code.specs.declared.syntax.Place.TheVariants.{Level, Workspace
 use Rattle.kernel_code.specs.Kernels.{KernelOutcome, Finished, GotStuck, TooLong, NotFinished, go}
 use Rattle.level_core.specs.Meaning.{Arrays}
 use Rattle.format_spec.specs.declared.format.FormatLevel.{FormatLevel}
+use Rattle.index_notation.specs.Statement.{numbers_from}
 use Rattle.index_notation.specs.declared.syntax.Statement.{Statement}
 use Rattle.concrete_notation.specs.Contributions.{Inputs}
 use Rattle.concrete_notation.specs.Workspaces.{AreAllDense}
-use Rattle.kernel_stores.specs.Pairs.{pairs}
+use Rattle.lowering.specs.Right.{pairs}
 use Rattle.kernel_stores.specs.Results.{LeavesResult, LeavesStorage, MayPass}
-use Rattle.kernel_stores.specs.Stores.{Store, IsStoreOf, IsGiven, inputs_of}
+use Rattle.kernel_stores.specs.Stores.{Store, IsStoreOf, IsGiven, told_by}
+
+-- the variables of a statement, as they stand
+abbrev pub standing_order : Statement → List ℕ
+standing_order s = numbers_from 0 (length s.vars)
 
 -- a kernel finishes and leaves the statement's values; or a level or the workspace would grow too large: a level as the result's
 -- storage would, and the workspace, which there is only where some level of the result isn't dense, by as many pairs at most as there
@@ -22,7 +27,7 @@ IsRightOutcome a s inputs store (Finished arrays turns) = LeavesResult a s input
 IsRightOutcome a s inputs store GotStuck = ⊥
 IsRightOutcome a s inputs store (TooLong (Level level) count) = MayPass a s inputs store level count
 IsRightOutcome a s inputs store (TooLong Workspace count) =
-    (greatest_position_count < count) × (count ≤ pairs s inputs) × (AreAllDense store.format → ⊥)
+    (greatest_position_count < count) × (count ≤ pairs s (standing_order s) inputs) × (AreAllDense store.format → ⊥)
 IsRightOutcome a s inputs store NotFinished = ⊥
 
 -- within some number of turns the outcome is such
@@ -35,7 +40,7 @@ pub record Ends (a : Arithmetic) (order : ℕ) (kernel : Kernel) (arrays : Array
 -- the kernel is right for the statement and formats: on every store, whatever the ranges and the operands
 abbrev pub IsRightKernel : Arithmetic → Statement → List (List FormatLevel) → Kernel → Type 0
 IsRightKernel a s formats kernel = (store : Store) → IsStoreOf s formats store → (arrays : Arrays) → IsGiven a.zero store arrays
-    → Ends a (length store.format) kernel arrays (IsRightOutcome a s (inputs_of a.zero store) store)
+    → Ends a (length store.format) kernel arrays (IsRightOutcome a s (told_by a store) store)
 
 -- it finishes with a storage that keeps the rules, or is refused a growth; it is never stuck, and its turns come to an end
 abbrev pub IsSoundOutcome : ℕ → Store → KernelOutcome → Type 0

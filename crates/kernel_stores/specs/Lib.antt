@@ -1,6 +1,5 @@
 pub mod CodeEnds
 pub mod Kernels
 pub mod Laws
-pub mod Pairs
 pub mod Results
 pub mod Stores

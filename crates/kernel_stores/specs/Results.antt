@@ -21,7 +21,7 @@ use Rattle.tensor_storage.specs.Levels.{meaning}
 use Rattle.tensor_storage.specs.Stands.{row_from, IsPacked}
 use Rattle.tensor_storage.specs.Storages.{IsStorage, storage_of, in_level_order}
 use Rattle.tensor_storage.specs.Tables.{Table}
-use Rattle.storage_text.specs.Arrays.{AreDone, positions_in}
+use Rattle.storage_arrays.specs.Arrays.{AreDone, positions_in}
 use Rattle.kernel_stores.specs.Stores.{Store, result_sizes, AreHeld}
 
 -- the arrays with the numbers of positions of the result's levels summed up: how many positions each parent has becomes where they end

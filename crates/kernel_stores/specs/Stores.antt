@@ -1,11 +1,10 @@
 -- What a kernel is run on: the ranges of the variables, packed operands, and the arrays with which its run starts.
 use Rattle.std.specs.Prelude.{◌≡◌, ℕ, zero, suc, ◌*◌, ◌≤◌, ◌<◌, ◌^◌, if◌then◌else◌, List, [], ◌∷◌, length, map, All}
-use Rattle.std.specs.Prelude.{Option, Some, None, option_map, option_and_then, unwrap_or, is_some, slice_get, slice_index, replicate}
+use Rattle.std.specs.Prelude.{Some, slice_index, slice_index_or, replicate}
 use Rattle.limits.specs.Limits.{greatest_position_count}
+use Rattle.numbers.specs.Arithmetic.{Arithmetic}
 use Rattle.kernel_code.specs.declared.syntax.Arr.TheVariants.{Range, Values}
 use Rattle.level_core.specs.declared.letter.Letter.{Letter}
-use Rattle.level_core.specs.declared.span.Span.{Span}
-use Rattle.level_core.specs.Entries.{one}
 use Rattle.level_core.specs.Kinds.{properties}
 use Rattle.level_core.specs.Laws.{AreAtStart}
 use Rattle.level_core.specs.Meaning.{Arrays}
@@ -15,10 +14,10 @@ use Rattle.index_notation.specs.declared.syntax.Statement.{Statement}
 use Rattle.iteration_graph.specs.Edges.{format_of}
 use Rattle.expr_terms.specs.Ranges.{mode_size}
 use Rattle.concrete_notation.specs.Contributions.{Inputs}
-use Rattle.tensor_storage.specs.Children.{child_of}
 use Rattle.tensor_storage.specs.declared.level.StorageLevel.{StorageLevel}
 use Rattle.tensor_storage.specs.Levels.{meaning}
-use Rattle.tensor_storage.specs.Storages.{Storage, IsStorage, in_level_order}
+use Rattle.tensor_storage.specs.Storages.{Storage, IsStorage, storage_of, in_level_order}
+use Rattle.lowering.specs.Stored.{inputs_of}
 
 -- the range of each variable in standing order, the operands by their numbers from 1 on, and the result's format
 pub record Store : Type 0 where
@@ -99,27 +98,15 @@ pub record IsStoreOf (s : Statement) (formats : List (List FormatLevel)) (store 
   pub format : IsFormat store.format
   pub few : StartsFew (letters_of store.format) (result_sizes store) 1
 
--- the position where the path with these coordinates, in the order of the levels, ends below a span
-abbrev pub end_below : List StorageLevel → Span → List ℕ → Option ℕ
-end_below [] span [] = Some span.lo
-end_below [] span (x ∷ xs) = None
-end_below (l ∷ ls) span [] = None
-end_below (l ∷ ls) span (x ∷ xs) = option_and_then (λ child. end_below ls child xs) (child_of (meaning.entries l span) x)
-
--- where the path with these coordinates, in the order of the modes, ends
-abbrev pub end_of : Storage → List ℕ → Option ℕ
-end_of storage coords = end_below storage.levels (one 0) (in_level_order storage.format coords)
+-- what is stored where there is no operand
+abbrev nothing_stored : Storage
+nothing_stored = storage_of [] [] []
 
 -- what is stored of a tensor of the right side; the result is tensor 0
-abbrev pub operand_of : Store → ℕ → Option Storage
-operand_of store zero = None
-operand_of store (suc n) = slice_get store.operands n
+abbrev pub operand_of : Store → ℕ → Storage
+operand_of store zero = nothing_stored
+operand_of store (suc n) = slice_index_or store.operands n nothing_stored
 
--- what a store tells a statement: the paths of each operand, with the value at which each ends, and else nothing
-abbrev pub inputs_of : ℕ → Store → Inputs
-inputs_of nothing store = record {
-  paths = λ tensor coords. is_some (option_and_then (λ operand. end_of operand coords) (operand_of store tensor));
-  values = λ tensor coords. unwrap_or (option_and_then
-      (λ operand. option_map (slice_index operand.values) (end_of operand coords)) (operand_of store tensor)) nothing;
-  ranges = slice_index store.ranges;
-}
+-- what a store tells a statement: the paths of each operand, with the value at which each ends, and else zero
+abbrev pub told_by : Arithmetic → Store → Inputs
+told_by a store = inputs_of a (operand_of store) (slice_index store.ranges)

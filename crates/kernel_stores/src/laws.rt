@@ -1,5 +1,5 @@
 //! What follows of stores and kernels, as calls whose contracts are the laws. They do nothing.
-ghost use Rattle.kernel_stores.specs.Laws.{RightIsSound, StartsOnStore, EndsAreFound};
+ghost use Rattle.kernel_stores.specs.Laws.{RightIsSound, StartsOnStore};
 
 /// A kernel that is right for a statement and formats is sound: on each of their stores it is never stuck, its turns come to an
 /// end, and what it leaves keeps the rules of every level.
@@ -10,10 +10,4 @@ pub fn right_kernels_are_sound()
 /// The run of a kernel starts on the arrays of its store, whatever workspaces and scratch lists it has.
 pub fn kernels_start_on_stores()
     ensures { StartsOnStore }
-{}
-
-/// The path with some coordinates ends where it is found from level to level.
-#[tactic(auto, using(crate::proofs::Ends::ends_are_found))]
-pub fn ends_are_found()
-    ensures { EndsAreFound }
 {}

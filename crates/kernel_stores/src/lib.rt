@@ -5,4 +5,4 @@
 
 mod laws;
 
-pub use laws::{ends_are_found, kernels_start_on_stores, right_kernels_are_sound};
+pub use laws::{kernels_start_on_stores, right_kernels_are_sound};

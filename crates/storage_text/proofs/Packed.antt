@@ -24,10 +24,10 @@ use Rattle.storage_text.specs.Arrays.{positions_in, AreDone}
 use Rattle.storage_text.specs.Done.{PackedAreDone}
 use Rattle.storage_text.proofs.LevelArrays.{last_end, none_without}
 
-pub heads : (x y : ℕ) (xs ys : List ℕ) → x ∷ xs ≡ y ∷ ys → x ≡ y
+heads : (x y : ℕ) (xs ys : List ℕ) → x ∷ xs ≡ y ∷ ys → x ≡ y
 heads x y xs ys h = cc
 
-pub tails : (x y : ℕ) (xs ys : List ℕ) → x ∷ xs ≡ y ∷ ys → xs ≡ ys
+tails : (x y : ℕ) (xs ys : List ℕ) → x ∷ xs ≡ y ∷ ys → xs ≡ ys
 tails x y xs ys h = cc
 
 no_rows : (count : ℕ) (parent : ℕ → ℕ) (parents : ℕ) → parents ≡ 0 → ((i : ℕ) → i < count → parent i < parents) → count ≡ 0
@@ -61,7 +61,7 @@ module _ (table : Table) where
       same_Some w (slot_width (greatest_below table.coords d table.count table.count)) (sym h ∙ built.width refl)
       ∙ width_none table d none
 
-  pub positions_same : (l : StorageLevel) (d n : ℕ) (parent : ℕ → ℕ) (parents : ℕ) (column : Column) (letter : Letter) (letters : List Letter)
+  positions_same : (l : StorageLevel) (d n : ℕ) (parent : ℕ → ℕ) (parents : ℕ) (column : Column) (letter : Letter) (letters : List Letter)
       (size : ℕ) → IsBuilt meaning table d n parent parents column l → column.positions ≡ positions_at table d parents letter letters size
       → ((i : ℕ) → i < table.count → parent i < parents) → column.positions ≡ positions_in parents l
   positions_same l d n parent zero column letter letters size built is within =
