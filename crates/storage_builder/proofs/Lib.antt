@@ -1,0 +1,6 @@
+pub mod Alike
+pub mod Drained
+pub mod Held
+pub mod Left
+pub mod Parts
+pub mod Whole

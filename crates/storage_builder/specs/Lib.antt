@@ -1,0 +1,4 @@
+pub mod Handed
+pub mod Laws
+pub mod Made
+pub mod Parts
