@@ -1,14 +1,17 @@
 -- Merged loops make no more turns than their cost, and step over no more coordinates than are repeated.
-use Rattle.std.specs.Prelude.{◌≡◌, ◌≢◌, ℕ, zero, suc, ◌+◌, ◌≤◌, ◌==◌, ◌||◌, ◌&&◌, not, Bool, true, false, if◌then◌else◌, List, [], ◌∷◌, length, Option, Some, refl}
+use Rattle.std.specs.Prelude.{◌≡◌, ◌≢◌, ℕ, zero, suc, ◌+◌, ◌≤◌, ◌==◌, ◌||◌, ◌&&◌, not, Bool, true, false, if◌then◌else◌, List, [], ◌∷◌}
+use Rattle.std.specs.Prelude.{length, Option, Some, refl}
 use Rattle.std.proofs.Common.{ap, arith, inl, inr}
 use Rattle.std.proofs.lemmas.Bool.Decides.{nat_tests, eqb_tells}
 use Rattle.level_core.specs.declared.span.Span.{Span}
 use Rattle.level_core.specs.declared.span.Entry.{Entry as LevelEntry}
 use Rattle.tensor_storage.specs.Children.{child_of}
-use Rattle.loop_code.specs.Loops.{Layout, Stored, Env, Seek, LoopCode, Add, Both', Loop', Row_of-LoopCode, end_of-LoopCode, more_of-LoopCode, moved}
+use Rattle.loop_code.specs.Loops.{Layout, Stored, Env, Seek, LoopCode, Add, Both', Loop', Row_of-LoopCode, end_of-LoopCode}
+use Rattle.loop_code.specs.Loops.{more_of-LoopCode, moved}
 use Rattle.loop_code.specs.Parts.{here, is_some, entries_at, remains_below_in, some_has}
 use Rattle.loop_code.specs.Turns.{count_below, weight_of, weight_at, repeats, lengths, repeated, repeated_at, is_full_at, turns_at}
-use Rattle.loop_code.specs.Turns.{if_remains, pruned_in, cost, cost_in, merge_turns, merge_turns_in, dups, dups_in, skip_turns, skip_turns_in}
+use Rattle.loop_code.specs.Turns.{if_remains, pruned_in, cost, cost_in, merge_turns, merge_turns_in, dups, dups_in, skip_turns}
+use Rattle.loop_code.specs.Turns.{skip_turns_in}
 
 pub count_plus : (n : ℕ) (f g : ℕ → ℕ) → count_below n (λ i. f i + g i) ≡ count_below n f + count_below n g
 count_plus zero f g = refl
@@ -100,7 +103,8 @@ module _ (layout : Layout) (stored : Stored) (ranges : ℕ → ℕ) where
       (λ x. one_if (some_has stored env seeks x)) in
       omega (arith, more, this, both, sum)
     where
-      one : (n : ℕ) (b : Bool) (es : List LevelEntry) → count_below n (λ x. one_if (not b && is_some (child_of es x))) ≤ (if b then 0 else length es)
+      one : (n : ℕ) (b : Bool) (es : List LevelEntry) → count_below n (λ x. one_if (not b && is_some (child_of es x))) ≤
+          (if b then 0 else length es)
       one n true es = let none = count_none n in omega (arith, none)
       one n false es = count_entries n es
 
@@ -133,20 +137,24 @@ module _ (layout : Layout) (stored : Stored) (ranges : ℕ → ℕ) where
       → if_remains layout stored ranges body env f ≤ if_remains layout stored ranges body env g
   some_or_none body env f g h = by_test (remains_below_in (here env) body)
     where
-      by_test : (b : Bool) → (if b then f (pruned_in layout stored ranges body env) else 0) ≤ (if b then g (pruned_in layout stored ranges body env) else 0)
+      by_test : (b : Bool) → (if b then f (pruned_in layout stored ranges body env) else 0) ≤
+          (if b then g (pruned_in layout stored ranges body env) else 0)
       by_test true = h (pruned_in layout stored ranges body env)
       by_test false = omega arith
 
   mutual
     pub turns_within : (loops : LoopCode) (env : Env) → merge_turns layout stored ranges loops env ≤ cost layout stored ranges loops env
     turns_within (Loop' v seeks p body) env =
-        let inner : ℕ → ℕ = λ x. if_remains layout stored ranges body (moved layout stored v seeks env x) (cost_in layout stored ranges body) in
-        let turns : ℕ → ℕ = λ x. if_remains layout stored ranges body (moved layout stored v seeks env x) (merge_turns_in layout stored ranges body) in
+        let inner : ℕ → ℕ = λ x. if_remains layout stored ranges body (moved layout stored v seeks env x)
+            (cost_in layout stored ranges body) in
+        let turns : ℕ → ℕ = λ x. if_remains layout stored ranges body (moved layout stored v seeks env x)
+            (merge_turns_in layout stored ranges body) in
         let entry = entry_turns (ranges v) (is_full_at layout stored ranges seeks body env) env seeks in
         let all = count_most (ranges v) (λ x. if turns_at layout stored ranges seeks body env x then 1 + turns x else 0)
         (λ x. one_if (turns_at layout stored ranges seeks body env x) + inner x)
         (λ x. by_test (turns_at layout stored ranges seeks body env x) (turns x) (inner x)
-        (some_or_none body (moved layout stored v seeks env x) (merge_turns_in layout stored ranges body) (cost_in layout stored ranges body)
+        (some_or_none body (moved layout stored v seeks env x) (merge_turns_in layout stored ranges body)
+            (cost_in layout stored ranges body)
         (turns_within_in body))) in
         let sum = count_plus (ranges v) (λ x. one_if (turns_at layout stored ranges seeks body env x)) inner in
         omega (arith, entry, all, sum)
@@ -165,8 +173,10 @@ module _ (layout : Layout) (stored : Stored) (ranges : ℕ → ℕ) where
   mutual
     pub skips_within : (loops : LoopCode) (env : Env) → skip_turns layout stored ranges loops env ≤ dups layout stored ranges loops env
     skips_within (Loop' v seeks p body) env =
-        let inner : ℕ → ℕ = λ x. if_remains layout stored ranges body (moved layout stored v seeks env x) (dups_in layout stored ranges body) in
-        let turns : ℕ → ℕ = λ x. if_remains layout stored ranges body (moved layout stored v seeks env x) (skip_turns_in layout stored ranges body) in
+        let inner : ℕ → ℕ = λ x. if_remains layout stored ranges body (moved layout stored v seeks env x)
+            (dups_in layout stored ranges body) in
+        let turns : ℕ → ℕ = λ x. if_remains layout stored ranges body (moved layout stored v seeks env x)
+            (skip_turns_in layout stored ranges body) in
         let entry = count_repeated (ranges v) env seeks in
         let all = count_most (ranges v)
         (λ x. if turns_at layout stored ranges seeks body env x then repeated_at layout stored env seeks x + turns x else 0)

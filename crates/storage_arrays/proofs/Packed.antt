@@ -61,7 +61,8 @@ module _ (table : Table) where
       same_Some w (slot_width (greatest_below table.coords d table.count table.count)) (sym h ∙ built.width refl)
       ∙ width_none table d none
 
-  pub positions_same : (l : StorageLevel) (d n : ℕ) (parent : ℕ → ℕ) (parents : ℕ) (column : Column) (letter : Letter) (letters : List Letter)
+  pub positions_same : (l : StorageLevel) (d n : ℕ) (parent : ℕ → ℕ) (parents : ℕ) (column : Column) (letter : Letter)
+      (letters : List Letter)
       (size : ℕ) → IsBuilt meaning table d n parent parents column l → column.positions ≡ positions_at table d parents letter letters size
       → ((i : ℕ) → i < table.count → parent i < parents) → column.positions ≡ positions_in parents l
   positions_same l d n parent zero column letter letters size built is within =
