@@ -52,14 +52,14 @@ module _ (a : Arithmetic) (P : ℕ → Bool) where
     none_remains values s (Add' p e q f) h =
         let t = neither (remains_in P e) (remains_in P f) h in
         either_none (present_value_in a values e) (present_value_in a values f) (none_remains_in values s e t.0)
-            (none_remains_in values s f t.1)
+        (none_remains_in values s f t.1)
     none_remains values s (Sub' p e q f) h =
         let t = neither (remains_in P e) (remains_in P f) h in
         either_none (present_value_in a values e) (each (minus a) (present_value_in a values f)) (none_remains_in values s e t.0)
         (each_none (present_value_in a values f) (none_remains_in values s f t.1))
     none_remains values s (Mul' p e q f) h =
         both_not (remains_in P e) (remains_in P f) h (present_value_in a values e) (present_value_in a values f)
-            (none_remains_in values s e)
+        (none_remains_in values s e)
         (none_remains_in values s f)
     none_remains values s (Neg' p e) h = each_none (present_value_in a values e) (none_remains_in values s e h)
 

@@ -146,15 +146,15 @@ module _ (layout : Layout) (stored : Stored) (ranges : ℕ → ℕ) where
     pub turns_within : (loops : LoopCode) (env : Env) → merge_turns layout stored ranges loops env ≤ cost layout stored ranges loops env
     turns_within (Loop' v seeks p body) env =
         let inner : ℕ → ℕ = λ x. if_remains layout stored ranges body (moved layout stored v seeks env x)
-            (cost_in layout stored ranges body) in
+        (cost_in layout stored ranges body) in
         let turns : ℕ → ℕ = λ x. if_remains layout stored ranges body (moved layout stored v seeks env x)
-            (merge_turns_in layout stored ranges body) in
+        (merge_turns_in layout stored ranges body) in
         let entry = entry_turns (ranges v) (is_full_at layout stored ranges seeks body env) env seeks in
         let all = count_most (ranges v) (λ x. if turns_at layout stored ranges seeks body env x then 1 + turns x else 0)
         (λ x. one_if (turns_at layout stored ranges seeks body env x) + inner x)
         (λ x. by_test (turns_at layout stored ranges seeks body env x) (turns x) (inner x)
         (some_or_none body (moved layout stored v seeks env x) (merge_turns_in layout stored ranges body)
-            (cost_in layout stored ranges body)
+        (cost_in layout stored ranges body)
         (turns_within_in body))) in
         let sum = count_plus (ranges v) (λ x. one_if (turns_at layout stored ranges seeks body env x)) inner in
         omega (arith, entry, all, sum)
@@ -174,9 +174,9 @@ module _ (layout : Layout) (stored : Stored) (ranges : ℕ → ℕ) where
     pub skips_within : (loops : LoopCode) (env : Env) → skip_turns layout stored ranges loops env ≤ dups layout stored ranges loops env
     skips_within (Loop' v seeks p body) env =
         let inner : ℕ → ℕ = λ x. if_remains layout stored ranges body (moved layout stored v seeks env x)
-            (dups_in layout stored ranges body) in
+        (dups_in layout stored ranges body) in
         let turns : ℕ → ℕ = λ x. if_remains layout stored ranges body (moved layout stored v seeks env x)
-            (skip_turns_in layout stored ranges body) in
+        (skip_turns_in layout stored ranges body) in
         let entry = count_repeated (ranges v) env seeks in
         let all = count_most (ranges v)
         (λ x. if turns_at layout stored ranges seeks body env x then repeated_at layout stored env seeks x + turns x else 0)
