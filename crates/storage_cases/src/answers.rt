@@ -1,5 +1,5 @@
 // What comes of a case.
-ghost use Rattle.storage_text.specs.Arrays.{AreDone};
+ghost use Rattle.storage_arrays.specs.Arrays.{AreDone};
 
 use crate::case::{Case, are_inside};
 use anyhow::{Context, Result, bail};

@@ -1,4 +1,2 @@
-pub mod LevelArrays
 pub mod Lines
 pub mod ListTexts
-pub mod Packed

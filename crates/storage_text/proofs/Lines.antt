@@ -14,13 +14,13 @@ use Rattle.tensor_storage.specs.declared.level.StorageLevel.TheVariants.{Singlet
 use Rattle.tensor_storage.specs.declared.level.StorageLevel.{StorageLevel}
 use Rattle.tensor_storage.specs.Levels.{meaning}
 use Rattle.tensor_storage.specs.Storages.{Storage}
-use Rattle.storage_text.specs.Arrays.{positions_in, IsDone, AreDone}
-use Rattle.storage_text.specs.Kinds.{IsCompressed}
+use Rattle.storage_arrays.specs.Arrays.{positions_in, IsDone, AreDone}
+use Rattle.storage_arrays.specs.Kinds.{IsCompressed}
 use Rattle.storage_text.specs.StoreText.{number_text, value_text, head_text, ends_line, places_line, level_lines, lines_from, text_of}
 use Rattle.storage_text.specs.StoreText.{first_line, values_line, store_text}
 use Rattle.storage_text.proofs.ListTexts.{get_drop}
-use Rattle.storage_text.proofs.LevelArrays.{dense_not_compressed, dense_not_singleton, hashed_not_compressed, hashed_not_singleton}
-use Rattle.storage_text.proofs.LevelArrays.{not_singleton}
+use Rattle.storage_arrays.proofs.Finished.{dense_not_compressed, dense_not_singleton, hashed_not_compressed, hashed_not_singleton}
+use Rattle.storage_arrays.proofs.Finished.{not_singleton}
 
 pub text_behind : (front back : List (List ℕ)) → text_of (front ++ back) ≡ text_of front ++ text_of back
 text_behind front back = flat_map-append (λ (line : List ℕ). line ++ 10 ∷ []) front back

@@ -1,4 +1,1 @@
-pub mod Arrays
-pub mod Done
-pub mod Kinds
 pub mod StoreText

@@ -13,7 +13,7 @@ use Rattle.tensor_storage.specs.declared.level.StorageLevel.TheVariants.{Dense a
 use Rattle.tensor_storage.specs.declared.level.StorageLevel.TheVariants.{Singleton as OfSingleton, Hashed as OfHashed}
 use Rattle.tensor_storage.specs.declared.level.StorageLevel.{StorageLevel}
 use Rattle.tensor_storage.specs.Storages.{Storage}
-use Rattle.storage_text.specs.Arrays.{ends_in, places_in}
+use Rattle.storage_arrays.specs.Arrays.{ends_in, places_in}
 
 -- a number behind a blank
 abbrev pub number_text : ℕ → List ℕ

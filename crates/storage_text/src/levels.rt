@@ -5,15 +5,15 @@ ghost use Rattle.level_core.specs.declared.letter.Letter.TheVariants.{Dense, Has
 ghost use Rattle.format_spec.specs.Words.{letter_byte};
 ghost use Rattle.text_lines.specs.Puts.{Prints};
 ghost use Rattle.tensor_storage.specs.Levels.{meaning};
-ghost use Rattle.storage_text.specs.Arrays.{IsDone, AreDone};
-ghost use Rattle.storage_text.specs.Kinds.{IsCompressed};
+ghost use Rattle.storage_arrays.specs.Arrays.{IsDone, AreDone};
+ghost use Rattle.storage_arrays.specs.Kinds.{IsCompressed};
 ghost use Rattle.storage_text.specs.StoreText.{number_text, head_text, ends_line, places_line, level_lines, lines_from};
 ghost use Rattle.storage_text.specs.StoreText.{text_of};
 
-use crate::arrays::{positions_of, size_of, width_of};
 use crate::sequences::{put_ends, put_number, put_places};
 use level_core::{Letter, LevelKind};
 use outside::{Refusal, Sink};
+use storage_arrays::{positions_of, size_of, width_of};
 use tensor_storage::StorageLevel;
 use text_lines::{put_all, put_u64};
 

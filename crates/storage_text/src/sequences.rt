@@ -7,14 +7,14 @@ ghost use Rattle.level_core.specs.Kinds.{properties};
 ghost use Rattle.format_spec.specs.Words.{letter_byte};
 ghost use Rattle.text_lines.specs.Puts.{Prints};
 ghost use Rattle.tensor_storage.specs.Levels.{meaning};
-ghost use Rattle.storage_text.specs.Arrays.{ends_in, places_in, positions_in};
-ghost use Rattle.storage_text.specs.Kinds.{IsCompressed};
+ghost use Rattle.storage_arrays.specs.Arrays.{ends_in, places_in, positions_in};
+ghost use Rattle.storage_arrays.specs.Kinds.{IsCompressed};
 ghost use Rattle.storage_text.specs.StoreText.{number_text, place_text, value_text, head_text};
 
-use crate::arrays::{end_at, place_at, positions_of};
 use level_core::Letter;
 use numbers::signed;
 use outside::{Refusal, Sink};
+use storage_arrays::{end_at, place_at, positions_of};
 use tensor_storage::StorageLevel;
 use text_lines::{put_all, put_i64, put_u64};
 

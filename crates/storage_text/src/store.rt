@@ -4,7 +4,7 @@ ghost use Rattle.std.specs.Fmt.{decimal};
 ghost use Rattle.outside.specs.Sink.{Appends};
 ghost use Rattle.format_spec.specs.Words.{format_text};
 ghost use Rattle.text_lines.specs.Puts.{AppendsPart, Prints};
-ghost use Rattle.storage_text.specs.Arrays.{AreDone};
+ghost use Rattle.storage_arrays.specs.Arrays.{AreDone};
 ghost use Rattle.storage_text.specs.StoreText.{first_line, values_line, text_of, store_text};
 
 use crate::levels::put_levels;

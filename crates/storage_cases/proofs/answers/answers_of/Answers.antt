@@ -1,4 +1,4 @@
-use Rattle.storage_text.proofs.Packed.{packed_are_done}
+use Rattle.storage_arrays.proofs.Packed.{packed_are_done}
 use Rattle.storage_cases.proofs.answers.answers_of.Goals as goal
 
 pub tensor_texts-requires : goal.tensor_texts-requires

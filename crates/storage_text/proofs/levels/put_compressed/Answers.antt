@@ -2,7 +2,7 @@ use Rattle.std.specs.Prelude.{[], ◌∷◌}
 use Rattle.text_lines.proofs.PutPieces.{refused, retold, then_printed}
 use Rattle.storage_text.specs.StoreText.{ends_line, places_line, text_of}
 use Rattle.storage_text.proofs.Lines.{compressed_text}
-use Rattle.storage_text.proofs.LevelArrays.{compressed_not_full}
+use Rattle.storage_arrays.proofs.Finished.{compressed_not_full}
 use Rattle.storage_text.proofs.levels.put_compressed.Goals as goal
 
 pub put_places_line-requires-clause-kind : goal.put_places_line-requires-clause-kind

@@ -1,7 +1,7 @@
 use Rattle.std.specs.Prelude.{ℕ, List, [], ◌∷◌, ◌++◌, codes}
 use Rattle.std.specs.List.{flat_map}
 use Rattle.text_lines.proofs.PutPieces.{printed, refused, retold, then_printed}
-use Rattle.storage_text.specs.Arrays.{ends_in}
+use Rattle.storage_arrays.specs.Arrays.{ends_in}
 use Rattle.storage_text.specs.StoreText.{head_text, number_text}
 use Rattle.storage_text.proofs.Lines.{line_is}
 use Rattle.storage_text.proofs.levels.put_ends_line.Goals as goal

@@ -3,7 +3,7 @@ use Rattle.std.proofs.Common.{◌∙◌, ap, sym, subst}
 use Rattle.std.proofs.lemmas.Option.{slice_get-get_or}
 use Rattle.tensor_storage.specs.declared.level.StorageLevel.{StorageLevel}
 use Rattle.text_lines.proofs.PutPieces.{more_so_far, rest_told, then_rest, refused}
-use Rattle.storage_text.specs.Arrays.{AreDone}
+use Rattle.storage_arrays.specs.Arrays.{AreDone}
 use Rattle.storage_text.specs.StoreText.{lines_from, text_of}
 use Rattle.storage_text.proofs.Lines.{lines_step, done_step}
 use Rattle.storage_text.proofs.levels.put_levels.Goals as goal

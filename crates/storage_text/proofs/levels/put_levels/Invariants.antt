@@ -1,6 +1,6 @@
 use Rattle.std.specs.Prelude.{◌+◌, drop}
 use Rattle.outside.specs.Sink.{AppendsSoFar}
-use Rattle.storage_text.specs.Arrays.{AreDone}
+use Rattle.storage_arrays.specs.Arrays.{AreDone}
 use Rattle.storage_text.specs.StoreText.{lines_from, text_of}
 use Rattle.storage_text.proofs.levels.put_levels.Given as goal
 

@@ -3,9 +3,9 @@ use Rattle.std.specs.List.{flat_map}
 use Rattle.std.proofs.Common.{ap, arith}
 use Rattle.std.proofs.lemmas.List.{drop_all}
 use Rattle.text_lines.proofs.PutPieces.{none_so_far, more_so_far, all_so_far, rest_told, then_rest, refused}
-use Rattle.storage_text.specs.Arrays.{ends_in}
+use Rattle.storage_arrays.specs.Arrays.{ends_in}
 use Rattle.storage_text.specs.StoreText.{number_text}
-use Rattle.storage_text.proofs.LevelArrays.{ends_long, few_ends}
+use Rattle.storage_arrays.proofs.Finished.{ends_long, few_ends}
 use Rattle.storage_text.proofs.ListTexts.{text_step}
 use Rattle.storage_text.proofs.sequences.put_ends.Goals as goal
 

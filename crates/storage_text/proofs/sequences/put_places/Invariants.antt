@@ -1,7 +1,7 @@
 use Rattle.std.specs.Prelude.{drop}
 use Rattle.std.specs.List.{flat_map}
 use Rattle.outside.specs.Sink.{AppendsSoFar}
-use Rattle.storage_text.specs.Arrays.{places_in}
+use Rattle.storage_arrays.specs.Arrays.{places_in}
 use Rattle.storage_text.specs.StoreText.{place_text}
 use Rattle.storage_text.proofs.sequences.put_places.Given as goal
 
