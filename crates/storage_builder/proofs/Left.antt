@@ -233,7 +233,8 @@ left_hashed l parents tensor level (Slots wid crd) arrays held h has = (
   record { kind = refl; has_parents = subst (λ m. hashed.HasParents m parents) same has; behind = tt },
   λ done m is made.
       subst (λ d. AreAlike d m) (sym (is.1 refl))
-      (subst (AreAlike (OfHashed l)) (sym made.1) (subst (λ k. AreAlike (OfHashed l) (OfHashed k)) same (alike_same (OfHashed l) has.rules))),
+      (subst (AreAlike (OfHashed l)) (sym made.1)
+      (subst (λ k. AreAlike (OfHashed l) (OfHashed k)) same (alike_same (OfHashed l) has.rules))),
 )
   where
     width : l.width ≡ Some wid

@@ -1,6 +1,9 @@
 pub mod Alike
 pub mod Drained
+pub mod Finishing
 pub mod Held
 pub mod Left
+pub mod Making
 pub mod Parts
+pub mod Room
 pub mod Whole

@@ -1,3 +1,4 @@
+pub mod Building
 pub mod Handed
 pub mod Laws
 pub mod Made

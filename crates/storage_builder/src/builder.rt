@@ -1,0 +1,212 @@
+//! `Builder`: takes the arrays of a tensor's levels, and makes the tensor.
+ghost use Rattle.std.specs.Prelude.{◌≡◌, ◌≤◌, ◌-◌, [], All, Some, length, replicate, slice_set, slice_get, vec_capacity, IfOk, IsOk};
+ghost use Rattle.limits.specs.Limits.{greatest_position_count};
+ghost use Rattle.level_core.specs.declared.letter.Letter.TheVariants.{Dense};
+ghost use Rattle.format_spec.specs.Formats.{IsFormat, letters_of};
+ghost use Rattle.tensor_storage.specs.Storages.{in_level_order};
+ghost use Rattle.storage_builder.specs.Building.{AreDense, dense_room, MayFinish};
+ghost use Rattle.storage_builder.specs.Made.{AreReady, AreMade};
+ghost use Rattle.storage_builder.specs.declared.part.Part.TheVariants.{Missing, Lists, Slots};
+
+use crate::levels::made_level;
+use crate::part::Part;
+use format_spec::{Format, FormatLevel};
+use level_core::Letter;
+use limits::greatest_positions;
+use seg_buffer::Segment;
+use std::alloc::{AllocError, Global};
+use std::marker::Model;
+use std::mem;
+use tensor_map::Shape;
+use tensor_storage::{StorageLevel, Tensor};
+use trees::Items;
+
+/// How many values dense levels of these ranges have.
+fn room_for(sizes: &[u64]) -> u64
+    requires { All (λ size. size ≤ greatest_position_count) sizes.now }
+    ensures room { result ≡ dense_room 1 sizes.now }
+    ensures small { result ≤ greatest_position_count }
+{
+    let mut count = 1;
+    for size in sizes {
+        let more = count * *size;
+        if more > greatest_positions() {
+            return 0;
+        }
+        count = more;
+    }
+    count
+}
+
+/// The ranges of the levels of a format.
+fn level_sizes(alloc: Global, format: &[FormatLevel], shape: &Shape) -> Result<Vec<u64>, AllocError>
+    requires format { IsFormat format.now }
+    requires shape { length shape.now ≡ length format.now }
+    ensures sizes { IfOk result (λ sizes. sizes.items ≡ in_level_order format.now shape.now) }
+    ensures small { IfOk result (λ sizes. All (λ size. size ≤ greatest_position_count) sizes.items) }
+{
+    let mut sizes = Vec::new(alloc);
+    for level in 0..format.len() {
+        sizes.push(shape.range(format[level].mode))?;
+    }
+    Ok(sizes)
+}
+
+/// So many levels of which nothing was handed over.
+fn missing_parts(alloc: Global, count: usize) -> Result<Vec<Part>, AllocError>
+    ensures { IfOk result (λ parts. parts.items ≡ replicate count Missing) }
+{
+    let mut parts = Vec::new(alloc);
+    for _level in 0..count {
+        parts.push(Part::Missing)?;
+    }
+    Ok(parts)
+}
+
+/// The levels of parts.
+fn make_levels(
+    alloc: Global,
+    format: &[FormatLevel],
+    sizes: &[u64],
+    mut parts: Vec<Part>,
+    mut levels: Vec<StorageLevel>,
+) -> Result<Vec<StorageLevel>, AllocError>
+    requires sizes_long { length sizes.now ≡ length format.now }
+    requires parts_long { length parts.items ≡ length format.now }
+    requires small { All (λ size. size ≤ greatest_position_count) sizes.now }
+    requires empty { levels.items ≡ [] }
+    requires room { length format.now ≤ vec_capacity levels }
+    requires ready { AreReady (letters_of format.now) sizes.now parts.items 1 }
+    ensures made { IfOk result (λ levels. AreMade (letters_of format.now) sizes.now parts.items 1 levels.items) }
+    ensures dense { AreDense format.now → IsOk result }
+{
+    let mut parents = 1;
+    for number in 0..format.len() {
+        let letter = format[number].letter;
+        let size = sizes[number];
+        let part = mem::replace(&mut parts[number], Part::Missing);
+        let count = part.positions(letter, size, parents);
+        let level = made_level(alloc, letter, size, parents, part)?;
+        levels.push_reserved(level);
+        parents = count;
+    }
+    Ok(levels)
+}
+
+/// The values of a segment, in a vector that has room for them or gets it.
+fn fill(mut room: Vec<u64>, values: &Segment<u64>) -> Result<Vec<u64>, AllocError>
+    requires { room.items ≡ [] }
+    ensures values { IfOk result (λ filled. filled.items ≡ values.now.items) }
+    ensures enough { length values.now.items ≤ vec_capacity room → IsOk result }
+{
+    room.reserve(values.len())?;
+    let words = values.as_slice();
+    for value in words {
+        room.push_reserved(*value);
+    }
+    Ok(room)
+}
+
+/// A tensor in the making, whose arrays are handed over level by level.
+#[derive(Drop)]
+pub struct Builder {
+    alloc: Global,
+    format: Format,
+    sizes: Vec<u64>,
+    parts: Vec<Part>,
+    /// Room for the levels.
+    levels: Vec<StorageLevel>,
+    /// Room for the values where all levels are dense.
+    values: Vec<u64>,
+}
+
+impl Model for Builder {
+    ghost use Rattle.std.specs.Prelude.{◌≡◌, [], vec_capacity};
+    ghost use Rattle.storage_builder.specs.Building.{Building, building, IsBuilding};
+
+    ghost Value = { Building };
+
+    ghost view = { λ b. building b.format b.sizes.items b.parts.items };
+
+    ghost invariant = { λ b. IsBuilding b.format b.sizes.items b.parts.items (vec_capacity b.levels) (vec_capacity b.values)
+        × (b.levels.items ≡ []) × (b.values.items ≡ []) };
+}
+
+impl Builder {
+    ghost use Rattle.storage_builder.specs.Building.{Building, building};
+
+    /// A tensor of this format and shape of which nothing was handed over yet. Refused for want of memory alone.
+    pub fn new(alloc: Global, format: Format, shape: &Shape) -> Result<Builder, AllocError>
+        requires { length shape.now ≡ length format }
+        ensures { IfOk result
+            (λ b. b ≡ building format (in_level_order format shape.now) (replicate (length format) Missing)) }
+    {
+        let sizes = level_sizes(alloc, format.levels(), shape)?;
+        let parts = missing_parts(alloc, format.order())?;
+        let room = if format.is_all_dense() {
+            room_for(&sizes)
+        } else {
+            0
+        };
+        let levels = Vec::with_capacity(alloc, format.order())?;
+        let values = Vec::with_capacity(alloc, room as usize)?;
+        Ok(Builder {
+            alloc,
+            format,
+            sizes,
+            parts,
+            levels,
+            values,
+        })
+    }
+
+    /// The kind of a level, of which the top one is number 1.
+    pub fn letter(&self, level: usize) -> Letter
+        requires first { 1 ≤ level }
+        requires last { level ≤ length self.now.format }
+        ensures { slice_get (letters_of self.now.format) (level - 1) ≡ Some result }
+    {
+        self.format.letter(level)
+    }
+
+    /// Hands over a level that is appended to, of which the top one is number 1: the number of positions of each parent behind a
+    /// zero, no words at a singleton level, and the coordinates. It takes no memory.
+    pub fn append(&mut self, level: usize, pos: Segment<u64>, crd: Segment<u64>)
+        requires first { 1 ≤ level }
+        requires last { level ≤ length self.old.format }
+        ensures { self.new ≡ building self.old.format self.old.sizes (slice_set self.old.parts (level - 1) (Lists pos crd)) }
+    {
+        self.parts[level - 1] = Part::Lists { pos, crd };
+    }
+
+    /// Hands over a hashed level, of which the top one is number 1: the width of its blocks, and its slots, of which the empty ones
+    /// hold the last word. It takes no memory.
+    pub fn insert(&mut self, level: usize, wid: u64, crd: Segment<u64>)
+        requires first { 1 ≤ level }
+        requires last { level ≤ length self.old.format }
+        ensures { self.new ≡ building self.old.format self.old.sizes (slice_set self.old.parts (level - 1) (Slots wid crd)) }
+    {
+        self.parts[level - 1] = Part::Slots { wid, crd };
+    }
+
+    /// The tensor of what was handed over, and of these values. Its levels have the words that were handed over, the sums of numbers of
+    /// positions as segment ends. Refused for want of memory alone, and never where all levels are dense.
+    pub fn finish(self, values: Segment<u64>) -> Result<Tensor, AllocError>
+        requires { MayFinish self values.items }
+        ensures levels { IfOk result (λ t. AreMade (letters_of self.format) self.sizes self.parts 1 t.levels) }
+        ensures others { IfOk result (λ t. (t.format ≡ self.format) × (t.values ≡ values.items)) }
+        ensures dense { AreDense self.format → IsOk result }
+    {
+        let Builder {
+            alloc,
+            format,
+            sizes,
+            parts,
+            levels,
+            values: room,
+        } = self;
+        let levels = make_levels(alloc, format.levels(), &sizes, parts, levels)?;
+        let values = fill(room, &values)?;
+        Ok(Tensor::from_levels(format, Items::from_vec(levels), Items::from_vec(values)))
+    }
+}
