@@ -1,7 +1,9 @@
 // What comes of a case whose arrays are handed over level by level.
-ghost use Rattle.std.specs.Prelude.{◌≡◌, true, length, replicate, IfOk};
+ghost use Rattle.std.specs.Prelude.{◌≡◌, true, length, map, replicate, IfOk};
 ghost use Rattle.format_spec.specs.Formats.{letters_of};
-ghost use Rattle.tensor_storage.specs.Storages.{in_level_order};
+ghost use Rattle.tensor_storage.specs.Levels.{meaning};
+ghost use Rattle.tensor_storage.specs.Storages.{in_level_order, IsStorage};
+ghost use Rattle.storage_arrays.specs.Arrays.{AreDone};
 ghost use Rattle.storage_builder.specs.Building.{building, MayFinish};
 ghost use Rattle.storage_builder.specs.Made.{AreMade};
 ghost use Rattle.storage_builder.specs.declared.part.Part.TheVariants.{Missing};
@@ -16,7 +18,7 @@ use seg_buffer::Segment;
 use std::alloc::{AllocError, Global};
 use std::mem;
 use storage_builder::{Builder, Part};
-use tensor_map::Shape;
+use tensor_map::{Entries, Shape};
 use tensor_storage::Tensor;
 
 /// The words of a text, where a minus stands for the last word, as in an empty slot.
@@ -118,42 +120,104 @@ fn hand_over(
     handed.finish(values)
 }
 
-/// What comes of a line `FORMAT | RANGES | ENTRIES | ARRAYS`, in lines.
-pub(crate) fn built_answers(alloc: Global, line: &str) -> Result<Vec<String>> {
-    let word = line.split('|').next().context("no format")?.trim();
-    let arrays = line.split('|').nth(3).context("no arrays")?;
-    let (front, _arrays) = line.rsplit_once('|').context("no arrays")?;
-    let case = Case::read(alloc, front)?;
-    let again = format_of(alloc, word, case.format.order())?;
-    let parts = parts_of(alloc, arrays, case.format.order())?;
-    let last = arrays.rsplit(';').next().context("no values")?;
-    let values = values_of(alloc, last)?;
-    let mut texts = Vec::new(alloc);
-    let Case {
-        format,
-        shape,
-        mut entries,
-        asked: _asked,
-    } = case;
+/// The tensor of entries, packed.
+fn packed_of(
+    alloc: Global,
+    format: Format,
+    shape: &Shape,
+    mut entries: Entries,
+) -> Result<Tensor>
+    ensures shape { IfOk result (λ t. length shape.now ≡ length format) }
+    ensures format { IfOk result (λ t. t.format ≡ format) }
+    ensures sizes { IfOk result (λ t. map meaning.size t.levels ≡ in_level_order format shape.now) }
+    ensures done { IfOk result (λ t. AreDone 1 t.levels) }
+{
     entries.sort_sum::<Ring>()?;
     if shape.order() != format.order() || entries.order() != format.order() {
         bail!("another order");
     }
-    if !is_same(again.levels(), format.levels()) || parts.len() != format.order() {
-        bail!("another format");
-    }
     if !are_inside(shape.ranges(), &entries) {
         bail!("an entry beyond the ranges");
     }
-    let Ok(tensor) = Tensor::pack::<Ring>(alloc, format, &shape, &entries) else {
-        bail!("refused");
-    };
+    match Tensor::pack::<Ring>(alloc, format, shape, &entries) {
+        Ok(tensor) => Ok(tensor),
+        Err(_refusal) => bail!("refused"),
+    }
+}
+
+/// The text of the tensor of parts and values, where they are those of a packed tensor.
+fn built_texts(
+    alloc: Global,
+    tensor: &Tensor,
+    format: Format,
+    shape: &Shape,
+    parts: Vec<Part>,
+    values: Segment<u64>,
+) -> Result<Vec<String>>
+    requires storage { IsStorage tensor.now }
+    requires done { AreDone 1 tensor.now.levels }
+    requires format { tensor.now.format ≡ format }
+    requires sizes { map meaning.size tensor.now.levels ≡ in_level_order format shape.now }
+    requires shape { length shape.now ≡ length format }
+    requires long { length parts.items ≡ length format }
+{
+    let mut texts = Vec::new(alloc);
     let count = tensor.values().len();
     if values.len() != count || !are_given(alloc, tensor.levels(), parts.as_slice(), count as u64)? {
         texts.push(String::from_str(alloc, "other arrays")?)?;
         return Ok(texts);
     }
-    let made = hand_over(alloc, again, &shape, parts, values)?;
+    let made = hand_over(alloc, format, shape, parts, values)?;
     add_store_lines(alloc, &made, &mut texts)?;
     Ok(texts)
+}
+
+/// A case whose arrays are handed over.
+#[derive(Drop)]
+struct BuiltCase {
+    case: Case,
+    /// The format of the case once more, for the tensor that is made of the arrays.
+    again: Format,
+    parts: Vec<Part>,
+    values: Segment<u64>,
+}
+
+impl BuiltCase {
+    /// The case of a line `FORMAT | RANGES | ENTRIES | ARRAYS`.
+    fn read(alloc: Global, line: &str) -> Result<BuiltCase> {
+        let word = line.split('|').next().context("no format")?.trim();
+        let (front, arrays) = line.rsplit_once('|').context("no arrays")?;
+        let case = Case::read(alloc, front)?;
+        let again = format_of(alloc, word, case.format.order())?;
+        let parts = parts_of(alloc, arrays, case.format.order())?;
+        let last = arrays.rsplit(';').next().context("no values")?;
+        let values = values_of(alloc, last)?;
+        Ok(BuiltCase {
+            case,
+            again,
+            parts,
+            values,
+        })
+    }
+}
+
+/// What comes of a line `FORMAT | RANGES | ENTRIES | ARRAYS`, in lines.
+pub(crate) fn built_answers(alloc: Global, line: &str) -> Result<Vec<String>> {
+    let BuiltCase {
+        case,
+        again,
+        parts,
+        values,
+    } = BuiltCase::read(alloc, line)?;
+    let Case {
+        format,
+        shape,
+        entries,
+        asked: _asked,
+    } = case;
+    if !is_same(again.levels(), format.levels()) || parts.len() != again.order() {
+        bail!("another format");
+    }
+    let tensor = packed_of(alloc, format, &shape, entries)?;
+    built_texts(alloc, &tensor, again, &shape, parts, values)
 }
