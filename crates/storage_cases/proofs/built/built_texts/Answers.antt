@@ -15,7 +15,8 @@ same_given ls ms parts qs values ws a b v given =
 pub hand_over-requires-clause-whole : goal.hand_over-requires-clause-whole
 hand_over-requires-clause-whole c =
     let t = c.args.tensor.now in
-    given_may_finish c.args.format _ t c.args.parts.items c.args.values.items c.requires.storage c.requires.format c.requires.sizes c.requires.done
+    given_may_finish c.args.format _ t c.args.parts.items c.args.values.items
+    c.requires.storage c.requires.format c.requires.sizes c.requires.done
     (same_given _ _ _ _ _ _ c.levels.ensures c.as_slice.ensures.value c.values-count.ensures
     (c.in_ok-are_given.ensures c.if-not-branch.false))
     (sym c.len.ensures.len ∙ c.if-len-count.false ∙ ap length c.values-count.ensures)
