@@ -14,7 +14,7 @@ use Rattle.level_core.specs.Logs.{running}
 use Rattle.compressed_level.specs.Compressed.{CompressedLevel, ends_of}
 use Rattle.singleton_level.specs.Singleton.{SingletonLevel}
 use Rattle.hashed_level.specs.Hashed.{Hashed}
-use Rattle.tensor_storage.specs.declared.level.StorageLevel.TheVariants.{Dense as OfDense, Compressed as OfCompressed}
+use Rattle.tensor_storage.specs.declared.level.StorageLevel.TheVariants.{Compressed as OfCompressed}
 use Rattle.tensor_storage.specs.declared.level.StorageLevel.TheVariants.{Singleton as OfSingleton, Hashed as OfHashed}
 use Rattle.tensor_storage.specs.declared.level.StorageLevel.{StorageLevel}
 use Rattle.storage_arrays.specs.Arrays.{IsDone, ends_in, positions_in}
@@ -67,7 +67,7 @@ pub hashed_given : (level : StorageLevel) (l : Hashed) (part : Part) (wid width 
     → AreWordsOf level part
 hashed_given level l part wid width crd is has same wide given gives words =
     subst (λ m. AreWordsOf m part) (sym is) (subst (AreWordsOf (OfHashed l)) (sym has)
-        (sym (ap meaning.width is) ∙ wide ∙ ap Some (sym same), sym gives ∙ words l.slots (ap (words_in OfCoordinates) is)))
+    (sym (ap meaning.width is) ∙ wide ∙ ap Some (sym same), sym gives ∙ words l.slots (ap (words_in OfCoordinates) is)))
 
 drop_past : {X : Type 0} (xs : List X) (i : ℕ) → length xs ≤ i → drop i xs ≡ []
 drop_past [] zero all = refl

@@ -28,7 +28,7 @@ handing_none given handed m is long = record {
 pub handing_done : (n : ℕ) (given left handed : List Part) → Handing n given left handed → length given ≤ n → handed ≡ given
 handing_done n given left handed h all =
     ext_get_or Missing handed given h.handed_long (λ k less.
-        let long = h.handed_long in let inside : k < n = omega (arith, less, long, all) in h.before k inside)
+    let long = h.handed_long in let inside : k < n = omega (arith, less, long, all) in h.before k inside)
 
 -- one part more was handed over
 pub handing_next : (n : ℕ) (given left handed : List Part) (part : Part) → Handing n given left handed → n < length given

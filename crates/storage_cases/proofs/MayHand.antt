@@ -12,13 +12,13 @@ use Rattle.tensor_storage.specs.declared.level.StorageLevel.TheVariants.{Dense a
 use Rattle.tensor_storage.specs.declared.level.StorageLevel.TheVariants.{Singleton as OfSingleton, Hashed as OfHashed}
 use Rattle.tensor_storage.specs.declared.level.StorageLevel.{StorageLevel}
 use Rattle.tensor_storage.specs.Levels.{meaning}
-use Rattle.tensor_storage.specs.Storages.{Storage, storage_of, IsStorage, IsOpen, in_level_order}
+use Rattle.tensor_storage.specs.Storages.{Storage, IsStorage, IsOpen}
 use Rattle.storage_arrays.specs.Arrays.{positions_in, AreDone}
 use Rattle.storage_builder.specs.declared.part.Part.{Part}
 use Rattle.storage_builder.specs.declared.part.Part.TheVariants.{Missing, Lists, Slots}
 use Rattle.storage_builder.specs.Building.{building, MayFinish}
 use Rattle.storage_builder.specs.Handed.{AreWordsOf, AreAlike}
-use Rattle.storage_builder.specs.Made.{level_of, IsReady, positions_of, AreReady, levels_of, AreMade, values_for}
+use Rattle.storage_builder.specs.Made.{level_of, positions_of, AreReady, levels_of, AreMade, values_for}
 use Rattle.storage_builder.proofs.Left.{finished_may_be_handed_over}
 use Rattle.storage_cases.specs.HandedParts.{AreGiven}
 
@@ -76,9 +76,9 @@ kinds [] parts parents count d g = refl
 kinds (l ∷ ls) [] parents count d g = absurd g
 kinds (l ∷ ls) (part ∷ parts) parents count d g =
     ap (λ k. k ∷ map meaning.kind (levels_of (map meaning.kind ls) (map meaning.size ls) parts
-        (positions_of (meaning.kind l) (meaning.size l) parents part))) (alike l parents 0 part d.0.has_parents g.0).kind
+    (positions_of (meaning.kind l) (meaning.size l) parents part))) (alike l parents 0 part d.0.has_parents g.0).kind
     ∙ ap (λ (n : ℕ). meaning.kind l ∷ map meaning.kind (levels_of (map meaning.kind ls) (map meaning.size ls) parts n))
-        (positions_same l parents 0 part g.0)
+    (positions_same l parents 0 part g.0)
     ∙ ap (λ ks. meaning.kind l ∷ ks) (kinds ls parts (positions_in parents l) count d.1 g.1)
 
 opened : (ls : List StorageLevel) (parts : List Part) (parents count positions : ℕ) (span : Span) → AreDone parents ls

@@ -121,12 +121,7 @@ fn hand_over(
 }
 
 /// The tensor of entries, packed.
-fn packed_of(
-    alloc: Global,
-    format: Format,
-    shape: &Shape,
-    mut entries: Entries,
-) -> Result<Tensor>
+fn packed_of(alloc: Global, format: Format, shape: &Shape, mut entries: Entries) -> Result<Tensor>
     ensures shape { IfOk result (λ t. length shape.now ≡ length format) }
     ensures format { IfOk result (λ t. t.format ≡ format) }
     ensures sizes { IfOk result (λ t. map meaning.size t.levels ≡ in_level_order format shape.now) }
@@ -163,7 +158,9 @@ fn built_texts(
 {
     let mut texts = Vec::new(alloc);
     let count = tensor.values().len();
-    if values.len() != count || !are_given(alloc, tensor.levels(), parts.as_slice(), count as u64)? {
+    if values.len() != count
+        || !are_given(alloc, tensor.levels(), parts.as_slice(), count as u64)?
+    {
         texts.push(String::from_str(alloc, "other arrays")?)?;
         return Ok(texts);
     }

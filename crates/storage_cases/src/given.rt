@@ -115,9 +115,7 @@ fn is_singleton(level: &StorageLevel, parents: u64, part: &Part) -> bool
     ensures { result ≡ true → AreWordsOf level.now part.now }
 {
     match part {
-        Part::Lists { pos: _pos, crd } => {
-            are_words(level, parents, crd.as_slice())
-        }
+        Part::Lists { pos: _pos, crd } => { are_words(level, parents, crd.as_slice()) }
         _ => false,
     }
 }

@@ -1,4 +1,4 @@
-use Rattle.std.specs.Prelude.{◌≡◌, ◌<◌, length}
+use Rattle.std.specs.Prelude.{◌<◌}
 use Rattle.std.proofs.Common.{rules}
 use Rattle.std.proofs.lemmas.List.{ext_get_or}
 use Rattle.level_core.specs.declared.letter.Letter.TheVariants.{Dense}

@@ -1,4 +1,3 @@
-use Rattle.std.specs.Prelude.{◌≡◌, ℕ, List}
 use Rattle.std.proofs.Common.{rules}
 use Rattle.storage_cases.proofs.GivenWords.{compressed_given}
 use Rattle.storage_cases.proofs.given.is_compressed.Goals as goal

@@ -1,6 +1,6 @@
 use Rattle.std.specs.Prelude.{ℕ, ◌+◌, ◌<◌, List, [], ◌∷◌, ◌++◌, length, take, slice_index}
 use Rattle.std.proofs.Common.{◌∙◌, sym, ap, arith, rules}
-use Rattle.level_core.specs.Logs.{running, total}
+use Rattle.level_core.specs.Logs.{running}
 use Rattle.storage_builder.proofs.Making.{sum_more, sums_more}
 use Rattle.storage_cases.proofs.given.sums_of.Goals as goal
 
