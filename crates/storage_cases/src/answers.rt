@@ -88,7 +88,7 @@ fn refusal_text(alloc: Global, refusal: PackRefusal) -> Result<String, AllocErro
 }
 
 /// Adds the lines of the text of a tensor, which is written in pieces.
-fn add_store_lines(alloc: Global, tensor: &Tensor, texts: &mut Vec<String>) -> Result<()>
+pub(crate) fn add_store_lines(alloc: Global, tensor: &Tensor, texts: &mut Vec<String>) -> Result<()>
     requires { AreDone 1 tensor.now.levels }
 {
     let mut sink = MemSink::new(alloc);

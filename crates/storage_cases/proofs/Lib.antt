@@ -1,0 +1,3 @@
+pub mod GivenWords
+pub mod Handing
+pub mod MayHand
