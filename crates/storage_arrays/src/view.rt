@@ -21,6 +21,7 @@ pub enum LevelArray {
 }
 
 /// The arrays of a finished level below so many parents, lent for reading. No call takes memory.
+#[derive(Drop)]
 pub struct LevelArrays<'a> {
     level: &'a StorageLevel,
     parents: u64,
