@@ -51,13 +51,13 @@ more_appended segment pos all below places values front path before list new e a
   walks = (next a.done a.walks).walks;
   list_is = is ∙ ap (λ es. es ++ map (entry_of places values path) (below e.child)) a.list_is
       ∙ ap (λ p. (before ++ map (entry_of places values front) (routes_through below a.done))
-          ++ map (entry_of places values p) (below e.child)) path_is
+      ++ map (entry_of places values p) (below e.child)) path_is
       ∙ ap (λ es. (before ++ map (entry_of places values front) (routes_through below a.done)) ++ es)
-          (entry_longer places values front e.coord (below e.child))
+      (entry_longer places values front e.coord (below e.child))
       ∙ append_assoc before (map (entry_of places values front) (routes_through below a.done))
-          (map (entry_of places values front) (map (longer e.coord) (below e.child)))
+      (map (entry_of places values front) (map (longer e.coord) (below e.child)))
       ∙ ap (λ es. before ++ es)
-          (sym (map-append (entry_of places values front) (routes_through below a.done) (map (longer e.coord) (below e.child)))
+      (sym (map-append (entry_of places values front) (routes_through below a.done) (map (longer e.coord) (below e.child)))
       ∙ ap (map (entry_of places values front)) (sym (through_more below a.done e)));
 }
 

@@ -89,7 +89,7 @@ coords_back format xs ys is long also same = same_number_lists xs ys (long ∙ s
         let k = each_mode_stands (length format) (modes_of format) mode is.order h in
         let is_mode : (get_or format k.0 none).mode ≡ mode = sym (get_or-map (λ level. level.mode) format k.0 none 0 k.1) ∙ k.2 in
         ap (slice_index xs) (sym is_mode) ∙ sym (level_coord format xs k.0 none k.1) ∙ ap (λ zs. slice_index zs k.0) same
-            ∙ level_coord format ys k.0 none k.1 ∙ ap (slice_index ys) is_mode
+        ∙ level_coord format ys k.0 none k.1 ∙ ap (slice_index ys) is_mode
 
 range_apart : (n : ℕ) → AllPairs (λ x y. x ≢ y) (range_with_len 0 n)
 range_apart n i j d less within =
@@ -136,7 +136,7 @@ module _ (format : List FormatLevel) (entries : List Entry) (numbers : List ℕ)
   rows_increase sorted i h =
       by_case (not_after (level_coords format entries (slice_index numbers i)) (level_coords format entries (slice_index numbers (suc i)))
       (slice_cmp nat_cmp (level_coords format entries (slice_index numbers (suc i)))
-          (level_coords format entries (slice_index numbers i))) refl at)
+      (level_coords format entries (slice_index numbers i))) refl at)
     where
       at : is_before format entries (slice_index numbers (suc i)) (slice_index numbers i) ≡ false
       at = let next : i + 1 ≡ suc i = omega arith in
@@ -149,8 +149,8 @@ module _ (format : List FormatLevel) (entries : List Entry) (numbers : List ℕ)
           let below_next = number_below (suc i) 0 h in
           entries_apart (slice_index numbers i) (slice_index numbers (suc i)) below below_next (numbers_apart i (suc i) 0 (omega arith) h)
           (coords_back format (get_or entries (slice_index numbers i) no_entry).coords
-              (get_or entries (slice_index numbers (suc i)) no_entry).coords is (each (slice_index numbers i) no_entry below).long
-              (each (slice_index numbers (suc i)) no_entry below_next).long (sym same))
+          (get_or entries (slice_index numbers (suc i)) no_entry).coords is (each (slice_index numbers i) no_entry below).long
+          (each (slice_index numbers (suc i)) no_entry below_next).long (sym same))
 
       by_case : IsListBefore (level_coords format entries (slice_index numbers i))
           (level_coords format entries (slice_index numbers (suc i)))
@@ -160,7 +160,7 @@ module _ (format : List FormatLevel) (entries : List Entry) (numbers : List ℕ)
       by_case (inl before) =
           let long = long_at (slice_index numbers i) in
           let k = differs (level_coords format entries (slice_index numbers i)) (level_coords format entries (slice_index numbers (suc i)))
-              (long ∙ sym (long_at (slice_index numbers (suc i)))) before in
+          (long ∙ sym (long_at (slice_index numbers (suc i)))) before in
           let within = k.within in
           (k.at, omega (arith, within, long), k.same, k.less)
 
@@ -178,22 +178,22 @@ rows_below format entries numbers ranges is long inside arranged d i deep within
     let order_long : length (in_level_order format ranges) ≡ length format = length-map format (λ level. slice_index ranges level.mode) in
     let level : d < length format = omega (arith, deep, order_long) in
     let number : slice_index numbers i < length entries =
-        All-permutation (λ k. k < length entries) (range_with_len 0 (length entries)) numbers arranged.all (range_below (length entries)) i
-        0 within in
+    All-permutation (λ k. k < length entries) (range_with_len 0 (length entries)) numbers arranged.all (range_below (length entries)) i
+    0 within in
     let mode : (get_or format d none).mode < length ranges = let below = mode_below format is d none level in omega (arith, below, long) in
     subst (λ x. x < slice_index (in_level_order format ranges) d)
-        (sym (level_coord format (get_or entries (slice_index numbers i) no_entry).coords d none level))
+    (sym (level_coord format (get_or entries (slice_index numbers i) no_entry).coords d none level))
     (subst (λ x. slice_index (get_or entries (slice_index numbers i) no_entry).coords (get_or format d none).mode < x)
-        (sym (level_coord format ranges d none level))
+    (sym (level_coord format ranges d none level))
     (inside (slice_index numbers i) no_entry number (get_or format d none).mode mode))
 
 -- the coordinates from a level on
 pub level_drop : (format : List FormatLevel) (entries : List Entry) (number level : ℕ) → level < length format
     → drop level (level_coords format entries number)
-        ≡ slice_index (level_coords format entries number) level ∷ drop (suc level) (level_coords format entries number)
+    ≡ slice_index (level_coords format entries number) level ∷ drop (suc level) (level_coords format entries number)
 level_drop format entries number level h =
     let long : length (level_coords format entries number) ≡ length format =
-        length-map format (λ l. slice_index (get_or entries number no_entry).coords l.mode) in
+    length-map format (λ l. slice_index (get_or entries number no_entry).coords l.mode) in
     drop-cons (level_coords format entries number) level 0 (omega (arith, long, h))
 
 -- comparisons, level by level
@@ -202,7 +202,7 @@ pub compare_past : (xs ys : List ℕ) (level x y : ℕ) → drop level xs ≡ x 
     ≡ slice_cmp nat_cmp (drop (suc level) xs) (drop (suc level) ys)
 compare_past xs ys level x y here there same =
     ap (λ zs. slice_cmp nat_cmp zs (drop level ys)) here ∙ ap (slice_cmp nat_cmp (x ∷ drop (suc level) xs)) there
-        ∙ ap (λ o. ordering_then o (slice_cmp nat_cmp (drop (suc level) xs) (drop (suc level) ys))) same
+    ∙ ap (λ o. ordering_then o (slice_cmp nat_cmp (drop (suc level) xs) (drop (suc level) ys))) same
 
 pub compare_here : (xs ys : List ℕ) (level x y : ℕ) (o : Ordering) → drop level xs ≡ x ∷ drop (suc level) xs
     → drop level ys ≡ y ∷ drop (suc level) ys → nat_cmp x y ≡ o → o ≢ Equal → slice_cmp nat_cmp (drop level xs) (drop level ys) ≡ o

@@ -30,8 +30,12 @@ child_is x child (e ∷ es) h = by_test (child_is x child es) (e.coord == x) ref
   where
     by_test : (child_of es x ≡ Some child → Child x child es) → (b : Bool) → (e.coord == x) ≡ b
         → (if b then Some e.child else child_of es x) ≡ Some child → Child x child (e ∷ es)
-    by_test again true is h = record { entry = e; stands = inl (refl, refl); coord = grind (arith, nat_tests, is);
-        is = same_some e.child child h }
+    by_test again true is h = record {
+      entry = e;
+      stands = inl (refl, refl);
+      coord = grind (arith, nat_tests, is);
+      is = same_some e.child child h;
+    }
     by_test again false is h = let k = again h in record { entry = k.entry; stands = inr k.stands; coord = k.coord; is = k.is }
 
 pub no_child : (x p : ℕ) (e : Entry) (es : List Entry) → child_of es x ≡ None → StandsAt p e es → e.coord ≡ x → ⊥

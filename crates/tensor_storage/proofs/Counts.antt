@@ -55,7 +55,7 @@ begun_is coords order count n (suc m) up h = by_met (begun_is coords order count
   where
     by_met : begun (begins_at coords n) m ≡ different coords n m → (b : Bool) → begins_at coords n m ≡ not b
         → (if begins_at coords n m then begun (begins_at coords n) m + 1 else begun (begins_at coords n) m)
-            ≡ (if b then different coords n m else different coords n m + 1)
+        ≡ (if b then different coords n m else different coords n m + 1)
     by_met rest true is = ap (λ t. if t then begun (begins_at coords n) m + 1 else begun (begins_at coords n) m) is ∙ rest
     by_met rest false is = ap (λ t. if t then begun (begins_at coords n) m + 1 else begun (begins_at coords n) m) is ∙ ap (λ k. k + 1) rest
 
@@ -65,7 +65,7 @@ module _ (table : Table) (order d parents : ℕ) (ps : List ℕ) (up : Increase 
   parent_same : (i j : ℕ) → i < table.count → j < table.count → (slice_index ps j == slice_index ps i) ≡ agree table.coords d j i
   parent_same i j h k = same_bool (slice_index ps j == slice_index ps i) (agree table.coords d j i)
       (λ is. let same : slice_index ps j ≡ slice_index ps i = grind (arith, nat_tests, is) in
-          agree_from table.coords d j i (down same (cases_order j i)))
+      agree_from table.coords d j i (down same (cases_order j i)))
       (λ is. let same = over (agree_tells table.coords d j i is) (cases_order j i) in grind (arith, nat_tests, same))
     where
       down : slice_index ps j ≡ slice_index ps i → (j ≡ i) ⊎ ((j < i) ⊎ (i < j)) → Agree table.coords d j i
@@ -84,14 +84,14 @@ module _ (table : Table) (order d parents : ℕ) (ps : List ℕ) (up : Increase 
   below_is i zero h k = refl
   below_is i (suc m) h k =
       ap (λ t. if t && (slice_index ps m == slice_index ps i) then begun_below (rows_at (keys_of table d (suc d)) ps) (slice_index ps i) m
-          + 1 else begun_below (rows_at (keys_of table d (suc d)) ps) (slice_index ps i) m)
+      + 1 else begun_below (rows_at (keys_of table d (suc d)) ps) (slice_index ps i) m)
       (first_is table.coords order table.count (suc d) m up (omega (arith, k)))
       ∙ ap (λ t. if not (is_met table.coords (suc d) m m) && t then begun_below (rows_at (keys_of table d (suc d)) ps) (slice_index ps i) m
-          + 1 else begun_below (rows_at (keys_of table d (suc d)) ps) (slice_index ps i) m)
+      + 1 else begun_below (rows_at (keys_of table d (suc d)) ps) (slice_index ps i) m)
       (parent_same i m h (omega (arith, k)))
       ∙ ap (λ r. if not (is_met table.coords (suc d) m m) && agree table.coords d m i then r + 1 else r) (below_is i m h (omega (arith, k)))
       ∙ ap (λ t. if t then different_below table.coords d i m + 1 else different_below table.coords d i m)
-          (turned (not (is_met table.coords (suc d) m m)) (agree table.coords d m i))
+      (turned (not (is_met table.coords (suc d) m m)) (agree table.coords d m i))
     where
       turned : (a b : Bool) → (a && b) ≡ (b && a)
       turned true true = refl

@@ -43,7 +43,7 @@ other_position x e es apart = let is : (e.coord == x) ≡ false = grind (arith, 
 entry_is : (e f : Entry) → e.coord ≡ f.coord → e.child.lo ≡ f.child.lo → e.child.hi ≡ f.child.hi → e ≡ f
 entry_is e f coord lo hi =
     ap (λ x. entry_with x e.child.lo e.child.hi) coord ∙ ap (λ a. entry_with f.coord a e.child.hi) lo
-        ∙ ap (λ b. entry_with f.coord f.child.lo b) hi
+    ∙ ap (λ b. entry_with f.coord f.child.lo b) hi
 
 -- entries with the same coordinate at each position are the same
 pub entries_same : (a b c d : ℕ) (es fs : List Entry) → Placed a b es → Placed c d fs → Distinct es → Distinct fs
@@ -85,13 +85,13 @@ entries_same a b c d (e ∷ es) (f ∷ fs) p r es_apart fs_apart same =
     by_hi again lo (inr (inl less)) =
         let some = e_some in
         absurd (lacks_coord e.coord e.child.hi es es_apart.0
-            (sym (coord_past e es e.child.hi (omega arith)) ∙ same e.child.hi ∙ there e.child.hi (omega (arith, lo, some)) less
-            ∙ ap Some (sym (coords lo))))
+        (sym (coord_past e es e.child.hi (omega arith)) ∙ same e.child.hi ∙ there e.child.hi (omega (arith, lo, some)) less
+        ∙ ap Some (sym (coords lo))))
     by_hi again lo (inr (inr less)) =
         let some = f_some in
         absurd (lacks_coord f.coord f.child.hi fs fs_apart.0
-            (sym (coord_past f fs f.child.hi (omega arith)) ∙ sym (same f.child.hi) ∙ here f.child.hi (omega (arith, lo, some)) less
-            ∙ ap Some (coords lo)))
+        (sym (coord_past f fs f.child.hi (omega arith)) ∙ sym (same f.child.hi) ∙ here f.child.hi (omega (arith, lo, some)) less
+        ∙ ap Some (coords lo)))
 
     by_lo : (((q : ℕ) → coord_at es q ≡ coord_at fs q) → es ≡ fs)
         → (e.child.lo ≡ f.child.lo) ⊎ ((e.child.lo < f.child.lo) ⊎ (f.child.lo < e.child.lo)) → e ∷ es ≡ f ∷ fs
@@ -158,7 +158,7 @@ full_is lo hi least n (e ∷ es) t s r b all upto =
     let ends = k.1 in (
       ap (λ g. g ∷ es) (entry_is e (entry_with least lo (lo + 1)) is at next)
           ∙ ap (λ gs. entry_with least lo (lo + 1) ∷ gs) (k.0 ∙ ap (λ x. upward (n - (e.coord + 1)) (x + 1) e.child.hi) is
-              ∙ ap (λ q. upward (n - (e.coord + 1)) (least + 1) q) next)
+          ∙ ap (λ q. upward (n - (e.coord + 1)) (least + 1) q) next)
           ∙ ap (λ m. upward m least lo) (sym one_less),
       omega (arith, ends, next, one_less),
     )
@@ -166,16 +166,18 @@ full_is lo hi least n (e ∷ es) t s r b all upto =
     by_order : (least < e.coord) ⊎ (e.coord ≤ least) → e.coord ≡ least
     by_order (inl less) =
         let k = all least (omega arith) (let below = b.0 in omega (arith, less, below)) in
-        absurd (lacks_position least k.0 (e ∷ es) ((λ same. omega (arith, less, same)),
-            rising_lacks (e.coord + 1) least es r.1 (omega (arith, less))) k.1)
+        absurd (lacks_position least k.0 (e ∷ es) (
+          (λ same. omega (arith, less, same)),
+          rising_lacks (e.coord + 1) least es r.1 (omega (arith, less)),
+        ) k.1)
     by_order (inr from) = let first = r.0 in omega (arith, first, from)
 
 -- two blocks of the same coordinates, each sought past smaller ones alone
 module _ (segment : Span) (es fs : List Entry) (es_placed : Placed segment.lo segment.hi es) (fs_placed : Placed segment.lo segment.hi fs)
     (es_apart : Distinct es) (fs_apart : Distinct fs) (es_single : Single es) (fs_single : Single fs)
     (into : (x pos : ℕ) → position_of es x ≡ Some pos → (q : ℕ) × (position_of fs x ≡ Some q)) (es_order : (x pos : ℕ)
-        → position_of es x ≡ Some pos → IsAfterSmaller segment es x pos) (fs_order : (x pos : ℕ) → position_of fs x ≡ Some pos
-        → IsAfterSmaller segment fs x pos)
+    → position_of es x ≡ Some pos → IsAfterSmaller segment es x pos) (fs_order : (x pos : ℕ) → position_of fs x ≡ Some pos
+    → IsAfterSmaller segment fs x pos)
     (back : (x pos : ℕ) → position_of fs x ≡ Some pos → (q : ℕ) × (position_of es x ≡ Some q)) where
   positions_below : (n x pos : ℕ) → x < n → position_of es x ≡ Some pos → position_of fs x ≡ Some pos
   positions_below zero x pos less h = absurd (omega (arith, less))
@@ -207,7 +209,7 @@ module _ (segment : Span) (es fs : List Entry) (es_placed : Placed segment.lo se
           by_order (inr (inr fewer)) =
               let k = a.smaller c.steps fewer in
               let here : position_of es k.0 ≡ Some other.0 = coord_position k.0 other.0 es es_apart es_single
-                  (ap (coord_at es) c.at ∙ k.1) in
+              (ap (coord_at es) c.at ∙ k.1) in
               let there = again k.0 other.0 (let lower = k.2 in omega (arith, lower, less)) here in
               let at = (position_coord segment.lo segment.hi k.0 other.0 fs fs_placed there).0 in
               let own = (position_coord segment.lo segment.hi x other.0 fs fs_placed other.1).0 in

@@ -78,7 +78,7 @@ module _ {L : Type 0} (means : Meaning L) (laws : Laws means) (table : Table) (d
   pub row_inside : (i : ℕ) → i < table.count → IsIn (column.place i) (means.segment_of l (one (parent i)))
   row_inside i h =
       let k = coord_inside (means.segment_of l (one (parent i))).lo (means.segment_of l (one (parent i))).hi (column.place i)
-          (table.coords d i) (means.entries l (one (parent i))) (are (parent i) (within i h)).placed (row_coord i h) in
+      (table.coords d i) (means.entries l (one (parent i))) (are (parent i) (within i h)).placed (row_coord i h) in
       (k.0, k.1)
 
   -- what is stored at a position is a row's
@@ -86,15 +86,20 @@ module _ {L : Type 0} (means : Meaning L) (laws : Laws means) (table : Table) (d
       → (i : ℕ) × (i < table.count) × (column.place i ≡ q) × (parent i ≡ p) × (table.coords d i ≡ x)
   stored_row sparse p q x h at =
       let inside = coord_inside (means.segment_of l (one p)).lo (means.segment_of l (one p)).hi q x (means.entries l (one p))
-          (are p h).placed at in
+      (are p h).placed at in
       let r = built.stores.stands.only sparse (one p) q x (asked p h) (inside.0, inside.1) at in
       let below = built.stores.stands.alone (one p) r.0 (asked p h) r.1
-          (subst (λ s. IsIn s (means.segment_of l (one p))) (sym r.2) (inside.0, inside.1)) in
+      (subst (λ s. IsIn s (means.segment_of l (one p))) (sym r.2) (inside.0, inside.1)) in
       let lo = below.0 in let hi = below.1 in
-      let same : parent r.0 ≡ p = omega (arith, lo, hi) in
-      (r.0, r.1, r.2, same, same_some (table.coords d r.0) x
-          (sym (row_coord r.0 r.1) ∙ ap (λ q'. coord_at (means.entries l (one q')) (column.place r.0)) same
-          ∙ ap (coord_at (means.entries l (one p))) r.2 ∙ at))
+      let same : parent r.0 ≡ p = omega (arith, lo, hi) in (
+        r.0,
+        r.1,
+        r.2,
+        same,
+        same_some (table.coords d r.0) x
+            (sym (row_coord r.0 r.1) ∙ ap (λ q'. coord_at (means.entries l (one q')) (column.place r.0)) same
+            ∙ ap (coord_at (means.entries l (one p))) r.2 ∙ at),
+      )
 
   pub rise : (p : ℕ) → p < parents → (means.segment_of l (one p)).lo ≤ (means.segment_of l (one p)).hi
   rise p h = placed_within (means.segment_of l (one p)).lo (means.segment_of l (one p)).hi (means.entries l (one p)) (are p h).placed
@@ -113,10 +118,10 @@ carries_appended means laws table d n parents lp mp lc mc l m a b lw mw same la 
   into = λ p q x h at.
       let r = stored_row means laws table d n parents lp lc l a lw (compact_kinds (means.kind l) la).1 p q x h at in
       let places : mc.place r.0 ≡ q = b.numbered ma r.0 r.1 ∙ ap (λ f. place f r.0) (b.first ∙ sym a.first) ∙ sym (a.numbered la r.0 r.1)
-          ∙ r.2 in
+      ∙ r.2 in
       let below : mp r.0 ≡ p = sym (same r.0 r.1) ∙ r.3 in
       ap (coord_at (means.entries m (one p))) (sym places) ∙ ap (λ p'. coord_at (means.entries m (one p')) (mc.place r.0)) (sym below)
-          ∙ row_coord means laws table d n parents mp mc m b mw r.0 r.1 ∙ ap Some r.4;
+      ∙ row_coord means laws table d n parents mp mc m b mw r.0 r.1 ∙ ap Some r.4;
 }
 
 -- a pair of levels of one kind and range
@@ -124,8 +129,8 @@ module _ {L : Type 0} (means : Meaning L) (laws : Laws means)
     (plain : (l : L) → (properties (means.kind l)).ordered ≡ true → means.width l ≡ None) (table : Table) (d n : ℕ) (parents : ℕ)
     (lp mp : ℕ → ℕ) (lc mc : Column) (l m : L)
     (a : IsBuilt means table d n lp parents lc l) (b : IsBuilt means table d n mp parents mc m)
-        (lw : (i : ℕ) → i < table.count → lp i < parents) (mw : (i : ℕ) → i < table.count → mp i < parents)
-        (same : (i : ℕ) → i < table.count → lp i ≡ mp i)
+    (lw : (i : ℕ) → i < table.count → lp i < parents) (mw : (i : ℕ) → i < table.count → mp i < parents)
+    (same : (i : ℕ) → i < table.count → lp i ≡ mp i)
     (kinds : means.kind m ≡ means.kind l) (sizes : means.size m ≡ means.size l) where
   l_are : (p : ℕ) → p < parents → AreEntries (properties (means.kind l)) (means.size l) (one p) (means.segment_of l (one p))
       (means.entries l (one p))
@@ -135,7 +140,7 @@ module _ {L : Type 0} (means : Meaning L) (laws : Laws means)
       (means.entries m (one p))
   m_are p h = subst (λ s. AreEntries (properties (means.kind l)) s (one p) (means.segment_of m (one p)) (means.entries m (one p))) sizes
       (subst (λ k. AreEntries (properties k) (means.size m) (one p) (means.segment_of m (one p)) (means.entries m (one p))) kinds
-          (are means laws table d n parents mp mc m b mw p h))
+      (are means laws table d n parents mp mc m b mw p h))
 
   l_asked : (p : ℕ) → p < parents → means.allowed l (one p)
   l_asked p h = (asked means laws table d n parents lp lc l a lw p h).0
@@ -156,17 +161,17 @@ module _ {L : Type 0} (means : Meaning L) (laws : Laws means)
           let before : p < parents = omega (arith, h) in
           let next : p + 1 ≡ suc p = omega arith in
           sym ((laws.in_row l).next (one p) (one (suc p)) (l_asked p before) (l_asked (suc p) h) next) ∙ ends p before (los p before)
-              ∙ (laws.in_row m).next (one p) (one (suc p)) (m_asked p before) (m_asked (suc p) h) next
+          ∙ (laws.in_row m).next (one p) (one (suc p)) (m_asked p before) (m_asked (suc p) h) next
 
   -- entries are the same if the same coordinates stand at each position
   entries_by : Carries means parents l m → Carries means parents m l → (p : ℕ) → p < parents
       → means.entries m (one p) ≡ means.entries l (one p)
   entries_by f g p h =
       entries_same (means.segment_of m (one p)).lo (means.segment_of m (one p)).hi (means.segment_of l (one p)).lo
-          (means.segment_of l (one p)).hi (means.entries m (one p)) (means.entries l (one p)) (m_are p h).placed (l_are p h).placed
-          (m_are p h).distinct
+      (means.segment_of l (one p)).hi (means.entries m (one p)) (means.entries l (one p)) (m_are p h).placed (l_are p h).placed
+      (m_are p h).distinct
       (l_are p h).distinct (λ q. options_same (coord_at (means.entries m (one p)) q) (coord_at (means.entries l (one p)) q)
-          (λ x at. g.into p q x h at) (λ x at. f.into p q x h at))
+      (λ x at. g.into p q x h at) (λ x at. f.into p q x h at))
 
   agree : ((p : ℕ) → p < parents → means.segment_of m (one p) ≡ means.segment_of l (one p))
       → ((p : ℕ) → p < parents → means.entries m (one p) ≡ means.entries l (one p)) → means.width m ≡ means.width l
@@ -202,26 +207,26 @@ module _ {L : Type 0} (means : Meaning L) (laws : Laws means)
           by_order (inr (inl less)) =
               let up = rise means laws table d n parents lp lc l a lw p h in
               let k = tiles_coord (means.segment_of m (one p)).lo (means.segment_of m (one p)).hi (means.segment_of l (one p)).hi
-                  (means.entries m (one p)) ((m_are p h).properties.compact (compact_kinds (means.kind l) la).0)
-                  (omega (arith, up, lo)) less in
+              (means.entries m (one p)) ((m_are p h).properties.compact (compact_kinds (means.kind l) la).0)
+              (omega (arith, up, lo)) less in
               let inside = coord_inside (means.segment_of l (one p)).lo (means.segment_of l (one p)).hi (means.segment_of l (one p)).hi k.0
-                  (means.entries l (one p)) (l_are p h).placed (g.into p (means.segment_of l (one p)).hi k.0 h k.1) in
+              (means.entries l (one p)) (l_are p h).placed (g.into p (means.segment_of l (one p)).hi k.0 h k.1) in
               let before = inside.1 in absurd (omega (arith, before))
           by_order (inr (inr less)) =
               let up = rise means laws table d n parents mp mc m b mw p h in
               let k = tiles_coord (means.segment_of l (one p)).lo (means.segment_of l (one p)).hi (means.segment_of m (one p)).hi
-                  (means.entries l (one p)) ((l_are p h).properties.compact (compact_kinds (means.kind l) la).0)
-                  (omega (arith, up, lo)) less in
+              (means.entries l (one p)) ((l_are p h).properties.compact (compact_kinds (means.kind l) la).0)
+              (omega (arith, up, lo)) less in
               let inside = coord_inside (means.segment_of m (one p)).lo (means.segment_of m (one p)).hi (means.segment_of m (one p)).hi k.0
-                  (means.entries m (one p)) (m_are p h).placed (f.into p (means.segment_of m (one p)).hi k.0 h k.1) in
+              (means.entries m (one p)) (m_are p h).placed (f.into p (means.segment_of m (one p)).hi k.0 h k.1) in
               let before = inside.1 in absurd (omega (arith, before))
 
   -- where it is full, each coordinate below the range stands there in order
   by_full : (properties (means.kind l)).full ≡ true → AgreeBelow means parents l m
   by_full full = agree same_segments
       (λ p h. (m_full p h).0 ∙ ap (λ s. upward (means.size l - 0) 0 s.lo) (same_segments p h)
-          ∙ sym (l_full p h).0) (plain m (ordered_m true (full_kinds (means.kind l) full).0)
-          ∙ sym (plain l (full_kinds (means.kind l) full).0))
+      ∙ sym (l_full p h).0) (plain m (ordered_m true (full_kinds (means.kind l) full).0)
+      ∙ sym (plain l (full_kinds (means.kind l) full).0))
     where
       l_full : (p : ℕ) → p < parents → (means.entries l (one p) ≡ upward (means.size l - 0) 0 (means.segment_of l (one p)).lo)
           × ((means.segment_of l (one p)).hi ≡ (means.segment_of l (one p)).lo + (means.size l - 0))
@@ -229,7 +234,7 @@ module _ {L : Type 0} (means : Meaning L) (laws : Laws means)
           ((l_are p h).properties.compact (full_kinds (means.kind l) full).2) ((l_are p h).properties.unique
           (full_kinds (means.kind l) full).1)
           ((l_are p h).properties.ordered (full_kinds (means.kind l) full).0) (l_are p h).below
-              (λ x from less. (l_are p h).properties.full full x less) (omega arith)
+          (λ x from less. (l_are p h).properties.full full x less) (omega arith)
 
       m_full : (p : ℕ) → p < parents → (means.entries m (one p) ≡ upward (means.size l - 0) 0 (means.segment_of m (one p)).lo)
           × ((means.segment_of m (one p)).hi ≡ (means.segment_of m (one p)).lo + (means.size l - 0))
@@ -237,7 +242,7 @@ module _ {L : Type 0} (means : Meaning L) (laws : Laws means)
           ((m_are p h).properties.compact (full_kinds (means.kind l) full).2) ((m_are p h).properties.unique
           (full_kinds (means.kind l) full).1)
           ((m_are p h).properties.ordered (full_kinds (means.kind l) full).0) (m_are p h).below
-              (λ x from less. (m_are p h).properties.full full x less) (omega arith)
+          (λ x from less. (m_are p h).properties.full full x less) (omega arith)
 
       same_segments : (p : ℕ) → p < parents → means.segment_of m (one p) ≡ means.segment_of l (one p)
       same_segments = segments (λ p h lo. let e = (l_full p h).1 in let f = (m_full p h).1 in omega (arith, e, f, lo))
@@ -259,33 +264,33 @@ module _ {L : Type 0} (means : Meaning L) (laws : Laws means)
       same_segments = segments (λ p h lo.
           let e = laws.wide l (slot_width (greatest_below table.coords d table.count table.count)) (one p) (a.width loose) (l_asked p h) in
           let f = laws.wide m (slot_width (greatest_below table.coords d table.count table.count)) (one p) (b.width (ordered_m false loose))
-              (m_asked p h) in
+          (m_asked p h) in
           omega (arith, e, f, lo))
 
       l_to : (p : ℕ) → p < parents → (x pos : ℕ) → position_of (means.entries l (one p)) x ≡ Some pos
           → (q : ℕ) × (position_of (means.entries m (one p)) x ≡ Some q)
       l_to p h x pos at =
           let r = stored_row means laws table d n parents lp lc l a lw sparse p pos x h
-              (position_coord (means.segment_of l (one p)).lo (means.segment_of l (one p)).hi x pos (means.entries l (one p))
-              (l_are p h).placed at).0 in
+          (position_coord (means.segment_of l (one p)).lo (means.segment_of l (one p)).hi x pos (means.entries l (one p))
+          (l_are p h).placed at).0 in
           let below : mp r.0 ≡ p = sym (same r.0 r.1) ∙ r.3 in (
             mc.place r.0,
             coord_position x (mc.place r.0) (means.entries m (one p)) (m_are p h).distinct ((m_are p h).properties.unique unique)
                 (ap (λ p'. coord_at (means.entries m (one p')) (mc.place r.0)) (sym below)
-                    ∙ row_coord means laws table d n parents mp mc m b mw r.0 r.1 ∙ ap Some r.4),
+                ∙ row_coord means laws table d n parents mp mc m b mw r.0 r.1 ∙ ap Some r.4),
           )
 
       m_to : (p : ℕ) → p < parents → (x pos : ℕ) → position_of (means.entries m (one p)) x ≡ Some pos
           → (q : ℕ) × (position_of (means.entries l (one p)) x ≡ Some q)
       m_to p h x pos at =
           let r = stored_row means laws table d n parents mp mc m b mw sparse_m p pos x h
-              (position_coord (means.segment_of m (one p)).lo (means.segment_of m (one p)).hi x pos (means.entries m (one p))
-              (m_are p h).placed at).0 in
+          (position_coord (means.segment_of m (one p)).lo (means.segment_of m (one p)).hi x pos (means.entries m (one p))
+          (m_are p h).placed at).0 in
           let below : lp r.0 ≡ p = same r.0 r.1 ∙ r.3 in (
             lc.place r.0,
             coord_position x (lc.place r.0) (means.entries l (one p)) (l_are p h).distinct ((l_are p h).properties.unique unique)
                 (ap (λ p'. coord_at (means.entries l (one p')) (lc.place r.0)) (sym below)
-                    ∙ row_coord means laws table d n parents lp lc l a lw r.0 r.1 ∙ ap Some r.4),
+                ∙ row_coord means laws table d n parents lp lc l a lw r.0 r.1 ∙ ap Some r.4),
           )
 
       m_placed : (p : ℕ) → p < parents → Placed (means.segment_of l (one p)).lo (means.segment_of l (one p)).hi (means.entries m (one p))
@@ -329,12 +334,12 @@ module _ {L : Type 0} (means : Meaning L) (laws : Laws means)
           let es = means.entries l (one (lp i)) in
           let within = lw i h in
           let mine = coord_position (table.coords d i) (lc.place i) es (l_are (lp i) within).distinct
-              ((l_are (lp i) within).properties.unique (inserted_kinds (means.kind l) la)) (row_coord means laws table d n parents lp lc l a
-              lw i h) in
+          ((l_are (lp i) within).properties.unique (inserted_kinds (means.kind l) la)) (row_coord means laws table d n parents lp lc l a
+          lw i h) in
           let there : coord_at es (mc.place i) ≡ Some (table.coords d i) =
           ap (λ gs. coord_at gs (mc.place i)) (sym (levels_agree.entries (lp i) within))
-              ∙ ap (λ p. coord_at (means.entries m (one p)) (mc.place i)) (same i h)
-              ∙ row_coord means laws table d n parents mp mc m b mw i h in
+          ∙ ap (λ p. coord_at (means.entries m (one p)) (mc.place i)) (same i h)
+          ∙ row_coord means laws table d n parents mp mc m b mw i h in
           let other = coord_position (table.coords d i) (mc.place i) es (l_are (lp i) within).distinct
-              ((l_are (lp i) within).properties.unique (inserted_kinds (means.kind l) la)) there in
+          ((l_are (lp i) within).properties.unique (inserted_kinds (means.kind l) la)) there in
           same_some (lc.place i) (mc.place i) (sym mine ∙ other)

@@ -1,9 +1,8 @@
 -- Numbers of entries, sorted by the coordinate at one level after another, from the last level up.
-use Rattle.std.specs.Prelude.{◌≡◌, ℕ, suc, ◌+◌, ◌≤◌, ◌<◌, Bool, true, false, not, ◌&&◌, List, [], length, drop, slice_index, refl}
+use Rattle.std.specs.Prelude.{◌≡◌, ℕ, suc, ◌+◌, ◌≤◌, ◌<◌, Bool, true, false, not, ◌&&◌, List, length, drop, slice_index, refl}
 use Rattle.std.specs.declared.cmp.Ordering.{Ordering}
 use Rattle.std.specs.declared.cmp.Ordering.TheVariants.{Less, Equal, Greater}
 use Rattle.std.specs.Ordering.{nat_cmp, is_lt, ordering_reverse}
-use Rattle.std.specs.Cmp.{IsStrictWeakOrder, IsTotalOrder}
 use Rattle.std.specs.Cmp.Lexicographic.{slice_cmp, nat_list_cmp_total}
 use Rattle.std.specs.List.Sorted.{IsSortedBy, IsSortedByKey, IsStableByKey}
 use Rattle.std.proofs.Common.{◌∙◌, ap, get_or}
@@ -53,11 +52,11 @@ module _ (format : List FormatLevel) (entries : List Entry) (level : ℕ) (withi
       by_order a b least tied Less e = absurd (let less = ap is_lt e in cc)
       by_order a b least tied Equal e =
           let back : nat_cmp (key_at format entries level a) (key_at format entries level b) ≡ Equal =
-              nat_cmp_total.antisymm (key_at format entries level a) (key_at format entries level b) ∙ ap ordering_reverse e in
+          nat_cmp_total.antisymm (key_at format entries level a) (key_at format entries level b) ∙ ap ordering_reverse e in
           ap is_lt (compare_past (level_coords format entries b) (level_coords format entries a) level _ _
-              (level_drop format entries b level within) (level_drop format entries a level within) e)
+          (level_drop format entries b level within) (level_drop format entries a level within) e)
           ∙ tied (ap (λ o. not (is_lt o) && not (is_lt (nat_cmp (key_at format entries level b) (key_at format entries level a)))) back
-              ∙ ap (λ o. not (is_lt Equal) && not (is_lt o)) e)
+          ∙ ap (λ o. not (is_lt Equal) && not (is_lt o)) e)
       by_order a b least tied Greater e =
           ap is_lt (compare_here (level_coords format entries b) (level_coords format entries a) level _ _ Greater
-              (level_drop format entries b level within) (level_drop format entries a level within) e (λ same. cc))
+          (level_drop format entries b level within) (level_drop format entries a level within) e (λ same. cc))

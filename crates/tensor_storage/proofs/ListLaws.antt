@@ -114,18 +114,18 @@ module _ (format : List FormatLevel) (places : List ℕ) (is : IsFormat format) 
       value_apart order [] r apart long each among = absurd among
       value_apart order (s ∷ rs) r apart long each (inl is) =
           let P : Route → Type 0 = λ q. value_at a (map (entry_of places values []) (s ∷ rs)) (in_mode_order places q.coords)
-              ≡ slice_index values q.end in
+          ≡ slice_index values q.end in
           subst P is
           (value_here a (in_mode_order places s.coords) (entry_of places values [] s) (map (entry_of places values []) rs)
-              (at_itself (in_mode_order places s.coords))
+          (at_itself (in_mode_order places s.coords))
           ∙ ap (a.plus (slice_index values s.end))
-              (value_unlisted a laws (in_mode_order places s.coords) (map (entry_of places values []) rs) (λ l.
+          (value_unlisted a laws (in_mode_order places s.coords) (map (entry_of places values []) rs) (λ l.
           let k = listed_to rs (in_mode_order places s.coords) l in
           has_none s.coords rs apart.0 k.0 k.1 (coords_same k.0.coords s.coords (long k.0 (inr k.1)) (long s (inl refl)) k.2)))
           ∙ laws.plus_zero (slice_index values s.end) (each 0 (entry_of places values [] s) (omega arith)).word)
       value_apart order (s ∷ rs) r apart long each (inr more) =
           let rest = value_apart order rs r apart.1 (λ q i. long q (inr i))
-              (All-tail (IsEntry order) (entry_of places values [] s) (map (entry_of places values []) rs) each) more in
+          (All-tail (IsEntry order) (entry_of places values [] s) (map (entry_of places values []) rs) each) more in
           elim (tested (in_mode_order places s.coords) (in_mode_order places r.coords)) [
             | same is e ↦ absurd (has_none s.coords rs apart.0 r more
                 (coords_same r.coords s.coords (long r (inr more)) (long s (inl refl)) (sym is)))
@@ -150,35 +150,38 @@ lists_paths a laws storage places gathered entries is are all sorted order = rec
     rs_long s equal r among =
         let path = path_of_route meaning storage.levels (length storage.values) (one 0) is.opened r (subst (Among r) equal among) in
         path_long meaning storage.levels (one 0) r.coords r.end path ∙ sym (length-map storage.levels meaning.kind) ∙ ap length is.letters
-            ∙ length-map storage.format (λ level. level.letter)
+        ∙ length-map storage.format (λ level. level.letter)
 
     to : (coords : List ℕ) → Listed gathered coords → (length coords ≡ length storage.format) × ((pos : ℕ) × EndsAt storage coords pos)
     to coords l =
         let k = listed_to storage.format places is.format are storage.values (routes meaning storage.levels (one 0)) coords
-            (subst (λ es. Listed es coords) all l) in
+        (subst (λ es. Listed es coords) all l) in
         let long = rs_long (routes meaning storage.levels (one 0)) refl k.0 k.1 in
         let path = path_of_route meaning storage.levels (length storage.values) (one 0) is.opened k.0 k.1 in (
           sym (ap length k.2) ∙ length-map places (slice_index k.0.coords) ∙ many_places storage.format places is.format are,
-          (k.0.end, subst (λ cs. EndsAt storage cs k.0.end) k.2
-              (subst (λ xs. Path meaning storage.levels (one 0) xs k.0.end)
-              (sym (level_order_back storage.format places is.format are k.0.coords long)) path)),
+          (
+            k.0.end,
+            subst (λ cs. EndsAt storage cs k.0.end) k.2
+                (subst (λ xs. Path meaning storage.levels (one 0) xs k.0.end)
+                (sym (level_order_back storage.format places is.format are k.0.coords long)) path),
+          ),
         )
 
     from : (coords : List ℕ) → length coords ≡ length storage.format → (pos : ℕ) → EndsAt storage coords pos → Listed gathered coords
     from coords long pos path = subst (λ es. Listed es coords) (sym all)
         (subst (Listed (map (entry_of places storage.values []) (routes meaning storage.levels (one 0))))
-            (mode_order_back storage.format places is.format are coords long)
+        (mode_order_back storage.format places is.format are coords long)
         (listed_from storage.format places is.format are storage.values
-            (record { coords = in_level_order storage.format coords; end = pos }) (routes meaning storage.levels (one 0))
+        (record { coords = in_level_order storage.format coords; end = pos }) (routes meaning storage.levels (one 0))
         (route_of_path meaning storage.levels (one 0) (in_level_order storage.format coords) pos path)))
 
     value : (coords : List ℕ) (pos : ℕ) → length coords ≡ length storage.format → EndsAt storage coords pos
         → value_at a gathered coords ≡ slice_index storage.values pos
     value coords pos long path = ap (λ es. value_at a es coords) all
         ∙ ap (value_at a (map (entry_of places storage.values []) (routes meaning storage.levels (one 0))))
-            (sym (mode_order_back storage.format places is.format are coords long))
+        (sym (mode_order_back storage.format places is.format are coords long))
         ∙ value_apart storage.format places is.format are storage.values a laws sorted.order (routes meaning storage.levels (one 0))
-            (record { coords = in_level_order storage.format coords; end = pos })
+        (record { coords = in_level_order storage.format coords; end = pos })
         (routes_apart meaning level_laws storage.levels (length storage.values) (one 0)
-            is.opened) (rs_long (routes meaning storage.levels (one 0)) refl) (subst (All (IsEntry sorted.order)) all sorted.each)
+        is.opened) (rs_long (routes meaning storage.levels (one 0)) refl) (subst (All (IsEntry sorted.order)) all sorted.each)
         (route_of_path meaning storage.levels (one 0) (in_level_order storage.format coords) pos path)

@@ -39,7 +39,7 @@ one_more : {A B : Type 0} (f : A → B) (xs : List A) (x : A) (y : B) (rest left
     → f x ≡ y → map f (xs ++ x ∷ []) ++ rest ≡ all
 one_more f xs x y rest left all h l is =
     ap (λ m. m ++ rest) (map-append f xs (x ∷ [])) ∙ append_assoc (map f xs) (f x ∷ []) rest ∙ ap (λ z. map f xs ++ z ∷ rest) is
-        ∙ ap (λ m. map f xs ++ m) (sym l) ∙ h
+    ∙ ap (λ m. map f xs ++ m) (sym l) ∙ h
 
 appended_ordered : (letter : Letter) → (capabilities letter).append ≡ true → (properties letter).ordered ≡ true
 appended_ordered Dense h = refl
@@ -90,7 +90,7 @@ built_push means table letters [] [] d e parent parents l column letter rest are
     let here : letters ≡ letter ∷ rest = subst (λ n. drop n letters ≡ letter ∷ rest) none left in
     let same : d + e ≡ d = omega (arith, none) in
     subst (λ ks. AreBuilt means table d parent parents ks (l ∷ []) (column ∷ [])) (sym here)
-        (subst (λ m. IsBuilt means table m (m + chain_length (letter ∷ rest)) parent parents column l) same is, tt)
+    (subst (λ m. IsBuilt means table m (m + chain_length (letter ∷ rest)) parent parents column l) same is, tt)
 built_push means table letters [] (c ∷ columns) d e parent parents l column letter rest are long left is = absurd are
 built_push means table letters (k ∷ ls) [] d e parent parents l column letter rest are long left is = absurd are
 built_push means table [] (k ∷ ls) (c ∷ columns) d e parent parents l column letter rest are long left is = absurd are
@@ -102,7 +102,7 @@ built_push means table (first ∷ letters) (k ∷ ls) (c ∷ columns) d e parent
       built_push means table letters ls columns (suc d) (e - 1) c.place c.positions l column letter rest are.1 one_less
           (subst (λ n. drop n (first ∷ letters) ≡ letter ∷ rest) deeper left)
           (subst (λ q. IsBuilt means table q (q + chain_length (letter ∷ rest)) (last_place columns c.place)
-              (last_positions columns c.positions) column l) same is),
+          (last_positions columns c.positions) column l) same is),
     )
 
 as_many_built : {L : Type 0} (means : Meaning L) (table : Table) (letters : List Letter) (ls : List L) (columns : List Column) (d : ℕ)
@@ -126,9 +126,9 @@ inserted_unique Hashed h = (refl, refl)
 module _ {L : Type 0} (means : Meaning L) (laws : Laws means) (letters : List Letter) (sizes : List ℕ) (order : ℕ) (table : Table)
     (up : Increase table.coords order table.count)
     (d n : ℕ) (levels : List L) (ps : List ℕ) (parents size : ℕ) (old : L) (rest : List Letter)
-        (p : ArePacked means letters sizes table d levels ps parents)
+    (p : ArePacked means letters sizes table d levels ps parents)
     (left : drop d letters ≡ means.kind old ∷ rest) (through : n ≡ d + chain_length (means.kind old ∷ rest))
-        (below : (i : ℕ) → i < table.count → table.coords d i < size) where
+    (below : (i : ℕ) → i < table.count → table.coords d i < size) where
   grows : Grows means table.coords (keys_of table d n) d p.above parents p.groups p.ordered levels p.columns ps
   grows = (levels_grow means laws).next table.coords order (keys_of table d n) d p.above parents p.groups p.ordered levels p.columns ps up
       p.growing
@@ -157,13 +157,20 @@ module _ {L : Type 0} (means : Meaning L) (laws : Laws means) (letters : List Le
   pub may_fill : IsNew means (means.kind old) size old → MayFill means parents (rows_at (keys_of table d n) ps) old
   may_fill new = record {
     appends =
-        λ is. (subst (λ s. MayAppendRows (means.kind old) s parents (rows_at (keys_of table d n) ps)) (sym new.size_is)
-        (grows.may_append (means.kind old) n size next (follow_here.0 is) are), new.log is);
+        λ is. (
+          subst (λ s. MayAppendRows (means.kind old) s parents (rows_at (keys_of table d n) ps)) (sym new.size_is)
+              (grows.may_append (means.kind old) n size next (follow_here.0 is) are),
+          new.log is,
+        );
     inserts =
-        λ is. (subst (λ s. MayInsertRows s parents (rows_at (keys_of table d n) ps)) (sym new.size_is)
-        (grows.may_insert size (groups_none is)
-        (subst (λ m. AreRowsOf table.coords d m size (rows_at (keys_of table d n) ps)) (next.unique (inserted_unique (means.kind old) is).0)
-        are)), grows.together, new.width is);
+        λ is. (
+          subst (λ s. MayInsertRows s parents (rows_at (keys_of table d n) ps)) (sym new.size_is)
+              (grows.may_insert size (groups_none is)
+              (subst (λ m. AreRowsOf table.coords d m size (rows_at (keys_of table d n) ps)) (next.unique (inserted_unique (means.kind old) is).0)
+              are)),
+          grows.together,
+          new.width is,
+        );
   }
 
   module _ (most needed : ℕ) (kept : means.size old ≡ size)
@@ -173,7 +180,7 @@ module _ {L : Type 0} (means : Meaning L) (laws : Laws means) (letters : List Le
     greatest_is is sparse = most_is table order d parents ps up
         (subst (λ a. ShareBy table.coords a table.count parents (slice_index ps)) (p.growing.level (groups_none is)) p.growing.share) most
         (subst (λ m. IsGreatestBelow (rows_at (keys_of table d m) ps) most) (next.unique (inserted_unique (means.kind old) is).0)
-            (need.greatest is sparse))
+        (need.greatest is sparse))
 
     -- the positions that are needed are those that the table tells
     pub needed_is : needed ≡ positions_at table d parents (means.kind old) rest size
@@ -181,7 +188,7 @@ module _ {L : Type 0} (means : Meaning L) (laws : Laws means) (letters : List Le
       where
         by_full : (b : Bool) → (capabilities (means.kind old)).append ≡ false → (properties (means.kind old)).full ≡ b
             → positions_for (means.kind old) size parents most
-                ≡ positions_for (means.kind old) size parents (greatest_below table.coords d table.count table.count)
+            ≡ positions_for (means.kind old) size parents (greatest_below table.coords d table.count table.count)
         by_full true is full = full_any (means.kind old) size parents most (greatest_below table.coords d table.count table.count) full
         by_full false is sparse = ap (positions_for (means.kind old) size parents) (greatest_is is sparse)
 
@@ -189,22 +196,22 @@ module _ {L : Type 0} (means : Meaning L) (laws : Laws means) (letters : List Le
             → needed ≡ positions_at table d parents (means.kind old) rest size
         by_append true is =
             (need.appended is).0 ∙ begun_is table.coords order table.count n table.count up (omega arith)
-                ∙ ap (λ m. different table.coords m table.count) through
+            ∙ ap (λ m. different table.coords m table.count) through
             ∙ yes_is (capabilities (means.kind old)).append (different table.coords (d + chain_length (means.kind old ∷ rest)) table.count)
-                (positions_for (means.kind old) size parents (greatest_below table.coords d table.count table.count)) is
+            (positions_for (means.kind old) size parents (greatest_below table.coords d table.count table.count)) is
         by_append false is =
             need.inserted is ∙ ap (λ m. positions_for (means.kind old) m parents most) kept
-                ∙ by_full (properties (means.kind old)).full is refl
+            ∙ by_full (properties (means.kind old)).full is refl
             ∙ no_is (capabilities (means.kind old)).append (different table.coords (d + chain_length (means.kind old ∷ rest)) table.count)
-                (positions_for (means.kind old) size parents (greatest_below table.coords d table.count table.count)) is
+            (positions_for (means.kind old) size parents (greatest_below table.coords d table.count table.count)) is
 
     -- what the table tells of the levels from here on
     pub left_from : drop d sizes ≡ size ∷ drop (suc d) sizes → rest ≡ drop (suc d) letters
         → positions_from table d parents (drop d letters) (drop d sizes)
-            ≡ needed ∷ positions_from table (suc d) needed (drop (suc d) letters) (drop (suc d) sizes)
+        ≡ needed ∷ positions_from table (suc d) needed (drop (suc d) letters) (drop (suc d) sizes)
     left_from ranges_left rest_is =
         ap (λ ls. positions_from table d parents ls (drop d sizes)) left
-            ∙ ap (positions_from table d parents (means.kind old ∷ rest)) ranges_left
+        ∙ ap (positions_from table d parents (means.kind old ∷ rest)) ranges_left
         ∙ ap (λ m. m ∷ positions_from table (suc d) m rest (drop (suc d) sizes)) (sym needed_is)
         ∙ ap (λ ls. needed ∷ positions_from table (suc d) needed ls (drop (suc d) sizes)) rest_is
 
@@ -214,7 +221,7 @@ module _ {L : Type 0} (means : Meaning L) (laws : Laws means) (letters : List Le
         (rest_is : rest ≡ drop (suc d) letters) where
       packed : (ordered_then : Bool) → ordered_then ≡ (p.ordered && (properties (means.kind old)).ordered)
           → Growing means table.coords table.count (suc d) n (not (properties (means.kind old)).unique) ordered_then (levels ++ new ∷ [])
-              (p.columns ++ column_of (keys_of table d n) places needed ∷ []) (slice_index places) needed
+          (p.columns ++ column_of (keys_of table d n) places needed ∷ []) (slice_index places) needed
           → Takes means parents needed (rows_at (keys_of table d n) ps) places old new
           → IsBuilt means table d n (slice_index ps) parents (column_of (keys_of table d n) places needed) new
           → ArePacked means letters sizes table (suc d) (levels ++ new ∷ []) places needed
@@ -235,18 +242,18 @@ module _ {L : Type 0} (means : Meaning L) (laws : Laws means) (letters : List Le
         counts = one_more (λ column. column.positions) p.columns (column_of (keys_of table d n) places needed) needed
             (positions_from table (suc d) needed (drop (suc d) letters) (drop (suc d) sizes))
             (positions_from table d parents (drop d letters) (drop d sizes)) (positions_from table 0 1 letters sizes) p.counts
-                (left_from ranges_left rest_is) refl;
+            (left_from ranges_left rest_is) refl;
         few = subst AreFew (sym pushed) (All-push (λ count. count ≤ greatest_position_count) (counts_of p.columns) needed p.few fits);
         built = built_push means table letters levels p.columns 0 d (λ i. 0) 1 new (column_of (keys_of table d n) places needed)
             (means.kind old) rest p.built p.growing.depth left
             (subst (λ m. IsBuilt means table m (m + chain_length (means.kind old ∷ rest)) (last_place p.columns (λ i. 0))
-                (last_positions p.columns 1) (column_of (keys_of table d n) places needed) new) (sym zero_more)
+            (last_positions p.columns 1) (column_of (keys_of table d n) places needed) new) (sym zero_more)
             (subst (λ m. IsBuilt means table d (d + chain_length (means.kind old ∷ rest)) (last_place p.columns (λ i. 0)) m
-                (column_of (keys_of table d n) places needed) new) (sym p.growing.parents_are)
+            (column_of (keys_of table d n) places needed) new) (sym p.growing.parents_are)
             (subst (λ f. IsBuilt means table d (d + chain_length (means.kind old ∷ rest)) f parents
-                (column_of (keys_of table d n) places needed) new) (sym p.growing.place_is)
+            (column_of (keys_of table d n) places needed) new) (sym p.growing.place_is)
             (subst (λ m. IsBuilt means table d m (slice_index ps) parents (column_of (keys_of table d n) places needed) new) through
-                built))));
+            built))));
       }
         where
           zero_more : 0 + d ≡ d
@@ -263,9 +270,9 @@ module _ {L : Type 0} (means : Meaning L) (laws : Laws means) (letters : List Le
 
       built_here : (t : Takes means parents needed (rows_at (keys_of table d n) ps) places old new)
           → ((capabilities (means.kind new)).append ≡ true → (i : ℕ) → i < table.count
-              → slice_index places i ≡ place (keys_of table d n).first i)
+          → slice_index places i ≡ place (keys_of table d n).first i)
           → ((properties (means.kind new)).ordered ≡ false → means.width new
-              ≡ Some (slot_width (greatest_below table.coords d table.count table.count)))
+          ≡ Some (slot_width (greatest_below table.coords d table.count table.count)))
           → ((properties (means.kind new)).ordered ≡ false → (q : ℕ) → q < parents → InOrder means new q)
           → IsBuilt means table d n (slice_index ps) parents (column_of (keys_of table d n) places needed) new
       built_here t numbered width order_is =
@@ -281,13 +288,13 @@ module _ {L : Type 0} (means : Meaning L) (laws : Laws means) (letters : List Le
               let a = fills.appended is in
               let count : begun (keys_of table d n).first table.count ≡ needed = sym (need.appended is).0 in
               let both_true = joined p.ordered (properties (means.kind old)).ordered (follow_here.0 is)
-                  (appended_ordered (means.kind old) is) in
+              (appended_ordered (means.kind old) is) in
               let t = subst (λ m. Takes means parents m (rows_at (keys_of table d n) ps) places old new) count a.takes in
               let never = λ (o : (properties (means.kind new)).ordered ≡ false). sym (appended_ordered (means.kind old) is)
-                  ∙ sym (ap (λ k. (properties k).ordered) t.kind) ∙ o in
+              ∙ sym (ap (λ k. (properties k).ordered) t.kind) ∙ o in
               packed p.ordered (follow_here.0 is ∙ sym both_true)
               (subst (λ m. Growing means table.coords table.count (suc d) n (not (properties (means.kind old)).unique) p.ordered
-                  (levels ++ new ∷ []) (p.columns ++ column_of (keys_of table d n) places m ∷ []) (slice_index places) m) count
+              (levels ++ new ∷ []) (p.columns ++ column_of (keys_of table d n) places m ∷ []) (slice_index places) m) count
               (grows.appended n size places old new next are a))
               t (built_here t (λ _. a.numbered) (λ o. apart (never o)) (λ o. apart (never o)))
           by_append false is =
@@ -297,11 +304,11 @@ module _ {L : Type 0} (means : Meaning L) (laws : Laws means) (letters : List Le
               let before = λ (o : (properties (means.kind new)).ordered ≡ false). sym (ap (λ k. (properties k).ordered) t.kind) ∙ o in
               packed (p.ordered && (properties (means.kind old)).ordered) refl
               (grows.inserted n size needed places old new (p.ordered && (properties (means.kind old)).ordered) next (groups_none is)
-                  (inserted_unique (means.kind old) is).0 (both p.ordered (properties (means.kind old)).ordered) are t)
+              (inserted_unique (means.kind old) is).0 (both p.ordered (properties (means.kind old)).ordered) are t)
               t
               (built_here t (λ yes. apart (sym yes ∙ ap (λ k. (capabilities k).append) t.kind ∙ is))
-                  (λ o. let sparse = unordered_sparse (means.kind old) (before o) in
-                  f.width sparse ∙ ap (λ m. Some (slot_width m)) (greatest_is is sparse))
+              (λ o. let sparse = unordered_sparse (means.kind old) (before o) in
+              f.width sparse ∙ ap (λ m. Some (slot_width m)) (greatest_is is sparse))
               (λ o. f.order (before o)))
 
 -- levels that are appended to and inserted into
@@ -325,10 +332,12 @@ follows : (ordered : Bool) (letters : List Letter) → InsertedBelowHashed lette
     → (ordered ≡ false → (k : ℕ) (d : Letter) → k < length letters → (capabilities (get_or letters k d)).insert ≡ true)
     → MayFollow ordered letters
 follows ordered [] pairs none = tt
-follows ordered (letter ∷ letters) pairs none =
-    (first ordered refl, follows (ordered && (properties letter).ordered) letters
-        (λ i j d less within. pairs (suc i) (suc j) d (omega (arith, less)) (omega (arith, within))) (λ is k d within. later ordered
-        (properties letter).ordered refl refl is k d within))
+follows ordered (letter ∷ letters) pairs none = (
+  first ordered refl,
+  follows (ordered && (properties letter).ordered) letters
+      (λ i j d less within. pairs (suc i) (suc j) d (omega (arith, less)) (omega (arith, within))) (λ is k d within. later ordered
+      (properties letter).ordered refl refl is k d within),
+)
   where
     first : (b : Bool) → ordered ≡ b → (capabilities letter).append ≡ true → ordered ≡ true
     first true is a = is
@@ -382,9 +391,9 @@ none_packed {L} means laws format sizes table levels ps is none places =
 module _ {L : Type 0} (means : Meaning L) (laws : Laws means) (format : List FormatLevel) (ranges : List ℕ) (table : Table)
     (up : Increase table.coords (length format) table.count) (below : AreBelow table (in_level_order format ranges))
     (level : ℕ) (d : FormatLevel) (within : level < length format) (levels : List L) (ps : List ℕ) (parents : ℕ)
-        (p : ArePacked means (letters_of format) (in_level_order format ranges) table level levels ps parents)
+    (p : ArePacked means (letters_of format) (in_level_order format ranges) table level levels ps parents)
     (old : L) (n : ℕ) (is_new : IsNew means (get_or format level d).letter (slice_index ranges (get_or format level d).mode) old)
-        (n_is : n ≡ level + chain_length (drop level (letters_of format))) where
+    (n_is : n ≡ level + chain_length (drop level (letters_of format))) where
   left_here : drop level (letters_of format) ≡ means.kind old ∷ drop (suc level) (letters_of format)
   left_here = letter_left format level d within ∙ ap (λ k. k ∷ drop (suc level) (letters_of format)) (sym is_new.kind)
 
@@ -395,7 +404,7 @@ module _ {L : Type 0} (means : Meaning L) (laws : Laws means) (format : List For
   below_here i h =
       let long : length (in_level_order format ranges) ≡ length format = length-map format (λ l. slice_index ranges l.mode) in
       subst (λ s. table.coords level i < s) (get_or-map (λ l. slice_index ranges l.mode) format level d 0 within)
-          (below level i (omega (arith, long, within)) h)
+      (below level i (omega (arith, long, within)) h)
 
   new_here : IsNew means (means.kind old) (slice_index ranges (get_or format level d).mode) old
   new_here = subst (λ k. IsNew means k (slice_index ranges (get_or format level d).mode) old) (sym is_new.kind) is_new
@@ -407,34 +416,34 @@ module _ {L : Type 0} (means : Meaning L) (laws : Laws means) (format : List For
 
   pub fill_next : (places : List ℕ) (new : L) (count : ℕ) (pushed : List L) → pushed ≡ levels ++ new ∷ []
       → (needed : ℕ) × (most : ℕ) × AreNeeded (means.kind old) (means.size old) parents (rows_at (keys_of table level n) ps) needed most
-          × FillAnswer means parents (rows_at (keys_of table level n) ps) needed most ps places old new (Ok count)
+      × FillAnswer means parents (rows_at (keys_of table level n) ps) needed most ps places old new (Ok count)
       → ArePacked means (letters_of format) (in_level_order format ranges) table (level + 1) pushed places count
-          × (count ≤ greatest_position_count)
+      × (count ≤ greatest_position_count)
   fill_next places new count pushed are e =
       let a = e.3 in
       let few = a.0 in let same = a.1 in
       let packed = packed_next means laws (letters_of format) (in_level_order format ranges) (length format) table up level n levels ps
-          parents (slice_index ranges (get_or format level d).mode) old (drop (suc level) (letters_of format)) p left_here through_here
-          below_here
+      parents (slice_index ranges (get_or format level d).mode) old (drop (suc level) (letters_of format)) p left_here through_here
+      below_here
       e.1 e.0 is_new.size_is e.2 places new a.0 a.2 (coordinate_left format ranges level d within) refl in (
         subst (λ m. ArePacked means (letters_of format) (in_level_order format ranges) table m pushed places count) (sym (add-one level))
             (subst (λ ls. ArePacked means (letters_of format) (in_level_order format ranges) table (suc level) ls places count) (sym are)
             (subst (λ m. ArePacked means (letters_of format) (in_level_order format ranges) table (suc level) (levels ++ new ∷ []) places m)
-                (sym same) packed)),
+            (sym same) packed)),
         omega (arith, few, same),
       )
 
   -- the level is the first that would have more positions than may be
   pub refused_here : (places : List ℕ) (new : L) (count : ℕ)
       → (needed : ℕ) × (most : ℕ) × AreNeeded (means.kind old) (means.size old) parents (rows_at (keys_of table level n) ps) needed most
-          × FillAnswer means parents (rows_at (keys_of table level n) ps) needed most ps places old new (Err (TooMany count))
+      × FillAnswer means parents (rows_at (keys_of table level n) ps) needed most ps places old new (Err (TooMany count))
       → IsFirstAbove (positions_of format ranges table) (level + 1) count
   refused_here places new count e =
       let passes = e.3.0 in let told = e.3.1 in
       let depth = p.growing.depth in
       let long = counts_long in
       let here = left_from means laws (letters_of format) (in_level_order format ranges) (length format) table up level n levels ps parents
-          (slice_index ranges (get_or format level d).mode) old (drop (suc level) (letters_of format)) p left_here through_here below_here
+      (slice_index ranges (get_or format level d).mode) old (drop (suc level) (letters_of format)) p left_here through_here below_here
       e.1 e.0 is_new.size_is e.2 (coordinate_left format ranges level d within) refl in
       record {
         above = counts_of p.columns;

@@ -36,13 +36,13 @@ drop_map f (x ∷ xs) (suc i) d h = drop_map f xs i d (omega (arith, h))
 -- the coordinate at a level
 pub coordinate_left : (format : List FormatLevel) (coords : List ℕ) (depth : ℕ) (d : FormatLevel) → depth < length format
     → drop depth (in_level_order format coords) ≡ slice_index coords (get_or format depth d).mode
-        ∷ drop (suc depth) (in_level_order format coords)
+    ∷ drop (suc depth) (in_level_order format coords)
 coordinate_left format coords depth d h = drop_map (λ level. slice_index coords level.mode) format depth d h
 
 module _ {L : Type 0} (means : Meaning L) (laws : Laws means) (levels : List L) (xs : List ℕ) (positions depth : ℕ) (span : Span)
     (l : L) (x : ℕ)
     (within : depth < length levels) (is : l ≡ get_or levels depth l) (next : drop depth xs ≡ x ∷ drop (suc depth) xs)
-        (r : Reached means levels xs positions depth span) where
+    (r : Reached means levels xs positions depth span) where
   level_left : drop depth levels ≡ l ∷ drop (suc depth) levels
   level_left = drop-cons levels depth l within ∙ ap (λ m. m ∷ drop (suc depth) levels) (sym is)
 
@@ -71,15 +71,19 @@ module _ {L : Type 0} (means : Meaning L) (laws : Laws means) (levels : List L) 
       same : (e : Entry) → StandsAt e.child.lo e (means.entries l span) → e.coord ≡ x → e.child ≡ child
       same e stands coord =
           ap (λ f. f.child) (one_entry e.child.lo k.entry.child.lo e k.entry (means.entries l span)
-              (laws.entries l span allowed_here).distinct stands k.stands (coord ∙ sym k.coord)) ∙ k.is
+          (laws.entries l span allowed_here).distinct stands k.stands (coord ∙ sym k.coord)) ∙ k.is
 
       reached : Reached means levels xs positions (suc depth) child
       reached = record {
         opened = subst (λ c. IsOpen means (drop (suc depth) levels) positions c) k.is (opened_here.1 k.entry k.stands);
         into = λ pos p. let q = into_here pos p in subst (λ c. Path means (drop (suc depth) levels) c (drop (suc depth) xs) pos)
             (same q.0 q.1 q.2) q.3;
-        back = λ pos p. back_here pos (k.entry, k.stands, k.coord,
-            subst (λ c. Path means (drop (suc depth) levels) c (drop (suc depth) xs) pos) (sym k.is) p);
+        back = λ pos p. back_here pos (
+          k.entry,
+          k.stands,
+          k.coord,
+          subst (λ c. Path means (drop (suc depth) levels) c (drop (suc depth) xs) pos) (sym k.is) p,
+        );
       }
 
   -- the next coordinate isn't there
@@ -95,7 +99,7 @@ path_ends means levels xs positions span long r =
     let o = subst (λ ls. IsOpen means ls positions span) last r.opened in
     let is : span ≡ one span.lo = ap (λ hi. the_span span.lo hi) o.0 in
     r.back span.lo (subst (λ ls. Path means ls span (drop (length levels) xs) span.lo) (sym last)
-        (subst (λ ys. Path means [] span ys span.lo) (sym none) is))
+    (subst (λ ys. Path means [] span ys span.lo) (sym none) is))
 
 -- a format's modes are those of the tensor
 pub mode_below : (format : List FormatLevel) → IsFormat format → (k : ℕ) (d : FormatLevel) → k < length format

@@ -71,9 +71,10 @@ has_none xs (r ∷ rs) none s (inr more) = has_none xs rs none.1 s more
 apart_append : (rs ss : List Route) → AreApart rs → AreApart ss → ((r s : Route) → Among r rs → Among s ss → s.coords ≢ r.coords)
     → AreApart (rs ++ ss)
 apart_append [] ss a b between = b
-apart_append (r ∷ rs) ss a b between =
-    (none_has r.coords (rs ++ ss) (λ s among. by_part s (among_either s rs ss among)),
-    apart_append rs ss a.1 b (λ q s i j. between q s (inr i) j))
+apart_append (r ∷ rs) ss a b between = (
+  none_has r.coords (rs ++ ss) (λ s among. by_part s (among_either s rs ss among)),
+  apart_append rs ss a.1 b (λ q s i j. between q s (inr i) j),
+)
   where
     by_part : (s : Route) → Among s rs ⊎ Among s ss → s.coords ≢ r.coords
     by_part s (inl among) = has_none r.coords rs a.0 s among
@@ -113,7 +114,7 @@ through_apart below [] d each = tt
 through_apart below (e ∷ es) d each = apart_append (map (longer e.coord) (below e.child)) (routes_through below es)
     (apart_longer e.coord (below e.child) (each e (inl (refl, refl)))) (through_apart below es d.1 (λ f s. each f (inr s)))
     (λ r s a b same. let k = among_behind e.coord r (below e.child) a in
-        head_is_other below e.coord es s k.rest.coords d.0 b (same ∙ sym (ap (λ t. t.coords) k.is)))
+    head_is_other below e.coord es s k.rest.coords d.0 b (same ∙ sym (ap (λ t. t.coords) k.is)))
 
 -- a path through an entry is one of those
 pub through_among : (below : Span → List Route) (e : Entry) (r : Route) (es : List Entry) (q : ℕ) → StandsAt q e es
@@ -122,7 +123,7 @@ through_among below e r [] q s a = absurd s
 through_among below e r (f ∷ es) q (inl (at, same)) a =
     let P : Entry → Type 0 = λ g. Among (longer e.coord r) (map (longer g.coord) (below g.child) ++ routes_through below es) in
     subst P (sym same) (among_front (longer e.coord r) (map (longer e.coord) (below e.child)) (routes_through below es)
-        (among_longer e.coord r (below e.child) a))
+    (among_longer e.coord r (below e.child) a))
 through_among below e r (f ∷ es) q (inr s) a = among_back (longer e.coord r) (map (longer f.coord) (below f.child))
     (routes_through below es) (through_among below e r es q s a)
 

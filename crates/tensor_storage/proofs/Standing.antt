@@ -66,7 +66,7 @@ module _ {L : Type 0} (means : Meaning L) (table : Table) where
   rows_same (l ∷ ls) [] d parent parents st are i h = absurd st
   rows_same (l ∷ ls) (column ∷ columns) d parent parents st are i h =
       ap (λ x. x ∷ coords_of columns i) (are.0.coord i h)
-          ∙ ap (λ xs. table.coords d i ∷ xs) (rows_same ls columns (suc d) column.place column.positions st.1 are.1 i h)
+      ∙ ap (λ xs. table.coords d i ∷ xs) (rows_same ls columns (suc d) column.place column.positions st.1 are.1 i h)
 
   open_from : (ls : List L) (columns : List Column) (parents : ℕ) (span : Span) → AreNested means ls columns parents span
       → IsOpen means ls (last_positions columns parents) span
@@ -132,7 +132,7 @@ all_there xs ys zs n h long = sym (append-nil xs) ∙ ap (λ rest. xs ++ rest) (
 module _ {L : Type 0} (means : Meaning L) (laws : Laws means) (format : List FormatLevel) (sizes : List ℕ) (table : Table)
     (up : Increase table.coords (length format) table.count) (long : length sizes ≡ length format)
     (levels : List L) (ps : List ℕ) (positions : ℕ)
-        (p : ArePacked means (letters_of format) sizes table (length format) levels ps positions) where
+    (p : ArePacked means (letters_of format) sizes table (length format) levels ps positions) where
   as_many : length (letters_of format) ≡ length format
   as_many = length-map format (λ level. level.letter)
 
@@ -176,7 +176,7 @@ module _ {L : Type 0} (means : Meaning L) (laws : Laws means) (format : List For
   counts_are : counts_of p.columns ≡ positions_from table 0 1 (letters_of format) sizes
   counts_are = sym (append-nil (counts_of p.columns))
       ∙ ap (λ ls. counts_of p.columns ++ positions_from table (length format) positions ls (drop (length format) sizes))
-          (sym (drop_of_length-le (letters_of format) {i = length format} (omega (arith, as_many))))
+      (sym (drop_of_length-le (letters_of format) {i = length format} (omega (arith, as_many))))
       ∙ p.counts
 
   pub few_are : AreFew (positions_from table 0 1 (letters_of format) sizes)
@@ -194,9 +194,9 @@ module _ {L : Type 0} (means : Meaning L) (laws : Laws means) (format : List For
       → (xs : List ℕ) × ((end : ℕ) × Path means levels (one 0) xs end) × GoesOver means levels (one 0) xs k pos
   on_path k pos at =
       let r = stored_row means laws table.count levels p.columns (λ i. 0) 1 p.growing.stacked k pos
-          (subst (λ ns. IsStoredAt means 1 levels ns k pos) (sym counts_are) at) in
+      (subst (λ ns. IsStoredAt means 1 levels ns k pos) (sym counts_are) at) in
       let over = goes_over means laws table.count levels p.columns (λ i. 0) 1 (one 0) p.growing.stacked tells.nested r.row r.within
-          (omega arith, omega arith) k r.deep in (
+      (omega arith, omega arith) k r.deep in (
         row_from table.coords r.row 0 (letters_of format),
         (last_place p.columns (λ i. 0) r.row, own_path r.row r.within),
         subst (λ q. GoesOver means levels (one 0) (row_from table.coords r.row 0 (letters_of format)) k q) r.at
@@ -218,8 +218,8 @@ module _ {L : Type 0} (means : Meaning L) (laws : Laws means) (format : List For
       → slice_index values pos ≡ zero_is
   zero_there zero_is before values none s pos h none_ends =
       s.others pos
-          (λ i less at. none_ends i less
-          (subst (λ q. Path means levels (one 0) (row_from table.coords i 0 (letters_of format)) q) (place_of i ∙ at) (own_path i less)))
+      (λ i less at. none_ends i less
+      (subst (λ q. Path means levels (one 0) (row_from table.coords i 0 (letters_of format)) q) (place_of i ∙ at) (own_path i less)))
       ∙ ap (λ vs. slice_index vs pos) none ∙ all_same positions pos zero_is h
 
   pub stands : (zero_is : ℕ) (before values : List ℕ) → before ≡ replicate positions zero_is
@@ -235,12 +235,12 @@ module _ {L : Type 0} (means : Meaning L) (laws : Laws means) (format : List For
     made = λ xs pos path. subst (λ ls. MakesPath table 0 ls sizes (λ i. i < table.count) xs) kinds_are
         (subst (λ ns. MakesPath table 0 (map means.kind levels) ns (λ i. i < table.count) xs) sizes_are
         (path_made means table levels p.columns 0 (λ i. 0) 1 p.growing.stacked p.growing.columns_are (λ i. i < table.count)
-            (λ i. i < table.count) (λ i h k. k) xs (tells.made xs pos path)));
+        (λ i. i < table.count) (λ i h k. k) xs (tells.made xs pos path)));
     there =
         λ xs m. tells.there xs (path_there means table levels p.columns 0 (λ i. 0) 1 p.growing.stacked p.growing.columns_are
         (λ i. i < table.count) (λ i. i < table.count) (λ i h k. k) xs
         (subst (λ ls. MakesPath table 0 ls (map means.size levels) (λ i. i < table.count) xs) (sym kinds_are)
-            (subst (λ ns. MakesPath table 0 (letters_of format) ns (λ i. i < table.count) xs) (sym sizes_are) m)));
+        (subst (λ ns. MakesPath table 0 (letters_of format) ns (λ i. i < table.count) xs) (sym sizes_are) m)));
     once = tells.once;
     stored = λ i pos h path.
         let at = sym (place_of i) ∙ tells.placed (row_from table.coords i 0 (letters_of format)) pos i path h (row_is i h) in
@@ -259,7 +259,7 @@ pub pack_done : (zero_is : ℕ) (format : List FormatLevel) (ranges : List ℕ) 
     → IsPacked zero_is format ranges table (storage_of format levels kept) × IsStorage (storage_of format levels kept)
 pack_done zero_is format ranges table levels ps qs positions before values kept is up p at none s same =
     subst (λ vs. IsPacked zero_is format ranges table (storage_of format levels vs) × IsStorage (storage_of format levels vs)) (sym same)
-        (packed_is, storage_is)
+    (packed_is, storage_is)
   where
     packed : ArePacked meaning (letters_of format) (in_level_order format ranges) table (length format) levels qs positions
     packed =
@@ -282,8 +282,12 @@ pack_done zero_is format ranges table levels ps qs positions before values kept 
 
     storage_is : IsStorage (storage_of format levels values)
     storage_is =
-        record { format = is; letters = kinds_are meaning laws format (in_level_order format ranges) table up long levels qs positions
-        packed; opened = stand.opened }
+        record {
+          format = is;
+          letters = kinds_are meaning laws format (in_level_order format ranges) table up long levels qs positions
+              packed;
+          opened = stand.opened;
+        }
 
 pub distinct_places : (format : List FormatLevel) (ranges : List ℕ) (table : Table) (levels : List StorageLevel) (ps qs : List ℕ)
     (positions : ℕ) → Increase table.coords (length format) table.count
@@ -291,12 +295,12 @@ pub distinct_places : (format : List FormatLevel) (ranges : List ℕ) (table : T
     → i < j → j < table.count → slice_index qs i ≢ slice_index qs j
 distinct_places format ranges table levels ps qs positions up p at =
     places_apart meaning laws format (in_level_order format ranges) table up (length-map format (λ level. slice_index ranges level.mode))
-        levels qs positions
+    levels qs positions
     (subst (λ places. ArePacked meaning (letters_of format) (in_level_order format ranges) table (length format) levels places positions)
-        (sym at) p)
+    (sym at) p)
 
 -- a vector that was written through a slice
 pub written : (n : ℕ) (xs ys : List ℕ) → length xs ≡ length ys → n ≡ length ys → take n (xs ++ drop (length xs) ys) ≡ xs
 written n xs ys same all =
     ap (λ rest. take n (xs ++ rest)) (drop_of_length-le ys {i = length xs} (omega (arith, same))) ∙ ap (take n) (append-nil xs)
-        ∙ take_all n xs (omega (arith, same, all))
+    ∙ take_all n xs (omega (arith, same, all))

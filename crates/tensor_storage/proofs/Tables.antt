@@ -41,7 +41,7 @@ agree_from coords zero i j a = refl
 agree_from coords (suc n) i j a =
     let last = a n (omega arith) in
     joined (agree coords n i j) (coords n i == coords n j) (agree_from coords n i j (λ d less. a d (omega (arith, less))))
-        (grind (arith, nat_tests, last))
+    (grind (arith, nat_tests, last))
 
 pub begins : (coords : ℕ → ℕ → ℕ) (n count : ℕ) → Begins coords n count (begins_at coords n)
 begins coords n count = record {

@@ -72,16 +72,18 @@ module _ {L : Type 0} (means : Meaning L) (laws : Laws means)
       let n = d + chain_length (letter ∷ letters) in
       let agree = levels_agree means laws plain table d n parents lp mp c e l m a.0 b.0 lw mw same kind_is size_is in
       let rest = all_alike letters ls ms cs ds (suc d) c.place e.place c.positions a.1
-          (subst (λ q. AreBuilt means table (suc d) e.place q letters ms ds) (sym count_is) b.1)
+      (subst (λ q. AreBuilt means table (suc d) e.place q letters ms ds) (sym count_is) b.1)
       (tails (means.kind l) (means.kind m) (map means.kind ls) (map means.kind ms) kinds) (tails (means.size l) (means.size m)
-          (map means.size ls) (map means.size ms) sizes) (tails c.positions e.positions (counts_of cs) (counts_of ds) counts)
+      (map means.size ls) (map means.size ms) sizes) (tails c.positions e.positions (counts_of cs) (counts_of ds) counts)
       (place_within means laws table.count l c lp parents a.0.stores lw)
       (λ i h. subst (λ q. e.place i < q) (sym count_is) (place_within means laws table.count m e mp parents b.0.stores mw i h))
       (places_same means laws plain table d n parents lp mp c e l m a.0 b.0 lw mw same kind_is size_is) in
       record {
-        held =
-            ((λ tensor level arrays holds. laws.same_arrays l m parents tensor level arrays a.0.stores.has_parents b.0.stores.has_parents
-            agree holds), rest.held);
+        held = (
+          (λ tensor level arrays holds. laws.same_arrays l m parents tensor level arrays a.0.stores.has_parents b.0.stores.has_parents
+              agree holds),
+          rest.held,
+        );
         places = rest.places;
       }
 
@@ -121,10 +123,11 @@ module _ {L : Type 0} (means : Meaning L) (laws : Laws means)
   chained_of groups (letter ∷ letters) [] kinds c = nothing_is letter letters kinds
   chained_of groups [] (l ∷ ls) kinds c = nothing_is (means.kind l) (map means.kind ls) (sym kinds)
   chained_of groups (letter ∷ letters) (l ∷ ls) kinds c =
-      let here = sym (heads (means.kind l) letter (map means.kind ls) letters kinds) in
-      (subst (λ k. (properties k).branchless ≡ groups) here c.0,
-          chained_of (not (properties (means.kind l)).unique) letters ls (tails (means.kind l) letter (map means.kind ls) letters kinds)
-          (subst (λ k. Chained (not (properties k).unique) letters) here c.1))
+      let here = sym (heads (means.kind l) letter (map means.kind ls) letters kinds) in (
+        subst (λ k. (properties k).branchless ≡ groups) here c.0,
+        chained_of (not (properties (means.kind l)).unique) letters ls (tails (means.kind l) letter (map means.kind ls) letters kinds)
+            (subst (λ k. Chained (not (properties k).unique) letters) here c.1),
+      )
 
 width_none : (l : StorageLevel) → (properties (meaning.kind l)).ordered ≡ true → meaning.width l ≡ None
 width_none (OfDense n) h = refl
@@ -171,15 +174,15 @@ module _ (zero_is : ℕ) (format : List FormatLevel) (ranges : List ℕ) (table 
   tells : TellsPaths meaning table.count s.levels p.stands.columns
   tells = stacks_tell_paths meaning level_laws table.count s.levels p.stands.columns stacked
       (chained_of meaning level_laws width_none table false (letters_of format) s.levels kinds_are
-          (subst (λ f. Chained false (letters_of f)) p.format_is is.format.chained))
+      (subst (λ f. Chained false (letters_of f)) p.format_is is.format.chained))
       (columns_sorted meaning table.coords (length format) table.count s.levels p.stands.columns 0 (λ i. i < table.count) up columns_are
-          (λ i h k d l. absurd (omega (arith, l))))
+      (λ i h k d l. absurd (omega (arith, l))))
 
   own : (i : ℕ) → i < table.count → Path meaning s.levels (one 0) (row_from table.coords i 0 (letters_of format))
       (last_place p.stands.columns (λ i. 0) i)
   own i h = subst (λ xs. Path meaning s.levels (one 0) xs (last_place p.stands.columns (λ i. 0) i))
       (rows_same meaning table s.levels p.stands.columns 0 (λ i. 0) 1 stacked columns_are i h
-          ∙ ap (row_from table.coords i 0) kinds_are) (tells.own i h)
+      ∙ ap (row_from table.coords i 0) kinds_are) (tells.own i h)
 
   pub value_row : (i pos : ℕ) → i < table.count → last_place p.stands.columns (λ i. 0) i ≡ pos → slice_index s.values pos ≡ table.values i
   value_row i pos h at =
@@ -193,14 +196,17 @@ module _ (zero_is : ℕ) (format : List FormatLevel) (ranges : List ℕ) (table 
 
 pub one_stands : OneStands
 one_stands zero_is format ranges table s t up s_is t_is p q =
-    record { levels = alike.held; values = same_number_lists s.values t.values long
-    (λ pos h. value pos h (placed_or_not table.count (last_place p.stands.columns (λ i. 0)) pos)) }
+    record {
+      levels = alike.held;
+      values = same_number_lists s.values t.values long
+          (λ pos h. value pos h (placed_or_not table.count (last_place p.stands.columns (λ i. 0)) pos));
+    }
   where
     alike : Alike meaning table.count s.levels t.levels p.stands.columns q.stands.columns (λ i. 0) (λ i. 0)
     alike = all_alike meaning level_laws width_none table (letters_of format) s.levels t.levels p.stands.columns q.stands.columns 0 (λ i. 0)
         (λ i. 0) 1 p.stands.built q.stands.built
         (kinds_are zero_is format ranges table s up s_is p ∙ sym (kinds_are zero_is format ranges table t up t_is q)) (p.sizes
-            ∙ sym q.sizes) (p.stands.counted ∙ sym q.stands.counted) (λ i h. omega arith) (λ i h. omega arith) (λ i h. refl)
+        ∙ sym q.sizes) (p.stands.counted ∙ sym q.stands.counted) (λ i h. omega arith) (λ i h. omega arith) (λ i h. refl)
 
     long : length s.values ≡ length t.values
     long = p.stands.many ∙ sym q.stands.many

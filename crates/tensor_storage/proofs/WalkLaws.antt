@@ -42,7 +42,7 @@ walk_meets segment pos x done all w h =
     let ahead : Placed pos segment.hi (b.entry ∷ b.others) = subst (Placed pos segment.hi) b.is w.ahead in
     let all_is : all ≡ done ++ b.entry ∷ b.others = w.parts ∙ ap (λ es. done ++ es) b.is in
     let stands : StandsAt b.entry.child.lo b.entry all =
-        subst (λ es. StandsAt b.entry.child.lo b.entry es) (sym all_is) (stands_after done b.entry b.others) in
+    subst (λ es. StandsAt b.entry.child.lo b.entry es) (sym all_is) (stands_after done b.entry b.others) in
     record {
       entry = b.entry;
       stands = subst (λ n. StandsAt n b.entry all) b.at stands;

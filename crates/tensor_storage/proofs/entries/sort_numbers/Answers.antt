@@ -16,10 +16,10 @@ loop-level-preserved c =
     let within : level < length format = let most = c.loop-level.auto.level-counter in let some = c.loop-level-test.true in omega (arith, most, some) in
     let moved = c.sort_by_cached_key.ensures.permutation in
     let sorted : IsSortedByKey (key_at format entries level) nat_cmp c.sort_by_cached_key.new.self.items =
-        c.in_ok-sort_by_cached_key.ensures.sorted (key_at format entries level)
-            (always_returns_same _ _ _ (λ a r f' k. search rules)) in
+    c.in_ok-sort_by_cached_key.ensures.sorted (key_at format entries level)
+    (always_returns_same _ _ _ (λ a r f' k. search rules)) in
     let stable : IsStableByKey (key_at format entries level) nat_cmp c.loop-level.numbers.items c.sort_by_cached_key.new.self.items =
-        c.sort_by_cached_key.ensures.stable (key_at format entries level) (always_returns_same _ _ _ (λ a r f' k. search rules)) in (
+    c.sort_by_cached_key.ensures.stable (key_at format entries level) (always_returns_same _ _ _ (λ a r f' k. search rules)) in (
       IsPermutation-trans c.args.numbers.now.items c.loop-level.numbers.items c.sort_by_cached_key.new.self.items
           c.loop-level.invariant.0 moved,
       sorted_from format entries level within c.loop-level.numbers.items c.sort_by_cached_key.new.self.items

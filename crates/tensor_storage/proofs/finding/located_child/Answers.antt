@@ -6,7 +6,7 @@ use Rattle.tensor_storage.proofs.finding.located_child.Goals as goal
 pub overflow_add-result : goal.overflow_add-result
 overflow_add-result g c =
     let k : c.in-Some.position < 2 ^ 62 = located_within g.L.LevelKind.meaning g.met.L.LevelKind.laws c.args.level.now c.args.parent
-        c.requires.allowed c.requires.locates c.args.x c.in-Some.position
+    c.requires.allowed c.requires.locates c.args.x c.in-Some.position
     (sym c.in-Some.is ∙ c.locate.ensures c.requires.locates) in
     omega (arith, k)
 

@@ -41,9 +41,9 @@ pub returns-then-coord-x : goal.returns-then-coord-x
 returns-then-coord-x g c =
     let i = subst (IsIn c.loop-position.position) c.segment-segment.ensures (c.loop-position.invariant.0, c.loop-position-test.true) in
     seek_found c.args.x c.in-Some.coord c.loop-position.position c.segment-segment.result.hi
-        (g.L.LevelKind.meaning.entries c.args.level.now c.args.parent) c.child-child.result c.loop-position.invariant.1
+    (g.L.LevelKind.meaning.entries c.args.level.now c.args.parent) c.child-child.result c.loop-position.invariant.1
     (sym (c.coord.ensures c.args.parent c.requires i) ∙ c.in-Some.is) c.if-coord-x.true
-        (λ e stands. c.child-child.ensures c.args.parent e c.requires (sym c.segment-segment.ensures) stands)
+    (λ e stands. c.child-child.ensures c.args.parent e c.requires (sym c.segment-segment.ensures) stands)
 
 passed : (g : given.Over) (c : goal.Else-coord-x g)
     → Passed c.args.x c.loop-position.position c.segment-segment.result.hi c.child-child.result
@@ -51,9 +51,9 @@ passed : (g : given.Over) (c : goal.Else-coord-x g)
 passed g c =
     let i = subst (IsIn c.loop-position.position) c.segment-segment.ensures (c.loop-position.invariant.0, c.loop-position-test.true) in
     seek_passes c.args.x c.in-Some.coord c.loop-position.position c.segment-segment.result.hi
-        (g.L.LevelKind.meaning.entries c.args.level.now c.args.parent) c.child-child.result c.loop-position.invariant.1
+    (g.L.LevelKind.meaning.entries c.args.level.now c.args.parent) c.child-child.result c.loop-position.invariant.1
     (sym (c.coord.ensures c.args.parent c.requires i) ∙ c.in-Some.is) c.if-coord-x.false
-        (λ e stands. c.child-child.ensures c.args.parent e c.requires (sym c.segment-segment.ensures) stands)
+    (λ e stands. c.child-child.ensures c.args.parent e c.requires (sym c.segment-segment.ensures) stands)
 
 pub loop-position-smaller : goal.loop-position-smaller
 loop-position-smaller g c = let p = passed g c in let more = p.more in let within = p.within in omega (arith, more, within)

@@ -24,10 +24,10 @@ loop-next-preserved c = λ k d less. by_order k d less (before_next c) (cases_lt
         let next : c.loop-next.next ≡ suc k = omega (arith, less, from) in
         let last : c.loop-next.next - 1 ≡ k = omega (arith, next) in
         let P : ℕ → ℕ → Type 0 = λ m n. IsBefore (slice_index_or c.args.entries.now.list m d).coords
-            (slice_index_or c.args.entries.now.list n d).coords in
+        (slice_index_or c.args.entries.now.list n d).coords in
         subst (λ m. P m (suc k)) last (subst (P (c.loop-next.next - 1)) next
         (subst (λ ys. IsBefore (slice_index_or c.args.entries.now.list (c.loop-next.next - 1) d).coords ys)
-            (c.coords-in-loop-next.ensures.value d)
+        (c.coords-in-loop-next.ensures.value d)
         (subst (λ xs. IsBefore xs c.coords-in-loop-next.result.now) (c.coords.ensures.value d) here)))
 
 pub returns-clause-increasing : goal.returns-clause-increasing

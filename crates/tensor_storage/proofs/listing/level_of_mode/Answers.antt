@@ -28,5 +28,5 @@ loop-level-preserved c = λ k less is. by_order k less is (cases_lt k c.loop-lev
     by_order k less is (inr from) =
         let same : k ≡ c.loop-level.level = omega (arith, less, from) in
         c.if-format-level.false (sym (get_or-map (λ level. level.mode) c.args.format.now c.loop-level.level
-            (record { letter = Dense; mode = 0 }) 0 c.loop-level-test.true)
-            ∙ subst (λ n. slice_index (modes_of c.args.format.now) n ≡ c.args.mode) same is)
+        (record { letter = Dense; mode = 0 }) 0 c.loop-level-test.true)
+        ∙ subst (λ n. slice_index (modes_of c.args.format.now) n ≡ c.args.mode) same is)

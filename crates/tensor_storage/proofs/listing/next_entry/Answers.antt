@@ -10,7 +10,7 @@ is_in : (g : given.Over) (c : goal.In-loop-position g)
     → IsIn c.loop-position.position (g.L.LevelKind.meaning.segment_of c.args.level.now c.args.parent)
 is_in g c =
     let lo = walk_from c.args.segment c.args.from c.requires.walking.0 (g.L.LevelKind.meaning.entries c.args.level.now c.args.parent)
-        c.requires.walking.1 in
+    c.requires.walking.1 in
     let from = c.loop-position.invariant.0 in
     subst (IsIn c.loop-position.position) c.requires.segment (omega (arith, lo, from), c.loop-position-test.true)
 
@@ -20,7 +20,7 @@ coord-requires g c = let i = is_in g c in (c.args.parent, c.requires.allowed, (i
 pub loop-position-preserved : goal.loop-position-preserved
 loop-position-preserved g c =
     let lo = walk_from c.args.segment c.args.from c.requires.walking.0 (g.L.LevelKind.meaning.entries c.args.level.now c.args.parent)
-        c.requires.walking.1 in
+    c.requires.walking.1 in
     let from = c.loop-position.invariant.0 in
     let i = subst (IsIn c.loop-position.position) c.requires.segment (omega (arith, lo, from), c.loop-position-test.true) in (
       omega (arith, from),
@@ -33,7 +33,7 @@ here : (g : given.Over) (c : goal.In-Some g) → coord_at (g.L.LevelKind.meaning
     c.loop-position.position ≡ Some c.in-Some.coord
 here g c =
     let lo = walk_from c.args.segment c.args.from c.requires.walking.0 (g.L.LevelKind.meaning.entries c.args.level.now c.args.parent)
-        c.requires.walking.1 in
+    c.requires.walking.1 in
     let from = c.loop-position.invariant.0 in
     let i = subst (IsIn c.loop-position.position) c.requires.segment (omega (arith, lo, from), c.loop-position-test.true) in
     sym (c.coord.ensures c.args.parent c.requires.allowed i) ∙ c.in-Some.is
@@ -41,20 +41,20 @@ here g c =
 pub child-requires : goal.child-requires
 child-requires g c =
     let m = walk_meets c.args.segment c.loop-position.position c.in-Some.coord c.requires.walking.0
-        (g.L.LevelKind.meaning.entries c.args.level.now c.args.parent) (c.loop-position.invariant.1 c.requires.walking.0
-        c.requires.walking.1) (here g c) in
+    (g.L.LevelKind.meaning.entries c.args.level.now c.args.parent) (c.loop-position.invariant.1 c.requires.walking.0
+    c.requires.walking.1) (here g c) in
     (c.args.parent, m.entry, c.requires.allowed, sym c.requires.segment, m.stands)
 
 pub returns-in-Some : goal.returns-in-Some
 returns-in-Some g c = λ done w.
     let lo = walk_from c.args.segment c.args.from c.requires.walking.0 (g.L.LevelKind.meaning.entries c.args.level.now c.args.parent)
-        c.requires.walking.1 in
+    c.requires.walking.1 in
     let from = c.loop-position.invariant.0 in
     let i = subst (IsIn c.loop-position.position) c.requires.segment (omega (arith, lo, from), c.loop-position-test.true) in
     let n = walk_tells c.args.segment c.loop-position.position c.in-Some.coord done
-        (g.L.LevelKind.meaning.entries c.args.level.now c.args.parent) c.child.result (c.loop-position.invariant.1 done w)
+    (g.L.LevelKind.meaning.entries c.args.level.now c.args.parent) c.child.result (c.loop-position.invariant.1 done w)
     (sym (c.coord.ensures c.args.parent c.requires.allowed i)
-        ∙ c.in-Some.is) (λ e stands. c.child.ensures c.args.parent e c.requires.allowed (sym c.requires.segment) stands) in
+    ∙ c.in-Some.is) (λ e stands. c.child.ensures c.args.parent e c.requires.allowed (sym c.requires.segment) stands) in
     let further = n.further in
     record { stands = n.stands; further = omega (arith, further, from); within = n.within; walks = n.walks }
 
