@@ -149,25 +149,26 @@ module _ (layout : Layout) (stored : Stored) (ranges : ℕ → ℕ) where
         then 1 + merge_turns_in layout stored ranges body (moved layout stored v seeks e x) else 0))
         (λ e. length_at layout stored ranges v seeks body e
         + count_below (ranges v) (λ x. cost_in layout stored ranges body (moved layout stored v seeks e x)))
-        (λ e. entered e)
+        (λ e. entered e (λ x. turns_within_in body (moved layout stored v seeks e x)))
       where
         by_test : (b : Bool) (t u : ℕ) → t ≤ u → (if b then 1 + t else 0) ≤ one_if b + u
         by_test true t u l = omega (arith, l)
         by_test false t u l = omega arith
 
         entered : (e : Env)
+            → ((x : ℕ) → merge_turns_in layout stored ranges body (moved layout stored v seeks e x)
+            ≤ cost_in layout stored ranges body (moved layout stored v seeks e x))
             → count_below (ranges v) (λ x. if turns_at layout stored ranges seeks body e x
             then 1 + merge_turns_in layout stored ranges body (moved layout stored v seeks e x) else 0)
             ≤ length_at layout stored ranges v seeks body e
             + count_below (ranges v) (λ x. cost_in layout stored ranges body (moved layout stored v seeks e x))
-        entered e =
+        entered e more =
             let inner : ℕ → ℕ = λ x. cost_in layout stored ranges body (moved layout stored v seeks e x) in
             let turns : ℕ → ℕ = λ x. merge_turns_in layout stored ranges body (moved layout stored v seeks e x) in
             let entry = entry_turns (ranges v) (is_full_at layout stored ranges seeks body e) e seeks in
             let all = count_most (ranges v) (λ x. if turns_at layout stored ranges seeks body e x then 1 + turns x else 0)
             (λ x. one_if (turns_at layout stored ranges seeks body e x) + inner x)
-            (λ x. by_test (turns_at layout stored ranges seeks body e x) (turns x) (inner x)
-            (turns_within_in body (moved layout stored v seeks e x))) in
+            (λ x. by_test (turns_at layout stored ranges seeks body e x) (turns x) (inner x) (more x)) in
             let sum = count_plus (ranges v) (λ x. one_if (turns_at layout stored ranges seeks body e x)) inner in
             omega (arith, entry, all, sum)
     turns_within (Both' p f q g) env = let a = turns_within_in f env in let b = turns_within_in g env in omega (arith, a, b)
@@ -185,18 +186,20 @@ module _ (layout : Layout) (stored : Stored) (ranges : ℕ → ℕ) where
         then repeated_at layout stored e seeks x + skip_turns_in layout stored ranges body (moved layout stored v seeks e x) else 0))
         (λ e. repeated layout stored e seeks
         + count_below (ranges v) (λ x. dups_in layout stored ranges body (moved layout stored v seeks e x)))
-        (λ e. entered e)
+        (λ e. entered e (λ x. skips_within_in body (moved layout stored v seeks e x)))
       where
         by_test : (b : Bool) (r t u : ℕ) → t ≤ u → (if b then r + t else 0) ≤ r + u
         by_test true r t u l = omega (arith, l)
         by_test false r t u l = omega arith
 
         entered : (e : Env)
+            → ((x : ℕ) → skip_turns_in layout stored ranges body (moved layout stored v seeks e x)
+            ≤ dups_in layout stored ranges body (moved layout stored v seeks e x))
             → count_below (ranges v) (λ x. if turns_at layout stored ranges seeks body e x
             then repeated_at layout stored e seeks x + skip_turns_in layout stored ranges body (moved layout stored v seeks e x) else 0)
             ≤ repeated layout stored e seeks
             + count_below (ranges v) (λ x. dups_in layout stored ranges body (moved layout stored v seeks e x))
-        entered e =
+        entered e more =
             let inner : ℕ → ℕ = λ x. dups_in layout stored ranges body (moved layout stored v seeks e x) in
             let turns : ℕ → ℕ = λ x. skip_turns_in layout stored ranges body (moved layout stored v seeks e x) in
             let entry = count_repeated (ranges v) e seeks in
@@ -204,7 +207,7 @@ module _ (layout : Layout) (stored : Stored) (ranges : ℕ → ℕ) where
             (λ x. if turns_at layout stored ranges seeks body e x then repeated_at layout stored e seeks x + turns x else 0)
             (λ x. repeated_at layout stored e seeks x + inner x)
             (λ x. by_test (turns_at layout stored ranges seeks body e x) (repeated_at layout stored e seeks x) (turns x) (inner x)
-            (skips_within_in body (moved layout stored v seeks e x))) in
+            (more x)) in
             let sum = count_plus (ranges v) (λ x. repeated_at layout stored e seeks x) inner in
             omega (arith, entry, all, sum)
     skips_within (Both' p f q g) env = let a = skips_within_in f env in let b = skips_within_in g env in omega (arith, a, b)
