@@ -1,6 +1,7 @@
 -- Places apart from the variables of a sink, which are all below them.
 use Rattle.std.specs.Prelude.{◌≡◌, ℕ, ◌≤◌, Some, All, slice_get}
-use Rattle.term_code.specs.Places.{Places, AccessPlace}
+use Rattle.term_code.specs.declared.places.Places.{Places}
+use Rattle.term_code.specs.declared.places.AccessPlace.{AccessPlace}
 
 -- all places are from low on
 pub record AreFrom (low : ℕ) (places : Places) : Type 0 where
