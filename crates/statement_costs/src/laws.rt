@@ -1,19 +1,24 @@
 //! What follows from the definitions, as calls whose contract is the law. They do nothing.
 ghost use Rattle.std.specs.Prelude.{◌≡◌, ◌≤◌, ℕ, List, [], ◌∷◌};
 ghost use Rattle.concrete_notation.specs.declared.concrete.Concrete.{Concrete};
+ghost use Rattle.concrete_notation.specs.Contributions.{Inputs};
 ghost use Rattle.concrete_notation.specs.Nests.{SharesLoops};
 ghost use Rattle.format_spec.specs.declared.format.FormatLevel.{FormatLevel};
 ghost use Rattle.index_notation.specs.declared.syntax.Statement.{Statement};
 ghost use Rattle.level_core.specs.declared.letter.Letter.TheVariants.{Compressed, Dense};
+ghost use Rattle.lists.specs.Each.{Each};
 ghost use Rattle.loop_code.specs.declared.loops.LoopCode.{LoopCode};
 ghost use Rattle.loop_code.specs.Loops.{Stored, start};
 ghost use Rattle.loop_code.specs.Turns.{cost, dups};
 ghost use Rattle.lowering.specs.Layouts.{layout_of};
 ghost use Rattle.lowering.specs.Lowered.{IsInOrder, IsInPlace, concrete_of, plain};
 ghost use Rattle.lowering.specs.Shapes.{FindsBelow, FindsReached};
+ghost use Rattle.lowering.specs.Stored.{HasStorage, stored_of};
+ghost use Rattle.numbers.specs.Arithmetic.{Arithmetic};
 ghost use Rattle.statement_costs.specs.Costs.{HaveGroups, statement_cost, statement_repeats};
 ghost use Rattle.statement_costs.specs.Worked.{alike, list_formats, list_stored, product, rows_formats, rows_stored, sum, sum_formats};
 ghost use Rattle.statement_costs.specs.Worked.{sum_stored};
+ghost use Rattle.tensor_storage.specs.Storages.{Storage};
 
 /// The loops of a concrete statement that shares loops cost at most what the statement does, and have at most as many repeated
 /// coordinates, whatever is stored of its accesses.
@@ -26,6 +31,12 @@ pub fn loops_cost_no_more()
         → SharesLoops (plain c) → (loops : LoopCode) → concrete_of loops ≡ plain c → IsInPlace s formats loops
         → FindsReached s formats [] (λ k. 0) loops → FindsBelow loops → (stored : Stored) (ranges : ℕ → ℕ)
         → dups (layout_of s formats) stored ranges loops start ≤ statement_repeats s formats in_order.order stored ranges }
+{}
+
+/// In packed storages each coordinate of a level in groups has a position, wherever loops come to it.
+pub fn packed_tensors_have_groups()
+    ensures { (a : Arithmetic) (s : Statement) (formats : List (List FormatLevel)) (storages : ℕ → Storage) (inputs : Inputs)
+        → Each (HasStorage a formats storages inputs) s.accesses → HaveGroups s formats (stored_of s storages) }
 {}
 
 /// What the cost comes to where it was worked out by hand. A matrix compressed in two rows with one stored coordinate each, times a
