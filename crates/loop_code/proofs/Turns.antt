@@ -10,7 +10,7 @@ use Rattle.loop_code.specs.Loops.{Layout, Stored, Env, Seek, LoopCode, Add, Both
 use Rattle.loop_code.specs.Loops.{more_of-LoopCode, moved}
 use Rattle.loop_code.specs.Parts.{here, is_some, entries_at, remains_below_in, some_has}
 use Rattle.loop_code.specs.Turns.{count_below, weight_of, weight_at, repeats, lengths, repeated, repeated_at, is_full_at, turns_at}
-use Rattle.loop_code.specs.Turns.{if_remains, pruned_in, cost, cost_in, merge_turns, merge_turns_in, dups, dups_in, skip_turns}
+use Rattle.loop_code.specs.Turns.{if_remains, length_at, pruned_in, cost, cost_in, merge_turns, merge_turns_in, dups, dups_in, skip_turns}
 use Rattle.loop_code.specs.Turns.{skip_turns_in}
 
 pub count_plus : (n : ℕ) (f g : ℕ → ℕ) → count_below n (λ i. f i + g i) ≡ count_below n f + count_below n g
@@ -144,24 +144,33 @@ module _ (layout : Layout) (stored : Stored) (ranges : ℕ → ℕ) where
 
   mutual
     pub turns_within : (loops : LoopCode) (env : Env) → merge_turns layout stored ranges loops env ≤ cost layout stored ranges loops env
-    turns_within (Loop' v seeks p body) env =
-        let inner : ℕ → ℕ = λ x. if_remains layout stored ranges body (moved layout stored v seeks env x)
-        (cost_in layout stored ranges body) in
-        let turns : ℕ → ℕ = λ x. if_remains layout stored ranges body (moved layout stored v seeks env x)
-        (merge_turns_in layout stored ranges body) in
-        let entry = entry_turns (ranges v) (is_full_at layout stored ranges seeks body env) env seeks in
-        let all = count_most (ranges v) (λ x. if turns_at layout stored ranges seeks body env x then 1 + turns x else 0)
-        (λ x. one_if (turns_at layout stored ranges seeks body env x) + inner x)
-        (λ x. by_test (turns_at layout stored ranges seeks body env x) (turns x) (inner x)
-        (some_or_none body (moved layout stored v seeks env x) (merge_turns_in layout stored ranges body)
-        (cost_in layout stored ranges body)
-        (turns_within_in body))) in
-        let sum = count_plus (ranges v) (λ x. one_if (turns_at layout stored ranges seeks body env x)) inner in
-        omega (arith, entry, all, sum)
+    turns_within (Loop' v seeks p body) env = some_or_none body env
+        (λ e. count_below (ranges v) (λ x. if turns_at layout stored ranges seeks body e x
+        then 1 + merge_turns_in layout stored ranges body (moved layout stored v seeks e x) else 0))
+        (λ e. length_at layout stored ranges v seeks body e
+        + count_below (ranges v) (λ x. cost_in layout stored ranges body (moved layout stored v seeks e x)))
+        (λ e. entered e (λ x. turns_within_in body (moved layout stored v seeks e x)))
       where
         by_test : (b : Bool) (t u : ℕ) → t ≤ u → (if b then 1 + t else 0) ≤ one_if b + u
         by_test true t u l = omega (arith, l)
         by_test false t u l = omega arith
+
+        entered : (e : Env)
+            → ((x : ℕ) → merge_turns_in layout stored ranges body (moved layout stored v seeks e x)
+            ≤ cost_in layout stored ranges body (moved layout stored v seeks e x))
+            → count_below (ranges v) (λ x. if turns_at layout stored ranges seeks body e x
+            then 1 + merge_turns_in layout stored ranges body (moved layout stored v seeks e x) else 0)
+            ≤ length_at layout stored ranges v seeks body e
+            + count_below (ranges v) (λ x. cost_in layout stored ranges body (moved layout stored v seeks e x))
+        entered e more =
+            let inner : ℕ → ℕ = λ x. cost_in layout stored ranges body (moved layout stored v seeks e x) in
+            let turns : ℕ → ℕ = λ x. merge_turns_in layout stored ranges body (moved layout stored v seeks e x) in
+            let entry = entry_turns (ranges v) (is_full_at layout stored ranges seeks body e) e seeks in
+            let all = count_most (ranges v) (λ x. if turns_at layout stored ranges seeks body e x then 1 + turns x else 0)
+            (λ x. one_if (turns_at layout stored ranges seeks body e x) + inner x)
+            (λ x. by_test (turns_at layout stored ranges seeks body e x) (turns x) (inner x) (more x)) in
+            let sum = count_plus (ranges v) (λ x. one_if (turns_at layout stored ranges seeks body e x)) inner in
+            omega (arith, entry, all, sum)
     turns_within (Both' p f q g) env = let a = turns_within_in f env in let b = turns_within_in g env in omega (arith, a, b)
     turns_within (Add t) env = omega arith
 
@@ -172,24 +181,35 @@ module _ (layout : Layout) (stored : Stored) (ranges : ℕ → ℕ) where
 
   mutual
     pub skips_within : (loops : LoopCode) (env : Env) → skip_turns layout stored ranges loops env ≤ dups layout stored ranges loops env
-    skips_within (Loop' v seeks p body) env =
-        let inner : ℕ → ℕ = λ x. if_remains layout stored ranges body (moved layout stored v seeks env x)
-        (dups_in layout stored ranges body) in
-        let turns : ℕ → ℕ = λ x. if_remains layout stored ranges body (moved layout stored v seeks env x)
-        (skip_turns_in layout stored ranges body) in
-        let entry = count_repeated (ranges v) env seeks in
-        let all = count_most (ranges v)
-        (λ x. if turns_at layout stored ranges seeks body env x then repeated_at layout stored env seeks x + turns x else 0)
-        (λ x. repeated_at layout stored env seeks x + inner x)
-        (λ x. by_test (turns_at layout stored ranges seeks body env x) (repeated_at layout stored env seeks x) (turns x) (inner x)
-        (some_or_none body (moved layout stored v seeks env x) (skip_turns_in layout stored ranges body) (dups_in layout stored ranges body)
-        (skips_within_in body))) in
-        let sum = count_plus (ranges v) (λ x. repeated_at layout stored env seeks x) inner in
-        omega (arith, entry, all, sum)
+    skips_within (Loop' v seeks p body) env = some_or_none body env
+        (λ e. count_below (ranges v) (λ x. if turns_at layout stored ranges seeks body e x
+        then repeated_at layout stored e seeks x + skip_turns_in layout stored ranges body (moved layout stored v seeks e x) else 0))
+        (λ e. repeated layout stored e seeks
+        + count_below (ranges v) (λ x. dups_in layout stored ranges body (moved layout stored v seeks e x)))
+        (λ e. entered e (λ x. skips_within_in body (moved layout stored v seeks e x)))
       where
         by_test : (b : Bool) (r t u : ℕ) → t ≤ u → (if b then r + t else 0) ≤ r + u
         by_test true r t u l = omega (arith, l)
         by_test false r t u l = omega arith
+
+        entered : (e : Env)
+            → ((x : ℕ) → skip_turns_in layout stored ranges body (moved layout stored v seeks e x)
+            ≤ dups_in layout stored ranges body (moved layout stored v seeks e x))
+            → count_below (ranges v) (λ x. if turns_at layout stored ranges seeks body e x
+            then repeated_at layout stored e seeks x + skip_turns_in layout stored ranges body (moved layout stored v seeks e x) else 0)
+            ≤ repeated layout stored e seeks
+            + count_below (ranges v) (λ x. dups_in layout stored ranges body (moved layout stored v seeks e x))
+        entered e more =
+            let inner : ℕ → ℕ = λ x. dups_in layout stored ranges body (moved layout stored v seeks e x) in
+            let turns : ℕ → ℕ = λ x. skip_turns_in layout stored ranges body (moved layout stored v seeks e x) in
+            let entry = count_repeated (ranges v) e seeks in
+            let all = count_most (ranges v)
+            (λ x. if turns_at layout stored ranges seeks body e x then repeated_at layout stored e seeks x + turns x else 0)
+            (λ x. repeated_at layout stored e seeks x + inner x)
+            (λ x. by_test (turns_at layout stored ranges seeks body e x) (repeated_at layout stored e seeks x) (turns x) (inner x)
+            (more x)) in
+            let sum = count_plus (ranges v) (λ x. repeated_at layout stored e seeks x) inner in
+            omega (arith, entry, all, sum)
     skips_within (Both' p f q g) env = let a = skips_within_in f env in let b = skips_within_in g env in omega (arith, a, b)
     skips_within (Add t) env = omega arith
 
