@@ -1,6 +1,7 @@
 pub mod Backwards
 pub mod DenseLevels
 pub mod Ends
+pub mod Kernels
 pub mod Loops
 pub mod Modes
 pub mod Operands

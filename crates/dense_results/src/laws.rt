@@ -1,4 +1,5 @@
 //! The laws, as calls whose contracts they are. They do nothing.
+ghost use Rattle.dense_results.specs.Kernels.{DenseKernelsAreRight, StartsAreTops};
 ghost use Rattle.dense_results.specs.Loops.{LoweredLoopsGoThrough, PairsInAnyOrder, RowsAreTaken};
 ghost use Rattle.dense_results.specs.Operands.{ArraysStandForOperands, OperandsAreTold};
 ghost use Rattle.dense_results.specs.Results.{ResultsHaveModes, StartsWithoutRows, SumsAreResults};
@@ -42,4 +43,14 @@ pub fn rows_are_taken()
 /// There are as many pairs of a term and a point at which it is present in one order of the variables as in another.
 pub fn pairs_in_any_order()
     ensures { PairsInAnyOrder }
+{}
+
+/// A state with the arrays of a store that has each access at its one parent is at the top of loops that add to a dense result.
+pub fn starts_are_tops()
+    ensures { StartsAreTops }
+{}
+
+/// A kernel whose code adds the rows of a statement's loops to a dense result, from their top on, is right.
+pub fn dense_kernels_are_right()
+    ensures { DenseKernelsAreRight }
 {}
