@@ -33,12 +33,14 @@ not_same level a b is h = by (same_arr a b) refl
 begun_there : (letter : Letter) (n parents level : ℕ) (s : State) → s.arrays (Dimension 0 level) ≡ Some (n ∷ [])
     → AreAtStart letter n parents 0 level (begun letter parents level s).arrays
 begun_there Dense n parents level s dim = dim
-begun_there Compressed n parents level s dim =
-    (set_here s (Ends 0 level) (0 ∷ replicate parents 0),
-        set_here (set_array s (Ends 0 level) (0 ∷ replicate parents 0)) (Coordinates 0 level) [])
-begun_there CompressedGroups n parents level s dim =
-    (set_here s (Ends 0 level) (0 ∷ replicate parents 0),
-        set_here (set_array s (Ends 0 level) (0 ∷ replicate parents 0)) (Coordinates 0 level) [])
+begun_there Compressed n parents level s dim = (
+  set_here s (Ends 0 level) (0 ∷ replicate parents 0),
+  set_here (set_array s (Ends 0 level) (0 ∷ replicate parents 0)) (Coordinates 0 level) [],
+)
+begun_there CompressedGroups n parents level s dim = (
+  set_here s (Ends 0 level) (0 ∷ replicate parents 0),
+  set_here (set_array s (Ends 0 level) (0 ∷ replicate parents 0)) (Coordinates 0 level) [],
+)
 begun_there Singleton n parents level s dim = set_here s (Coordinates 0 level) []
 begun_there SingletonGroups n parents level s dim = set_here s (Coordinates 0 level) []
 begun_there Hashed n parents level s dim =
@@ -50,11 +52,11 @@ begun_apart : (letter : Letter) (parents level : ℕ) (s : State) (b : Arr) → 
 begun_apart Dense parents level s b h = refl
 begun_apart Compressed parents level s b h =
     set_apart (set_array s (Ends 0 level) (0 ∷ replicate parents 0)) (Coordinates 0 level) b []
-        (not_same level (Coordinates 0 level) b (refl, refl) h)
+    (not_same level (Coordinates 0 level) b (refl, refl) h)
     ∙ set_apart s (Ends 0 level) b (0 ∷ replicate parents 0) (not_same level (Ends 0 level) b (refl, refl) h)
 begun_apart CompressedGroups parents level s b h =
     set_apart (set_array s (Ends 0 level) (0 ∷ replicate parents 0)) (Coordinates 0 level) b []
-        (not_same level (Coordinates 0 level) b (refl, refl) h)
+    (not_same level (Coordinates 0 level) b (refl, refl) h)
     ∙ set_apart s (Ends 0 level) b (0 ∷ replicate parents 0) (not_same level (Ends 0 level) b (refl, refl) h)
 begun_apart Singleton parents level s b h = set_apart s (Coordinates 0 level) b [] (not_same level (Coordinates 0 level) b (refl, refl) h)
 begun_apart SingletonGroups parents level s b h =

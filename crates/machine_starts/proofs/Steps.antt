@@ -1,7 +1,8 @@
 -- One step of each list from which arrays are begun.
-use Rattle.std.specs.Prelude.{◌≡◌, ℕ, zero, suc, ◌+◌, ◌<◌, List, [], ◌∷◌, length, drop, replicate, slice_index_or, refl}
+use Rattle.std.specs.Prelude.{◌≡◌, ℕ, zero, suc, ◌+◌, ◌<◌, ◌≤◌, List, [], ◌∷◌, length, drop, replicate, slice_index_or, refl}
 use Rattle.std.proofs.Common.{◌∙◌, sym, ap, subst, arith}
-use Rattle.kernel_code.specs.Meaning.{State}
+use Rattle.kernel_code.specs.declared.syntax.Arr.TheVariants.{Values}
+use Rattle.kernel_code.specs.Meaning.{State, set_array}
 use Rattle.format_spec.specs.declared.format.FormatLevel.{FormatLevel}
 use Rattle.format_spec.specs.Formats.{letters_of}
 use Rattle.machine_starts.specs.Begun.{begun, begun_result, parents_below, IsFew}
@@ -54,3 +55,20 @@ result_next nothing format sizes i parents next d s t l m is made =
     ∙ sym (ap (λ ls. begun_result nothing ls (drop i sizes) parents (i + 1) s) (drop_letters format i d l)
     ∙ ap (λ ns. begun_result nothing ((slice_index_or format i d).letter ∷ drop (suc i) (letters_of format)) ns parents (i + 1) s)
     (drop_here sizes i 0 m))
+
+drop_none : (format : List FormatLevel) (i : ℕ) → length format ≤ i → drop i (letters_of format) ≡ []
+drop_none [] zero l = refl
+drop_none [] (suc i) l = refl
+drop_none (f ∷ format) zero l = absurd (omega arith)
+drop_none (f ∷ format) (suc i) l = drop_none format i (omega arith)
+
+no_levels : (nothing : ℕ) (sizes : List ℕ) (parents level : ℕ) (s : State)
+    → begun_result nothing [] sizes parents level s ≡ set_array s (Values 0) (replicate parents nothing)
+no_levels nothing [] parents level s = refl
+no_levels nothing (size ∷ sizes) parents level s = refl
+
+-- behind the last level the values are begun
+pub result_done : (nothing : ℕ) (format : List FormatLevel) (sizes : List ℕ) (i parents level : ℕ) (s : State) → length format ≤ i
+    → begun_result nothing (drop i (letters_of format)) sizes parents level s ≡ set_array s (Values 0) (replicate parents nothing)
+result_done nothing format sizes i parents level s l =
+    ap (λ ls. begun_result nothing ls sizes parents level s) (drop_none format i l) ∙ no_levels nothing sizes parents level s

@@ -7,7 +7,9 @@ use Rattle.format_spec.specs.declared.format.FormatLevel.{FormatLevel}
 use Rattle.format_spec.specs.Formats.{letters_of}
 use Rattle.kernel_steps.specs.Store.{state_of}
 use Rattle.machine_starts.specs.Begun.{parents_below}
-use Rattle.machine_starts.proofs.Steps.{few_here, few_next, result_next}
+use Rattle.kernel_code.specs.declared.syntax.Arr.TheVariants.{Values}
+use Rattle.kernel_code.specs.Meaning.{set_array}
+use Rattle.machine_starts.proofs.Steps.{few_here, few_next, result_next, result_done}
 use Rattle.machine_starts.proofs.result.begin_result.Goals as goal
 
 abbrev none : FormatLevel
@@ -35,3 +37,11 @@ loop-number-preserved c =
           (state_of l.machine) (state_of c.begin_level.new.machine) below (omega (arith, long)) c.parents_of_next-parents.ensures
           c.in_ok-begin_level.ensures ∙ l.invariant.2,
     )
+
+pub returns : goal.returns
+returns c =
+    let l = c.loop-number in
+    let s = state_of l.machine in
+    c.in_ok-add_array.ensures ∙ ap (set_array s (Values 0)) c.in_ok-values.ensures.items
+    ∙ sym (result_done c.args.nothing c.args.format.now (drop l.number c.args.sizes.now) l.number l.parents (l.number + 1) s (omega arith))
+    ∙ l.invariant.2
