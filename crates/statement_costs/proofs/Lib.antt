@@ -1,5 +1,6 @@
 pub mod Groups
 pub mod Lengths
+pub mod Packed
 pub mod Parts
 pub mod Steps
 pub mod Trees

@@ -4,4 +4,4 @@
 
 mod laws;
 
-pub use laws::loops_cost_no_more;
+pub use laws::{costs_are_as_worked_out, loops_cost_no_more, packed_tensors_have_groups};
