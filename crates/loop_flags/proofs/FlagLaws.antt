@@ -1,15 +1,46 @@
--- Flags that may be lacking tell of what is made of parts.
-use Rattle.std.specs.Prelude.{◌≡◌, Bool, true, false, ◌||◌, ◌&&◌, Option, Some, None, Result, Ok, Err, IfOk, refl}
-use Rattle.std.proofs.Common.{◌∙◌, sym, subst}
-use Rattle.kernel_code.specs.declared.syntax.Op.TheVariants.{Or}
+-- Flags tell of what is made of parts, where numbers among the parts settle it.
+use Rattle.std.specs.Prelude.{◌≡◌, ℕ, Bool, true, false, ◌||◌, ◌&&◌, List, Option, Some, Result, Ok, Err, IfOk, refl}
+use Rattle.std.proofs.Common.{◌∙◌, sym, ap, subst, arith}
+use Rattle.kernel_code.specs.declared.syntax.Op.TheVariants.{And, Or}
 use Rattle.kernel_code.specs.declared.syntax.KExpr.{KExpr, Num, Bin}
+use Rattle.kernel_code.specs.Meaning.{State, word_of}
 use Rattle.index_notation.specs.declared.syntax.Expr.{Expr}
 use Rattle.loop_code.specs.Loops.{Env}
 use Rattle.loop_code.specs.Parts.{here, remains}
 use Rattle.term_code.specs.declared.places.Places.{Places}
+use Rattle.term_code.specs.Places.{Keeps}
 use Rattle.term_code.specs.Presence.{Tells}
-use Rattle.term_code.proofs.PresenceLaws.{tells_number, tells_either, tells_both, tells_same}
-use Rattle.loop_flags.specs.Liveness.{TellsOrNever, TellsOfProduct, WhereRemains, either_flag}
+use Rattle.term_code.proofs.PresenceLaws.{tells_either, tells_both}
+use Rattle.loop_flags.specs.Flags.{TellsEither, TellsBoth, TellsFactor, TellsProduct}
+
+pub if_flag : {E A : Type 0} (r : Result A E) (P Q : A → Type 0) → ((x : A) → P x → Q x) → IfOk r P → IfOk r Q
+if_flag (Ok x) P Q f h = f x h
+if_flag (Err e) P Q f h = h
+
+-- a flag tells what is the same wherever the places are kept
+pub tells_kept : (places : Places) (f g : Env → Bool) (e : KExpr)
+    → ((bound : List ℕ) (env : Env) (s : State) → Keeps places bound env s → f env ≡ g env) → Tells places f e → Tells places g e
+tells_kept places f g e same h = record {
+  told = λ bound env s at. h.told bound env s at ∙ ap (λ b. Some (word_of b)) (same bound env s at);
+  below = h.below;
+}
+
+zero_never : (b : Bool) → ◌≡◌ {A = Option ℕ} (Some 0) (Some (word_of b)) → b ≡ false
+zero_never true h = let e : ◌≡◌ {A = ℕ} 0 1 = cc h in absurd (omega (arith, e))
+zero_never false h = refl
+
+one_always : (b : Bool) → ◌≡◌ {A = Option ℕ} (Some 1) (Some (word_of b)) → b ≡ true
+one_always true h = refl
+one_always false h = let e : ◌≡◌ {A = ℕ} 1 0 = cc h in absurd (omega (arith, e))
+
+-- what 0 tells is never so where the places are kept, and what 1 tells always
+pub never_so : (places : Places) (f : Env → Bool) (e : KExpr) → e ≡ Num 0 → Tells places f e → (bound : List ℕ) (env : Env) (s : State)
+    → Keeps places bound env s → f env ≡ false
+never_so places f e is h bound env s at = zero_never (f env) ((subst (Tells places f) is h).told bound env s at)
+
+always_so : (places : Places) (f : Env → Bool) (e : KExpr) → e ≡ Num 1 → Tells places f e → (bound : List ℕ) (env : Env) (s : State)
+    → Keeps places bound env s → f env ≡ true
+always_so places f e is h bound env s at = one_always (f env) ((subst (Tells places f) is h).told bound env s at)
 
 or_none : (a b : Bool) → a ≡ false → b ≡ (a || b)
 or_none true b h = absurd (cc h)
@@ -19,96 +50,145 @@ or_nothing : (a b : Bool) → b ≡ false → a ≡ (a || b)
 or_nothing true b h = refl
 or_nothing false b h = sym h
 
-neither_so : (a b : Bool) → a ≡ false → b ≡ false → (a || b) ≡ false
-neither_so true b h g = absurd (cc h)
-neither_so false b h g = g
+or_all : (a b : Bool) → a ≡ true → a ≡ (a || b)
+or_all true b h = refl
+or_all false b h = absurd (cc h)
 
-and_nothing : (a b : Bool) → b ≡ false → (a && b) ≡ false
-and_nothing true b h = h
-and_nothing false b h = refl
+or_each : (a b : Bool) → b ≡ true → b ≡ (a || b)
+or_each true b h = h
+or_each false b h = refl
 
-pub if_flag : {E A : Type 0} (r : Result A E) (P Q : A → Type 0) → ((x : A) → P x → Q x) → IfOk r P → IfOk r Q
-if_flag (Ok x) P Q f h = f x h
-if_flag (Err e) P Q f h = h
+and_all : (a b : Bool) → a ≡ true → b ≡ (a && b)
+and_all true b h = refl
+and_all false b h = absurd (cc h)
 
-module _ (places : Places) where
-  pub same_flag : (f g : Env → Bool) (o : Option KExpr) → ((env : Env) → f env ≡ g env) → TellsOrNever places f o
-      → TellsOrNever places g o
-  same_flag f g None same h = λ env. sym (same env) ∙ h env
-  same_flag f g (Some e) same h = tells_same places f g e same h
+and_each : (a b : Bool) → b ≡ true → a ≡ (a && b)
+and_each true b h = sym h
+and_each false b h = refl
 
-  pub tells_either_flag : (f g : Env → Bool) (x y : Option KExpr) → TellsOrNever places f x → TellsOrNever places g y
-      → TellsOrNever places (λ env. f env || g env) (either_flag x y)
-  tells_either_flag f g None y h k = same_flag g (λ env. f env || g env) y (λ env. or_none (f env) (g env) (h env)) k
-  tells_either_flag f g (Some x) None h k =
-      same_flag f (λ env. f env || g env) (Some x) (λ env. or_nothing (f env) (g env) (k env)) h
-  tells_either_flag f g (Some x) (Some y) h k = tells_either places f g x y h k
+and_none : (a b : Bool) → a ≡ false → a ≡ (a && b)
+and_none true b h = absurd (cc h)
+and_none false b h = refl
 
-  pub tells_where : (f : Env → Bool) (x flag : KExpr) (other : Expr) → Tells places f x → WhereRemains places x other flag
-      → Tells places (λ env. f env && remains (here env) other) flag
-  tells_where f x flag other h w =
-      subst (Tells places (λ env. f env && remains (here env) other)) (sym w.2)
-      (tells_both places f (λ env. remains (here env) other) x w.0 h w.1)
+and_nothing : (a b : Bool) → b ≡ false → b ≡ (a && b)
+and_nothing true b h = refl
+and_nothing false b h = h
 
-  -- the flag, or 0 where there is none
-  pub flag_or_zero : (f : Env → Bool) → TellsOrNever places f None → Tells places f (Num 0)
-  flag_or_zero f h = tells_same places (λ env. false) f (Num 0) (λ env. sym (h env)) (tells_number places false)
+module _ (x y : KExpr) where
+  pub either_without_first : x ≡ Num 0 → TellsEither x y y
+  either_without_first is places f g h k =
+      tells_kept places g (λ env. f env || g env) y (λ bound env s at. or_none (f env) (g env) (never_so places f x is h bound env s at)) k
 
-module _ (places : Places) (e f : Expr) where
-  pub none_of_product : TellsOfProduct places e f None None None
-  none_of_product g h is in_it x y = λ env.
-      and_nothing (remains (here env) e && remains (here env) f) (g env || h env) (neither_so (g env) (h env) (x env) (y env))
+  pub either_without_second : y ≡ Num 0 → TellsEither x y x
+  either_without_second is places f g h k =
+      tells_kept places f (λ env. f env || g env) x
+      (λ bound env s at. or_nothing (f env) (g env) (never_so places g y is k bound env s at)) h
 
-  first_is : (r q a b : Bool) → (a ≡ true → r ≡ true) → b ≡ false → (a && q) ≡ ((r && q) && (a || b))
-  first_is true true a b is n = by_and a b n
-    where
-      by_and : (a b : Bool) → b ≡ false → (a && true) ≡ (a || b)
-      by_and true b n = refl
-      by_and false b n = sym n
-  first_is true false true b is n = refl
-  first_is true false false b is n = refl
-  first_is false q true b is n = absurd (cc (is refl))
-  first_is false q false b is n = refl
+  pub either_by_first : x ≡ Num 1 → TellsEither x y x
+  either_by_first is places f g h k =
+      tells_kept places f (λ env. f env || g env) x (λ bound env s at. or_all (f env) (g env) (always_so places f x is h bound env s at)) h
 
-  second_is : (r q a b : Bool) → (b ≡ true → q ≡ true) → a ≡ false → (b && r) ≡ ((r && q) && (a || b))
-  second_is r q true b is n = absurd (cc n)
-  second_is true true false true is n = refl
-  second_is true true false false is n = refl
-  second_is true false false true is n = absurd (cc (is refl))
-  second_is true false false false is n = refl
-  second_is false q false true is n = refl
-  second_is false q false false is n = refl
+  pub either_by_second : y ≡ Num 1 → TellsEither x y y
+  either_by_second is places f g h k =
+      tells_kept places g (λ env. f env || g env) y (λ bound env s at. or_each (f env) (g env) (always_so places g y is k bound env s at)) k
 
-  both_are : (r q a b : Bool) → (((a || b) && r) && q) ≡ ((r && q) && (a || b))
-  both_are true true true b = refl
-  both_are true true false true = refl
-  both_are true true false false = refl
-  both_are true false true b = refl
-  both_are true false false true = refl
-  both_are true false false false = refl
-  both_are false q true b = refl
-  both_are false q false true = refl
-  both_are false q false false = refl
+  pub either_of_two : (flag : KExpr) → flag ≡ Bin Or x y → TellsEither x y flag
+  either_of_two flag is places f g h k = subst (Tells places (λ env. f env || g env)) (sym is) (tells_either places f g x y h k)
 
-  pub first_of_product : (x flag : KExpr) → WhereRemains places x f flag → TellsOfProduct places e f (Some x) None (Some flag)
-  first_of_product x flag w g h is in_it one none =
-      tells_same places (λ env. g env && remains (here env) f)
+  pub both_without_first : x ≡ Num 1 → TellsBoth x y y
+  both_without_first is places f g h k =
+      tells_kept places g (λ env. f env && g env) y (λ bound env s at. and_all (f env) (g env) (always_so places f x is h bound env s at)) k
+
+  pub both_without_second : y ≡ Num 1 → TellsBoth x y x
+  both_without_second is places f g h k =
+      tells_kept places f (λ env. f env && g env) x
+      (λ bound env s at. and_each (f env) (g env) (always_so places g y is k bound env s at)) h
+
+  pub both_by_first : x ≡ Num 0 → TellsBoth x y x
+  both_by_first is places f g h k =
+      tells_kept places f (λ env. f env && g env) x (λ bound env s at. and_none (f env) (g env) (never_so places f x is h bound env s at)) h
+
+  pub both_by_second : y ≡ Num 0 → TellsBoth x y y
+  both_by_second is places f g h k =
+      tells_kept places g (λ env. f env && g env) y
+      (λ bound env s at. and_nothing (f env) (g env) (never_so places g y is k bound env s at)) k
+
+  pub both_of_two : (flag : KExpr) → flag ≡ Bin And x y → TellsBoth x y flag
+  both_of_two flag is places f g h k = subst (Tells places (λ env. f env && g env)) (sym is) (tells_both places f g x y h k)
+
+first_is : (r q a b : Bool) → (a ≡ true → r ≡ true) → b ≡ false → (a && q) ≡ ((r && q) && (a || b))
+first_is true true true b is n = refl
+first_is true true false b is n = sym n
+first_is true false true b is n = refl
+first_is true false false b is n = refl
+first_is false q true b is n = absurd (cc (is refl))
+first_is false q false b is n = refl
+
+second_is : (r q a b : Bool) → (b ≡ true → q ≡ true) → a ≡ false → (b && r) ≡ ((r && q) && (a || b))
+second_is r q true b is n = absurd (cc n)
+second_is true true false true is n = refl
+second_is true true false false is n = refl
+second_is true false false true is n = absurd (cc (is refl))
+second_is true false false false is n = refl
+second_is false q false true is n = refl
+second_is false q false false is n = refl
+
+both_are : (r q a b : Bool) → (((a || b) && r) && q) ≡ ((r && q) && (a || b))
+both_are true true true b = refl
+both_are true true false true = refl
+both_are true true false false = refl
+both_are true false true b = refl
+both_are true false false true = refl
+both_are true false false false = refl
+both_are false q true b = refl
+both_are false q false true = refl
+both_are false q false false = refl
+
+module _ (places : Places) (e f : Expr) (x y : KExpr) where
+  pub first_of_product : (flag : KExpr) → y ≡ Num 0 → TellsFactor places x f flag → TellsProduct places e f x y flag
+  first_of_product flag zero w g h is in_it one none =
+      tells_kept places (λ env. g env && remains (here env) f)
       (λ env. (remains (here env) e && remains (here env) f) && (g env || h env)) flag
-      (λ env. first_is (remains (here env) e) (remains (here env) f) (g env) (h env) (is env) (none env))
-      (tells_where places g x flag f one w)
+      (λ bound env s at. first_is (remains (here env) e) (remains (here env) f) (g env) (h env) (is env)
+      (never_so places h y zero none bound env s at))
+      (w g one)
 
-  pub second_of_product : (y flag : KExpr) → WhereRemains places y e flag → TellsOfProduct places e f None (Some y) (Some flag)
-  second_of_product y flag w g h is in_it none one =
-      tells_same places (λ env. h env && remains (here env) e)
+  pub second_of_product : (flag : KExpr) → x ≡ Num 0 → TellsFactor places y e flag → TellsProduct places e f x y flag
+  second_of_product flag zero w g h is in_it none one =
+      tells_kept places (λ env. h env && remains (here env) e)
       (λ env. (remains (here env) e && remains (here env) f) && (g env || h env)) flag
-      (λ env. second_is (remains (here env) e) (remains (here env) f) (g env) (h env) (in_it env) (none env))
-      (tells_where places h y flag e one w)
+      (λ bound env s at. second_is (remains (here env) e) (remains (here env) f) (g env) (h env) (in_it env)
+      (never_so places g x zero none bound env s at))
+      (w h one)
 
-  pub both_of_product : (x y left flag : KExpr) → WhereRemains places (Bin Or x y) e left → WhereRemains places left f flag
-      → TellsOfProduct places e f (Some x) (Some y) (Some flag)
-  both_of_product x y left flag w v g h is in_it one two =
-      tells_same places (λ env. ((g env || h env) && remains (here env) e) && remains (here env) f)
+  pub both_of_product : (one left flag : KExpr) → TellsEither x y one → TellsFactor places one e left → TellsFactor places left f flag
+      → TellsProduct places e f x y flag
+  both_of_product one left flag u w v g h is in_it in_first in_second =
+      tells_kept places (λ env. ((g env || h env) && remains (here env) e) && remains (here env) f)
       (λ env. (remains (here env) e && remains (here env) f) && (g env || h env)) flag
-      (λ env. both_are (remains (here env) e) (remains (here env) f) (g env) (h env))
-      (tells_where places (λ env. (g env || h env) && remains (here env) e) left flag f
-      (tells_where places (λ env. g env || h env) (Bin Or x y) left e (tells_either places g h x y one two) w) v)
+      (λ bound env s at. both_are (remains (here env) e) (remains (here env) f) (g env) (h env))
+      (v (λ env. (g env || h env) && remains (here env) e) (w (λ env. g env || h env) (u places g h in_first in_second)))
+
+-- what flags of the parts that were read of a whole tell of the whole
+module _ {X : Type 0} (places : Places) (V : X → Env → Bool) where
+  pub tells_part : (whole made e e' : X) (x : KExpr) → whole ≡ made → e' ≡ e → ((env : Env) → V made env ≡ V e env)
+      → Tells places (V e') x → Tells places (V whole) x
+  tells_part whole made e e' x is part same one =
+      subst (λ w. Tells places (V w) x) (sym is)
+      (tells_kept places (V e) (V made) x (λ bound env s at. sym (same env)) (subst (λ w. Tells places (V w) x) part one))
+
+  pub tells_parts_either : (whole made e f e' f' : X) (x y flag : KExpr) → whole ≡ made → e' ≡ e → f' ≡ f
+      → ((env : Env) → V made env ≡ (V e env || V f env)) → Tells places (V e') x → Tells places (V f') y → TellsEither x y flag
+      → Tells places (V whole) flag
+  tells_parts_either whole made e f e' f' x y flag is first second same one two told =
+      subst (λ w. Tells places (V w) flag) (sym is)
+      (tells_kept places (λ env. V e env || V f env) (V made) flag (λ bound env s at. sym (same env))
+      (told places (V e) (V f) (subst (λ w. Tells places (V w) x) first one) (subst (λ w. Tells places (V w) y) second two)))
+
+  pub tells_parts_both : (whole made e f e' f' : X) (x y flag : KExpr) → whole ≡ made → e' ≡ e → f' ≡ f
+      → ((env : Env) → V made env ≡ (V e env && V f env)) → Tells places (V e') x → Tells places (V f') y → TellsBoth x y flag
+      → Tells places (V whole) flag
+  tells_parts_both whole made e f e' f' x y flag is first second same one two told =
+      subst (λ w. Tells places (V w) flag) (sym is)
+      (tells_kept places (λ env. V e env && V f env) (V made) flag (λ bound env s at. sym (same env))
+      (told places (V e) (V f) (subst (λ w. Tells places (V w) x) first one) (subst (λ w. Tells places (V w) y) second two)))

@@ -7,7 +7,8 @@ use Rattle.operand_arrays.specs.Apart.{AreFrom}
 use Rattle.term_code.specs.declared.places.Places.{Places}
 use Rattle.term_code.specs.declared.places.AccessPlace.{AccessPlace}
 use Rattle.term_code.specs.Places.{AreBelow, at_cursor, new_access}
-use Rattle.loop_flags.specs.Pruned.{tensors_of, with_cursor}
+use Rattle.loop_flags.specs.Pruned.{tensors_of}
+use Rattle.loop_flags.specs.PrunedSteps.{with_cursor}
 
 abbrev option_cursor : Option AccessPlace → ℕ
 option_cursor None = 0

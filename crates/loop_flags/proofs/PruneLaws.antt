@@ -24,9 +24,11 @@ use Rattle.term_code.specs.Places.{AreBelow, Keeps}
 use Rattle.term_code.specs.Presence.{Tells}
 use Rattle.term_code.proofs.PlaceLaws.{below_more, keeps_kept, keeps_cursor}
 use Rattle.term_code.proofs.OptionLaws.{nothing_read}
+use Rattle.loop_flags.specs.declared.partly.Partly.{Partly}
 use Rattle.loop_flags.specs.Liveness.{StaysBelow}
-use Rattle.loop_flags.specs.Pruned.{Partly, Prunes, PrunesFirst, tensors_of, first_pruned, copy_code, with_cursor}
-use Rattle.loop_flags.specs.Pruned.{with_none, with_copy, finished}
+use Rattle.loop_flags.specs.Pruned.{Prunes, tensors_of}
+use Rattle.loop_flags.specs.PrunedSteps.{PrunesFirst, first_pruned, copy_code, with_cursor, with_none, with_copy, finished}
+use Rattle.loop_flags.proofs.FlagLaws.{never_so}
 use Rattle.loop_flags.proofs.LiveLaws.{live_here_below}
 use Rattle.loop_flags.proofs.PlacesSet.{tensors_set, length_set, below_set, from_set}
 
@@ -193,12 +195,12 @@ module _ (places : Places) (loops : LoopCode) where
       tensors = h.tensors;
     }
 
-    pub none_step : i < length places.accesses → ((env : Env) → is_live_below (here env) loops i ≡ false)
-        → PrunesFirst places loops (i + 1) (with_none p i)
-    none_step within never = record {
+    pub none_step : (flag : KExpr) → i < length places.accesses → flag ≡ Num 0
+        → Tells places (λ env. is_live_below (here env) loops i) flag → PrunesFirst places loops (i + 1) (with_none p i)
+    none_step flag within zero_is tells = record {
       leaves = λ c bound env s rem keeps zero. more_said c p.code (p.zero + 3) s _ _ (h.leaves c bound env s rem keeps (λ z. zero refl))
           (λ t l k. keeps_same (with_cursor p.places i p.zero) bound (moved_cursor (first_pruned i loops env) i None)
-          (first_pruned (i + 1) loops env) t refl (λ j q at. moved_next loops env i None (nowhere env) j)
+          (first_pruned (i + 1) loops env) t refl (λ j q at. moved_next loops env i None (nowhere bound env s keeps) j)
           (keeps_cursor p.places bound (first_pruned i loops env) t i p.zero None (let m = h.many in omega (arith, m, within)) k
           (l.below p.zero (omega arith) (λ z. z) ∙ zero refl)));
       kept = h.kept;
@@ -210,8 +212,10 @@ module _ (places : Places) (loops : LoopCode) where
       tensors = tensors_set p.places.accesses i p.zero ∙ h.tensors;
     }
       where
-        nowhere : (env : Env) → None ≡ (pruned loops env).cursor i
-        nowhere env = sym (ap (λ b. if b then env.cursor i else None) (never env))
+        nowhere : (bound : List ℕ) (env : Env) (s : State) → Keeps places bound env s → None ≡ (pruned loops env).cursor i
+        nowhere bound env s keeps =
+            sym (ap (λ b. if b then env.cursor i else None)
+            (never_so places (λ env. is_live_below (here env) loops i) flag zero_is tells bound env s keeps))
 
     pub copy_step : (q : AccessPlace) (flag : KExpr) → slice_get places.accesses i ≡ Some q
         → Tells places (λ env. is_live_below (here env) loops i) flag → PrunesFirst places loops (i + 1) (with_copy p i flag q.cursor)

@@ -1,2 +1,4 @@
+pub mod Flags
 pub mod Liveness
 pub mod Pruned
+pub mod PrunedSteps

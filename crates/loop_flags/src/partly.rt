@@ -2,9 +2,10 @@
 ghost use Rattle.std.specs.Prelude.{◌≡◌, ◌+◌, ◌<◌, ◌≤◌, ◌^◌, ◌++◌, true, length, IfOk, OnOk};
 ghost use Rattle.loop_code.specs.Places.{EachAccess};
 ghost use Rattle.operand_arrays.specs.Terms.{EachTerm};
-ghost use Rattle.loop_flags.specs.Pruned.{PrunesFirst, copy_code, with_none, with_copy};
+ghost use Rattle.loop_flags.specs.PrunedSteps.{PrunesFirst, copy_code, with_none, with_copy};
 
-use crate::liveness::live_below;
+use crate::flags::is_number;
+use crate::liveness::live_flag;
 use crate::staying::stays_below;
 use kernel_code::{KExpr, KStmt, one_statement};
 use loop_code::LoopCode;
@@ -93,17 +94,13 @@ impl Partly {
         if stays_below(loops, access) {
             return Ok(());
         }
-        let flag = live_below(alloc, places, loops, access)?;
-        match flag {
-            None => {
-                self.leave_out(access);
-                Ok(())
-            }
-            Some(live) => {
-                let place = places.accesses.as_slice()[access];
-                self.copy_one(alloc, access, live, place.cursor)?;
-                Ok(())
-            }
+        let flag = live_flag(alloc, places, loops, access)?;
+        if is_number(&flag, 0) {
+            self.leave_out(access);
+            return Ok(());
         }
+        let place = places.accesses.as_slice()[access];
+        self.copy_one(alloc, access, flag, place.cursor)?;
+        Ok(())
     }
 }

@@ -3,7 +3,8 @@ ghost use Rattle.std.specs.Prelude.{◌≡◌, ◌<◌, ◌≤◌, ◌^◌, leng
 ghost use Rattle.loop_code.specs.Places.{EachAccess};
 ghost use Rattle.operand_arrays.specs.Terms.{EachTerm};
 ghost use Rattle.term_code.specs.Places.{AreBelow};
-ghost use Rattle.loop_flags.specs.Pruned.{Prunes, finished};
+ghost use Rattle.loop_flags.specs.Pruned.{Prunes};
+ghost use Rattle.loop_flags.specs.PrunedSteps.{finished};
 
 use crate::partly::Partly;
 use kernel_code::{KExpr, KStmt, one_statement};

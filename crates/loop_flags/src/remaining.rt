@@ -1,14 +1,55 @@
 //! Whether a part of the terms below remains, and whether it is full at a loop, as expressions over the accesses' flags.
 ghost use Rattle.std.specs.Prelude.{◌≡◌, ◌<◌, length, IfOk};
-ghost use Rattle.loop_code.specs.Parts.{here, remains_below, is_full_below, is_other};
+ghost use Rattle.loop_code.specs.Parts.{here, remains, is_full, remains_below, is_full_below, is_other};
 ghost use Rattle.loop_code.specs.Places.{EachAccess};
 ghost use Rattle.operand_arrays.specs.Terms.{EachTerm};
 ghost use Rattle.term_code.specs.Presence.{Tells};
 
-use kernel_code::{KExpr, Op, binary};
+use crate::flags::{both, either};
+use index_notation::Expr;
+use kernel_code::KExpr;
 use loop_code::{LoopCode, Seek};
 use std::alloc::{AllocError, Global};
 use term_code::{Places, fullness_of};
+
+/// An expression that is 1 where the part of `expr` that remains is full at a loop with these seeks, and else 0.
+fn full_in(alloc: Global, places: &Places, seeks: &[Seek], expr: &Expr) -> Result<KExpr, AllocError>
+    requires { EachAccess (λ k. k < length places.now.accesses) expr.now }
+    ensures { IfOk result (Tells places.now (λ env. is_full (is_other seeks.now) (here env) expr.now)) }
+{
+    match expr {
+        Expr::Num(_) => fullness_of(alloc, places, seeks, expr),
+        Expr::Access(_) => fullness_of(alloc, places, seeks, expr),
+        Expr::Add(first, second) => {
+            let x = full_in(alloc, places, seeks, first.get())?;
+            let y = full_in(alloc, places, seeks, second.get())?;
+            let flag = either(alloc, x, y)?;
+            Ok(flag)
+        }
+        Expr::Sub(first, second) => {
+            let x = full_in(alloc, places, seeks, first.get())?;
+            let y = full_in(alloc, places, seeks, second.get())?;
+            let flag = either(alloc, x, y)?;
+            Ok(flag)
+        }
+        Expr::Mul(first, second) => {
+            let x = full_in(alloc, places, seeks, first.get())?;
+            let y = full_in(alloc, places, seeks, second.get())?;
+            let flag = both(alloc, x, y)?;
+            Ok(flag)
+        }
+        Expr::Neg(inner) => full_in(alloc, places, seeks, inner.get()),
+    }
+}
+
+/// An expression that is 1 where a part of `expr` remains, and else 0.
+pub(crate) fn remains_in(alloc: Global, places: &Places, expr: &Expr) -> Result<KExpr, AllocError>
+    requires { EachAccess (λ k. k < length places.now.accesses) expr.now }
+    ensures { IfOk result (Tells places.now (λ env. remains (here env) expr.now)) }
+{
+    let flag = full_in(alloc, places, &[], expr)?;
+    Ok(flag)
+}
 
 /// An expression that is 1 where the part of some term below that remains is full at a loop with these seeks, and else 0.
 /// Refused only for want of memory.
@@ -26,10 +67,10 @@ pub fn fullness_below(
         LoopCode::Both(first, second) => {
             let x = fullness_below(alloc, places, seeks, first.get())?;
             let y = fullness_below(alloc, places, seeks, second.get())?;
-            let either = binary(alloc, Op::Or, x, y)?;
-            Ok(either)
+            let flag = either(alloc, x, y)?;
+            Ok(flag)
         }
-        LoopCode::Add(term) => fullness_of(alloc, places, seeks, &term.expr),
+        LoopCode::Add(term) => full_in(alloc, places, seeks, &term.expr),
     }
 }
 

@@ -1,11 +1,13 @@
 use Rattle.std.specs.Prelude.{◌<◌, length}
 use Rattle.index_notation.specs.declared.syntax.Expr.{Add, Sub, Mul, Neg}
 use Rattle.expr_terms.proofs.Heights.{falls, parts_of_add, parts_of_sub, parts_of_mul, part_of_neg}
+use Rattle.term_code.specs.Presence.{Tells}
 use Rattle.term_code.proofs.Parts.{first_added, second_added, first_subtracted, second_subtracted, first_factor, second_factor}
 use Rattle.term_code.proofs.Parts.{negated_part}
-use Rattle.loop_flags.specs.Liveness.{TellsOrNever}
-use Rattle.loop_flags.proofs.FlagLaws.{if_flag}
-use Rattle.loop_flags.proofs.FlagParts.{live_at, flag_add, flag_sub, flag_mul, flag_neg}
+use Rattle.loop_code.specs.Parts.{here}
+use Rattle.loop_flags.proofs.LiveLaws.{live_add, live_sub, live_neg}
+use Rattle.loop_flags.proofs.FlagLaws.{if_flag, tells_part, tells_parts_either}
+use Rattle.loop_flags.proofs.FlagParts.{live_at, flag_mul}
 use Rattle.loop_flags.proofs.liveness.+live_in.Goals as goal
 
 pub live_in-requires : goal.live_in-requires
@@ -81,17 +83,23 @@ in_product-requires-clause-second t c =
 
 pub returns-in_ok-flag-in-Add : goal.returns-in_ok-flag-in-Add
 returns-in_ok-flag-in-Add t c =
-    flag_add c.args.places.now c.args.access c.args.expr.now c.in-Add.first c.in-Add.second c.get.result.now c.get-in-Add.result.now
-    c.in_ok-x-in-Add.x c.in_ok-y-in-Add.y c.in_ok-flag-in-Add.flag c.in-Add.is c.get.ensures c.get-in-Add.ensures c.in_ok-x-in-Add.ensures
-    c.in_ok-y-in-Add.ensures c.in_ok-flag-in-Add.ensures
+    let k = c.args.access in
+    let e = c.in-Add.first in
+    let f = c.in-Add.second in
+    tells_parts_either c.args.places.now (live_at k) c.args.expr.now (Add e f) e f c.get.result.now c.get-in-Add.result.now
+    c.in_ok-x-in-Add.x
+    c.in_ok-y-in-Add.y c.in_ok-flag-in-Add.flag c.in-Add.is c.get.ensures c.get-in-Add.ensures (λ env. live_add (here env) e f k)
+    c.in_ok-x-in-Add.ensures c.in_ok-y-in-Add.ensures c.in_ok-flag-in-Add.ensures
 
 pub returns-in_ok-flag-in-Sub : goal.returns-in_ok-flag-in-Sub
 returns-in_ok-flag-in-Sub t c =
-    flag_sub c.args.places.now c.args.access c.args.expr.now c.in-Sub.first c.in-Sub.second c.get-in-Sub.result.now
-        c.get-in-Sub-2.result.now
-    c.in_ok-x-in-Sub.x c.in_ok-y-in-Sub.y c.in_ok-flag-in-Sub.flag c.in-Sub.is c.get-in-Sub.ensures c.get-in-Sub-2.ensures
-        c.in_ok-x-in-Sub.ensures
-    c.in_ok-y-in-Sub.ensures c.in_ok-flag-in-Sub.ensures
+    let k = c.args.access in
+    let e = c.in-Sub.first in
+    let f = c.in-Sub.second in
+    tells_parts_either c.args.places.now (live_at k) c.args.expr.now (Sub e f) e f c.get-in-Sub.result.now c.get-in-Sub-2.result.now
+    c.in_ok-x-in-Sub.x
+    c.in_ok-y-in-Sub.y c.in_ok-flag-in-Sub.flag c.in-Sub.is c.get-in-Sub.ensures c.get-in-Sub-2.ensures (λ env. live_sub (here env) e f k)
+    c.in_ok-x-in-Sub.ensures c.in_ok-y-in-Sub.ensures c.in_ok-flag-in-Sub.ensures
 
 pub returns-in_ok-flag-in-Mul : goal.returns-in_ok-flag-in-Mul
 returns-in_ok-flag-in-Mul t c =
@@ -104,7 +112,7 @@ pub returns-in-Neg : goal.returns-in-Neg
 returns-in-Neg t c =
     let places = c.args.places.now in
     let k = c.args.access in
-    if_flag c.live_in-in-Neg.result (TellsOrNever places (live_at k c.get-in-Neg.result.now))
-    (TellsOrNever places (live_at k c.args.expr.now))
-    (λ x. flag_neg places k c.args.expr.now c.in-Neg.inner c.get-in-Neg.result.now x c.in-Neg.is c.get-in-Neg.ensures)
-    c.live_in-in-Neg.ensures
+    let e = c.in-Neg.inner in
+    if_flag c.live_in-in-Neg.result (Tells places (live_at k c.get-in-Neg.result.now)) (Tells places (live_at k c.args.expr.now))
+    (λ x. tells_part places (live_at k) c.args.expr.now (Neg e) e c.get-in-Neg.result.now x c.in-Neg.is c.get-in-Neg.ensures
+    (λ env. live_neg (here env) e k)) c.live_in-in-Neg.ensures

@@ -1,39 +1,17 @@
-use Rattle.std.proofs.Common.{sym, subst}
-use Rattle.std.specs.Prelude.{Some, None}
-use Rattle.loop_flags.specs.Liveness.{TellsOfProduct, WhereRemains}
 use Rattle.loop_flags.proofs.FlagLaws.{first_of_product, second_of_product, both_of_product}
 use Rattle.loop_flags.proofs.liveness.in_product.Goals as goal
 
-pub returns-in_ok-flag-in-None-Some : goal.returns-in_ok-flag-in-None-Some
-returns-in_ok-flag-in-None-Some c =
-    let places = c.args.places.now in
-    let e = c.args.first.now in
-    let f = c.args.second.now in
-    let flag = c.in_ok-flag-in-None-Some.flag in
-    subst (λ x. TellsOfProduct places e f x c.args.in_second (Some flag)) (sym c.in-None-Some.is-0)
-    (subst (λ y. TellsOfProduct places e f None y (Some flag)) (sym c.in-None-Some.is-1)
-    (second_of_product places e f c.in-None-Some.y flag c.in_ok-flag-in-None-Some.ensures))
+pub returns-then-is_number : goal.returns-then-is_number
+returns-then-is_number c =
+    second_of_product c.args.places.now c.args.first.now c.args.second.now c.args.in_first c.args.in_second c.in_ok-flag.flag
+    (c.is_number.ensures c.if-is_number.true) c.in_ok-flag.ensures
 
-pub returns-in_ok-flag-in-Some-None : goal.returns-in_ok-flag-in-Some-None
-returns-in_ok-flag-in-Some-None c =
-    let places = c.args.places.now in
-    let e = c.args.first.now in
-    let f = c.args.second.now in
-    let flag = c.in_ok-flag-in-Some-None.flag in
-    subst (λ x. TellsOfProduct places e f x c.args.in_second (Some flag)) (sym c.in-Some-None.is-0)
-    (subst (λ y. TellsOfProduct places e f (Some c.in-Some-None.x) y (Some flag)) (sym c.in-Some-None.is-1)
-    (first_of_product places e f c.in-Some-None.x flag c.in_ok-flag-in-Some-None.ensures))
+pub returns-then-is_number-2 : goal.returns-then-is_number-2
+returns-then-is_number-2 c =
+    first_of_product c.args.places.now c.args.first.now c.args.second.now c.args.in_first c.args.in_second c.in_ok-flag-2.flag
+    (c.is_number-2.ensures c.if-is_number-2.true) c.in_ok-flag-2.ensures
 
-pub returns-in_ok-flag-in-Some-Some : goal.returns-in_ok-flag-in-Some-Some
-returns-in_ok-flag-in-Some-Some c =
-    let places = c.args.places.now in
-    let e = c.args.first.now in
-    let f = c.args.second.now in
-    let x = c.in-Some-Some.x in
-    let y = c.in-Some-Some.y in
-    let left = c.in_ok-left-in-Some-Some.left in
-    let flag = c.in_ok-flag-in-Some-Some.flag in
-    let one = subst (λ w. WhereRemains places w e left) c.in_ok-one-in-Some-Some.ensures c.in_ok-left-in-Some-Some.ensures in
-    subst (λ o. TellsOfProduct places e f o c.args.in_second (Some flag)) (sym c.in-Some-Some.is-0)
-    (subst (λ o. TellsOfProduct places e f (Some x) o (Some flag)) (sym c.in-Some-Some.is-1)
-    (both_of_product places e f x y left flag one c.in_ok-flag-in-Some-Some.ensures))
+pub returns : goal.returns
+returns c =
+    both_of_product c.args.places.now c.args.first.now c.args.second.now c.args.in_first c.args.in_second c.in_ok-one.one
+    c.in_ok-left.left c.in_ok-all.all c.in_ok-one.ensures c.in_ok-left.ensures c.in_ok-all.ensures

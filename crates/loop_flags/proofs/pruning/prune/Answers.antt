@@ -1,14 +1,20 @@
 use Rattle.std.specs.Prelude.{◌≡◌, ◌+◌, false, length, refl}
 use Rattle.std.proofs.Common.{sym, subst, arith}
-use Rattle.loop_flags.specs.Pruned.{Prunes, PrunesFirst, finished}
+use Rattle.loop_flags.specs.Pruned.{Prunes}
+use Rattle.loop_flags.specs.PrunedSteps.{PrunesFirst, finished}
 use Rattle.loop_flags.proofs.PruneLaws.{none_pruned, all_pruned}
 use Rattle.loop_flags.proofs.pruning.prune.Goals as goal
 
 pub loop-access-init : goal.loop-access-init
 loop-access-init c = (
   subst (λ code. PrunesFirst c.args.places.now c.args.loops.now 0
-      (record { places = c.in_ok-copy.field-0; code = code; zero = c.args.free; free = c.args.free + 3; left_out = false
-          })) (sym c.new.ensures)
+      (record {
+        places = c.in_ok-copy.field-0;
+        code = code;
+        zero = c.args.free;
+        free = c.args.free + 3;
+        left_out = false;
+      })) (sym c.new.ensures)
       (none_pruned c.args.places.now c.args.loops.now c.args.free c.in_ok-copy.field-0 c.requires.below c.in_ok-copy.ensures),
   refl,
 )

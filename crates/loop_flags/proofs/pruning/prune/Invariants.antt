@@ -1,5 +1,5 @@
 use Rattle.std.specs.Prelude.{◌≡◌}
-use Rattle.loop_flags.specs.Pruned.{PrunesFirst}
+use Rattle.loop_flags.specs.PrunedSteps.{PrunesFirst}
 use Rattle.loop_flags.proofs.pruning.prune.Given as goal
 
 -- the accesses before this one are pruned

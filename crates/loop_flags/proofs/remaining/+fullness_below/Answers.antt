@@ -1,12 +1,12 @@
-use Rattle.std.specs.Prelude.{◌<◌, length, ◌||◌, IfOk}
-use Rattle.std.proofs.Common.{sym, subst}
+use Rattle.std.specs.Prelude.{◌<◌, length}
 use Rattle.loop_code.specs.declared.loops.LoopCode.{Loop, Both}
 use Rattle.loop_code.specs.Places.{EachAccess}
-use Rattle.loop_code.specs.Parts.{here, is_full_below, is_other}
+use Rattle.loop_code.specs.Parts.{here, is_other}
 use Rattle.term_code.specs.Presence.{Tells}
-use Rattle.term_code.proofs.PresenceLaws.{tells_either, tells_same}
 use Rattle.loop_flags.proofs.LoopHeights.{falls, body_of_loop, parts_of_both}
 use Rattle.loop_flags.proofs.LoopParts.{body_terms, first_terms, second_terms, full_loop, full_both}
+use Rattle.loop_flags.proofs.FlagLaws.{if_flag, tells_part, tells_parts_either}
+use Rattle.loop_flags.proofs.FlagParts.{full_at_below}
 use Rattle.loop_flags.proofs.remaining.+fullness_below.Goals as goal
 
 pub fullness_below-requires : goal.fullness_below-requires
@@ -45,24 +45,16 @@ returns-in-Loop t c =
     let v = c.in-Loop.variable in
     let seeks = c.in-Loop.seeks in
     let body = c.in-Loop.body in
-    subst (λ whole. IfOk c.fullness_below.result (Tells places (λ env. is_full_below F (here env) whole))) (sym c.in-Loop.is)
-    (subst (λ f. IfOk c.fullness_below.result (Tells places f)) (λ i env. sym (full_loop F (here env) v seeks body) i)
-    (subst (λ x. IfOk c.fullness_below.result (Tells places (λ env. is_full_below F (here env) x))) c.get.ensures
-    c.fullness_below.ensures))
+    if_flag c.fullness_below.result (Tells places (full_at_below F c.get.result.now)) (Tells places (full_at_below F c.args.loops.now))
+    (λ x. tells_part places (full_at_below F) c.args.loops.now (Loop v seeks body) body c.get.result.now x c.in-Loop.is c.get.ensures
+    (λ env. full_loop F (here env) v seeks body)) c.fullness_below.ensures
 
-pub returns-in_ok-either-in-Both : goal.returns-in_ok-either-in-Both
-returns-in_ok-either-in-Both t c =
-    let places = c.args.places.now in
+pub returns-in_ok-flag-in-Both : goal.returns-in_ok-flag-in-Both
+returns-in_ok-flag-in-Both t c =
     let F = is_other c.args.seeks.now in
     let f = c.in-Both.first in
     let g = c.in-Both.second in
-    let one = subst (λ x. Tells places (λ env. is_full_below F (here env) x) c.in_ok-x-in-Both.x) c.get-in-Both.ensures
-    c.in_ok-x-in-Both.ensures in
-    let two = subst (λ x. Tells places (λ env. is_full_below F (here env) x) c.in_ok-y-in-Both.y) c.get-in-Both-2.ensures
-    c.in_ok-y-in-Both.ensures in
-    subst (λ whole. Tells places (λ env. is_full_below F (here env) whole) c.in_ok-either-in-Both.either) (sym c.in-Both.is)
-    (subst (Tells places (λ env. is_full_below F (here env) (Both f g))) (sym c.in_ok-either-in-Both.ensures)
-    (tells_same places (λ env. is_full_below F (here env) f || is_full_below F (here env) g)
-    (λ env. is_full_below F (here env) (Both f g)) _ (λ env. sym (full_both F (here env) f g))
-    (tells_either places (λ env. is_full_below F (here env) f) (λ env. is_full_below F (here env) g) c.in_ok-x-in-Both.x
-    c.in_ok-y-in-Both.y one two)))
+    tells_parts_either c.args.places.now (full_at_below F) c.args.loops.now (Both f g) f g c.get-in-Both.result.now
+    c.get-in-Both-2.result.now c.in_ok-x-in-Both.x c.in_ok-y-in-Both.y c.in_ok-flag-in-Both.flag c.in-Both.is c.get-in-Both.ensures
+    c.get-in-Both-2.ensures (λ env. full_both F (here env) f g) c.in_ok-x-in-Both.ensures c.in_ok-y-in-Both.ensures
+    c.in_ok-flag-in-Both.ensures

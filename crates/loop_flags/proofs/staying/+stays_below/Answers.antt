@@ -13,6 +13,6 @@ pub returns-then-stays_below : goal.returns-then-stays_below
 returns-then-stays_below t c = λ z.
     let k = c.args.access in
     subst (StaysBelow k) (sym c.in-Both.is)
-        (stays_both k c.in-Both.first c.in-Both.second
-        (subst (StaysBelow k) c.get-in-Both.ensures (c.stays_below-in-Both.ensures c.if-stays_below.true))
+    (stays_both k c.in-Both.first c.in-Both.second
+    (subst (StaysBelow k) c.get-in-Both.ensures (c.stays_below-in-Both.ensures c.if-stays_below.true))
     (subst (StaysBelow k) c.get-then-stays_below.ensures (c.stays_below-then-stays_below.ensures z)))

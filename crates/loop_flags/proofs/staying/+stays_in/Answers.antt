@@ -7,15 +7,15 @@ pub returns-then-stays_in : goal.returns-then-stays_in
 returns-then-stays_in t c = λ z.
     let k = c.args.access in
     subst (StaysIn k) (sym c.in-Add.is)
-        (stays_add k c.in-Add.first c.in-Add.second (subst (StaysIn k) c.get.ensures (c.stays_in.ensures c.if-stays_in.true))
+    (stays_add k c.in-Add.first c.in-Add.second (subst (StaysIn k) c.get.ensures (c.stays_in.ensures c.if-stays_in.true))
     (subst (StaysIn k) c.get-then-stays_in.ensures (c.stays_in-then-stays_in.ensures z)))
 
 pub returns-then-stays_in-2 : goal.returns-then-stays_in-2
 returns-then-stays_in-2 t c = λ z.
     let k = c.args.access in
     subst (StaysIn k) (sym c.in-Sub.is)
-        (stays_sub k c.in-Sub.first c.in-Sub.second
-        (subst (StaysIn k) c.get-in-Sub.ensures (c.stays_in-in-Sub.ensures c.if-stays_in-2.true))
+    (stays_sub k c.in-Sub.first c.in-Sub.second
+    (subst (StaysIn k) c.get-in-Sub.ensures (c.stays_in-in-Sub.ensures c.if-stays_in-2.true))
     (subst (StaysIn k) c.get-then-stays_in-2.ensures (c.stays_in-then-stays_in-2.ensures z)))
 
 pub returns-then-stays_in-3 : goal.returns-then-stays_in-3
