@@ -1,5 +1,6 @@
 -- A hashed level of range 12 and one parent of at most two coordinates, as the test makes it.
-use Rattle.std.specs.Prelude.{◌≡◌, ◌≢◌, ℕ, ◌+◌, ◌-◌, ◌≤◌, ◌<◌, List, [], ◌∷◌, length, None, Some, ◌==◌, Bool, true, false, if◌then◌else◌, refl}
+use Rattle.std.specs.Prelude.{◌≡◌, ◌≢◌, ℕ, ◌+◌, ◌-◌, ◌≤◌, ◌<◌, List, [], ◌∷◌, length, None, Some, ◌==◌, Bool, true, false, if◌then◌else◌}
+use Rattle.std.specs.Prelude.{refl}
 use Rattle.std.proofs.Common.{◌∙◌, sym, ap, subst, arith, lit<}
 use Rattle.std.proofs.lemmas.Bool.Decides.{nat_tests}
 use Rattle.limits.specs.Limits.{greatest_position_count}
@@ -25,7 +26,8 @@ pub record Roomy (l : Hashed) (count : ℕ) : Type 0 where
   pub few : length (entries_of l (one 0)) ≤ count
   pub wide : 4 ≤ (segment_of l (one 0)).hi - (segment_of l (one 0)).lo
 
-pub after_prepare : (l m : Hashed) → KeepsRules l → l ≡ hashed 12 [] None 0 → 12 ≤ greatest_position_count → Prepared l 1 2 m → Roomy m 0 × (entries_of m (one 0) ≡ [])
+pub after_prepare : (l m : Hashed) → KeepsRules l → l ≡ hashed 12 [] None 0 → 12 ≤ greatest_position_count → Prepared l 1 2 m
+    → Roomy m 0 × (entries_of m (one 0) ≡ [])
 after_prepare l m rules is large made =
     let p = laws.prepares l m 1 2 rules (may_prepare l is large) (may_hold l large) made in
     let none = p.empty refl 0 (lit< tt) in (
@@ -45,18 +47,22 @@ none_lacks x (e ∷ es) h = by_test (none_lacks x es) (e.coord == x) refl h
     some_is_none : (n : ℕ) → Some n ≡ None → ⊥
     some_is_none n h = cc
 
-    by_test : (position_of es x ≡ None → Lacks x es) → (b : Bool) → (e.coord == x) ≡ b → (if b then Some e.child.lo else position_of es x) ≡ None → (e.coord ≢ x) × Lacks x es
+    by_test : (position_of es x ≡ None → Lacks x es) → (b : Bool) → (e.coord == x) ≡ b
+        → (if b then Some e.child.lo else position_of es x) ≡ None → (e.coord ≢ x) × Lacks x es
     by_test again true is h = absurd (some_is_none e.child.lo h)
     by_test again false is h = (grind (arith, nat_tests, is), again h)
 
-pub may_insert : (l : Hashed) (count x : ℕ) → Roomy l count → count < 4 → x < 12 → position_of (entries_of l (one 0)) x ≡ None → MayInsert HashedLetter l.size (segment_of l (one 0)) (entries_of l (one 0)) x
+pub may_insert : (l : Hashed) (count x : ℕ) → Roomy l count → count < 4 → x < 12 → position_of (entries_of l (one 0)) x ≡ None
+    → MayInsert HashedLetter l.size (segment_of l (one 0)) (entries_of l (one 0)) x
 may_insert l count x room less small none =
     let size = room.size in
     let few = room.few in
     let wide = room.wide in
-    record { able = refl; below = omega (arith, size, small); free = λ _. (none_lacks x (entries_of l (one 0)) none, omega (arith, few, wide, less)) }
+    record { able = refl; below = omega (arith, size, small);
+        free = λ _. (none_lacks x (entries_of l (one 0)) none, omega (arith, few, wide, less)) }
 
-pub after_insert : (l m : Hashed) (count x slot : ℕ) → Roomy l count → MayInsert HashedLetter l.size (segment_of l (one 0)) (entries_of l (one 0)) x → Inserted l 0 x slot m → Roomy m (count + 1)
+pub after_insert : (l m : Hashed) (count x slot : ℕ) → Roomy l count
+    → MayInsert HashedLetter l.size (segment_of l (one 0)) (entries_of l (one 0)) x → Inserted l 0 x slot m → Roomy m (count + 1)
 after_insert l m count x slot room may is =
     let i = laws.inserts l m 0 x slot room.allowed may is in
     let more = inserted_longer l m 0 x slot room.allowed may is in
@@ -69,5 +75,7 @@ after_insert l m count x slot room may is =
     }
 
 -- what was nowhere still is, unless it was inserted
-pub still_none : (l m : Hashed) (x y slot : ℕ) → IsAllowed l (one 0) → MayInsert HashedLetter l.size (segment_of l (one 0)) (entries_of l (one 0)) x → Inserted l 0 x slot m → y ≢ x → position_of (entries_of l (one 0)) y ≡ None → position_of (entries_of m (one 0)) y ≡ None
+pub still_none : (l m : Hashed) (x y slot : ℕ) → IsAllowed l (one 0)
+    → MayInsert HashedLetter l.size (segment_of l (one 0)) (entries_of l (one 0)) x → Inserted l 0 x slot m → y ≢ x
+    → position_of (entries_of l (one 0)) y ≡ None → position_of (entries_of m (one 0)) y ≡ None
 still_none l m x y slot ok may is apart none = (laws.inserts l m 0 x slot ok may is).gains.others y apart ∙ none

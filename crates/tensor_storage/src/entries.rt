@@ -1,9 +1,9 @@
 // The entries of a tensor as rows for the levels of a format.
-ghost use Rattle.std.specs.Prelude.{◌≡◌, ◌≤◌, ◌<◌, length, slice_index, All, IfOk, true};
+ghost use Rattle.std.specs.Prelude.{◌≡◌, ◌≤◌, ◌<◌, length, slice_index, All, IfOk, OnOk, true};
 ghost use Rattle.std.specs.Ordering.{nat_cmp, is_lt};
 ghost use Rattle.std.specs.Cmp.Lexicographic.{slice_cmp};
 ghost use Rattle.std.specs.List.{range_with_len};
-ghost use Rattle.std.specs.List.Sorted.{IsSortedBy};
+ghost use Rattle.std.specs.List.Sorted.{IsPermutation, IsSortedBy};
 ghost use Rattle.format_spec.specs.Formats.{IsFormat};
 ghost use Rattle.tensor_map.specs.Entries.{StrictlyIncreasing};
 ghost use Rattle.tensor_storage.specs.Arranged.{level_coords, table_of, AreArranged};
@@ -68,6 +68,23 @@ fn numbers_below(alloc: Global, count: usize) -> Result<Vec<usize>, AllocError>
     Ok(numbers)
 }
 
+/// Sorts numbers of entries by the coordinates, level by level: from the last level up, and where two have the same coordinate
+/// they stay as the levels below put them. Refused for want of memory alone.
+fn sort_numbers(
+    format: &[FormatLevel],
+    entries: &Entries,
+    numbers: &mut Vec<usize>,
+) -> Result<(), AllocError>
+    ensures moved { IsPermutation numbers.old.items numbers.new.items }
+    ensures sorted { OnOk result (IsSortedBy (λ left right. is_lt (slice_cmp nat_cmp (level_coords format.now entries.now.list left)
+        (level_coords format.now entries.now.list right))) numbers.new.items) }
+{
+    for level in (0..format.len()).rev() {
+        numbers.sort_by_cached_key(|number| coordinate(format, entries, level, *number))?;
+    }
+    Ok(())
+}
+
 /// The numbers of the entries in the order of their coordinates, level by level. Refused for want of memory alone.
 pub(crate) fn arrange(
     alloc: Global,
@@ -83,7 +100,7 @@ pub(crate) fn arrange(
     if are_in_order(format, entries, &numbers) {
         return Ok(numbers);
     }
-    numbers.sort_by(|left, right| compare_entries(format, entries, *left, *right))?;
+    sort_numbers(format, entries, &mut numbers)?;
     Ok(numbers)
 }
 

@@ -12,33 +12,45 @@ pub prepare-requires-clause-within : goal.prepare-requires-clause-within
 prepare-requires-clause-within c = may_hold c.in_ok-level.level c.requires
 
 pub insert_coord-first-requires-clause-parent : goal.insert_coord-first-requires-clause-parent
-insert_coord-first-requires-clause-parent c = (after_prepare c.in_ok-level.level c.prepare.new.self c.tell_rules.ensures c.in_ok-level.ensures.made c.requires c.in_ok-prepare.ensures.ok).0.allowed
+insert_coord-first-requires-clause-parent c =
+    (after_prepare c.in_ok-level.level c.prepare.new.self c.tell_rules.ensures c.in_ok-level.ensures.made c.requires
+    c.in_ok-prepare.ensures.ok).0.allowed
 
 pub insert_coord-first-requires-clause-may : goal.insert_coord-first-requires-clause-may
 insert_coord-first-requires-clause-may c =
-    let room = after_prepare c.in_ok-level.level c.prepare.new.self c.tell_rules.ensures c.in_ok-level.ensures.made c.requires c.in_ok-prepare.ensures.ok in
+    let room = after_prepare c.in_ok-level.level c.prepare.new.self c.tell_rules.ensures c.in_ok-level.ensures.made c.requires
+        c.in_ok-prepare.ensures.ok in
     may_insert c.prepare.new.self 0 3 room.0 (lit< tt) (lit< tt) (ap (λ es. position_of es 3) room.1)
 
 pub insert_coord-second-requires-clause-parent : goal.insert_coord-second-requires-clause-parent
 insert_coord-second-requires-clause-parent c =
-    let room = after_prepare c.in_ok-level.level c.prepare.new.self c.tell_rules.ensures c.in_ok-level.ensures.made c.requires c.in_ok-prepare.ensures.ok in
+    let room = after_prepare c.in_ok-level.level c.prepare.new.self c.tell_rules.ensures c.in_ok-level.ensures.made c.requires
+        c.in_ok-prepare.ensures.ok in
     let three = may_insert c.prepare.new.self 0 3 room.0 (lit< tt) (lit< tt) (ap (λ es. position_of es 3) room.1) in
-    (after_insert c.prepare.new.self c.insert_coord-first.new.self 0 3 c.insert_coord-first.result room.0 three c.insert_coord-first.ensures).allowed
+    (after_insert c.prepare.new.self c.insert_coord-first.new.self 0 3 c.insert_coord-first.result room.0 three
+        c.insert_coord-first.ensures).allowed
 
 pub insert_coord-second-requires-clause-may : goal.insert_coord-second-requires-clause-may
 insert_coord-second-requires-clause-may c =
-    let room = after_prepare c.in_ok-level.level c.prepare.new.self c.tell_rules.ensures c.in_ok-level.ensures.made c.requires c.in_ok-prepare.ensures.ok in
+    let room = after_prepare c.in_ok-level.level c.prepare.new.self c.tell_rules.ensures c.in_ok-level.ensures.made c.requires
+        c.in_ok-prepare.ensures.ok in
     let three = may_insert c.prepare.new.self 0 3 room.0 (lit< tt) (lit< tt) (ap (λ es. position_of es 3) room.1) in
-    let next = after_insert c.prepare.new.self c.insert_coord-first.new.self 0 3 c.insert_coord-first.result room.0 three c.insert_coord-first.ensures in
-    let none = still_none c.prepare.new.self c.insert_coord-first.new.self 3 7 c.insert_coord-first.result room.0.allowed three c.insert_coord-first.ensures (λ same. omega (arith, same)) (ap (λ es. position_of es 7) room.1) in
+    let next = after_insert c.prepare.new.self c.insert_coord-first.new.self 0 3 c.insert_coord-first.result room.0 three
+        c.insert_coord-first.ensures in
+    let none = still_none c.prepare.new.self c.insert_coord-first.new.self 3 7 c.insert_coord-first.result room.0.allowed three
+        c.insert_coord-first.ensures (λ same. omega (arith, same)) (ap (λ es. position_of es 7) room.1) in
     may_insert c.insert_coord-first.new.self 1 7 next (lit< tt) (lit< tt) none
 
 pub returns : goal.returns
 returns c = λ p h.
-    let room = after_prepare c.in_ok-level.level c.prepare.new.self c.tell_rules.ensures c.in_ok-level.ensures.made c.requires c.in_ok-prepare.ensures.ok in
+    let room = after_prepare c.in_ok-level.level c.prepare.new.self c.tell_rules.ensures c.in_ok-level.ensures.made c.requires
+        c.in_ok-prepare.ensures.ok in
     let three = may_insert c.prepare.new.self 0 3 room.0 (lit< tt) (lit< tt) (ap (λ es. position_of es 3) room.1) in
-    let next = after_insert c.prepare.new.self c.insert_coord-first.new.self 0 3 c.insert_coord-first.result room.0 three c.insert_coord-first.ensures in
-    let none = still_none c.prepare.new.self c.insert_coord-first.new.self 3 7 c.insert_coord-first.result room.0.allowed three c.insert_coord-first.ensures (λ same. omega (arith, same)) (ap (λ es. position_of es 7) room.1) in
+    let next = after_insert c.prepare.new.self c.insert_coord-first.new.self 0 3 c.insert_coord-first.result room.0 three
+        c.insert_coord-first.ensures in
+    let none = still_none c.prepare.new.self c.insert_coord-first.new.self 3 7 c.insert_coord-first.result room.0.allowed three
+        c.insert_coord-first.ensures (λ same. omega (arith, same)) (ap (λ es. position_of es 7) room.1) in
     let seven = may_insert c.insert_coord-first.new.self 1 7 next (lit< tt) (lit< tt) none in
-    let last = after_insert c.insert_coord-first.new.self c.insert_coord-second.new.self 1 7 c.insert_coord-second.result next seven c.insert_coord-second.ensures in
+    let last = after_insert c.insert_coord-first.new.self c.insert_coord-second.new.self 1 7 c.insert_coord-second.result next seven
+        c.insert_coord-second.ensures in
     subst (λ q. IsAllowed c.insert_coord-second.new.self (one q)) (omega (arith, h)) last.allowed
