@@ -1,10 +1,14 @@
 pub mod AddLaws
 pub mod BothLaws
 pub mod Equations
+pub mod Fits
 pub mod Kept
 pub mod LoopLaws
 pub mod LoopParts
+pub mod Pieces
 pub mod Rows
 pub mod Sequences
 pub mod Sides
 pub mod Turns
+pub mod Walks
+pub mod Whole

@@ -3,4 +3,6 @@
 //! code adds the contributions of a loop tree, within how many turns, and what a state that it is run from has to hold.
 #![tactic(auto)]
 
+mod beginning;
 mod closing;
+mod opening;
