@@ -13,7 +13,8 @@ loop-level-preserved c =
     let entries = c.args.entries.now.list in
     let level = c.loop-level.level-counter - 1 in
     let next : suc level ≡ c.loop-level.level-counter = let some = c.loop-level-test.true in omega (arith, some) in
-    let within : level < length format = let most = c.loop-level.auto.level-counter in let some = c.loop-level-test.true in omega (arith, most, some) in
+    let within : level < length format = let most = c.loop-level.auto.level-counter in let some = c.loop-level-test.true in
+    omega (arith, most, some) in
     let moved = c.sort_by_cached_key.ensures.permutation in
     let sorted : IsSortedByKey (key_at format entries level) nat_cmp c.sort_by_cached_key.new.self.items =
     c.in_ok-sort_by_cached_key.ensures.sorted (key_at format entries level)
