@@ -12,7 +12,7 @@ use Rattle.expr_terms.specs.Terms.{contains}
 use Rattle.expr_terms.specs.declared.term.Term.{Term}
 use Rattle.concrete_notation.specs.declared.concrete.Concrete.{Concrete, Add as AddOf, Forall, Both, Where, Forall', Both', Where'}
 use Rattle.concrete_notation.specs.declared.concrete.Concrete.TheBlock.{hidden-the_row-Concrete-0}
-use Rattle.concrete_notation.specs.Nests.{inside, nests, workspaces, next_loops, SharesLoops, IsOutermost}
+use Rattle.concrete_notation.specs.Nests.{inside, nests, workspaces, next_loops, SharesLoops}
 use Rattle.concrete_notation.specs.Nesting.{nest_in, next_of, shares, with_next, IsNest, IsPut}
 use Rattle.concrete_notation.proofs.Points.{contains_both, distinct_both, or_first}
 
@@ -39,17 +39,6 @@ workspaces_both first second = refl
 pub workspaces_where : (keys : List ℕ) (body : Concrete) → workspaces (Where keys body) ≡ keys ∷ workspaces body
 unfolding hidden-the_row-Concrete-0 hidden
 workspaces_where keys body = refl
-
--- a workspace around what has none
-pub where_outermost : (keys : List ℕ) (body : Concrete) → workspaces body ≡ [] → IsOutermost (Where keys body)
-unfolding hidden-the_row-Concrete-0 hidden
-where_outermost keys body h = h
-
-pub plain_outermost : (c : Concrete) → workspaces c ≡ [] → IsOutermost c
-plain_outermost (AddOf t) h = tt
-plain_outermost (Forall' v p body) h = h
-plain_outermost (Both' p first q second) h = h
-plain_outermost (Where' keys p body) h = absurd (cc h)
 
 pub next_both : (first second : Concrete) → next_loops (Both first second) ≡ next_loops first ++ next_loops second
 unfolding hidden-the_row-Concrete-0 hidden

@@ -46,13 +46,6 @@ abbrev mutual
   workspaces_in end_of-Concrete = []
   workspaces_in (more_of-Concrete c rest) = workspaces c
 
--- a workspace, if there is one, stands around all
-abbrev pub IsOutermost : Concrete → Type 0
-IsOutermost (Add t) = Unit {0}
-IsOutermost (Forall' v p body) = workspaces_in body ≡ []
-IsOutermost (Both' p first q second) = workspaces_in first ++ workspaces_in second ≡ []
-IsOutermost (Where' keys p body) = workspaces_in body ≡ []
-
 abbrev mutual
   -- the variables of the loops that stand in a concrete statement side by side
   pub next_loops : Concrete → List ℕ

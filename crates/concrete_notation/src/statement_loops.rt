@@ -4,7 +4,7 @@ ghost use Rattle.std.specs.List.{flat_map};
 ghost use Rattle.index_notation.specs.Statement.{IsNumbered, IsWellNamed};
 ghost use Rattle.expr_terms.specs.Groups.{groups as groups_of};
 ghost use Rattle.expr_terms.specs.Terms.{contains};
-ghost use Rattle.concrete_notation.specs.Nests.{Nest, workspaces, SharesLoops, IsOutermost, IsOrderOf, loops_of, left_in_order, HasTerms};
+ghost use Rattle.concrete_notation.specs.Nests.{Nest, workspaces, SharesLoops, IsOrderOf, loops_of, left_in_order, HasTerms};
 ghost use Rattle.concrete_notation.specs.Nesting.{nest_in, nests_of_group, IsMade};
 ghost use Rattle.concrete_notation.specs.Right.{IsRight};
 ghost use Rattle.concrete_notation.specs.Workspaces.{HasWorkspaces};
@@ -149,7 +149,6 @@ pub fn concretize(
     ensures right { IfOk result (IsRight statement.now) }
     ensures terms { IfOk result (HasTerms statement.now order.now) }
     ensures shared { IfOk result SharesLoops }
-    ensures outermost { IfOk result IsOutermost }
     ensures workspaces { IfOk result (HasWorkspaces statement.now order.now formats.now) }
 {
     let tree = loops_of_terms(alloc, statement, groups, order)?;

@@ -5,7 +5,6 @@ pub mod Reached
 pub mod RightLoops
 pub mod Rows
 pub mod Shapes
-pub mod SharedLoops
 pub mod Steps
 pub mod Told
 pub mod Walked

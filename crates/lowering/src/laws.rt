@@ -3,7 +3,7 @@ ghost use Rattle.std.specs.Prelude.{◌≡◌, ◌<◌, ◌^◌, ℕ, List, leng
 ghost use Rattle.numbers.specs.Arithmetic.{Arithmetic, Laws};
 ghost use Rattle.concrete_notation.specs.declared.concrete.Concrete.{Concrete};
 ghost use Rattle.concrete_notation.specs.Contributions.{Inputs};
-ghost use Rattle.concrete_notation.specs.Nests.{IsOutermost, SharesLoops, nests};
+ghost use Rattle.concrete_notation.specs.Nests.{nests};
 ghost use Rattle.format_spec.specs.declared.format.FormatLevel.{FormatLevel};
 ghost use Rattle.index_notation.specs.Statement.{IsNumbered, IsWellNamed};
 ghost use Rattle.index_notation.specs.declared.syntax.Statement.{Statement};
@@ -29,12 +29,6 @@ pub fn loops_are_right()
 /// Without its workspaces a concrete statement has its terms, in the same loops.
 pub fn bodies_have_the_terms()
     ensures { (c : Concrete) → nests (plain c) ≡ nests c }
-{}
-
-/// Where a workspace, if there is one, stands around all, no two loops over one variable stand side by side without it either, if none
-/// did.
-pub fn bodies_share_loops()
-    ensures { (c : Concrete) → IsOutermost c → SharesLoops c → SharesLoops (plain c) }
 {}
 
 /// There are as many rows as pairs of a term and a point at which it is present.

@@ -7,7 +7,5 @@ mod laws;
 mod lowering;
 mod seeking;
 
-pub use laws::{
-    bodies_have_the_terms, bodies_share_loops, loops_are_right, packed_tensors_stand, rows_are_pairs,
-};
+pub use laws::{bodies_have_the_terms, loops_are_right, packed_tensors_stand, rows_are_pairs};
 pub use lowering::lower;

@@ -2,13 +2,13 @@ use Rattle.std.specs.Prelude.{◌≡◌, ℕ, zero, suc, ◌<◌, Bool, true, fa
 use Rattle.std.specs.List.Sorted.{IsPermutation}
 use Rattle.std.proofs.Common.{◌∙◌, sym, ap, subst, arith, get_or}
 use Rattle.expr_terms.specs.Terms.{terms}
-use Rattle.concrete_notation.specs.Nests.{nests, workspaces, nest_of, left_in_order, SharesLoops, IsOutermost}
+use Rattle.concrete_notation.specs.Nests.{nests, workspaces, nest_of, left_in_order, SharesLoops}
 use Rattle.concrete_notation.specs.Right.{IsRight}
 use Rattle.concrete_notation.specs.Workspaces.{AreAllDense}
 use Rattle.concrete_notation.proofs.Around.{keys_distinct, keys_contain}
 use Rattle.concrete_notation.proofs.Right.{plain_is_right}
 use Rattle.concrete_notation.proofs.Through.{keyed_is_right}
-use Rattle.concrete_notation.proofs.Trees.{nests_where, workspaces_where, shared_where, plain_outermost, where_outermost}
+use Rattle.concrete_notation.proofs.Trees.{nests_where, workspaces_where, shared_where}
 use Rattle.concrete_notation.proofs.statement_loops.concretize.Goals as goal
 
 pub returns-then-is_all_dense-clause-right : goal.returns-then-is_all_dense-clause-right
@@ -36,14 +36,6 @@ pub returns-clause-shared : goal.returns-clause-shared
 returns-clause-shared c =
     subst SharesLoops (sym c.in_ok-all.ensures)
     (shared_where (left_in_order c.args.statement.now c.args.order.now) c.in_ok-tree.tree c.in_ok-tree.ensures.shared)
-
-pub returns-then-is_all_dense-clause-outermost : goal.returns-then-is_all_dense-clause-outermost
-returns-then-is_all_dense-clause-outermost c = plain_outermost c.in_ok-tree.tree c.in_ok-tree.ensures.plain
-
-pub returns-clause-outermost : goal.returns-clause-outermost
-returns-clause-outermost c =
-    subst IsOutermost (sym c.in_ok-all.ensures)
-    (where_outermost (left_in_order c.args.statement.now c.args.order.now) c.in_ok-tree.tree c.in_ok-tree.ensures.plain)
 
 -- within a list the default doesn't matter
 read_within : {X : Type 0} (xs : List X) (i : ℕ) (d e : X) → i < length xs → get_or xs i d ≡ get_or xs i e

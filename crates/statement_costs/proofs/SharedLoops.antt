@@ -1,10 +1,10 @@
--- Without a workspace around all, loops are shared as they were.
+-- Where a concrete statement has no workspace, its loops are shared as they were.
 use Rattle.std.specs.Prelude.{◌≡◌, ℕ, List, [], ◌∷◌, ◌++◌, refl}
 use Rattle.std.proofs.Common.{◌∙◌, sym, ap, subst}
 use Rattle.index_notation.specs.Statement.{IsDistinct}
 use Rattle.concrete_notation.specs.declared.concrete.Concrete.{Concrete, Add, Forall', Both', Where', Row_of-Concrete, end_of-Concrete}
 use Rattle.concrete_notation.specs.declared.concrete.Concrete.{more_of-Concrete}
-use Rattle.concrete_notation.specs.Nests.{IsOutermost, SharesLoops, SharesLoops_in, next_loops, next_loops_in, workspaces, workspaces_in}
+use Rattle.concrete_notation.specs.Nests.{SharesLoops, SharesLoops_in, next_loops, next_loops_in, workspaces, workspaces_in}
 use Rattle.concrete_notation.proofs.Trees.{next_both, next_forall, shared_both, shared_forall}
 use Rattle.lowering.specs.Lowered.{plain, plain_in}
 
@@ -31,7 +31,7 @@ mutual
   next_plain_in (more_of-Concrete c rest) h = next_plain c h
 
 mutual
-  shared_plain : (c : Concrete) → workspaces c ≡ [] → SharesLoops c → SharesLoops (plain c)
+  pub shared_plain : (c : Concrete) → workspaces c ≡ [] → SharesLoops c → SharesLoops (plain c)
   shared_plain (Add t) h s = tt
   shared_plain (Forall' v p body) h s = shared_forall v (plain_in body) (shared_plain_in body h s)
   shared_plain (Both' p f q g) h s =
@@ -47,9 +47,3 @@ mutual
   shared_plain_in : {m : _} (row : Row_of-Concrete m) → workspaces_in row ≡ [] → SharesLoops_in row → SharesLoops (plain_in row)
   shared_plain_in end_of-Concrete h s = tt
   shared_plain_in (more_of-Concrete c rest) h s = shared_plain c h s
-
-pub outermost_shared : (c : Concrete) → IsOutermost c → SharesLoops c → SharesLoops (plain c)
-outermost_shared (Add t) h s = tt
-outermost_shared (Forall' v p body) h s = shared_plain (Forall' v p body) h s
-outermost_shared (Both' p f q g) h s = shared_plain (Both' p f q g) h s
-outermost_shared (Where' keys p body) h s = shared_plain_in body h s
