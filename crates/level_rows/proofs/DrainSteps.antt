@@ -7,7 +7,8 @@ use Rattle.kernel_code.specs.Meaning.{Setting, State, value, word_of, set_var, o
 use Rattle.kernel_code.specs.Keeps.{Leaves, NoVariable, no_turns}
 use Rattle.kernel_code.proofs.Keeps.{other_var, leaves_set}
 use Rattle.kernel_code.specs.declared.syntax.Arr.{Arr}
-use Rattle.kernel_code.specs.declared.syntax.Arr.TheVariants.{Range, Values, Dimension, Ends, Coordinates, Width, Key, Sums, ListCoordinates, ListPositions}
+use Rattle.kernel_code.specs.declared.syntax.Arr.TheVariants.{Range, Values, Dimension, Ends, Coordinates, Width, Key, Sums}
+use Rattle.kernel_code.specs.declared.syntax.Arr.TheVariants.{ListCoordinates, ListPositions}
 use Rattle.kernel_code.specs.declared.syntax.LoopKind.{LoopKind}
 use Rattle.kernel_code.specs.declared.syntax.LoopKind.TheVariants.{Drain}
 use Rattle.kernel_code.specs.declared.syntax.KExpr.{KExpr}
@@ -23,16 +24,20 @@ use Rattle.level_rows.proofs.Progress.{Progress, Placing}
 use Rattle.level_rows.proofs.AppendSteps.{Stands}
 
 -- what the code of a level does, where `has log arrays` says that the arrays hold a level to which this was appended
-pub record Appends (c : Setting) (letter : Letter) (size level free : ℕ) (coord last begin count : KExpr) (append edges : List KStmt) (has : Log → Arrays → Type 0) : Type 0 where
+pub record Appends (c : Setting) (letter : Letter) (size level free : ℕ) (coord last begin count : KExpr) (append edges : List KStmt)
+    (has : Log → Arrays → Type 0) : Type 0 where
   pub there : (log : Log) (a b : Arrays) → ((x : Arr) → IsOf 0 level x → b x ≡ a x) → has log a → has log b
   pub is_log : (log : Log) (a : Arrays) → (properties letter).branchless ≡ false → has log a → IsLog log
   pub appends : (x : ℕ) (log : Log) (s : State) → MayAppend letter size x log → has log s.arrays → value coord s ≡ Some x
-      → Grows c append free 0 level no_turns s (λ t. has (with_coord x log) t.arrays × (length log.coords + 1 ≤ greatest_position_count)) (PassesLimit 0 level (length log.coords + 1))
-  pub gives : (parent from to : ℕ) (log : Log) (s : State) → MayAppendEdges letter parent from to log → has log s.arrays → value last s ≡ Some parent → value begin s ≡ Some from → value count s ≡ Some to
+      → Grows c append free 0 level no_turns s (λ t. has (with_coord x log) t.arrays × (length log.coords + 1 ≤ greatest_position_count))
+      (PassesLimit 0 level (length log.coords + 1))
+  pub gives : (parent from to : ℕ) (log : Log) (s : State) → MayAppendEdges letter parent from to log → has log s.arrays
+      → value last s ≡ Some parent → value begin s ≡ Some from → value count s ≡ Some to
       → Writes c edges free 0 level no_turns s (λ t. has (with_edges letter parent from to log) t.arrays)
 
 -- a state while rows are drained
-pub record Drained (has : Log → Arrays → Type 0) (level g base : ℕ) (s0 : State) (turns done last begin count : ℕ) (log : Log) (ps : List ℕ) (s : State) : Type 0 where
+pub record Drained (has : Log → Arrays → Type 0) (level g base : ℕ) (s0 : State) (turns done last begin count : ℕ) (log : Log) (ps : List ℕ)
+    (s : State) : Type 0 where
   pub held : has log s.arrays
   pub at : s.vars base ≡ Some done
   pub appended : s.vars (base + 1) ≡ Some count
@@ -42,7 +47,8 @@ pub record Drained (has : Log → Arrays → Type 0) (level g base : ℕ) (s0 : 
   pub leaves : Leaves NoVariable (Stays level g) base (turns_of Drain turns) s0 s
 
 -- a state before a turn, with so many rows left
-pub record Draining (letter : Letter) (has : Log → Arrays → Type 0) (level g base parents : ℕ) (rows : Rows) (s0 : State) (left : ℕ) (s : State) : Type 0 where
+pub record Draining (letter : Letter) (has : Log → Arrays → Type 0) (level g base parents : ℕ) (rows : Rows) (s0 : State) (left : ℕ)
+    (s : State) : Type 0 where
   pub done : ℕ
   pub last : ℕ
   pub begin : ℕ
@@ -55,7 +61,8 @@ pub record Draining (letter : Letter) (has : Log → Arrays → Type 0) (level g
   pub drained : Drained has level g base s0 done done last begin (length log.coords) log positions s
 
 -- after the test whether the row has another parent than the last one
-pub record TurnedTo (letter : Letter) (has : Log → Arrays → Type 0) (level g base parents : ℕ) (rows : Rows) (s0 : State) (done : ℕ) (ps : List ℕ) (s : State) : Type 0 where
+pub record TurnedTo (letter : Letter) (has : Log → Arrays → Type 0) (level g base parents : ℕ) (rows : Rows) (s0 : State) (done : ℕ)
+    (ps : List ℕ) (s : State) : Type 0 where
   pub begin : ℕ
   pub log : Log
   pub progress : Progress letter parents done (rows.parent done) begin rows log
@@ -63,7 +70,8 @@ pub record TurnedTo (letter : Letter) (has : Log → Arrays → Type 0) (level g
   pub first : s.vars (base + 5) ≡ Some (word_of (rows.first done))
 
 -- after the test whether the row begins a position
-pub record AddedTo (letter : Letter) (has : Log → Arrays → Type 0) (level g base parents : ℕ) (rows : Rows) (s0 : State) (done : ℕ) (ps : List ℕ) (s : State) : Type 0 where
+pub record AddedTo (letter : Letter) (has : Log → Arrays → Type 0) (level g base parents : ℕ) (rows : Rows) (s0 : State) (done : ℕ)
+    (ps : List ℕ) (s : State) : Type 0 where
   pub begin : ℕ
   pub log : Log
   pub progress : Progress letter parents (suc done) (rows.parent done) begin rows log
@@ -82,8 +90,10 @@ list_apart level g (ListCoordinates n) of = absurd of
 list_apart level g (ListPositions n) of = absurd of
 
 -- a variable above those of the drain is set
-pub set_temp : (has : Log → Arrays → Type 0) (level g base : ℕ) (s0 : State) (turns done last begin count : ℕ) (log : Log) (ps : List ℕ) (s : State) (x v : ℕ) → base + 4 ≤ x
-    → Drained has level g base s0 turns done last begin count log ps s → Drained has level g base s0 turns done last begin count log ps (set_var s x v)
+pub set_temp : (has : Log → Arrays → Type 0) (level g base : ℕ) (s0 : State) (turns done last begin count : ℕ) (log : Log) (ps : List ℕ)
+    (s : State) (x v : ℕ) → base + 4 ≤ x
+    → Drained has level g base s0 turns done last begin count log ps s
+    → Drained has level g base s0 turns done last begin count log ps (set_var s x v)
 set_temp has level g base s0 turns done last begin count log ps s x v h d = record {
   held = d.held;
   at = other_var s x base v (λ e. omega (arith, h, e)) ∙ d.at;
@@ -95,8 +105,10 @@ set_temp has level g base s0 turns done last begin count log ps s x v h d = reco
 }
 
 -- a fragment of the level wrote
-pub written : (has : Log → Arrays → Type 0) (level g base : ℕ) (s0 : State) (turns done last begin count : ℕ) (log more : Log) (ps : List ℕ) (s t : State)
-    → Drained has level g base s0 turns done last begin count log ps s → Leaves NoVariable (IsOutside 0 level) (base + 6) no_turns s t → has more t.arrays → Drained has level g base s0 turns done last begin count more ps t
+pub written : (has : Log → Arrays → Type 0) (level g base : ℕ) (s0 : State) (turns done last begin count : ℕ) (log more : Log) (ps : List ℕ)
+    (s t : State)
+    → Drained has level g base s0 turns done last begin count log ps s → Leaves NoVariable (IsOutside 0 level) (base + 6) no_turns s t
+    → has more t.arrays → Drained has level g base s0 turns done last begin count more ps t
 written has level g base s0 turns done last begin count log more ps s t d l held = record {
   held = held;
   at = l.below base (omega arith) (λ m. m) ∙ d.at;
@@ -115,8 +127,10 @@ turn_more : (b : Bool) (n x y : ℕ) → y ≤ x + (if b then n else 0) → (if 
 turn_more true n x y h = omega (arith, h)
 turn_more false n x y h = omega (arith, h)
 
-pub one_drained : (has : Log → Arrays → Type 0) (level g base : ℕ) (s0 : State) (turns done last begin count : ℕ) (log : Log) (ps : List ℕ) (s : State)
-    → Drained has level g base s0 turns done last begin count log ps s → Drained has level g base s0 (turns + 1) done last begin count log ps (one_turn s Drain)
+pub one_drained : (has : Log → Arrays → Type 0) (level g base : ℕ) (s0 : State) (turns done last begin count : ℕ) (log : Log) (ps : List ℕ)
+    (s : State)
+    → Drained has level g base s0 turns done last begin count log ps s
+    → Drained has level g base s0 (turns + 1) done last begin count log ps (one_turn s Drain)
 one_drained has level g base s0 turns done last begin count log ps s d = record {
   held = d.held;
   at = d.at;
@@ -124,7 +138,11 @@ one_drained has level g base s0 turns done last begin count log ps s d = record 
   from = d.from;
   parent = d.parent;
   places = d.places;
-  leaves = record { below = d.leaves.below; arrays = d.leaves.arrays; turns = λ k. turn_more (same_kind Drain k) turns (s0.turns k) (s.turns k) (d.leaves.turns k) };
+  leaves = record {
+    below = d.leaves.below;
+    arrays = d.leaves.arrays;
+    turns = λ k. turn_more (same_kind Drain k) turns (s0.turns k) (s.turns k) (d.leaves.turns k);
+  };
 }
 
 turns_upto : (b : Bool) (n m : ℕ) → n ≤ m → (if b then n else 0) ≤ (if b then m else 0)
@@ -132,5 +150,8 @@ turns_upto true n m h = h
 turns_upto false n m h = omega arith
 
 -- turns that were made until a growth was refused
-pub refused_turns : (level g base : ℕ) (s0 s : State) (turns most : ℕ) (made : LoopKind → ℕ) → turns ≤ most → Leaves NoVariable (Stays level g) base (turns_of Drain turns) s0 s → ((k : LoopKind) → made k ≤ s.turns k + 0) → (k : LoopKind) → made k ≤ s0.turns k + turns_of Drain most k
-refused_turns level g base s0 s turns most made h l m k = let a = m k in let b = l.turns k in let c = turns_upto (same_kind Drain k) turns most h in omega (arith, a, b, c)
+pub refused_turns : (level g base : ℕ) (s0 s : State) (turns most : ℕ) (made : LoopKind → ℕ) → turns ≤ most
+    → Leaves NoVariable (Stays level g) base (turns_of Drain turns) s0 s → ((k : LoopKind) → made k ≤ s.turns k + 0) → (k : LoopKind)
+    → made k ≤ s0.turns k + turns_of Drain most k
+refused_turns level g base s0 s turns most made h l m k = let a = m k in let b = l.turns k in
+    let c = turns_upto (same_kind Drain k) turns most h in omega (arith, a, b, c)

@@ -22,7 +22,8 @@ inserts_else SingletonGroups h = absurd (apart h)
 inserts_else Hashed h = refl
 
 -- at most half as many coordinates stand below one parent as a level has positions
-half : (rows : Rows) (parents most positions : ℕ) → most ≤ 2 ^ 62 → ((i : ℕ) → i < rows.count → rows.parent i < parents) → IsGreatestBelow rows most → positions ≡ parents * slot_width most → most ≤ positions
+half : (rows : Rows) (parents most positions : ℕ) → most ≤ 2 ^ 62 → ((i : ℕ) → i < rows.count → rows.parent i < parents)
+    → IsGreatestBelow rows most → positions ≡ parents * slot_width most → most ≤ positions
 half rows parents most positions small within g is = by_reached g.reached
   where
     by_reached : (most ≡ 0) ⊎ ((i : ℕ) × (i < rows.count) × (begun_below rows (rows.parent i) rows.count ≡ most)) → most ≤ positions
@@ -34,7 +35,9 @@ half rows parents most positions small within g is = by_reached g.reached
         let more : 1 * slot_width most ≤ parents * slot_width most = mul-le-mul_right (slot_width most) one in
         omega (arith, wide, more, is)
 
-pub few_below : (letter : Letter) (size parents : ℕ) (rows : Rows) (positions most : ℕ) → (capabilities letter).append ≡ false → ((i : ℕ) → i < rows.count → rows.parent i < parents) → most ≤ 2 ^ 62 → AreNeeded letter size parents rows positions most → most ≤ positions
+pub few_below : (letter : Letter) (size parents : ℕ) (rows : Rows) (positions most : ℕ) → (capabilities letter).append ≡ false
+    → ((i : ℕ) → i < rows.count → rows.parent i < parents) → most ≤ 2 ^ 62 → AreNeeded letter size parents rows positions most
+    → most ≤ positions
 few_below Dense size parents rows positions most h within small need = let k = need.full refl in omega (arith, k)
 few_below Compressed size parents rows positions most h within small need = absurd (apart h)
 few_below CompressedGroups size parents rows positions most h within small need = absurd (apart h)

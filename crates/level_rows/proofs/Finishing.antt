@@ -29,7 +29,8 @@ take_far p (suc more) ns =
 
 -- positions of the first parents are no more than those of more parents
 pub take_upto : (p q : ℕ) (ns : List ℕ) → p ≤ q → total (take p ns) ≤ total (take q ns)
-take_upto p q ns h = let same : p + (q - p) ≡ q = omega (arith, h) in subst (λ k. total (take p ns) ≤ total (take k ns)) same (take_far p (q - p) ns)
+take_upto p q ns h = let same : p + (q - p) ≡ q = omega (arith, h) in
+    subst (λ k. total (take p ns) ≤ total (take k ns)) same (take_far p (q - p) ns)
 
 take_within : (p : ℕ) (ns : List ℕ) → total (take p ns) ≤ total ns
 take_within zero ns = omega arith
@@ -37,23 +38,27 @@ take_within (suc p) [] = omega arith
 take_within (suc p) (n ∷ ns) = let k = take_within p ns in omega (arith, k)
 
 -- a position of a segment has the coordinate that stands there
-coord_between : (coords : List ℕ) (s : Span) (pos : ℕ) → s.hi ≤ length coords → IsIn pos s → coord_at (entries_between coords s) pos ≡ Some (slice_index coords pos)
+coord_between : (coords : List ℕ) (s : Span) (pos : ℕ) → s.hi ≤ length coords → IsIn pos s
+    → coord_at (entries_between coords s) pos ≡ Some (slice_index coords pos)
 coord_between coords s pos h is =
-    let long : length (slice coords s) ≡ s.hi - s.lo = length-take-le (s.hi - s.lo) (drop s.lo coords) (let k = length-drop s.lo coords in omega (arith, k, h)) in
+    let long : length (slice coords s) ≡ s.hi - s.lo = length-take-le (s.hi - s.lo) (drop s.lo coords) (let k = length-drop s.lo coords in
+    omega (arith, k, h)) in
     let from = is.0 in
     let before = is.1 in
     let inside : pos - s.lo < length (slice coords s) = omega (arith, long, from, before) in
     let there : s.lo + (pos - s.lo) ≡ pos = omega (arith, from) in
     groups_coord s.lo (slice coords s) pos from (omega (arith, long, from, before))
     ∙ slice_get-get_or (slice coords s) (pos - s.lo) 0 inside
-    ∙ ap Some (get_or-take (s.hi - s.lo) (drop s.lo coords) (pos - s.lo) 0 (omega (arith, from, before)) ∙ get_or-drop s.lo coords (pos - s.lo) 0 ∙ ap (slice_index coords) there)
+    ∙ ap Some (get_or-take (s.hi - s.lo) (drop s.lo coords) (pos - s.lo) 0 (omega (arith, from, before))
+    ∙ get_or-drop s.lo coords (pos - s.lo) 0 ∙ ap (slice_index coords) there)
 
 -- what finishing tells of the level
 pub record Finished (log : Log) (allowed : Span → Type 0) (segment_of : Span → Span) (entries : Span → List Entry) : Type 0 where
   pub segments : (parent : Span) → allowed parent → segment_of parent ≡ segment_in log.counts parent
   pub entries_are : (parent : Span) → allowed parent → entries parent ≡ entries_between log.coords (segment_of parent)
 
-pub stands_for : (full : Bool) (parents : ℕ) (rows : Rows) (log : Log) (allowed : Span → Type 0) (segment_of : Span → Span) (entries : Span → List Entry) → (0 < rows.count → rows.first 0 ≡ true)
+pub stands_for : (full : Bool) (parents : ℕ) (rows : Rows) (log : Log) (allowed : Span → Type 0) (segment_of : Span → Span)
+    (entries : Span → List Entry) → (0 < rows.count → rows.first 0 ≡ true)
     → Filled parents rows log → Finished log allowed segment_of entries → StandsFor full allowed segment_of entries rows (place rows.first)
 stands_for full parents rows log allowed segment_of entries starts f is = record {
   has = λ parent i ok h in_it.
@@ -61,8 +66,10 @@ stands_for full parents rows log allowed segment_of entries starts f is = record
       let lo = take_upto parent.lo (rows.parent i) log.counts in_it.0 in
       let hi = take_upto (rows.parent i + 1) parent.hi log.counts (let l = in_it.1 in omega (arith, l)) in
       subst (λ es. coord_at es (place rows.first i) ≡ Some (rows.coord i)) (sym (entries_at parent ok))
-      (coord_between log.coords (segment_in log.counts parent) (place rows.first i) (ends parent) (let x = b.0 in let y = b.1 in (omega (arith, x, lo), omega (arith, y, hi))) ∙ ap Some (f.appended.at i h));
-  alone = λ parent i ok h at. by_order parent i h (subst (IsIn (place rows.first i)) (is.segments parent ok) at) (cases_lt (rows.parent i) parent.lo) (cases_lt (rows.parent i) parent.hi);
+      (coord_between log.coords (segment_in log.counts parent) (place rows.first i) (ends parent)
+      (let x = b.0 in let y = b.1 in (omega (arith, x, lo), omega (arith, y, hi))) ∙ ap Some (f.appended.at i h));
+  alone = λ parent i ok h at. by_order parent i h (subst (IsIn (place rows.first i)) (is.segments parent ok) at)
+      (cases_lt (rows.parent i) parent.lo) (cases_lt (rows.parent i) parent.hi);
   only = λ _ parent pos x ok at c.
       let s = subst (IsIn pos) (is.segments parent ok) at in
       let e = ends parent in
@@ -77,7 +84,9 @@ stands_for full parents rows log allowed segment_of entries starts f is = record
     entries_at : (parent : Span) → allowed parent → entries parent ≡ entries_between log.coords (segment_in log.counts parent)
     entries_at parent ok = is.entries_are parent ok ∙ ap (entries_between log.coords) (is.segments parent ok)
 
-    by_order : (parent : Span) (i : ℕ) → i < rows.count → IsIn (place rows.first i) (segment_in log.counts parent) → (rows.parent i < parent.lo) ⊎ (parent.lo ≤ rows.parent i) → (rows.parent i < parent.hi) ⊎ (parent.hi ≤ rows.parent i) → IsIn (rows.parent i) parent
+    by_order : (parent : Span) (i : ℕ) → i < rows.count → IsIn (place rows.first i) (segment_in log.counts parent)
+        → (rows.parent i < parent.lo) ⊎ (parent.lo ≤ rows.parent i) → (rows.parent i < parent.hi) ⊎ (parent.hi ≤ rows.parent i)
+        → IsIn (rows.parent i) parent
     by_order parent i h at (inr from) (inl before) = (from, before)
     by_order parent i h at (inl early) late =
         let b = (f.below i h).1 in
@@ -91,7 +100,8 @@ stands_for full parents rows log allowed segment_of entries starts f is = record
         absurd (omega (arith, b, k, a))
 
 -- rows that have the same places
-pub stands_along : (full : Bool) (asked then_asked : Span → Type 0) (segment_of : Span → Span) (entries : Span → List Entry) (rows : Rows) (place then_place : ℕ → ℕ)
+pub stands_along : (full : Bool) (asked then_asked : Span → Type 0) (segment_of : Span → Span) (entries : Span → List Entry) (rows : Rows)
+    (place then_place : ℕ → ℕ)
     → ((s : Span) → then_asked s → asked s) → ((i : ℕ) → i < rows.count → then_place i ≡ place i)
     → StandsFor full asked segment_of entries rows place → StandsFor full then_asked segment_of entries rows then_place
 stands_along full asked then_asked segment_of entries rows place then_place fewer same s = record {

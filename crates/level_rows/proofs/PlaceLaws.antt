@@ -23,17 +23,23 @@ use Rattle.level_rows.proofs.Entries.{coord_from, stands_within}
 use Rattle.level_rows.proofs.TableLaws.{agree_trans, agree_less, agree_more, between, after, coords_upto}
 
 -- rows that agree above a level and differ there or before rise
-rises : (coords : ℕ → ℕ → ℕ) (order count d i j : ℕ) → Increase coords order count → i < j → j < count → Agree coords d i j → (Agree coords (suc d) i j → ⊥) → coords d i < coords d j
+rises : (coords : ℕ → ℕ → ℕ) (order count d i j : ℕ) → Increase coords order count → i < j → j < count → Agree coords d i j
+    → (Agree coords (suc d) i j → ⊥) → coords d i < coords d j
 rises coords order count d i j up less h a differ = by_order (cases_lt (coords d i) (coords d j))
   where
     by_order : (coords d i < coords d j) ⊎ (coords d j ≤ coords d i) → coords d i < coords d j
     by_order (inl l) = l
-    by_order (inr l) = let k = coords_upto coords order count d i j up less h a in absurd (differ (agree_more coords d i j a (omega (arith, k, l))))
+    by_order (inr l) = let k = coords_upto coords order count d i j up less h a in
+        absurd (differ (agree_more coords d i j a (omega (arith, k, l))))
 
 -- a level that appends may be given the rows of a table
-pub may_append_rows : (letter : Letter) (coords : ℕ → ℕ → ℕ) (order d n above size parents : ℕ) (rows : Rows) → Increase coords order rows.count → AreRowsOf coords d n size rows
-    → ShareBy coords above rows.count parents rows.parent → NeverFall rows.count rows.parent → d < n → above ≤ n → ((properties letter).unique ≡ true → n ≡ suc d)
-    → ((properties letter).branchless ≡ false → above ≡ d) → ((properties letter).branchless ≡ true → (above ≡ n) × AllPlaced rows.count parents rows.parent) → MayAppendRows letter size parents rows
+pub may_append_rows : (letter : Letter) (coords : ℕ → ℕ → ℕ) (order d n above size parents : ℕ) (rows : Rows)
+    → Increase coords order rows.count → AreRowsOf coords d n size rows
+    → ShareBy coords above rows.count parents rows.parent → NeverFall rows.count rows.parent → d < n → above ≤ n
+    → ((properties letter).unique ≡ true → n ≡ suc d)
+    → ((properties letter).branchless ≡ false → above ≡ d)
+    → ((properties letter).branchless ≡ true → (above ≡ n) × AllPlaced rows.count parents rows.parent)
+    → MayAppendRows letter size parents rows
 may_append_rows letter coords order d n above size parents rows up are share never deep end unique top chained = record {
   order = record {
     below = λ i h. let c = are.coord i h in let b = are.below i h in omega (arith, c, b);
@@ -44,11 +50,13 @@ may_append_rows letter coords order d n above size parents rows up are share nev
   };
   each = λ b. record {
     some = (chained b).1;
-    alone = λ i h first same. are.begins.differs i h first (subst (λ m. Agree coords m i (suc i)) (chained b).0 (share.agree i (suc i) (omega arith) h (sym same)));
+    alone = λ i h first same. are.begins.differs i h first
+        (subst (λ m. Agree coords m i (suc i)) (chained b).0 (share.agree i (suc i) (omega arith) h (sym same)));
   };
 }
   where
-    again : (i : ℕ) → suc i < rows.count → Agree coords n i (suc i) → (rows.parent (suc i) ≡ rows.parent i) × (rows.coord (suc i) ≡ rows.coord i)
+    again : (i : ℕ) → suc i < rows.count → Agree coords n i (suc i)
+        → (rows.parent (suc i) ≡ rows.parent i) × (rows.coord (suc i) ≡ rows.coord i)
     again i h a =
         let low = are.coord i (omega (arith, h)) in
         let high = are.coord (suc i) h in
@@ -58,11 +66,13 @@ may_append_rows letter coords order d n above size parents rows up are share nev
     apart : true ≡ false → ⊥
     apart e = cc
 
-    gaps : (b : Bool) (i : ℕ) → (properties letter).unique ≡ b → suc i < rows.count → rows.first (suc i) ≡ true → Agree coords d i (suc i) → rows.coord i + gap b ≤ rows.coord (suc i)
+    gaps : (b : Bool) (i : ℕ) → (properties letter).unique ≡ b → suc i < rows.count → rows.first (suc i) ≡ true → Agree coords d i (suc i)
+        → rows.coord i + gap b ≤ rows.coord (suc i)
     gaps true i is h first a =
         let low = are.coord i (omega (arith, h)) in
         let high = are.coord (suc i) h in
-        let less = rises coords order rows.count d i (suc i) up (omega arith) h a (λ b. are.begins.differs i h first (subst (λ m. Agree coords m i (suc i)) (sym (unique is)) b)) in
+        let less = rises coords order rows.count d i (suc i) up (omega arith) h a
+        (λ b. are.begins.differs i h first (subst (λ m. Agree coords m i (suc i)) (sym (unique is)) b)) in
         omega (arith, low, high, less)
     gaps false i is h first a =
         let low = are.coord i (omega (arith, h)) in
@@ -70,11 +80,16 @@ may_append_rows letter coords order d n above size parents rows up are share nev
         let less = coords_upto coords order rows.count d i (suc i) up (omega arith) h a in
         omega (arith, low, high, less)
 
-    by_branch : (b : Bool) (i : ℕ) → (properties letter).branchless ≡ b → suc i < rows.count → rows.first (suc i) ≡ true → rows.parent i ≡ rows.parent (suc i) → rows.coord i + gap (properties letter).unique ≤ rows.coord (suc i)
-    by_branch true i is h first same = absurd (are.begins.differs i h first (subst (λ m. Agree coords m i (suc i)) (chained is).0 (share.agree i (suc i) (omega arith) h same)))
-    by_branch false i is h first same = gaps (properties letter).unique i refl h first (subst (λ m. Agree coords m i (suc i)) (top is) (share.agree i (suc i) (omega arith) h same))
+    by_branch : (b : Bool) (i : ℕ) → (properties letter).branchless ≡ b → suc i < rows.count → rows.first (suc i) ≡ true
+        → rows.parent i ≡ rows.parent (suc i) → rows.coord i + gap (properties letter).unique ≤ rows.coord (suc i)
+    by_branch true i is h first same =
+        absurd (are.begins.differs i h first
+        (subst (λ m. Agree coords m i (suc i)) (chained is).0 (share.agree i (suc i) (omega arith) h same)))
+    by_branch false i is h first same = gaps (properties letter).unique i refl h first
+        (subst (λ m. Agree coords m i (suc i)) (top is) (share.agree i (suc i) (omega arith) h same))
 
-    by_parent : (i : ℕ) → suc i < rows.count → rows.first (suc i) ≡ true → (rows.parent i < rows.parent (suc i)) ⊎ (rows.parent (suc i) ≤ rows.parent i) → IsBehind (properties letter).unique rows i
+    by_parent : (i : ℕ) → suc i < rows.count → rows.first (suc i) ≡ true
+        → (rows.parent i < rows.parent (suc i)) ⊎ (rows.parent (suc i) ≤ rows.parent i) → IsBehind (properties letter).unique rows i
     by_parent i h first (inl less) = inl less
     by_parent i h first (inr near) =
         let rise = never i h in
@@ -82,12 +97,15 @@ may_append_rows letter coords order d n above size parents rows up are share nev
         inr (same, by_branch (properties letter).branchless i refl h first same)
 
 -- rows of one parent stand together
-pub together : (coords : ℕ → ℕ → ℕ) (order above parents : ℕ) (rows : Rows) → Increase coords order rows.count → ShareBy coords above rows.count parents rows.parent → AreTogether rows
+pub together : (coords : ℕ → ℕ → ℕ) (order above parents : ℕ) (rows : Rows) → Increase coords order rows.count
+    → ShareBy coords above rows.count parents rows.parent → AreTogether rows
 together coords order above parents rows up share i j k first second h same =
-    share.share j k second h (after coords order rows.count above i j k up first second h (share.agree i k (omega (arith, first, second)) h same))
+    share.share j k second h (after coords order rows.count above i j k up first second h
+    (share.agree i k (omega (arith, first, second)) h same))
 
 -- rows of a table may be inserted
-pub may_insert_rows : (coords : ℕ → ℕ → ℕ) (order d size parents : ℕ) (rows : Rows) → Increase coords order rows.count → AreRowsOf coords d (suc d) size rows → ShareBy coords d rows.count parents rows.parent → MayInsertRows size parents rows
+pub may_insert_rows : (coords : ℕ → ℕ → ℕ) (order d size parents : ℕ) (rows : Rows) → Increase coords order rows.count
+    → AreRowsOf coords d (suc d) size rows → ShareBy coords d rows.count parents rows.parent → MayInsertRows size parents rows
 may_insert_rows coords order d size parents rows up are share = record {
   below = λ i h. let c = are.coord i h in let b = are.below i h in omega (arith, c, b);
   within = share.within;
@@ -111,12 +129,16 @@ may_insert_rows coords order d size parents rows up are share = record {
       where
         by_near : Agree coords (suc d) i (suc m) → (i < m) ⊎ (m ≤ i) → ⊥
         by_near a (inl far) = are.begins.differs m h first (after coords order rows.count (suc d) i m (suc m) up far (omega arith) h a)
-        by_near a (inr near) = let here : i ≡ m = omega (arith, near, less) in are.begins.differs m h first (subst (λ k. Agree coords (suc d) k (suc m)) here a)
+        by_near a (inr near) = let here : i ≡ m = omega (arith, near, less) in
+            are.begins.differs m h first (subst (λ k. Agree coords (suc d) k (suc m)) here a)
 
 -- no position is begun from row to row where rows agree
-none_begun : (coords : ℕ → ℕ → ℕ) (order n i more : ℕ) (rows : Rows) → Increase coords order rows.count → Begins coords n rows.count rows.first → i + more < rows.count → Agree coords n i (i + more) → begun rows.first (suc (i + more)) ≡ begun rows.first (suc i)
+none_begun : (coords : ℕ → ℕ → ℕ) (order n i more : ℕ) (rows : Rows) → Increase coords order rows.count
+    → Begins coords n rows.count rows.first → i + more < rows.count → Agree coords n i (i + more)
+    → begun rows.first (suc (i + more)) ≡ begun rows.first (suc i)
 none_begun coords order n i zero rows up begins h a = let same : i + 0 ≡ i = omega arith in ap (λ j. begun rows.first (suc j)) same
-none_begun coords order n i (suc more) rows up begins h a = by_next (none_begun coords order n i more rows up begins (omega (arith, h))) (cases_lt 0 more)
+none_begun coords order n i (suc more) rows up begins h a =
+    by_next (none_begun coords order n i more rows up begins (omega (arith, h))) (cases_lt 0 more)
   where
     next : i + suc more ≡ suc (i + more)
     next = omega arith
@@ -134,11 +156,13 @@ none_begun coords order n i (suc more) rows up begins h a = by_next (none_begun 
         by_first true is = absurd (begins.differs (i + more) inside is same)
         by_first false is = is
 
-    step : (Agree coords n i (i + more) → begun rows.first (suc (i + more)) ≡ begun rows.first (suc i)) → Agree coords n i (i + more) → Agree coords n (i + more) (suc (i + more)) → begun rows.first (suc (i + suc more)) ≡ begun rows.first (suc i)
+    step : (Agree coords n i (i + more) → begun rows.first (suc (i + more)) ≡ begun rows.first (suc i)) → Agree coords n i (i + more)
+        → Agree coords n (i + more) (suc (i + more)) → begun rows.first (suc (i + suc more)) ≡ begun rows.first (suc i)
     step again earlier same =
         ap (λ j. begun rows.first (suc j)) next ∙ begun_no rows (suc (i + more)) (not_first same) ∙ again earlier
 
-    by_next : (Agree coords n i (i + more) → begun rows.first (suc (i + more)) ≡ begun rows.first (suc i)) → (0 < more) ⊎ (more ≤ 0) → begun rows.first (suc (i + suc more)) ≡ begun rows.first (suc i)
+    by_next : (Agree coords n i (i + more) → begun rows.first (suc (i + more)) ≡ begun rows.first (suc i)) → (0 < more) ⊎ (more ≤ 0)
+        → begun rows.first (suc (i + suc more)) ≡ begun rows.first (suc i)
     by_next again (inl some) =
         step again (between coords order rows.count n i (i + more) (suc (i + more)) up (omega (arith, some)) (omega arith) inside to_next)
         (after coords order rows.count n i (i + more) (suc (i + more)) up (omega (arith, some)) (omega arith) inside to_next)
@@ -147,31 +171,42 @@ none_begun coords order n i (suc more) rows up begins h a = by_next (none_begun 
         step again (λ e l. ap (coords e) (sym here)) (subst (λ k. Agree coords n k (suc (i + more))) (sym here) to_next)
 
 -- rows agree where no position is begun from one to the other
-begun_agree : (coords : ℕ → ℕ → ℕ) (n i more : ℕ) (rows : Rows) → Begins coords n rows.count rows.first → i + more < rows.count → begun rows.first (suc (i + more)) ≡ begun rows.first (suc i) → Agree coords n i (i + more)
+begun_agree : (coords : ℕ → ℕ → ℕ) (n i more : ℕ) (rows : Rows) → Begins coords n rows.count rows.first → i + more < rows.count
+    → begun rows.first (suc (i + more)) ≡ begun rows.first (suc i) → Agree coords n i (i + more)
 begun_agree coords n i zero rows begins h same = let at : i + 0 ≡ i = omega arith in λ e l. ap (coords e) (sym at)
 begun_agree coords n i (suc more) rows begins h same =
     let next : i + suc more ≡ suc (i + more) = omega arith in
     let inside : suc (i + more) < rows.count = omega (arith, h) in
     let last = ap (λ j. begun rows.first (suc j)) next in
-    subst (λ j. Agree coords n i j) (sym next) (by_first (begun_agree coords n i more rows begins (omega (arith, inside))) inside (sym last ∙ same) (rows.first (suc (i + more))) refl)
+    subst (λ j. Agree coords n i j) (sym next)
+    (by_first (begun_agree coords n i more rows begins (omega (arith, inside))) inside (sym last ∙ same)
+    (rows.first (suc (i + more))) refl)
   where
-    by_first : (begun rows.first (suc (i + more)) ≡ begun rows.first (suc i) → Agree coords n i (i + more)) → suc (i + more) < rows.count → begun rows.first (suc (suc (i + more))) ≡ begun rows.first (suc i) → (b : Bool) → rows.first (suc (i + more)) ≡ b → Agree coords n i (suc (i + more))
-    by_first again inside same true is = let one = begun_yes rows (suc (i + more)) is in let rise = begun_upto rows (suc i) (suc (i + more)) (omega arith) in absurd (omega (arith, one, rise, same))
+    by_first : (begun rows.first (suc (i + more)) ≡ begun rows.first (suc i) → Agree coords n i (i + more)) → suc (i + more) < rows.count
+        → begun rows.first (suc (suc (i + more))) ≡ begun rows.first (suc i) → (b : Bool) → rows.first (suc (i + more)) ≡ b
+        → Agree coords n i (suc (i + more))
+    by_first again inside same true is = let one = begun_yes rows (suc (i + more)) is in
+        let rise = begun_upto rows (suc i) (suc (i + more)) (omega arith) in absurd (omega (arith, one, rise, same))
     by_first again inside same false is =
-        agree_trans coords n i (i + more) (suc (i + more)) (again (sym (begun_no rows (suc (i + more)) is) ∙ same)) (begins.agrees (i + more) inside is)
+        agree_trans coords n i (i + more) (suc (i + more)) (again (sym (begun_no rows (suc (i + more)) is) ∙ same))
+        (begins.agrees (i + more) inside is)
 
 -- how appended rows share their positions
-pub appended_share : (coords : ℕ → ℕ → ℕ) (order n : ℕ) (rows : Rows) (place_of : ℕ → ℕ) → Increase coords order rows.count → Begins coords n rows.count rows.first → ((i : ℕ) → i < rows.count → place_of i ≡ place rows.first i)
+pub appended_share : (coords : ℕ → ℕ → ℕ) (order n : ℕ) (rows : Rows) (place_of : ℕ → ℕ) → Increase coords order rows.count
+    → Begins coords n rows.count rows.first → ((i : ℕ) → i < rows.count → place_of i ≡ place rows.first i)
     → ShareBy coords n rows.count (begun rows.first rows.count) place_of
 appended_share coords order n rows place_of up begins numbered = record {
-  within = λ i h. let at = numbered i h in let k = place_within rows i rows.count (begins.start (omega (arith, h))) h in omega (arith, at, k);
+  within = λ i h. let at = numbered i h in let k = place_within rows i rows.count (begins.start (omega (arith, h))) h in
+      omega (arith, at, k);
   agree = λ i j less h same.
       let low = numbered i (omega (arith, less, h)) in
       let high = numbered j h in
       let a = some i (omega (arith, less, h)) in
       let b = some j h in
       let at : i + (j - i) ≡ j = omega (arith, less) in
-      subst (λ k. Agree coords n i k) at (begun_agree coords n i (j - i) rows begins (omega (arith, at, h)) (ap (λ k. begun rows.first (suc k)) at ∙ (let e : begun rows.first (suc j) ≡ begun rows.first (suc i) = omega (arith, low, high, a, b, same) in e)));
+      subst (λ k. Agree coords n i k) at (begun_agree coords n i (j - i) rows begins (omega (arith, at, h))
+      (ap (λ k. begun rows.first (suc k)) at
+      ∙ (let e : begun rows.first (suc j) ≡ begun rows.first (suc i) = omega (arith, low, high, a, b, same) in e)));
   share = λ i j less h a.
       let at : i + (j - i) ≡ j = omega (arith, less) in
       let same = none_begun coords order n i (j - i) rows up begins (omega (arith, at, h)) (subst (λ k. Agree coords n i k) (sym at) a) in
@@ -181,14 +216,16 @@ appended_share coords order n rows place_of up begins numbered = record {
     some : (i : ℕ) → i < rows.count → 0 < begun rows.first (suc i)
     some i h = begun_some rows (suc i) (begins.start (omega (arith, h))) (omega arith)
 
-pub appended_never_fall : (rows : Rows) (place_of : ℕ → ℕ) → ((i : ℕ) → i < rows.count → place_of i ≡ place rows.first i) → NeverFall rows.count place_of
+pub appended_never_fall : (rows : Rows) (place_of : ℕ → ℕ) → ((i : ℕ) → i < rows.count → place_of i ≡ place rows.first i)
+    → NeverFall rows.count place_of
 appended_never_fall rows place_of numbered i h =
     let low = numbered i (omega (arith, h)) in
     let high = numbered (suc i) h in
     let rise = begun_upto rows (suc i) (suc (suc i)) (omega arith) in
     omega (arith, low, high, rise)
 
-pub appended_all_placed : (rows : Rows) (place_of : ℕ → ℕ) → ((i : ℕ) → i < rows.count → place_of i ≡ place rows.first i) → AllPlaced rows.count (begun rows.first rows.count) place_of
+pub appended_all_placed : (rows : Rows) (place_of : ℕ → ℕ) → ((i : ℕ) → i < rows.count → place_of i ≡ place rows.first i)
+    → AllPlaced rows.count (begun rows.first rows.count) place_of
 appended_all_placed rows place_of numbered p h = let k = placed rows rows.count p h in (k.0, k.1, numbered k.0 k.1 ∙ k.2)
 
 -- from a least coordinate on
@@ -198,15 +235,20 @@ rising_at least p e (f ∷ es) r (inl s) = subst (λ g. least ≤ g.coord) s.1 r
 rising_at least p e (f ∷ es) r (inr s) = let k = rising_at (f.coord + 1) p e es r.1 s in let l = r.0 in omega (arith, k, l)
 
 -- where coordinates rise, so do positions
-stands_order : (least lo hi p q : ℕ) (e f : Entry) (es : List Entry) → Rising least es → Placed lo hi es → StandsAt p e es → StandsAt q f es → e.coord < f.coord → e.child.hi ≤ f.child.lo
+stands_order : (least lo hi p q : ℕ) (e f : Entry) (es : List Entry) → Rising least es → Placed lo hi es → StandsAt p e es → StandsAt q f es
+    → e.coord < f.coord → e.child.hi ≤ f.child.lo
 stands_order least lo hi p q e f [] r pl s t less = absurd s
-stands_order least lo hi p q e f (g ∷ es) r pl (inl s) (inl t) less = let a = ap (λ y. y.coord) s.1 in let b = ap (λ y. y.coord) t.1 in absurd (omega (arith, a, b, less))
-stands_order least lo hi p q e f (g ∷ es) r pl (inl s) (inr t) less = let k = (stands_within g.child.hi hi q f es pl.2 t).0 in let a = ap (λ y. y.child.hi) s.1 in omega (arith, k, a)
-stands_order least lo hi p q e f (g ∷ es) r pl (inr s) (inl t) less = let k = rising_at (g.coord + 1) p e es r.1 s in let b = ap (λ y. y.coord) t.1 in absurd (omega (arith, k, b, less))
+stands_order least lo hi p q e f (g ∷ es) r pl (inl s) (inl t) less = let a = ap (λ y. y.coord) s.1 in let b = ap (λ y. y.coord) t.1 in
+    absurd (omega (arith, a, b, less))
+stands_order least lo hi p q e f (g ∷ es) r pl (inl s) (inr t) less = let k = (stands_within g.child.hi hi q f es pl.2 t).0 in
+    let a = ap (λ y. y.child.hi) s.1 in omega (arith, k, a)
+stands_order least lo hi p q e f (g ∷ es) r pl (inr s) (inl t) less = let k = rising_at (g.coord + 1) p e es r.1 s in
+    let b = ap (λ y. y.coord) t.1 in absurd (omega (arith, k, b, less))
 stands_order least lo hi p q e f (g ∷ es) r pl (inr s) (inr t) less = stands_order (g.coord + 1) g.child.hi hi p q e f es r.1 pl.2 s t less
 
 -- a level in which rows are stored
-module _ {L : Type 0} (means : Meaning L) (laws : Laws means) (l : L) (parents positions : ℕ) (rows : Rows) (place_of : ℕ → ℕ) (st : Stores means parents positions rows place_of l) (within : (i : ℕ) → i < rows.count → rows.parent i < parents) where
+module _ {L : Type 0} (means : Meaning L) (laws : Laws means) (l : L) (parents positions : ℕ) (rows : Rows) (place_of : ℕ → ℕ)
+    (st : Stores means parents positions rows place_of l) (within : (i : ℕ) → i < rows.count → rows.parent i < parents) where
   asked_at : (i : ℕ) → i < rows.count → Asked means l parents (one (rows.parent i))
   asked_at i h = let w = within i h in (laws.parents l parents (rows.parent i) st.has_parents w, omega (arith, w))
 
@@ -216,30 +258,44 @@ module _ {L : Type 0} (means : Meaning L) (laws : Laws means) (l : L) (parents p
   in_segment : (i : ℕ) → i < rows.count → IsIn (place_of i) (means.segment_of l (one (rows.parent i)))
   in_segment i h =
       let e = coord_from (place_of i) (rows.coord i) (means.entries l (one (rows.parent i))) (has_coord i h) in
-      let s = stands_within (means.segment_of l (one (rows.parent i))).lo (means.segment_of l (one (rows.parent i))).hi e.entry.child.lo e.entry (means.entries l (one (rows.parent i))) (laws.entries l (one (rows.parent i)) (asked_at i h).0).placed e.stands in
+      let s = stands_within (means.segment_of l (one (rows.parent i))).lo (means.segment_of l (one (rows.parent i))).hi e.entry.child.lo
+      e.entry (means.entries l (one (rows.parent i))) (laws.entries l (one (rows.parent i)) (asked_at i h).0).placed e.stands in
       let a = s.0 in let b = s.2 in let c = e.at.0 in let d = e.at.1 in
       (omega (arith, a, c), omega (arith, b, d))
 
   -- rows of one position have one parent and one coordinate
-  pub same_place : (i j : ℕ) → i < rows.count → j < rows.count → place_of i ≡ place_of j → (rows.parent i ≡ rows.parent j) × (rows.coord i ≡ rows.coord j)
-  same_place i j h k same = (parent, same_Some (rows.coord i) (rows.coord j) (sym (has_coord i h) ∙ ap (coord_at (means.entries l (one (rows.parent i)))) same ∙ ap (λ p. coord_at (means.entries l (one p)) (place_of j)) parent ∙ has_coord j k))
+  pub same_place : (i j : ℕ) → i < rows.count → j < rows.count → place_of i ≡ place_of j
+      → (rows.parent i ≡ rows.parent j) × (rows.coord i ≡ rows.coord j)
+  same_place i j h k same = (
+    parent,
+    same_Some (rows.coord i) (rows.coord j) (sym (has_coord i h) ∙ ap (coord_at (means.entries l (one (rows.parent i)))) same
+        ∙ ap (λ p. coord_at (means.entries l (one p)) (place_of j)) parent ∙ has_coord j k),
+  )
     where
       parent : rows.parent i ≡ rows.parent j
-      parent = let there = st.stands.alone (one (rows.parent i)) j (asked_at i h) k (subst (λ p. IsIn p (means.segment_of l (one (rows.parent i)))) same (in_segment i h)) in let a = there.0 in let b = there.1 in omega (arith, a, b)
+      parent =
+          let there = st.stands.alone (one (rows.parent i)) j (asked_at i h) k
+          (subst (λ p. IsIn p (means.segment_of l (one (rows.parent i)))) same (in_segment i h)) in let a = there.0 in let b = there.1 in
+          omega (arith, a, b)
 
   -- and the other way round, where each coordinate has one position
-  pub same_row : (i j : ℕ) → i < rows.count → j < rows.count → (properties (means.kind l)).unique ≡ true → rows.parent i ≡ rows.parent j → rows.coord i ≡ rows.coord j → place_of i ≡ place_of j
+  pub same_row : (i j : ℕ) → i < rows.count → j < rows.count → (properties (means.kind l)).unique ≡ true → rows.parent i ≡ rows.parent j
+      → rows.coord i ≡ rows.coord j → place_of i ≡ place_of j
   same_row i j h k unique parent coord =
       let are = laws.entries l (one (rows.parent i)) (asked_at i h).0 in
-      let at_i = coord_position (rows.coord i) (place_of i) (means.entries l (one (rows.parent i))) are.distinct (are.properties.unique unique) (has_coord i h) in
-      let at_j = coord_position (rows.coord i) (place_of j) (means.entries l (one (rows.parent i))) are.distinct (are.properties.unique unique) (ap (λ p. coord_at (means.entries l (one p)) (place_of j)) parent ∙ has_coord j k ∙ ap Some (sym coord)) in
+      let at_i = coord_position (rows.coord i) (place_of i) (means.entries l (one (rows.parent i))) are.distinct
+      (are.properties.unique unique) (has_coord i h) in
+      let at_j = coord_position (rows.coord i) (place_of j) (means.entries l (one (rows.parent i))) are.distinct
+      (are.properties.unique unique) (ap (λ p. coord_at (means.entries l (one p)) (place_of j)) parent ∙ has_coord j k
+      ∙ ap Some (sym coord)) in
       same_Some (place_of i) (place_of j) (sym at_i ∙ at_j)
 
   askable : Askable (means.allowed l) (means.segment_of l) parents
   askable = record {
     row = laws.in_row l;
     each = λ p h. laws.parents l parents p st.has_parents h;
-    rise = λ p h. placed_within (means.segment_of l (one p)).lo (means.segment_of l (one p)).hi (means.entries l (one p)) (laws.entries l (one p) (laws.parents l parents p st.has_parents h)).placed;
+    rise = λ p h. placed_within (means.segment_of l (one p)).lo (means.segment_of l (one p)).hi (means.entries l (one p))
+        (laws.entries l (one p) (laws.parents l parents p st.has_parents h)).placed;
   }
 
   ends_by : (p : ℕ) → p < parents → (means.segment_of l (one p)).hi ≤ positions
@@ -254,30 +310,37 @@ module _ {L : Type 0} (means : Meaning L) (laws : Laws means) (l : L) (parents p
       by_order (inr from) = let ends = st.ends p (omega (arith, h, from)) in omega (arith, ends)
 
   -- how inserted rows share their positions
-  pub inserted_share : (coords : ℕ → ℕ → ℕ) (d size : ℕ) → (properties (means.kind l)).unique ≡ true → AreRowsOf coords d (suc d) size rows → ShareBy coords d rows.count parents rows.parent → ShareBy coords (suc d) rows.count positions place_of
+  pub inserted_share : (coords : ℕ → ℕ → ℕ) (d size : ℕ) → (properties (means.kind l)).unique ≡ true → AreRowsOf coords d (suc d) size rows
+      → ShareBy coords d rows.count parents rows.parent → ShareBy coords (suc d) rows.count positions place_of
   inserted_share coords d size unique are share = record {
     within = λ i h. let k = (in_segment i h).1 in let e = ends_by (rows.parent i) (within i h) in omega (arith, k, e);
     agree = λ i j less h same.
         let k = same_place i j (omega (arith, less, h)) h same in
         agree_more coords d i j (share.agree i j less h k.0) (sym (are.coord i (omega (arith, less, h))) ∙ k.1 ∙ are.coord j h);
-    share = λ i j less h a. same_row i j (omega (arith, less, h)) h unique (share.share i j less h (agree_less coords d (suc d) i j (omega arith) a)) (are.coord i (omega (arith, less, h)) ∙ a d (omega arith) ∙ sym (are.coord j h));
+    share = λ i j less h a. same_row i j (omega (arith, less, h)) h unique
+        (share.share i j less h (agree_less coords d (suc d) i j (omega arith) a)) (are.coord i (omega (arith, less, h)) ∙ a d (omega arith)
+        ∙ sym (are.coord j h));
   }
 
   -- where a level keeps the order of coordinates, positions never fall
-  pub inserted_never_fall : (coords : ℕ → ℕ → ℕ) (order d size : ℕ) → (properties (means.kind l)).ordered ≡ true → (properties (means.kind l)).unique ≡ true → Increase coords order rows.count → AreRowsOf coords d (suc d) size rows
+  pub inserted_never_fall : (coords : ℕ → ℕ → ℕ) (order d size : ℕ) → (properties (means.kind l)).ordered ≡ true
+      → (properties (means.kind l)).unique ≡ true → Increase coords order rows.count → AreRowsOf coords d (suc d) size rows
       → ShareBy coords d rows.count parents rows.parent → NeverFall rows.count rows.parent → NeverFall rows.count place_of
   inserted_never_fall coords order d size ordered unique up are share never i h = by_parent (cases_lt (rows.parent i) (rows.parent (suc i)))
     where
       before : i < rows.count
       before = omega (arith, h)
 
-      by_coord : rows.parent i ≡ rows.parent (suc i) → (rows.coord i < rows.coord (suc i)) ⊎ (rows.coord (suc i) ≤ rows.coord i) → place_of i ≤ place_of (suc i)
+      by_coord : rows.parent i ≡ rows.parent (suc i) → (rows.coord i < rows.coord (suc i)) ⊎ (rows.coord (suc i) ≤ rows.coord i)
+          → place_of i ≤ place_of (suc i)
       by_coord same (inl less) =
           let are_them = laws.entries l (one (rows.parent i)) (asked_at i before).0 in
           let e = coord_from (place_of i) (rows.coord i) (means.entries l (one (rows.parent i))) (has_coord i before) in
-          let f = coord_from (place_of (suc i)) (rows.coord (suc i)) (means.entries l (one (rows.parent i))) (ap (λ p. coord_at (means.entries l (one p)) (place_of (suc i))) same ∙ has_coord (suc i) h) in
+          let f = coord_from (place_of (suc i)) (rows.coord (suc i)) (means.entries l (one (rows.parent i)))
+          (ap (λ p. coord_at (means.entries l (one p)) (place_of (suc i))) same ∙ has_coord (suc i) h) in
           let low = e.coord in let high = f.coord in
-          let k = stands_order 0 (means.segment_of l (one (rows.parent i))).lo (means.segment_of l (one (rows.parent i))).hi e.entry.child.lo f.entry.child.lo e.entry f.entry (means.entries l (one (rows.parent i)))
+          let k = stands_order 0 (means.segment_of l (one (rows.parent i))).lo (means.segment_of l (one (rows.parent i))).hi
+          e.entry.child.lo f.entry.child.lo e.entry f.entry (means.entries l (one (rows.parent i)))
           (are_them.properties.ordered ordered) are_them.placed e.stands f.stands (omega (arith, low, high, less)) in
           let a = e.at.1 in let b = f.at.0 in
           omega (arith, k, a, b)
@@ -291,13 +354,16 @@ module _ {L : Type 0} (means : Meaning L) (laws : Laws means) (l : L) (parents p
 
       by_parent : (rows.parent i < rows.parent (suc i)) ⊎ (rows.parent (suc i) ≤ rows.parent i) → place_of i ≤ place_of (suc i)
       by_parent (inl less) =
-          let behind = segments_apart (means.allowed l) (means.segment_of l) parents (rows.parent i) (rows.parent (suc i)) askable less (within (suc i) h) in
+          let behind = segments_apart (means.allowed l) (means.segment_of l) parents (rows.parent i) (rows.parent (suc i)) askable less
+          (within (suc i) h) in
           let a = (in_segment i before).1 in let b = (in_segment (suc i) h).0 in
           omega (arith, behind, a, b)
-      by_parent (inr near) = let rise = never i h in let same : rows.parent i ≡ rows.parent (suc i) = omega (arith, rise, near) in by_coord same (cases_lt (rows.coord i) (rows.coord (suc i)))
+      by_parent (inr near) = let rise = never i h in let same : rows.parent i ≡ rows.parent (suc i) = omega (arith, rise, near) in
+          by_coord same (cases_lt (rows.coord i) (rows.coord (suc i)))
 
 -- columns of a table are sorted
-pub columns_sorted : {L : Type 0} (means : Meaning L) (coords : ℕ → ℕ → ℕ) (order count : ℕ) (ls : List L) (columns : List Column) (d : ℕ) (same : ℕ → Type 0) → Increase coords order count → AreColumnsOf means coords count ls columns d
+pub columns_sorted : {L : Type 0} (means : Meaning L) (coords : ℕ → ℕ → ℕ) (order count : ℕ) (ls : List L) (columns : List Column) (d : ℕ)
+    (same : ℕ → Type 0) → Increase coords order count → AreColumnsOf means coords count ls columns d
     → ((i : ℕ) → suc i < count → same i → Agree coords d i (suc i)) → AreSorted means count ls columns same
 columns_sorted means coords order count [] columns d same up are agree = tt
 columns_sorted means coords order count (l ∷ ls) [] d same up are agree = absurd are
@@ -305,16 +371,22 @@ columns_sorted means coords order count (l ∷ ls) (column ∷ columns) d same u
   (λ i h s.
       let low = are.0.coord i (omega (arith, h)) in
       let high = are.0.coord (suc i) h in
-      record { follows = (let k = coords_upto coords order count d i (suc i) up (omega arith) h (agree i h s) in omega (arith, low, high, k)); apart = λ first. by_unique i h s first (properties (means.kind l)).unique refl }),
+      record {
+        follows = (let k = coords_upto coords order count d i (suc i) up (omega arith) h (agree i h s) in
+            omega (arith, low, high, k));
+        apart = λ first. by_unique i h s first (properties (means.kind l)).unique refl;
+      }),
   columns_sorted means coords order count ls columns (suc d) (λ i. same i × (column.coord i ≡ column.coord (suc i))) up are.1
       (λ i h s. agree_more coords d i (suc i) (agree i h s.0) (sym (are.0.coord i (omega (arith, h))) ∙ s.1 ∙ are.0.coord (suc i) h)),
 )
   where
-    by_unique : (i : ℕ) → suc i < count → same i → column.first (suc i) ≡ true → (b : Bool) → (properties (means.kind l)).unique ≡ b → column.coord i + gap (properties (means.kind l)).unique ≤ column.coord (suc i)
+    by_unique : (i : ℕ) → suc i < count → same i → column.first (suc i) ≡ true → (b : Bool) → (properties (means.kind l)).unique ≡ b
+        → column.coord i + gap (properties (means.kind l)).unique ≤ column.coord (suc i)
     by_unique i h s first true is =
         let low = are.0.coord i (omega (arith, h)) in
         let high = are.0.coord (suc i) h in
-        let k = rises coords order count d i (suc i) up (omega arith) h (agree i h s) (λ a. are.0.begins.differs i h first (subst (λ m. Agree coords m i (suc i)) (sym (are.0.last is)) a)) in
+        let k = rises coords order count d i (suc i) up (omega arith) h (agree i h s)
+        (λ a. are.0.begins.differs i h first (subst (λ m. Agree coords m i (suc i)) (sym (are.0.last is)) a)) in
         let wide : gap (properties (means.kind l)).unique ≡ 1 = ap gap is in
         omega (arith, low, high, k, wide)
     by_unique i h s first false is =

@@ -28,7 +28,8 @@ begun_more rows n (suc more) =
     subst (λ m. begun rows.first n ≤ begun rows.first m) (sym same) (omega (arith, k, l))
 
 pub begun_upto : (rows : Rows) (n m : ℕ) → n ≤ m → begun rows.first n ≤ begun rows.first m
-begun_upto rows n m h = let same : n + (m - n) ≡ m = omega (arith, h) in subst (λ k. begun rows.first n ≤ begun rows.first k) same (begun_more rows n (m - n))
+begun_upto rows n m h = let same : n + (m - n) ≡ m = omega (arith, h) in
+    subst (λ k. begun rows.first n ≤ begun rows.first k) same (begun_more rows n (m - n))
 
 -- once a row has begun a position, each row has one
 pub begun_some : (rows : Rows) (n : ℕ) → rows.first 0 ≡ true → 0 < n → 0 < begun rows.first n
@@ -48,16 +49,20 @@ placed rows (suc n) pos h = by_first (placed rows n pos) (rows.first n) refl
     earlier : (i : ℕ) × (i < n) × (place rows.first i ≡ pos) → (i : ℕ) × (i < suc n) × (place rows.first i ≡ pos)
     earlier k = (k.0, omega (arith, k.1), k.2)
 
-    by_order : (pos < begun rows.first n → (i : ℕ) × (i < n) × (place rows.first i ≡ pos)) → begun rows.first (suc n) ≡ begun rows.first n + 1 → (pos < begun rows.first n) ⊎ (begun rows.first n ≤ pos) → (i : ℕ) × (i < suc n) × (place rows.first i ≡ pos)
+    by_order : (pos < begun rows.first n → (i : ℕ) × (i < n) × (place rows.first i ≡ pos))
+        → begun rows.first (suc n) ≡ begun rows.first n + 1 → (pos < begun rows.first n) ⊎ (begun rows.first n ≤ pos)
+        → (i : ℕ) × (i < suc n) × (place rows.first i ≡ pos)
     by_order before is (inl l) = earlier (before l)
     by_order before is (inr l) = (n, omega arith, omega (arith, is, l, h))
 
-    by_first : (pos < begun rows.first n → (i : ℕ) × (i < n) × (place rows.first i ≡ pos)) → (b : Bool) → rows.first n ≡ b → (i : ℕ) × (i < suc n) × (place rows.first i ≡ pos)
+    by_first : (pos < begun rows.first n → (i : ℕ) × (i < n) × (place rows.first i ≡ pos)) → (b : Bool) → rows.first n ≡ b
+        → (i : ℕ) × (i < suc n) × (place rows.first i ≡ pos)
     by_first before true is = by_order before (begun_yes rows n is) (cases_lt pos (begun rows.first n))
     by_first before false is = earlier (before (let k = begun_no rows n is in omega (arith, k, h)))
 
 -- one more number behind numbers that rise
-pub rises_push : (unique : Bool) (least x most : ℕ) (ys : List ℕ) → Rises unique least ys → UpTo most ys → most + gap unique ≤ x → least ≤ x → Rises unique least (ys ++ x ∷ [])
+pub rises_push : (unique : Bool) (least x most : ℕ) (ys : List ℕ) → Rises unique least ys → UpTo most ys → most + gap unique ≤ x → least ≤ x
+    → Rises unique least (ys ++ x ∷ [])
 rises_push unique least x most [] r u h l = (l, tt)
 rises_push unique least x most (y ∷ ys) r u h l = (r.0, rises_push unique (y + gap unique) x most ys r.1 u.1 h (omega (arith, u.0, h)))
 

@@ -37,12 +37,15 @@ before_trans coords order i j k p q = by_order (cases_order p.0 q.0)
         let same = p.2 q.0 later in
         (q.0, q.1, agree_trans coords q.0 i j k (agree_less coords q.0 p.0 i j (omega (arith, later)) p.2) q.2, omega (arith, less, same))
 
-before_far : (coords : ℕ → ℕ → ℕ) (order count i more : ℕ) → Increase coords order count → i + suc more < count → IsBefore coords order i (i + suc more)
-before_far coords order count i zero up h = let next : suc i ≡ i + 1 = omega arith in subst (λ j. IsBefore coords order i j) next (up i (omega (arith, h)))
+before_far : (coords : ℕ → ℕ → ℕ) (order count i more : ℕ) → Increase coords order count → i + suc more < count
+    → IsBefore coords order i (i + suc more)
+before_far coords order count i zero up h = let next : suc i ≡ i + 1 = omega arith in
+    subst (λ j. IsBefore coords order i j) next (up i (omega (arith, h)))
 before_far coords order count i (suc more) up h =
     let next : suc (i + suc more) ≡ i + suc (suc more) = omega arith in
     subst (λ j. IsBefore coords order i j) next
-    (before_trans coords order i (i + suc more) (suc (i + suc more)) (before_far coords order count i more up (omega (arith, h))) (up (i + suc more) (omega (arith, h))))
+    (before_trans coords order i (i + suc more) (suc (i + suc more)) (before_far coords order count i more up (omega (arith, h)))
+    (up (i + suc more) (omega (arith, h))))
 
 -- an earlier row stands before a later one
 pub before : (coords : ℕ → ℕ → ℕ) (order count i j : ℕ) → Increase coords order count → i < j → j < count → IsBefore coords order i j
@@ -51,7 +54,8 @@ before coords order count i j up less h =
     subst (λ k. IsBefore coords order i k) at (before_far coords order count i (j - i - 1) up (omega (arith, at, h)))
 
 -- a row between two that agree agrees with them
-pub between : (coords : ℕ → ℕ → ℕ) (order count n i j k : ℕ) → Increase coords order count → i < j → j < k → k < count → Agree coords n i k → Agree coords n i j
+pub between : (coords : ℕ → ℕ → ℕ) (order count n i j k : ℕ) → Increase coords order count → i < j → j < k → k < count → Agree coords n i k
+    → Agree coords n i j
 between coords order count n i j k up first second h a = by_order (cases_lt p.0 n)
   where
     p : IsBefore coords order i j
@@ -66,18 +70,23 @@ between coords order count n i j k up first second h a = by_order (cases_lt p.0 
         let more = subst (λ d. coords d j < coords d k) (sym same) q.3 in
         let ends = a p.0 within in
         omega (arith, less, more, ends)
-    never within (inr (inl before)) = let less = p.3 in let same = q.2 p.0 before in let ends = a p.0 within in omega (arith, less, same, ends)
-    never within (inr (inr after)) = let less = q.3 in let same = p.2 q.0 after in let ends = a q.0 (omega (arith, after, within)) in omega (arith, less, same, ends)
+    never within (inr (inl before)) = let less = p.3 in let same = q.2 p.0 before in let ends = a p.0 within in
+        omega (arith, less, same, ends)
+    never within (inr (inr after)) = let less = q.3 in let same = p.2 q.0 after in let ends = a q.0 (omega (arith, after, within)) in
+        omega (arith, less, same, ends)
 
     by_order : (p.0 < n) ⊎ (n ≤ p.0) → Agree coords n i j
     by_order (inl within) = absurd (never within (cases_order p.0 q.0))
     by_order (inr beyond) = agree_less coords n p.0 i j beyond p.2
 
-pub after : (coords : ℕ → ℕ → ℕ) (order count n i j k : ℕ) → Increase coords order count → i < j → j < k → k < count → Agree coords n i k → Agree coords n j k
-after coords order count n i j k up first second h a = agree_trans coords n j i k (agree_sym coords n i j (between coords order count n i j k up first second h a)) a
+pub after : (coords : ℕ → ℕ → ℕ) (order count n i j k : ℕ) → Increase coords order count → i < j → j < k → k < count → Agree coords n i k
+    → Agree coords n j k
+after coords order count n i j k up first second h a =
+    agree_trans coords n j i k (agree_sym coords n i j (between coords order count n i j k up first second h a)) a
 
 -- of rows that agree above a level the later one's coordinate there is no smaller
-pub coords_upto : (coords : ℕ → ℕ → ℕ) (order count n i j : ℕ) → Increase coords order count → i < j → j < count → Agree coords n i j → coords n i ≤ coords n j
+pub coords_upto : (coords : ℕ → ℕ → ℕ) (order count n i j : ℕ) → Increase coords order count → i < j → j < count → Agree coords n i j
+    → coords n i ≤ coords n j
 coords_upto coords order count n i j up less h a = by_order (cases_order p.0 n)
   where
     p : IsBefore coords order i j

@@ -5,7 +5,8 @@ use Rattle.std.proofs.lemmas.Bool.{cases_lt}
 use Rattle.std.proofs.lemmas.Bool.Decides.{nat_tests, eqb_tells}
 use Rattle.level_rows.specs.Rows.{Rows, begun_below, AreTogether, IsGreatestBelow}
 
-below_step_is : (rows : Rows) (p n : ℕ) (a b : Bool) → rows.first n ≡ a → (rows.parent n == p) ≡ b → begun_below rows p (suc n) ≡ (if a && b then begun_below rows p n + 1 else begun_below rows p n)
+below_step_is : (rows : Rows) (p n : ℕ) (a b : Bool) → rows.first n ≡ a → (rows.parent n == p) ≡ b
+    → begun_below rows p (suc n) ≡ (if a && b then begun_below rows p n + 1 else begun_below rows p n)
 below_step_is rows p n a b first same =
     ap (λ t. if t && (rows.parent n == p) then begun_below rows p n + 1 else begun_below rows p n) first
     ∙ ap (λ t. if a && t then begun_below rows p n + 1 else begun_below rows p n) same
@@ -18,13 +19,15 @@ below_other rows p n other = let is : (rows.parent n == p) ≡ false = grind (ar
     by_first true first is = below_step_is rows p n true false first is
     by_first false first is = below_step_is rows p n false false first is
 
-below_here : (rows : Rows) (n : ℕ) → begun_below rows (rows.parent n) (suc n) ≡ begun_below rows (rows.parent n) n + (if rows.first n then 1 else 0)
+below_here : (rows : Rows) (n : ℕ) → begun_below rows (rows.parent n) (suc n)
+    ≡ begun_below rows (rows.parent n) n + (if rows.first n then 1 else 0)
 below_here rows n = by_first (rows.first n) refl
   where
     same : (rows.parent n == rows.parent n) ≡ true
     same = grind (arith, nat_tests)
 
-    by_first : (a : Bool) → rows.first n ≡ a → begun_below rows (rows.parent n) (suc n) ≡ begun_below rows (rows.parent n) n + (if a then 1 else 0)
+    by_first : (a : Bool) → rows.first n ≡ a → begun_below rows (rows.parent n) (suc n)
+        ≡ begun_below rows (rows.parent n) n + (if a then 1 else 0)
     by_first true first = below_step_is rows (rows.parent n) n true true first same
     by_first false first = let k = below_step_is rows (rows.parent n) n false true first same in omega (arith, k)
 
@@ -42,7 +45,13 @@ pub record Tallying (rows : Rows) (n last here most : ℕ) : Type 0 where
   pub last_is : (i : ℕ) → n ≡ suc i → last ≡ rows.parent i
 
 pub none_tallied : (rows : Rows) → Tallying rows 0 0 0 0
-none_tallied rows = record { here_is = refl; few = omega arith; upto = λ p. omega arith; reached = inl refl; last_is = λ i h. absurd (omega (arith, h)) }
+none_tallied rows = record {
+  here_is = refl;
+  few = omega arith;
+  upto = λ p. omega arith;
+  reached = inl refl;
+  last_is = λ i h. absurd (omega (arith, h));
+}
 
 max_below : (a b : ℕ) → (a ≤ max a b) × (b ≤ max a b) × ((max a b ≡ a) ⊎ ((max a b ≡ b) × (a < b)))
 max_below a b = (omega arith, omega arith, by_order (cases_lt a b))
@@ -51,18 +60,23 @@ max_below a b = (omega arith, omega arith, by_order (cases_lt a b))
     by_order (inl l) = inr (omega (arith, l), l)
     by_order (inr l) = inl (omega (arith, l))
 
-pub tallied_more : (rows : Rows) (n last here most then_here then_most : ℕ) → AreTogether rows → n < rows.count → Tallying rows n last here most
-    → then_here ≡ (if last == rows.parent n then here else 0) + (if rows.first n then 1 else 0) → then_most ≡ max most then_here → Tallying rows (n + 1) (rows.parent n) then_here then_most
-tallied_more rows n last here most then_here then_most together h t here_is most_is = subst (λ m. Tallying rows m (rows.parent n) then_here then_most) next (record {
-  here_is = now;
-  few = let f = t.few in let b = before_is in let k = below_few (rows.first n) in omega (arith, here_is, f, k, start_few);
-  upto = λ p. elim (eqb_tells (rows.parent n) p) [
-    | inl k ↦ let m = max_below most then_here in let same = ap (λ q. begun_below rows q (suc n)) k.1 in let b = m.1 in omega (arith, same, now, b, most_is)
-    | inr k ↦ let m = max_below most then_here in let a = m.0 in let u = t.upto p in let o = below_other rows p n k.1 in omega (arith, a, u, o, most_is)
-  ];
-  reached = by_most (max_below most then_here).2 t.reached;
-  last_is = λ i is. let same : n ≡ i = omega (arith, is) in ap rows.parent same;
-})
+pub tallied_more : (rows : Rows) (n last here most then_here then_most : ℕ) → AreTogether rows → n < rows.count
+    → Tallying rows n last here most
+    → then_here ≡ (if last == rows.parent n then here else 0) + (if rows.first n then 1 else 0) → then_most ≡ max most then_here
+    → Tallying rows (n + 1) (rows.parent n) then_here then_most
+tallied_more rows n last here most then_here then_most together h t here_is most_is =
+    subst (λ m. Tallying rows m (rows.parent n) then_here then_most) next (record {
+      here_is = now;
+      few = let f = t.few in let b = before_is in let k = below_few (rows.first n) in omega (arith, here_is, f, k, start_few);
+      upto = λ p. elim (eqb_tells (rows.parent n) p) [
+        | inl k ↦ let m = max_below most then_here in let same = ap (λ q. begun_below rows q (suc n)) k.1 in let b = m.1 in
+            omega (arith, same, now, b, most_is)
+        | inr k ↦ let m = max_below most then_here in let a = m.0 in let u = t.upto p in let o = below_other rows p n k.1 in
+            omega (arith, a, u, o, most_is)
+      ];
+      reached = by_most (max_below most then_here).2 t.reached;
+      last_is = λ i is. let same : n ≡ i = omega (arith, is) in ap rows.parent same;
+    })
   where
     next : suc n ≡ n + 1
     next = omega arith
@@ -75,12 +89,15 @@ tallied_more rows n last here most then_here then_most together h t here_is most
 
         by_next : (i + 1 < n) ⊎ (n ≤ i + 1) → ⊥
         by_next (inl before) = other (t.last_is (n - 1) at ∙ together i (n - 1) n (omega (arith, before)) (omega (arith, before)) h same)
-        by_next (inr from) = let here : i ≡ n - 1 = omega (arith, from, l) in other (t.last_is (n - 1) at ∙ ap rows.parent (sym here) ∙ same)
+        by_next (inr from) = let here : i ≡ n - 1 = omega (arith, from, l) in
+            other (t.last_is (n - 1) at ∙ ap rows.parent (sym here) ∙ same)
 
     start : (if last == rows.parent n then here else 0) ≡ begun_below rows (rows.parent n) n
     start = elim (eqb_tells last (rows.parent n)) [
-      | inl k ↦ ap (λ b. if b then here else 0) (let e : (last == rows.parent n) ≡ true = let s = k.1 in grind (arith, nat_tests, s) in e) ∙ t.here_is ∙ ap (λ p. begun_below rows p n) k.1
-      | inr k ↦ ap (λ b. if b then here else 0) (let e : (last == rows.parent n) ≡ false = let s = k.1 in grind (arith, nat_tests, s) in e) ∙ sym (none_below rows (rows.parent n) n (nothing k.1))
+      | inl k ↦ ap (λ b. if b then here else 0) (let e : (last == rows.parent n) ≡ true = let s = k.1 in grind (arith, nat_tests, s) in e)
+          ∙ t.here_is ∙ ap (λ p. begun_below rows p n) k.1
+      | inr k ↦ ap (λ b. if b then here else 0) (let e : (last == rows.parent n) ≡ false = let s = k.1 in grind (arith, nat_tests, s) in e)
+          ∙ sym (none_below rows (rows.parent n) n (nothing k.1))
     ]
 
     before_is : then_here ≡ begun_below rows (rows.parent n) n + (if rows.first n then 1 else 0)
@@ -100,7 +117,8 @@ tallied_more rows n last here most then_here then_most together h t here_is most
     now : then_here ≡ begun_below rows (rows.parent n) (suc n)
     now = before_is ∙ sym (below_here rows n)
 
-    by_most : (max most then_here ≡ most) ⊎ ((max most then_here ≡ then_here) × (most < then_here)) → (most ≡ 0) ⊎ ((i : ℕ) × (i < n) × (begun_below rows (rows.parent i) n ≡ most))
+    by_most : (max most then_here ≡ most) ⊎ ((max most then_here ≡ then_here) × (most < then_here))
+        → (most ≡ 0) ⊎ ((i : ℕ) × (i < n) × (begun_below rows (rows.parent i) n ≡ most))
         → (then_most ≡ 0) ⊎ ((i : ℕ) × (i < suc n) × (begun_below rows (rows.parent i) (suc n) ≡ then_most))
     by_most (inr more) r = inr (n, omega arith, sym now ∙ sym more.0 ∙ sym most_is)
     by_most (inl same) (inl none) = inl (most_is ∙ same ∙ none)
@@ -111,7 +129,12 @@ tallied_more rows n last here most then_here then_most together h t here_is most
           let top = ap (λ q. begun_below rows q (suc n)) k.1 in
           let m = (max_below most then_here).1 in
           inr (n, omega arith, omega (arith, rise, at, top, now, m, same, most_is))
-      | inr k ↦ inr (some.0, (let l = some.1 in omega (arith, l)), below_other rows (rows.parent some.0) n k.1 ∙ some.2 ∙ sym same ∙ sym most_is)
+      | inr k ↦ inr (
+        some.0,
+        (let l = some.1 in omega (arith, l)),
+        below_other rows (rows.parent some.0) n k.1 ∙ some.2 ∙ sym same
+            ∙ sym most_is,
+      )
     ]
       where
         step_up : (p : ℕ) → begun_below rows p n ≤ begun_below rows p (suc n)

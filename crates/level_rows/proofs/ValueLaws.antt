@@ -10,13 +10,16 @@ use Rattle.level_rows.proofs.TableLaws.{before}
 pub none_stored : (place : ℕ → ℕ) (value : ℕ → ℕ) (values : List ℕ) → StoresValues 0 place value values values
 none_stored place value values = record { long = refl; stored = λ i h. absurd (omega (arith, h)); others = λ p h. refl }
 
-pub one_stored : (n count : ℕ) (place : ℕ → ℕ) (value : ℕ → ℕ) (first values : List ℕ) → ((i j : ℕ) → i < j → j < count → place i ≢ place j) → n < count → place n < length first
+pub one_stored : (n count : ℕ) (place : ℕ → ℕ) (value : ℕ → ℕ) (first values : List ℕ) → ((i j : ℕ) → i < j → j < count → place i ≢ place j)
+    → n < count → place n < length first
     → StoresValues n place value first values → StoresValues (n + 1) place value first (slice_set values (place n) (value n))
-one_stored n count place value first values apart h inside s = subst (λ m. StoresValues m place value first (slice_set values (place n) (value n))) next (record {
-  long = length-set values (place n) (value n) ∙ s.long;
-  stored = λ i l. by_order i l (cases_lt i n);
-  others = λ p none. get_or-set_other values (place n) p (value n) 0 (λ same. none n (omega arith) (sym same)) ∙ s.others p (λ i l. none i (omega (arith, l)));
-})
+one_stored n count place value first values apart h inside s =
+    subst (λ m. StoresValues m place value first (slice_set values (place n) (value n))) next (record {
+      long = length-set values (place n) (value n) ∙ s.long;
+      stored = λ i l. by_order i l (cases_lt i n);
+      others = λ p none. get_or-set_other values (place n) p (value n) 0 (λ same. none n (omega arith) (sym same))
+          ∙ s.others p (λ i l. none i (omega (arith, l)));
+    })
   where
     next : suc n ≡ n + 1
     next = omega arith
@@ -26,10 +29,12 @@ one_stored n count place value first values apart h inside s = subst (λ m. Stor
     by_order i l (inr from) =
         let here : i ≡ n = omega (arith, l, from) in
         let long = s.long in
-        ap (λ j. slice_index (slice_set values (place n) (value n)) (place j)) here ∙ get_or-set_same values (place n) (value n) 0 (omega (arith, inside, long)) ∙ ap value (sym here)
+        ap (λ j. slice_index (slice_set values (place n) (value n)) (place j)) here
+        ∙ get_or-set_same values (place n) (value n) 0 (omega (arith, inside, long)) ∙ ap value (sym here)
 
 -- no two rows of a table have one position at the last level
-pub places_apart : (coords : ℕ → ℕ → ℕ) (order count positions : ℕ) (place : ℕ → ℕ) → Increase coords order count → ShareBy coords order count positions place → (i j : ℕ) → i < j → j < count → place i ≢ place j
+pub places_apart : (coords : ℕ → ℕ → ℕ) (order count positions : ℕ) (place : ℕ → ℕ) → Increase coords order count
+    → ShareBy coords order count positions place → (i j : ℕ) → i < j → j < count → place i ≢ place j
 places_apart coords order count positions place up share i j less h same =
     let p = before coords order count i j up less h in
     let ends = share.agree i j less h same p.0 p.1 in

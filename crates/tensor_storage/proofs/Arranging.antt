@@ -1,5 +1,6 @@
 -- Numbers of entries that are sorted by their coordinates arrange the entries.
-use Rattle.std.specs.Prelude.{◌≡◌, ◌≢◌, ◌⊎◌, ℕ, zero, suc, ◌+◌, ◌≤◌, ◌<◌, ◌==◌, Bool, false, List, [], ◌∷◌, ◌++◌, length, drop, All, AllPairs, slice_index, IsPermutation, refl}
+use Rattle.std.specs.Prelude.{◌≡◌, ◌≢◌, ◌⊎◌, ℕ, zero, suc, ◌+◌, ◌≤◌, ◌<◌, ◌==◌, Bool, false, List, [], ◌∷◌, ◌++◌, length, drop, All}
+use Rattle.std.specs.Prelude.{AllPairs, slice_index, IsPermutation, refl}
 use Rattle.std.specs.List.{range_with_len}
 use Rattle.std.specs.declared.cmp.Ordering.{Ordering}
 use Rattle.std.specs.declared.cmp.Ordering.TheVariants.{Less, Equal, Greater}
@@ -71,21 +72,24 @@ differs (x ∷ xs) (y ∷ ys) long (inr rest) =
     later k (suc e) l = k.same e (omega (arith, l))
 
 -- the coordinate of a level is that of its mode
-pub level_coord : (format : List FormatLevel) (coords : List ℕ) (k : ℕ) (d : FormatLevel) → k < length format → slice_index (in_level_order format coords) k ≡ slice_index coords (get_or format k d).mode
+pub level_coord : (format : List FormatLevel) (coords : List ℕ) (k : ℕ) (d : FormatLevel) → k < length format
+    → slice_index (in_level_order format coords) k ≡ slice_index coords (get_or format k d).mode
 level_coord format coords k d h = get_or-map (λ level. slice_index coords level.mode) format k d 0 h
 
 none : FormatLevel
 none = record { letter = Dense; mode = 0 }
 
 -- coordinates in the order of the levels tell those in the order of the modes
-pub coords_back : (format : List FormatLevel) (xs ys : List ℕ) → IsFormat format → length xs ≡ length format → length ys ≡ length format → in_level_order format xs ≡ in_level_order format ys → xs ≡ ys
+pub coords_back : (format : List FormatLevel) (xs ys : List ℕ) → IsFormat format → length xs ≡ length format → length ys ≡ length format
+    → in_level_order format xs ≡ in_level_order format ys → xs ≡ ys
 coords_back format xs ys is long also same = same_number_lists xs ys (long ∙ sym also) (λ mode h. at mode (omega (arith, long, h)))
   where
     at : (mode : ℕ) → mode < length format → slice_index xs mode ≡ slice_index ys mode
     at mode h =
         let k = each_mode_stands (length format) (modes_of format) mode is.order h in
         let is_mode : (get_or format k.0 none).mode ≡ mode = sym (get_or-map (λ level. level.mode) format k.0 none 0 k.1) ∙ k.2 in
-        ap (slice_index xs) (sym is_mode) ∙ sym (level_coord format xs k.0 none k.1) ∙ ap (λ zs. slice_index zs k.0) same ∙ level_coord format ys k.0 none k.1 ∙ ap (slice_index ys) is_mode
+        ap (slice_index xs) (sym is_mode) ∙ sym (level_coord format xs k.0 none k.1) ∙ ap (λ zs. slice_index zs k.0) same
+        ∙ level_coord format ys k.0 none k.1 ∙ ap (slice_index ys) is_mode
 
 range_apart : (n : ℕ) → AllPairs (λ x y. x ≢ y) (range_with_len 0 n)
 range_apart n i j d less within =
@@ -103,7 +107,8 @@ range_below n k d h =
 flips : (x y : ℕ) → (x == y) ≡ (y == x)
 flips x y = grind arith
 
-module _ (format : List FormatLevel) (entries : List Entry) (numbers : List ℕ) (is : IsFormat format) (each : All (IsEntry (length format)) entries) (up : StrictlyIncreasing entries)
+module _ (format : List FormatLevel) (entries : List Entry) (numbers : List ℕ) (is : IsFormat format)
+    (each : All (IsEntry (length format)) entries) (up : StrictlyIncreasing entries)
     (moved : IsPermutation (range_with_len 0 (length entries)) numbers) where
   pub number_below : All (λ k. k < length entries) numbers
   number_below = All-permutation (λ k. k < length entries) (range_with_len 0 (length entries)) numbers moved (range_below (length entries))
@@ -113,7 +118,8 @@ module _ (format : List FormatLevel) (entries : List Entry) (numbers : List ℕ)
       (IsDistinct-IsPermutation (λ x y. x == y) flips (range_with_len 0 (length entries)) numbers moved
       (IsDistinct-from_AllPairs {eq = λ x y. x == y} Decides-eqb (range_with_len 0 (length entries)) (range_apart (length entries))))
 
-  entries_apart : (a b : ℕ) → a < length entries → b < length entries → a ≢ b → (get_or entries a no_entry).coords ≡ (get_or entries b no_entry).coords → ⊥
+  entries_apart : (a b : ℕ) → a < length entries → b < length entries → a ≢ b
+      → (get_or entries a no_entry).coords ≡ (get_or entries b no_entry).coords → ⊥
   entries_apart a b h k apart same = by_order (cases_order a b)
     where
       by_order : (a ≡ b) ⊎ ((a < b) ⊎ (b < a)) → ⊥
@@ -125,26 +131,36 @@ module _ (format : List FormatLevel) (entries : List Entry) (numbers : List ℕ)
   long_at k = length-map format (λ level. slice_index (get_or entries k no_entry).coords level.mode)
 
   -- each entry stands before the next
-  pub rows_increase : IsSortedBy (is_before format entries) numbers → Increase (table_of format entries numbers).coords (length format) (length numbers)
-  rows_increase sorted i h = by_case (not_after (level_coords format entries (slice_index numbers i)) (level_coords format entries (slice_index numbers (suc i)))
-      (slice_cmp nat_cmp (level_coords format entries (slice_index numbers (suc i))) (level_coords format entries (slice_index numbers i))) refl at)
+  pub rows_increase : IsSortedBy (is_before format entries) numbers
+      → Increase (table_of format entries numbers).coords (length format) (length numbers)
+  rows_increase sorted i h =
+      by_case (not_after (level_coords format entries (slice_index numbers i)) (level_coords format entries (slice_index numbers (suc i)))
+      (slice_cmp nat_cmp (level_coords format entries (slice_index numbers (suc i)))
+      (level_coords format entries (slice_index numbers i))) refl at)
     where
       at : is_before format entries (slice_index numbers (suc i)) (slice_index numbers i) ≡ false
-      at = let next : i + 1 ≡ suc i = omega arith in subst (λ j. is_before format entries (slice_index numbers j) (slice_index numbers i) ≡ false) next (sorted i 0 (omega arith) (omega (arith, h)))
+      at = let next : i + 1 ≡ suc i = omega arith in
+          subst (λ j. is_before format entries (slice_index numbers j) (slice_index numbers i) ≡ false) next
+          (sorted i 0 (omega arith) (omega (arith, h)))
 
       never : level_coords format entries (slice_index numbers (suc i)) ≡ level_coords format entries (slice_index numbers i) → ⊥
       never same =
           let below = number_below i 0 (omega (arith, h)) in
           let below_next = number_below (suc i) 0 h in
           entries_apart (slice_index numbers i) (slice_index numbers (suc i)) below below_next (numbers_apart i (suc i) 0 (omega arith) h)
-          (coords_back format (get_or entries (slice_index numbers i) no_entry).coords (get_or entries (slice_index numbers (suc i)) no_entry).coords is (each (slice_index numbers i) no_entry below).long (each (slice_index numbers (suc i)) no_entry below_next).long (sym same))
+          (coords_back format (get_or entries (slice_index numbers i) no_entry).coords
+          (get_or entries (slice_index numbers (suc i)) no_entry).coords is (each (slice_index numbers i) no_entry below).long
+          (each (slice_index numbers (suc i)) no_entry below_next).long (sym same))
 
-      by_case : IsListBefore (level_coords format entries (slice_index numbers i)) (level_coords format entries (slice_index numbers (suc i))) ⊎ (level_coords format entries (slice_index numbers (suc i)) ≡ level_coords format entries (slice_index numbers i))
+      by_case : IsListBefore (level_coords format entries (slice_index numbers i))
+          (level_coords format entries (slice_index numbers (suc i)))
+          ⊎ (level_coords format entries (slice_index numbers (suc i)) ≡ level_coords format entries (slice_index numbers i))
           → IsBefore (table_of format entries numbers).coords (length format) i (suc i)
       by_case (inr same) = absurd (never same)
       by_case (inl before) =
           let long = long_at (slice_index numbers i) in
-          let k = differs (level_coords format entries (slice_index numbers i)) (level_coords format entries (slice_index numbers (suc i))) (long ∙ sym (long_at (slice_index numbers (suc i)))) before in
+          let k = differs (level_coords format entries (slice_index numbers i)) (level_coords format entries (slice_index numbers (suc i)))
+          (long ∙ sym (long_at (slice_index numbers (suc i)))) before in
           let within = k.within in
           (k.at, omega (arith, within, long), k.same, k.less)
 
@@ -155,33 +171,45 @@ module _ (format : List FormatLevel) (entries : List Entry) (numbers : List ℕ)
   as_many = length_permutation (range_with_len 0 (length entries)) numbers moved ∙ length-range_with_len 0 (length entries)
 
 -- the rows are below the ranges of the levels
-pub rows_below : (format : List FormatLevel) (entries : List Entry) (numbers ranges : List ℕ) → IsFormat format → length ranges ≡ length format → AreInside ranges entries → AreArranged format entries numbers
+pub rows_below : (format : List FormatLevel) (entries : List Entry) (numbers ranges : List ℕ) → IsFormat format
+    → length ranges ≡ length format → AreInside ranges entries → AreArranged format entries numbers
     → AreBelow (table_of format entries numbers) (in_level_order format ranges)
 rows_below format entries numbers ranges is long inside arranged d i deep within =
     let order_long : length (in_level_order format ranges) ≡ length format = length-map format (λ level. slice_index ranges level.mode) in
     let level : d < length format = omega (arith, deep, order_long) in
-    let number : slice_index numbers i < length entries = All-permutation (λ k. k < length entries) (range_with_len 0 (length entries)) numbers arranged.all (range_below (length entries)) i 0 within in
+    let number : slice_index numbers i < length entries =
+    All-permutation (λ k. k < length entries) (range_with_len 0 (length entries)) numbers arranged.all (range_below (length entries)) i
+    0 within in
     let mode : (get_or format d none).mode < length ranges = let below = mode_below format is d none level in omega (arith, below, long) in
-    subst (λ x. x < slice_index (in_level_order format ranges) d) (sym (level_coord format (get_or entries (slice_index numbers i) no_entry).coords d none level))
-    (subst (λ x. slice_index (get_or entries (slice_index numbers i) no_entry).coords (get_or format d none).mode < x) (sym (level_coord format ranges d none level))
+    subst (λ x. x < slice_index (in_level_order format ranges) d)
+    (sym (level_coord format (get_or entries (slice_index numbers i) no_entry).coords d none level))
+    (subst (λ x. slice_index (get_or entries (slice_index numbers i) no_entry).coords (get_or format d none).mode < x)
+    (sym (level_coord format ranges d none level))
     (inside (slice_index numbers i) no_entry number (get_or format d none).mode mode))
 
 -- the coordinates from a level on
 pub level_drop : (format : List FormatLevel) (entries : List Entry) (number level : ℕ) → level < length format
-    → drop level (level_coords format entries number) ≡ slice_index (level_coords format entries number) level ∷ drop (suc level) (level_coords format entries number)
+    → drop level (level_coords format entries number)
+    ≡ slice_index (level_coords format entries number) level ∷ drop (suc level) (level_coords format entries number)
 level_drop format entries number level h =
-    let long : length (level_coords format entries number) ≡ length format = length-map format (λ l. slice_index (get_or entries number no_entry).coords l.mode) in
+    let long : length (level_coords format entries number) ≡ length format =
+    length-map format (λ l. slice_index (get_or entries number no_entry).coords l.mode) in
     drop-cons (level_coords format entries number) level 0 (omega (arith, long, h))
 
 -- comparisons, level by level
-pub compare_past : (xs ys : List ℕ) (level x y : ℕ) → drop level xs ≡ x ∷ drop (suc level) xs → drop level ys ≡ y ∷ drop (suc level) ys → nat_cmp x y ≡ Equal → slice_cmp nat_cmp (drop level xs) (drop level ys) ≡ slice_cmp nat_cmp (drop (suc level) xs) (drop (suc level) ys)
+pub compare_past : (xs ys : List ℕ) (level x y : ℕ) → drop level xs ≡ x ∷ drop (suc level) xs → drop level ys ≡ y ∷ drop (suc level) ys
+    → nat_cmp x y ≡ Equal → slice_cmp nat_cmp (drop level xs) (drop level ys)
+    ≡ slice_cmp nat_cmp (drop (suc level) xs) (drop (suc level) ys)
 compare_past xs ys level x y here there same =
-    ap (λ zs. slice_cmp nat_cmp zs (drop level ys)) here ∙ ap (slice_cmp nat_cmp (x ∷ drop (suc level) xs)) there ∙ ap (λ o. ordering_then o (slice_cmp nat_cmp (drop (suc level) xs) (drop (suc level) ys))) same
+    ap (λ zs. slice_cmp nat_cmp zs (drop level ys)) here ∙ ap (slice_cmp nat_cmp (x ∷ drop (suc level) xs)) there
+    ∙ ap (λ o. ordering_then o (slice_cmp nat_cmp (drop (suc level) xs) (drop (suc level) ys))) same
 
-pub compare_here : (xs ys : List ℕ) (level x y : ℕ) (o : Ordering) → drop level xs ≡ x ∷ drop (suc level) xs → drop level ys ≡ y ∷ drop (suc level) ys → nat_cmp x y ≡ o → o ≢ Equal → slice_cmp nat_cmp (drop level xs) (drop level ys) ≡ o
+pub compare_here : (xs ys : List ℕ) (level x y : ℕ) (o : Ordering) → drop level xs ≡ x ∷ drop (suc level) xs
+    → drop level ys ≡ y ∷ drop (suc level) ys → nat_cmp x y ≡ o → o ≢ Equal → slice_cmp nat_cmp (drop level xs) (drop level ys) ≡ o
 compare_here xs ys level x y o here there is apart =
     ap (λ zs. slice_cmp nat_cmp zs (drop level ys)) here ∙ ap (slice_cmp nat_cmp (x ∷ drop (suc level) xs)) there
-    ∙ ap (λ r. ordering_then r (slice_cmp nat_cmp (drop (suc level) xs) (drop (suc level) ys))) is ∙ decided o (slice_cmp nat_cmp (drop (suc level) xs) (drop (suc level) ys)) apart
+    ∙ ap (λ r. ordering_then r (slice_cmp nat_cmp (drop (suc level) xs) (drop (suc level) ys))) is
+    ∙ decided o (slice_cmp nat_cmp (drop (suc level) xs) (drop (suc level) ys)) apart
   where
     decided : (r s : Ordering) → r ≢ Equal → ordering_then r s ≡ r
     decided Less s apart = refl
@@ -194,21 +222,27 @@ zero_coord [] level = refl
 zero_coord (l ∷ format) zero = refl
 zero_coord (l ∷ format) (suc level) = zero_coord format level
 
-pub no_number : (format : List FormatLevel) (entries : List Entry) (number level : ℕ) → length entries ≤ number → slice_index (level_coords format entries number) level ≡ 0
-no_number format entries number level h = ap (λ entry. slice_index (in_level_order format entry.coords) level) (get_or-eq_default entries no_entry h) ∙ zero_coord format level
+pub no_number : (format : List FormatLevel) (entries : List Entry) (number level : ℕ) → length entries ≤ number
+    → slice_index (level_coords format entries number) level ≡ 0
+no_number format entries number level h = ap (λ entry. slice_index (in_level_order format entry.coords) level)
+    (get_or-eq_default entries no_entry h) ∙ zero_coord format level
 
 -- behind the last level nothing is left to compare
-pub compare_ends : (format : List FormatLevel) (entries : List Entry) (left right level : ℕ) → length format ≤ level → slice_cmp nat_cmp (drop level (level_coords format entries left)) (drop level (level_coords format entries right)) ≡ Equal
+pub compare_ends : (format : List FormatLevel) (entries : List Entry) (left right level : ℕ) → length format ≤ level
+    → slice_cmp nat_cmp (drop level (level_coords format entries left)) (drop level (level_coords format entries right)) ≡ Equal
 compare_ends format entries left right level h =
     ap (λ xs. slice_cmp nat_cmp xs (drop level (level_coords format entries right))) (gone left) ∙ ap (slice_cmp nat_cmp []) (gone right)
   where
     gone : (number : ℕ) → drop level (level_coords format entries number) ≡ []
-    gone number = let long : length (level_coords format entries number) ≡ length format = length-map format (λ l. slice_index (get_or entries number no_entry).coords l.mode) in drop_of_length-le (level_coords format entries number) {i = level} (omega (arith, long, h))
+    gone number = let long : length (level_coords format entries number) ≡ length format =
+        length-map format (λ l. slice_index (get_or entries number no_entry).coords l.mode) in
+        drop_of_length-le (level_coords format entries number) {i = level} (omega (arith, long, h))
 
 -- one number more
 range_more : (a n : ℕ) → range_with_len a n ++ (a + n) ∷ [] ≡ range_with_len a (suc n)
 range_more a zero = let same : a + 0 ≡ a = omega arith in ap (λ k. k ∷ []) same
-range_more a (suc n) = let same : a + suc n ≡ (a + 1) + n = omega arith in ap (λ ks. a ∷ ks) (ap (λ k. range_with_len (a + 1) n ++ k ∷ []) same ∙ range_more (a + 1) n)
+range_more a (suc n) = let same : a + suc n ≡ (a + 1) + n = omega arith in
+    ap (λ ks. a ∷ ks) (ap (λ k. range_with_len (a + 1) n ++ k ∷ []) same ∙ range_more (a + 1) n)
 
 pub next_number : (n : ℕ) → range_with_len 0 n ++ n ∷ [] ≡ range_with_len 0 (n + 1)
 next_number n =
@@ -216,11 +250,14 @@ next_number n =
     ap (λ k. range_with_len 0 n ++ k ∷ []) (sym same) ∙ range_more 0 n ∙ ap (range_with_len 0) (sym (add-one n))
 
 -- what was read anew is arranged as well
-pub same_arranged : (given format : List FormatLevel) (entries : List Entry) (items numbers : List ℕ) → given ≡ format → items ≡ numbers → AreArranged given entries items → AreArranged format entries numbers
-same_arranged given format entries items numbers same read a = subst (λ f. AreArranged f entries numbers) same (subst (λ ns. AreArranged given entries ns) read a)
+pub same_arranged : (given format : List FormatLevel) (entries : List Entry) (items numbers : List ℕ) → given ≡ format → items ≡ numbers
+    → AreArranged given entries items → AreArranged format entries numbers
+same_arranged given format entries items numbers same read a =
+    subst (λ f. AreArranged f entries numbers) same (subst (λ ns. AreArranged given entries ns) read a)
 
 -- a refusal of the rows is one of the entries
-pub refused : (format : List FormatLevel) (ranges : List ℕ) (entries : List Entry) (numbers : List ℕ) (refusal : PackRefusal) → AreArranged format entries numbers → IsRefusal (positions_of format ranges (table_of format entries numbers)) refusal
+pub refused : (format : List FormatLevel) (ranges : List ℕ) (entries : List Entry) (numbers : List ℕ) (refusal : PackRefusal)
+    → AreArranged format entries numbers → IsRefusal (positions_of format ranges (table_of format entries numbers)) refusal
     → IsRefusalOf format ranges entries refusal
 refused format ranges entries numbers Memory a is = tt
 refused format ranges entries numbers (SizeLimit level count) a is = record { numbers = numbers; arranged = a; first = is }

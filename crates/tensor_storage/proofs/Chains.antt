@@ -12,7 +12,8 @@ use Rattle.tensor_storage.proofs.Paths.{drop_map}
 pub chain_of_unique : (letter : Letter) (letters : List Letter) → (properties letter).unique ≡ true → chain_length (letter ∷ letters) ≡ 1
 chain_of_unique letter letters is = ap (λ b. if b then 1 else chain_length letters + 1) is
 
-pub chain_of_groups : (letter : Letter) (letters : List Letter) → (properties letter).unique ≡ false → chain_length (letter ∷ letters) ≡ chain_length letters + 1
+pub chain_of_groups : (letter : Letter) (letters : List Letter) → (properties letter).unique ≡ false
+    → chain_length (letter ∷ letters) ≡ chain_length letters + 1
 chain_of_groups letter letters is = ap (λ b. if b then 1 else chain_length letters + 1) is
 
 pub chain_some : (letters : List Letter) → 0 < chain_length letters
@@ -30,8 +31,11 @@ module _ (format : List FormatLevel) (end : ℕ) (d : FormatLevel) (within : end
   pub chain_here : (properties (get_or format end d).letter).unique ≡ true → chain_length (drop end (letters_of format)) ≡ 1
   chain_here is = ap chain_length letter_left ∙ chain_of_unique (get_or format end d).letter (drop (suc end) (letters_of format)) is
 
-  pub chain_more : (properties (get_or format end d).letter).unique ≡ false → chain_length (drop end (letters_of format)) ≡ chain_length (drop (suc end) (letters_of format)) + 1
+  pub chain_more : (properties (get_or format end d).letter).unique ≡ false
+      → chain_length (drop end (letters_of format)) ≡ chain_length (drop (suc end) (letters_of format)) + 1
   chain_more is = ap chain_length letter_left ∙ chain_of_groups (get_or format end d).letter (drop (suc end) (letters_of format)) is
 
 pub chain_past : (format : List FormatLevel) (end : ℕ) → length format ≤ end → chain_length (drop end (letters_of format)) ≡ 1
-chain_past format end past = ap chain_length (drop_of_length-le (letters_of format) {i = end} (let long = length-map format (λ level. level.letter) in omega (arith, long, past)))
+chain_past format end past =
+    ap chain_length (drop_of_length-le (letters_of format) {i = end}
+    (let long = length-map format (λ level. level.letter) in omega (arith, long, past)))

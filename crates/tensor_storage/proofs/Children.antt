@@ -28,33 +28,45 @@ pub child_is : (x : ℕ) (child : Span) (es : List Entry) → child_of es x ≡ 
 child_is x child [] h = none_some child h
 child_is x child (e ∷ es) h = by_test (child_is x child es) (e.coord == x) refl h
   where
-    by_test : (child_of es x ≡ Some child → Child x child es) → (b : Bool) → (e.coord == x) ≡ b → (if b then Some e.child else child_of es x) ≡ Some child → Child x child (e ∷ es)
-    by_test again true is h = record { entry = e; stands = inl (refl, refl); coord = grind (arith, nat_tests, is); is = same_some e.child child h }
+    by_test : (child_of es x ≡ Some child → Child x child es) → (b : Bool) → (e.coord == x) ≡ b
+        → (if b then Some e.child else child_of es x) ≡ Some child → Child x child (e ∷ es)
+    by_test again true is h = record {
+      entry = e;
+      stands = inl (refl, refl);
+      coord = grind (arith, nat_tests, is);
+      is = same_some e.child child h;
+    }
     by_test again false is h = let k = again h in record { entry = k.entry; stands = inr k.stands; coord = k.coord; is = k.is }
 
 pub no_child : (x p : ℕ) (e : Entry) (es : List Entry) → child_of es x ≡ None → StandsAt p e es → e.coord ≡ x → ⊥
 no_child x p e [] h s same = s
 no_child x p e (f ∷ es) h s same = by_test (no_child x p e es) (f.coord == x) refl h s
   where
-    by_test : (child_of es x ≡ None → StandsAt p e es → e.coord ≡ x → ⊥) → (b : Bool) → (f.coord == x) ≡ b → (if b then Some f.child else child_of es x) ≡ None → StandsAt p e (f ∷ es) → ⊥
+    by_test : (child_of es x ≡ None → StandsAt p e es → e.coord ≡ x → ⊥) → (b : Bool) → (f.coord == x) ≡ b
+        → (if b then Some f.child else child_of es x) ≡ None → StandsAt p e (f ∷ es) → ⊥
     by_test again true is h s = none_some f.child (sym h)
     by_test again false is h (inl s) = let here : f.coord ≡ x = ap (λ y. y.coord) s.1 ∙ same in grind (arith, nat_tests, is, here)
     by_test again false is h (inr s) = again h s same
 
 one_child : (x : ℕ) (e : Entry) (es : List Entry) → e.coord ≡ x → child_of (e ∷ es) x ≡ Some e.child
-one_child x e es same = let is : (e.coord == x) ≡ true = grind (arith, nat_tests, same) in ap (λ b. if b then Some e.child else child_of es x) is
+one_child x e es same = let is : (e.coord == x) ≡ true = grind (arith, nat_tests, same) in
+    ap (λ b. if b then Some e.child else child_of es x) is
 
 other_child : (x : ℕ) (e : Entry) (es : List Entry) → e.coord ≢ x → child_of (e ∷ es) x ≡ child_of es x
-other_child x e es apart = let is : (e.coord == x) ≡ false = grind (arith, nat_tests, apart) in ap (λ b. if b then Some e.child else child_of es x) is
+other_child x e es apart = let is : (e.coord == x) ≡ false = grind (arith, nat_tests, apart) in
+    ap (λ b. if b then Some e.child else child_of es x) is
 
 -- where each coordinate has one position
-pub child_located : (x : ℕ) (es : List Entry) → Single es → (o : Option ℕ) → position_of es x ≡ o → child_of es x ≡ (elim o [ None ↦ None | Some p ↦ Some (span p (p + 1)) ])
+pub child_located : (x : ℕ) (es : List Entry) → Single es → (o : Option ℕ) → position_of es x ≡ o
+    → child_of es x ≡ (elim o [ None ↦ None | Some p ↦ Some (span p (p + 1)) ])
 child_located x [] s o h = subst (λ o. None ≡ (elim o [ None ↦ None | Some p ↦ Some (span p (p + 1)) ])) h refl
 child_located x (e ∷ es) s o h = by_test (child_located x es s.1 o) (e.coord == x) refl h
   where
-    by_test : (position_of es x ≡ o → child_of es x ≡ (elim o [ None ↦ None | Some p ↦ Some (span p (p + 1)) ])) → (b : Bool) → (e.coord == x) ≡ b → (if b then Some e.child.lo else position_of es x) ≡ o
+    by_test : (position_of es x ≡ o → child_of es x ≡ (elim o [ None ↦ None | Some p ↦ Some (span p (p + 1)) ])) → (b : Bool)
+        → (e.coord == x) ≡ b → (if b then Some e.child.lo else position_of es x) ≡ o
         → (if b then Some e.child else child_of es x) ≡ (elim o [ None ↦ None | Some p ↦ Some (span p (p + 1)) ])
-    by_test again true is h = subst (λ o. Some e.child ≡ (elim o [ None ↦ None | Some p ↦ Some (span p (p + 1)) ])) h (ap (λ hi. Some (span e.child.lo hi)) s.0)
+    by_test again true is h = subst (λ o. Some e.child ≡ (elim o [ None ↦ None | Some p ↦ Some (span p (p + 1)) ])) h
+        (ap (λ hi. Some (span e.child.lo hi)) s.0)
     by_test again false is h = again h
 
 -- up to a position no entry has the coordinate: those from there on are left
@@ -108,8 +120,10 @@ seek_meets x y pos hi all s h =
       within = placed_within b.entry.child.hi hi b.others ahead.2;
     }
 
-pub seek_found : (x y pos hi : ℕ) (all : List Entry) (child : Span) → Seeking x pos hi all → coord_at all pos ≡ Some y → y ≡ x → ((e : Entry) → StandsAt pos e all → child ≡ e.child) → Some child ≡ child_of all x
-seek_found x y pos hi all child s h same tells = let m = seek_meets x y pos hi all s h in ap Some (tells m.entry m.stands) ∙ sym (m.found same)
+pub seek_found : (x y pos hi : ℕ) (all : List Entry) (child : Span) → Seeking x pos hi all → coord_at all pos ≡ Some y → y ≡ x
+    → ((e : Entry) → StandsAt pos e all → child ≡ e.child) → Some child ≡ child_of all x
+seek_found x y pos hi all child s h same tells = let m = seek_meets x y pos hi all s h in
+    ap Some (tells m.entry m.stands) ∙ sym (m.found same)
 
 -- past an entry with another coordinate
 pub record Passed (x pos hi : ℕ) (child : Span) (all : List Entry) : Type 0 where
@@ -117,7 +131,8 @@ pub record Passed (x pos hi : ℕ) (child : Span) (all : List Entry) : Type 0 wh
   pub more : pos < child.hi
   pub within : child.hi ≤ hi
 
-pub seek_passes : (x y pos hi : ℕ) (all : List Entry) (child : Span) → Seeking x pos hi all → coord_at all pos ≡ Some y → y ≢ x → ((e : Entry) → StandsAt pos e all → child ≡ e.child) → Passed x pos hi child all
+pub seek_passes : (x y pos hi : ℕ) (all : List Entry) (child : Span) → Seeking x pos hi all → coord_at all pos ≡ Some y → y ≢ x
+    → ((e : Entry) → StandsAt pos e all → child ≡ e.child) → Passed x pos hi child all
 seek_passes x y pos hi all child s h apart tells =
     let m = seek_meets x y pos hi all s h in
     let passed : Passed x pos hi m.entry.child all = record { seeks = m.passed apart; more = m.more; within = m.within } in

@@ -5,6 +5,7 @@ pub mod Children
 pub mod Counts
 pub mod EntrySame
 pub mod LevelSame
+pub mod LevelSorts
 pub mod ListLaws
 pub mod Located
 pub mod OneKind

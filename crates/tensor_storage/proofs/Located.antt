@@ -36,7 +36,8 @@ single Singleton h = refl
 single SingletonGroups h = apart (sym h)
 single Hashed h = refl
 
-module _ {L : Type 0} (means : Meaning L) (laws : Laws means) (l : L) (parent : Span) (ok : means.allowed l parent) (locates : (capabilities (means.kind l)).locate ≡ true) where
+module _ {L : Type 0} (means : Meaning L) (laws : Laws means) (l : L) (parent : Span) (ok : means.allowed l parent)
+    (locates : (capabilities (means.kind l)).locate ≡ true) where
   pub parent_is : parent ≡ one parent.lo
   parent_is = ap (λ hi. span parent.lo hi) (laws.one_parent l parent ok (branches (means.kind l) locates))
 
@@ -46,13 +47,16 @@ module _ {L : Type 0} (means : Meaning L) (laws : Laws means) (l : L) (parent : 
   pub located_is : (x : ℕ) (o : Option ℕ) → o ≡ position_of (means.entries l (one parent.lo)) x
       → child_of (means.entries l parent) x ≡ (elim o [ None ↦ None | Some p ↦ Some (span p (p + 1)) ])
   located_is x o is = ap (λ s. child_of (means.entries l s) x) parent_is
-      ∙ child_located x (means.entries l (one parent.lo)) ((laws.entries l (one parent.lo) parent_asked).properties.unique (single (means.kind l) locates)) o (sym is)
+      ∙ child_located x (means.entries l (one parent.lo))
+      ((laws.entries l (one parent.lo) parent_asked).properties.unique (single (means.kind l) locates)) o (sym is)
 
   pub located_within : (x p : ℕ) → Some p ≡ position_of (means.entries l (one parent.lo)) x → p < 2 ^ 62
   located_within x p is =
       let are = laws.entries l (one parent.lo) parent_asked in
-      let c = position_coord (means.segment_of l (one parent.lo)).lo (means.segment_of l (one parent.lo)).hi x p (means.entries l (one parent.lo)) are.placed (sym is) in
+      let c = position_coord (means.segment_of l (one parent.lo)).lo (means.segment_of l (one parent.lo)).hi x p
+      (means.entries l (one parent.lo)) are.placed (sym is) in
       let e = coord_from p x (means.entries l (one parent.lo)) c.0 in
-      let s = stands_within (means.segment_of l (one parent.lo)).lo (means.segment_of l (one parent.lo)).hi e.entry.child.lo e.entry (means.entries l (one parent.lo)) are.placed e.stands in
+      let s = stands_within (means.segment_of l (one parent.lo)).lo (means.segment_of l (one parent.lo)).hi e.entry.child.lo e.entry
+      (means.entries l (one parent.lo)) are.placed e.stands in
       let inside = e.at.1 in let below = s.2 in let all = are.positions in
       omega (arith, inside, below, all, positions_are_small)

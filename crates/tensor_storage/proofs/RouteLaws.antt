@@ -68,9 +68,13 @@ has_none xs [] none s a = absurd a
 has_none xs (r ∷ rs) none s (inl is) = λ same. none.0 (ap (λ t. t.coords) is ∙ same)
 has_none xs (r ∷ rs) none s (inr more) = has_none xs rs none.1 s more
 
-apart_append : (rs ss : List Route) → AreApart rs → AreApart ss → ((r s : Route) → Among r rs → Among s ss → s.coords ≢ r.coords) → AreApart (rs ++ ss)
+apart_append : (rs ss : List Route) → AreApart rs → AreApart ss → ((r s : Route) → Among r rs → Among s ss → s.coords ≢ r.coords)
+    → AreApart (rs ++ ss)
 apart_append [] ss a b between = b
-apart_append (r ∷ rs) ss a b between = (none_has r.coords (rs ++ ss) (λ s among. by_part s (among_either s rs ss among)), apart_append rs ss a.1 b (λ q s i j. between q s (inr i) j))
+apart_append (r ∷ rs) ss a b between = (
+  none_has r.coords (rs ++ ss) (λ s among. by_part s (among_either s rs ss among)),
+  apart_append rs ss a.1 b (λ q s i j. between q s (inr i) j),
+)
   where
     by_part : (s : Route) → Among s rs ⊎ Among s ss → s.coords ≢ r.coords
     by_part s (inl among) = has_none r.coords rs a.0 s among
@@ -91,26 +95,37 @@ apart_longer x [] a = tt
 apart_longer x (r ∷ rs) a = (none_longer x r.coords rs a.0, apart_longer x rs a.1)
 
 -- the paths through some entries begin with their coordinates
-head_is_other : (below : Span → List Route) (x : ℕ) (es : List Entry) (s : Route) (rest : List ℕ) → Lacks x es → Among s (routes_through below es) → s.coords ≡ x ∷ rest → ⊥
+head_is_other : (below : Span → List Route) (x : ℕ) (es : List Entry) (s : Route) (rest : List ℕ) → Lacks x es
+    → Among s (routes_through below es) → s.coords ≡ x ∷ rest → ⊥
 head_is_other below x [] s rest lacks a same = a
-head_is_other below x (e ∷ es) s rest lacks a same = by_part (λ there. head_is_other below x es s rest lacks.1 there same) (among_either s (map (longer e.coord) (below e.child)) (routes_through below es) a)
+head_is_other below x (e ∷ es) s rest lacks a same =
+    by_part (λ there. head_is_other below x es s rest lacks.1 there same)
+    (among_either s (map (longer e.coord) (below e.child)) (routes_through below es) a)
   where
-    by_part : (Among s (routes_through below es) → ⊥) → Among s (map (longer e.coord) (below e.child)) ⊎ Among s (routes_through below es) → ⊥
-    by_part again (inl here) = let k = among_behind e.coord s (below e.child) here in lacks.0 (head_same e.coord x k.rest.coords rest (ap (λ t. t.coords) k.is ∙ same))
+    by_part : (Among s (routes_through below es) → ⊥)
+        → Among s (map (longer e.coord) (below e.child)) ⊎ Among s (routes_through below es) → ⊥
+    by_part again (inl here) = let k = among_behind e.coord s (below e.child) here in
+        lacks.0 (head_same e.coord x k.rest.coords rest (ap (λ t. t.coords) k.is ∙ same))
     by_part again (inr there) = again there
 
-through_apart : (below : Span → List Route) (es : List Entry) → Distinct es → ((e : Entry) → StandsAt e.child.lo e es → AreApart (below e.child)) → AreApart (routes_through below es)
+through_apart : (below : Span → List Route) (es : List Entry) → Distinct es
+    → ((e : Entry) → StandsAt e.child.lo e es → AreApart (below e.child)) → AreApart (routes_through below es)
 through_apart below [] d each = tt
-through_apart below (e ∷ es) d each = apart_append (map (longer e.coord) (below e.child)) (routes_through below es) (apart_longer e.coord (below e.child) (each e (inl (refl, refl)))) (through_apart below es d.1 (λ f s. each f (inr s)))
-    (λ r s a b same. let k = among_behind e.coord r (below e.child) a in head_is_other below e.coord es s k.rest.coords d.0 b (same ∙ sym (ap (λ t. t.coords) k.is)))
+through_apart below (e ∷ es) d each = apart_append (map (longer e.coord) (below e.child)) (routes_through below es)
+    (apart_longer e.coord (below e.child) (each e (inl (refl, refl)))) (through_apart below es d.1 (λ f s. each f (inr s)))
+    (λ r s a b same. let k = among_behind e.coord r (below e.child) a in
+    head_is_other below e.coord es s k.rest.coords d.0 b (same ∙ sym (ap (λ t. t.coords) k.is)))
 
 -- a path through an entry is one of those
-pub through_among : (below : Span → List Route) (e : Entry) (r : Route) (es : List Entry) (q : ℕ) → StandsAt q e es → Among r (below e.child) → Among (longer e.coord r) (routes_through below es)
+pub through_among : (below : Span → List Route) (e : Entry) (r : Route) (es : List Entry) (q : ℕ) → StandsAt q e es
+    → Among r (below e.child) → Among (longer e.coord r) (routes_through below es)
 through_among below e r [] q s a = absurd s
 through_among below e r (f ∷ es) q (inl (at, same)) a =
     let P : Entry → Type 0 = λ g. Among (longer e.coord r) (map (longer g.coord) (below g.child) ++ routes_through below es) in
-    subst P (sym same) (among_front (longer e.coord r) (map (longer e.coord) (below e.child)) (routes_through below es) (among_longer e.coord r (below e.child) a))
-through_among below e r (f ∷ es) q (inr s) a = among_back (longer e.coord r) (map (longer f.coord) (below f.child)) (routes_through below es) (through_among below e r es q s a)
+    subst P (sym same) (among_front (longer e.coord r) (map (longer e.coord) (below e.child)) (routes_through below es)
+    (among_longer e.coord r (below e.child) a))
+through_among below e r (f ∷ es) q (inr s) a = among_back (longer e.coord r) (map (longer f.coord) (below f.child))
+    (routes_through below es) (through_among below e r es q s a)
 
 -- an entry that a path goes through
 record Through (below : Span → List Route) (r : Route) (es : List Entry) : Type 0 where
@@ -122,22 +137,29 @@ record Through (below : Span → List Route) (r : Route) (es : List Entry) : Typ
 
 through_which : (below : Span → List Route) (r : Route) (es : List Entry) → Among r (routes_through below es) → Through below r es
 through_which below r [] a = absurd a
-through_which below r (e ∷ es) a = by_part (through_which below r es) (among_either r (map (longer e.coord) (below e.child)) (routes_through below es) a)
+through_which below r (e ∷ es) a = by_part (through_which below r es)
+    (among_either r (map (longer e.coord) (below e.child)) (routes_through below es) a)
   where
-    by_part : (Among r (routes_through below es) → Through below r es) → Among r (map (longer e.coord) (below e.child)) ⊎ Among r (routes_through below es) → Through below r (e ∷ es)
-    by_part again (inl here) = let k = among_behind e.coord r (below e.child) here in record { entry = e; stands = inl (refl, refl); rest = k.rest; among = k.among; is = k.is }
-    by_part again (inr there) = let k = again there in record { entry = k.entry; stands = inr k.stands; rest = k.rest; among = k.among; is = k.is }
+    by_part : (Among r (routes_through below es) → Through below r es)
+        → Among r (map (longer e.coord) (below e.child)) ⊎ Among r (routes_through below es) → Through below r (e ∷ es)
+    by_part again (inl here) = let k = among_behind e.coord r (below e.child) here in
+        record { entry = e; stands = inl (refl, refl); rest = k.rest; among = k.among; is = k.is }
+    by_part again (inr there) = let k = again there in
+        record { entry = k.entry; stands = inr k.stands; rest = k.rest; among = k.among; is = k.is }
 
 -- one entry more behind those that are done
-pub through_more : (below : Span → List Route) (es : List Entry) (e : Entry) → routes_through below (es ++ e ∷ []) ≡ routes_through below es ++ map (longer e.coord) (below e.child)
+pub through_more : (below : Span → List Route) (es : List Entry) (e : Entry)
+    → routes_through below (es ++ e ∷ []) ≡ routes_through below es ++ map (longer e.coord) (below e.child)
 through_more below [] e = append-nil (map (longer e.coord) (below e.child))
-through_more below (f ∷ es) e = ap (λ rs. map (longer f.coord) (below f.child) ++ rs) (through_more below es e) ∙ sym (append_assoc (map (longer f.coord) (below f.child)) (routes_through below es) (map (longer e.coord) (below e.child)))
+through_more below (f ∷ es) e = ap (λ rs. map (longer f.coord) (below f.child) ++ rs) (through_more below es e)
+    ∙ sym (append_assoc (map (longer f.coord) (below f.child)) (routes_through below es) (map (longer e.coord) (below e.child)))
 
 abbrev ends : ℕ → Route
 ends pos = record { coords = []; end = pos }
 
 module _ {L : Type 0} (means : Meaning L) where
-  pub route_of_path : (ls : List L) (s : Span) (xs : List ℕ) (pos : ℕ) → Path means ls s xs pos → Among (record { coords = xs; end = pos }) (routes means ls s)
+  pub route_of_path : (ls : List L) (s : Span) (xs : List ℕ) (pos : ℕ) → Path means ls s xs pos
+      → Among (record { coords = xs; end = pos }) (routes means ls s)
   route_of_path [] s [] pos p =
       let P : ℕ → Type 0 = λ q. ends s.lo ≡ ends q in
       inl (subst P (ap (λ t. t.lo) p) refl)
@@ -149,7 +171,8 @@ module _ {L : Type 0} (means : Meaning L) where
       let P : ℕ → Type 0 = λ y. Among (record { coords = y ∷ xs; end = pos }) (routes_through (routes means ls) (means.entries l s)) in
       subst P p.2 through
 
-  pub path_of_route : (ls : List L) (positions : ℕ) (s : Span) → IsOpen means ls positions s → (r : Route) → Among r (routes means ls s) → Path means ls s r.coords r.end
+  pub path_of_route : (ls : List L) (positions : ℕ) (s : Span) → IsOpen means ls positions s → (r : Route) → Among r (routes means ls s)
+      → Path means ls s r.coords r.end
   path_of_route [] positions s o r (inl is) =
       let P : Route → Type 0 = λ q. Path means [] s q.coords q.end in
       let Q : ℕ → Type 0 = λ hi. the_span s.lo hi ≡ one s.lo in
@@ -162,7 +185,8 @@ module _ {L : Type 0} (means : Meaning L) where
 
   pub routes_apart : Laws means → (ls : List L) (positions : ℕ) (s : Span) → IsOpen means ls positions s → AreApart (routes means ls s)
   routes_apart laws [] positions s o = (tt, tt)
-  routes_apart laws (l ∷ ls) positions s o = through_apart (routes means ls) (means.entries l s) (laws.entries l s o.0).distinct (λ e stands. routes_apart laws ls positions e.child (o.1 e stands))
+  routes_apart laws (l ∷ ls) positions s o = through_apart (routes means ls) (means.entries l s) (laws.entries l s o.0).distinct
+      (λ e stands. routes_apart laws ls positions e.child (o.1 e stands))
 
   pub path_long : (ls : List L) (s : Span) (xs : List ℕ) (pos : ℕ) → Path means ls s xs pos → length xs ≡ length ls
   path_long [] s [] pos p = refl

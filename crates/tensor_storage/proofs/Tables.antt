@@ -24,9 +24,11 @@ joined false b h k = apart (sym h)
 
 pub agree_tells : (coords : ℕ → ℕ → ℕ) (n i j : ℕ) → agree coords n i j ≡ true → Agree coords n i j
 agree_tells coords zero i j h d less = absurd (omega (arith, less))
-agree_tells coords (suc n) i j h d less = by_order (agree_tells coords n i j) (both (agree coords n i j) (coords n i == coords n j) h) (cases_lt d n)
+agree_tells coords (suc n) i j h d less = by_order (agree_tells coords n i j) (both (agree coords n i j) (coords n i == coords n j) h)
+    (cases_lt d n)
   where
-    by_order : (agree coords n i j ≡ true → Agree coords n i j) → (agree coords n i j ≡ true) × ((coords n i == coords n j) ≡ true) → (d < n) ⊎ (n ≤ d) → coords d i ≡ coords d j
+    by_order : (agree coords n i j ≡ true → Agree coords n i j) → (agree coords n i j ≡ true) × ((coords n i == coords n j) ≡ true)
+        → (d < n) ⊎ (n ≤ d) → coords d i ≡ coords d j
     by_order again k (inl before) = again k.0 d before
     by_order again k (inr from) =
         let is : n ≡ d = omega (arith, less, from) in
@@ -38,7 +40,8 @@ pub agree_from : (coords : ℕ → ℕ → ℕ) (n i j : ℕ) → Agree coords n
 agree_from coords zero i j a = refl
 agree_from coords (suc n) i j a =
     let last = a n (omega arith) in
-    joined (agree coords n i j) (coords n i == coords n j) (agree_from coords n i j (λ d less. a d (omega (arith, less)))) (grind (arith, nat_tests, last))
+    joined (agree coords n i j) (coords n i == coords n j) (agree_from coords n i j (λ d less. a d (omega (arith, less))))
+    (grind (arith, nat_tests, last))
 
 pub begins : (coords : ℕ → ℕ → ℕ) (n count : ℕ) → Begins coords n count (begins_at coords n)
 begins coords n count = record {
@@ -52,5 +55,6 @@ begins coords n count = record {
     by_test false h = apart h
 
 -- the rows for a level are those of the table
-pub rows_are : (table : Table) (d n size : ℕ) (ps : List ℕ) → ((i : ℕ) → i < table.count → table.coords d i < size) → AreRowsOf table.coords d n size (rows_at (keys_of table d n) ps)
+pub rows_are : (table : Table) (d n size : ℕ) (ps : List ℕ) → ((i : ℕ) → i < table.count → table.coords d i < size)
+    → AreRowsOf table.coords d n size (rows_at (keys_of table d n) ps)
 rows_are table d n size ps below = record { coord = λ i h. refl; below = below; begins = begins table.coords n table.count }

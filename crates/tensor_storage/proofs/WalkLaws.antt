@@ -18,7 +18,8 @@ coord_ahead : (segment : Span) (pos : ℕ) (done all : List Entry) (w : Walking 
 coord_ahead segment pos done all w = ap (λ es. coord_at es pos) w.parts ∙ coord_after segment.lo pos pos done w.rest w.behind (omega arith)
 
 -- past a position without a coordinate
-pub walk_past : (segment : Span) (pos : ℕ) (done all : List Entry) → pos < segment.hi → Walking segment pos done all → coord_at all pos ≡ None → Walking segment (pos + 1) done all
+pub walk_past : (segment : Span) (pos : ℕ) (done all : List Entry) → pos < segment.hi → Walking segment pos done all
+    → coord_at all pos ≡ None → Walking segment (pos + 1) done all
 walk_past segment pos done all l w h = record {
   rest = w.rest;
   parts = w.parts;
@@ -34,12 +35,14 @@ pub record Meets (segment : Span) (pos x : ℕ) (done all : List Entry) : Type 0
   pub coord : entry.coord ≡ x
   pub next : IsNext segment pos done all entry
 
-pub walk_meets : (segment : Span) (pos x : ℕ) (done all : List Entry) → Walking segment pos done all → coord_at all pos ≡ Some x → Meets segment pos x done all
+pub walk_meets : (segment : Span) (pos x : ℕ) (done all : List Entry) → Walking segment pos done all → coord_at all pos ≡ Some x
+    → Meets segment pos x done all
 walk_meets segment pos x done all w h =
     let b = begins pos segment.hi x w.rest w.ahead (sym (coord_ahead segment pos done all w) ∙ h) in
     let ahead : Placed pos segment.hi (b.entry ∷ b.others) = subst (Placed pos segment.hi) b.is w.ahead in
     let all_is : all ≡ done ++ b.entry ∷ b.others = w.parts ∙ ap (λ es. done ++ es) b.is in
-    let stands : StandsAt b.entry.child.lo b.entry all = subst (λ es. StandsAt b.entry.child.lo b.entry es) (sym all_is) (stands_after done b.entry b.others) in
+    let stands : StandsAt b.entry.child.lo b.entry all =
+    subst (λ es. StandsAt b.entry.child.lo b.entry es) (sym all_is) (stands_after done b.entry b.others) in
     record {
       entry = b.entry;
       stands = subst (λ n. StandsAt n b.entry all) b.at stands;
@@ -59,7 +62,8 @@ walk_meets segment pos x done all w h =
     }
 
 -- what the level tells of the entry is the entry
-pub walk_tells : (segment : Span) (pos x : ℕ) (done all : List Entry) (child : Span) → Walking segment pos done all → coord_at all pos ≡ Some x → ((e : Entry) → StandsAt pos e all → child ≡ e.child)
+pub walk_tells : (segment : Span) (pos x : ℕ) (done all : List Entry) (child : Span) → Walking segment pos done all
+    → coord_at all pos ≡ Some x → ((e : Entry) → StandsAt pos e all → child ≡ e.child)
     → IsNext segment pos done all (record { coord = x; child = child })
 walk_tells segment pos x done all child w h tells =
     let m = walk_meets segment pos x done all w h in

@@ -1,6 +1,7 @@
 pub mod Arranged
 pub mod Built
 pub mod Chains
+pub mod Columns
 pub mod Children
 pub mod Counts
 pub mod Laws

@@ -6,7 +6,7 @@ ghost use Rattle.tensor_storage.specs.Packed.{IsRefusal};
 ghost use Rattle.tensor_map.specs.Entries.{StrictlyIncreasing};
 ghost use Rattle.tensor_storage.specs.Tables.{AreBelow};
 
-use crate::entries::{EntryRows, arrange};
+use crate::entries::{EntryRows, arrange, columns_of};
 use crate::finding::value_at;
 use crate::level::StorageLevel;
 use crate::listing::{append_paths, levels_of_modes, sort_entries};
@@ -47,7 +47,7 @@ impl Tensor {
     /// Packs the entries of a tensor, which increase in the order of the modes: each is stored, those of value zero too. Every other
     /// value is the zero of `S`. Refused for want of memory, or exactly where a level would have more positions than may be: the first
     /// such level is told, and nothing is stored of it. No entry is copied: where their order by the levels is another, their
-    /// numbers are sorted.
+    /// numbers are sorted, and their coordinates looked up once.
     pub fn pack<S: Semiring>(
         alloc: Global,
         format: Format,
@@ -64,10 +64,14 @@ impl Tensor {
         let Ok(numbers) = arrange(alloc, format.levels(), entries) else {
             return Err(PackRefusal::Memory);
         };
+        let Ok(columns) = columns_of(alloc, format.levels(), entries, &numbers) else {
+            return Err(PackRefusal::Memory);
+        };
         let rows = EntryRows {
             format: format.levels(),
             entries,
             numbers: &numbers,
+            columns: &columns,
         };
         let packed = match pack_table::<S, EntryRows>(
             alloc,

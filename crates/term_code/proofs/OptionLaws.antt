@@ -1,5 +1,5 @@
 -- What the code of values that may be absent does.
-use Rattle.std.specs.Prelude.{◌≡◌, ℕ, suc, ◌+◌, ◌≤◌, List, [], ◌∷◌, ◌++◌, Option, Some, None, slice_get, refl}
+use Rattle.std.specs.Prelude.{◌≡◌, ℕ, suc, ◌+◌, ◌≤◌, Bool, true, List, [], ◌∷◌, ◌++◌, Option, Some, None, slice_get, refl}
 use Rattle.std.proofs.Common.{◌∙◌, subst, arith}
 use Rattle.numbers.specs.Arithmetic.{Arithmetic}
 use Rattle.kernel_code.specs.declared.syntax.Arr.TheVariants.{Values}
@@ -135,14 +135,15 @@ either_does c free (Some x) (Some y) s h g =
 abbrev Options : Type 0
 Options = Stored → Env → Option ℕ
 
-pub number_leaves : (a : Arithmetic) (places : Places) (n free : ℕ) → LeavesOption a places (λ stored env. Some n) free (number_code n free)
-number_leaves a places n free = λ c is stored bound env s keeps has. two_set c free n (Num n) s refl
+pub number_leaves : (a : Arithmetic) (places : Places) (these : ℕ → Bool) (n free : ℕ)
+    → LeavesOption a places these (λ stored env. Some n) free (number_code n free)
+number_leaves a places these n free = λ c is stored bound env s keeps has. two_set c free n (Num n) s refl
 
-module _ (a : Arithmetic) (places : Places) (free : ℕ) (are : AreBelow free places) where
-  pub access_leaves : (k : ℕ) (p : AccessPlace) → slice_get places.accesses k ≡ Some p
-      → LeavesOption a places (λ stored env. word_of (stored.word k) (env.cursor k)) free (access_code p free)
-  access_leaves k p at = λ c is stored bound env s keeps has. by_cursor c stored s (env.cursor k) (keeps.cursors k p at)
-      (λ span. has k p span at)
+module _ (a : Arithmetic) (places : Places) (these : ℕ → Bool) (free : ℕ) (are : AreBelow free places) where
+  pub access_leaves : (k : ℕ) (p : AccessPlace) → these k ≡ true → slice_get places.accesses k ≡ Some p
+      → LeavesOption a places these (λ stored env. word_of (stored.word k) (env.cursor k)) free (access_code p free)
+  access_leaves k p of at = λ c is stored bound env s keeps has. by_cursor c stored s (env.cursor k) (keeps.cursors k p at)
+      (λ span. has k p span of at)
     where
       low : p.cursor + 3 ≤ free
       low = are.accesses k p at
@@ -163,43 +164,45 @@ module _ (a : Arithmetic) (places : Places) (free : ℕ) (are : AreBelow free pl
           (word_is (Values p.tensor) (Var (p.cursor + 1)) h.words span.lo v t h.held lo h.is))
 
   -- the second of two values beside the first one
-  beside : (f g : Options) (x y : List KStmt) → LeavesOption a places f free x → LeavesOption a places g (free + 2) y
+  beside : (f g : Options) (x y : List KStmt) → LeavesOption a places these f free x → LeavesOption a places these g (free + 2) y
       → (c : Setting) → c.arithmetic ≡ a → (stored : Stored) (bound : List ℕ) (env : Env) (s : State) → Keeps places bound env s
-      → HasValues places stored env s
+      → HasValues these places stored env s
       → Reads c (x ++ y) free no_turns s (λ t. OptionLeft free (f stored env) t × OptionLeft (free + 2) (g stored env) t)
   beside f g x y h k c is stored bound env s keeps has =
       then_reads c x y free free s _ _ (omega arith) (h c is stored bound env s keeps has)
       (λ t l o. does_weaker c y t _ _ Never Never
       (k c is stored bound env t (keeps_kept free places bound env s t are (λ y b. l.below y b (λ z. z)) keeps)
-      (values_kept places stored env s t (λ b. l.arrays b tt) has))
+      (values_kept these places stored env s t (λ b. l.arrays b tt) has))
       (λ u r. (
         record { below = λ y b z. r.0.below y (omega (arith, b)) z; arrays = r.0.arrays; turns = r.0.turns },
         (option_kept free (f stored env) t u (r.0.below free (omega arith) (λ z. z)) (r.0.below (free + 1) (omega arith) (λ z. z)) o, r.1),
       )) (λ t b n z. z))
 
-  pub sum_leaves : (f g : Options) (x y : List KStmt) → LeavesOption a places f free x → LeavesOption a places g (free + 2) y
-      → LeavesOption a places (λ stored env. either a.plus (f stored env) (g stored env)) free ((x ++ y) ++ either_code free)
+  pub sum_leaves : (f g : Options) (x y : List KStmt) → LeavesOption a places these f free x → LeavesOption a places these g (free + 2) y
+      → LeavesOption a places these (λ stored env. either a.plus (f stored env) (g stored env)) free ((x ++ y) ++ either_code free)
   sum_leaves f g x y h k = λ c is stored bound env s keeps has.
       then_reads c (x ++ y) (either_code free) free free s _ _ (omega arith) (beside f g x y h k c is stored bound env s keeps has)
       (λ t l o. subst (λ b. Reads c (either_code free) free no_turns t (OptionLeft free (either b.plus (f stored env) (g stored env)))) is
       (either_does c free (f stored env) (g stored env) t o.0 o.1))
 
-  pub product_leaves : (f g : Options) (x y : List KStmt) → LeavesOption a places f free x → LeavesOption a places g (free + 2) y
-      → LeavesOption a places (λ stored env. both a.times (f stored env) (g stored env)) free ((x ++ y) ++ both_code free)
+  pub product_leaves : (f g : Options) (x y : List KStmt) → LeavesOption a places these f free x
+      → LeavesOption a places these g (free + 2) y
+      → LeavesOption a places these (λ stored env. both a.times (f stored env) (g stored env)) free ((x ++ y) ++ both_code free)
   product_leaves f g x y h k = λ c is stored bound env s keeps has.
       then_reads c (x ++ y) (both_code free) free free s _ _ (omega arith) (beside f g x y h k c is stored bound env s keeps has)
       (λ t l o. subst (λ b. Reads c (both_code free) free no_turns t (OptionLeft free (both b.times (f stored env) (g stored env)))) is
       (both_does c free (f stored env) (g stored env) t o.0 o.1))
 
-pub negated_leaves : (a : Arithmetic) (places : Places) (free : ℕ) (f : Options) (x : List KStmt) → LeavesOption a places f free x
-    → LeavesOption a places (λ stored env. each (minus a) (f stored env)) free (x ++ each_code a.minus_one free)
-negated_leaves a places free f x h = λ c is stored bound env s keeps has.
+pub negated_leaves : (a : Arithmetic) (places : Places) (these : ℕ → Bool) (free : ℕ) (f : Options) (x : List KStmt)
+    → LeavesOption a places these f free x
+    → LeavesOption a places these (λ stored env. each (minus a) (f stored env)) free (x ++ each_code a.minus_one free)
+negated_leaves a places these free f x h = λ c is stored bound env s keeps has.
     then_reads c x (each_code a.minus_one free) free free s _ _ (omega arith) (h c is stored bound env s keeps has)
     (λ t l o. subst (λ b. Reads c (each_code b.minus_one free) free no_turns t (OptionLeft free (each (minus b) (f stored env)))) is
     (each_does c free (f stored env) t o))
 
-pub leaves_same : (a : Arithmetic) (places : Places) (free : ℕ) (f g : Options) (x : List KStmt)
+pub leaves_same : (a : Arithmetic) (places : Places) (these : ℕ → Bool) (free : ℕ) (f g : Options) (x : List KStmt)
     → ((stored : Stored) (env : Env) → f stored env ≡ g stored env)
-    → LeavesOption a places f free x → LeavesOption a places g free x
-leaves_same a places free f g x same h = λ c is stored bound env s keeps has.
+    → LeavesOption a places these f free x → LeavesOption a places these g free x
+leaves_same a places these free f g x same h = λ c is stored bound env s keeps has.
     subst (λ o. Reads c x free no_turns s (OptionLeft free o)) (same stored env) (h c is stored bound env s keeps has)

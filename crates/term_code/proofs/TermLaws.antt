@@ -1,5 +1,5 @@
 -- What the code of a term does.
-use Rattle.std.specs.Prelude.{◌≡◌, ℕ, zero, suc, ◌+◌, ◌<◌, true, false, List, [], ◌∷◌, ◌++◌, length, map, Option, Some, None, All}
+use Rattle.std.specs.Prelude.{◌≡◌, ℕ, zero, suc, ◌+◌, ◌<◌, Bool, true, false, List, [], ◌∷◌, ◌++◌, length, map, Option, Some, None, All}
 use Rattle.std.specs.Prelude.{slice_index, slice_index_or, refl}
 use Rattle.std.proofs.Common.{◌∙◌, sym, ap, subst, arith}
 use Rattle.std.proofs.lemmas.List.{append-nil}
@@ -18,6 +18,7 @@ use Rattle.expr_terms.specs.Terms.{contains}
 use Rattle.expr_terms.specs.declared.term.Term.{Term}
 use Rattle.row_sinks.specs.Sinks.{Sink, SinkLaws, Adds, AddsTo, VarsAre}
 use Rattle.loop_code.specs.Loops.{Env, access_values, row_of, term_value}
+use Rattle.loop_code.specs.Places.{EachAccess}
 use Rattle.loop_code.specs.PresentValues.{present_value, signed}
 use Rattle.term_code.specs.Places.{Places, AreBelow, Keeps}
 use Rattle.term_code.specs.Options.{LeavesOption}
@@ -27,22 +28,22 @@ use Rattle.term_code.proofs.OptionLaws.{leaves_same, negated_leaves}
 use Rattle.term_code.proofs.PlaceLaws.{keeps_kept}
 
 -- the value of a term by its sign
-module _ (a : Arithmetic) (places : Places) (free : ℕ) (t : Term) (x : List KStmt)
-    (leaves : LeavesOption a places (λ stored env. present_value a (access_values stored env) t.expr) free x) where
-  pub plain_leaves : t.negated ≡ false → LeavesOption a places (λ stored env. term_value a stored env t) free x
+module _ (a : Arithmetic) (places : Places) (these : ℕ → Bool) (free : ℕ) (t : Term) (x : List KStmt)
+    (leaves : LeavesOption a places these (λ stored env. present_value a (access_values stored env) t.expr) free x) where
+  pub plain_leaves : t.negated ≡ false → LeavesOption a places these (λ stored env. term_value a stored env t) free x
   plain_leaves is =
-      leaves_same a places free (λ stored env. present_value a (access_values stored env) t.expr)
+      leaves_same a places these free (λ stored env. present_value a (access_values stored env) t.expr)
       (λ stored env. term_value a stored env t) x
       (λ stored env. ap (λ b. signed a b (present_value a (access_values stored env) t.expr)) (sym is)) leaves
 
-  pub signed_leaves : t.negated ≡ true → LeavesOption a places (λ stored env. term_value a stored env t) free
+  pub signed_leaves : t.negated ≡ true → LeavesOption a places these (λ stored env. term_value a stored env t) free
       (x ++ each_code a.minus_one free)
   signed_leaves is =
-      leaves_same a places free (λ stored env. signed a true (present_value a (access_values stored env) t.expr))
+      leaves_same a places these free (λ stored env. signed a true (present_value a (access_values stored env) t.expr))
       (λ stored env. term_value a stored env t)
       (x ++ each_code a.minus_one free)
       (λ stored env. ap (λ b. signed a b (present_value a (access_values stored env) t.expr)) (sym is))
-      (negated_leaves a places free (λ stored env. present_value a (access_values stored env) t.expr) x leaves)
+      (negated_leaves a places these free (λ stored env. present_value a (access_values stored env) t.expr) x leaves)
 
 -- the kernel's variables of the target's are below free
 pub keys_below : (free : ℕ) (variables target : List ℕ) → All (λ y. y < free) variables → All (λ v. v < length variables) target
@@ -82,14 +83,17 @@ module _ {K : Type 0} (sink : Sink K) (laws : SinkLaws sink) (k : K) (free : ℕ
       (λ t q. does_nothing c t _ _ q)
 
   pub adds_term : (a : Arithmetic) (places : Places) (target : List ℕ) (t : Term) (x : List KStmt) → AreBelow free places
-      → keys ≡ map (slice_index places.variables) target → LeavesOption a places (λ stored env. term_value a stored env t) free x
+      → keys ≡ map (slice_index places.variables) target
+      → ((these : ℕ → Bool) → EachAccess (λ j. these j ≡ true) t.expr
+      → LeavesOption a places these (λ stored env. term_value a stored env t) free x)
       → AddsTerm a sink k places target t free (x ++ If (Var free) row [] ∷ [])
-  adds_term a places target t x are named leaves = λ c is arithmetic apart ranges before stored bound env all takes s keeps has holds.
+  adds_term a places target t x are named leaves = λ c is arithmetic apart these each ranges before stored bound env all takes s keeps
+      has holds.
       let o = term_value a stored env t in
       let coords = coords_at env.point target in
       let refused = sink.refused k (before ++ row_of coords o) in
       does_append c x (If (Var free) row [] ∷ []) s _ _ _
-      (does_weaker c x s _ _ Never (RefusedWithin no_turns s refused) (leaves c is stored bound env s keeps has) (λ u q. q)
+      (does_weaker c x s _ _ Never (RefusedWithin no_turns s refused) (leaves these each c is stored bound env s keeps has) (λ u q. q)
       (λ u b n z. absurd z))
       (λ u q.
       let same : (y : ℕ) → y < free → u.vars y ≡ s.vars y = λ y b. q.0.below y b (λ z. z) in

@@ -1,5 +1,5 @@
 //! Code that adds the row of a term to a sink.
-ghost use Rattle.std.specs.Prelude.{◌≡◌, ◌<◌, ◌≤◌, ◌+◌, ◌^◌, [], ◌∷◌, ◌++◌, length, true, All, IfOk};
+ghost use Rattle.std.specs.Prelude.{◌≡◌, ℕ, ◌<◌, ◌≤◌, ◌+◌, ◌^◌, Bool, [], ◌∷◌, ◌++◌, length, true, All, IfOk};
 ghost use Rattle.limits.specs.Limits.{greatest_order};
 ghost use Rattle.expr_terms.specs.Minus.{HasMeaning};
 ghost use Rattle.loop_code.specs.Loops.{term_value};
@@ -29,8 +29,8 @@ fn emit_signed<S: Semiring>(
     requires sign { term.now.negated ≡ true → S.has_minus ≡ true }
     requires below { AreBelow free places.now }
     requires room { free ≤ 2 ^ 62 }
-    ensures { IfOk result (LeavesOption S.arithmetic places.now
-        (λ stored env. term_value S.arithmetic stored env term.now) free) }
+    ensures { IfOk result (λ code. (these : ℕ → Bool) → EachAccess (λ k. these k ≡ true) term.now.expr
+        → LeavesOption S.arithmetic places.now these (λ stored env. term_value S.arithmetic stored env term.now) free code) }
 {
     let value = emit_value::<S>(alloc, places, &term.expr, free)?;
     if !term.negated {

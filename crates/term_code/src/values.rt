@@ -1,5 +1,5 @@
 //! Code that leaves the value of an expression, if it is present.
-ghost use Rattle.std.specs.Prelude.{◌≡◌, ◌<◌, ◌≤◌, ◌+◌, ◌^◌, [], ◌∷◌, ◌++◌, true, length, IfOk};
+ghost use Rattle.std.specs.Prelude.{◌≡◌, ℕ, ◌<◌, ◌≤◌, ◌+◌, ◌^◌, Bool, [], ◌∷◌, ◌++◌, true, length, IfOk};
 ghost use Rattle.expr_terms.specs.Minus.{HasMeaning};
 ghost use Rattle.loop_code.specs.Loops.{access_values};
 ghost use Rattle.loop_code.specs.Places.{EachAccess};
@@ -130,8 +130,9 @@ pub fn emit_value<S: Semiring>(
     requires meant { HasMeaning S.has_minus expr.now }
     requires below { AreBelow free places.now }
     requires room { free ≤ 2 ^ 62 }
-    ensures { IfOk result (LeavesOption S.arithmetic places.now
-        (λ stored env. present_value S.arithmetic (access_values stored env) expr.now) free) }
+    ensures { IfOk result (λ code. (these : ℕ → Bool) → EachAccess (λ k. these k ≡ true) expr.now
+        → LeavesOption S.arithmetic places.now these
+        (λ stored env. present_value S.arithmetic (access_values stored env) expr.now) free code) }
 {
     // No memory holds the code of so many operands.
     if free >= 1 << 61 {

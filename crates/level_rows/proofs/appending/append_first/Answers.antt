@@ -3,4 +3,5 @@ use Rattle.limits.proofs.Limits.{positions_are_small}
 use Rattle.level_rows.proofs.appending.append_first.Goals as goal
 
 pub overflow_add-result : goal.overflow_add-result
-overflow_add-result g c = let small = positions_are_small in let room = c.requires.room c.«if-not-begins».false in let count = c.requires.count in omega (arith, small, room, count)
+overflow_add-result g c = let small = positions_are_small in let room = c.requires.room c.«if-not-begins».false in
+    let count = c.requires.count in omega (arith, small, room, count)

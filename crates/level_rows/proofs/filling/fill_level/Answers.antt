@@ -11,7 +11,9 @@ insert_rows-given-requires-clause-may g c =
     let kind = g.L.LevelKind.meaning.kind c.args.level.now in
     let none : (capabilities kind).append ≡ false = sym (ap (λ k. k.append) c.caps.ensures) ∙ c.if-caps.false in
     let may = c.requires.rows.inserts none in
-    let few = few_below kind (g.L.LevelKind.meaning.size c.args.level.now) c.args.parents rows c.count_positions-need.result.positions c.count_positions-need.result.most none may.0.within (c.count_positions-need.ensures.few none) c.count_positions-need.ensures.needed in
+    let few = few_below kind (g.L.LevelKind.meaning.size c.args.level.now) c.args.parents rows c.count_positions-need.result.positions
+    c.count_positions-need.result.most none may.0.within (c.count_positions-need.ensures.few none)
+    c.count_positions-need.ensures.needed in
     let within = c.if-need-greatest_positions.false in
     let limit = c.greatest_positions.ensures in
     record { able = inserts_else kind none; unprepared = may.2; coordinates = omega (arith, few, within, limit) }

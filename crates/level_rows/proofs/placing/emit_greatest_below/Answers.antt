@@ -6,4 +6,5 @@ use Rattle.level_rows.proofs.placing.emit_greatest_below.Goals as goal
 pub returns : goal.returns
 returns c =
     let at = c.args.at in
-    subst (FindsGreatest at.base at.workspace at.list at.level c.args.first) (sym c.in_ok-code.ensures) (greatest_found at.base at.workspace at.list at.level c.args.first)
+    subst (FindsGreatest at.base at.workspace at.list at.level c.args.first) (sym c.in_ok-code.ensures)
+    (greatest_found at.base at.workspace at.list at.level c.args.first)

@@ -5,4 +5,6 @@ use Rattle.tensor_storage.specs.Arranged.{level_coords}
 use Rattle.tensor_storage.proofs.entries.are_in_order.Given as goal
 
 abbrev pub invariant-loop-next : goal.invariant-loop-next
-invariant-loop-next l = IsSortedWithin (λ left right. is_lt (slice_cmp nat_cmp (level_coords l.format l.entries.list left) (level_coords l.format l.entries.list right))) l.numbers 0 l.next
+invariant-loop-next l =
+    IsSortedWithin (λ left right. is_lt (slice_cmp nat_cmp (level_coords l.format l.entries.list left)
+    (level_coords l.format l.entries.list right))) l.numbers 0 l.next

@@ -4,4 +4,5 @@ use Rattle.tensor_storage.proofs.Arranging.{next_number}
 use Rattle.tensor_storage.proofs.entries.numbers_below.Goals as goal
 
 pub loop-number-preserved : goal.loop-number-preserved
-loop-number-preserved c = c.in_ok-push.ensures.items ∙ ap (λ ns. ns ++ c.loop-number.number ∷ []) c.loop-number.invariant ∙ next_number c.loop-number.number
+loop-number-preserved c = c.in_ok-push.ensures.items ∙ ap (λ ns. ns ++ c.loop-number.number ∷ []) c.loop-number.invariant
+    ∙ next_number c.loop-number.number

@@ -4,4 +4,5 @@ use Rattle.tensor_map.specs.Order.{IsBefore}
 use Rattle.tensor_storage.proofs.listing.are_increasing.Given as goal
 
 abbrev pub invariant-loop-next : goal.invariant-loop-next
-invariant-loop-next l = (k : ℕ) (d : Entry) → suc k < l.next → IsBefore (slice_index_or l.entries.list k d).coords (slice_index_or l.entries.list (suc k) d).coords
+invariant-loop-next l = (k : ℕ) (d : Entry) → suc k < l.next
+    → IsBefore (slice_index_or l.entries.list k d).coords (slice_index_or l.entries.list (suc k) d).coords

@@ -22,8 +22,11 @@ pub loop-level-preserved : goal.loop-level-preserved
 unfolding none
 loop-level-preserved c = λ k less is. by_order k less is (cases_lt k c.loop-level.level)
   where
-    by_order : (k : ℕ) → k < c.loop-level.level + 1 → slice_index (modes_of c.args.format.now) k ≡ c.args.mode → (k < c.loop-level.level) ⊎ (c.loop-level.level ≤ k) → ⊥
+    by_order : (k : ℕ) → k < c.loop-level.level + 1 → slice_index (modes_of c.args.format.now) k ≡ c.args.mode
+        → (k < c.loop-level.level) ⊎ (c.loop-level.level ≤ k) → ⊥
     by_order k less is (inl before) = c.loop-level.invariant k before is
     by_order k less is (inr from) =
         let same : k ≡ c.loop-level.level = omega (arith, less, from) in
-        c.if-format-level.false (sym (get_or-map (λ level. level.mode) c.args.format.now c.loop-level.level (record { letter = Dense; mode = 0 }) 0 c.loop-level-test.true) ∙ subst (λ n. slice_index (modes_of c.args.format.now) n ≡ c.args.mode) same is)
+        c.if-format-level.false (sym (get_or-map (λ level. level.mode) c.args.format.now c.loop-level.level
+        (record { letter = Dense; mode = 0 }) 0 c.loop-level-test.true)
+        ∙ subst (λ n. slice_index (modes_of c.args.format.now) n ≡ c.args.mode) same is)

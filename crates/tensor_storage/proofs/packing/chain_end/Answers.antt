@@ -13,16 +13,20 @@ none = record { letter = Dense; mode = 0 }
 pub returns-then-props_of : goal.returns-then-props_of
 unfolding none
 returns-then-props_of c =
-    let k = chain_here c.args.format.now c.loop-end.end none c.loop-end-test.true (sym (ap (λ p. p.unique) c.props_of.ensures) ∙ c.if-props_of.true) in
+    let k = chain_here c.args.format.now c.loop-end.end none c.loop-end-test.true
+    (sym (ap (λ p. p.unique) c.props_of.ensures) ∙ c.if-props_of.true) in
     let i = c.loop-end.invariant.1 in omega (arith, k, i)
 
 pub loop-end-preserved : goal.loop-end-preserved
 unfolding none
 loop-end-preserved c =
-    let k = chain_more c.args.format.now c.loop-end.end none c.loop-end-test.true (sym (ap (λ p. p.unique) c.props_of.ensures) ∙ c.if-props_of.false) in
+    let k = chain_more c.args.format.now c.loop-end.end none c.loop-end-test.true
+    (sym (ap (λ p. p.unique) c.props_of.ensures) ∙ c.if-props_of.false) in
     let i = c.loop-end.invariant.1 in
     let t = c.loop-end-test.true in
-    let same : chain_length (drop (c.loop-end.end + 1) (letters_of c.args.format.now)) ≡ chain_length (drop (suc c.loop-end.end) (letters_of c.args.format.now)) = ap (λ n. chain_length (drop n (letters_of c.args.format.now))) (add-one c.loop-end.end) in
+    let same : chain_length (drop (c.loop-end.end + 1) (letters_of c.args.format.now))
+    ≡ chain_length (drop (suc c.loop-end.end) (letters_of c.args.format.now)) =
+    ap (λ n. chain_length (drop n (letters_of c.args.format.now))) (add-one c.loop-end.end) in
     (omega (arith, t), omega (arith, k, i, same))
 
 pub returns : goal.returns

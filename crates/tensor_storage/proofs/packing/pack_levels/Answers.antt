@@ -23,28 +23,38 @@ bounds-ranges-format g c =
 pub offset_bounds-ranges-format : goal.offset_bounds-ranges-format
 unfolding none
 offset_bounds-ranges-format g c =
-    let below : (get_or c.args.format.now c.loop-level.level none).mode < length c.args.format.now = mode_below c.args.format.now c.requires.format c.loop-level.level none c.loop-level-test.true in
+    let below : (get_or c.args.format.now c.loop-level.level none).mode < length c.args.format.now =
+    mode_below c.args.format.now c.requires.format c.loop-level.level none c.loop-level-test.true in
     let short = c.requires.format.short in
     omega (arith, below, short, orders_are_small)
 
 pub loop-level-init : goal.loop-level-init
-loop-level-init g c = (none_packed meaning laws c.args.format.now (in_level_order c.args.format.now c.args.ranges.now) (g.T.RowTable.table c.args.table.now) c.new-levels.result c.args.places.now c.requires.format c.new-levels.ensures c.requires.places, omega (arith, some_positions))
+loop-level-init g c = (
+  none_packed meaning laws c.args.format.now (in_level_order c.args.format.now c.args.ranges.now) (g.T.RowTable.table c.args.table.now)
+      c.new-levels.result c.args.places.now c.requires.format c.new-levels.ensures c.requires.places,
+  omega (arith, some_positions),
+)
 
 pub fill_level-requires-clause-rows : goal.fill_level-requires-clause-rows
 unfolding none
 fill_level-requires-clause-rows g c =
-    fill_may meaning laws c.args.format.now c.args.ranges.now (g.T.RowTable.table c.args.table.now) c.requires.order c.requires.below c.loop-level.level none c.loop-level-test.true c.loop-level.levels c.loop-level.places c.loop-level.parents c.loop-level.invariant.0
+    fill_may meaning laws c.args.format.now c.args.ranges.now (g.T.RowTable.table c.args.table.now) c.requires.order c.requires.below
+    c.loop-level.level none c.loop-level-test.true c.loop-level.levels c.loop-level.places c.loop-level.parents c.loop-level.invariant.0
     c.in-Ok.stored c.chain_end.result c.in-Ok.ensures c.chain_end.ensures
 
 pub loop-level-preserved : goal.loop-level-preserved
 unfolding none
 loop-level-preserved g c =
-    fill_next meaning laws c.args.format.now c.args.ranges.now (g.T.RowTable.table c.args.table.now) c.requires.order c.requires.below c.loop-level.level none c.loop-level-test.true c.loop-level.levels c.loop-level.places c.loop-level.parents c.loop-level.invariant.0
-    c.in-Ok.stored c.chain_end.result c.in-Ok.ensures c.chain_end.ensures c.fill_level.new.positions c.fill_level.new.level c.in-Ok-fill_level.count c.push.new.self c.in-Ok-push.ensures.ok c.in-Ok-fill_level.ensures
+    fill_next meaning laws c.args.format.now c.args.ranges.now (g.T.RowTable.table c.args.table.now) c.requires.order c.requires.below
+    c.loop-level.level none c.loop-level-test.true c.loop-level.levels c.loop-level.places c.loop-level.parents c.loop-level.invariant.0
+    c.in-Ok.stored c.chain_end.result c.in-Ok.ensures c.chain_end.ensures c.fill_level.new.positions c.fill_level.new.level
+    c.in-Ok-fill_level.count c.push.new.self c.in-Ok-push.ensures.ok c.in-Ok-fill_level.ensures
 
 pub returns-in-Err-TooMany : goal.returns-in-Err-TooMany
 unfolding none
 returns-in-Err-TooMany g c =
     rw c.in-Err-TooMany.field-0-is
-    (refused_here meaning laws c.args.format.now c.args.ranges.now (g.T.RowTable.table c.args.table.now) c.requires.order c.requires.below c.loop-level.level none c.loop-level-test.true c.loop-level.levels c.loop-level.places c.loop-level.parents c.loop-level.invariant.0
-    c.in-Ok.stored c.chain_end.result c.in-Ok.ensures c.chain_end.ensures c.fill_level.new.positions c.fill_level.new.level c.in-Err-TooMany.count (rw c.in-Err-TooMany.field-0-is at c.in-Err-TooMany.ensures))
+    (refused_here meaning laws c.args.format.now c.args.ranges.now (g.T.RowTable.table c.args.table.now) c.requires.order c.requires.below
+    c.loop-level.level none c.loop-level-test.true c.loop-level.levels c.loop-level.places c.loop-level.parents c.loop-level.invariant.0
+    c.in-Ok.stored c.chain_end.result c.in-Ok.ensures c.chain_end.ensures c.fill_level.new.positions c.fill_level.new.level
+    c.in-Err-TooMany.count (rw c.in-Err-TooMany.field-0-is at c.in-Err-TooMany.ensures))

@@ -7,4 +7,6 @@ use Rattle.tensor_storage.specs.Storages.{in_level_order}
 use Rattle.tensor_storage.proofs.packing.pack_levels.Given as goal
 
 abbrev pub invariant-loop-level : goal.invariant-loop-level
-invariant-loop-level g l = (ArePacked meaning (letters_of l.format) (in_level_order l.format l.ranges) (g.T.RowTable.table l.table) l.level l.levels l.places l.parents) × (l.parents ≤ greatest_position_count)
+invariant-loop-level g l =
+    (ArePacked meaning (letters_of l.format) (in_level_order l.format l.ranges) (g.T.RowTable.table l.table) l.level l.levels l.places
+    l.parents) × (l.parents ≤ greatest_position_count)

@@ -1,4 +1,4 @@
-use Rattle.std.specs.Prelude.{◌≡◌, ◌<◌, ◌+◌, length, Some, slice_get, slice_index_or}
+use Rattle.std.specs.Prelude.{◌≡◌, ◌<◌, ◌+◌, true, length, Some, slice_get, slice_index_or}
 use Rattle.std.proofs.Common.{sym, subst, rules, arith}
 use Rattle.std.proofs.lemmas.Option.{slice_get-get_or}
 use Rattle.index_notation.specs.declared.syntax.Expr.{Add, Sub, Mul, Neg}
@@ -157,102 +157,115 @@ negated-requires-in-Neg g t c = record {
 }
 
 pub returns-in_ok-code-in-Add : goal.returns-in_ok-code-in-Add
-returns-in_ok-code-in-Add g t c =
+returns-in_ok-code-in-Add g t c = λ these stand.
     let a = g.S.Semiring.arithmetic in
     let places = c.args.places.now in
     let free = c.args.free in
     let e = c.in-Add.first in
     let f = c.in-Add.second in
-    let one = subst (λ x. LeavesOption a places (λ stored env. present_value a (access_values stored env) x) free c.in_ok-x-in-Add.x)
-    c.get.ensures c.in_ok-x-in-Add.ensures in
-    let two = subst (λ x. LeavesOption a places (λ stored env. present_value a (access_values stored env) x)
-    (free + 2) c.in_ok-y-in-Add.y) c.get-in-Add.ensures c.in_ok-y-in-Add.ensures in
-    subst (λ whole. LeavesOption a places (λ stored env. present_value a (access_values stored env) whole) free c.in_ok-code-in-Add.code)
+    let one = subst (λ x. LeavesOption a places these (λ stored env. present_value a (access_values stored env) x) free c.in_ok-x-in-Add.x)
+    c.get.ensures (c.in_ok-x-in-Add.ensures these
+    (first_added (λ k. these k ≡ true) c.args.expr.now e f c.get.result.now c.in-Add.is c.get.ensures stand)) in
+    let two = subst (λ x. LeavesOption a places these (λ stored env. present_value a (access_values stored env) x)
+    (free + 2) c.in_ok-y-in-Add.y) c.get-in-Add.ensures (c.in_ok-y-in-Add.ensures these
+    (second_added (λ k. these k ≡ true) c.args.expr.now e f c.get-in-Add.result.now c.in-Add.is c.get-in-Add.ensures stand)) in
+    subst (λ whole. LeavesOption a places these (λ stored env. present_value a (access_values stored env) whole) free
+        c.in_ok-code-in-Add.code)
     (sym c.in-Add.is)
-    (subst (LeavesOption a places (λ stored env. present_value a (access_values stored env) (Add e f)) free)
+    (subst (LeavesOption a places these (λ stored env. present_value a (access_values stored env) (Add e f)) free)
     (sym c.in_ok-code-in-Add.ensures)
-    (leaves_same a places free (λ stored env. either a.plus (present_value a (access_values stored env) e)
+    (leaves_same a places these free (λ stored env. either a.plus (present_value a (access_values stored env) e)
     (present_value a (access_values stored env) f)) (λ stored env. present_value a (access_values stored env) (Add e f)) _
     (λ stored env. sym (value_add a (access_values stored env) e f))
-    (sum_leaves a places free c.requires.below (λ stored env. present_value a (access_values stored env) e)
+    (sum_leaves a places these free c.requires.below (λ stored env. present_value a (access_values stored env) e)
     (λ stored env. present_value a (access_values stored env) f) c.in_ok-x-in-Add.x c.in_ok-y-in-Add.y one two)))
 
 pub returns-in_ok-code-in-Sub : goal.returns-in_ok-code-in-Sub
-returns-in_ok-code-in-Sub g t c =
+returns-in_ok-code-in-Sub g t c = λ these stand.
     let a = g.S.Semiring.arithmetic in
     let places = c.args.places.now in
     let free = c.args.free in
     let e = c.in-Sub.first in
     let f = c.in-Sub.second in
-    let one = subst (λ x. LeavesOption a places (λ stored env. present_value a (access_values stored env) x) free c.in_ok-x-in-Sub.x)
-    c.get-in-Sub.ensures c.in_ok-x-in-Sub.ensures in
-    let two = subst (λ x. LeavesOption a places (λ stored env. present_value a (access_values stored env) x)
-    (free + 2) c.in_ok-y-in-Sub.y) c.get-in-Sub-2.ensures c.in_ok-y-in-Sub.ensures in
-    subst (λ whole. LeavesOption a places (λ stored env. present_value a (access_values stored env) whole) free c.in_ok-code-in-Sub.code)
+    let one = subst (λ x. LeavesOption a places these (λ stored env. present_value a (access_values stored env) x) free c.in_ok-x-in-Sub.x)
+    c.get-in-Sub.ensures (c.in_ok-x-in-Sub.ensures these
+    (first_subtracted (λ k. these k ≡ true) c.args.expr.now e f c.get-in-Sub.result.now c.in-Sub.is c.get-in-Sub.ensures stand)) in
+    let two = subst (λ x. LeavesOption a places these (λ stored env. present_value a (access_values stored env) x)
+    (free + 2) c.in_ok-y-in-Sub.y) c.get-in-Sub-2.ensures (c.in_ok-y-in-Sub.ensures these
+    (second_subtracted (λ k. these k ≡ true) c.args.expr.now e f c.get-in-Sub-2.result.now c.in-Sub.is c.get-in-Sub-2.ensures stand)) in
+    subst (λ whole. LeavesOption a places these (λ stored env. present_value a (access_values stored env) whole) free
+        c.in_ok-code-in-Sub.code)
     (sym c.in-Sub.is)
-    (subst (LeavesOption a places (λ stored env. present_value a (access_values stored env) (Sub e f)) free)
+    (subst (LeavesOption a places these (λ stored env. present_value a (access_values stored env) (Sub e f)) free)
     (sym c.in_ok-code-in-Sub.ensures)
-    (leaves_same a places free (λ stored env. either a.plus (present_value a (access_values stored env) e)
+    (leaves_same a places these free (λ stored env. either a.plus (present_value a (access_values stored env) e)
     (each (minus a) (present_value a (access_values stored env) f)))
     (λ stored env. present_value a (access_values stored env) (Sub e f)) _
     (λ stored env. sym (value_sub a (access_values stored env) e f))
-    (sum_leaves a places free c.requires.below (λ stored env. present_value a (access_values stored env) e)
+    (sum_leaves a places these free c.requires.below (λ stored env. present_value a (access_values stored env) e)
     (λ stored env. each (minus a) (present_value a (access_values stored env) f)) c.in_ok-x-in-Sub.x c.in_ok-less-in-Sub.less one
-    (subst (LeavesOption a places (λ stored env. each (minus a) (present_value a (access_values stored env) f)) (free + 2))
-    (sym c.in_ok-less-in-Sub.ensures) (negated_leaves a places (free + 2)
+    (subst (LeavesOption a places these (λ stored env. each (minus a) (present_value a (access_values stored env) f)) (free + 2))
+    (sym c.in_ok-less-in-Sub.ensures) (negated_leaves a places these (free + 2)
     (λ stored env. present_value a (access_values stored env) f) c.in_ok-y-in-Sub.y two)))))
 
 pub returns-in_ok-code-in-Mul : goal.returns-in_ok-code-in-Mul
-returns-in_ok-code-in-Mul g t c =
+returns-in_ok-code-in-Mul g t c = λ these stand.
     let a = g.S.Semiring.arithmetic in
     let places = c.args.places.now in
     let free = c.args.free in
     let e = c.in-Mul.first in
     let f = c.in-Mul.second in
-    let one = subst (λ x. LeavesOption a places (λ stored env. present_value a (access_values stored env) x) free c.in_ok-x-in-Mul.x)
-    c.get-in-Mul.ensures c.in_ok-x-in-Mul.ensures in
-    let two = subst (λ x. LeavesOption a places (λ stored env. present_value a (access_values stored env) x)
-    (free + 2) c.in_ok-y-in-Mul.y) c.get-in-Mul-2.ensures c.in_ok-y-in-Mul.ensures in
-    subst (λ whole. LeavesOption a places (λ stored env. present_value a (access_values stored env) whole) free c.in_ok-code-in-Mul.code)
+    let one = subst (λ x. LeavesOption a places these (λ stored env. present_value a (access_values stored env) x) free c.in_ok-x-in-Mul.x)
+    c.get-in-Mul.ensures (c.in_ok-x-in-Mul.ensures these
+    (first_factor (λ k. these k ≡ true) c.args.expr.now e f c.get-in-Mul.result.now c.in-Mul.is c.get-in-Mul.ensures stand)) in
+    let two = subst (λ x. LeavesOption a places these (λ stored env. present_value a (access_values stored env) x)
+    (free + 2) c.in_ok-y-in-Mul.y) c.get-in-Mul-2.ensures (c.in_ok-y-in-Mul.ensures these
+    (second_factor (λ k. these k ≡ true) c.args.expr.now e f c.get-in-Mul-2.result.now c.in-Mul.is c.get-in-Mul-2.ensures stand)) in
+    subst (λ whole. LeavesOption a places these (λ stored env. present_value a (access_values stored env) whole) free
+        c.in_ok-code-in-Mul.code)
     (sym c.in-Mul.is)
-    (subst (LeavesOption a places (λ stored env. present_value a (access_values stored env) (Mul e f)) free)
+    (subst (LeavesOption a places these (λ stored env. present_value a (access_values stored env) (Mul e f)) free)
     (sym c.in_ok-code-in-Mul.ensures)
-    (leaves_same a places free (λ stored env. both a.times (present_value a (access_values stored env) e)
+    (leaves_same a places these free (λ stored env. both a.times (present_value a (access_values stored env) e)
     (present_value a (access_values stored env) f)) (λ stored env. present_value a (access_values stored env) (Mul e f)) _
     (λ stored env. sym (value_mul a (access_values stored env) e f))
-    (product_leaves a places free c.requires.below (λ stored env. present_value a (access_values stored env) e)
+    (product_leaves a places these free c.requires.below (λ stored env. present_value a (access_values stored env) e)
     (λ stored env. present_value a (access_values stored env) f) c.in_ok-x-in-Mul.x c.in_ok-y-in-Mul.y one two)))
 
 pub returns-in_ok-code-in-Neg : goal.returns-in_ok-code-in-Neg
-returns-in_ok-code-in-Neg g t c =
+returns-in_ok-code-in-Neg g t c = λ these stand.
     let a = g.S.Semiring.arithmetic in
     let places = c.args.places.now in
     let free = c.args.free in
     let e = c.in-Neg.inner in
-    let one = subst (λ x. LeavesOption a places (λ stored env. present_value a (access_values stored env) x) free c.in_ok-x-in-Neg.x)
-    c.get-in-Neg.ensures c.in_ok-x-in-Neg.ensures in
-    subst (λ whole. LeavesOption a places (λ stored env. present_value a (access_values stored env) whole) free c.in_ok-code-in-Neg.code)
+    let one = subst (λ x. LeavesOption a places these (λ stored env. present_value a (access_values stored env) x) free c.in_ok-x-in-Neg.x)
+    c.get-in-Neg.ensures (c.in_ok-x-in-Neg.ensures these
+    (negated_part (λ k. these k ≡ true) c.args.expr.now e c.get-in-Neg.result.now c.in-Neg.is c.get-in-Neg.ensures stand)) in
+    subst (λ whole. LeavesOption a places these (λ stored env. present_value a (access_values stored env) whole) free
+        c.in_ok-code-in-Neg.code)
     (sym c.in-Neg.is)
-    (subst (LeavesOption a places (λ stored env. present_value a (access_values stored env) (Neg e)) free) (sym c.in_ok-code-in-Neg.ensures)
-    (leaves_same a places free (λ stored env. each (minus a) (present_value a (access_values stored env) e))
+    (subst (LeavesOption a places these (λ stored env. present_value a (access_values stored env) (Neg e)) free)
+        (sym c.in_ok-code-in-Neg.ensures)
+    (leaves_same a places these free (λ stored env. each (minus a) (present_value a (access_values stored env) e))
     (λ stored env. present_value a (access_values stored env) (Neg e)) _ (λ stored env. sym (value_neg a (access_values stored env) e))
-    (negated_leaves a places free (λ stored env. present_value a (access_values stored env) e) c.in_ok-x-in-Neg.x one)))
+    (negated_leaves a places these free (λ stored env. present_value a (access_values stored env) e) c.in_ok-x-in-Neg.x one)))
 
 pub returns-in_ok-code-in-Num : goal.returns-in_ok-code-in-Num
-returns-in_ok-code-in-Num g t c =
+returns-in_ok-code-in-Num g t c = λ these stand.
     let a = g.S.Semiring.arithmetic in
     let places = c.args.places.now in
     let free = c.args.free in
-    subst (λ whole. LeavesOption a places (λ stored env. present_value a (access_values stored env) whole) free c.in_ok-code-in-Num.code)
+    subst (λ whole. LeavesOption a places these (λ stored env. present_value a (access_values stored env) whole) free
+        c.in_ok-code-in-Num.code)
     (sym c.in-Num.is)
-    (subst (LeavesOption a places (λ stored env. Some c.in-Num.n) free) (sym c.in_ok-code-in-Num.ensures)
-    (number_leaves a places c.in-Num.n free))
+    (subst (LeavesOption a places these (λ stored env. Some c.in-Num.n) free) (sym c.in_ok-code-in-Num.ensures)
+    (number_leaves a places these c.in-Num.n free))
 
 abbrev none : AccessPlace
 none = record { cursor = 0; tensor = 0 }
 
 pub returns-in_ok-code-in-Access : goal.returns-in_ok-code-in-Access
-returns-in_ok-code-in-Access g t c =
+returns-in_ok-code-in-Access g t c = λ these stand.
     let a = g.S.Semiring.arithmetic in
     let places = c.args.places.now in
     let free = c.args.free in
@@ -263,7 +276,8 @@ returns-in_ok-code-in-Access g t c =
     let at : slice_get places.accesses k ≡ Some p =
     subst (λ ps. slice_get places.accesses k ≡ Some (slice_index_or ps k none)) (sym c.as_slice.ensures)
     (slice_get-get_or places.accesses k none within) in
-    subst (λ whole. LeavesOption a places (λ stored env. present_value a (access_values stored env) whole) free
+    subst (λ whole. LeavesOption a places these (λ stored env. present_value a (access_values stored env) whole) free
     c.in_ok-code-in-Access.code) (sym c.in-Access.is)
-    (subst (LeavesOption a places (λ stored env. access_values stored env k) free) (sym c.in_ok-code-in-Access.ensures)
-    (access_leaves a places free c.requires.below k p at))
+    (subst (LeavesOption a places these (λ stored env. access_values stored env k) free) (sym c.in_ok-code-in-Access.ensures)
+    (access_leaves a places these free c.requires.below k p
+    (read_access (λ k. these k ≡ true) c.args.expr.now k c.in-Access.is stand) at))

@@ -7,13 +7,29 @@ use Rattle.tensor_storage.proofs.OneKind.{compressed_log, dense_log, grows_then,
 use Rattle.tensor_storage.proofs.kind.StorageLevelLevelKind.frag_append.Goals as goal
 
 pub returns-in-Dense : goal.returns-in-Dense
-returns-in-Dense c = ok_then c.frag_append.result (λ code law can s. only_dense _ c.args.self.now c.in-Dense.it c.in-Dense.is (λ m keeps x may st held values. grows_then s code _ _ _ _ st (λ t p. (dense_log _ _ _ _ t p.0, p.1)) (law (subst (λ l. (capabilities (kind_of l)).append ≡ true) c.in-Dense.is can) s m refl keeps x may st held values))) c.frag_append.ensures
+returns-in-Dense c = ok_then c.frag_append.result
+    (λ code law can s. only_dense _ c.args.self.now c.in-Dense.it c.in-Dense.is
+    (λ m keeps x may st held values. grows_then s code _ _ _ _ st (λ t p. (dense_log _ _ _ _ t p.0, p.1))
+    (law (subst (λ l. (capabilities (kind_of l)).append ≡ true) c.in-Dense.is can) s m refl keeps x may st held
+    values))) c.frag_append.ensures
 
 pub returns-in-Compressed : goal.returns-in-Compressed
-returns-in-Compressed c = ok_then c.frag_append-in-Compressed.result (λ code law can s. only_compressed _ c.args.self.now c.in-Compressed.it c.in-Compressed.is (λ m same keeps x may st held values. grows_then s code _ _ _ _ st (λ t p. (compressed_log _ _ _ _ t p.0, p.1)) (law (subst (λ l. (capabilities (kind_of l)).append ≡ true) c.in-Compressed.is can) s m same keeps x may st held values))) c.frag_append-in-Compressed.ensures
+returns-in-Compressed c = ok_then c.frag_append-in-Compressed.result
+    (λ code law can s. only_compressed _ c.args.self.now c.in-Compressed.it c.in-Compressed.is
+    (λ m same keeps x may st held values. grows_then s code _ _ _ _ st (λ t p. (compressed_log _ _ _ _ t p.0, p.1))
+    (law (subst (λ l. (capabilities (kind_of l)).append ≡ true) c.in-Compressed.is can) s m same keeps x may st held
+    values))) c.frag_append-in-Compressed.ensures
 
 pub returns-in-Singleton : goal.returns-in-Singleton
-returns-in-Singleton c = ok_then c.frag_append-in-Singleton.result (λ code law can s. only_singleton _ c.args.self.now c.in-Singleton.it c.in-Singleton.is (λ m same keeps x may st held values. grows_then s code _ _ _ _ st (λ t p. (singleton_log _ _ _ _ t p.0, p.1)) (law (subst (λ l. (capabilities (kind_of l)).append ≡ true) c.in-Singleton.is can) s m same keeps x may st held values))) c.frag_append-in-Singleton.ensures
+returns-in-Singleton c = ok_then c.frag_append-in-Singleton.result
+    (λ code law can s. only_singleton _ c.args.self.now c.in-Singleton.it c.in-Singleton.is
+    (λ m same keeps x may st held values. grows_then s code _ _ _ _ st (λ t p. (singleton_log _ _ _ _ t p.0, p.1))
+    (law (subst (λ l. (capabilities (kind_of l)).append ≡ true) c.in-Singleton.is can) s m same keeps x may st held
+    values))) c.frag_append-in-Singleton.ensures
 
 pub returns-in-Hashed : goal.returns-in-Hashed
-returns-in-Hashed c = ok_then c.frag_append-in-Hashed.result (λ code law can s. only_hashed _ c.args.self.now c.in-Hashed.it c.in-Hashed.is (λ m keeps x may st held values. grows_then s code _ _ _ _ st (λ t p. (hashed_log _ _ _ _ t p.0, p.1)) (law (subst (λ l. (capabilities (kind_of l)).append ≡ true) c.in-Hashed.is can) s m refl keeps x may st held values))) c.frag_append-in-Hashed.ensures
+returns-in-Hashed c = ok_then c.frag_append-in-Hashed.result
+    (λ code law can s. only_hashed _ c.args.self.now c.in-Hashed.it c.in-Hashed.is
+    (λ m keeps x may st held values. grows_then s code _ _ _ _ st (λ t p. (hashed_log _ _ _ _ t p.0, p.1))
+    (law (subst (λ l. (capabilities (kind_of l)).append ≡ true) c.in-Hashed.is can) s m refl keeps x may st held
+    values))) c.frag_append-in-Hashed.ensures

@@ -1,0 +1,4 @@
+pub mod Kernels
+pub mod Loops
+pub mod Operands
+pub mod Results

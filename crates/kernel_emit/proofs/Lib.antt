@@ -1,0 +1,10 @@
+pub mod AddLaws
+pub mod BothLaws
+pub mod Equations
+pub mod Kept
+pub mod LoopLaws
+pub mod LoopParts
+pub mod Rows
+pub mod Sequences
+pub mod Sides
+pub mod Turns

@@ -1,0 +1,3 @@
+pub mod Closed
+pub mod Emitted
+pub mod Given

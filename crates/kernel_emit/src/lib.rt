@@ -1,0 +1,6 @@
+//! The code of whole loop trees: loops that merge the operands' levels, each inside the other, and at the innermost the terms, whose
+//! rows are added to a sink. `specs/Given.antt` says what loop trees and places have to be, and `specs/Emitted.antt` what it is that
+//! code adds the contributions of a loop tree, within how many turns, and what a state that it is run from has to hold.
+#![tactic(auto)]
+
+mod closing;

@@ -1,0 +1,78 @@
+//! Accesses that stand in the part of the terms below that remains wherever they are present, so that they are never left out
+//! alone.
+ghost use Rattle.std.specs.Prelude.{◌≡◌, true};
+ghost use Rattle.loop_flags.specs.Liveness.{StandsAlone, StaysIn, StandsAloneBelow, StaysBelow};
+
+use index_notation::Expr;
+use loop_code::LoopCode;
+
+/// Whether the access stands outside of all products: it is then in the part that remains wherever it is present.
+fn stands_alone(expr: &Expr, access: usize) -> bool
+    ensures { result ≡ true → StandsAlone access expr.now }
+{
+    match expr {
+        Expr::Num(_) => false,
+        Expr::Access(found) => *found == access,
+        Expr::Add(first, second) => {
+            stands_alone(first.get(), access) || stands_alone(second.get(), access)
+        }
+        Expr::Sub(first, second) => {
+            stands_alone(first.get(), access) || stands_alone(second.get(), access)
+        }
+        Expr::Mul(_, _) => false,
+        Expr::Neg(inner) => stands_alone(inner.get(), access),
+    }
+}
+
+/// Whether the access is, wherever it is present and some part remains, in the part that does: it stands alone, or in a factor
+/// so, or on both sides of a sum so.
+fn stays_in(expr: &Expr, access: usize) -> bool
+    ensures { result ≡ true → StaysIn access expr.now }
+{
+    if stands_alone(expr, access) {
+        return true;
+    }
+    match expr {
+        Expr::Num(_) => false,
+        Expr::Access(_) => false,
+        Expr::Add(first, second) => {
+            stays_in(first.get(), access) && stays_in(second.get(), access)
+        }
+        Expr::Sub(first, second) => {
+            stays_in(first.get(), access) && stays_in(second.get(), access)
+        }
+        Expr::Mul(first, second) => {
+            stays_in(first.get(), access) || stays_in(second.get(), access)
+        }
+        Expr::Neg(inner) => stays_in(inner.get(), access),
+    }
+}
+
+/// Whether the access stands alone in some term below.
+fn stands_alone_below(loops: &LoopCode, access: usize) -> bool
+    ensures { result ≡ true → StandsAloneBelow access loops.now }
+{
+    match loops {
+        LoopCode::Loop { body, .. } => stands_alone_below(body.get(), access),
+        LoopCode::Both(first, second) => {
+            stands_alone_below(first.get(), access) || stands_alone_below(second.get(), access)
+        }
+        LoopCode::Add(term) => stands_alone(&term.expr, access),
+    }
+}
+
+/// Whether the access is, wherever it is present and a part of some term below remains, in the part that does.
+pub(crate) fn stays_below(loops: &LoopCode, access: usize) -> bool
+    ensures { result ≡ true → StaysBelow access loops.now }
+{
+    if stands_alone_below(loops, access) {
+        return true;
+    }
+    match loops {
+        LoopCode::Loop { body, .. } => stays_below(body.get(), access),
+        LoopCode::Both(first, second) => {
+            stays_below(first.get(), access) && stays_below(second.get(), access)
+        }
+        LoopCode::Add(term) => stays_in(&term.expr, access),
+    }
+}

@@ -1,0 +1,21 @@
+//! What the machine that runs kernels is made of: tables that are looked up in constant time, places of arrays by name, arrays that
+//! grow, the operators of expressions, and the sorting of rows. `specs/Places.antt` says what a table holds, `specs/Rows.antt` which
+//! rows are sorted.
+#![tactic(auto)]
+
+mod operators;
+mod places;
+mod rows;
+mod sums;
+mod tables;
+mod words;
+
+pub use operators::{apply_to_operands, combine_operands, least_operand, width_of_operand};
+pub use places::Places;
+pub use rows::{ScratchRow, coordinates_of, positions_of, rows_of_list, sort_rows};
+pub use sums::{PlacedRow, number_of_keys, sum_rows, values_of, words_at};
+pub use tables::{PairTable, Table};
+pub use words::{
+    OwnArray, append_copies, append_word, count_told, is_same, may_be_written, may_grow,
+    sum_of_words,
+};

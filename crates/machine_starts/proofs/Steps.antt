@@ -1,0 +1,56 @@
+-- One step of each list from which arrays are begun.
+use Rattle.std.specs.Prelude.{◌≡◌, ℕ, zero, suc, ◌+◌, ◌<◌, List, [], ◌∷◌, length, drop, replicate, slice_index_or, refl}
+use Rattle.std.proofs.Common.{◌∙◌, sym, ap, subst, arith}
+use Rattle.kernel_code.specs.Meaning.{State}
+use Rattle.format_spec.specs.declared.format.FormatLevel.{FormatLevel}
+use Rattle.format_spec.specs.Formats.{letters_of}
+use Rattle.machine_starts.specs.Begun.{begun, begun_result, parents_below, IsFew}
+
+pub one_more_zero : (n x : ℕ) → replicate (n + 1) x ≡ x ∷ replicate n x
+one_more_zero n x = let e : n + 1 ≡ suc n = omega arith in ap (λ k. replicate k x) e
+
+pub drop_here : {X : Type 0} (xs : List X) (i : ℕ) (d : X) → i < length xs → drop i xs ≡ slice_index_or xs i d ∷ drop (suc i) xs
+drop_here [] i d l = absurd (omega arith)
+drop_here (x ∷ xs) zero d l = refl
+drop_here (x ∷ xs) (suc i) d l = drop_here xs i d (omega arith)
+
+drop_letters : (format : List FormatLevel) (i : ℕ) (d : FormatLevel) → i < length format
+    → drop i (letters_of format) ≡ (slice_index_or format i d).letter ∷ drop (suc i) (letters_of format)
+drop_letters [] i d l = absurd (omega arith)
+drop_letters (f ∷ format) zero d l = refl
+drop_letters (f ∷ format) (suc i) d l = drop_letters format i d (omega arith)
+
+-- what is left of the levels has few positions
+pub few_here : (format : List FormatLevel) (sizes : List ℕ) (i parents : ℕ) (d : FormatLevel) → i < length format → i < length sizes
+    → IsFew (drop i (letters_of format)) (drop i sizes) parents
+    → IsFew ((slice_index_or format i d).letter ∷ drop (suc i) (letters_of format)) (slice_index_or sizes i 0 ∷ drop (suc i) sizes) parents
+few_here format sizes i parents d l m few =
+    subst (λ ns. IsFew ((slice_index_or format i d).letter ∷ drop (suc i) (letters_of format)) ns parents) (drop_here sizes i 0 m)
+    (subst (λ ls. IsFew ls (drop i sizes) parents) (drop_letters format i d l) few)
+
+pub few_next : (format : List FormatLevel) (sizes : List ℕ) (i parents next : ℕ) (d : FormatLevel) → i < length format → i < length sizes
+    → IsFew (drop i (letters_of format)) (drop i sizes) parents
+    → next ≡ parents_below (slice_index_or format i d).letter (slice_index_or sizes i 0) parents
+    → IsFew (drop (i + 1) (letters_of format)) (drop (i + 1) sizes) next
+few_next format sizes i parents next d l m few is =
+    let one : i + 1 ≡ suc i = omega arith in
+    subst (λ n. IsFew (drop n (letters_of format)) (drop n sizes) next) (sym one)
+    (subst (IsFew (drop (suc i) (letters_of format)) (drop (suc i) sizes)) (sym is) (few_here format sizes i parents d l m few).1)
+
+-- one more level is begun
+pub result_next : (nothing : ℕ) (format : List FormatLevel) (sizes : List ℕ) (i parents next : ℕ) (d : FormatLevel) (s t : State)
+    → i < length format → i < length sizes → next ≡ parents_below (slice_index_or format i d).letter (slice_index_or sizes i 0) parents
+    → t ≡ begun (slice_index_or format i d).letter parents (i + 1) s
+    → begun_result nothing (drop (i + 1) (letters_of format)) (drop (i + 1) sizes) next (i + 1 + 1) t
+    ≡ begun_result nothing (drop i (letters_of format)) (drop i sizes) parents (i + 1) s
+result_next nothing format sizes i parents next d s t l m is made =
+    let one : i + 1 ≡ suc i = omega arith in
+    let two : i + 1 + 1 ≡ suc (i + 1) = omega arith in
+    ap (λ n. begun_result nothing (drop n (letters_of format)) (drop n sizes) next (i + 1 + 1) t) one
+    ∙ ap (λ n. begun_result nothing (drop (suc i) (letters_of format)) (drop (suc i) sizes) next n t) two
+    ∙ ap (λ p. begun_result nothing (drop (suc i) (letters_of format)) (drop (suc i) sizes) p (suc (i + 1)) t) is
+    ∙ ap (begun_result nothing (drop (suc i) (letters_of format)) (drop (suc i) sizes)
+    (parents_below (slice_index_or format i d).letter (slice_index_or sizes i 0) parents) (suc (i + 1))) made
+    ∙ sym (ap (λ ls. begun_result nothing ls (drop i sizes) parents (i + 1) s) (drop_letters format i d l)
+    ∙ ap (λ ns. begun_result nothing ((slice_index_or format i d).letter ∷ drop (suc i) (letters_of format)) ns parents (i + 1) s)
+    (drop_here sizes i 0 m))

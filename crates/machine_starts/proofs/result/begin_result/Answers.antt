@@ -1,0 +1,37 @@
+use Rattle.std.proofs.Common.{◌≡◌, ◌∙◌, ◌+◌, ◌≤◌, sym, ap, subst, arith, refl, slice_index_or, drop, suc}
+use Rattle.std.specs.Prelude.{length}
+use Rattle.limits.specs.Limits.{greatest_position_count}
+use Rattle.limits.proofs.Limits.{some_positions}
+use Rattle.level_core.specs.declared.letter.Letter.TheVariants.{Dense}
+use Rattle.format_spec.specs.declared.format.FormatLevel.{FormatLevel}
+use Rattle.format_spec.specs.Formats.{letters_of}
+use Rattle.kernel_steps.specs.Store.{state_of}
+use Rattle.machine_starts.specs.Begun.{parents_below}
+use Rattle.machine_starts.proofs.Steps.{few_here, few_next, result_next}
+use Rattle.machine_starts.proofs.result.begin_result.Goals as goal
+
+abbrev none : FormatLevel
+none = record { letter = Dense; mode = 0 }
+
+pub loop-number-init : goal.loop-number-init
+loop-number-init c = (omega (arith, some_positions), c.requires.few, refl)
+
+pub parents_of_next-parents-requires : goal.parents_of_next-parents-requires
+parents_of_next-parents-requires c =
+    let l = c.loop-number in
+    let long = c.requires.same in
+    (few_here c.args.format.now c.args.sizes.now l.number l.parents none c.loop-number-test.true (omega (arith, long)) l.invariant.1).0
+
+pub loop-number-preserved : goal.loop-number-preserved
+loop-number-preserved c =
+    let l = c.loop-number in
+    let long = c.requires.same in
+    let below = c.loop-number-test.true in
+    let few = few_here c.args.format.now c.args.sizes.now l.number l.parents none below (omega (arith, long)) l.invariant.1 in (
+      subst (λ p. p ≤ greatest_position_count) (sym c.parents_of_next-parents.ensures) few.0,
+      few_next c.args.format.now c.args.sizes.now l.number l.parents c.parents_of_next-parents.result none below (omega (arith, long))
+          l.invariant.1 c.parents_of_next-parents.ensures,
+      result_next c.args.nothing c.args.format.now c.args.sizes.now l.number l.parents c.parents_of_next-parents.result none
+          (state_of l.machine) (state_of c.begin_level.new.machine) below (omega (arith, long)) c.parents_of_next-parents.ensures
+          c.in_ok-begin_level.ensures ∙ l.invariant.2,
+    )

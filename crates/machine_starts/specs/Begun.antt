@@ -1,0 +1,62 @@
+-- The arrays that a run starts with, step by step: of the result's levels, its values, workspaces and scratch lists.
+use Rattle.std.specs.Prelude.{◌≡◌, ℕ, zero, suc, ◌*◌, ◌≤◌, if◌then◌else◌, List, [], ◌∷◌, replicate, Some}
+use Rattle.limits.specs.Limits.{greatest_position_count}
+use Rattle.kernel_code.specs.declared.syntax.Arr.TheVariants.{Values, Dimension, Ends, Coordinates, Width, Key, Sums, ListCoordinates}
+use Rattle.kernel_code.specs.declared.syntax.Arr.TheVariants.{ListPositions}
+use Rattle.kernel_code.specs.Meaning.{State, set_array}
+use Rattle.level_core.specs.declared.letter.Letter.{Letter}
+use Rattle.level_core.specs.declared.letter.Letter.TheVariants.{Dense, Compressed, CompressedGroups, Singleton, SingletonGroups, Hashed}
+use Rattle.level_core.specs.Kinds.{properties}
+use Rattle.level_core.specs.Laws.{AreAtStart}
+use Rattle.level_core.specs.Meaning.{Arrays}
+
+-- a level of the result with its arrays as they start
+abbrev pub begun : Letter → ℕ → ℕ → State → State
+begun Dense parents level s = s
+begun Compressed parents level s = set_array (set_array s (Ends 0 level) (0 ∷ replicate parents 0)) (Coordinates 0 level) []
+begun CompressedGroups parents level s = set_array (set_array s (Ends 0 level) (0 ∷ replicate parents 0)) (Coordinates 0 level) []
+begun Singleton parents level s = set_array s (Coordinates 0 level) []
+begun SingletonGroups parents level s = set_array s (Coordinates 0 level) []
+begun Hashed parents level s = set_array (set_array s (Width 0 level) []) (Coordinates 0 level) []
+
+-- the parents of the next level as a run starts: the positions of a dense level, and none below any other
+abbrev pub parents_below : Letter → ℕ → ℕ → ℕ
+parents_below letter size parents = if (properties letter).full then parents * size else 0
+
+-- no dense level that has dense levels alone above it has more positions than may be
+abbrev pub IsFew : List Letter → List ℕ → ℕ → Type 0
+IsFew (letter ∷ letters) (size ∷ sizes) parents =
+    (parents_below letter size parents ≤ greatest_position_count) × IsFew letters sizes (parents_below letter size parents)
+IsFew _ _ parents = Unit {0}
+
+-- the levels from this number on, and a value for each parent behind the last one
+abbrev pub begun_result : ℕ → List Letter → List ℕ → ℕ → ℕ → State → State
+begun_result nothing (letter ∷ letters) (size ∷ sizes) parents level s =
+    begun_result nothing letters sizes (parents_below letter size parents) (suc level) (begun letter parents level s)
+begun_result nothing _ _ parents level s = set_array s (Values 0) (replicate parents nothing)
+
+-- so many keys of a workspace, with no words
+abbrev pub with_keys : ℕ → ℕ → State → State
+with_keys w zero s = s
+with_keys w (suc n) s = set_array (with_keys w n s) (Key w n) []
+
+-- workspaces from this number on, of so many keys each, with no rows
+abbrev pub with_workspaces : List ℕ → ℕ → State → State
+with_workspaces [] w s = s
+with_workspaces (keys ∷ more) w s = with_workspaces more (suc w) (set_array (with_keys w keys s) (Sums w) [])
+
+-- so many scratch lists, with no rows
+abbrev pub with_lists : ℕ → State → State
+with_lists zero s = s
+with_lists (suc n) s = set_array (set_array (with_lists n s) (ListCoordinates n) []) (ListPositions n) []
+
+-- the ranges of levels of the result from this number on stand in their arrays
+abbrev pub HasSizes : List ℕ → ℕ → Arrays → Type 0
+HasSizes [] level a = Unit {0}
+HasSizes (size ∷ sizes) level a = (a (Dimension 0 level) ≡ Some (size ∷ [])) × HasSizes sizes (suc level) a
+
+-- each level from this number on is as a run starts it, and there is a value for each parent behind the last one
+abbrev pub AreBegun : ℕ → List Letter → List ℕ → ℕ → ℕ → Arrays → Type 0
+AreBegun nothing (letter ∷ letters) (size ∷ sizes) parents level a =
+    AreAtStart letter size parents 0 level a × AreBegun nothing letters sizes (parents_below letter size parents) (suc level) a
+AreBegun nothing _ _ parents level a = a (Values 0) ≡ Some (replicate parents nothing)

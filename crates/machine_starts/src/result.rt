@@ -1,0 +1,99 @@
+//! The arrays of the result as a run starts.
+ghost use Rattle.std.specs.Prelude.{◌≡◌, ◌≤◌, ◌+◌, ◌^◌, ◌<◌, OnOk, length};
+ghost use Rattle.limits.specs.Limits.{greatest_position_count};
+ghost use Rattle.level_core.specs.declared.letter.Letter.{Letter};
+ghost use Rattle.format_spec.specs.Formats.{letters_of};
+ghost use Rattle.kernel_steps.specs.Store.{state_of};
+ghost use Rattle.machine_starts.specs.Begun.{begun, begun_result, parents_below, IsFew};
+
+use crate::empty::add_empty;
+use format_spec::FormatLevel;
+use kernel_code::Arr;
+use kernel_steps::Machine;
+use level_core::Letter;
+use seg_buffer::Segment;
+use std::alloc::{AllocError, Global};
+
+fn begin_compressed(
+    machine: &mut Machine,
+    alloc: Global,
+    level: u64,
+    parents: u64,
+) -> Result<(), AllocError>
+    requires { parents ≤ greatest_position_count }
+    ensures { OnOk result (state_of machine.new ≡ begun Letter.Compressed parents level (state_of machine.old)) }
+{
+    let ends = Segment::filled(alloc, parents as usize + 1, 0)?;
+    machine.add_array(Arr::Ends(0, level), ends)?;
+    add_empty(machine, alloc, Arr::Coordinates(0, level))?;
+    Ok(())
+}
+
+fn begin_singleton(machine: &mut Machine, alloc: Global, level: u64) -> Result<(), AllocError>
+    ensures { OnOk result (state_of machine.new ≡ begun Letter.Singleton 0 level (state_of machine.old)) }
+{
+    add_empty(machine, alloc, Arr::Coordinates(0, level))
+}
+
+fn begin_hashed(machine: &mut Machine, alloc: Global, level: u64) -> Result<(), AllocError>
+    ensures { OnOk result (state_of machine.new ≡ begun Letter.Hashed 0 level (state_of machine.old)) }
+{
+    add_empty(machine, alloc, Arr::Width(0, level))?;
+    add_empty(machine, alloc, Arr::Coordinates(0, level))?;
+    Ok(())
+}
+
+/// The arrays of a level of a kind, below so many parents.
+fn begin_level(
+    machine: &mut Machine,
+    alloc: Global,
+    letter: Letter,
+    level: u64,
+    parents: u64,
+) -> Result<(), AllocError>
+    requires { parents ≤ greatest_position_count }
+    ensures { OnOk result (state_of machine.new ≡ begun letter parents level (state_of machine.old)) }
+{
+    match letter {
+        Letter::Dense => Ok(()),
+        Letter::Compressed | Letter::CompressedGroups => {
+            begin_compressed(machine, alloc, level, parents)
+        }
+        Letter::Singleton | Letter::SingletonGroups => begin_singleton(machine, alloc, level),
+        Letter::Hashed => begin_hashed(machine, alloc, level),
+    }
+}
+
+/// How many parents the next level has as a run starts.
+fn parents_of_next(letter: Letter, size: u64, parents: u64) -> u64
+    requires { parents_below letter size parents ≤ greatest_position_count }
+    ensures { result ≡ parents_below letter size parents }
+{
+    match letter {
+        Letter::Dense => parents * size,
+        _ => 0,
+    }
+}
+
+/// The arrays of a result of these levels and their ranges, and its values, each of which is nothing. Refused for want of memory alone.
+pub fn begin_result(
+    machine: &mut Machine,
+    alloc: Global,
+    format: &[FormatLevel],
+    sizes: &[u64],
+    nothing: u64,
+) -> Result<(), AllocError>
+    requires same { length sizes.now ≡ length format.now }
+    requires few { IsFew (letters_of format.now) sizes.now 1 }
+    ensures { OnOk result (state_of machine.new ≡ begun_result nothing (letters_of format.now) sizes.now 1 1 (state_of machine.old)) }
+{
+    let mut parents = 1;
+    for number in 0..format.len() {
+        let letter = format[number].letter;
+        begin_level(machine, alloc, letter, number as u64 + 1, parents)?;
+        parents = parents_of_next(letter, sizes[number], parents);
+    }
+    let values = Segment::filled(alloc, parents as usize, nothing)?;
+    machine.add_array(Arr::Values(0), values)?;
+    Ok(())
+}
