@@ -2,6 +2,7 @@ pub mod Groups
 pub mod Lengths
 pub mod Packed
 pub mod Parts
+pub mod SharedLoops
 pub mod Steps
 pub mod Trees
 pub mod Walks

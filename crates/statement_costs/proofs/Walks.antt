@@ -182,8 +182,7 @@ iterator_is layout count v bound above depth k (x ∷ seeks) are h =
         let own = are.0.own is in
         let level : x.level ≡ suc (above x.access) = are.0.next ∙ ap suc own.1 in
         subst (λ j. (layout.full j (suc (above j)) ≡ false) × (layout.variable j (suc (above j)) ≡ v) × (suc (above j) ≤ layout.levels j))
-        same.1
-        (
+        same.1 (
           sym (ap (λ n. layout.full x.access n) level) ∙ sym are.0.full_is ∙ is,
           sym (ap (λ n. layout.variable x.access n) level) ∙ own.0,
           subst (λ n. n ≤ layout.levels x.access) level are.0.within,

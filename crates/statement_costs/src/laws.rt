@@ -2,7 +2,7 @@
 ghost use Rattle.std.specs.Prelude.{◌≡◌, ◌≤◌, ℕ, List, [], ◌∷◌};
 ghost use Rattle.concrete_notation.specs.declared.concrete.Concrete.{Concrete};
 ghost use Rattle.concrete_notation.specs.Contributions.{Inputs};
-ghost use Rattle.concrete_notation.specs.Nests.{SharesLoops};
+ghost use Rattle.concrete_notation.specs.Nests.{SharesLoops, workspaces};
 ghost use Rattle.format_spec.specs.declared.format.FormatLevel.{FormatLevel};
 ghost use Rattle.index_notation.specs.declared.syntax.Statement.{Statement};
 ghost use Rattle.level_core.specs.declared.letter.Letter.TheVariants.{Compressed, Dense};
@@ -31,6 +31,11 @@ pub fn loops_cost_no_more()
         → SharesLoops (plain c) → (loops : LoopCode) → concrete_of loops ≡ plain c → IsInPlace s formats loops
         → FindsReached s formats [] (λ k. 0) loops → FindsBelow loops → (stored : Stored) (ranges : ℕ → ℕ)
         → dups (layout_of s formats) stored ranges loops start ≤ statement_repeats s formats in_order.order stored ranges }
+{}
+
+/// A concrete statement that has no workspace shares loops as it did where its workspaces are left out.
+pub fn plain_loops_are_shared()
+    ensures { (c : Concrete) → workspaces c ≡ [] → SharesLoops c → SharesLoops (plain c) }
 {}
 
 /// In packed storages each coordinate of a level in groups has a position, wherever loops come to it.

@@ -4,4 +4,6 @@
 
 mod laws;
 
-pub use laws::{costs_are_as_worked_out, loops_cost_no_more, packed_tensors_have_groups};
+pub use laws::{
+    costs_are_as_worked_out, loops_cost_no_more, packed_tensors_have_groups, plain_loops_are_shared,
+};
