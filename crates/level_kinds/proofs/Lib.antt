@@ -1,1 +1,1 @@
-pub mod HashedRows
+pub mod Opened

@@ -1,222 +1,261 @@
-//! Each kind of level, as a level of a tensor's storage: its calls, and its code against them.
-ghost use Rattle.std.specs.Prelude.{◌≤◌, ◌<◌, ℕ, IfOk};
-ghost use Rattle.limits.specs.Limits.{greatest_position_count};
-ghost use Rattle.level_core.specs.Entries.{one, span};
-ghost use Rattle.tensor_storage.specs.Levels.{IsAllowed};
+//! The levels of packed entries, asked by calls and by code.
+ghost use Rattle.std.specs.Prelude.{◌≡◌, ◌≤◌, ◌<◌, ℕ, length, drop, IfOk};
+ghost use Rattle.level_core.specs.Entries.{one};
+ghost use Rattle.tensor_storage.specs.Levels.{meaning};
+ghost use Rattle.tensor_storage.specs.Storages.{IsOpen};
+ghost use Rattle.storage_arrays.specs.Arrays.{IsDone, AreDone};
 
-use crate::agreement::{agrees, agrees_below, lacks, locates};
-use crate::writers::{appended, inserted};
-use compressed_level::CompressedLevel;
-use dense_level::DenseLevel;
-use hashed_level::HashedLevel;
-use kernel_code::{Arr, Machine};
-use level_core::{Append, Entry, Insert, Letter, Level, LevelKind, Span, positions_below};
-use limits::greatest_positions;
-use singleton_level::SingletonLevel;
+use crate::reading::{entries_by_code, place_by_code, segment_by_code};
+use crate::texts::{arrays_text, places_text, segment_text};
+use crate::writing::{appended, finish, inserted};
+use anyhow::{Context, Result, bail};
+use case_tensors::{Case, are_inside};
+use format_spec::FormatLevel;
+use kernel_code::Machine;
+use level_core::{Entry, Level, LevelKind, Span, positions_below, walk};
+use numbers::Ring;
 use std::alloc::{AllocError, Global};
-use std::test::Fail;
-use tensor_storage::StorageLevel;
+use storage_arrays::positions_of;
+use tensor_storage::{StorageLevel, Tensor};
+use trees::Items;
 
-const fn entry(coord: u64, lo: u64, hi: u64) -> Entry {
-    Entry {
-        coord,
-        child: Span { lo, hi },
+/// What calls answer, and behind it what code does where that differs.
+fn told(alloc: Global, front: &str, called: String, coded: String) -> Result<String, AllocError> {
+    if called.as_str() == coded.as_str() {
+        format!(in alloc; "{front}{called}")
+    } else {
+        format!(in alloc; "{front}{called}; code:{coded}")
     }
 }
 
-/// Three coordinates below each parent.
-fn dense(alloc: Global) -> Result<StorageLevel, AllocError>
-    requires { 9 ≤ greatest_position_count }
-    ensures { IfOk result (λ level. (p : ℕ) → p < 3 → IsAllowed level (one p)) }
+/// The entries below each of so many parents.
+fn rows_below<L: Level>(
+    alloc: Global,
+    level: &L,
+    parents: u64,
+) -> Result<Vec<Items<Entry>>, AllocError>
+    requires { (p : ℕ) → p < parents → L.meaning.allowed level.now (one p) }
 {
-    Ok(StorageLevel::Dense(DenseLevel::new(alloc, 3)?))
+    let mut rows = Vec::new(alloc);
+    for parent in 0..parents {
+        let below = Span {
+            lo: parent,
+            hi: parent + 1,
+        };
+        rows.push(walk(alloc, level, below)?)?;
+    }
+    Ok(rows)
 }
 
-#[test]
-fn dense_levels(rt: HostRuntime) -> Result<(), Fail> {
-    let alloc = rt.alloc();
-    assert!(rt; 9 <= greatest_positions());
-    let level = dense(alloc)?;
-    assert_eq!(rt; level.letter(), Letter::Dense);
-    let mut machine = Machine::new(alloc);
-    machine.add_array(Arr::Dimension(0, 1), vec![in alloc; 3u64]?)?;
-    let (mut machine, slots) = inserted(alloc, &level, machine, 3, 3, &[(2, 1), (2, 0)])?;
-    assert_eq!(rt; slots.as_slice(), [7, 6].as_slice());
-    let mut prepared = DenseLevel::new(alloc, 3)?;
-    prepared.prepare(3, 3)?;
-    assert_eq!(rt; prepared.insert_coord(2, 1), 7);
-    let entries = [entry(0, 6, 7), entry(1, 7, 8), entry(2, 8, 9)];
-    assert!(rt; agrees_below(alloc, &level, &mut machine, 2, &entries)?);
-    assert!(rt; locates(alloc, &level, &mut machine, 2, &entries)?);
-    assert!(rt; lacks(alloc, &level, &mut machine, 2, 3)?);
-    assert_eq!(rt; positions_below(&level, 0), 0);
-    assert_eq!(rt; positions_below(&level, 3), 9);
+/// A machine with the arrays that a level's code makes of these entries, and the text of the arrays and of what inserts answer.
+fn written<L: LevelKind>(
+    alloc: Global,
+    level: &L,
+    range: u64,
+    rows: &[Items<Entry>],
+) -> Result<(Machine, String), AllocError> {
+    if level.caps().append {
+        let mut machine = appended(alloc, level, rows)?;
+        let text = arrays_text(alloc, &machine)?;
+        finish(alloc, &mut machine)?;
+        return Ok((machine, text));
+    }
+    let (machine, places) = inserted(alloc, level, range, rows)?;
+    let arrays = arrays_text(alloc, &machine)?;
+    let answered = places_text(alloc, places.as_slice())?;
+    let text = format!(in alloc; "{arrays} inserted{answered}")?;
+    Ok((machine, text))
+}
+
+/// The machine with the arrays of a level of so many parents. What is told of them is added.
+fn level_machine(
+    alloc: Global,
+    level: &StorageLevel,
+    parents: u64,
+    range: u64,
+    texts: &mut Vec<String>,
+) -> Result<Machine>
+    requires { IsDone parents level.now }
+{
+    let positions = positions_below(level, parents);
+    let rows = rows_below(alloc, level, parents)?;
+    let (machine, arrays) = written(alloc, level, range, rows.as_slice())?;
+    let letter = level.letter();
+    texts.push(format!(in alloc; "{letter:?}: parents {parents} positions {positions}{arrays}")?)?;
+    Ok(machine)
+}
+
+/// The machines of the levels, from the top. What is told of the levels is added.
+fn machines_of(
+    alloc: Global,
+    levels: &[StorageLevel],
+    ranges: &[u64],
+    texts: &mut Vec<String>,
+) -> Result<Vec<Machine>>
+    requires { AreDone 1 levels.now }
+    ensures { IfOk result (λ machines. length machines.items ≡ length levels.now) }
+{
+    let mut machines = Vec::new(alloc);
+    let mut parents = 1;
+    for depth in 0..levels.len() {
+        let range = ranges.get(depth).copied().context("no range")?;
+        machines.push(level_machine(alloc, &levels[depth], parents, range, texts)?)?;
+        parents = positions_of(&levels[depth], parents);
+    }
+    Ok(machines)
+}
+
+/// The places of the coordinates up to a range below a parent. What is told is added.
+fn add_places<L: Level>(
+    alloc: Global,
+    level: &L,
+    machine: &mut Machine,
+    parent: u64,
+    range: u64,
+    texts: &mut Vec<String>,
+) -> Result<()>
+    requires { L.meaning.allowed level.now (one parent) }
+{
+    let mut called = Vec::new(alloc);
+    let mut coded = Vec::new(alloc);
+    for coord in 0..range.saturating_add(1) {
+        called.push(level.locate(parent, coord))?;
+        coded.push(place_by_code(alloc, level, machine, parent, coord)?)?;
+    }
+    let called = places_text(alloc, called.as_slice())?;
+    let coded = places_text(alloc, coded.as_slice())?;
+    let front = format!(in alloc; "places below {parent}:")?;
+    texts.push(told(alloc, front.as_str(), called, coded)?)?;
     Ok(())
 }
 
-/// Parent 0 has the coordinates 1 and 3, parent 2 the coordinate 0, and parents 1 and 3 none.
-fn compressed(alloc: Global) -> Result<StorageLevel, AllocError>
-    requires { 9 ≤ greatest_position_count }
-    ensures { IfOk result (λ level. (p : ℕ) → p < 4 → IsAllowed level (one p)) }
+/// The entries below a span that may be asked. What is told of them is added.
+fn add_below<L: Level>(
+    alloc: Global,
+    level: &L,
+    machine: &mut Machine,
+    span: Span,
+    entries: &[Entry],
+    texts: &mut Vec<String>,
+) -> Result<()>
+    requires { L.meaning.allowed level.now span }
 {
-    let mut level = CompressedLevel::new(alloc, 9, true)?;
-    level.reserve(3, 4)?;
-    level.append_coord(1);
-    level.append_coord(3);
-    level.append_edges(0, 0, 2);
-    level.append_coord(0);
-    level.append_edges(2, 2, 3);
-    level.finish(4);
-    Ok(StorageLevel::Compressed(level))
-}
-
-/// The arrays that a new level's code makes of the coordinates of `compressed`.
-fn compressed_by_code(alloc: Global) -> Result<Machine, AllocError> {
-    let level = StorageLevel::Compressed(CompressedLevel::new(alloc, 0, true)?);
-    appended(alloc, &level, 4, &[(0, &[1, 3]), (2, &[0])])
-}
-
-#[test]
-fn compressed_levels(rt: HostRuntime) -> Result<(), Fail> {
-    let alloc = rt.alloc();
-    assert!(rt; 9 <= greatest_positions());
-    let level = compressed(alloc)?;
-    assert_eq!(rt; level.letter(), Letter::Compressed);
-    let mut machine = compressed_by_code(alloc)?;
-    let first = [entry(1, 0, 1), entry(3, 1, 2)];
-    assert!(rt; agrees_below(alloc, &level, &mut machine, 0, &first)?);
-    assert!(rt; agrees_below(alloc, &level, &mut machine, 1, &[])?);
-    assert!(rt; agrees_below(alloc, &level, &mut machine, 2, &[entry(0, 2, 3)])?);
-    assert!(rt; agrees_below(alloc, &level, &mut machine, 3, &[])?);
-    assert_eq!(rt; positions_below(&level, 2), 2);
-    assert_eq!(rt; positions_below(&level, 4), 3);
+    let segment = level.segment(span);
+    let coded_segment = segment_by_code(alloc, level, machine, span)?;
+    let coded_entries = entries_by_code(alloc, level, machine, segment)?;
+    let called = segment_text(alloc, segment, entries)?;
+    let coded = segment_text(alloc, coded_segment, coded_entries.as_slice())?;
+    let letter = level.letter();
+    let front = format!(in alloc; "{letter:?} below {} {}:", span.lo, span.hi)?;
+    texts.push(told(alloc, front.as_str(), called, coded)?)?;
     Ok(())
 }
 
-/// Parent 1 has the coordinate 2 twice and then 4, and parent 0 none.
-fn compressed_groups(alloc: Global) -> Result<StorageLevel, AllocError>
-    requires { 9 ≤ greatest_position_count }
-    ensures { IfOk result (λ level. (p : ℕ) → p < 2 → IsAllowed level (one p)) }
+/// The entries of a level below a span that may be asked. What is told of them is added.
+fn add_level(
+    alloc: Global,
+    level: &StorageLevel,
+    machine: &mut Machine,
+    span: Span,
+    range: u64,
+    texts: &mut Vec<String>,
+) -> Result<Items<Entry>>
+    requires { meaning.allowed level.now span }
+    ensures { IfOk result (λ entries. entries ≡ meaning.entries level.now span) }
 {
-    let mut level = CompressedLevel::new(alloc, 9, false)?;
-    level.reserve(3, 2)?;
-    level.append_coord(2);
-    level.append_coord(2);
-    level.append_coord(4);
-    level.append_edges(1, 0, 3);
-    level.finish(2);
-    Ok(StorageLevel::Compressed(level))
+    let entries = walk(alloc, level, span)?;
+    add_below(alloc, level, machine, span, entries.as_slice(), texts)?;
+    if level.caps().locate {
+        add_places(alloc, level, machine, span.lo, range, texts)?;
+    }
+    Ok(entries)
 }
 
-#[test]
-fn compressed_levels_with_groups(rt: HostRuntime) -> Result<(), Fail> {
-    let alloc = rt.alloc();
-    assert!(rt; 9 <= greatest_positions());
-    let level = compressed_groups(alloc)?;
-    assert_eq!(rt; level.letter(), Letter::CompressedGroups);
-    let mut machine = appended(alloc, &level, 2, &[(1, &[2, 2, 4])])?;
-    let entries = [entry(2, 0, 2), entry(4, 2, 3)];
-    assert!(rt; agrees_below(alloc, &level, &mut machine, 1, &entries)?);
-    assert!(rt; agrees_below(alloc, &level, &mut machine, 0, &[])?);
+/// The levels from the one numbered `depth` on, below a span that may be asked. What is told of them is added.
+fn add_spans(
+    alloc: Global,
+    levels: &[StorageLevel],
+    machines: &mut [Machine],
+    ranges: &[u64],
+    depth: usize,
+    span: Span,
+    texts: &mut Vec<String>,
+) -> Result<()>
+    requires machines { length machines.old ≡ length levels.now }
+    requires depth { depth ≤ length levels.now }
+    requires opened { (positions : ℕ) × IsOpen meaning (drop depth levels.now) positions span }
+{
+    if depth == levels.len() {
+        return Ok(());
+    }
+    let range = ranges.get(depth).copied().context("no range")?;
+    let entries = add_level(
+        alloc,
+        &levels[depth],
+        &mut machines[depth],
+        span,
+        range,
+        texts,
+    )?;
+    for entry in entries.as_slice() {
+        add_spans(
+            alloc,
+            levels,
+            machines,
+            ranges,
+            depth + 1,
+            entry.child,
+            texts,
+        )?;
+    }
     Ok(())
 }
 
-/// The coordinates 2 and 5, of positions 0 and 1.
-fn singleton(alloc: Global) -> Result<StorageLevel, AllocError>
-    requires { 9 ≤ greatest_position_count }
-    ensures { IfOk result (λ level. IsAllowed level (span 0 2)) }
+/// The ranges of the modes of the levels.
+fn ranges_of(alloc: Global, format: &[FormatLevel], ranges: &[u64]) -> Result<Vec<u64>> {
+    let mut sizes = Vec::new(alloc);
+    for level in format {
+        sizes.push(ranges.get(level.mode).copied().context("no range")?)?;
+    }
+    Ok(sizes)
+}
+
+/// What is told of the levels of a packed tensor.
+fn tensor_texts(alloc: Global, tensor: &Tensor, ranges: &[u64]) -> Result<Vec<String>>
+    requires { AreDone 1 tensor.now.levels }
 {
-    let mut level = SingletonLevel::new(alloc, 9, true)?;
-    level.reserve(2, 2)?;
-    level.append_coord(2);
-    level.append_coord(5);
-    level.finish(2);
-    Ok(StorageLevel::Singleton(level))
+    let mut texts = Vec::new(alloc);
+    let ranges = ranges_of(alloc, tensor.format(), ranges)?;
+    let mut machines = machines_of(alloc, tensor.levels(), ranges.as_slice(), &mut texts)?;
+    add_spans(
+        alloc,
+        tensor.levels(),
+        machines.as_mut_slice(),
+        ranges.as_slice(),
+        0,
+        Span { lo: 0, hi: 1 },
+        &mut texts,
+    )?;
+    Ok(texts)
 }
 
-/// The coordinate 3 twice and 7 once.
-fn singleton_groups(alloc: Global) -> Result<StorageLevel, AllocError>
-    requires { 9 ≤ greatest_position_count }
-    ensures { IfOk result (λ level. IsAllowed level (span 0 3)) }
-{
-    let mut level = SingletonLevel::new(alloc, 9, false)?;
-    level.reserve(1, 2)?;
-    level.append_coord(3);
-    level.append_edges(0, 0, 0);
-    level.reserve(2, 3)?;
-    level.append_coord(3);
-    level.append_coord(7);
-    level.finish(3);
-    Ok(StorageLevel::Singleton(level))
-}
-
-#[test]
-fn singleton_levels(rt: HostRuntime) -> Result<(), Fail> {
-    let alloc = rt.alloc();
-    assert!(rt; 9 <= greatest_positions());
-    let level = singleton(alloc)?;
-    assert_eq!(rt; level.letter(), Letter::Singleton);
-    let mut machine = appended(alloc, &level, 3, &[(0, &[2, 5])])?;
-    let entries = [entry(2, 0, 1), entry(5, 1, 2)];
-    assert!(rt; agrees(alloc, &level, &mut machine, Span { lo: 0, hi: 2 }, &entries)?);
-    let level = singleton_groups(alloc)?;
-    assert_eq!(rt; level.letter(), Letter::SingletonGroups);
-    let mut machine = appended(alloc, &level, 3, &[(0, &[3, 3, 7])])?;
-    let entries = [entry(3, 0, 2), entry(7, 2, 3)];
-    assert!(rt; agrees(alloc, &level, &mut machine, Span { lo: 0, hi: 3 }, &entries)?);
-    Ok(())
-}
-
-/// Arrays of a new hashed level with the coordinates 3 and then 7 of its one parent, inserted by code, and the slots that
-/// it answers.
-fn inserted_by_code(alloc: Global) -> Result<(Machine, Vec<u64>), AllocError> {
-    let level = StorageLevel::Hashed(HashedLevel::new(alloc, 0)?);
-    let mut machine = Machine::new(alloc);
-    machine.add_array(Arr::Width(0, 1), Vec::new(alloc))?;
-    machine.add_array(Arr::Coordinates(0, 1), Vec::new(alloc))?;
-    inserted(alloc, &level, machine, 1, 2, &[(0, 3), (0, 7)])
-}
-
-/// A level and the slots of the coordinates that were inserted.
-#[derive(Drop)]
-struct Inserted {
-    level: StorageLevel,
-    first: u64,
-    second: u64,
-}
-
-/// A level of one parent with the coordinates 3 and then 7.
-fn hashed(alloc: Global) -> Result<Inserted, AllocError>
-    requires { 12 ≤ greatest_position_count }
-    ensures { IfOk result (λ made. (p : ℕ) → p < 1 → IsAllowed made.level (one p)) }
-{
-    let mut level = HashedLevel::new(alloc, 12)?;
-    level.tell_rules();
-    level.prepare(1, 2)?;
-    let first = level.insert_coord(0, 3);
-    let second = level.insert_coord(0, 7);
-    Ok(Inserted {
-        level: StorageLevel::Hashed(level),
-        first,
-        second,
-    })
-}
-
-/// 3 stands in slot 3 of 4, and 7 is sought from there on, wrapping.
-#[test]
-fn hashed_levels(rt: HostRuntime) -> Result<(), Fail> {
-    let alloc = rt.alloc();
-    assert!(rt; 12 <= greatest_positions());
-    let made = hashed(alloc)?;
-    let level = made.level;
-    assert_eq!(rt; level.letter(), Letter::Hashed);
-    assert_eq!(rt; [made.first, made.second], [3, 0]);
-    let (mut machine, slots) = inserted_by_code(alloc)?;
-    assert_eq!(rt; slots.as_slice(), [3, 0].as_slice());
-    let entries = [entry(7, 0, 1), entry(3, 3, 4)];
-    assert!(rt; agrees_below(alloc, &level, &mut machine, 0, &entries)?);
-    assert!(rt; locates(alloc, &level, &mut machine, 0, &entries)?);
-    assert!(rt; lacks(alloc, &level, &mut machine, 0, 11)?);
-    assert_eq!(rt; positions_below(&level, 1), 4);
-    Ok(())
+/// What is told of the levels of packed entries.
+pub(crate) fn answers(alloc: Global, case: Case) -> Result<Vec<String>> {
+    let Case {
+        format,
+        shape,
+        mut entries,
+        asked: _asked,
+    } = case;
+    entries.sort_sum::<Ring>()?;
+    if shape.order() != format.order() || entries.order() != format.order() {
+        bail!("another order");
+    }
+    if !are_inside(shape.ranges(), &entries) {
+        bail!("an entry beyond the ranges");
+    }
+    match Tensor::pack::<Ring>(alloc, format, &shape, &entries) {
+        Ok(tensor) => tensor_texts(alloc, &tensor, shape.ranges()),
+        Err(refusal) => bail!("{refusal:?}"),
+    }
 }

@@ -1,8 +1,8 @@
 // What comes of a case.
 ghost use Rattle.storage_arrays.specs.Arrays.{AreDone};
 
-use crate::case::{Case, are_inside};
 use anyhow::{Context, Result, bail};
+use case_tensors::{Case, are_inside};
 use numbers::{Ring, signed};
 use outside::MemSink;
 use std::alloc::{AllocError, Global};

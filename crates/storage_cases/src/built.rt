@@ -9,9 +9,9 @@ ghost use Rattle.storage_builder.specs.Made.{AreMade};
 ghost use Rattle.storage_builder.specs.declared.part.Part.TheVariants.{Missing};
 
 use crate::answers::add_store_lines;
-use crate::case::{Case, are_inside, format_of};
 use crate::given::are_given;
 use anyhow::{Context, Result, bail};
+use case_tensors::{Case, are_inside, format_of};
 use format_spec::{Format, FormatLevel};
 use numbers::Ring;
 use seg_buffer::Segment;

@@ -25,10 +25,10 @@
 
 mod answers;
 mod built;
-mod case;
 mod given;
 
 use anyhow::{Context, Result};
+use case_tensors::Case;
 use std::alloc::Global;
 use std::rt::{Env, Files};
 use std::{env, fs};
@@ -37,7 +37,7 @@ use std::{env, fs};
 fn texts_of(alloc: Global, line: &str) -> Result<Vec<String>> {
     match line.split_once("built:") {
         Some((_front, case)) => built::built_answers(alloc, case),
-        None => answers::answers_of(alloc, case::Case::read(alloc, line)?),
+        None => answers::answers_of(alloc, Case::read(alloc, line)?),
     }
 }
 

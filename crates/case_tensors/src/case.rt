@@ -1,4 +1,4 @@
-// A case, as a line of a case file says it.
+//! A case, as a line of a case file says it.
 ghost use Rattle.std.specs.Prelude.{◌≡◌, ◌<◌, ℕ, length, slice_index, true, IfOk};
 ghost use Rattle.tensor_storage.specs.Arranged.{AreInside};
 
@@ -8,13 +8,14 @@ use limits::greatest_order_of_tensor;
 use std::alloc::Global;
 use tensor_map::{Entries, Shape};
 
+/// A tensor: its format, the ranges of its modes, and its entries as they stand in the line.
 #[derive(Drop)]
-pub(crate) struct Case {
-    pub(crate) format: Format,
-    pub(crate) shape: Shape,
-    pub(crate) entries: Entries,
+pub struct Case {
+    pub format: Format,
+    pub shape: Shape,
+    pub entries: Entries,
     /// The coordinates at which the value is asked, counted from 0, if some are named.
-    pub(crate) asked: Option<Vec<Vec<u64>>>,
+    pub asked: Option<Vec<Vec<u64>>>,
 }
 
 /// The numbers of a text.
@@ -42,7 +43,7 @@ fn coords_of(alloc: Global, text: &str, order: usize) -> Result<Vec<u64>>
 }
 
 /// The format of a word `LETTERS` or `LETTERS:ORDER`.
-pub(crate) fn format_of(alloc: Global, word: &str, order: usize) -> Result<Format> {
+pub fn format_of(alloc: Global, word: &str, order: usize) -> Result<Format> {
     if order as u64 > greatest_order_of_tensor() {
         bail!("too great an order");
     }
@@ -95,7 +96,7 @@ fn is_inside(ranges: &[u64], coords: &[u64]) -> bool
 }
 
 /// Whether the coordinates of all entries are below the ranges.
-pub(crate) fn are_inside(ranges: &[u64], entries: &Entries) -> bool
+pub fn are_inside(ranges: &[u64], entries: &Entries) -> bool
     requires { entries.now.order ≡ length ranges.now }
     ensures { result ≡ true → AreInside ranges.now entries.now.list }
 {
@@ -108,7 +109,8 @@ pub(crate) fn are_inside(ranges: &[u64], entries: &Entries) -> bool
 }
 
 impl Case {
-    pub(crate) fn read(alloc: Global, line: &str) -> Result<Case> {
+    /// The case of a line `FORMAT | RANGES | ENTRIES`, which may name coordinates behind a further `|`.
+    pub fn read(alloc: Global, line: &str) -> Result<Case> {
         let mut parts = line.split('|');
         let word = parts.next().context("no format")?.trim();
         let ranges = numbers_of(alloc, parts.next().context("no ranges")?)?;

@@ -1,6 +1,6 @@
 use Rattle.std.specs.Prelude.{ℕ, ◌<◌, length, slice_index, slice_index_or}
 use Rattle.tensor_map.specs.declared.entries.Entry.{Entry}
-use Rattle.storage_cases.proofs.case.are_inside.Given as goal
+use Rattle.case_tensors.proofs.case.are_inside.Given as goal
 
 abbrev pub invariant-loop-i : goal.invariant-loop-i
 invariant-loop-i l = (k : ℕ) (d : Entry) → k < l.i → (mode : ℕ) → mode < length l.ranges
