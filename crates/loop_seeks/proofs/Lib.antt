@@ -4,5 +4,6 @@ pub mod Kept
 pub mod Levels
 pub mod Opened
 pub mod LevelReads
+pub mod Probing
 pub mod SomeHas
 pub mod Steps

@@ -1,5 +1,5 @@
 //! What follows of the levels that are found at a loop, as calls whose contract is the law. They do nothing.
-ghost use Rattle.loop_seeks.specs.Laws.{ChildrenAreLeft, FoundAreOpen, SoughtAreThere, TurnsAreTold};
+ghost use Rattle.loop_seeks.specs.Laws.{ChildrenAreLeft, FoundAreOpen, ProbesAlone, SoughtAreThere, TurnsAreTold};
 
 /// Levels that are sought at a loop whose levels are in place are levels of the accesses.
 pub fn sought_levels_are_there()
@@ -19,4 +19,9 @@ pub fn children_are_left()
 /// The coordinates that cursors have are those that some access has which isn't full, but for those of levels without order.
 pub fn turns_are_told()
     ensures { TurnsAreTold }
+{}
+
+/// Finding levels at a coordinate takes probe turns alone, and none where each level has an order.
+pub fn finding_is_probing()
+    ensures { ProbesAlone }
 {}

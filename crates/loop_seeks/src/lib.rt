@@ -16,4 +16,7 @@ pub use cursors::{SeekCursors, cursors_of};
 pub use finding::{Found, find_rest};
 pub use hashed::has_hashed;
 pub use kinds::kind_of;
-pub use laws::{children_are_left, found_levels_are_open, sought_levels_are_there, turns_are_told};
+pub use laws::{
+    children_are_left, finding_is_probing, found_levels_are_open, sought_levels_are_there,
+    turns_are_told,
+};

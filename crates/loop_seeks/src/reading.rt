@@ -1,5 +1,5 @@
 //! What a statement and its formats tell of a level that is sought.
-ghost use Rattle.std.specs.Prelude.{◌≡◌, ◌<◌, ◌&&◌, length};
+ghost use Rattle.std.specs.Prelude.{◌≡◌, ◌<◌, length};
 ghost use Rattle.index_notation.specs.Statement.{IsNumbered};
 ghost use Rattle.iteration_graph.specs.Edges.{HasFormat};
 ghost use Rattle.lists.specs.Each.{Each};
