@@ -72,7 +72,8 @@ ends_gain p t x y v h (Sums m) = refl
 ends_gain p t x y v h (ListCoordinates m) = refl
 ends_gain p t x y v h (ListPositions m) = refl
 
-pub coordinates_gain : (p : Places) (t : PairTable) (x y v : ℕ) → GainsPair p.coordinates t x y v → HasPlace p (record p { coordinates = t }) (Coordinates x y) v
+pub coordinates_gain : (p : Places) (t : PairTable) (x y v : ℕ) → GainsPair p.coordinates t x y v
+    → HasPlace p (record p { coordinates = t }) (Coordinates x y) v
 coordinates_gain p t x y v h Range = refl
 coordinates_gain p t x y v h (Values m) = refl
 coordinates_gain p t x y v h (Dimension m n) = refl
@@ -120,7 +121,8 @@ sums_gain p t x v h (Sums m) = h m
 sums_gain p t x v h (ListCoordinates m) = refl
 sums_gain p t x v h (ListPositions m) = refl
 
-pub list_coordinates_gain : (p : Places) (t : Table) (x v : ℕ) → Gains p.list_coordinates t x v → HasPlace p (record p { list_coordinates = t }) (ListCoordinates x) v
+pub list_coordinates_gain : (p : Places) (t : Table) (x v : ℕ) → Gains p.list_coordinates t x v
+    → HasPlace p (record p { list_coordinates = t }) (ListCoordinates x) v
 list_coordinates_gain p t x v h Range = refl
 list_coordinates_gain p t x v h (Values m) = refl
 list_coordinates_gain p t x v h (Dimension m n) = refl
@@ -132,7 +134,8 @@ list_coordinates_gain p t x v h (Sums m) = refl
 list_coordinates_gain p t x v h (ListCoordinates m) = h m
 list_coordinates_gain p t x v h (ListPositions m) = refl
 
-pub list_positions_gain : (p : Places) (t : Table) (x v : ℕ) → Gains p.list_positions t x v → HasPlace p (record p { list_positions = t }) (ListPositions x) v
+pub list_positions_gain : (p : Places) (t : Table) (x v : ℕ) → Gains p.list_positions t x v
+    → HasPlace p (record p { list_positions = t }) (ListPositions x) v
 list_positions_gain p t x v h Range = refl
 list_positions_gain p t x v h (Values m) = refl
 list_positions_gain p t x v h (Dimension m n) = refl

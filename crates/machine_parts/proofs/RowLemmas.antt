@@ -10,7 +10,8 @@ pub scratch_row_added : (xs : List ScratchRow) (x : ScratchRow) (rs : List ListR
     → map as_row (xs ++ x ∷ []) ≡ rs ++ as_row x ∷ []
 scratch_row_added xs x rs h = map-append as_row xs (x ∷ []) ∙ ap (λ ys. ys ++ as_row x ∷ []) h
 
-pub coordinates_as_rows : (xs : List ScratchRow) → map (λ (r : ScratchRow). r.coordinate) xs ≡ map (λ (r : ListRow). r.coordinate) (map as_row xs)
+pub coordinates_as_rows : (xs : List ScratchRow) → map (λ (r : ScratchRow). r.coordinate) xs
+    ≡ map (λ (r : ListRow). r.coordinate) (map as_row xs)
 coordinates_as_rows [] = refl
 coordinates_as_rows (x ∷ xs) = ap (λ ys. x.coordinate ∷ ys) (coordinates_as_rows xs)
 

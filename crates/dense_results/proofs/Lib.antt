@@ -1,0 +1,11 @@
+pub mod Backwards
+pub mod DenseLevels
+pub mod Ends
+pub mod Loops
+pub mod Modes
+pub mod Operands
+pub mod Pairs
+pub mod Positions
+pub mod Rows
+pub mod Starts
+pub mod Tables

@@ -1,0 +1,3 @@
+pub mod Loops
+pub mod Operands
+pub mod Results

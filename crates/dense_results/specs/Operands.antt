@@ -1,0 +1,67 @@
+-- The operands of a store as loops find them.
+use Rattle.std.specs.Prelude.{◌≡◌, ℕ, List, [], ◌∷◌, Option, Some, None, slice_get, slice_index}
+use Rattle.numbers.specs.Arithmetic.{Arithmetic, Laws}
+use Rattle.level_core.specs.Meaning.{Arrays}
+use Rattle.format_spec.specs.declared.format.FormatLevel.{FormatLevel}
+use Rattle.index_notation.specs.Statement.{IsNumbered, IsWellNamed}
+use Rattle.index_notation.specs.declared.syntax.Access.{Access}
+use Rattle.index_notation.specs.declared.syntax.Statement.{Statement}
+use Rattle.iteration_graph.specs.Edges.{HasFormat}
+use Rattle.lists.specs.Each.{Each}
+use Rattle.workspaces.specs.PresenceLaws.{AreZeroElsewhere}
+use Rattle.tensor_storage.specs.Storages.{Storage}
+use Rattle.loop_code.specs.Loops.{start}
+use Rattle.lowering.specs.Held.{AreHeld}
+use Rattle.lowering.specs.Layouts.{layout_of}
+use Rattle.lowering.specs.Stored.{levels_stored, stored_of}
+use Rattle.kernel_stores.specs.Stores.{Store, IsStoreOf, IsGiven, operand_of, told_by}
+use Rattle.term_code.specs.declared.places.AccessPlace.{AccessPlace}
+use Rattle.operand_arrays.specs.Operands.{Operands, stored_in, AreReady, AreOpen, HasRanges, AreOperands}
+
+-- the values of an access, and one zero where there is no access: as below every format without levels
+abbrev pub values_at : (ℕ → Storage) → Option Access → List ℕ
+values_at storages None = 0 ∷ []
+values_at storages (Some access) = (storages access.tensor).values
+
+-- the levels and values of the store's operands behind the accesses of a statement
+abbrev pub operands_in : Statement → Store → Operands
+operands_in s store = record {
+  levels = λ k. levels_stored (operand_of store) (slice_get s.accesses k);
+  words = λ k. values_at (operand_of store) (slice_get s.accesses k);
+}
+
+-- a statement that reads no tensor that it writes, with a format for each access, and a store of it
+pub record IsReadStore (s : Statement) (formats : List (List FormatLevel)) (store : Store) : Type 0 where
+  pub numbered : IsNumbered s
+  pub named : IsWellNamed s
+  pub read : Each (HasFormat formats) s.accesses
+  pub is : IsStoreOf s formats store
+
+-- the access of each place reads its tensor
+abbrev pub ArePlacesOf : Statement → List AccessPlace → Type 0
+ArePlacesOf s accesses =
+    (k : ℕ) (p : AccessPlace) → slice_get accesses k ≡ Some p → (x : Access) × (slice_get s.accesses k ≡ Some x) × (p.tensor ≡ x.tensor)
+
+-- as a run starts: the arrays hold the levels and values of all accesses, whose tensors are operands, and the ranges; and before all
+-- loops each access may be asked from its top
+pub record ArrayStands (s : Statement) (formats : List (List FormatLevel)) (store : Store) (accesses : List AccessPlace) (arrays : Arrays)
+    : Type 0 where
+  pub ready : AreReady s formats accesses (operands_in s store) arrays
+  pub operands : AreOperands accesses
+  pub opened : AreOpen (operands_in s store) (λ k. 0) start
+  pub ranges : HasRanges s (slice_index store.ranges) arrays
+
+abbrev pub ArraysStandForOperands : Type 0
+ArraysStandForOperands = (s : Statement) (formats : List (List FormatLevel)) (store : Store) → IsReadStore s formats store
+    → (nothing : ℕ) (arrays : Arrays) → IsGiven nothing store arrays → (accesses : List AccessPlace) → ArePlacesOf s accesses
+    → ArrayStands s formats store accesses arrays
+
+-- what is stored of the accesses is what the store's operands store, and tells what the store tells, which is zero elsewhere
+pub record AreTold (a : Arithmetic) (s : Statement) (formats : List (List FormatLevel)) (store : Store) : Type 0 where
+  pub stored : stored_in (operands_in s store) ≡ stored_of s (operand_of store)
+  pub held : AreHeld a (layout_of s formats) (stored_in (operands_in s store)) s.accesses (told_by a store)
+  pub elsewhere : AreZeroElsewhere a (told_by a store).paths (told_by a store).values
+
+abbrev pub OperandsAreTold : Type 0
+OperandsAreTold = (a : Arithmetic) → Laws a → (s : Statement) (formats : List (List FormatLevel)) (store : Store)
+    → IsReadStore s formats store → AreTold a s formats store

@@ -1,0 +1,4 @@
+pub mod ColumnLemmas
+pub mod RunLemmas
+pub mod StoreLemmas
+pub mod ToldLemmas

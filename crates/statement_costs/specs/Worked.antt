@@ -1,0 +1,87 @@
+-- Worked costs: of a product of a matrix and a vector, y(i) = A(i,j) * x(j), and of a sum of vectors, y(i) = a(i) + b(i).
+use Rattle.std.specs.Prelude.{ℕ, ◌+◌, nat_eq, if◌then◌else◌, List, [], ◌∷◌}
+use Rattle.level_core.specs.declared.span.Span.{Span}
+use Rattle.level_core.specs.declared.span.Entry.{Entry}
+use Rattle.level_core.specs.Entries.{one, span}
+use Rattle.level_core.specs.declared.letter.Letter.{Letter}
+use Rattle.level_core.specs.declared.letter.Letter.TheVariants.{Dense, Compressed, CompressedGroups, Singleton, Hashed}
+use Rattle.format_spec.specs.declared.format.FormatLevel.{FormatLevel}
+use Rattle.index_notation.specs.declared.syntax.Access.{Access}
+use Rattle.index_notation.specs.declared.syntax.Expr.{Access as AccessOf, Add, Mul}
+use Rattle.index_notation.specs.declared.syntax.Name.{Name}
+use Rattle.index_notation.specs.declared.syntax.Statement.{Statement}
+use Rattle.loop_code.specs.Loops.{Stored}
+
+abbrev no_name : Name
+no_name = record { bytes = [] }
+
+abbrev access : ℕ → List ℕ → Access
+access tensor vars = record { tensor = tensor; vars = vars }
+
+abbrev level : Letter → ℕ → FormatLevel
+level letter mode = record { letter = letter; mode = mode }
+
+-- a coordinate with its children
+abbrev entry : ℕ → Span → Entry
+entry coord child = record { coord = coord; child = child }
+
+abbrev pub product : Statement
+product = record {
+  tensors = no_name ∷ no_name ∷ no_name ∷ [];
+  vars = no_name ∷ no_name ∷ [];
+  left = access 0 (0 ∷ []);
+  accesses = access 1 (0 ∷ 1 ∷ []) ∷ access 2 (1 ∷ []) ∷ [];
+  expr = Mul (AccessOf 0) (AccessOf 1);
+}
+
+-- all ranges are n
+abbrev pub alike : ℕ → ℕ → ℕ
+alike n v = n
+
+-- the vector is dense, the matrix compressed in rows: two of them, with one coordinate each
+abbrev pub rows_formats : List (List FormatLevel)
+rows_formats = (level Dense 0 ∷ []) ∷ (level Dense 0 ∷ level Compressed 1 ∷ []) ∷ (level Dense 0 ∷ []) ∷ []
+
+-- a dense level of two coordinates
+abbrev two_below : Span → List Entry
+two_below p = entry 0 (one (p.lo + p.lo)) ∷ entry 1 (one (p.lo + p.lo + 1)) ∷ []
+
+abbrev pub rows_stored : Stored
+rows_stored = record {
+  entries = λ k depth p.
+      if nat_eq k 1 then two_below p else (if nat_eq depth 1 then two_below p else (if nat_eq p.lo 0 then (entry 1 (one 0) ∷ [])
+      else (entry 0 (one 1) ∷ [])));
+  word = λ k pos. 1;
+}
+
+-- the matrix is a list of coordinates, three of them in row 0 and one in row 2, and two coordinates of the vector are hashed
+abbrev pub list_formats : List (List FormatLevel)
+list_formats = (level Dense 0 ∷ []) ∷ (level CompressedGroups 0 ∷ level Singleton 1 ∷ []) ∷ (level Hashed 0 ∷ []) ∷ []
+
+abbrev pub list_stored : Stored
+list_stored = record {
+  entries = λ k depth p.
+      if nat_eq k 1 then (entry 3 (one 3) ∷ entry 7 (one 0) ∷ []) else (if nat_eq depth 1 then (entry 0 (span 0 3) ∷ entry 2 (span 3 4)
+      ∷ [])
+      else (if nat_eq p.lo 0 then (entry 0 (one 0) ∷ entry 3 (one 1) ∷ entry 7 (one 2) ∷ []) else (entry 7 (one 3) ∷ [])));
+  word = λ k pos. 1;
+}
+
+abbrev pub sum : Statement
+sum = record {
+  tensors = no_name ∷ no_name ∷ no_name ∷ [];
+  vars = no_name ∷ [];
+  left = access 0 (0 ∷ []);
+  accesses = access 1 (0 ∷ []) ∷ access 2 (0 ∷ []) ∷ [];
+  expr = Add (AccessOf 0) (AccessOf 1);
+}
+
+-- vectors of the kinds of levels, of which the first has two coordinates stored, and the second one of them
+abbrev pub sum_formats : Letter → List (List FormatLevel)
+sum_formats letter = (level Dense 0 ∷ []) ∷ (level letter 0 ∷ []) ∷ (level Compressed 0 ∷ []) ∷ []
+
+abbrev pub sum_stored : Stored
+sum_stored = record {
+  entries = λ k depth p. if nat_eq k 0 then (entry 0 (one 0) ∷ entry 2 (one 1) ∷ []) else (entry 2 (one 0) ∷ []);
+  word = λ k pos. 1;
+}
