@@ -5,4 +5,7 @@
 
 mod beginning;
 mod closing;
+mod emitting;
 mod opening;
+
+pub use emitting::emit;
