@@ -1,6 +1,7 @@
 -- The code that appends rows, made of the fragments of any kind of level that is appended to.
-use Rattle.std.specs.Prelude.{◌≡◌, ℕ, ◌+◌, true, List, [], ◌∷◌, ◌++◌, length, slice_index, refl}
+use Rattle.std.specs.Prelude.{◌≡◌, ℕ, ◌+◌, ◌-◌, ◌≤◌, true, List, [], ◌∷◌, ◌++◌, length, replicate, slice_index, refl}
 use Rattle.std.proofs.Common.{◌∙◌, sym, ap, subst, arith}
+use Rattle.std.proofs.lemmas.List.{length-replicate, replicate-append-replicate}
 use Rattle.limits.proofs.Limits.{positions_are_small}
 use Rattle.kernel_code.specs.Meaning.{Setting, State, length_of}
 use Rattle.kernel_code.specs.Does.{Does}
@@ -11,21 +12,33 @@ use Rattle.kernel_code.specs.declared.syntax.LoopKind.TheVariants.{Drain}
 use Rattle.kernel_code.specs.declared.syntax.KExpr.{KExpr, Var, Len}
 use Rattle.kernel_code.specs.declared.syntax.KStmt.{KStmt}
 use Rattle.level_core.specs.declared.letter.Letter.{Letter}
-use Rattle.level_core.specs.declared.stage.Stage.TheVariants.{Fresh, Finished}
+use Rattle.level_core.specs.declared.stage.Stage.TheVariants.{Unfinished, Finished}
 use Rattle.level_core.specs.Kinds.{properties, capabilities}
 use Rattle.level_core.specs.Logs.{Log, IsLog, CodeMayReserve, MayAppend, MayAppendEdges, with_parents, with_coord, with_edges}
-use Rattle.level_core.specs.Logs.{nothing_reserved}
+use Rattle.level_core.specs.Logs.{nothing_reserved, ungiven}
 use Rattle.level_core.specs.Fragments.{IsOutside, RefusedWithin, PassesLimit, PassesLimitWithin, turns_of}
 use Rattle.level_core.specs.Codes.{HoldsLog, ReserveCode, AppendCode, EdgesCode}
 use Rattle.level_core.specs.Meaning.{Arrays, Meaning}
 use Rattle.level_core.specs.Laws.{Laws}
 use Rattle.level_rows.specs.Rows.{Rows, begun, MayAppendRows}
-use Rattle.level_rows.specs.Draining.{drain_code, IsGiven, LeavesDrained, DrainsRows}
+use Rattle.level_rows.specs.Draining.{drain_code, IsGiven, IsBegun, LeavesDrained, DrainsRows}
 use Rattle.level_rows.proofs.Progress.{Filled}
 use Rattle.level_rows.proofs.AppendSteps.{none_done, may_finish}
 use Rattle.level_rows.proofs.Stored.{filled_stores}
 use Rattle.level_rows.proofs.DrainSteps.{Appends}
 use Rattle.level_rows.proofs.DrainLaws.{AllDrained, does_drain}
+
+-- parents that are reserved in two steps are those that are reserved at once
+reserved_again : (letter : Letter) (n parents : ℕ) → n ≤ parents
+    → with_parents letter parents (with_parents letter n nothing_reserved) ≡ with_parents letter parents nothing_reserved
+reserved_again letter n parents h =
+    let u = ungiven letter in
+    let none : n - 0 ≡ n = omega arith in
+    let all : n + (parents - n) ≡ parents - 0 = omega (arith, h) in
+    ap (λ counts. record { stage = Unfinished; coords = []; counts = counts; next = 0 })
+    (ap (λ m. replicate m u ++ replicate (parents - length (replicate m u)) u) none
+    ∙ ap (λ k. replicate n u ++ replicate (parents - k) u) (length-replicate n u)
+    ∙ replicate-append-replicate n (parents - n) u ∙ ap (λ m. replicate m u) all)
 
 -- the arrays hold a level of this kind and range to which this was appended
 pub record HasLog {L : Type 0} (means : Meaning L) (letter : Letter) (size level : ℕ) (log : Log) (arrays : Arrays) : Type 0 where
@@ -98,8 +111,8 @@ module _ {L : Type 0} (means : Meaning L) (laws : Laws means) (letter : Letter) 
         (λ t a n z. z);
   }
 
-  module _ (c : Setting) (l : L) (kind : means.kind l ≡ letter) (keeps : means.keeps l) (fresh : means.log l ≡ nothing_reserved)
-      (rows : Rows) (parents : ℕ) (may : MayAppendRows letter (means.size l) parents rows)
+  module _ (c : Setting) (l : L) (kind : means.kind l ≡ letter) (keeps : means.keeps l)
+      (rows : Rows) (parents : ℕ) (fresh : IsBegun letter parents (means.log l)) (may : MayAppendRows letter (means.size l) parents rows)
       (s : State) (held : means.holds l 0 level s.arrays) (given : IsGiven level base w g parents parents_is test coord rows s) where
     -- what is left when all rows are drained is what is promised
     promised : (t u : State) → Leaves NoVariable (IsOutside 0 level) (base + 6) no_turns s t
@@ -114,6 +127,7 @@ module _ {L : Type 0} (means : Meaning L) (laws : Laws means) (letter : Letter) 
       may_finish = may_finish parents rows (means.log d.held.left) filled;
       positions = d.positions;
       places = d.places;
+      many = d.placed.many;
       numbered = d.placed.behind;
       stores = λ done finishes. filled_stores means laws letter (means.size l) parents rows (slice_index d.positions) d.held.left done may
           d.held.kind filled finishes d.placed.behind;
@@ -153,7 +167,8 @@ module _ {L : Type 0} (means : Meaning L) (laws : Laws means) (letter : Letter) 
         (λ made a n z. ((λ j. let x = z.0 j in let y = k.turns j in omega (arith, x, y)), z.1))
       where
         log : means.log h.left ≡ with_parents letter parents nothing_reserved
-        log = h.log ∙ ap (λ j. with_parents j parents (means.log l)) kind ∙ ap (with_parents letter parents) fresh
+        log = h.log ∙ ap (λ j. with_parents j parents (means.log l)) kind ∙ ap (with_parents letter parents) fresh.2
+            ∙ reserved_again letter fresh.0 parents fresh.1
 
         has : HasLog means letter (means.size l) level (means.log h.left) t.arrays
         has = record { left = h.left; keeps = h.keeps; kind = h.kind ∙ kind; size_is = h.size; log_is = refl; held = h.held }
@@ -168,14 +183,14 @@ module _ {L : Type 0} (means : Meaning L) (laws : Laws means) (letter : Letter) 
         (λ made a n z. let above = z.1.above in let within = given.within in absurd (omega (arith, above, within))))
         (λ t k. drains t k.0 k.1.0)
       where
-        open_stage : Fresh ≡ Finished → ⊥
+        open_stage : Unfinished ≡ Finished → ⊥
         open_stage e = cc
 
         may_reserve : CodeMayReserve (means.kind l) parents (means.log l)
         may_reserve = record {
           word = (let within = given.within in let small = positions_are_small in omega (arith, within, small));
           within = λ _. given.within;
-          reservable = λ e. open_stage (sym (ap (λ k. k.stage) fresh) ∙ e);
+          reservable = λ e. open_stage (sym (ap (λ k. k.stage) fresh.2) ∙ e);
         }
 
 pub emitted : {L : Type 0} (means : Meaning L) → Laws means
@@ -184,7 +199,7 @@ pub emitted : {L : Type 0} (means : Meaning L) → Laws means
     → AppendCode means letter 0 level (coord ∷ []) (base + 6) append
     → EdgesCode means letter 0 level (Var (base + 3) ∷ Var (base + 2) ∷ Var (base + 1) ∷ []) (base + 6) edges
     → DrainsRows means letter level base w g parents_is test coord (reserve ++ drain_code base w g test append edges)
-emitted means laws letter level base w g parents_is test coord reserve append edges reserves appends gives able c l kind keeps fresh rows
-    parents may s held given =
-    emits means laws letter level base w g parents_is test coord reserve append edges reserves appends gives able c l kind keeps fresh rows
-    parents may s held given
+emitted means laws letter level base w g parents_is test coord reserve append edges reserves appends gives able c l kind keeps rows
+    parents fresh may s held given =
+    emits means laws letter level base w g parents_is test coord reserve append edges reserves appends gives able c l kind keeps rows
+    parents fresh may s held given

@@ -13,7 +13,7 @@ use Rattle.kernel_code.specs.declared.syntax.KExpr.{KExpr, Num, Var, At, Len, Bi
 use Rattle.kernel_code.specs.declared.syntax.KStmt.{KStmt, Set, Put, If, While}
 use Rattle.level_core.specs.declared.letter.Letter.{Letter}
 use Rattle.level_core.specs.Kinds.{capabilities}
-use Rattle.level_core.specs.Logs.{MayFinish, nothing_reserved}
+use Rattle.level_core.specs.Logs.{Log, MayFinish, nothing_reserved, with_parents}
 use Rattle.level_core.specs.Fragments.{IsOutside, RefusedWithin, PassesLimitWithin, turns_of}
 use Rattle.level_core.specs.Meaning.{Meaning, Finishes}
 use Rattle.level_rows.specs.Rows.{Rows, begun, place, MayAppendRows}
@@ -85,19 +85,24 @@ pub record LeavesDrained {L : Type 0} (means : Meaning L) (l : L) (level g base 
   pub may_finish : MayFinish parents (means.log left)
   pub positions : List ℕ
   pub places : s.arrays (ListPositions g) ≡ Some positions
+  pub many : length positions ≡ rows.count
   pub numbered : (i : ℕ) → i < rows.count → slice_index positions i ≡ place rows.first i
   pub stores : (done : L) → Finishes means parents left done
       → Stores means parents (begun rows.first rows.count) rows (slice_index positions) done
   pub count : s.vars (base + 1) ≡ Some (begun rows.first rows.count)
   pub leaves : Leaves NoVariable (Stays level g) base (turns_of Drain rows.count) s0 s
 
+-- nothing was appended yet, and no more parents than so many are reserved, as where a kernel begins
+abbrev pub IsBegun : Letter → ℕ → Log → Type 0
+IsBegun letter parents log = (n : ℕ) × (n ≤ parents) × (log ≡ with_parents letter n nothing_reserved)
+
 -- what the code does, wherever arrays hold a level of the kind to which nothing was appended: it is refused a growth only where so
 -- many positions pass the limit, which are no more than the rows begin
 abbrev pub DrainsRows : {L : Type 0} → Meaning L → Letter → ℕ → ℕ → ℕ → ℕ → KExpr → KExpr → KExpr → List KStmt → Type 0
 DrainsRows {L} means letter level base w g parents_is test coord code =
     (capabilities letter).append ≡ true
-    → (c : Setting) (l : L) → means.kind l ≡ letter → means.keeps l → means.log l ≡ nothing_reserved
-    → (rows : Rows) (parents : ℕ) → MayAppendRows letter (means.size l) parents rows
+    → (c : Setting) (l : L) → means.kind l ≡ letter → means.keeps l
+    → (rows : Rows) (parents : ℕ) → IsBegun letter parents (means.log l) → MayAppendRows letter (means.size l) parents rows
     → (s : State) → means.holds l 0 level s.arrays → IsGiven level base w g parents parents_is test coord rows s
     → Does c code s (LeavesDrained means l level g base parents rows s)
     (RefusedWithin (turns_of Drain rows.count) s (PassesLimitWithin 0 level (begun rows.first rows.count)))
