@@ -167,7 +167,7 @@ module _ {L : Type 0} (means : Meaning L) (laws : Laws means) (letters : List Le
           subst (λ s. MayInsertRows s parents (rows_at (keys_of table d n) ps)) (sym new.size_is)
               (grows.may_insert size (groups_none is)
               (subst (λ m. AreRowsOf table.coords d m size (rows_at (keys_of table d n) ps))
-                  (next.unique (inserted_unique (means.kind old) is).0)
+              (next.unique (inserted_unique (means.kind old) is).0)
               are)),
           grows.together,
           new.width is,

@@ -55,7 +55,7 @@ pub returns-in-Err : goal.returns-in-Err
 returns-in-Err g c =
     refused c.args.format c.args.shape.now c.args.entries.now.list c.deref-2.result.now c.in-Err.refusal
     (same_arranged c.levels.result.now c.args.format c.args.entries.now.list c.in-Ok.numbers.items c.deref-2.result.now
-        c.levels.ensures.value
+    c.levels.ensures.value
     (sym c.deref-2.ensures.value) c.in-Ok.ensures)
     (subst (λ f. IsRefusal (positions_of c.args.format c.args.shape.now (table_of f c.args.entries.now.list c.deref-2.result.now))
     c.in-Err.refusal) c.levels-3.ensures.value
