@@ -1,0 +1,56 @@
+-- How the meaning of a kernel ends where the machine's run does.
+use Rattle.std.specs.Prelude.{◌≡◌, ◌⊎◌, ℕ, ◌≤◌, List}
+use Rattle.std.proofs.Common.{◌∙◌, sym, ap, subst, arith, inl, inr}
+use Rattle.numbers.specs.Arithmetic.{Arithmetic}
+use Rattle.kernel_code.specs.declared.syntax.Kernel.{Kernel}
+use Rattle.kernel_code.specs.declared.syntax.KStmt.{KStmt}
+use Rattle.kernel_code.specs.declared.syntax.LoopKind.{LoopKind}
+use Rattle.kernel_code.specs.Kernels.{KernelOutcome, Finished, NotFinished, all_turns, go, told, within, start_state}
+use Rattle.kernel_code.specs.Meaning.{State, run_list}
+use Rattle.kernel_code.proofs.More.{goes_on}
+use Rattle.level_core.specs.Meaning.{Arrays}
+use Rattle.kernel_steps.specs.declared.machine.Machine.{Machine}
+use Rattle.kernel_steps.specs.declared.ending.Ending.{Ending}
+use Rattle.kernel_steps.specs.Store.{state_of, outcome_of, setting, made}
+use Rattle.kernel_stores.specs.Kernels.{Ends, IsSoundOutcome}
+use Rattle.kernel_stores.specs.Results.{LeavesStorage}
+use Rattle.kernel_stores.specs.Stores.{Store}
+use Rattle.kernel_machine.specs.Runs.{most_turns}
+
+-- at the start no turn was made
+pub none_made : (m : Machine) (kernel : Kernel) (given : Arrays) → state_of m ≡ start_state kernel given → made m ≡ 0
+none_made m kernel given is = ap (λ (s : State). all_turns s.turns) is
+
+pub ends_told : (a : Arithmetic) (order : ℕ) (kernel : Kernel) (given : Arrays) (m m' : Machine) (e : Ending) (code : List KStmt)
+    (workspaces : List ℕ) (limit : ℕ) → code ≡ kernel.body → workspaces ≡ kernel.workspaces → limit ≡ most_turns
+    → state_of m ≡ start_state kernel given
+    → outcome_of e (state_of m') ≡ within limit (run_list (setting a workspaces) limit code (state_of m))
+    → go a order kernel given most_turns ≡ told order (outcome_of e (state_of m'))
+ends_told a order kernel given m m' e code workspaces limit body keys most starts ends =
+    sym (ap (told order) (ends
+    ∙ ap (λ n. within n (run_list (setting a workspaces) n code (state_of m))) most
+    ∙ ap (λ c. within most_turns (run_list (setting a workspaces) most_turns c (state_of m))) body
+    ∙ ap (λ ws. within most_turns (run_list (setting a ws) most_turns kernel.body (state_of m))) keys
+    ∙ ap (λ s. within most_turns (run_list (setting a kernel.workspaces) most_turns kernel.body s)) starts))
+
+one_first : (n m : ℕ) → (n ≤ m) ⊎ (m ≤ n)
+one_first n m = grind arith
+
+not_unfinished : (nothing : ℕ) (store : Store) (o : KernelOutcome) → IsSoundOutcome nothing store o → o ≡ NotFinished → ⊥
+not_unfinished nothing store o so e = subst (IsSoundOutcome nothing store) e so
+
+finished_apart : (arrays : Arrays) (turns : LoopKind → ℕ) → Finished arrays turns ≡ NotFinished → ⊥
+finished_apart arrays turns e = cc
+
+-- a sound kernel that finishes leaves a storage
+pub sound_leaves : (a : Arithmetic) (order : ℕ) (kernel : Kernel) (store : Store) (given arrays : Arrays) (turns : LoopKind → ℕ)
+    → Ends a order kernel given (IsSoundOutcome a.zero store) → go a order kernel given most_turns ≡ Finished arrays turns
+    → LeavesStorage a.zero store arrays
+sound_leaves a order kernel store given arrays turns e f = by (one_first e.turns most_turns)
+  where
+    by : (e.turns ≤ most_turns) ⊎ (most_turns ≤ e.turns) → LeavesStorage a.zero store arrays
+    by (inl l) = subst (IsSoundOutcome a.zero store)
+        (sym e.is ∙ sym (goes_on a order kernel given e.turns most_turns l
+        (λ n. not_unfinished a.zero store e.outcome e.so (sym e.is ∙ n))) ∙ f) e.so
+    by (inr l) = subst (IsSoundOutcome a.zero store)
+        (sym e.is ∙ goes_on a order kernel given most_turns e.turns l (λ n. finished_apart arrays turns (sym f ∙ n)) ∙ f) e.so

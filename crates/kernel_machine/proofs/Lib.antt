@@ -1,0 +1,7 @@
+pub mod Ends
+pub mod Finishes
+pub mod HandedParts
+pub mod LevelSizes
+pub mod Parts
+pub mod Starts
+pub mod Tensors

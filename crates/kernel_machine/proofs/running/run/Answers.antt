@@ -1,0 +1,67 @@
+use Rattle.std.proofs.Common.{◌≡◌, ◌∙◌, ◌≤◌, ap, sym, subst, arith}
+use Rattle.std.specs.Prelude.{length}
+use Rattle.kernel_code.specs.Kernels.{Finished, TooLong, go, told, place_of}
+use Rattle.storage_builder.specs.Building.{Building}
+use Rattle.kernel_steps.specs.declared.ending.Ending.{Ending}
+use Rattle.kernel_steps.specs.Store.{count_of, outcome_of, state_of}
+use Rattle.kernel_machine.specs.Runs.{most_turns}
+use Rattle.kernel_machine.proofs.Ends.{none_made, ends_told, sound_leaves}
+use Rattle.kernel_machine.proofs.running.run.Goals as goal
+
+pub run_statements-requires : goal.run_statements-requires
+run_statements-requires g c =
+    let ready = c.requires.1 in
+    let none = none_made c.args.prepared.machine c.args.prepared.kernel.now ready.starts.given ready.starts.is in
+    subst (λ n. n ≤ c.most_turns.result) (sym none) (omega arith)
+
+pub made_tensor-requires-clause-left : goal.made_tensor-requires-clause-left
+made_tensor-requires-clause-left g c =
+    let a = g.S.Semiring.arithmetic in
+    let store = c.requires.0 in
+    let ready = c.requires.1 in
+    let given = ready.starts.given in
+    let kernel = c.args.prepared.kernel.now in
+    let order = length store.format in
+    let new = state_of c.run_statements.new.machine in
+    let ends : go a order kernel given most_turns ≡ Finished new.arrays new.turns =
+    ends_told a order kernel given c.args.prepared.machine c.run_statements.new.machine c.in-Ok.ending c.as_slice.result.now
+    c.as_slice-2.result.now c.most_turns.result c.as_slice.ensures c.as_slice-2.ensures c.most_turns.ensures ready.starts.is c.in-Ok.ensures
+    ∙ ap (λ (e : Ending). told order (outcome_of e new)) c.in-Ended.is in
+    (a.zero, store, sound_leaves a order kernel store given new.arrays new.turns (c.requires.2 given ready.starts.is_given) ends,
+        ready.building)
+
+pub returns-in-Ok-made_tensor : goal.returns-in-Ok-made_tensor
+returns-in-Ok-made_tensor g c =
+    let a = g.S.Semiring.arithmetic in
+    let kernel = c.args.prepared.kernel.now in
+    let new = state_of c.run_statements.new.machine in
+    λ store ready.
+    let order = length store.format in
+    let given = ready.starts.given in
+    let ends : go a order kernel given most_turns ≡ Finished new.arrays (count_of c.turns-turns.result) =
+    ends_told a order kernel given c.args.prepared.machine c.run_statements.new.machine c.in-Ok.ending c.as_slice.result.now
+    c.as_slice-2.result.now c.most_turns.result c.as_slice.ensures c.as_slice-2.ensures c.most_turns.ensures ready.starts.is
+    c.in-Ok.ensures
+    ∙ ap (λ (e : Ending). told order (outcome_of e new)) c.in-Ended.is
+    ∙ ap (Finished new.arrays) (sym c.turns-turns.ensures) in
+    record {
+      arrays = new.arrays;
+      ends = ends;
+      format_is = c.in-Ok-made_tensor.ensures.format_is ∙ ap (λ (b : Building). b.format) ready.building;
+      is_left = record { held = c.in-Ok-made_tensor.ensures.held; values_held = c.in-Ok-made_tensor.ensures.values };
+    }
+
+pub returns-in-Over : goal.returns-in-Over
+returns-in-Over g c =
+    let a = g.S.Semiring.arithmetic in
+    let kernel = c.args.prepared.kernel.now in
+    let new = state_of c.run_statements.new.machine in
+    λ store ready.
+    let order = length store.format in
+    let given = ready.starts.given in
+    ends_told a order kernel given c.args.prepared.machine c.run_statements.new.machine c.in-Ok.ending c.as_slice.result.now
+    c.as_slice-2.result.now c.most_turns.result c.as_slice.ensures c.as_slice-2.ensures c.most_turns.ensures ready.starts.is
+    c.in-Ok.ensures
+    ∙ ap (λ (e : Ending). told order (outcome_of e new)) c.in-Over.is
+    ∙ ap (λ n. TooLong (place_of n c.in-Over.array) c.in-Over.count) (sym ready.order)
+    ∙ ap (λ p. TooLong p c.in-Over.count) (sym c.place_of-place.ensures)

@@ -1,0 +1,64 @@
+-- How the run of a prepared kernel ends.
+use Rattle.std.specs.Prelude.{◌≡◌, ℕ, suc, ◌-◌, ◌^◌, ◌<◌, List, length, Some, slice_get}
+use Rattle.numbers.specs.Arithmetic.{Arithmetic}
+use Rattle.kernel_code.specs.declared.syntax.Arr.{Arr}
+use Rattle.kernel_code.specs.declared.syntax.Arr.TheVariants.{Values}
+use Rattle.kernel_code.specs.declared.syntax.Kernel.{Kernel}
+use Rattle.kernel_code.specs.declared.syntax.Turns.{Turns}
+use Rattle.kernel_code.specs.Kernels.{Finished, TooLong, go}
+use Rattle.level_core.specs.declared.letter.Letter.{Letter}
+use Rattle.level_core.specs.declared.letter.Letter.TheVariants.{Dense}
+use Rattle.level_core.specs.Fragments.{IsOf}
+use Rattle.level_core.specs.Meaning.{Arrays}
+use Rattle.format_spec.specs.declared.format.FormatLevel.{FormatLevel}
+use Rattle.format_spec.specs.Formats.{letters_of}
+use Rattle.tensor_storage.specs.Storages.{Storage}
+use Rattle.storage_builder.specs.Building.{Building}
+use Rattle.storage_builder.specs.declared.part.Part.{Part}
+use Rattle.storage_builder.specs.declared.part.Part.TheVariants.{Missing}
+use Rattle.storage_builder.specs.Handed.{HoldsPart}
+use Rattle.kernel_steps.specs.Store.{count_of}
+use Rattle.kernel_stores.specs.Results.{IsLeft, summed}
+use Rattle.kernel_stores.specs.Stores.{Store, AreHeld}
+use Rattle.kernel_machine.specs.declared.refusal.RunRefusal.{RunRefusal}
+use Rattle.kernel_machine.specs.declared.refusal.RunRefusal.TheVariants.{SizeLimit, Memory}
+
+-- the turns that a run may make in all
+unfoldable pub most_turns : ℕ
+most_turns = 2 ^ 64 - 1
+
+-- what arrays have of a level of the result that is to be handed over; of a dense level there is nothing
+abbrev pub LeftPart : Letter → ℕ → Part → Arrays → Type 0
+LeftPart Dense level part a = Unit {0}
+LeftPart letter level part a = HoldsPart letter 0 0 level part a
+
+-- the kernel finishes on the given arrays after these turns, and the tensor has what it leaves of the result
+pub record HasRun (a : Arithmetic) (kernel : Kernel) (store : Store) (given : Arrays) (tensor : Storage) (turns : Turns) : Type 0 where
+  pub arrays : Arrays
+  pub ends : go a (length store.format) kernel given most_turns ≡ Finished arrays (count_of turns)
+  pub format_is : tensor.format ≡ store.format
+  pub is_left : IsLeft store arrays tensor.levels tensor.values
+
+-- the growth of an array of the result or of a workspace is refused; or memory is wanted
+abbrev pub IsRunRefusal : Arithmetic → Kernel → Store → Arrays → RunRefusal → Type 0
+IsRunRefusal a kernel store given Memory = Unit {0}
+IsRunRefusal a kernel store given (SizeLimit place count) = go a (length store.format) kernel given most_turns ≡ TooLong place count
+
+-- nothing was handed over of any level
+abbrev pub IsUntouched : Building → Type 0
+IsUntouched b = (i : ℕ) → i < length b.format → slice_get b.parts i ≡ Some Missing
+
+-- each level was handed over as arrays had it, and arrays that are no level's stand as before
+pub record WasHanded (old : Building) (before : Arrays) (new : Building) (after : Arrays) : Type 0 where
+  pub format : new.format ≡ old.format
+  pub sizes : new.sizes ≡ old.sizes
+  pub long : length new.parts ≡ length old.parts
+  pub handed : (i : ℕ) (letter : Letter) (part : Part) → i < length old.format → slice_get (letters_of old.format) i ≡ Some letter
+      → slice_get new.parts i ≡ Some part → LeftPart letter (suc i) part before
+  pub others : (x : Arr) → ((k : ℕ) → IsOf 0 k x → ⊥) → after x ≡ before x
+
+-- a tensor has the levels and the values that arrays have of the result
+pub record IsMadeFrom (format : List FormatLevel) (arrays : Arrays) (t : Storage) : Type 0 where
+  pub format_is : t.format ≡ format
+  pub held : AreHeld t.levels 0 1 (summed arrays)
+  pub values : arrays (Values 0) ≡ Some t.values

@@ -1,0 +1,15 @@
+//! `Prepared`: a kernel that is ready to run.
+use kernel_code::Kernel;
+use kernel_steps::Machine;
+use std::alloc::Global;
+use storage_builder::Builder;
+
+/// A kernel that is ready to run on operands, with the arrays of its result begun.
+#[derive(Drop)]
+pub struct Prepared<'a> {
+    pub(crate) alloc: Global,
+    pub(crate) kernel: &'a Kernel,
+    pub(crate) order: usize,
+    pub(crate) machine: Machine<'a>,
+    pub(crate) builder: Builder,
+}

@@ -1,0 +1,126 @@
+//! Runs of kernels that stand ready.
+ghost use Rattle.std.specs.Prelude.{◌≡◌, ◌∷◌, [], ◌<◌, ◌≤◌, ℕ, IfOk, MatchResult, length, replicate, slice_get, Some, true};
+ghost use Rattle.kernel_code.specs.declared.syntax.Arr.{Arr};
+ghost use Rattle.kernel_code.specs.Kernels.{place_of};
+ghost use Rattle.level_core.specs.Meaning.{Arrays};
+ghost use Rattle.storage_builder.specs.Building.{building};
+ghost use Rattle.storage_builder.specs.declared.part.Part.TheVariants.{Missing};
+ghost use Rattle.kernel_steps.specs.Store.{state_of};
+ghost use Rattle.kernel_stores.specs.Kernels.{IsSoundOn};
+ghost use Rattle.kernel_stores.specs.Results.{LeavesStorage, IsLeft};
+ghost use Rattle.kernel_stores.specs.Stores.{Store, result_sizes};
+ghost use Rattle.kernel_machine.specs.Begins.{IsReadyFor};
+ghost use Rattle.kernel_machine.specs.Runs.{most_turns, HasRun, IsRunRefusal, WasHanded, IsUntouched, IsMadeFrom};
+
+use crate::handing::{give_part, taken_part};
+use crate::prepared::Prepared;
+use crate::refusal::RunRefusal;
+use kernel_code::{Arr, Place, Turns};
+use kernel_steps::{Ending, Machine, run_statements};
+use numbers::Semiring;
+use std::alloc::{AllocError, Global};
+use storage_builder::Builder;
+use tensor_storage::Tensor;
+
+/// The turns that a run may make in all.
+#[tactic(auto, unfolding(crate::specs::Runs::most_turns))]
+fn most_turns() -> u64
+    ensures { result ≡ most_turns }
+{
+    u64::MAX
+}
+
+/// Where an array that grew too long stands.
+fn place_of(order: usize, a: Arr) -> Place
+    ensures { result ≡ place_of order a }
+{
+    match a {
+        Arr::Values(_) => Place::Level(order),
+        Arr::Ends(_, level)
+        | Arr::Coordinates(_, level)
+        | Arr::Width(_, level)
+        | Arr::Dimension(_, level) => Place::Level(level as usize),
+        Arr::Range => Place::Level(0),
+        Arr::Key(_, _) | Arr::Sums(_) | Arr::ListCoordinates(_) | Arr::ListPositions(_) => {
+            Place::Workspace
+        }
+    }
+}
+
+/// Hands over the arrays of each level. It answers whether all were there.
+fn hand_over(machine: &mut Machine, builder: &mut Builder, alloc: Global, order: usize) -> bool
+    requires order { order ≡ length builder.old.format }
+    requires missing { IsUntouched builder.old }
+    ensures { result ≡ true → WasHanded builder.old (state_of machine.old).arrays builder.new (state_of machine.new).arrays }
+{
+    for number in 0..order {
+        let letter = builder.letter(number + 1);
+        let Some(part) = taken_part(machine, alloc, letter, number as u64 + 1) else {
+            return false;
+        };
+        give_part(builder, number + 1, part);
+    }
+    true
+}
+
+/// The tensor that the arrays of the result make.
+fn made_tensor(
+    alloc: Global,
+    mut machine: Machine,
+    mut builder: Builder,
+    order: usize,
+) -> Result<Tensor, AllocError>
+    requires order { order ≡ length builder.format }
+    requires left { (nothing : ℕ) × (store : Store) × LeavesStorage nothing store (state_of machine).arrays
+        × (builder ≡ building store.format (result_sizes store) (replicate (length store.format) Missing)) }
+    ensures { IfOk result (λ t. IsMadeFrom builder.format (state_of machine.entry).arrays t) }
+{
+    if !hand_over(&mut machine, &mut builder, alloc, order) {
+        return Err(AllocError);
+    }
+    let Some(values) = machine.take_array(Arr::Values(0)) else {
+        return Err(AllocError);
+    };
+    builder.finish(values)
+}
+
+/// Runs a kernel that is sound on the store on which it stands ready. It answers the result and the turns that the loops made, exactly
+/// where the kernel's meaning finishes so within 2^64 - 1 turns; or the growth that it is refused, exactly where the meaning is; or it
+/// wants memory, also where there would be more turns.
+pub fn run<S: Semiring>(prepared: Prepared) -> Result<(Tensor, Turns), RunRefusal>
+    requires { (store : Store) × IsReadyFor S.arithmetic prepared.kernel.now store prepared
+        × IsSoundOn S.arithmetic prepared.kernel.now store }
+    ensures { (store : Store) → (ready : IsReadyFor S.arithmetic prepared.entry.kernel.now store prepared.entry) → MatchResult result
+        (λ r. HasRun S.arithmetic prepared.entry.kernel.now store ready.starts.given r.0 r.1)
+        (IsRunRefusal S.arithmetic prepared.entry.kernel.now store ready.starts.given) }
+{
+    let Prepared {
+        alloc,
+        kernel,
+        order,
+        mut machine,
+        builder,
+    } = prepared;
+    let Ok(ending) = run_statements::<S>(
+        &mut machine,
+        kernel.body.as_slice(),
+        kernel.workspaces.as_slice(),
+        most_turns(),
+    ) else {
+        return Err(RunRefusal::Memory);
+    };
+    match ending {
+        Ending::Ended => {
+            let turns = machine.turns();
+            match made_tensor(alloc, machine, builder, order) {
+                Ok(tensor) => Ok((tensor, turns)),
+                Err(_) => Err(RunRefusal::Memory),
+            }
+        }
+        Ending::Over { array, count } => {
+            let place = place_of(order, array);
+            Err(RunRefusal::SizeLimit { place, count })
+        }
+        Ending::Stuck | Ending::More => Err(RunRefusal::Memory),
+    }
+}
