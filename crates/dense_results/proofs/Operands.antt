@@ -206,7 +206,7 @@ module _ (s : Statement) (formats : List (List FormatLevel)) (store : Store) (r 
       by None (suc p) = omega arith
       by (Some access) p = words_small access.tensor p
 
-  has_storages : (a : Arithmetic) → Each (HasStorage a formats (operand_of store) (told_by a store)) s.accesses
+  pub has_storages : (a : Arithmetic) → Each (HasStorage a formats (operand_of store) (told_by a store)) s.accesses
   has_storages a = each_from (HasStorage a formats (operand_of store) (told_by a store)) s.accesses at
     where
       at : (k : ℕ) (access : Access) → slice_get s.accesses k ≡ Some access
