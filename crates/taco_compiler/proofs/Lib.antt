@@ -1,0 +1,3 @@
+pub mod DenseKernels
+pub mod Fits
+pub mod Words

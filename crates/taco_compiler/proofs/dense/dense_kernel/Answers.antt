@@ -1,0 +1,46 @@
+use Rattle.std.specs.Prelude.{length}
+use Rattle.std.proofs.Common.{◌∙◌, sym, ap, subst}
+use Rattle.format_spec.specs.Formats.{modes_of}
+use Rattle.iteration_graph.specs.Edges.{format_of}
+use Rattle.concrete_notation.specs.Workspaces.{AreAllDense}
+use Rattle.kernel_emit.specs.Emitted.{AddsLoops}
+use Rattle.kernel_emit.specs.Given.{PlacesFit}
+use Rattle.term_code.specs.DenseSinks.{dense_sink}
+use Rattle.taco_compiler.proofs.DenseKernels.{dense_compiled}
+use Rattle.taco_compiler.proofs.Fits.{loops_fit, places_fit}
+use Rattle.taco_compiler.proofs.dense.dense_kernel.Goals as goal
+
+pub emit-requires-clause-places : goal.emit-requires-clause-places
+emit-requires-clause-places g c =
+    let s = c.args.statement.now in
+    let formats = c.args.formats.now in
+    let modes = c.in_ok-sink.sink.modes in
+    let places = c.in_ok-places.places in
+    subst (λ target. PlacesFit s formats places target (length modes) 3) (sym c.as_slice-target.ensures)
+    (places_fit s formats places modes c.requires.numbered c.requires.named c.requires.left c.requires.right
+    c.in_ok-places.ensures.variables c.in_ok-places.ensures.accesses c.in_ok-sink.ensures)
+
+pub emit-requires-clause-loops : goal.emit-requires-clause-loops
+emit-requires-clause-loops g c =
+    loops_fit g.S.Semiring.has_minus c.args.statement.now c.args.formats.now c.args.order.now c.in_ok-loops.loops c.requires.numbered
+    c.requires.meant c.in_ok-loops.ensures
+
+pub returns : goal.returns
+returns g c =
+    let s = c.args.statement.now in
+    let formats = c.args.formats.now in
+    let sink = c.in_ok-sink.sink in
+    let places = c.in_ok-places.places in
+    let loops = c.in_ok-loops.loops in
+    let result = c.requires.named.result in
+    dense_compiled g.S.Semiring.arithmetic g.met.S.Semiring.laws s formats (record {
+      numbered = c.requires.numbered;
+      named = c.requires.named;
+      left = c.requires.left;
+      read = c.requires.right;
+      dense = subst (λ t. AreAllDense (format_of formats t)) result c.requires.dense;
+    }) c.args.order.now loops c.in_ok-loops.ensures sink (c.in_ok-sink.ensures ∙ ap (λ t. modes_of (format_of formats t)) result) places
+    c.in_ok-places.ensures.accesses c.in_ok-body.body c.in_ok-code.code c.in_ok-body.ensures 3
+    (subst (λ target. AddsLoops g.S.Semiring.arithmetic dense_sink sink s formats places target loops 3 c.in_ok-code.code)
+    c.as_slice-target.ensures c.in_ok-code.ensures)
+    (record { workspaces = c.new.result; lists = 0; body = c.append.new.self }) c.in_ok-append.ensures.ok

@@ -1,0 +1,21 @@
+use kernel_code::Kernel;
+use std::alloc::AllocError;
+use trees::Items;
+
+/// A kernel, and the order of its loops: the variables by their numbers, that of the outermost loop first.
+#[derive(Debug, Drop)]
+pub struct Compiled {
+    pub kernel: Kernel,
+    pub order: Items<usize>,
+}
+
+/// Why there is no kernel.
+#[derive(Debug, Drop)]
+pub enum CompileFault {
+    /// No loop order respects the storage order of every tensor: these variables wait for one another in a cycle.
+    Cycle(Items<usize>),
+    /// The result's format has a level that isn't dense.
+    NotBuilt,
+    /// Want of memory.
+    Memory(AllocError),
+}

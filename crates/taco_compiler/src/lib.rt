@@ -1,0 +1,12 @@
+//! From a statement and the storage formats of its tensors to a kernel: the order of its loops, its concrete notation, the loops over
+//! levels, and their code. `specs/Compiled.antt` says what is promised of the kernel, by what it leaves and how often its loops turn;
+//! it names no loop and no code.
+#![tactic(auto)]
+
+mod compiled;
+mod compiling;
+mod dense;
+mod lowered;
+
+pub use compiled::{CompileFault, Compiled};
+pub use compiling::compile;
