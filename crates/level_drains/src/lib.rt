@@ -1,0 +1,7 @@
+//! The levels of a kernel's result, filled from the sorted rows of a workspace, one below another. `specs/Drained.antt` says what arrays
+//! hold after each level.
+#![tactic(auto)]
+
+mod tests_of_rows;
+
+pub use tests_of_rows::begins_by_keys;
