@@ -7,3 +7,4 @@ pub mod Appended
 pub mod Inserted
 pub mod HashedCode
 pub mod DenseCode
+pub mod Codes
