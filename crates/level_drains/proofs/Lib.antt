@@ -4,3 +4,7 @@ pub mod Holding
 pub mod Turns
 pub mod Steps
 pub mod Appended
+pub mod Inserted
+pub mod HashedCode
+pub mod DenseCode
+pub mod Codes

@@ -52,7 +52,7 @@ module _ (letters rest : List Letter) (letter : Letter) (w g d n : ℕ) (count :
   sizes_left : drop d sizes ≡ size_here ∷ drop (suc d) sizes
   sizes_left = drop_is sizes d sized
 
-  small : size_here ≤ greatest_position_count
+  pub small : size_here ≤ greatest_position_count
   small = may.small d 0 sized
 
   below_here : (i : ℕ) → i < table.count → table.coords d i < size_here
@@ -67,7 +67,7 @@ module _ (letters rest : List Letter) (letter : Letter) (w g d n : ℕ) (count :
   pub few_words : table.count < 2 ^ 63
   few_words = let f = few_rows in let l = positions_are_small in omega (arith, f, l)
 
-  starts_here : StartsBelow nothing (letter ∷ rest) (size_here ∷ drop (suc d) sizes) dr.starts (suc d) s.arrays
+  pub starts_here : StartsBelow nothing (letter ∷ rest) (size_here ∷ drop (suc d) sizes) dr.starts (suc d) s.arrays
   starts_here =
       subst (λ ks. StartsBelow nothing ks (size_here ∷ drop (suc d) sizes) dr.starts (suc d) s.arrays) left
       (subst (λ ns. StartsBelow nothing (drop d letters) ns dr.starts (suc d) s.arrays) sizes_left dr.below)

@@ -17,6 +17,7 @@ use Rattle.level_core.specs.Meaning.{Arrays}
 use Rattle.level_rows.specs.Draining.{Stays}
 use Rattle.level_rows.specs.Tables.{Increase}
 use Rattle.tensor_storage.specs.declared.level.StorageLevel.{StorageLevel}
+use Rattle.tensor_storage.specs.Chains.{chain_length}
 use Rattle.tensor_storage.specs.Counts.{positions_from}
 use Rattle.tensor_storage.specs.Levels.{meaning}
 use Rattle.tensor_storage.specs.Packed.{ArePacked}
@@ -94,3 +95,9 @@ DrainsLevel letters d w g base count code =
     (c : Setting) (nothing : ℕ) (sizes : List ℕ) (table : Table) → MayDrain letters sizes table
     → (s : State) → AreDrained nothing letters sizes table w g d count s
     → Does c code s (LeavesLevel nothing letters sizes table w g d base s) (RefusesLevel letters sizes table d s)
+
+-- the code is that of a level of this kind, whatever stands above and below it, where its chain ends with the level of number `through`
+abbrev pub DrainsOf : Letter → ℕ → ℕ → ℕ → ℕ → ℕ → KExpr → List KStmt → Type 0
+DrainsOf letter level through w g base count code =
+    (letters rest : List Letter) (d : ℕ) → level ≡ suc d → drop d letters ≡ letter ∷ rest → through ≡ d + chain_length (letter ∷ rest)
+    → DrainsLevel letters d w g base count code

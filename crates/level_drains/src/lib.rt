@@ -2,6 +2,8 @@
 //! hold after each level.
 #![tactic(auto)]
 
+mod levels;
 mod tests_of_rows;
 
+pub use levels::drain_level;
 pub use tests_of_rows::begins_by_keys;
