@@ -8,3 +8,4 @@ pub mod Inserted
 pub mod HashedCode
 pub mod DenseCode
 pub mod Codes
+pub mod AllLevels

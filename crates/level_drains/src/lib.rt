@@ -2,8 +2,10 @@
 //! hold after each level.
 #![tactic(auto)]
 
+mod drains;
 mod levels;
 mod tests_of_rows;
 
+pub use drains::drain_levels;
 pub use levels::drain_level;
 pub use tests_of_rows::begins_by_keys;

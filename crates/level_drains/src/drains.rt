@@ -1,0 +1,59 @@
+ghost use Rattle.std.specs.Prelude.{◌≡◌, ◌≤◌, ◌<◌, ◌+◌, ◌^◌, length, drop, IfOk};
+ghost use Rattle.format_spec.specs.Formats.{letters_of, IsFormat};
+ghost use Rattle.tensor_storage.specs.Chains.{chain_length};
+ghost use Rattle.level_drains.specs.Levels.{DrainsFirst};
+
+use crate::levels::drain_level;
+use format_spec::FormatLevel;
+use kernel_code::{KExpr, KStmt, one_statement};
+use level_core::props_of;
+use level_rows::DrainSite;
+use std::alloc::{AllocError, Global};
+use trees::Items;
+
+/// Where the chain of levels with groups ends that a level stands in: the number of levels through the first unique one from
+/// there on.
+fn chain_end(format: &[FormatLevel], level: usize) -> usize
+    requires { level < length format.now }
+    ensures { result ≡ level + chain_length (drop level (letters_of format.now)) }
+{
+    let mut end = level;
+    while end < format.len() {
+        if props_of(format[end].letter).unique {
+            return end + 1;
+        }
+        end += 1;
+    }
+    end + 1
+}
+
+/// Code that fills all levels of a kernel's result, of this format, from the rows of a workspace, which increase: scratch list `list` has
+/// a zero for each row, and then its position at the last level. The number of positions of the level that stands below k others is
+/// left in the variable `base + k + 1`; those from `base` on are its own. Refused for want of memory alone.
+pub fn drain_levels(
+    alloc: Global,
+    format: &[FormatLevel],
+    workspace: u64,
+    list: u64,
+    base: u64,
+) -> Result<Items<KStmt>, AllocError>
+    requires format { IsFormat format.now }
+    requires room { base ≤ 2 ^ 60 }
+    ensures { IfOk result (DrainsFirst (letters_of format.now) (length format.now) workspace list base) }
+{
+    let mut code = one_statement(alloc, KStmt::Set(base, KExpr::Num(1)))?;
+    for above in 0..format.len() {
+        let place = base + above as u64 + 1;
+        let at = DrainSite {
+            level: above as u64 + 1,
+            base: place,
+            workspace,
+            list,
+        };
+        let through = chain_end(format, above) as u64;
+        let count = KExpr::Var(base + above as u64);
+        let level = drain_level(alloc, format[above].letter, at, through, count)?;
+        code.append(level)?;
+    }
+    Ok(code)
+}
