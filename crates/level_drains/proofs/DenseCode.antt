@@ -110,11 +110,17 @@ module _ (letters rest : List Letter) (w g d n base : ℕ) (count : KExpr) (inse
           (λ t. ⊥) _ _ (less_yes (Num greatest_position_count) (Var base) greatest_position_count total then refl (this_var s base total) above)
           (does_extend c (Values 0) (Var base) (Num 0) [] then total 0 [] (λ t. ⊥) (RefusesLevel letters sizes table d s)
           (this_var s base total) refl refl dr.values (λ may. too_many may)
-          (λ no. (0, ((λ k. omega arith), record {
-            array = inr refl;
-            above = counted_above total (word_count (0 + total)) none_more above;
-            within = at_most;
-          }))))
+          (λ no. (
+            0,
+            (
+              (λ k. omega arith),
+              record {
+                array = inr refl;
+                above = counted_above total (word_count (0 + total)) none_more above;
+                within = at_most;
+              },
+            ),
+          )))
           (λ t never. absurd never)
         where
           too_many : {A : Type 0} → may_have (Values 0) (length {A = ℕ} [] + total) ≡ true → A

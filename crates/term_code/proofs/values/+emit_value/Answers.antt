@@ -170,7 +170,7 @@ returns-in_ok-code-in-Add g t c = λ these stand.
     (free + 2) c.in_ok-y-in-Add.y) c.get-in-Add.ensures (c.in_ok-y-in-Add.ensures these
     (second_added (λ k. these k ≡ true) c.args.expr.now e f c.get-in-Add.result.now c.in-Add.is c.get-in-Add.ensures stand)) in
     subst (λ whole. LeavesOption a places these (λ stored env. present_value a (access_values stored env) whole) free
-        c.in_ok-code-in-Add.code)
+    c.in_ok-code-in-Add.code)
     (sym c.in-Add.is)
     (subst (LeavesOption a places these (λ stored env. present_value a (access_values stored env) (Add e f)) free)
     (sym c.in_ok-code-in-Add.ensures)
@@ -194,7 +194,7 @@ returns-in_ok-code-in-Sub g t c = λ these stand.
     (free + 2) c.in_ok-y-in-Sub.y) c.get-in-Sub-2.ensures (c.in_ok-y-in-Sub.ensures these
     (second_subtracted (λ k. these k ≡ true) c.args.expr.now e f c.get-in-Sub-2.result.now c.in-Sub.is c.get-in-Sub-2.ensures stand)) in
     subst (λ whole. LeavesOption a places these (λ stored env. present_value a (access_values stored env) whole) free
-        c.in_ok-code-in-Sub.code)
+    c.in_ok-code-in-Sub.code)
     (sym c.in-Sub.is)
     (subst (LeavesOption a places these (λ stored env. present_value a (access_values stored env) (Sub e f)) free)
     (sym c.in_ok-code-in-Sub.ensures)
@@ -222,7 +222,7 @@ returns-in_ok-code-in-Mul g t c = λ these stand.
     (free + 2) c.in_ok-y-in-Mul.y) c.get-in-Mul-2.ensures (c.in_ok-y-in-Mul.ensures these
     (second_factor (λ k. these k ≡ true) c.args.expr.now e f c.get-in-Mul-2.result.now c.in-Mul.is c.get-in-Mul-2.ensures stand)) in
     subst (λ whole. LeavesOption a places these (λ stored env. present_value a (access_values stored env) whole) free
-        c.in_ok-code-in-Mul.code)
+    c.in_ok-code-in-Mul.code)
     (sym c.in-Mul.is)
     (subst (LeavesOption a places these (λ stored env. present_value a (access_values stored env) (Mul e f)) free)
     (sym c.in_ok-code-in-Mul.ensures)
@@ -242,10 +242,10 @@ returns-in_ok-code-in-Neg g t c = λ these stand.
     c.get-in-Neg.ensures (c.in_ok-x-in-Neg.ensures these
     (negated_part (λ k. these k ≡ true) c.args.expr.now e c.get-in-Neg.result.now c.in-Neg.is c.get-in-Neg.ensures stand)) in
     subst (λ whole. LeavesOption a places these (λ stored env. present_value a (access_values stored env) whole) free
-        c.in_ok-code-in-Neg.code)
+    c.in_ok-code-in-Neg.code)
     (sym c.in-Neg.is)
     (subst (LeavesOption a places these (λ stored env. present_value a (access_values stored env) (Neg e)) free)
-        (sym c.in_ok-code-in-Neg.ensures)
+    (sym c.in_ok-code-in-Neg.ensures)
     (leaves_same a places these free (λ stored env. each (minus a) (present_value a (access_values stored env) e))
     (λ stored env. present_value a (access_values stored env) (Neg e)) _ (λ stored env. sym (value_neg a (access_values stored env) e))
     (negated_leaves a places these free (λ stored env. present_value a (access_values stored env) e) c.in_ok-x-in-Neg.x one)))
@@ -256,7 +256,7 @@ returns-in_ok-code-in-Num g t c = λ these stand.
     let places = c.args.places.now in
     let free = c.args.free in
     subst (λ whole. LeavesOption a places these (λ stored env. present_value a (access_values stored env) whole) free
-        c.in_ok-code-in-Num.code)
+    c.in_ok-code-in-Num.code)
     (sym c.in-Num.is)
     (subst (LeavesOption a places these (λ stored env. Some c.in-Num.n) free) (sym c.in_ok-code-in-Num.ensures)
     (number_leaves a places these c.in-Num.n free))
