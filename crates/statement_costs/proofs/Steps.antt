@@ -13,7 +13,8 @@ use Rattle.concrete_notation.specs.Nests.{Nest}
 use Rattle.loop_code.specs.declared.loops.LoopCode.{LoopCode}
 use Rattle.loop_code.specs.declared.loops.Seek.{Seek}
 use Rattle.loop_code.specs.Loops.{Stored, Env, at_variable, found, moved}
-use Rattle.loop_code.specs.Parts.{entries_at, entries_of, here, is_full, is_full_below, is_iterator, is_live, is_other, is_some, only, pruned}
+use Rattle.loop_code.specs.Parts.{entries_at, entries_of, here, is_full, is_full_below, is_iterator, is_live, is_other, is_some, only}
+use Rattle.loop_code.specs.Parts.{pruned}
 use Rattle.loop_code.specs.Parts.{remains, remains_below}
 use Rattle.loop_code.specs.Places.{AreSeeks, depth_after}
 use Rattle.loop_code.specs.Turns.{lengths, repeated, repeats, weight_of}
@@ -48,7 +49,8 @@ module _ (s : Statement) (formats : List (List FormatLevel)) (stored : Stored) w
     pub below : Each (λ (x : Seek). uses (concrete_of body) x.access ≡ true) seeks
     pub outer : AreReached s formats bound depth (concrete_of body)
     pub inner : AreReached s formats (v ∷ bound) (depth_after seeks depth) (concrete_of body)
-    pub cursor : (k : ℕ) → env.cursor k ≡ (if in_part bound env.point (nests_of body) k then at s formats stored bound env.point k else None)
+    pub cursor : (k : ℕ) → env.cursor k
+        ≡ (if in_part bound env.point (nests_of body) k then at s formats stored bound env.point k else None)
 
   some_of : (b : Bool) (o : Option Span) → is_some (if b then o else None) ≡ true → is_some o ≡ true
   some_of true o h = h
@@ -102,7 +104,8 @@ module _ (s : Statement) (formats : List (List FormatLevel)) (stored : Stored) w
         ∙ by (live x.access)
       where
         by : (b : Bool)
-            → entries_of stored (if b then at s formats stored bound env.point x.access else None) x.access (next_level s formats bound x.access)
+            → entries_of stored (if b then at s formats stored bound env.point x.access else None) x.access
+            (next_level s formats bound x.access)
             ≡ (if b then segment s formats stored bound env.point x.access else [])
         by true = refl
         by false = refl

@@ -92,7 +92,8 @@ module _ (s : Statement) (formats : List (List FormatLevel)) (bound : List ℕ) 
 -- a test of loops that holds where it holds of some term
 module _ (test : LoopCode → Bool) (of : Expr → Bool)
     (loop : (v : ℕ) (seeks : List Seek) (body : LoopCode) → test (Loop v seeks body) ≡ test body)
-    (both : (f g : LoopCode) → test (Both f g) ≡ (test f || test g)) (add : (t : Term) → test (Add t) ≡ some_term of (nests_of (Add t))) where
+    (both : (f g : LoopCode) → test (Both f g) ≡ (test f || test g)) (add : (t : Term)
+    → test (Add t) ≡ some_term of (nests_of (Add t))) where
   pub of_terms : (c : LoopCode) → test c ≡ some_term of (nests_of c)
   of_terms = by_parts (λ c. test c ≡ some_term of (nests_of c))
       (λ v seeks body more. loop v seeks body ∙ more ∙ sym (ap (some_term of) (nests_loop v seeks body) ∙ some_inside of v (nests_of body)))

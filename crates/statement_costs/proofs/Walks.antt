@@ -105,7 +105,8 @@ module _ (layout : Layout) (stored : Stored) where
       → AreAt L (depth_after seeks depth) point (found layout stored seeks env)
   found_at count v bound above L point depth [] env are h = h
   found_at count v bound above L point depth (x ∷ seeks) env are h =
-      found_at count v bound above L point (deeper depth x.access) seeks (at_cursor env x.access (sought layout stored env x.access x.level))
+      found_at count v bound above L point (deeper depth x.access) seeks
+      (at_cursor env x.access (sought layout stored env x.access x.level))
       are.1
       (level_at L depth point env x.access x.level are.0.next h)
 

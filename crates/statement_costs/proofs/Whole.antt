@@ -1,5 +1,6 @@
 -- All loops of a statement count no more than its groups.
-use Rattle.std.specs.Prelude.{◌≡◌, ℕ, zero, suc, ◌≤◌, ◌<◌, not, Bool, ◌||◌, ◌&&◌, if◌then◌else◌, List, [], ◌∷◌, length, map, refl, slice_index_or}
+use Rattle.std.specs.Prelude.{◌≡◌, ℕ, zero, suc, ◌≤◌, ◌<◌, not, Bool, ◌||◌, ◌&&◌, if◌then◌else◌, List, [], ◌∷◌, length, map, refl}
+use Rattle.std.specs.Prelude.{slice_index_or}
 use Rattle.std.specs.List.{All}
 use Rattle.std.specs.List.Sorted.{IsPermutation}
 use Rattle.std.proofs.Common.{◌∙◌, sym, ap, subst, arith, inl}
@@ -74,7 +75,8 @@ module _ (s : Statement) (formats : List (List FormatLevel)) (stored : Stored) (
         (all_each (λ (n : Nest). IsAlong in_order.order n.loops) (nests c)
         (All-permutation (λ (n : Nest). IsAlong in_order.order n.loops) (map (nest_of s in_order.order) (terms s.expr)) (nests c)
         in_order.terms
-        (each_all (λ (n : Nest). IsAlong in_order.order n.loops) (map (nest_of s in_order.order) (terms s.expr)) (each_term (terms s.expr)))))
+        (each_all (λ (n : Nest). IsAlong in_order.order n.loops) (map (nest_of s in_order.order) (terms s.expr))
+        (each_term (terms s.expr)))))
       where
         each_term : (ts : List Term) → Each (λ (n : Nest). IsAlong in_order.order n.loops) (map (nest_of s in_order.order) ts)
         each_term [] = tt
@@ -112,5 +114,6 @@ module _ (s : Statement) (formats : List (List FormatLevel)) (stored : Stored) (
             ≡ total s formats stored ranges number in_order.order (map (nest_of s in_order.order) (terms s.expr)) [] (λ v. 0)
         same =
             ap (λ ns. total s formats stored ranges number in_order.order ns [] (λ v. 0)) nests_are
-            ∙ sym (total_same s formats stored ranges number numbers in_order.order (map (nest_of s in_order.order) (terms s.expr)) (nests c)
+            ∙ sym (total_same s formats stored ranges number numbers in_order.order (map (nest_of s in_order.order) (terms s.expr))
+            (nests c)
             (permutation_same (map (nest_of s in_order.order) (terms s.expr)) (nests c) in_order.terms) [] (λ v. 0))

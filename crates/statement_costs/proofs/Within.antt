@@ -139,7 +139,8 @@ module _ (s : Statement) (formats : List (List FormatLevel)) (stored : Stored) (
         shares = shares.1;
         along = each_first (λ (n : Nest). IsAlong order n.loops) (nests_of f) (nests_of g) along;
         inside = inside_part bound (nests_of f) (nests_of (Both f g)) env b.inside (λ k h. both_part k
-            (or_left (in_part s formats stored bound env.point (nests_of f) k) (in_part s formats stored bound env.point (nests_of g) k) h));
+            (or_left (in_part s formats stored bound env.point (nests_of f) k)
+            (in_part s formats stored bound env.point (nests_of g) k) h));
       }) in
       let second = two bound depth order env (record {
         placed = placed.1;
@@ -149,7 +150,8 @@ module _ (s : Statement) (formats : List (List FormatLevel)) (stored : Stored) (
         shares = shares.2;
         along = each_second (λ (n : Nest). IsAlong order n.loops) (nests_of f) (nests_of g) along;
         inside = inside_part bound (nests_of g) (nests_of (Both f g)) env b.inside (λ k h. both_part k
-            (or_right (in_part s formats stored bound env.point (nests_of f) k) (in_part s formats stored bound env.point (nests_of g) k) h));
+            (or_right (in_part s formats stored bound env.point (nests_of f) k)
+            (in_part s formats stored bound env.point (nests_of g) k) h));
       }) in
       let sums = counts.both f g env in
       let totals = total_both s formats stored ranges number order (nests_of f) (nests_of g) (λ v. apart v shares.0) bound env.point in

@@ -128,7 +128,8 @@ module _ (a : Arithmetic) (laws : Laws a) (s : Statement) (formats : List (List 
         (λ bound depth v seeks body env step. length_most s formats stored bound depth v seeks body env step groups ranges)
         (length_same s formats stored ranges) in
         subst (λ held. merge_turns (layout_of s formats) held ranges loops start ≤ statement_cost s formats order stored ranges)
-        (sym same_stored) (through (merge_turns (layout_of s formats) stored ranges loops start) (cost (layout_of s formats) stored ranges loops start)
+        (sym same_stored) (through (merge_turns (layout_of s formats) stored ranges loops start)
+        (cost (layout_of s formats) stored ranges loops start)
         (statement_cost s formats order stored ranges) turns costs)
 
     skips_most : skip_turns (layout_of s formats) (stored_in (operands_in s store)) (slice_index store.ranges) loops start
@@ -143,7 +144,8 @@ module _ (a : Arithmetic) (laws : Laws a) (s : Statement) (formats : List (List 
         (λ bound depth v seeks body env step. repeats_most s formats stored bound depth v seeks body env step ranges)
         (repeats_same s formats stored ranges) in
         subst (λ held. skip_turns (layout_of s formats) held ranges loops start ≤ statement_repeats s formats order stored ranges)
-        (sym same_stored) (through (skip_turns (layout_of s formats) stored ranges loops start) (dups (layout_of s formats) stored ranges loops start)
+        (sym same_stored) (through (skip_turns (layout_of s formats) stored ranges loops start)
+        (dups (layout_of s formats) stored ranges loops start)
         (statement_repeats s formats order stored ranges) turns costs)
 
   module _ (k : DenseSink) (modes : k.modes ≡ modes_of (format_of formats 0)) (places : Places) (at : AreAtBase s 0 places)
@@ -208,7 +210,8 @@ module _ (a : Arithmetic) (laws : Laws a) (s : Statement) (formats : List (List 
           let r = read_store store is in
           let same : begin.arrays ≡ t.arrays = λ i b. sym (h.0.arrays b tt) i in
           let given_here = subst (IsGiven a.zero store) same (starts_on_store a.zero store kernel arrays given) in
-          let there = starts_are_tops a k s formats store dense_store r (modes ∙ ap modes_of (sym is.format_is)) 0 places at t given_here h.1 in
+          let there = starts_are_tops a k s formats store dense_store r (modes ∙ ap modes_of (sym is.format_is)) 0 places at t
+          given_here h.1 in
           does_weaker setting code t (λ u. Leaves (dense_sink.mine k) (dense_sink.kept k) free (from_top.most store) t u
           × dense_sink.holds k a (left_ranges s store)
           ([] ++ rows_to a s formats (told_by a store) (stored_in (operands_in s store)) s.left.vars loops) u) AreFew
