@@ -133,7 +133,8 @@ impl<'a> Machine<'a> {
     /// Gives an array of its own that is there other words.
     fn replace(&mut self, a: Arr, words: Segment<u64>)
         requires { may_write a ≡ true }
-        ensures is { (xs : List ℕ) → (state_of self.old).arrays a ≡ Some xs → state_of self.new ≡ set_array (state_of self.old) a words.items }
+        ensures is { (xs : List ℕ) → (state_of self.old).arrays a ≡ Some xs
+            → state_of self.new ≡ set_array (state_of self.old) a words.items }
         ensures turns { self.new.turns ≡ self.old.turns }
     {
         if let Some(place) = self.find(a) {
