@@ -152,12 +152,14 @@ module _ (letters rest : List Letter) (letter : Letter) (w g d n base : ℕ) (co
       needed needed need in
       let upto = r.1.2 in (
         0,
-        ((λ j. counted_at_most (s.turns j) (turns j) rows.count 0 j (r.0 j)),
-        record {
-          array = inl r.1.1.array;
-          above = (counted_above r.1.0 k r.1.1.told r.1.1.above);
-          within = (let c = counted_few r.1.0 k r.1.1.told in omega (arith, c, upto, told));
-        }),
+        (
+          (λ j. counted_at_most (s.turns j) (turns j) rows.count 0 j (r.0 j)),
+          record {
+            array = inl r.1.1.array;
+            above = (counted_above r.1.0 k r.1.1.told r.1.1.above);
+            within = (let c = counted_few r.1.0 k r.1.1.told in omega (arith, c, upto, told));
+          },
+        ),
       )
 
   pub appended : Does c (code ++ Set base (Var (base + 1 + 1)) ∷ []) s (LeavesLevel nothing letters sizes table w g d base s)

@@ -104,14 +104,21 @@ module _ (letters rest : List Letter) (w g d n base : ℕ) (count : KExpr) (inse
           (RefusesLevel letters sizes table d s)
       by_limit (inl above) =
           does_if_yes c (Bin Less (Num greatest_position_count) (Var base)) (Extend (Values 0) (Var base) (Num 0) ∷ []) [] insert then 0
-          (λ t. ⊥) _ _ (less_yes (Num greatest_position_count) (Var base) greatest_position_count total then refl (this_var s base total) above)
+          (λ t. ⊥) _ _ (less_yes (Num greatest_position_count) (Var base) greatest_position_count total
+          then refl (this_var s base total) above)
           (does_extend c (Values 0) (Var base) (Num 0) [] then total 0 [] (λ t. ⊥) (RefusesLevel letters sizes table d s)
           (this_var s base total) refl refl dr.values (λ may. too_many may)
-          (λ no. (0, ((λ k. omega arith), record {
-            array = inr refl;
-            above = counted_above total (word_count (0 + total)) none_more above;
-            within = at_most;
-          }))))
+          (λ no. (
+            0,
+            (
+              (λ k. omega arith),
+              record {
+                array = inr refl;
+                above = counted_above total (word_count (0 + total)) none_more above;
+                within = at_most;
+              },
+            ),
+          )))
           (λ t never. absurd never)
         where
           too_many : {A : Type 0} → may_have (Values 0) (length {A = ℕ} [] + total) ≡ true → A
@@ -133,7 +140,8 @@ module _ (letters rest : List Letter) (w g d n base : ℕ) (count : KExpr) (inse
           (λ t. t ≡ then) _ _
           (less_no (Num greatest_position_count) (Var base) greatest_position_count total then refl (this_var s base total) fits)
           (does_nothing c then _ _ refl)
-          (λ t is. subst (λ u. Does c insert u (LeavesLevel nothing letters sizes table w g d base s) (RefusesLevel letters sizes table d s))
+          (λ t is. subst (λ u. Does c insert u (LeavesLevel nothing letters sizes table w g d base s)
+          (RefusesLevel letters sizes table d s))
           (sym is) (inserts fits))
 
   pub dense : Does c (Set base (Bin Mul count (At (Dimension 0 (suc d)) (Num 0))) ∷ (guard_code base ++ insert)) s

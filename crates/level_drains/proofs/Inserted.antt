@@ -96,7 +96,8 @@ module _ (letters rest : List Letter) (letter : Letter) (w g d n base : ℕ) (co
   pub start : HoldsStart meaning letter size dr.starts 0 (suc d) s.arrays
   start = begun_here letters rest letter w g d n count left through nothing sizes table may s dr
 
-  module _ (greatest : (properties letter).full ≡ false → IsGreatestBelow rows most) (none : (properties letter).full ≡ true → most ≡ 0) where
+  module _ (greatest : (properties letter).full ≡ false → IsGreatestBelow rows most)
+      (none : (properties letter).full ≡ true → most ≡ 0) where
     abbrev pub needed : ℕ
     needed = positions_for (meaning.kind start.start) (meaning.size start.start) dr.parents most
 
@@ -153,56 +154,56 @@ module _ (letters rest : List Letter) (letter : Letter) (w g d n base : ℕ) (co
 
     module _ (total : ℕ) (stands : s.vars base ≡ Some total)
         (counted : positions_for letter size dr.parents most ≤ greatest_position_count → total ≡ positions_for letter size dr.parents most)
-        where
-      after : (t : State) → LeavesPlaced meaning start.start (suc d) g (base + 1) dr.parents most rows s t
-          → AreDrained nothing letters sizes table w g (suc d) (Var base) t
-      after t l =
-          drained_here letters rest letter w g d n count left through nothing sizes table may s dr t (λ a st. l.leaves.arrays a st) l.left
-          l.positions needed (Var base)
-          (packed_here letters rest letter w g d n count left through nothing sizes table may s dr start.start start.kind start.size most
-          needed need l.positions l.left fits fills)
-          fits
-          (l.leaves.below base (omega arith) (λ e. e) ∙ stands
-          ∙ ap Some (counted (let same = needed_is in let f = fits in omega (arith, same, f)) ∙ sym needed_is))
-          (inserted_summed l.left (suc d) t.arrays (ap (λ k. (capabilities k).append) l.inserted.takes.kind ∙ unable) l.held)
-          l.places
-          (let b = begun_within letter size dr.starts dr.parents most dr.begun in let same = needed_is in omega (arith, b, same))
-        where
-          -- each parent's positions are within the limit
-          fits : needed ≤ greatest_position_count
-          fits = by_parents dr.parents refl
-            where
-              by_parents : (p : ℕ) → dr.parents ≡ p → needed ≤ greatest_position_count
-              by_parents zero is =
-                  let empty = ap (λ p. positions_for (meaning.kind start.start) (meaning.size start.start) p most) is
-                  ∙ no_parents (meaning.kind start.start) (meaning.size start.start) most in omega (arith, empty)
-              by_parents (suc q) is =
-                  let stored = l.inserted.takes.stored in
-                  let end = stored.ends q (omega (arith, is)) in
-                  let allowed = laws.parents l.left dr.parents q stored.has_parents (omega (arith, is)) in
-                  let few = (laws.entries l.left (one q) allowed).positions in omega (arith, end, few)
+      where
+        after : (t : State) → LeavesPlaced meaning start.start (suc d) g (base + 1) dr.parents most rows s t
+            → AreDrained nothing letters sizes table w g (suc d) (Var base) t
+        after t l =
+            drained_here letters rest letter w g d n count left through nothing sizes table may s dr t (λ a st. l.leaves.arrays a st) l.left
+            l.positions needed (Var base)
+            (packed_here letters rest letter w g d n count left through nothing sizes table may s dr start.start start.kind start.size most
+            needed need l.positions l.left fits fills)
+            fits
+            (l.leaves.below base (omega arith) (λ e. e) ∙ stands
+            ∙ ap Some (counted (let same = needed_is in let f = fits in omega (arith, same, f)) ∙ sym needed_is))
+            (inserted_summed l.left (suc d) t.arrays (ap (λ k. (capabilities k).append) l.inserted.takes.kind ∙ unable) l.held)
+            l.places
+            (let b = begun_within letter size dr.starts dr.parents most dr.begun in let same = needed_is in omega (arith, b, same))
+          where
+            -- each parent's positions are within the limit
+            fits : needed ≤ greatest_position_count
+            fits = by_parents dr.parents refl
+              where
+                by_parents : (p : ℕ) → dr.parents ≡ p → needed ≤ greatest_position_count
+                by_parents zero is =
+                    let empty = ap (λ p. positions_for (meaning.kind start.start) (meaning.size start.start) p most) is
+                    ∙ no_parents (meaning.kind start.start) (meaning.size start.start) most in omega (arith, empty)
+                by_parents (suc q) is =
+                    let stored = l.inserted.takes.stored in
+                    let end = stored.ends q (omega (arith, is)) in
+                    let allowed = laws.parents l.left dr.parents q stored.has_parents (omega (arith, is)) in
+                    let few = (laws.entries l.left (one q) allowed).positions in omega (arith, end, few)
 
-          fills : FillsRows meaning dr.parents most rows l.positions start.start l.left
-          fills = record { appended = λ is. apart (sym is ∙ unable); inserted = λ no. l.inserted }
+            fills : FillsRows meaning dr.parents most rows l.positions start.start l.left
+            fills = record { appended = λ is. apart (sym is ∙ unable); inserted = λ no. l.inserted }
 
-      -- what the code does
-      pub inserted : value most_is s ≡ Some most → most ≤ greatest_position_count
-          → ((properties letter).full ≡ true → positions_for letter size dr.parents most ≤ greatest_position_count)
-          → Does c code s (λ t. AreDrained nothing letters sizes table w g (suc d) (Var base) t
-          × Leaves NoVariable (Stays (suc d) g) (base + 1) (insert_turns (slot_width most) rows.count) s t)
-          (RefusedWithin (insert_turns (slot_width most) rows.count) s (PassesAt letters sizes table d))
-      inserted is few guarded =
-          does_weaker c code s _ _ _ _
-          (places c start.start start.kind start.keeps rows dr.parents most
-          (record {
-            able = ap (λ k. (capabilities k).insert) start.kind ∙ inserted_able letter able;
-            unprepared = start.width;
-            coordinates = few;
-          })
-          (λ full. let g = guarded (ap (λ k. (properties k).full) (sym start.kind) ∙ full) in let same = needed_is in
-          omega (arith, g, same))
-          may_insert
-          (λ sparse p less. (greatest (ap (λ k. (properties k).full) (sym start.kind) ∙ sparse)).upto p)
-          s start.held (given is))
-          (λ t l. (after t l, l.leaves))
-          (λ turns a k r. (r.0, refused_at a k r.1))
+        -- what the code does
+        pub inserted : value most_is s ≡ Some most → most ≤ greatest_position_count
+            → ((properties letter).full ≡ true → positions_for letter size dr.parents most ≤ greatest_position_count)
+            → Does c code s (λ t. AreDrained nothing letters sizes table w g (suc d) (Var base) t
+            × Leaves NoVariable (Stays (suc d) g) (base + 1) (insert_turns (slot_width most) rows.count) s t)
+            (RefusedWithin (insert_turns (slot_width most) rows.count) s (PassesAt letters sizes table d))
+        inserted is few guarded =
+            does_weaker c code s _ _ _ _
+            (places c start.start start.kind start.keeps rows dr.parents most
+            (record {
+              able = ap (λ k. (capabilities k).insert) start.kind ∙ inserted_able letter able;
+              unprepared = start.width;
+              coordinates = few;
+            })
+            (λ full. let g = guarded (ap (λ k. (properties k).full) (sym start.kind) ∙ full) in let same = needed_is in
+            omega (arith, g, same))
+            may_insert
+            (λ sparse p less. (greatest (ap (λ k. (properties k).full) (sym start.kind) ∙ sparse)).upto p)
+            s start.held (given is))
+            (λ t l. (after t l, l.leaves))
+            (λ turns a k r. (r.0, refused_at a k r.1))

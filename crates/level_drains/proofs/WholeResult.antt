@@ -50,7 +50,8 @@ module _ (format : List FormatLevel) (w g base nothing : ℕ) (code : List KStmt
   up : Increase table.coords (length format) table.count
   up = subst (λ n. Increase table.coords n table.count) (length-map format (λ level. level.letter)) may.order
 
-  module _ (t : State) (l : LeavesLevels nothing (letters_of format) (in_level_order format ranges) table w g (length format) base s t) where
+  module _ (t : State) (l : LeavesLevels nothing (letters_of format) (in_level_order format ranges) table w g (length format) base s
+      t) where
     dr : AreDrained nothing (letters_of format) (in_level_order format ranges) table w g (length format) (Var (base + length format)) t
     dr = l.drained
 
@@ -106,7 +107,8 @@ module _ (format : List FormatLevel) (w g base nothing : ℕ) (code : List KStmt
       (LeavesLevels nothing (letters_of format) (in_level_order format ranges) table w g (length format) base s) _ _
       (first c nothing (in_level_order format ranges) table may s ready) (λ t l. stores t l)
 
-pub whole_drained : (format : List FormatLevel) (w g base nothing place : ℕ) (count : KExpr) (code values all : List KStmt) → IsFormat format
+pub whole_drained : (format : List FormatLevel) (w g base nothing place : ℕ) (count : KExpr) (code values all : List KStmt)
+    → IsFormat format
     → DrainsFirst (letters_of format) (length format) w g base code → place ≡ base + length format + 1
     → count ≡ Var (base + length format) → values ≡ values_code place w g count nothing → all ≡ code ++ values
     → DrainsResult format w g base nothing all
