@@ -1,11 +1,9 @@
 -- Levels are filled one below another.
-use Rattle.std.specs.Prelude.{◌≡◌, ◌≢◌, ℕ, zero, suc, ◌+◌, ◌*◌, ◌≤◌, ◌<◌, List, [], ◌∷◌, ◌++◌, length, map, drop, replicate, Some, refl}
+use Rattle.std.specs.Prelude.{◌≡◌, ℕ, suc, ◌+◌, ◌≤◌, List, [], ◌∷◌, ◌++◌, drop, replicate, refl}
 use Rattle.std.proofs.Common.{◌∙◌, sym, ap, subst, arith}
-use Rattle.std.proofs.lemmas.List.{length-map}
 use Rattle.limits.proofs.Limits.{some_positions}
 use Rattle.kernel_code.specs.Does.{Does}
 use Rattle.kernel_code.proofs.Does.{does_weaker, does_append, does_set, does_nothing}
-use Rattle.kernel_code.specs.Keeps.{Leaves, NoVariable}
 use Rattle.kernel_code.proofs.Keeps.{this_var, other_var}
 use Rattle.kernel_code.specs.Meaning.{Setting, State, set_var}
 use Rattle.kernel_code.specs.declared.syntax.KExpr.{KExpr, Num, Var}
@@ -20,7 +18,7 @@ use Rattle.tensor_storage.specs.Laws.{laws}
 use Rattle.tensor_storage.specs.Levels.{meaning}
 use Rattle.tensor_storage.specs.Tables.{Table}
 use Rattle.tensor_storage.proofs.PackSteps.{none_packed}
-use Rattle.level_drains.specs.Drained.{MayDrain, AreDrained, drain_turns, LeavesLevel, RefusesLevel, DrainsLevel, DrainsOf}
+use Rattle.level_drains.specs.Drained.{MayDrain, AreDrained, drain_turns, LeavesLevel, DrainsOf}
 use Rattle.level_drains.specs.Levels.{IsReady, levels_turns, LeavesLevels, RefusesLevels, DrainsFirst}
 
 none_turns : (before rows : ℕ) (k : LoopKind) → before ≤ before + levels_turns 0 rows 0 k

@@ -1,23 +1,21 @@
 -- The code of a level that is appended to.
-use Rattle.std.specs.Prelude.{◌≡◌, ℕ, suc, ◌+◌, ◌*◌, ◌≤◌, ◌<◌, Bool, true, false, if◌then◌else◌, List, [], ◌∷◌, ◌++◌, drop, slice_index, Some, refl}
+use Rattle.std.specs.Prelude.{◌≡◌, ℕ, suc, ◌+◌, ◌*◌, ◌≤◌, true, false, if◌then◌else◌, List, [], ◌∷◌, ◌++◌, drop, refl}
 use Rattle.std.proofs.Common.{◌∙◌, sym, ap, subst, arith, inl}
 use Rattle.limits.specs.Limits.{greatest_position_count}
-use Rattle.limits.proofs.Limits.{positions_are_small}
-use Rattle.kernel_code.specs.Arrays.{word_count}
 use Rattle.kernel_code.specs.Does.{Does}
 use Rattle.kernel_code.proofs.Does.{does_weaker, does_append, does_set, does_nothing}
 use Rattle.kernel_code.specs.Keeps.{Leaves, NoVariable}
 use Rattle.kernel_code.proofs.Keeps.{this_var, leaves_set}
-use Rattle.kernel_code.specs.Meaning.{Setting, State, set_var, same_kind}
+use Rattle.kernel_code.specs.Meaning.{Setting, State, set_var}
 use Rattle.kernel_code.specs.declared.syntax.Arr.{Arr}
 use Rattle.kernel_code.specs.declared.syntax.Arr.TheVariants.{Key}
 use Rattle.kernel_code.specs.declared.syntax.KExpr.{KExpr, Var, At}
 use Rattle.kernel_code.specs.declared.syntax.KStmt.{KStmt, Set}
 use Rattle.kernel_code.specs.declared.syntax.LoopKind.{LoopKind}
-use Rattle.kernel_code.specs.declared.syntax.LoopKind.TheVariants.{Drain, Probe}
+use Rattle.kernel_code.specs.declared.syntax.LoopKind.TheVariants.{Drain}
 use Rattle.level_core.specs.declared.letter.Letter.{Letter}
 use Rattle.level_core.specs.declared.letter.Letter.TheVariants.{Dense, Compressed, CompressedGroups, Singleton, SingletonGroups, Hashed}
-use Rattle.level_core.specs.Fragments.{PassesLimit, PassesLimitWithin, RefusedWithin, turns_of}
+use Rattle.level_core.specs.Fragments.{PassesLimitWithin, RefusedWithin, turns_of}
 use Rattle.level_core.specs.Kinds.{properties, capabilities}
 use Rattle.level_core.specs.Laws.{HoldsStart, HoldsFinished}
 use Rattle.level_rows.specs.Rows.{Rows, begun, MayAppendRows}
@@ -29,7 +27,7 @@ use Rattle.tensor_storage.specs.Levels.{meaning}
 use Rattle.tensor_storage.specs.Tables.{Table}
 use Rattle.tensor_storage.proofs.Tables.{apart}
 use Rattle.kernel_stores.specs.Results.{summed}
-use Rattle.level_drains.specs.Drained.{MayDrain, AreDrained, drain_turns, LeavesLevel, PassesAt, RefusesLevel, DrainsLevel}
+use Rattle.level_drains.specs.Drained.{MayDrain, AreDrained, LeavesLevel, RefusesLevel}
 use Rattle.level_drains.specs.Tests.{begins_test}
 use Rattle.level_drains.proofs.Holding.{finished_summed, is_new, new_of}
 use Rattle.level_drains.proofs.Steps.{size_here, rows_here, few_rows, few_words, begun_here, fill_here, first_told, coord_told}

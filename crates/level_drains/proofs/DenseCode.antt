@@ -1,14 +1,12 @@
 -- The code of a dense level: nothing is stored, but a count of positions that passes the limit is refused.
-use Rattle.std.specs.Prelude.{◌≡◌, ◌≢◌, ◌⊎◌, ℕ, suc, ◌+◌, ◌*◌, ◌≤◌, ◌<◌, ◌^◌, nat_le, Bool, true, false, List, [], ◌∷◌, ◌++◌, drop, length, Some, refl}
-use Rattle.std.specs.Prelude.{replicate, slice_index}
+use Rattle.std.specs.Prelude.{◌≡◌, ◌⊎◌, ℕ, suc, ◌+◌, ◌*◌, ◌≤◌, ◌<◌, ◌^◌, nat_le, true, false, List, [], ◌∷◌, ◌++◌, drop, length, Some, refl}
+use Rattle.std.specs.Prelude.{slice_index}
 use Rattle.std.proofs.Common.{◌∙◌, sym, ap, subst, arith, inl, inr, lit<}
 use Rattle.std.proofs.Math.Nat.{mul-le-mul}
 use Rattle.std.proofs.lemmas.Bool.{cases_lt}
 use Rattle.std.proofs.lemmas.Bool.Decides.{nat_tests}
-use Rattle.std.proofs.lemmas.Option.{slice_get-get_or}
 use Rattle.limits.specs.Limits.{greatest_position_count}
-use Rattle.limits.proofs.Limits.{positions_are_small}
-use Rattle.kernel_code.specs.Arrays.{may_have, told_count, word_count}
+use Rattle.kernel_code.specs.Arrays.{may_have, word_count}
 use Rattle.kernel_code.specs.Does.{Does}
 use Rattle.kernel_code.proofs.Does.{does_weaker, does_nothing, does_set, does_extend, does_if_yes, does_if_no}
 use Rattle.kernel_code.specs.Keeps.{Below, EveryArray}
@@ -18,11 +16,10 @@ use Rattle.kernel_code.specs.Meaning.{Setting, State, value, set_var}
 use Rattle.kernel_code.specs.Widths.{slot_width}
 use Rattle.kernel_code.specs.declared.syntax.Arr.TheVariants.{Key, Values, Dimension}
 use Rattle.kernel_code.specs.declared.syntax.KExpr.{KExpr, Num, Var, At, Bin}
-use Rattle.kernel_code.specs.declared.syntax.KStmt.{KStmt, Set, If, Extend}
+use Rattle.kernel_code.specs.declared.syntax.KStmt.{KStmt, Set, Extend}
 use Rattle.kernel_code.specs.declared.syntax.Op.TheVariants.{Mul, Less}
 use Rattle.level_core.specs.declared.letter.Letter.{Letter}
 use Rattle.level_core.specs.declared.letter.Letter.TheVariants.{Dense}
-use Rattle.level_core.specs.Kinds.{positions_for}
 use Rattle.level_rows.specs.Rows.{Rows}
 use Rattle.level_rows.specs.Placing.{PlacesRows}
 use Rattle.tensor_storage.specs.Chains.{chain_length}
@@ -30,11 +27,11 @@ use Rattle.tensor_storage.specs.Counts.{positions_from}
 use Rattle.tensor_storage.specs.Levels.{meaning}
 use Rattle.tensor_storage.specs.Tables.{Table}
 use Rattle.tensor_storage.proofs.Tables.{apart}
-use Rattle.level_drains.specs.Drained.{MayDrain, AreDrained, LeavesLevel, PassesAt, RefusesLevel, DrainsLevel}
+use Rattle.level_drains.specs.Drained.{MayDrain, AreDrained, LeavesLevel, RefusesLevel}
 use Rattle.level_drains.specs.Tests.{begins_test, guard_code}
 use Rattle.level_drains.proofs.HashedCode.{still_drained}
 use Rattle.level_drains.proofs.Inserted.{inserted, told_level, needed_is}
-use Rattle.level_drains.proofs.Steps.{size_here, rows_here, few_rows, small, starts_here}
+use Rattle.level_drains.proofs.Steps.{size_here, rows_here, small, starts_here}
 use Rattle.level_drains.proofs.Turns.{times_of, none_then_placed, counted_few, counted_above}
 
 -- a product of two counts of positions fits a word
@@ -107,7 +104,8 @@ module _ (letters rest : List Letter) (w g d n base : ℕ) (count : KExpr) (inse
           (RefusesLevel letters sizes table d s)
       by_limit (inl above) =
           does_if_yes c (Bin Less (Num greatest_position_count) (Var base)) (Extend (Values 0) (Var base) (Num 0) ∷ []) [] insert then 0
-          (λ t. ⊥) _ _ (less_yes (Num greatest_position_count) (Var base) greatest_position_count total then refl (this_var s base total) above)
+          (λ t. ⊥) _ _ (less_yes (Num greatest_position_count) (Var base) greatest_position_count total
+          then refl (this_var s base total) above)
           (does_extend c (Values 0) (Var base) (Num 0) [] then total 0 [] (λ t. ⊥) (RefusesLevel letters sizes table d s)
           (this_var s base total) refl refl dr.values (λ may. too_many may)
           (λ no. (
@@ -142,7 +140,8 @@ module _ (letters rest : List Letter) (w g d n base : ℕ) (count : KExpr) (inse
           (λ t. t ≡ then) _ _
           (less_no (Num greatest_position_count) (Var base) greatest_position_count total then refl (this_var s base total) fits)
           (does_nothing c then _ _ refl)
-          (λ t is. subst (λ u. Does c insert u (LeavesLevel nothing letters sizes table w g d base s) (RefusesLevel letters sizes table d s))
+          (λ t is. subst (λ u. Does c insert u (LeavesLevel nothing letters sizes table w g d base s)
+          (RefusesLevel letters sizes table d s))
           (sym is) (inserts fits))
 
   pub dense : Does c (Set base (Bin Mul count (At (Dimension 0 (suc d)) (Num 0))) ∷ (guard_code base ++ insert)) s

@@ -1,14 +1,14 @@
 -- The code of a hashed level: the greatest number of positions below one parent is found first.
-use Rattle.std.specs.Prelude.{◌≡◌, ◌≢◌, ℕ, suc, ◌+◌, ◌*◌, ◌≤◌, ◌<◌, ◌^◌, true, false, List, [], ◌∷◌, ◌++◌, length, drop, Some, refl}
+use Rattle.std.specs.Prelude.{◌≡◌, ℕ, suc, ◌+◌, ◌*◌, ◌≤◌, ◌<◌, List, [], ◌∷◌, ◌++◌, length, drop, Some, refl}
 use Rattle.std.proofs.Common.{◌∙◌, sym, ap, subst, arith}
 use Rattle.std.proofs.Math.Path.{fun_ext}
 use Rattle.limits.specs.Limits.{greatest_position_count}
 use Rattle.limits.proofs.Limits.{positions_are_small}
 use Rattle.numbers.specs.Ring.{word_product}
 use Rattle.numbers.proofs.WordLaws.{word_product_is}
-use Rattle.kernel_code.specs.Does.{Does, Never}
+use Rattle.kernel_code.specs.Does.{Does}
 use Rattle.kernel_code.proofs.Does.{does_weaker, does_append, does_set}
-use Rattle.kernel_code.specs.Keeps.{Below, Leaves, NoVariable, EveryArray}
+use Rattle.kernel_code.specs.Keeps.{Below, EveryArray}
 use Rattle.kernel_code.proofs.Keeps.{this_var, other_var, value_kept}
 use Rattle.kernel_code.proofs.Equations.{value_width}
 use Rattle.kernel_code.proofs.Words.{binary_is}
@@ -18,12 +18,9 @@ use Rattle.kernel_code.specs.Widths.{slot_width}
 use Rattle.kernel_code.specs.declared.syntax.Arr.TheVariants.{Values, Key, ListPositions}
 use Rattle.kernel_code.specs.declared.syntax.KExpr.{KExpr, Var, At, Bin, Width}
 use Rattle.kernel_code.specs.declared.syntax.KStmt.{KStmt, Set}
-use Rattle.kernel_code.specs.declared.syntax.LoopKind.TheVariants.{Drain}
 use Rattle.kernel_code.specs.declared.syntax.Op.TheVariants.{Mul}
 use Rattle.level_core.specs.declared.letter.Letter.{Letter}
 use Rattle.level_core.specs.declared.letter.Letter.TheVariants.{Hashed}
-use Rattle.level_core.specs.Fragments.{turns_of}
-use Rattle.level_core.specs.Kinds.{capabilities, positions_for}
 use Rattle.level_core.specs.Meaning.{Arrays}
 use Rattle.level_rows.specs.Rows.{Rows}
 use Rattle.level_rows.specs.Counting.{MayCount, LeavesGreatest, FindsGreatest}
@@ -34,11 +31,10 @@ use Rattle.tensor_storage.specs.Tables.{Table}
 use Rattle.tensor_storage.proofs.Tables.{apart}
 use Rattle.kernel_stores.specs.Results.{summed}
 use Rattle.kernel_stores.specs.Stores.{AreHeld, StartsBelow}
-use Rattle.level_drains.specs.Drained.{HoldsTable, MayDrain, AreDrained, LeavesLevel, RefusesLevel, DrainsLevel}
+use Rattle.level_drains.specs.Drained.{HoldsTable, MayDrain, AreDrained, LeavesLevel, RefusesLevel}
 use Rattle.level_drains.specs.Tests.{begins_test}
-use Rattle.level_drains.proofs.Holding.{is_new}
 use Rattle.level_drains.proofs.Inserted.{greatest_few, inserted}
-use Rattle.level_drains.proofs.Steps.{size_here, rows_here, few_rows, few_words, fill_here, first_told}
+use Rattle.level_drains.proofs.Steps.{rows_here, few_rows, few_words, fill_here, first_told}
 use Rattle.level_drains.proofs.Turns.{times_of, counted_then_placed}
 
 -- what is drained so far stays where no array changes

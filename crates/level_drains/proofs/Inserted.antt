@@ -1,5 +1,5 @@
 -- The code of a level that coordinates are inserted into, once it is known how wide it has to be.
-use Rattle.std.specs.Prelude.{◌≡◌, ◌≢◌, ◌⊎◌, ℕ, zero, suc, ◌+◌, ◌*◌, ◌≤◌, ◌<◌, ◌==◌, ◌&&◌, Bool, true, false, if◌then◌else◌, List, [], ◌∷◌, ◌++◌}
+use Rattle.std.specs.Prelude.{◌≡◌, ◌⊎◌, ℕ, zero, suc, ◌+◌, ◌≤◌, ◌<◌, ◌==◌, ◌&&◌, Bool, true, false, if◌then◌else◌, List, ◌∷◌}
 use Rattle.std.specs.Prelude.{drop, slice_index, Some, refl}
 use Rattle.std.proofs.Common.{◌∙◌, sym, ap, subst, arith, inl, inr}
 use Rattle.std.proofs.Math.Nat.{mul-le-mul_right}
@@ -13,12 +13,11 @@ use Rattle.kernel_code.specs.declared.syntax.Arr.{Arr}
 use Rattle.kernel_code.specs.declared.syntax.Arr.TheVariants.{Key}
 use Rattle.kernel_code.specs.declared.syntax.KExpr.{KExpr, Var, At}
 use Rattle.kernel_code.specs.declared.syntax.KStmt.{KStmt}
-use Rattle.kernel_code.specs.declared.syntax.LoopKind.{LoopKind}
 use Rattle.level_core.specs.declared.letter.Letter.{Letter}
 use Rattle.level_core.specs.declared.letter.Letter.TheVariants.{Dense, Compressed, CompressedGroups, Singleton, SingletonGroups, Hashed}
 use Rattle.level_core.specs.Entries.{one}
 use Rattle.level_core.specs.Fragments.{PassesLimitWithin, RefusedWithin}
-use Rattle.level_core.specs.Kinds.{properties, capabilities, positions_for, MayPrepare}
+use Rattle.level_core.specs.Kinds.{properties, capabilities, positions_for}
 use Rattle.level_core.specs.Laws.{HoldsStart}
 use Rattle.level_rows.specs.Rows.{Rows, begun_below, IsGreatestBelow, MayInsertRows}
 use Rattle.level_rows.specs.Draining.{Stays}
@@ -33,7 +32,7 @@ use Rattle.tensor_storage.proofs.Tables.{apart}
 use Rattle.kernel_stores.specs.Stores.{parents_below}
 use Rattle.level_drains.specs.Drained.{MayDrain, AreDrained, PassesAt}
 use Rattle.level_drains.specs.Tests.{begins_test}
-use Rattle.level_drains.proofs.Holding.{inserted_summed, is_new, new_of}
+use Rattle.level_drains.proofs.Holding.{inserted_summed, is_new}
 use Rattle.level_drains.proofs.Steps.{size_here, rows_here, few_words, begun_here, fill_here, first_told, coord_told}
 use Rattle.level_drains.proofs.Steps.{told_here, packed_here, drained_here}
 use Rattle.level_drains.proofs.Turns.{counted_few, counted_above}
@@ -97,7 +96,8 @@ module _ (letters rest : List Letter) (letter : Letter) (w g d n base : ℕ) (co
   pub start : HoldsStart meaning letter size dr.starts 0 (suc d) s.arrays
   start = begun_here letters rest letter w g d n count left through nothing sizes table may s dr
 
-  module _ (greatest : (properties letter).full ≡ false → IsGreatestBelow rows most) (none : (properties letter).full ≡ true → most ≡ 0) where
+  module _ (greatest : (properties letter).full ≡ false → IsGreatestBelow rows most)
+      (none : (properties letter).full ≡ true → most ≡ 0) where
     abbrev pub needed : ℕ
     needed = positions_for (meaning.kind start.start) (meaning.size start.start) dr.parents most
 

@@ -9,3 +9,5 @@ pub mod HashedCode
 pub mod DenseCode
 pub mod Codes
 pub mod AllLevels
+pub mod ValueCode
+pub mod WholeResult

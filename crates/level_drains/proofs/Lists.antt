@@ -1,7 +1,7 @@
 -- Lists that levels are counted in.
 use Rattle.std.specs.Prelude.{◌≡◌, ℕ, zero, suc, ◌+◌, ◌≤◌, ◌<◌, not, Bool, true, false, List, [], ◌∷◌, ◌++◌, length, drop, slice_index}
 use Rattle.std.specs.Prelude.{refl}
-use Rattle.std.proofs.Common.{◌∙◌, sym, ap, arith}
+use Rattle.std.proofs.Common.{sym, ap, arith}
 use Rattle.level_core.specs.declared.letter.Letter.{Letter}
 use Rattle.level_core.specs.Kinds.{properties}
 use Rattle.level_core.specs.Meaning.{Meaning}
@@ -62,3 +62,7 @@ as_many_columns means table letters (l ∷ ls) [] d parent parents are = absurd 
 as_many_columns means table [] (l ∷ ls) (c ∷ columns) d parent parents are = absurd are
 as_many_columns means table (letter ∷ letters) (l ∷ ls) (c ∷ columns) d parent parents are =
     ap suc (as_many_columns means table letters ls columns (suc d) c.place c.positions are.1)
+
+pub drop_none : {X : Type 0} (xs : List X) → drop (length xs) xs ≡ []
+drop_none [] = refl
+drop_none (x ∷ xs) = drop_none xs

@@ -1,8 +1,8 @@
 -- One level more is drained: what is known before its code, and what follows of what the code leaves.
-use Rattle.std.specs.Prelude.{◌≡◌, ◌≢◌, ℕ, suc, ◌+◌, ◌≤◌, ◌<◌, ◌^◌, true, false, List, [], ◌∷◌, ◌++◌, length, map, drop, slice_index, Some, refl}
+use Rattle.std.specs.Prelude.{◌≡◌, ◌≢◌, ℕ, suc, ◌+◌, ◌≤◌, ◌<◌, ◌^◌, List, [], ◌∷◌, ◌++◌, length, drop, slice_index, Some, refl}
 use Rattle.std.proofs.Common.{◌∙◌, sym, ap, subst, arith}
 use Rattle.std.proofs.lemmas.List.{length-map}
-use Rattle.limits.specs.Limits.{greatest_position_count, greatest_workspace_pairs}
+use Rattle.limits.specs.Limits.{greatest_position_count}
 use Rattle.limits.proofs.Limits.{positions_are_small, workspace_pairs_are_positions}
 use Rattle.kernel_code.specs.Meaning.{State, value}
 use Rattle.kernel_code.specs.declared.syntax.Arr.{Arr}
@@ -10,7 +10,7 @@ use Rattle.kernel_code.specs.declared.syntax.Arr.TheVariants.{Values, Key, Sums,
 use Rattle.kernel_code.specs.declared.syntax.KExpr.{KExpr, Var, At}
 use Rattle.level_core.specs.declared.letter.Letter.{Letter}
 use Rattle.level_core.specs.Fragments.{IsOf}
-use Rattle.level_core.specs.Laws.{AreAtStart, HoldsStart}
+use Rattle.level_core.specs.Laws.{HoldsStart}
 use Rattle.level_rows.specs.Rows.{Rows, rows_at}
 use Rattle.level_rows.specs.Draining.{Stays, TellsFirst, TellsCoord}
 use Rattle.level_rows.specs.Filling.{AreNeeded, MayFill, FillsRows}

@@ -1,5 +1,5 @@
 -- Expressions over the keys of a workspace tell of its rows what they are to.
-use Rattle.std.specs.Prelude.{◌≡◌, ℕ, zero, suc, ◌+◌, ◌-◌, ◌<◌, ◌^◌, ◌==◌, ◌&&◌, ◌||◌, not, Bool, true, false, List, length, slice_index, Some}
+use Rattle.std.specs.Prelude.{◌≡◌, ℕ, zero, suc, ◌-◌, ◌<◌, ◌^◌, ◌==◌, ◌&&◌, ◌||◌, not, Bool, true, false, List, Some}
 use Rattle.std.specs.Prelude.{refl}
 use Rattle.std.proofs.Common.{◌∙◌, ap, arith}
 use Rattle.std.proofs.lemmas.Bool.Decides.{nat_tests}
@@ -12,7 +12,7 @@ use Rattle.kernel_code.specs.declared.syntax.Op.TheVariants.{Sub, Or, Equal, Not
 use Rattle.kernel_code.specs.declared.syntax.KExpr.{Num, Var, At, Bin}
 use Rattle.level_rows.specs.Draining.{TellsFirst, TellsCoord}
 use Rattle.level_rows.specs.Rows.{rows_at}
-use Rattle.tensor_storage.specs.Tables.{Table, agree, begins_at, keys_of}
+use Rattle.tensor_storage.specs.Tables.{Table, agree, keys_of}
 use Rattle.level_drains.specs.Drained.{HasWords}
 use Rattle.level_drains.specs.Tests.{differs, begins_test}
 

@@ -1,5 +1,5 @@
 -- All levels of a kernel's result, filled from the sorted rows of a workspace: where the code is run, and what it leaves.
-use Rattle.std.specs.Prelude.{◌≡◌, ℕ, suc, ◌+◌, ◌*◌, ◌<◌, false, List, [], length, replicate, Some}
+use Rattle.std.specs.Prelude.{◌≡◌, ℕ, ◌+◌, ◌*◌, ◌<◌, false, List, [], length, replicate, Some}
 use Rattle.kernel_code.specs.Arrays.{same_arr}
 use Rattle.kernel_code.specs.Does.{Does, Refusal}
 use Rattle.kernel_code.specs.Keeps.{Leaves, NoVariable}

@@ -1,3 +1,4 @@
 pub mod Drained
 pub mod Tests
 pub mod Levels
+pub mod Stored

@@ -5,7 +5,9 @@
 mod drains;
 mod levels;
 mod tests_of_rows;
+mod values;
 
 pub use drains::drain_levels;
 pub use levels::drain_level;
 pub use tests_of_rows::begins_by_keys;
+pub use values::drain_result;

@@ -1,6 +1,5 @@
-use Rattle.std.specs.Prelude.{◌≡◌, ◌+◌, suc, drop, refl}
-use Rattle.std.proofs.Common.{◌∙◌, sym, ap, subst, arith, add-one, get_or}
-use Rattle.limits.proofs.Limits.{orders_are_small}
+use Rattle.std.specs.Prelude.{◌+◌, suc, drop, refl}
+use Rattle.std.proofs.Common.{◌∙◌, sym, ap, subst, add-one, get_or}
 use Rattle.format_spec.specs.declared.format.FormatLevel.{FormatLevel}
 use Rattle.format_spec.specs.Formats.{letters_of}
 use Rattle.level_core.specs.declared.letter.Letter.TheVariants.{Dense}

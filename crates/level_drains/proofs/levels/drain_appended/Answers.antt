@@ -1,5 +1,5 @@
-use Rattle.std.specs.Prelude.{◌≡◌, ◌+◌, ◌-◌, ◌<◌}
-use Rattle.std.proofs.Common.{◌∙◌, sym, ap, subst, arith}
+use Rattle.std.specs.Prelude.{◌+◌, ◌-◌}
+use Rattle.std.proofs.Common.{sym, ap, subst, arith}
 use Rattle.kernel_code.specs.Keeps.{Below}
 use Rattle.tensor_storage.specs.Levels.{meaning}
 use Rattle.level_drains.proofs.Codes.{below_more, key_below, appended_of}

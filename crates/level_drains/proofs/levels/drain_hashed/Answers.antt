@@ -1,4 +1,4 @@
-use Rattle.std.specs.Prelude.{◌≡◌, ◌+◌, ◌-◌, ◌<◌, ◌∷◌, [], ◌++◌}
+use Rattle.std.specs.Prelude.{◌+◌, ◌-◌, ◌++◌}
 use Rattle.std.proofs.Common.{◌∙◌, sym, ap, subst, arith}
 use Rattle.kernel_code.specs.Keeps.{Below}
 use Rattle.kernel_code.specs.declared.syntax.KExpr.{Var}

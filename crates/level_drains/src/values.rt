@@ -1,0 +1,70 @@
+ghost use Rattle.std.specs.Prelude.{◌≡◌, ◌≤◌, ◌+◌, ◌^◌, IfOk};
+ghost use Rattle.format_spec.specs.Formats.{IsFormat};
+ghost use Rattle.level_drains.specs.Stored.{value_row_code, values_code, DrainsResult};
+
+use crate::drains::drain_levels;
+use format_spec::FormatLevel;
+use kernel_code::{Arr, KExpr, KStmt, LoopKind, Op, binary, one_statement, word_at};
+use std::alloc::{AllocError, Global};
+use trees::Items;
+
+/// The code that stores the value of one row. Refused for want of memory alone.
+fn value_of_row(
+    alloc: Global,
+    workspace: u64,
+    list: u64,
+    base: u64,
+) -> Result<Items<KStmt>, AllocError>
+    ensures { IfOk result (λ code. code ≡ value_row_code base workspace list) }
+{
+    let place = word_at(alloc, Arr::ListPositions(list), KExpr::Var(base))?;
+    let value = word_at(alloc, Arr::Sums(workspace), KExpr::Var(base))?;
+    let mut code = one_statement(alloc, KStmt::Put(Arr::Values(0), place, value))?;
+    let next = binary(alloc, Op::Add, KExpr::Var(base), KExpr::Num(1))?;
+    code.push(KStmt::Set(base, next))?;
+    Ok(code)
+}
+
+/// The code that stores a zero for each of `count` positions, and then the value of each row at its own. Refused for want of memory
+/// alone.
+fn store_row_values(
+    alloc: Global,
+    workspace: u64,
+    list: u64,
+    base: u64,
+    count: KExpr,
+    zero: u64,
+) -> Result<Items<KStmt>, AllocError>
+    ensures { IfOk result (λ code. code ≡ values_code base workspace list count zero) }
+{
+    let body = value_of_row(alloc, workspace, list, base)?;
+    let zeros = KStmt::Extend(Arr::Values(0), count, KExpr::Num(zero));
+    let mut code = one_statement(alloc, zeros)?;
+    code.push(KStmt::Set(base, KExpr::Num(0)))?;
+    let rows = KExpr::Len(Arr::Sums(workspace));
+    let more = binary(alloc, Op::Less, KExpr::Var(base), rows)?;
+    code.push(KStmt::While(LoopKind::Drain, more, body))?;
+    Ok(code)
+}
+
+/// Code that fills a kernel's result, of this format, from the rows of a workspace, which increase: all its levels and then its values,
+/// which are `zero` where no row is. Scratch list `list` has a zero for each row before. Variables from `base` on are its own. Refused
+/// for want of memory alone.
+pub fn drain_result(
+    alloc: Global,
+    format: &[FormatLevel],
+    workspace: u64,
+    list: u64,
+    base: u64,
+    zero: u64,
+) -> Result<Items<KStmt>, AllocError>
+    requires format { IsFormat format.now }
+    requires room { base ≤ 2 ^ 60 }
+    ensures { IfOk result (DrainsResult format.now workspace list base zero) }
+{
+    let mut code = drain_levels(alloc, format, workspace, list, base)?;
+    let last = base + format.len() as u64;
+    let values = store_row_values(alloc, workspace, list, last + 1, KExpr::Var(last), zero)?;
+    code.append(values)?;
+    Ok(code)
+}
