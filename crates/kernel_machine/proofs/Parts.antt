@@ -86,14 +86,16 @@ words_of_lists : (size : ℕ) (l : compressed.CompressedLevel) (unique : Bool) (
     → AreWordsOf (OfCompressed l) part
 words_of_lists size l true level Missing a held done left = absurd left
 words_of_lists size l true level (Slots wid crd) a held done left = absurd left
-words_of_lists size l true level (Lists pos crd) a held done left =
-    (summed_numbers a level pos.items l.log.counts l.log.stage left.0 done held.ends,
-        same_Some crd.items l.log.coords (sym left.1 ∙ held.coords))
+words_of_lists size l true level (Lists pos crd) a held done left = (
+  summed_numbers a level pos.items l.log.counts l.log.stage left.0 done held.ends,
+  same_Some crd.items l.log.coords (sym left.1 ∙ held.coords),
+)
 words_of_lists size l false level Missing a held done left = absurd left
 words_of_lists size l false level (Slots wid crd) a held done left = absurd left
-words_of_lists size l false level (Lists pos crd) a held done left =
-    (summed_numbers a level pos.items l.log.counts l.log.stage left.0 done held.ends,
-        same_Some crd.items l.log.coords (sym left.1 ∙ held.coords))
+words_of_lists size l false level (Lists pos crd) a held done left = (
+  summed_numbers a level pos.items l.log.counts l.log.stage left.0 done held.ends,
+  same_Some crd.items l.log.coords (sym left.1 ∙ held.coords),
+)
 
 words_of_single : (l : singleton.SingletonLevel) (unique : Bool) (level : ℕ) (part : Part) (a : Arrays)
     → singleton.Holds l 0 level (summed a) → LeftPart (singleton.letter_of unique) level part a → AreWordsOf (OfSingleton l) part

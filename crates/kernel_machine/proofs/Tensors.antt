@@ -81,7 +81,7 @@ module _ (nothing : ℕ) (store : Store) (before after : Arrays) (old new : Buil
   handed_at i letter part at there =
       let here : slice_get (letters_of old.format) i ≡ Some letter = ap (λ (ls : List Letter). slice_get ls i) letters_same ∙ at in
       let inside : i < length old.format = subst (λ n. i < n) (letters_long old.format)
-          (get_inside (letters_of old.format) i letter here) in
+      (get_inside (letters_of old.format) i letter here) in
       subst (λ k. LeftPart letter k part before) (one_more i) (handed.handed i letter part inside here there)
 
   handed_parts : HoldParts left.levels new.parts 1 before

@@ -7,4 +7,4 @@ pub returns-in-Missing : goal.returns-in-Missing
 returns-in-Missing c =
     let b = c.args.builder.now in
     ap (building b.format b.sizes)
-        (sym (set_same b.parts (c.args.level - 1) c.args.part (c.requires.missing ∙ ap Some (sym c.in-Missing.is))))
+    (sym (set_same b.parts (c.args.level - 1) c.args.part (c.requires.missing ∙ ap Some (sym c.in-Missing.is))))

@@ -26,9 +26,12 @@ made_tensor-requires-clause-left g c =
     let ends : go a order kernel given most_turns ≡ Finished new.arrays new.turns =
     ends_told a order kernel given c.args.prepared.machine c.run_statements.new.machine c.in-Ok.ending c.as_slice.result.now
     c.as_slice-2.result.now c.most_turns.result c.as_slice.ensures c.as_slice-2.ensures c.most_turns.ensures ready.starts.is c.in-Ok.ensures
-    ∙ ap (λ (e : Ending). told order (outcome_of e new)) c.in-Ended.is in
-    (a.zero, store, sound_leaves a order kernel store given new.arrays new.turns (c.requires.2 given ready.starts.is_given) ends,
-        ready.building)
+    ∙ ap (λ (e : Ending). told order (outcome_of e new)) c.in-Ended.is in (
+      a.zero,
+      store,
+      sound_leaves a order kernel store given new.arrays new.turns (c.requires.2 given ready.starts.is_given) ends,
+      ready.building,
+    )
 
 pub returns-in-Ok-made_tensor : goal.returns-in-Ok-made_tensor
 returns-in-Ok-made_tensor g c =
