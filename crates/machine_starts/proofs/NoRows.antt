@@ -1,6 +1,6 @@
 -- What empty workspaces and scratch lists leave in the arrays.
-use Rattle.std.specs.Prelude.{◌≡◌, ◌⊎◌, ℕ, zero, suc, ◌+◌, ◌≤◌, ◌<◌, Bool, true, false, nat_lt, if◌then◌else◌, List, [], ◌∷◌, length}
-use Rattle.std.specs.Prelude.{Option, Some, None, slice_index, refl}
+use Rattle.std.specs.Prelude.{◌≡◌, ◌⊎◌, ℕ, zero, suc, ◌+◌, ◌≤◌, Bool, true, false, nat_lt, List, [], ◌∷◌, length}
+use Rattle.std.specs.Prelude.{Some, None, slice_index, refl}
 use Rattle.std.proofs.Common.{◌∙◌, sym, ap, arith, inl, inr}
 use Rattle.std.proofs.lemmas.Bool.Decides.{nat_tests}
 use Rattle.kernel_code.specs.declared.syntax.Arr.{Arr}
@@ -11,7 +11,7 @@ use Rattle.kernel_code.specs.Arrays.{same_arr}
 use Rattle.kernel_code.specs.Kernels.{empty_if, start_arrays}
 use Rattle.kernel_code.specs.Laws.{is_scratch}
 use Rattle.kernel_code.specs.Meaning.{State, set_array}
-use Rattle.kernel_code.proofs.ArrayNames.{same_arr_is, same_arr_self}
+use Rattle.kernel_code.proofs.ArrayNames.{same_arr_is}
 use Rattle.machine_starts.specs.Begun.{with_keys, with_workspaces, with_lists}
 use Rattle.machine_starts.proofs.Begun.{set_here, set_apart}
 

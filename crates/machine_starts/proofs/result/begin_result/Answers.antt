@@ -1,12 +1,9 @@
-use Rattle.std.proofs.Common.{◌≡◌, ◌∙◌, ◌+◌, ◌≤◌, sym, ap, subst, arith, refl, slice_index_or, drop, suc}
-use Rattle.std.specs.Prelude.{length}
+use Rattle.std.proofs.Common.{◌∙◌, ◌+◌, ◌≤◌, sym, ap, subst, arith, refl, drop}
 use Rattle.limits.specs.Limits.{greatest_position_count}
 use Rattle.limits.proofs.Limits.{some_positions}
 use Rattle.level_core.specs.declared.letter.Letter.TheVariants.{Dense}
 use Rattle.format_spec.specs.declared.format.FormatLevel.{FormatLevel}
-use Rattle.format_spec.specs.Formats.{letters_of}
 use Rattle.kernel_steps.specs.Store.{state_of}
-use Rattle.machine_starts.specs.Begun.{parents_below}
 use Rattle.kernel_code.specs.declared.syntax.Arr.TheVariants.{Values}
 use Rattle.kernel_code.specs.Meaning.{set_array}
 use Rattle.machine_starts.proofs.Steps.{few_here, few_next, result_next, result_done}
