@@ -18,31 +18,16 @@ use Rattle.tensor_storage.specs.Laws.{laws}
 use Rattle.tensor_storage.specs.Levels.{meaning}
 use Rattle.tensor_storage.specs.Tables.{Table}
 use Rattle.tensor_storage.proofs.PackSteps.{none_packed}
-use Rattle.level_drains.specs.Drained.{MayDrain, AreDrained, drain_turns, LeavesLevel, DrainsOf}
-use Rattle.level_drains.specs.Levels.{IsReady, levels_turns, LeavesLevels, RefusesLevels, DrainsFirst}
+use Rattle.level_drains.specs.Drained.{passes_at, passes_of, drain_turns, MayDrain, AreDrained, LeavesLevel, DrainsOf}
+use Rattle.level_drains.proofs.Turns.{more_turns, fewer_turns}
+use Rattle.level_drains.specs.Levels.{IsReady, LeavesLevels, RefusesLevels, DrainsFirst}
 
-none_turns : (before rows : ℕ) (k : LoopKind) → before ≤ before + levels_turns 0 rows 0 k
+none_turns : (before rows : ℕ) (k : LoopKind) → before ≤ before + drain_turns 0 rows 0 k
 none_turns before rows Merge = omega arith
 none_turns before rows Skip = omega arith
 none_turns before rows Gather = omega arith
 none_turns before rows Drain = omega arith
 none_turns before rows Probe = omega arith
-
-more_turns : (before between after d rows probes more : ℕ) (k : LoopKind) → between ≤ before + levels_turns d rows probes k
-    → after ≤ between + drain_turns rows more k → after ≤ before + levels_turns (suc d) rows (probes + more) k
-more_turns before between after d rows probes more Merge h g = omega (arith, h, g)
-more_turns before between after d rows probes more Skip h g = omega (arith, h, g)
-more_turns before between after d rows probes more Gather h g = omega (arith, h, g)
-more_turns before between after d rows probes more Drain h g = omega (arith, h, g)
-more_turns before between after d rows probes more Probe h g = omega (arith, h, g)
-
-fewer_turns : (before after d rows probes : ℕ) (k : LoopKind) → after ≤ before + levels_turns d rows probes k
-    → after ≤ before + levels_turns (suc d) rows probes k
-fewer_turns before after d rows probes Merge h = omega (arith, h)
-fewer_turns before after d rows probes Skip h = omega (arith, h)
-fewer_turns before after d rows probes Gather h = omega (arith, h)
-fewer_turns before after d rows probes Drain h = omega (arith, h)
-fewer_turns before after d rows probes Probe h = omega (arith, h)
 
 -- before the first level
 pub none_drained : (format : List FormatLevel) (w g base : ℕ) → IsFormat format
@@ -88,7 +73,8 @@ module _ (letters rest : List Letter) (letter : Letter) (d w g base through : �
     leaves = record {
       below = λ y less no. l.leaves.below y (omega (arith, less)) no ∙ f.leaves.below y less no;
       arrays = λ a st. l.leaves.arrays a (st.0 (suc d), st.1) ∙ f.leaves.arrays a st;
-      turns = λ k. more_turns (s.turns k) (t.turns k) (u.turns k) d table.count f.probes l.probes k (f.leaves.turns k)
+      turns = λ k. more_turns (s.turns k) (t.turns k) (u.turns k) (passes_of letters d) (passes_at letters d) table.count f.probes
+          l.probes k (f.leaves.turns k)
           (l.leaves.turns k);
     };
   }
@@ -102,7 +88,7 @@ module _ (letters rest : List Letter) (letter : Letter) (d w g base through : �
         r.0,
         omega (arith, r.1),
         r.2,
-        ((λ j. fewer_turns (s.turns j) (turns j) d table.count r.2 j (r.3.0 j)), r.3.1),
+        ((λ j. fewer_turns (s.turns j) (turns j) (passes_of letters d) (passes_at letters d) table.count r.2 j (r.3.0 j)), r.3.1),
       )))
       (λ t f.
       does_weaker c more t _ _ _ _ (drains letters rest d refl left chain c nothing sizes table may t f.drained) (λ u l. after t u f l)
@@ -110,7 +96,11 @@ module _ (letters rest : List Letter) (letter : Letter) (d w g base through : �
         d,
         omega arith,
         f.probes + r.0,
-        ((λ j. more_turns (s.turns j) (t.turns j) (turns j) d table.count f.probes r.0 j (f.leaves.turns j) (r.1.0 j)), r.1.1),
+        (
+          (λ j. more_turns (s.turns j) (t.turns j) (turns j) (passes_of letters d) (passes_at letters d) table.count f.probes r.0 j
+              (f.leaves.turns j) (r.1.0 j)),
+          r.1.1,
+        ),
       )))
 
 -- one level more

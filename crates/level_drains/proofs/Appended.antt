@@ -27,12 +27,12 @@ use Rattle.tensor_storage.specs.Levels.{meaning}
 use Rattle.tensor_storage.specs.Tables.{Table}
 use Rattle.tensor_storage.proofs.Tables.{apart}
 use Rattle.kernel_stores.specs.Results.{summed}
-use Rattle.level_drains.specs.Drained.{MayDrain, AreDrained, LeavesLevel, RefusesLevel}
+use Rattle.level_drains.specs.Drained.{passes_at, MayDrain, AreDrained, LeavesLevel, RefusesLevel}
 use Rattle.level_drains.specs.Tests.{begins_test}
 use Rattle.level_drains.proofs.Holding.{finished_summed, is_new, new_of}
 use Rattle.level_drains.proofs.Steps.{size_here, rows_here, few_rows, few_words, begun_here, fill_here, first_told, coord_told}
 use Rattle.level_drains.proofs.Steps.{told_here, packed_here, drained_here}
-use Rattle.level_drains.proofs.Turns.{counted_at_most, counted_few, counted_above}
+use Rattle.level_drains.proofs.Turns.{pass_here, counted_at_most, counted_few, counted_above}
 
 appended_sparse : (letter : Letter) → (capabilities letter).append ≡ true → (properties letter).full ≡ false
 appended_sparse Dense h = apart (sym h)
@@ -115,7 +115,8 @@ module _ (letters rest : List Letter) (letter : Letter) (w g d n base : ℕ) (co
       below = λ y less no. (leaves_set NoVariable (Stays (suc d) g) base (turns_of Drain rows.count) s t base needed
           (λ z under is. absurd (omega (arith, under, is))) kept).below y less no;
       arrays = l.leaves.arrays;
-      turns = λ k. counted_at_most (s.turns k) (t.turns k) rows.count 0 k (l.leaves.turns k);
+      turns = λ k. counted_at_most (s.turns k) (t.turns k) (passes_at letters d) rows.count 0 k
+          (pass_here letters rest letter d rows.count left) (l.leaves.turns k);
     };
   }
     where
@@ -153,7 +154,8 @@ module _ (letters rest : List Letter) (letter : Letter) (w g d n base : ℕ) (co
       let upto = r.1.2 in (
         0,
         (
-          (λ j. counted_at_most (s.turns j) (turns j) rows.count 0 j (r.0 j)),
+          (λ j. counted_at_most (s.turns j) (turns j) (passes_at letters d) rows.count 0 j
+              (pass_here letters rest letter d rows.count left) (r.0 j)),
           record {
             array = inl r.1.1.array;
             above = (counted_above r.1.0 k r.1.1.told r.1.1.above);

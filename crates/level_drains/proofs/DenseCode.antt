@@ -27,12 +27,12 @@ use Rattle.tensor_storage.specs.Counts.{positions_from}
 use Rattle.tensor_storage.specs.Levels.{meaning}
 use Rattle.tensor_storage.specs.Tables.{Table}
 use Rattle.tensor_storage.proofs.Tables.{apart}
-use Rattle.level_drains.specs.Drained.{MayDrain, AreDrained, LeavesLevel, RefusesLevel}
+use Rattle.level_drains.specs.Drained.{passes_at, MayDrain, AreDrained, LeavesLevel, RefusesLevel}
 use Rattle.level_drains.specs.Tests.{begins_test, guard_code}
 use Rattle.level_drains.proofs.HashedCode.{still_drained}
 use Rattle.level_drains.proofs.Inserted.{inserted, told_level, needed_is}
 use Rattle.level_drains.proofs.Steps.{size_here, rows_here, small, starts_here}
-use Rattle.level_drains.proofs.Turns.{times_of, none_then_placed, counted_few, counted_above}
+use Rattle.level_drains.proofs.Turns.{times_of, pass_here, none_then_placed, counted_few, counted_above}
 
 -- a product of two counts of positions fits a word
 counts_multiply : greatest_position_count * greatest_position_count < 2 ^ 62
@@ -87,12 +87,17 @@ module _ (letters rest : List Letter) (w g d n base : ℕ) (count : KExpr) (inse
         leaves = record {
           below = λ y less no. z.1.below y (omega (arith, less)) no ∙ other_var s base y total (λ e. absurd (omega (arith, e, less)));
           arrays = λ a st. z.1.arrays a st;
-          turns = λ k. none_then_placed (s.turns k) (u.turns k) rows.count (slot_width 0) k (z.1.turns k);
+          turns = λ k. none_then_placed (s.turns k) (u.turns k) (passes_at letters d) rows.count (slot_width 0) k
+              (pass_here letters rest Dense d rows.count left) (z.1.turns k);
         };
       })
       (λ turns a k r. (
         times_of (slot_width 0) rows.count,
-        ((λ j. none_then_placed (s.turns j) (turns j) rows.count (slot_width 0) j (r.0 j)), r.1),
+        (
+          (λ j. none_then_placed (s.turns j) (turns j) (passes_at letters d) rows.count (slot_width 0) j
+              (pass_here letters rest Dense d rows.count left) (r.0 j)),
+          r.1,
+        ),
       ))
 
   guarded : Does c (guard_code base ++ insert) then (LeavesLevel nothing letters sizes table w g d base s)

@@ -31,11 +31,11 @@ use Rattle.tensor_storage.specs.Tables.{Table}
 use Rattle.tensor_storage.proofs.Tables.{apart}
 use Rattle.kernel_stores.specs.Results.{summed}
 use Rattle.kernel_stores.specs.Stores.{AreHeld, StartsBelow}
-use Rattle.level_drains.specs.Drained.{HoldsTable, MayDrain, AreDrained, LeavesLevel, RefusesLevel}
+use Rattle.level_drains.specs.Drained.{passes_at, HoldsTable, MayDrain, AreDrained, LeavesLevel, RefusesLevel}
 use Rattle.level_drains.specs.Tests.{begins_test}
 use Rattle.level_drains.proofs.Inserted.{greatest_few, inserted}
 use Rattle.level_drains.proofs.Steps.{rows_here, few_rows, few_words, fill_here, first_told}
-use Rattle.level_drains.proofs.Turns.{times_of, counted_then_placed}
+use Rattle.level_drains.proofs.Turns.{times_of, two_here, counted_then_placed}
 
 -- what is drained so far stays where no array changes
 abbrev pub still_drained : (nothing : ℕ) (letters : List Letter) (sizes : List ℕ) (table : Table) (w g d : ℕ) (count : KExpr)
@@ -128,13 +128,18 @@ module _ (letters rest : List Letter) (w g d n base : ℕ) (count : KExpr) (grea
             below = λ y less no. z.1.below y (omega (arith, less)) no
                 ∙ other_var t base y total (λ e. absurd (omega (arith, e, less))) ∙ l.leaves.below y (omega (arith, less)) no;
             arrays = λ a st. z.1.arrays a st ∙ l.leaves.arrays a tt;
-            turns = λ k. counted_then_placed (s.turns k) (t.turns k) (u.turns k) rows.count (slot_width l.most) k (l.leaves.turns k)
+            turns = λ k. counted_then_placed (s.turns k) (t.turns k) (u.turns k) (passes_at letters d) rows.count
+                (slot_width l.most) k (two_here letters rest d rows.count left) (l.leaves.turns k)
                 (z.1.turns k);
           };
         })
         (λ turns a k r. (
           times_of (slot_width l.most) rows.count,
-          ((λ j. counted_then_placed (s.turns j) (t.turns j) (turns j) rows.count (slot_width l.most) j (l.leaves.turns j) (r.0 j)), r.1),
+          (
+            (λ j. counted_then_placed (s.turns j) (t.turns j) (turns j) (passes_at letters d) rows.count
+                (slot_width l.most) j (two_here letters rest d rows.count left) (l.leaves.turns j) (r.0 j)),
+            r.1,
+          ),
         ))
 
   pub hashed : Does c (greatest ++ Set base (Bin Mul count (Width (Var (base + 1 + 2)))) ∷ insert) s

@@ -1,23 +1,56 @@
 -- Turns and counts, of whatever kind.
-use Rattle.std.specs.Prelude.{◌≡◌, ℕ, ◌+◌, ◌≤◌, ◌<◌}
-use Rattle.std.proofs.Common.{arith}
+use Rattle.std.specs.Prelude.{◌≡◌, ◌⊎◌, ◌*◌, ℕ, zero, suc, ◌+◌, ◌≤◌, ◌<◌, List, [], ◌∷◌, length, drop}
+use Rattle.std.proofs.Common.{◌∙◌, sym, ap, subst, arith, inl, inr}
+use Rattle.std.proofs.lemmas.Bool.{cases_lt}
 use Rattle.limits.specs.Limits.{greatest_position_count}
 use Rattle.limits.proofs.Limits.{positions_are_small}
 use Rattle.kernel_code.specs.Arrays.{word_count}
 use Rattle.kernel_code.specs.declared.syntax.LoopKind.{LoopKind}
 use Rattle.kernel_code.specs.declared.syntax.LoopKind.TheVariants.{Merge, Skip, Gather, Drain, Probe}
+use Rattle.level_core.specs.declared.letter.Letter.{Letter}
+use Rattle.level_core.specs.declared.letter.Letter.TheVariants.{Dense, Compressed, CompressedGroups, Singleton, SingletonGroups, Hashed}
 use Rattle.level_core.specs.Fragments.{turns_of}
 use Rattle.level_rows.specs.Placing.{times, insert_turns}
-use Rattle.level_drains.specs.Drained.{drain_turns}
+use Rattle.level_drains.specs.Drained.{passes, passes_at, passes_of, drain_turns}
+
+-- the passes of a level by its kind
+pub passes_here : (letters rest : List Letter) (letter : Letter) (d : ℕ) → drop d letters ≡ letter ∷ rest
+    → passes_at letters d ≡ passes letter
+passes_here [] rest letter zero h = let long = ap length h in absurd (omega (arith, long))
+passes_here [] rest letter (suc d) h = let long = ap length h in absurd (omega (arith, long))
+passes_here (first ∷ letters) rest letter zero h = ap (λ ls. passes_at ls 0) h
+passes_here (first ∷ letters) rest letter (suc d) h = passes_here letters rest letter d h
+
+one_pass : (letter : Letter) (rows : ℕ) → rows ≤ times (passes letter) rows
+one_pass Dense rows = omega arith
+one_pass Compressed rows = omega arith
+one_pass CompressedGroups rows = omega arith
+one_pass Singleton rows = omega arith
+one_pass SingletonGroups rows = omega arith
+one_pass Hashed rows = omega arith
+
+-- each level has a pass
+pub pass_here : (letters rest : List Letter) (letter : Letter) (d rows : ℕ) → drop d letters ≡ letter ∷ rest
+    → rows ≤ times (passes_at letters d) rows
+pass_here letters rest letter d rows left =
+    subst (λ p. rows ≤ times p rows) (sym (passes_here letters rest letter d left)) (one_pass letter rows)
+
+-- a hashed one has two
+pub two_here : (letters rest : List Letter) (d rows : ℕ) → drop d letters ≡ Hashed ∷ rest → rows + rows ≤ times (passes_at letters d) rows
+two_here letters rest d rows left =
+    subst (λ p. rows + rows ≤ times p rows) (sym (passes_here letters rest Hashed d left)) two
+  where
+    two : rows + rows ≤ times (passes Hashed) rows
+    two = omega arith
 
 -- a drain turn for each row is within what a level may take
-pub counted_at_most : (before after rows probes : ℕ) (k : LoopKind) → after ≤ before + turns_of Drain rows k
-    → after ≤ before + drain_turns rows probes k
-counted_at_most before after rows probes Merge h = omega (arith, h)
-counted_at_most before after rows probes Skip h = omega (arith, h)
-counted_at_most before after rows probes Gather h = omega (arith, h)
-counted_at_most before after rows probes Drain h = omega (arith, h)
-counted_at_most before after rows probes Probe h = omega (arith, h)
+pub counted_at_most : (before after each rows probes : ℕ) (k : LoopKind) → rows ≤ times each rows → after ≤ before + turns_of Drain rows k
+    → after ≤ before + drain_turns each rows probes k
+counted_at_most before after each rows probes Merge m h = omega (arith, h)
+counted_at_most before after each rows probes Skip m h = omega (arith, h)
+counted_at_most before after each rows probes Gather m h = omega (arith, h)
+counted_at_most before after each rows probes Drain m h = omega (arith, h, m)
+counted_at_most before after each rows probes Probe m h = omega (arith, h)
 
 -- a count that is told of a number is no greater
 pub counted_few : (n k : ℕ) → k ≡ word_count n → k ≤ n
@@ -34,18 +67,72 @@ abbrev pub times_of : ℕ → ℕ → ℕ
 times_of width rows = times rows width
 
 -- rows that are counted and then inserted take two drain turns each
-pub counted_then_placed : (before between after rows width : ℕ) (k : LoopKind) → between ≤ before + turns_of Drain rows k
-    → after ≤ between + insert_turns width rows k → after ≤ before + drain_turns rows (times_of width rows) k
-counted_then_placed before between after rows width Merge h g = omega (arith, h, g)
-counted_then_placed before between after rows width Skip h g = omega (arith, h, g)
-counted_then_placed before between after rows width Gather h g = omega (arith, h, g)
-counted_then_placed before between after rows width Drain h g = omega (arith, h, g)
-counted_then_placed before between after rows width Probe h g = omega (arith, h, g)
+pub counted_then_placed : (before between after each rows width : ℕ) (k : LoopKind) → rows + rows ≤ times each rows
+    → between ≤ before + turns_of Drain rows k
+    → after ≤ between + insert_turns width rows k → after ≤ before + drain_turns each rows (times_of width rows) k
+counted_then_placed before between after each rows width Merge m h g = omega (arith, h, g)
+counted_then_placed before between after each rows width Skip m h g = omega (arith, h, g)
+counted_then_placed before between after each rows width Gather m h g = omega (arith, h, g)
+counted_then_placed before between after each rows width Drain m h g = omega (arith, h, g, m)
+counted_then_placed before between after each rows width Probe m h g = omega (arith, h, g)
 
-pub none_then_placed : (before after rows width : ℕ) (k : LoopKind) → after ≤ before + insert_turns width rows k
-    → after ≤ before + drain_turns rows (times_of width rows) k
-none_then_placed before after rows width Merge h = omega (arith, h)
-none_then_placed before after rows width Skip h = omega (arith, h)
-none_then_placed before after rows width Gather h = omega (arith, h)
-none_then_placed before after rows width Drain h = omega (arith, h)
-none_then_placed before after rows width Probe h = omega (arith, h)
+pub none_then_placed : (before after each rows width : ℕ) (k : LoopKind) → rows ≤ times each rows
+    → after ≤ before + insert_turns width rows k → after ≤ before + drain_turns each rows (times_of width rows) k
+none_then_placed before after each rows width Merge m h = omega (arith, h)
+none_then_placed before after each rows width Skip m h = omega (arith, h)
+none_then_placed before after each rows width Gather m h = omega (arith, h)
+none_then_placed before after each rows width Drain m h = omega (arith, h, m)
+none_then_placed before after each rows width Probe m h = omega (arith, h)
+
+times_add : (p q rows : ℕ) → times (p + q) rows ≡ times p rows + times q rows
+times_add zero q rows = let same : 0 + q ≡ q = omega arith in let none : times q rows ≡ 0 + times q rows = omega arith in
+    ap (λ m. times m rows) same ∙ none
+times_add (suc p) q rows =
+    let same : suc p + q ≡ suc (p + q) = omega arith in
+    let i = times_add p q rows in
+    let step : times (p + q) rows + rows ≡ times p rows + rows + times q rows = omega (arith, i) in
+    ap (λ m. times m rows) same ∙ step
+
+-- the turns of levels and of one more
+pub more_turns : (before between after each also rows probes more : ℕ) (k : LoopKind) → between ≤ before + drain_turns each rows probes k
+    → after ≤ between + drain_turns also rows more k → after ≤ before + drain_turns (each + also) rows (probes + more) k
+more_turns before between after each also rows probes more Merge h g = omega (arith, h, g)
+more_turns before between after each also rows probes more Skip h g = omega (arith, h, g)
+more_turns before between after each also rows probes more Gather h g = omega (arith, h, g)
+more_turns before between after each also rows probes more Drain h g = let t = times_add each also rows in omega (arith, h, g, t)
+more_turns before between after each also rows probes more Probe h g = omega (arith, h, g)
+
+pub fewer_turns : (before after each also rows probes : ℕ) (k : LoopKind) → after ≤ before + drain_turns each rows probes k
+    → after ≤ before + drain_turns (each + also) rows probes k
+fewer_turns before after each also rows probes Merge h = omega (arith, h)
+fewer_turns before after each also rows probes Skip h = omega (arith, h)
+fewer_turns before after each also rows probes Gather h = omega (arith, h)
+fewer_turns before after each also rows probes Drain h = let t = times_add each also rows in omega (arith, h, t)
+fewer_turns before after each also rows probes Probe h = omega (arith, h)
+
+two_at_most : (letters : List Letter) (d : ℕ) → passes_at letters d ≤ 2
+two_at_most [] d = omega arith
+two_at_most (Dense ∷ letters) zero = omega arith
+two_at_most (Compressed ∷ letters) zero = omega arith
+two_at_most (CompressedGroups ∷ letters) zero = omega arith
+two_at_most (Singleton ∷ letters) zero = omega arith
+two_at_most (SingletonGroups ∷ letters) zero = omega arith
+two_at_most (Hashed ∷ letters) zero = omega arith
+two_at_most (letter ∷ letters) (suc d) = two_at_most letters d
+
+pub passes_at_most : (letters : List Letter) (d : ℕ) → passes_of letters d ≤ 2 * d
+passes_at_most letters zero = omega arith
+passes_at_most letters (suc d) = let i = passes_at_most letters d in let two = two_at_most letters d in omega (arith, i, two)
+
+-- where one of the first d levels is gone over once alone, the values may take one pass more within two passes a level
+pub few_passes : (letters : List Letter) (k d : ℕ) → k < d → passes_at letters k ≤ 1 → passes_of letters d + 1 ≤ 2 * d
+few_passes letters k zero less one = absurd (omega (arith, less))
+few_passes letters k (suc d) less one = by_place (cases_lt k d) (few_passes letters k d)
+  where
+    by_place : (k < d) ⊎ (d ≤ k) → (k < d → passes_at letters k ≤ 1 → passes_of letters d + 1 ≤ 2 * d)
+        → passes_of letters (suc d) + 1 ≤ 2 * suc d
+    by_place (inl before) again = let i = again before one in let two = two_at_most letters d in omega (arith, i, two)
+    by_place (inr from) again =
+        let last : k ≡ d = omega (arith, less, from) in
+        let here : passes_at letters d ≤ 1 = subst (λ n. passes_at letters n ≤ 1) last one in
+        let i = passes_at_most letters d in omega (arith, here, i)

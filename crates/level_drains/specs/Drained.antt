@@ -1,6 +1,6 @@
 -- Levels of a kernel's result that are filled from the rows of a workspace, one below another: what arrays hold after each, and what the
 -- code of one level does.
-use Rattle.std.specs.Prelude.{◌≡◌, ◌⊎◌, ℕ, suc, ◌+◌, ◌*◌, ◌≤◌, ◌<◌, List, [], ◌∷◌, length, drop, All, Some, slice_index}
+use Rattle.std.specs.Prelude.{◌≡◌, ◌⊎◌, ℕ, zero, suc, ◌+◌, ◌≤◌, ◌<◌, List, [], ◌∷◌, length, drop, if◌then◌else◌, All, Some, slice_index}
 use Rattle.limits.specs.Limits.{greatest_position_count, greatest_workspace_pairs}
 use Rattle.kernel_code.specs.Does.{Does, Refusal}
 use Rattle.kernel_code.specs.Keeps.{Leaves, NoVariable}
@@ -13,8 +13,10 @@ use Rattle.kernel_code.specs.declared.syntax.LoopKind.{LoopKind}
 use Rattle.kernel_code.specs.declared.syntax.LoopKind.TheVariants.{Drain, Probe}
 use Rattle.level_core.specs.declared.letter.Letter.{Letter}
 use Rattle.level_core.specs.Fragments.{IsOf, RefusedWithin, turns_of}
+use Rattle.level_core.specs.Kinds.{properties}
 use Rattle.level_core.specs.Meaning.{Arrays}
 use Rattle.level_rows.specs.Draining.{Stays}
+use Rattle.level_rows.specs.Placing.{times}
 use Rattle.level_rows.specs.Tables.{Increase}
 use Rattle.tensor_storage.specs.declared.level.StorageLevel.{StorageLevel}
 use Rattle.tensor_storage.specs.Chains.{chain_length}
@@ -65,9 +67,23 @@ pub record AreDrained (nothing : ℕ) (letters : List Letter) (sizes : List ℕ)
   pub below : StartsBelow nothing (drop d letters) (drop d sizes) starts (suc d) s.arrays
   pub values : s.arrays (Values 0) ≡ Some []
 
--- two drain turns for each row at most, so many probe turns, and no others
-abbrev pub drain_turns : ℕ → ℕ → LoopKind → ℕ
-drain_turns rows probes k = turns_of Drain (2 * rows) k + turns_of Probe probes k
+-- how often the rows are gone over for a level: once, and where coordinates stand without order once more before, to count them
+abbrev pub passes : Letter → ℕ
+passes letter = if (properties letter).ordered then 1 else 2
+
+-- for the level that stands below d others, and for the first d levels together
+abbrev pub passes_at : List Letter → ℕ → ℕ
+passes_at [] d = 0
+passes_at (letter ∷ letters) zero = passes letter
+passes_at (letter ∷ letters) (suc d) = passes_at letters d
+
+abbrev pub passes_of : List Letter → ℕ → ℕ
+passes_of letters zero = 0
+passes_of letters (suc d) = passes_of letters d + passes_at letters d
+
+-- so many drain turns for each row at most, so many probe turns, and no others
+abbrev pub drain_turns : ℕ → ℕ → ℕ → LoopKind → ℕ
+drain_turns each rows probes k = turns_of Drain (times each rows) k + turns_of Probe probes k
 
 -- one level more is filled, and the number of its positions stands in variable `base`; all other variables below it stay, and so do
 -- the arrays of other levels and all scratch but the positions of the rows
@@ -75,7 +91,7 @@ pub record LeavesLevel (nothing : ℕ) (letters : List Letter) (sizes : List ℕ
     (s t : State) : Type 0 where
   pub drained : AreDrained nothing letters sizes table w g (suc d) (Var base) t
   pub probes : ℕ
-  pub leaves : Leaves NoVariable (Stays (suc d) g) base (drain_turns table.count probes) s t
+  pub leaves : Leaves NoVariable (Stays (suc d) g) base (drain_turns (passes_at letters d) table.count probes) s t
 
 -- a growth of that level, or of the values that stand for a dense level, to a count that passes the limit and is at most the number of
 -- positions that the rows tell for it
@@ -87,7 +103,7 @@ pub record PassesAt (letters : List Letter) (sizes : List ℕ) (table : Table) (
 -- such a growth is refused, before which no more turns were made
 abbrev pub RefusesLevel : List Letter → List ℕ → Table → ℕ → State → Refusal
 RefusesLevel letters sizes table d s turns a count =
-    (probes : ℕ) × RefusedWithin (drain_turns table.count probes) s (PassesAt letters sizes table d) turns a count
+    (probes : ℕ) × RefusedWithin (drain_turns (passes_at letters d) table.count probes) s (PassesAt letters sizes table d) turns a count
 
 -- what the code of the level that stands below d others does
 abbrev pub DrainsLevel : List Letter → ℕ → ℕ → ℕ → ℕ → KExpr → List KStmt → Type 0

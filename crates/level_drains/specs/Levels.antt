@@ -1,5 +1,5 @@
 -- All levels of a kernel's result, filled from the sorted rows of a workspace: where the code is run, and what it leaves.
-use Rattle.std.specs.Prelude.{◌≡◌, ℕ, ◌+◌, ◌*◌, ◌<◌, false, List, [], length, replicate, Some}
+use Rattle.std.specs.Prelude.{◌≡◌, ℕ, ◌+◌, ◌<◌, false, List, [], length, replicate, Some}
 use Rattle.kernel_code.specs.Arrays.{same_arr}
 use Rattle.kernel_code.specs.Does.{Does, Refusal}
 use Rattle.kernel_code.specs.Keeps.{Leaves, NoVariable}
@@ -8,14 +8,11 @@ use Rattle.kernel_code.specs.declared.syntax.Arr.{Arr}
 use Rattle.kernel_code.specs.declared.syntax.Arr.TheVariants.{Values, ListPositions}
 use Rattle.kernel_code.specs.declared.syntax.KExpr.{Var}
 use Rattle.kernel_code.specs.declared.syntax.KStmt.{KStmt}
-use Rattle.kernel_code.specs.declared.syntax.LoopKind.{LoopKind}
-use Rattle.kernel_code.specs.declared.syntax.LoopKind.TheVariants.{Drain, Probe}
 use Rattle.level_core.specs.declared.letter.Letter.{Letter}
-use Rattle.level_core.specs.Fragments.{IsOutside, RefusedWithin, turns_of}
-use Rattle.level_rows.specs.Placing.{times}
+use Rattle.level_core.specs.Fragments.{IsOutside, RefusedWithin}
 use Rattle.tensor_storage.specs.Tables.{Table}
 use Rattle.kernel_stores.specs.Stores.{StartsBelow}
-use Rattle.level_drains.specs.Drained.{HoldsTable, MayDrain, AreDrained, PassesAt}
+use Rattle.level_drains.specs.Drained.{HoldsTable, MayDrain, AreDrained, drain_turns, passes_of, PassesAt}
 
 -- the result's levels are as a kernel begins them and have no value, the workspace holds the rows, and the scratch list has for each
 -- the one position above all levels
@@ -29,21 +26,18 @@ pub record IsReady (nothing : ℕ) (letters : List Letter) (sizes : List ℕ) (t
 abbrev pub IsBeside : ℕ → Arr → Type 0
 IsBeside g a = ((k : ℕ) → IsOutside 0 k a) × (same_arr (ListPositions g) a ≡ false)
 
--- for each of d levels two drain turns a row at most; so many probe turns, and no others
-abbrev pub levels_turns : ℕ → ℕ → ℕ → LoopKind → ℕ
-levels_turns d rows probes k = turns_of Drain (times d (2 * rows)) k + turns_of Probe probes k
-
 -- the first d levels are filled, and the number of positions of the last stands in a variable
 pub record LeavesLevels (nothing : ℕ) (letters : List Letter) (sizes : List ℕ) (table : Table) (w g d base : ℕ)
     (s t : State) : Type 0 where
   pub drained : AreDrained nothing letters sizes table w g d (Var (base + d)) t
   pub probes : ℕ
-  pub leaves : Leaves NoVariable (IsBeside g) base (levels_turns d table.count probes) s t
+  pub leaves : Leaves NoVariable (IsBeside g) base (drain_turns (passes_of letters d) table.count probes) s t
 
 -- a growth of one of these levels is refused
 abbrev pub RefusesLevels : List Letter → List ℕ → Table → ℕ → State → Refusal
 RefusesLevels letters sizes table d s turns a count =
-    (k : ℕ) × (k < d) × (probes : ℕ) × RefusedWithin (levels_turns d table.count probes) s (PassesAt letters sizes table k) turns a count
+    (k : ℕ) × (k < d) × (probes : ℕ) × RefusedWithin (drain_turns (passes_of letters d) table.count probes) s
+    (PassesAt letters sizes table k) turns a count
 
 -- what the code of the first d levels does
 abbrev pub DrainsFirst : List Letter → ℕ → ℕ → ℕ → ℕ → List KStmt → Type 0

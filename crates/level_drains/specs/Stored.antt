@@ -21,8 +21,8 @@ use Rattle.tensor_storage.specs.Storages.{IsStorage, storage_of, in_level_order}
 use Rattle.tensor_storage.specs.Tables.{Table}
 use Rattle.kernel_stores.specs.Results.{summed}
 use Rattle.kernel_stores.specs.Stores.{AreHeld}
-use Rattle.level_drains.specs.Drained.{MayDrain}
-use Rattle.level_drains.specs.Levels.{IsReady, IsBeside, levels_turns, RefusesLevels}
+use Rattle.level_drains.specs.Drained.{MayDrain, drain_turns, passes_of}
+use Rattle.level_drains.specs.Levels.{IsReady, IsBeside, RefusesLevels}
 
 -- variable `base` is the row
 abbrev pub value_row_code : ℕ → ℕ → ℕ → List KStmt
@@ -58,7 +58,7 @@ pub record LeavesStored (nothing : ℕ) (format : List FormatLevel) (ranges : Li
   pub storage : IsStorage (storage_of format levels values)
   pub probes : ℕ
   pub leaves : Leaves NoVariable (λ a. IsBeside g a × IsNoValue a) base
-      (λ k. levels_turns (length format) table.count probes k + turns_of Drain table.count k) s t
+      (λ k. drain_turns (passes_of (letters_of format) (length format)) table.count probes k + turns_of Drain table.count k) s t
 
 -- what the code does that fills a whole result
 abbrev pub DrainsResult : List FormatLevel → ℕ → ℕ → ℕ → ℕ → List KStmt → Type 0
