@@ -141,7 +141,7 @@ module _ (a : Arithmetic) (laws : Laws a) (s : Statement) (formats : List (List 
   module _ (k : DenseSink) (modes : k.modes ≡ modes_of (format_of formats 0)) (base : ℕ) (places : Places) (at : AreAtBase s base places)
       (top code : List KStmt) (tops : StartsAt base top)
       (adds_code : AddsFromTop a k s formats places loops code) (kernel : Kernel) (arrays : Arrays)
-          (given : IsGiven a.zero store arrays) where
+      (given : IsGiven a.zero store arrays) where
     abbrev setting : Setting
     setting = record { arithmetic = a; workspaces = kernel.workspaces }
 
