@@ -47,7 +47,7 @@ level_numbers [] xs = refl
 level_numbers (l ∷ ls) xs = ap (λ rest. slice_index xs l.mode ∷ rest) (level_numbers ls xs)
 
 -- a function of numbers one after another
-number_at : (f : ℕ → ℕ) (from count k : ℕ) → k < count → slice_index (map f (numbers_from from count)) k ≡ f (from + k)
+pub number_at : (f : ℕ → ℕ) (from count k : ℕ) → k < count → slice_index (map f (numbers_from from count)) k ≡ f (from + k)
 number_at f from zero k h = absurd (omega (arith, h))
 number_at f from (suc count) zero h = ap f (omega arith)
 number_at f from (suc count) (suc k) h = number_at f (from + 1) count k (omega (arith, h)) ∙ ap f (omega arith)

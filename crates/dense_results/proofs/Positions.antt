@@ -100,7 +100,7 @@ pub coords_long : (sizes : List ℕ) (p : ℕ) → p < product sizes → length 
 coords_long sizes p h = below_long sizes (coords_at sizes p) (coords_below sizes p h)
 
 -- a row's coordinates from the level numbered d on
-row_is : (coords : ℕ → ℕ → ℕ) (i d : ℕ) (letters : List Letter) (xs : List ℕ) → length xs ≡ length letters
+pub row_is : (coords : ℕ → ℕ → ℕ) (i d : ℕ) (letters : List Letter) (xs : List ℕ) → length xs ≡ length letters
     → ((k : ℕ) → k < length xs → coords (d + k) i ≡ slice_index xs k) → row_from coords i d letters ≡ xs
 row_is coords i d [] [] long same = refl
 row_is coords i d [] (x ∷ xs) long same = absurd (omega (arith, long))
@@ -119,7 +119,7 @@ pub record Differ (xs ys : List ℕ) : Type 0 where
   pub before : (k : ℕ) → k < at → slice_index xs k ≡ slice_index ys k
   pub less : slice_index xs at < slice_index ys at
 
-differ : (xs ys : List ℕ) → length xs ≡ length ys → IsBefore xs ys → Differ xs ys
+pub differ : (xs ys : List ℕ) → length xs ≡ length ys → IsBefore xs ys → Differ xs ys
 differ [] [] long h = absurd h
 differ [] (y ∷ ys) long h = absurd (omega (arith, long))
 differ (x ∷ xs) [] long h = absurd h

@@ -1,0 +1,8 @@
+//! What is needed so that a kernel is right whose result isn't dense throughout, and goes through a workspace: laws alone, as calls
+//! that do nothing. `specs/Tables.antt` has the rows of a workspace as a table, and `specs/Results.antt` says that the sums of a
+//! workspace are the rows that the result is made of.
+#![tactic(auto)]
+
+mod laws;
+
+pub use laws::sums_are_rows;
