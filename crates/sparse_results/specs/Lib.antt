@@ -1,2 +1,3 @@
+pub mod Keys
 pub mod Results
 pub mod Tables

@@ -5,4 +5,4 @@
 
 mod laws;
 
-pub use laws::sums_are_rows;
+pub use laws::{result_orders_loops, sums_are_rows};
