@@ -1,12 +1,11 @@
 -- A result that isn't dense throughout orders the loops over the left variables.
-use Rattle.std.specs.Prelude.{◌≡◌, ◌≢◌, ℕ, zero, suc, ◌<◌, nat_eq, Bool, true, false, ◌&&◌, ◌||◌, cond, List, [], ◌∷◌, ◌++◌, length, map, All}
-use Rattle.std.specs.Prelude.{filter, take, slice_index, slice_index_or, refl, ◌==◌}
+use Rattle.std.specs.Prelude.{◌≡◌, ◌≢◌, ℕ, suc, ◌<◌, nat_eq, Bool, true, false, ◌&&◌, ◌||◌, cond, List, [], ◌∷◌, length, map, All}
+use Rattle.std.specs.Prelude.{filter, take, slice_index, slice_index_or, refl}
 use Rattle.std.proofs.Common.{◌∙◌, sym, ap, subst, arith}
 use Rattle.std.proofs.lemmas.Bool.{eqb-true, eq-eqb}
-use Rattle.std.proofs.lemmas.List.{length-map}
 use Rattle.std.proofs.lemmas.List.Folds.{list_any-append}
 use Rattle.format_spec.specs.declared.format.FormatLevel.{FormatLevel}
-use Rattle.format_spec.specs.Formats.{modes_of, IsFormat}
+use Rattle.format_spec.specs.Formats.{modes_of}
 use Rattle.index_notation.specs.Statement.{IsDistinct}
 use Rattle.index_notation.specs.declared.syntax.Statement.{Statement}
 use Rattle.iteration_graph.specs.Edges.{format_of, by_level, neighbours, access_edges, edges_of, statement_edges}
