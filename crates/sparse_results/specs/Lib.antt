@@ -1,2 +1,4 @@
+pub mod Growths
+pub mod Keys
 pub mod Results
 pub mod Tables

@@ -5,4 +5,4 @@
 
 mod laws;
 
-pub use laws::sums_are_rows;
+pub use laws::{levels_may_pass, result_orders_loops, sums_are_rows, workspaces_may_pass};
