@@ -46,7 +46,7 @@ from_below (n ∷ ranges) [] h = absurd h
 from_below (n ∷ ranges) (x ∷ coords) h = (h.0, from_below ranges coords h.1)
 
 -- no number in a list of small ones is great, nor is what is told behind its end
-index_small : (xs : List ℕ) (m n : ℕ) → All (λ x. x ≤ n) xs → slice_index xs m ≤ n
+pub index_small : (xs : List ℕ) (m n : ℕ) → All (λ x. x ≤ n) xs → slice_index xs m ≤ n
 index_small [] m n all = omega arith
 index_small (x ∷ xs) zero n all = all 0 0 (omega arith)
 index_small (x ∷ xs) (suc m) n all = index_small xs m n (λ k d h. all (suc k) d (omega (arith, h)))

@@ -95,7 +95,7 @@ module _ (a : Arithmetic) (laws : Laws a) where
     access_word k (Some p) = small k p.lo
 
     mutual
-      rows_words : (c : LoopCode) → shapes.EachTerm (λ t. HasWords t.expr) c → (env : Env)
+      pub rows_words : (c : LoopCode) → shapes.EachTerm (λ t. HasWords t.expr) c → (env : Env)
           → Each HasWord (contributions a layout stored ranges target c env)
       rows_words (Loop' v seeks p body) h env =
           below_words (ranges v) (λ x. contributions_in a layout stored ranges target body (moved layout stored v seeks env x))

@@ -1,4 +1,5 @@
 pub mod Growths
 pub mod Keys
+pub mod Loops
 pub mod Results
 pub mod Tables

@@ -1,6 +1,7 @@
 //! The laws, as calls whose contracts they are. They do nothing.
 ghost use Rattle.sparse_results.specs.Growths.{LevelsMayPass, WorkspacesMayPass};
 ghost use Rattle.sparse_results.specs.Keys.{ResultOrdersLoops};
+ghost use Rattle.sparse_results.specs.Loops.{LoopsAddRows, LoopsSumToResult, StoresHaveSmallLevels};
 ghost use Rattle.sparse_results.specs.Results.{SumsAreRows};
 
 /// In loop order the left variables stand as the levels of a result that isn't dense throughout do, from the top.
@@ -22,4 +23,19 @@ pub fn levels_may_pass()
 /// So may a growth of the workspace to more pairs than may be, and no more than a statement's loops add.
 pub fn workspaces_may_pass()
     ensures { WorkspacesMayPass }
+{}
+
+/// Each row that loops add to keys has a coordinate for each of them, and a word as its value.
+pub fn loops_add_rows()
+    ensures { LoopsAddRows }
+{}
+
+/// The sums of the rows that the loops of a statement add to the left variables in loop order are the rows of its result.
+pub fn loops_sum_to_result()
+    ensures { LoopsSumToResult }
+{}
+
+/// There is a range for each level of a result, none above the limit.
+pub fn stores_have_small_levels()
+    ensures { StoresHaveSmallLevels }
 {}

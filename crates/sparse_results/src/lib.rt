@@ -5,4 +5,7 @@
 
 mod laws;
 
-pub use laws::{levels_may_pass, result_orders_loops, sums_are_rows, workspaces_may_pass};
+pub use laws::{
+    levels_may_pass, loops_add_rows, loops_sum_to_result, result_orders_loops,
+    stores_have_small_levels, sums_are_rows, workspaces_may_pass,
+};
