@@ -2,4 +2,5 @@ pub mod Growths
 pub mod Keys
 pub mod Loops
 pub mod Results
+pub mod Sorting
 pub mod Tables

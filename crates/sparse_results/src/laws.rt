@@ -3,6 +3,7 @@ ghost use Rattle.sparse_results.specs.Growths.{LevelsMayPass, WorkspacesMayPass}
 ghost use Rattle.sparse_results.specs.Keys.{ResultOrdersLoops};
 ghost use Rattle.sparse_results.specs.Loops.{LoopsAddRows, LoopsSumToResult, StoresHaveSmallLevels};
 ghost use Rattle.sparse_results.specs.Results.{SumsAreRows};
+ghost use Rattle.sparse_results.specs.Sorting.{SortingSums};
 
 /// In loop order the left variables stand as the levels of a result that isn't dense throughout do, from the top.
 pub fn result_orders_loops()
@@ -38,4 +39,9 @@ pub fn loops_sum_to_result()
 /// There is a range for each level of a result, none above the limit.
 pub fn stores_have_small_levels()
     ensures { StoresHaveSmallLevels }
+{}
+
+/// A workspace that held rows holds their sums once it is sorted, and nothing else has changed.
+pub fn sorting_sums()
+    ensures { SortingSums }
 {}

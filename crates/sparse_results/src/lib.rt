@@ -6,6 +6,6 @@
 mod laws;
 
 pub use laws::{
-    levels_may_pass, loops_add_rows, loops_sum_to_result, result_orders_loops,
+    levels_may_pass, loops_add_rows, loops_sum_to_result, result_orders_loops, sorting_sums,
     stores_have_small_levels, sums_are_rows, workspaces_may_pass,
 };
