@@ -10,15 +10,13 @@ use Rattle.std.proofs.lemmas.Bool.Decides.{nat_tests}
 use Rattle.std.proofs.lemmas.List.{length-map}
 use Rattle.numbers.specs.Arithmetic.{Arithmetic}
 use Rattle.kernel_code.specs.Arrays.{same_arr}
-use Rattle.kernel_code.specs.Does.{Does, Never}
-use Rattle.kernel_code.specs.Keeps.{Leaves, NoVariable, no_turns}
+use Rattle.kernel_code.specs.Does.{Never}
 use Rattle.kernel_code.specs.Meaning.{Setting, State, Ended, set_array, key_columns, set_columns, summed, sort_sum_outcome}
 use Rattle.kernel_code.specs.Rows.{Row, insert_by, sorted_by, compare_keys, row_before, join_row, joined_rows, summed_rows, keys_at}
 use Rattle.kernel_code.specs.Rows.{rows_from, column_of}
 use Rattle.kernel_code.specs.declared.syntax.Arr.{Arr}
 use Rattle.kernel_code.specs.declared.syntax.Arr.TheVariants.{Range, Values, Dimension, Ends, Coordinates, Width, Key, Sums}
 use Rattle.kernel_code.specs.declared.syntax.Arr.TheVariants.{ListCoordinates, ListPositions}
-use Rattle.kernel_code.specs.declared.syntax.KStmt.{SortSum}
 use Rattle.kernel_code.proofs.ArrayNames.{same_arr_is, same_arr_self}
 use Rattle.kernel_code.proofs.Does.{does_sort_sum, does_nothing}
 use Rattle.kernel_code.proofs.SumLemmas.{joins, joins_not, next_column}
@@ -212,7 +210,7 @@ keys_both : (columns others : List (List ℕ)) (i : ℕ) → keys_at (columns ++
 keys_both [] others i = refl
 keys_both (c ∷ columns) others i = ap (λ ks. slice_index c i ∷ ks) (keys_both columns others i)
 
-column_at : (k : ℕ) (rows : List Entry) (i : ℕ) → i < length rows
+pub column_at : (k : ℕ) (rows : List Entry) (i : ℕ) → i < length rows
     → slice_index (column k rows) i ≡ slice_index (slice_index_or rows i no_entry).coords k
 column_at k [] i h = absurd (omega (arith, h))
 column_at k (row ∷ rows) zero h = refl

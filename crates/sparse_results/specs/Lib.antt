@@ -3,4 +3,5 @@ pub mod Keys
 pub mod Loops
 pub mod Results
 pub mod Sorting
+pub mod Stored
 pub mod Tables

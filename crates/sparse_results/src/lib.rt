@@ -6,6 +6,7 @@
 mod laws;
 
 pub use laws::{
-    levels_may_pass, loops_add_rows, loops_sum_to_result, result_orders_loops, sorting_sums,
-    stores_have_small_levels, sums_are_rows, workspaces_may_pass,
+    columns_are_tables, levels_may_pass, loops_add_rows, loops_sum_to_result, result_orders_loops,
+    sorting_sums, standing_is_result, stores_have_small_levels, sums_are_no_more, sums_are_rows,
+    workspaces_may_pass,
 };
