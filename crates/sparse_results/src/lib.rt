@@ -1,6 +1,8 @@
 //! What is needed so that a kernel is right whose result isn't dense throughout, and goes through a workspace: laws alone, as calls
-//! that do nothing. `specs/Tables.antt` has the rows of a workspace as a table, and `specs/Results.antt` says that the sums of a
-//! workspace are the rows that the result is made of.
+//! that do nothing. `specs/Tables.antt` has the rows of a workspace as a table, `specs/Keys.antt` says which keys it has,
+//! `specs/Loops.antt` and `specs/Results.antt` that the sums of the rows that loops push are the rows of the result,
+//! `specs/Sorting.antt` what sorting leaves, `specs/Stored.antt` what the result's arrays leave, and `specs/Growths.antt` which growths
+//! may be refused.
 #![tactic(auto)]
 
 mod laws;
