@@ -53,7 +53,8 @@ each_at P (x ∷ xs) none (suc k) each h = each_at P xs none k each.1 (omega (ar
 abbrev HasWord : Entry → Type 0
 HasWord row = row.value < 2 ^ 64
 
-put_words : (a : Arithmetic) → Laws a → (pair : Entry) (row : List Entry) → HasWord pair → Each HasWord row → Each HasWord (put_pair a pair row)
+put_words : (a : Arithmetic) → Laws a → (pair : Entry) (row : List Entry) → HasWord pair → Each HasWord row
+    → Each HasWord (put_pair a pair row)
 put_words a laws pair [] is each = (is, tt)
 put_words a laws pair (first ∷ others) is each =
     by (slice_cmp nat_cmp pair.coords first.coords) (put_words a laws pair others is each.1)

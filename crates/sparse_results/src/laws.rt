@@ -3,6 +3,8 @@ ghost use Rattle.sparse_results.specs.Growths.{LevelsMayPass, WorkspacesMayPass}
 ghost use Rattle.sparse_results.specs.Keys.{ResultOrdersLoops};
 ghost use Rattle.sparse_results.specs.Loops.{LoopsAddRows, LoopsSumToResult, StoresHaveSmallLevels};
 ghost use Rattle.sparse_results.specs.Results.{SumsAreRows};
+ghost use Rattle.sparse_results.specs.Sorting.{SortingSums};
+ghost use Rattle.sparse_results.specs.Stored.{ColumnsAreTables, StandingIsResult, SumsAreNoMore};
 
 /// In loop order the left variables stand as the levels of a result that isn't dense throughout do, from the top.
 pub fn result_orders_loops()
@@ -38,4 +40,24 @@ pub fn loops_sum_to_result()
 /// There is a range for each level of a result, none above the limit.
 pub fn stores_have_small_levels()
     ensures { StoresHaveSmallLevels }
+{}
+
+/// A workspace that held rows holds their sums once it is sorted, and nothing else has changed.
+pub fn sorting_sums()
+    ensures { SortingSums }
+{}
+
+/// Where levels and values stand for the rows of a statement's result, the arrays leave it.
+pub fn standing_is_result()
+    ensures { StandingIsResult }
+{}
+
+/// The columns of a workspace that holds rows are those of their table.
+pub fn columns_are_tables()
+    ensures { ColumnsAreTables }
+{}
+
+/// There are no more sums than rows.
+pub fn sums_are_no_more()
+    ensures { SumsAreNoMore }
 {}
