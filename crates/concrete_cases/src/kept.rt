@@ -1,16 +1,21 @@
 // What a case says of a statement: its concrete form, the entries of its operands and the ranges of its variables.
-ghost use Rattle.std.specs.Prelude.{◌≡◌, ◌<◌, ◌↔◌, length, IsTrue};
+ghost use Rattle.std.specs.Prelude.{◌≡◌, ◌<◌, ◌↔◌, ℕ, length, slice_index, true, IfOk, IsTrue};
+ghost use Rattle.index_notation.specs.Statement.{IsNumbered, IsWellNamed};
+ghost use Rattle.tensor_storage.specs.Arranged.{AreInside};
 ghost use Rattle.lists.specs.Each.{Each};
 ghost use Rattle.iteration_graph.specs.Edges.{HasFormat};
 
 use anyhow::{Result, bail};
 use concrete_notation::{Concrete, concretize};
-use expr_terms::groups;
+use expr_terms::{groups, has_meaning};
 use format_spec::{Format, parse_format};
 use index_notation::{Access, Statement};
 use iteration_graph::{OrderFault, edges, order};
+use kernel_code::Kernel;
 use limits::greatest_order_of_tensor;
+use numbers::Ring;
 use std::alloc::Global;
+use taco_compiler::{CompileFault, compile};
 use tensor_map::Entries;
 use trees::Items;
 
@@ -76,18 +81,47 @@ fn read_formats(alloc: Global, words: &str) -> Result<Vec<Format>> {
     Ok(formats)
 }
 
-// The loops of a statement under the formats of words.
-pub(crate) fn form_of(alloc: Global, statement: &Statement, words: &str) -> Result<Form> {
+// The formats of words, one of the order of each tensor of a statement.
+fn formats_for(alloc: Global, statement: &Statement, words: &str) -> Result<Vec<Format>>
+    ensures left { IfOk result (λ formats. HasFormat formats.items statement.now.left) }
+    ensures right { IfOk result (λ formats. Each (HasFormat formats.items) statement.now.accesses) }
+    ensures numbered { IfOk result (λ formats. IsNumbered statement.now) }
+    ensures named { IfOk result (λ formats. IsWellNamed statement.now) }
+{
     let formats = read_formats(alloc, words)?;
-    let formats = formats.as_slice();
-    if !has_format(formats, &statement.left)
-        || !have_formats(formats, statement.accesses.as_slice())
+    if !has_format(formats.as_slice(), &statement.left)
+        || !have_formats(formats.as_slice(), statement.accesses.as_slice())
     {
         bail!("a format of another order");
     }
     if !statement.is_numbered() || !statement.is_well_named() {
         bail!("a statement with a fault of its names");
     }
+    Ok(formats)
+}
+
+// The kernel of a statement under the formats of words, and these.
+pub(crate) fn compiled(
+    alloc: Global,
+    statement: &Statement,
+    words: &str,
+) -> Result<(Kernel, Vec<Format>)> {
+    let formats = formats_for(alloc, statement, words)?;
+    if !has_meaning::<Ring>(&statement.expr) {
+        bail!("a minus");
+    }
+    match compile::<Ring>(alloc, statement, formats.as_slice()) {
+        Ok(compiled) => Ok((compiled.kernel, formats)),
+        Err(CompileFault::Cycle(_cycle)) => bail!("a cycle"),
+        Err(CompileFault::NotBuilt) => bail!("not built"),
+        Err(CompileFault::Memory(error)) => Err(error.into()),
+    }
+}
+
+// The loops of a statement under the formats of words.
+pub(crate) fn form_of(alloc: Global, statement: &Statement, words: &str) -> Result<Form> {
+    let formats = formats_for(alloc, statement, words)?;
+    let formats = formats.as_slice();
     let edges = edges(alloc, statement, formats)?;
     let groups = groups(alloc, statement)?;
     match order(alloc, statement.vars.len(), edges.as_slice()) {
@@ -138,4 +172,31 @@ pub(crate) fn read_ranges(alloc: Global, words: &str) -> Result<Vec<u64>> {
         ranges.push(word.parse::<u64>()?)?;
     }
     Ok(ranges)
+}
+
+// Whether each coordinate is below the range of its mode.
+fn is_inside(ranges: &[u64], coords: &[u64]) -> bool
+    requires { length coords.now ≡ length ranges.now }
+    ensures { result ≡ true → (mode : ℕ) → mode < length ranges.now
+        → slice_index coords.now mode < slice_index ranges.now mode }
+{
+    for mode in 0..ranges.len() {
+        if coords[mode] >= ranges[mode] {
+            return false;
+        }
+    }
+    true
+}
+
+// Whether the coordinates of all entries are below the ranges.
+pub(crate) fn are_inside(ranges: &[u64], entries: &Entries) -> bool
+    requires { entries.now.order ≡ length ranges.now }
+    ensures { result ≡ true → AreInside ranges.now entries.now.list }
+{
+    for i in 0..entries.len() {
+        if !is_inside(ranges, entries.coords(i)) {
+            return false;
+        }
+    }
+    true
 }

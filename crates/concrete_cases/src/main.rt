@@ -13,13 +13,18 @@
 //! sums                         The rows into which the workspace is drained.
 //! compare                      Whether the contributions add up to the statement's value at each point, and stand exactly
 //!                              where some term is present.
+//! run d ds d                   The statement's kernel under a format for each tensor, run on the packed operands: the values
+//!                              that it leaves, and its turns, those kinds that it makes.
+//! leaves d ds d                The values that it leaves alone.
 //! ```
 #![tactic(auto)]
 
+mod arrays;
 mod compared;
 mod forms;
 mod kept;
 mod rows;
+mod runs;
 mod session;
 
 use anyhow::{Context, Result};

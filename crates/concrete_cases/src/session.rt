@@ -3,6 +3,7 @@ use crate::compared::comparison;
 use crate::forms::{put_concrete, put_named};
 use crate::kept::{Form, form_of, read_entries, read_ranges};
 use crate::rows::{Given, Row, drained, plain_rows};
+use crate::runs::{leaves_shape, run_shape};
 use anyhow::{Result, bail};
 use concrete_notation::Concrete;
 use index_notation::{NotationFault, Statement};
@@ -87,6 +88,8 @@ impl Session {
             "rows" => self.rows(),
             "sums" => self.sums(),
             "compare" => self.compare(),
+            "run" => self.run(rest),
+            "leaves" => self.leaves(rest),
             _ => bail!("no such line"),
         }
     }
@@ -159,6 +162,20 @@ impl Session {
         let rows = plain_rows(given, keys.as_slice(), body.get())?;
         let sums = drained(self.alloc, keys.len(), rows.as_slice())?;
         sums_shape(self.alloc, &sums)
+    }
+
+    fn run(&self, words: &str) -> Result<String> {
+        match &self.given {
+            Some(given) => run_shape(given, words),
+            None => bail!("no statement"),
+        }
+    }
+
+    fn leaves(&self, words: &str) -> Result<String> {
+        match &self.given {
+            Some(given) => leaves_shape(given, words),
+            None => bail!("no statement"),
+        }
     }
 
     fn compare(&self) -> Result<String> {
