@@ -54,7 +54,7 @@ rows_stored = record {
   word = λ k pos. 1;
 }
 
--- the matrix is a list of coordinates, three of them in row 0 and one in row 2, and two coordinates of the vector are hashed
+-- the matrix is a list of coordinates, three of them in its first row and one in its third, and two coordinates of the vector are hashed
 abbrev pub list_formats : List (List FormatLevel)
 list_formats = (level Dense 0 ∷ []) ∷ (level CompressedGroups 0 ∷ level Singleton 1 ∷ []) ∷ (level Hashed 0 ∷ []) ∷ []
 
