@@ -1,5 +1,6 @@
 -- What the laws of fragments say, of any kind of level.
-use Rattle.std.specs.Prelude.{◌≡◌, ℕ, ◌+◌, ◌-◌, ◌≤◌, ◌<◌, ◌^◌, if◌then◌else◌, List, [], ◌∷◌, length, Option, Some, None}
+use Rattle.std.specs.Prelude.{◌≡◌, ℕ, ◌+◌, ◌-◌, ◌≤◌, ◌<◌, ◌^◌, if◌then◌else◌, List, []}
+use Rattle.std.specs.Prelude.{◌∷◌, length, Option, Some, None}
 use Rattle.limits.specs.Limits.{greatest_position_count}
 use Rattle.kernel_code.specs.Arrays.{word_count}
 pub use Rattle.kernel_code.specs.Meaning.{Setting, State, value, same_kind}
@@ -79,7 +80,8 @@ abbrev pub RefusedWithin : (LoopKind → ℕ) → State → (Arr → ℕ → Typ
 RefusedWithin most s Refused turns a count = ((k : LoopKind) → turns k ≤ s.turns k + most k) × Refused a count
 
 -- such code that may be refused a growth
-abbrev pub Grows : Setting → List KStmt → ℕ → ℕ → ℕ → (LoopKind → ℕ) → State → (State → Type 0) → (Arr → ℕ → Type 0) → Type 0
+abbrev pub Grows : Setting → List KStmt → ℕ → ℕ → ℕ → (LoopKind → ℕ) → State → (State → Type 0) → (Arr → ℕ → Type 0)
+    → Type 0
 Grows c code free tensor level most s Answer Refused = Runs c code free (IsOutside tensor level) most s Answer
     (RefusedWithin most s Refused)
 

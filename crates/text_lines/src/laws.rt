@@ -1,5 +1,6 @@
 //! What follows from the definitions, as calls whose contract is the law. They do nothing.
-ghost use Rattle.std.specs.Prelude.{◌≡◌, ℕ, ℤ, pos, negsuc, map, replicate, codes, Ok, Err, ◌^◌, ◌<◌, ◌≤◌, length, ◌++◌, ◌∷◌, []};
+ghost use Rattle.std.specs.Prelude.{◌≡◌, ℕ, ℤ, pos, negsuc, map, replicate, codes, Ok, Err, ◌^◌};
+ghost use Rattle.std.specs.Prelude.{◌<◌, ◌≤◌, length, ◌++◌, ◌∷◌, []};
 ghost use Rattle.std.specs.Prelude.{List, All, Some, IsTrue, true, false};
 ghost use Rattle.std.specs.Fmt.{decimal, signed_decimal};
 ghost use Rattle.text_lines.specs.LineLaws.{IsLine, joined_lines};

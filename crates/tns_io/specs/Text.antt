@@ -1,5 +1,6 @@
 -- The text of a tensor: a line for each coordinate list below the ranges whose value isn't zero.
-use Rattle.std.specs.Prelude.{◌≡◌, ◌≢◌, ℕ, ◌+◌, ◌<◌, nat_eq, List, [], ◌∷◌, ◌++◌, All, ◌⊎◌, ◌↔◌, if◌then◌else◌}
+use Rattle.std.specs.Prelude.{◌≡◌, ◌≢◌, ℕ, ◌+◌, ◌<◌, nat_eq, List, [], ◌∷◌}
+use Rattle.std.specs.Prelude.{◌++◌, All, ◌⊎◌, ◌↔◌, if◌then◌else◌}
 use Rattle.std.specs.List.{flat_map}
 use Rattle.std.specs.Fmt.{decimal, signed_decimal}
 use Rattle.limits.specs.Limits.{greatest_position_count}

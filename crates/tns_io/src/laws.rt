@@ -1,5 +1,6 @@
 //! What follows from the definitions, as calls whose contract is the law. They do nothing.
-ghost use Rattle.std.specs.Prelude.{◌≡◌, ℕ, ◌+◌, ◌-◌, ◌^◌, ◌<◌, ◌≤◌, ◌++◌, ◌∷◌, [], List, All, length, map, replicate, codes, pos, Ok, Err};
+ghost use Rattle.std.specs.Prelude.{◌≡◌, ℕ, ◌+◌, ◌-◌, ◌^◌, ◌<◌, ◌≤◌, ◌++◌, ◌∷◌, [], List, All};
+ghost use Rattle.std.specs.Prelude.{length, map, replicate, codes, pos, Ok, Err};
 ghost use Rattle.limits.specs.Limits.{greatest_order, greatest_file_coordinate};
 ghost use Rattle.numbers.specs.Arithmetic.{Arithmetic, Laws};
 ghost use Rattle.tensor_map.specs.declared.entries.Entry.{Entry};
