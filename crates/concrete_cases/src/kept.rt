@@ -1,7 +1,6 @@
 // What a case says of a statement: its concrete form, the entries of its operands and the ranges of its variables.
-ghost use Rattle.std.specs.Prelude.{◌≡◌, ◌<◌, ◌↔◌, ℕ, length, slice_index, true, IfOk, IsTrue};
+ghost use Rattle.std.specs.Prelude.{◌↔◌, IfOk, IsTrue};
 ghost use Rattle.index_notation.specs.Statement.{IsNumbered, IsWellNamed};
-ghost use Rattle.tensor_storage.specs.Arranged.{AreInside};
 ghost use Rattle.lists.specs.Each.{Each};
 ghost use Rattle.iteration_graph.specs.Edges.{HasFormat};
 
@@ -172,31 +171,4 @@ pub(crate) fn read_ranges(alloc: Global, words: &str) -> Result<Vec<u64>> {
         ranges.push(word.parse::<u64>()?)?;
     }
     Ok(ranges)
-}
-
-// Whether each coordinate is below the range of its mode.
-fn is_inside(ranges: &[u64], coords: &[u64]) -> bool
-    requires { length coords.now ≡ length ranges.now }
-    ensures { result ≡ true → (mode : ℕ) → mode < length ranges.now
-        → slice_index coords.now mode < slice_index ranges.now mode }
-{
-    for mode in 0..ranges.len() {
-        if coords[mode] >= ranges[mode] {
-            return false;
-        }
-    }
-    true
-}
-
-// Whether the coordinates of all entries are below the ranges.
-pub(crate) fn are_inside(ranges: &[u64], entries: &Entries) -> bool
-    requires { entries.now.order ≡ length ranges.now }
-    ensures { result ≡ true → AreInside ranges.now entries.now.list }
-{
-    for i in 0..entries.len() {
-        if !is_inside(ranges, entries.coords(i)) {
-            return false;
-        }
-    }
-    true
 }

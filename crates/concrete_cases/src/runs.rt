@@ -3,9 +3,10 @@ ghost use Rattle.std.specs.Prelude.{◌≡◌, ◌<◌, length, true, IfOk};
 ghost use Rattle.storage_arrays.specs.Arrays.{AreDone};
 
 use crate::arrays::{add_tensor, one_word};
-use crate::kept::{are_inside, compiled};
+use crate::kept::compiled;
 use crate::rows::Given;
 use anyhow::{Context, Result, bail};
+use case_tensors::are_inside;
 use format_spec::Format;
 use kernel_code::{Arr, Ending, Kernel, Machine, Turns};
 use numbers::{Ring, signed};
