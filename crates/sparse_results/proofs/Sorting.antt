@@ -28,6 +28,7 @@ use Rattle.concrete_notation.specs.Contributions.{put_by, put_pair, sums_of}
 use Rattle.tensor_storage.specs.Arranged.{no_entry}
 use Rattle.term_code.specs.WorkspaceSinks.{HoldsRows, IsOfWorkspace, column, values}
 use Rattle.sparse_results.specs.Sorting.{LeavesSums, SortingSums}
+use Rattle.sparse_results.proofs.NoMore.{sums_are_no_more}
 
 -- ---- comparing
 turned_by : (xs ys : List ℕ) (o p : Ordering) → MatchOrdering o (IsBefore xs ys) (xs ≡ ys) (IsBefore ys xs)
@@ -340,6 +341,10 @@ module _ (c : Setting) (w keys : ℕ) (there : slice_get c.workspaces w ≡ Some
           set_key s w sums keys k h ∙ ap Some (column_rows k (sums_of c.arithmetic rows) c.arithmetic);
       sums = ap (λ b. if b then Some (map (λ (r : Row). r.value) sums) else (set_columns s w sums keys).arrays (Sums w))
           (same_arr_self (Sums w)) ∙ ap Some (value_rows (sums_of c.arithmetic rows) c.arithmetic);
+      few =
+          let no_more = sums_are_no_more c.arithmetic rows in
+          let held = holds.few in
+          omega (arith, no_more, held);
     };
     leaves = λ top. record {
       below = λ y l n. vars_kept s w sums keys y;

@@ -47,6 +47,9 @@ vars_kept [] (x ∷ xs) s t f h = h
 vars_kept (y ∷ ys) [] s t f h = h
 vars_kept (y ∷ ys) (x ∷ xs) s t f h = (f y ∙ h.0, vars_kept ys xs s t f h.1)
 
+within_pairs : (n : ℕ) → nat_le n greatest_workspace_pairs ≡ true → n ≤ greatest_workspace_pairs
+within_pairs n h = grind (arith, nat_tests, h)
+
 past_pairs : (n : ℕ) → nat_le n greatest_workspace_pairs ≡ false → greatest_workspace_pairs < n
 past_pairs n h = grind (arith, nat_tests, h)
 
@@ -97,6 +100,11 @@ push_does c w keys rows r free v s0 has [] [] before k s is long count vars h =
         key = λ j l. h.done j (omega (arith, l, count));
         sums = this_array s (Sums w) (Sums w) (values rows ++ r.value ∷ []) (same_arr_self (Sums w))
             ∙ ap Some (sym (map_append (λ (e : Entry). e.value) rows (r ∷ [])));
+        few =
+            let l = length_append rows (r ∷ []) in
+            let m = within_pairs (length (values rows) + 1) may in
+            let long = length_map (λ (e : Entry). e.value) rows in
+            omega (arith, l, m, long);
       },
     ))
     (λ over. (

@@ -31,10 +31,11 @@ IsOfWorkspace w (Sums n) = n ≡ w
 IsOfWorkspace w (ListCoordinates n) = ⊥
 IsOfWorkspace w (ListPositions n) = ⊥
 
--- the arrays of a workspace hold rows of so many keys
+-- the arrays of a workspace hold rows of so many keys, no more than may be
 pub record HoldsRows (w keys : ℕ) (rows : List Entry) (arrays : Arr → Option (List ℕ)) : Type 0 where
   pub key : (k : ℕ) → k < keys → arrays (Key w k) ≡ Some (column k rows)
   pub sums : arrays (Sums w) ≡ Some (values rows)
+  pub few : length rows ≤ greatest_workspace_pairs
 
 -- a workspace is refused a row where it would hold more than may be, and no more than so many rows
 pub record PassesPairs (w : ℕ) (rows : List Entry) (a : Arr) (count : ℕ) : Type 0 where

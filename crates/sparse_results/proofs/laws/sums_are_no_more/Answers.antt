@@ -1,4 +1,4 @@
-use Rattle.sparse_results.proofs.Stored.{sums_are_no_more}
+use Rattle.sparse_results.proofs.NoMore.{sums_are_no_more}
 use Rattle.sparse_results.proofs.laws.sums_are_no_more.Goals as goal
 
 pub returns : goal.returns
