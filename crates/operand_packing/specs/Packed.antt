@@ -1,16 +1,17 @@
 -- Operands as they are packed: in their formats, with level sizes by the ranges of the variables.
-use Rattle.std.specs.Prelude.{◌≡◌, ℕ, suc, ◌<◌, List, length, All, Some, slice_get}
+use Rattle.std.specs.Prelude.{◌≡◌, ℕ, suc, ◌<◌, ◌^◌, List, length, All, Some, slice_get}
 use Rattle.numbers.specs.Arithmetic.{Arithmetic}
 use Rattle.tensor_map.specs.Coords.{IsShape}
 use Rattle.tensor_map.specs.Entries.{Entries, IsEntry, SameListed, SameValues, StrictlyIncreasing}
 use Rattle.tensor_map.specs.declared.entries.Entry.{Entry}
 use Rattle.format_spec.specs.declared.format.FormatLevel.{FormatLevel}
+use Rattle.format_spec.specs.Formats.{IsFormat}
 use Rattle.index_notation.specs.declared.syntax.Statement.{Statement}
 use Rattle.iteration_graph.specs.Edges.{format_of}
 use Rattle.tensor_storage.specs.Arranged.{AreArranged, AreInside, IsPackedFrom, table_of}
 use Rattle.tensor_storage.specs.Counts.{AreFew, positions_of}
 use Rattle.tensor_storage.specs.Packed.{IsFirstAbove}
-use Rattle.tensor_storage.specs.Storages.{Storage}
+use Rattle.tensor_storage.specs.Storages.{Storage, IsStorage}
 use Rattle.statement_operands.specs.Operands.{mode_sizes}
 use Rattle.operand_packing.specs.declared.packing.PackFault.{PackFault}
 use Rattle.operand_packing.specs.declared.packing.PackFault.TheVariants.{SizeLimit, Memory}
@@ -22,11 +23,17 @@ pub record AreSummed (a : Arithmetic) (order : ℕ) (entries summed : List Entry
   pub values : SameValues a entries summed
   pub listed : SameListed entries summed
 
--- a storage stands for the entries, summed up where several have the same coordinates, all of them named
-pub record IsPackedOperand (a : Arithmetic) (format : List FormatLevel) (sizes : List ℕ) (entries : List Entry) (storage : Storage) : Type 0 where
+-- a storage stands for the entries, summed up where several have the same coordinates, all of them named; its values are words
+pub record IsPackedOperand (a : Arithmetic) (format : List FormatLevel) (sizes : List ℕ) (entries : List Entry)
+    (storage : Storage) : Type 0 where
+  pub is_format : IsFormat format
+  pub long : length sizes ≡ length format
   pub summed : List Entry
   pub are_summed : AreSummed a (length format) entries summed
+  pub inside : AreInside sizes summed
   pub packed : IsPackedFrom a.zero format sizes summed storage
+  pub whole : IsStorage storage
+  pub words : All (λ v. v < 2 ^ 64) storage.values
 
 -- the levels of a tensor of this format have so many positions for its entries, told by the coordinates that these name
 pub record HavePositions (a : Arithmetic) (format : List FormatLevel) (sizes : List ℕ) (entries : List Entry) (counts : List ℕ) : Type 0 where
@@ -68,6 +75,7 @@ pub record IsPackedAt (a : Arithmetic) (s : Statement) (formats : List (List For
     (n : ℕ) (storage : Storage) : Type 0 where
   pub entries : Entries
   pub is : slice_get operands n ≡ Some entries
+  pub order : entries.order ≡ length (format_of formats (suc n))
   pub packed : IsPackedOperand a (format_of formats (suc n)) (operand_sizes s ranges n entries) entries.list storage
 
 -- there is a storage for each operand, which stands for it

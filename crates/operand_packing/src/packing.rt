@@ -1,9 +1,11 @@
 //! Operands packed one after another.
-ghost use Rattle.std.specs.Prelude.{◌≡◌, ◌+◌, ◌≤◌, ◌<◌, ◌^◌, ℕ, List, ◌∷◌, All, length, slice_index, IfOk, MatchResult};
+ghost use Rattle.std.specs.Prelude.{◌≡◌, ◌<◌, ◌^◌, ℕ, List, ◌∷◌, All, length, slice_index, OnOk, MatchResult};
 ghost use Rattle.numbers.specs.Arithmetic.{Arithmetic};
 ghost use Rattle.tensor_map.specs.declared.entries.Entry.{Entry as AnEntry};
 ghost use Rattle.format_spec.specs.declared.format.FormatLevel.{FormatLevel as ALevel};
+ghost use Rattle.tensor_map.specs.Coords.{IsShape};
 ghost use Rattle.tensor_storage.specs.Arranged.{IsRefusalOf};
+ghost use Rattle.tensor_storage.specs.Storages.{IsStorage};
 ghost use Rattle.operand_packing.specs.Packed.{AreSummed, ArePackedOperands, IsPackedOperand, IsPackRefusal};
 ghost use Rattle.operand_packing.specs.Packed.{MayBePacked, MayAllBePacked, MayNotPack};
 
@@ -59,6 +61,38 @@ fn fault_of(tensor: usize, refusal: PackRefusal) -> PackFault
     }
 }
 
+/// Puts the entries of an operand in order, and sums up those that have the same coordinates. Refused for want of memory alone.
+fn sum_up<S: Semiring>(entries: &mut Entries) -> Result<(), AllocError>
+    ensures order { entries.new.order ≡ entries.old.order }
+    ensures summed { OnOk result (AreSummed S.arithmetic entries.old.order entries.old.list entries.new.list) }
+{
+    entries.sort_sum::<S>()?;
+    let _count = entries.len();
+    Ok(())
+}
+
+/// The shape of these sizes.
+fn shape_of(alloc: Global, sizes: &[u64]) -> Shape
+    requires { IsShape sizes.now }
+    ensures { result ≡ sizes.now }
+{
+    Shape::new(alloc, sizes).unwrap()
+}
+
+/// What the type of words says.
+fn are_words(words: &[u64])
+    ensures { All (λ v. v < 2 ^ 64) words.now }
+{}
+
+/// What the type of a packed tensor says: it keeps the rules of its format, and its values are words.
+fn keeps_rules(packed: &Tensor)
+    ensures whole { IsStorage packed.now }
+    ensures words { All (λ v. v < 2 ^ 64) packed.now.values }
+{
+    let _levels = packed.format();
+    are_words(packed.values());
+}
+
 /// Packs an operand, whose entries are put in order and summed up where several have the same coordinates.
 fn pack_operand<S: Semiring>(
     alloc: Global,
@@ -72,10 +106,13 @@ fn pack_operand<S: Semiring>(
         (λ packed. IsPackedOperand S.arithmetic format sizes.now entries.old.list packed)
         (IsPackRefusal S.arithmetic format sizes.now entries.old.list tensor) }
 {
-    entries.sort_sum::<S>()?;
-    let shape = Shape::new(alloc, sizes).unwrap();
+    sum_up::<S>(entries)?;
+    let shape = shape_of(alloc, sizes);
     match Tensor::pack::<S>(alloc, format, &shape, entries) {
-        Ok(packed) => Ok(packed),
+        Ok(packed) => {
+            keeps_rules(&packed);
+            Ok(packed)
+        }
         Err(refusal) => Err(fault_of(tensor, refusal)),
     }
 }
@@ -108,7 +145,10 @@ pub fn pack_operands<S: Semiring>(
             Ok(tensor) => tensor,
             Err(fault) => return Err(fault),
         };
-        tensors.push(tensor)?;
+        match tensors.push(tensor) {
+            Ok(()) => {}
+            Err(error) => return Err(PackFault::Memory(AllocError::from(error))),
+        }
     }
     Ok(tensors)
 }
