@@ -1,5 +1,5 @@
 -- What the run of a statement's kernel over its operands leaves, and why there is none.
-use Rattle.std.specs.Prelude.{◌≡◌, ◌⊎◌, ℕ, zero, suc, ◌<◌, ◌≤◌, List, length, map, All, Option, Result, Ok, Err, Vec, slice_index}
+use Rattle.std.specs.Prelude.{◌≡◌, ◌⊎◌, ℕ, zero, suc, ◌<◌, ◌≤◌, List, length, map, All, Option, Ok, Err, Vec, slice_index}
 use Rattle.std.specs.declared.alloc.Global.{Global}
 use Rattle.limits.specs.Limits.{greatest_position_count}
 use Rattle.numbers.specs.Arithmetic.{Arithmetic}
@@ -14,7 +14,6 @@ use Rattle.iteration_graph.specs.Edges.{format_of}
 use Rattle.expr_terms.specs.Operands.{operand_values}
 use Rattle.expr_terms.specs.Terms.{statement_value}
 use Rattle.expr_terms.specs.declared.bound.Bound.{Bound}
-use Rattle.expr_terms.specs.declared.range_fault.RangeFault.{RangeFault}
 use Rattle.tns_io.specs.Positions.{IsBelow}
 use Rattle.concrete_notation.specs.Workspaces.{AreAllDense}
 use Rattle.lowering.specs.Right.{pairs}

@@ -1,5 +1,5 @@
 -- What the steps of a run leave: the kernel's run on packed operands, and the entries of the result.
-use Rattle.std.specs.Prelude.{◌≡◌, ◌⊎◌, ℕ, List, filter, length}
+use Rattle.std.specs.Prelude.{◌≡◌, ◌⊎◌, ℕ, filter, length}
 use Rattle.numbers.specs.Arithmetic.{Arithmetic}
 use Rattle.tensor_map.specs.Entries.{Entries, SameValues, StrictlyIncreasing, NoneIsZero, is_nonzero}
 use Rattle.kernel_code.specs.declared.syntax.Kernel.{Kernel}

@@ -17,7 +17,9 @@ pub enum RunFault {
         count: u64,
     },
     /// The workspace of a result that isn't dense would need more pairs than may be, so many.
-    Workspace { count: u64 },
+    Workspace {
+        count: u64,
+    },
     /// Want of memory.
     Memory(AllocError),
 }

@@ -2,6 +2,7 @@
 ghost use Rattle.std.specs.Prelude.{◌≡◌, ◌≤◌, All, length, map, slice_index, IfOk};
 ghost use Rattle.limits.specs.Limits.{greatest_order, greatest_position_count};
 ghost use Rattle.index_notation.specs.Statement.{IsWellNamed};
+ghost use Rattle.tensor_map.specs.Entries.{AreEntries};
 ghost use Rattle.kernel_runs.specs.Steps.{ListsNonzero};
 
 use index_notation::Statement;
@@ -12,14 +13,13 @@ use tensor_map::{Entries, Shape};
 use tensor_storage::Tensor;
 
 /// The values of a tensor that aren't zero, in lexicographic order of their coordinates. Refused for want of memory alone.
-pub(crate) fn entries_of<S: Semiring>(
-    alloc: Global,
-    tensor: &Tensor,
-) -> Result<Entries, AllocError>
-    ensures { IfOk result (ListsNonzero S.arithmetic tensor.now) }
+pub(crate) fn entries_of<S: Semiring>(alloc: Global, tensor: &Tensor) -> Result<Entries, AllocError>
+    ensures lists { IfOk result (ListsNonzero S.arithmetic tensor.now) }
+    ensures entries { IfOk result AreEntries }
 {
     let mut entries = tensor.to_entries::<S>(alloc)?;
     entries.nonzero::<S>();
+    let _count = entries.len();
     Ok(entries)
 }
 

@@ -59,7 +59,10 @@ pub(crate) fn run_on<S: Semiring>(
         Err(refusal) => return Err(fault_of(refusal)),
     };
     match run::<S>(prepared) {
-        Ok((tensor, turns)) => Ok((tensor, turns)),
+        Ok(pair) => {
+            let _levels = pair.0.format();
+            Ok(pair)
+        }
         Err(refusal) => Err(fault_of(refusal)),
     }
 }

@@ -1,6 +1,7 @@
 //! A statement computed by its kernel.
 ghost use Rattle.std.specs.Prelude.{◌≡◌, Bool, true, length, IfOk, IfErr};
 ghost use Rattle.mtx_io.specs.Progress.{IsMatrixOrder};
+ghost use Rattle.format_spec.specs.Formats.{IsFormat};
 ghost use Rattle.kernel_stores.specs.Kernels.{IsRightKernel};
 ghost use Rattle.result_files.specs.EntriesText.{MayBeWritten};
 ghost use Rattle.statement_operands.specs.Runnable.{IsRunnable};
@@ -31,6 +32,13 @@ pub struct KernelRun {
     pub tensor: Tensor,
     /// How often the kernel's loops turned.
     pub turns: Turns,
+}
+
+/// What the type of a format says.
+fn keeps_rules(format: &Format)
+    ensures { IsFormat format.now }
+{
+    let _levels = format.levels();
 }
 
 /// Computes a statement over its operands by a kernel that is right for it and its formats. `formats` has the format of each tensor,
@@ -64,6 +72,7 @@ pub fn run_kernel<S: Semiring>(
 {
     let ranges = ranges(alloc, statement, given, operands.bounds.as_slice())?;
     let format = formats.remove(0);
+    keeps_rules(&format);
     let entries = operands.entries.as_mut_slice();
     let tensors = pack_operands::<S>(alloc, statement, formats, &ranges, entries)?;
     let (tensor, turns) = match run_on::<S>(alloc, kernel, format, &tensors, &ranges) {
