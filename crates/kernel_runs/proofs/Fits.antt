@@ -1,0 +1,67 @@
+-- Where all fits, no fault of sizes may come.
+use Rattle.std.specs.Prelude.{◌≡◌, ◌⊎◌, ℕ, zero, suc, ◌≤◌, List, [], ◌∷◌, ◌++◌, Result, Ok, Err}
+use Rattle.std.proofs.Common.{◌∙◌, sym, subst, arith, inl, inr}
+use Rattle.std.proofs.lemmas.List.Elements.{All-tail}
+use Rattle.limits.specs.Limits.{greatest_position_count}
+use Rattle.expr_terms.specs.declared.range_fault.RangeFault.{RangeFault}
+use Rattle.level_core.specs.declared.letter.Letter.{Letter}
+use Rattle.tensor_storage.specs.Counts.{AreFew, positions_of}
+use Rattle.kernel_stores.specs.Stores.{StartsFew, parents_below}
+use Rattle.kernel_machine.specs.Begins as begins
+use Rattle.statement_operands.proofs.SizeLaws.{index_small}
+use Rattle.kernel_runs.specs.declared.fault.RunFault.TheVariants.{Range, SizeLimit, Workspace, Memory}
+use Rattle.kernel_runs.specs.Runs.{RefusesNoneThatFit, AllFit, CantBegin, CantFinish, result_level_sizes}
+
+-- no number in the midst of few ones passes the limit
+few_within : (above below : List ℕ) (count : ℕ) → AreFew (above ++ (count ∷ below)) → count ≤ greatest_position_count
+few_within [] below count few = few 0 0 (omega arith)
+few_within (n ∷ above) below count few =
+    few_within above below count (All-tail (λ count. count ≤ greatest_position_count) n (above ++ (count ∷ below)) few)
+
+begins_not : (letters : List Letter) (sizes : List ℕ) (parents number level count : ℕ) → StartsFew letters sizes parents
+    → begins.IsTooLarge letters sizes parents number level count → ⊥
+begins_not [] sizes parents number level count few large = large
+begins_not (letter ∷ letters) [] parents number level count few large = large
+begins_not (letter ∷ letters) (size ∷ sizes) parents number level count few (inl here) =
+    let first = few.0 in let passes = here.0 in omega (arith, first, passes)
+begins_not (letter ∷ letters) (size ∷ sizes) parents number level count few (inr there) =
+    begins_not letters sizes (parents_below letter size parents) (suc number) level count few.1 there.1
+
+same_ranges : (r : Result (List ℕ) RangeFault) (xs ys : List ℕ) → r ≡ Ok xs → r ≡ Ok ys → xs ≡ ys
+same_ranges (Ok zs) xs ys x y =
+    let first : zs ≡ xs = cc in
+    let second : zs ≡ ys = cc in sym first ∙ second
+same_ranges (Err fault) xs ys x y = absurd cc
+
+pub none_refused : RefusesNoneThatFit
+none_refused a s formats given operands bounds ranges (Range fault) told fit may of = of
+none_refused a s formats given operands bounds ranges (Memory error) told fit may of = of
+none_refused a s formats given operands bounds ranges (Workspace count) told fit may of =
+    let same = same_ranges _ ranges may.ranges told may.ranges_are in
+    let all : AllFit a s formats may.ranges operands = subst (λ rs. AllFit a s formats rs operands) same fit in
+    let few = all.pairs_fit may.sparse may.store may.is_store in
+    let most = may.most in
+    let passes = may.passes in
+    omega (arith, few, most, passes)
+none_refused a s formats given operands bounds ranges (SizeLimit (suc n) level count) told fit may of =
+    let same = same_ranges _ ranges may.ranges told may.ranges_are in
+    let all : AllFit a s formats may.ranges operands = subst (λ rs. AllFit a s formats rs operands) same fit in
+    let large = may.large in
+    let first = large.large.first in
+    let few = few_within first.above first.below count
+    (subst AreFew first.all (all.operands_fit large.n large.entries large.is large.large.counts large.large.have)) in
+    let passes = first.passes in
+    omega (arith, few, passes)
+none_refused a s formats given operands bounds ranges (SizeLimit zero level count) told fit may of = by may.large
+  where
+    all : AllFit a s formats may.ranges operands
+    all = subst (λ rs. AllFit a s formats rs operands) (same_ranges _ ranges may.ranges told may.ranges_are) fit
+
+    by : CantBegin a s formats may.ranges operands level count ⊎ CantFinish a s formats may.ranges operands level count → ⊥
+    by (inl c) = begins_not _ (result_level_sizes formats may.ranges) 1 1 level count all.begins c.first
+    by (inr c) =
+        let few = index_small greatest_position_count (positions_of c.store.format c.store.ranges c.passes.table)
+        (all.result_fits c.store c.is_store c.passes.table c.passes.named) c.passes.at in
+        let most = c.passes.most in
+        let passes = c.passes.passes in
+        omega (arith, few, most, passes)

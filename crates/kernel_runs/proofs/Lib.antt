@@ -1,0 +1,12 @@
+pub mod Calls
+pub mod Entries
+pub mod Firsts
+pub mod Fits
+pub mod Outcomes
+pub mod Refusals
+pub mod SameLevels
+pub mod Shapes
+pub mod Stores
+pub mod Support
+pub mod Told
+pub mod Whole

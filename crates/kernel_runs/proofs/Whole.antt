@@ -1,0 +1,151 @@
+-- A whole run: a right kernel on the store that packed operands are, and why it has no result.
+use Rattle.std.specs.Prelude.{◌≡◌, ◌⊎◌, ℕ, zero, suc, ◌+◌, ◌<◌, ◌≤◌, Bool, true, List, length, map, Option, Ok, Vec, slice_index}
+use Rattle.std.specs.declared.alloc.Global.{Global}
+use Rattle.std.proofs.Common.{◌∙◌, sym, ap, subst, arith, inl, inr}
+use Rattle.std.proofs.lemmas.List.{length-map}
+use Rattle.lists.specs.Each.{Each}
+use Rattle.mtx_io.specs.Progress.{IsMatrixOrder}
+use Rattle.result_files.specs.EntriesText.{MayBeWritten}
+use Rattle.numbers.specs.Arithmetic.{Arithmetic, Laws}
+use Rattle.tensor_map.specs.Entries.{AreEntries, Entries}
+use Rattle.kernel_code.specs.declared.syntax.Kernel.{Kernel}
+use Rattle.kernel_code.specs.declared.syntax.Place.{Place}
+use Rattle.kernel_code.specs.declared.syntax.Place.TheVariants as place
+use Rattle.kernel_code.specs.declared.syntax.Turns.{Turns}
+use Rattle.kernel_code.specs.Kernels.{Finished, NotFinished, TooLong}
+use Rattle.format_spec.specs.declared.format.FormatLevel.{FormatLevel}
+use Rattle.format_spec.specs.Formats.{IsFormat, letters_of}
+use Rattle.index_notation.specs.Statement.{numbers_from}
+use Rattle.index_notation.specs.declared.syntax.Statement.{Statement}
+use Rattle.iteration_graph.specs.Edges.{format_of}
+use Rattle.expr_terms.specs.declared.bound.Bound.{Bound}
+use Rattle.concrete_notation.specs.Workspaces.{AreAllDense}
+use Rattle.tensor_storage.specs.Storages.{Storage, in_level_order}
+use Rattle.kernel_steps.specs.Store.{count_of}
+use Rattle.kernel_stores.specs.Kernels.{IsRightKernel, IsRightOutcome, IsSoundOn}
+use Rattle.kernel_stores.specs.Results.{LeavesResult}
+use Rattle.kernel_stores.specs.Stores.{told_by}
+use Rattle.kernel_stores.proofs.Sound.{right_is_sound}
+use Rattle.kernel_machine.specs.Begins as begins
+use Rattle.kernel_machine.specs.Begins.{store_of}
+use Rattle.statement_operands.specs.Runnable.{IsRunnable, told_ranges}
+use Rattle.operand_packing.specs.Packed.{ArePackedOperands}
+use Rattle.kernel_runs.specs.declared.fault.RunFault.{RunFault}
+use Rattle.kernel_runs.specs.declared.fault.RunFault.TheVariants.{Range, SizeLimit, Workspace, Memory}
+use Rattle.kernel_runs.specs.Runs.{IsRun, IsStoreFor, IsTensorOf, IsTooLargeBy, MayRefuse}
+use Rattle.kernel_runs.specs.Steps.{CanBegin, EndsOn, ListsNonzero, RefusedOn, StopsOn}
+use Rattle.kernel_runs.proofs.Entries.{tensor_of}
+use Rattle.kernel_runs.proofs.Outcomes.{outcome_is}
+use Rattle.kernel_runs.proofs.Stores.{store_is}
+
+-- as many numbers in a row are below a bound as there are from the first on
+numbers_fit : (from count most : ℕ) → Each (λ v. v < most) (numbers_from from count) → from ≤ most → from + count ≤ most
+numbers_fit from zero most each h = omega (arith, h)
+numbers_fit from (suc count) most each h =
+    let first = each.0 in
+    let rest = numbers_fit (from + 1) count most each.1 (omega (arith, first)) in
+    omega (arith, rest)
+
+-- the entries of such a tensor may be written
+pub written : (a : Arithmetic) (s : Statement) (operands : List Entries) (ranges : ℕ → ℕ) (shape : List ℕ) (entries : Entries)
+    → IsTensorOf a s operands ranges shape entries → (is_matrix : Bool) → (is_matrix ≡ true → IsMatrixOrder (length s.left.vars))
+    → MayBeWritten is_matrix shape entries
+written a s operands ranges shape entries t is_matrix order = record {
+  order_is = t.order_is;
+  below = t.below;
+  increasing = t.increasing;
+  matrix = λ is. subst IsMatrixOrder (sym (t.order_is ∙ ap length t.shape_is ∙ length-map s.left.vars ranges)) (order is);
+}
+
+module _ (a : Arithmetic) (laws : Laws a) (s : Statement) (formats : List (List FormatLevel)) (kernel : Kernel)
+    (right : IsRightKernel a s formats kernel) (given : List (Option ℕ)) (operands : List Entries) (bounds : List (Vec Bound Global))
+    (runnable : IsRunnable s formats given operands bounds) (ranges : List ℕ) (told : told_ranges s given bounds ≡ Ok ranges)
+    (format : List FormatLevel) (format_is : format ≡ format_of formats 0) where
+  -- there is a range for each mode of the result
+  pub enough : length format ≤ length ranges
+  enough =
+      let are = runnable.operands_are in
+      let long = (runnable.ranges_fit ranges told).long in
+      let order : length format ≡ length s.left.vars =
+      ap length format_is ∙ ap (λ t. length (format_of formats t)) (sym are.named.result) ∙ are.result_format.order in
+      let fits = numbers_fit 0 (length s.left.vars) (length s.vars)
+      (subst (Each (λ v. v < length s.vars)) are.named.standing are.numbered.left.vars_stand) (omega arith) in
+      omega (arith, long, order, fits)
+
+  module _ (is_format : IsFormat format) (storages : List Storage)
+      (packed : ArePackedOperands a s formats (slice_index ranges) operands storages) where
+    store_for : CanBegin (store_of ranges storages format) → IsStoreFor a s formats ranges operands (store_of ranges storages format)
+    store_for few = store_is a s formats ranges operands storages packed format format_is is_format runnable.operands_are
+        (runnable.ranges_fit ranges told) few
+
+    pub sound : CanBegin (store_of ranges storages format) → IsSoundOn a kernel (store_of ranges storages format)
+    sound few = right_is_sound a s formats kernel right (store_of ranges storages format) (store_for few).is_store
+
+    stopped : (at : Place) (count : ℕ) (stops : StopsOn a kernel (store_of ranges storages format) at count)
+        → IsRightOutcome a s (told_by a (store_of ranges storages format)) (store_of ranges storages format) (TooLong at count)
+    stopped at count stops =
+        outcome_is a (length format) kernel stops.given
+        (IsRightOutcome a s (told_by a (store_of ranges storages format)) (store_of ranges storages format)) (TooLong at count)
+        (right (store_of ranges storages format) (store_for stops.few).is_store stops.given stops.is_given) (λ none. none) stops.ends apart
+      where
+        apart : TooLong at count ≡ NotFinished → ⊥
+        apart e = cc
+
+    pub refused : (fault : RunFault) → RefusedOn a kernel (store_of ranges storages format) fault
+        → MayRefuse a s formats given operands bounds fault
+    refused (Range fault) why = absurd why
+    refused (Memory error) why = tt
+    refused (Workspace count) why =
+        let outcome = stopped place.Workspace count why in
+        record {
+          ranges = ranges;
+          ranges_are = told;
+          store = store_of ranges storages format;
+          is_store = store_for why.few;
+          passes = outcome.0;
+          most = outcome.1;
+          sparse = λ dense. outcome.2 (subst AreAllDense (sym format_is) dense);
+        }
+    refused (SizeLimit tensor level count) why = record {
+      ranges = ranges;
+      ranges_are = told;
+      large = subst (λ t. IsTooLargeBy a s formats ranges operands t level count) (sym why.0) (by why.1);
+    }
+      where
+        by : begins.IsTooLarge (letters_of format) (in_level_order format ranges) 1 1 level count
+            ⊎ StopsOn a kernel (store_of ranges storages format) (place.Level level) count
+            → IsTooLargeBy a s formats ranges operands 0 level count
+        by (inl first) = inl (record {
+          storages = storages;
+          packed = packed;
+          first = subst (λ f. begins.IsTooLarge (letters_of f) (in_level_order f ranges) 1 1 level count) format_is first;
+        })
+        by (inr stops) = inr (record {
+          store = store_of ranges storages format;
+          is_store = store_for stops.few;
+          passes = stopped (place.Level level) count stops;
+        })
+
+    pub is_run : (tensor : Storage) (turns : Turns) (entries : Entries) (shape : List ℕ)
+        → EndsOn a kernel (store_of ranges storages format) tensor turns → ListsNonzero a tensor entries → AreEntries entries
+        → shape ≡ map (slice_index ranges) s.left.vars
+        → IsRun a s formats kernel given operands bounds shape entries tensor turns
+    is_run tensor turns entries shape ends lists each shape_is = record {
+      ranges = ranges;
+      ranges_are = told;
+      store = store_of ranges storages format;
+      is_store = store_for ends.few;
+      runs = record { given = ends.given; is_given = ends.is_given; has_run = ends.has_run; leaves = leaves };
+      tensor_of = tensor_of a laws s formats ranges operands (store_of ranges storages format) runnable.operands_are
+          (store_for ends.few) ends.has_run.arrays leaves tensor ends.whole ends.has_run.format_is ends.has_run.is_left entries lists
+          shape shape_is each;
+    }
+      where
+        leaves : LeavesResult a s (told_by a (store_of ranges storages format)) (store_of ranges storages format) ends.has_run.arrays
+        leaves = outcome_is a (length format) kernel ends.given
+            (IsRightOutcome a s (told_by a (store_of ranges storages format)) (store_of ranges storages format)) (Finished ends.has_run.arrays (count_of turns))
+            (right (store_of ranges storages format) (store_for ends.few).is_store ends.given ends.is_given) (λ none. none)
+            ends.has_run.ends apart
+          where
+            apart : Finished ends.has_run.arrays (count_of turns) ≡ NotFinished → ⊥
+            apart e = cc

@@ -1,0 +1,13 @@
+//! A statement computed whole by its kernel: from the ranges that words give and the operands that were read, packed in their formats,
+//! to the entries of the result. `specs/Runs.antt` says what a run leaves, and why there is none.
+#![tactic(auto)]
+
+mod fault;
+mod laws;
+mod results;
+mod running;
+mod runs;
+
+pub use fault::RunFault;
+pub use laws::none_that_fit_are_refused;
+pub use runs::{KernelRun, run_kernel};

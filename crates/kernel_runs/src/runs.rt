@@ -1,0 +1,90 @@
+//! A statement computed by its kernel.
+ghost use Rattle.std.specs.Prelude.{◌≡◌, Bool, true, length, IfOk, IfErr};
+ghost use Rattle.mtx_io.specs.Progress.{IsMatrixOrder};
+ghost use Rattle.format_spec.specs.Formats.{IsFormat};
+ghost use Rattle.kernel_stores.specs.Kernels.{IsRightKernel};
+ghost use Rattle.result_files.specs.EntriesText.{MayBeWritten};
+ghost use Rattle.statement_operands.specs.Runnable.{IsRunnable};
+ghost use Rattle.kernel_runs.specs.Runs.{IsRun, MayRefuse};
+
+use crate::fault::RunFault;
+use crate::results::{entries_of, shape_of};
+use crate::running::run_on;
+use expr_terms::ranges;
+use format_spec::Format;
+use index_notation::Statement;
+use kernel_code::{Kernel, Turns};
+use numbers::Semiring;
+use operand_files::Operands;
+use operand_packing::pack_operands;
+use std::alloc::Global;
+use tensor_map::{Entries, Shape};
+use tensor_storage::Tensor;
+
+/// The result of a statement, as its kernel computes it.
+#[derive(Drop)]
+pub struct KernelRun {
+    /// The ranges of the left side's variables.
+    pub shape: Shape,
+    /// The values that aren't zero, in lexicographic order of their coordinates.
+    pub entries: Entries,
+    /// The result as the kernel leaves it, in its format.
+    pub tensor: Tensor,
+    /// How often the kernel's loops turned.
+    pub turns: Turns,
+}
+
+/// What the type of a format says.
+fn keeps_rules(format: &Format)
+    ensures { IsFormat format.now }
+{
+    let _levels = format.levels();
+}
+
+/// Computes a statement over its operands by a kernel that is right for it and its formats. `formats` has the format of each tensor,
+/// the result's first, and `given` the range of each variable to which a word gives one. Values are added and multiplied as `S` says.
+///
+/// Refused with the first fault of the ranges; or else for the first level of the first operand, in order of their numbers, that would
+/// have more positions than may be; or for a level of the result, before the kernel runs or as it grows; or for the workspace of a
+/// result that isn't dense. Memory may be wanted at any step. All memory of a written result is taken here.
+pub fn run_kernel<S: Semiring>(
+    alloc: Global,
+    statement: &Statement,
+    mut formats: Vec<Format>,
+    kernel: &Kernel,
+    given: &[Option<u64>],
+    mut operands: Operands,
+) -> Result<KernelRun, RunFault>
+    requires runnable { IsRunnable statement.now formats.items given.now operands.entries.items operands.bounds.items }
+    requires right { IsRightKernel S.arithmetic statement.now formats.items kernel.now }
+
+    // The values are those of the statement by the ranges that words and operands give.
+    ensures run { IfOk result (λ run. IsRun S.arithmetic statement.now formats.items kernel.now given.now operands.entries.items
+        operands.bounds.items run.shape run.entries run.tensor run.turns) }
+
+    // A result may be written, as a matrix where its order is that of one.
+    ensures written { IfOk result (λ run. (is_matrix : Bool) → (is_matrix ≡ true → IsMatrixOrder (length statement.now.left.vars))
+        → MayBeWritten is_matrix run.shape run.entries) }
+
+    // The first fault, or what a level or the workspace would need, or want of memory.
+    ensures refused { IfErr result (MayRefuse S.arithmetic statement.now formats.items given.now operands.entries.items
+        operands.bounds.items) }
+{
+    let ranges = ranges(alloc, statement, given, operands.bounds.as_slice())?;
+    let format = formats.remove(0);
+    keeps_rules(&format);
+    let entries = operands.entries.as_mut_slice();
+    let tensors = pack_operands::<S>(alloc, statement, formats, &ranges, entries)?;
+    let (tensor, turns) = match run_on::<S>(alloc, kernel, format, &tensors, &ranges) {
+        Ok(pair) => pair,
+        Err(fault) => return Err(fault),
+    };
+    let entries = entries_of::<S>(alloc, &tensor)?;
+    let shape = shape_of(alloc, statement, &ranges)?;
+    Ok(KernelRun {
+        shape,
+        entries,
+        tensor,
+        turns,
+    })
+}

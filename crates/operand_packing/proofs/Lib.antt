@@ -1,0 +1,4 @@
+pub mod Inside
+pub mod Lists
+pub mod Ready
+pub mod Steps

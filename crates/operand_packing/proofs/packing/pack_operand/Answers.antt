@@ -1,0 +1,37 @@
+use Rattle.std.specs.Prelude.{length}
+use Rattle.std.proofs.Common.{sym, subst}
+use Rattle.format_spec.specs.Formats.{IsFormat}
+use Rattle.tensor_storage.specs.Arranged.{AreInside, IsPackedFrom, IsRefusalOf}
+use Rattle.operand_packing.specs.Packed.{AreSummed}
+use Rattle.operand_packing.proofs.Inside.{inside_same}
+use Rattle.operand_packing.proofs.packing.pack_operand.Goals as goal
+
+pub pack-requires-clause-inside : goal.pack-requires-clause-inside
+pack-requires-clause-inside g c =
+    subst (λ ns. AreInside ns c.sum_up.new.entries.list) (sym c.shape_of-shape.ensures)
+    (inside_same c.args.sizes.now c.args.entries.now.list c.sum_up.new.entries.list c.in_ok-sum_up.ensures.summed.listed
+    c.requires.inside)
+
+pub returns-in-Ok : goal.returns-in-Ok
+returns-in-Ok g c =
+    let packed = subst (λ ns. IsPackedFrom g.S.Semiring.arithmetic.zero c.args.format ns c.sum_up.new.entries.list c.in-Ok.packed)
+    c.shape_of-shape.ensures c.in-Ok.ensures in
+    record {
+      is_format = subst IsFormat packed.packed.format_is c.keeps_rules.ensures.whole.format;
+      long = c.requires.long;
+      summed = c.sum_up.new.entries.list;
+      are_summed = subst (λ n. AreSummed g.S.Semiring.arithmetic n c.args.entries.now.list c.sum_up.new.entries.list) c.requires.order
+          c.in_ok-sum_up.ensures.summed;
+      inside = inside_same c.args.sizes.now c.args.entries.now.list c.sum_up.new.entries.list c.in_ok-sum_up.ensures.summed.listed
+          c.requires.inside;
+      packed = packed;
+      whole = c.keeps_rules.ensures.whole;
+      words = c.keeps_rules.ensures.words;
+    }
+
+pub returns : goal.returns
+returns g c =
+    c.fault_of.ensures g.S.Semiring.arithmetic c.args.format c.args.sizes.now c.args.entries.now.list c.sum_up.new.entries.list
+    (subst (λ n. AreSummed g.S.Semiring.arithmetic n c.args.entries.now.list c.sum_up.new.entries.list) c.requires.order
+    c.in_ok-sum_up.ensures.summed)
+    (subst (λ ns. IsRefusalOf c.args.format ns c.sum_up.new.entries.list c.in-Err.refusal) c.shape_of-shape.ensures c.in-Err.ensures)

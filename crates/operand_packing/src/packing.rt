@@ -1,0 +1,154 @@
+//! Operands packed one after another.
+ghost use Rattle.std.specs.Prelude.{◌≡◌, ◌<◌, ◌^◌, ℕ, List, ◌∷◌, All, length, slice_index, OnOk, MatchResult};
+ghost use Rattle.numbers.specs.Arithmetic.{Arithmetic};
+ghost use Rattle.tensor_map.specs.declared.entries.Entry.{Entry as AnEntry};
+ghost use Rattle.format_spec.specs.declared.format.FormatLevel.{FormatLevel as ALevel};
+ghost use Rattle.tensor_map.specs.Coords.{IsShape};
+ghost use Rattle.tensor_storage.specs.Arranged.{IsRefusalOf};
+ghost use Rattle.tensor_storage.specs.Storages.{IsStorage};
+ghost use Rattle.operand_packing.specs.Packed.{AreSummed, ArePackedOperands, IsPackedOperand, IsPackRefusal};
+ghost use Rattle.operand_packing.specs.Packed.{MayBePacked, MayAllBePacked, MayNotPack};
+
+use format_spec::Format;
+use index_notation::Statement;
+use numbers::Semiring;
+use statement_operands::sizes_of;
+use std::alloc::{AllocError, Global};
+use tensor_map::{Entries, Shape};
+use tensor_storage::{PackRefusal, Tensor};
+
+/// Why operands aren't packed.
+#[derive(Debug, Drop)]
+pub enum PackFault {
+    /// The level of the tensor, the top one being number 1, is the first of the first operand that would have more positions than
+    /// may be. It would have so many.
+    SizeLimit {
+        tensor: usize,
+        level: usize,
+        count: u64,
+    },
+    /// Want of memory.
+    Memory(AllocError),
+}
+
+impl From<AllocError> for PackFault {
+    ghost use Rattle.std.specs.Prelude.{◌≡◌};
+    ghost use Rattle.operand_packing.specs.declared.packing.PackFault.TheVariants as pack_faults;
+
+    ghost from_gives = { λ error fault. fault ≡ pack_faults.Memory error };
+
+    fn from(error: AllocError) -> PackFault {
+        PackFault::Memory(error)
+    }
+}
+
+/// Why the tensor of this number isn't packed. A count above a word would want more memory than there is.
+fn fault_of(tensor: usize, refusal: PackRefusal) -> PackFault
+    ensures { (a : Arithmetic) (format : List ALevel) (sizes : List ℕ) (entries summed : List AnEntry)
+        → AreSummed a (length format) entries summed → IsRefusalOf format sizes summed refusal
+        → IsPackRefusal a format sizes entries tensor result }
+{
+    match refusal {
+        PackRefusal::Memory => PackFault::Memory(AllocError),
+        PackRefusal::SizeLimit { level, count } => match u64::try_from(count) {
+            Ok(count) => PackFault::SizeLimit {
+                tensor,
+                level,
+                count,
+            },
+            Err(_) => PackFault::Memory(AllocError),
+        },
+    }
+}
+
+/// Puts the entries of an operand in order, and sums up those that have the same coordinates. Refused for want of memory alone.
+fn sum_up<S: Semiring>(entries: &mut Entries) -> Result<(), AllocError>
+    ensures order { entries.new.order ≡ entries.old.order }
+    ensures summed { OnOk result (AreSummed S.arithmetic entries.old.order entries.old.list entries.new.list) }
+{
+    entries.sort_sum::<S>()?;
+    let _count = entries.len();
+    Ok(())
+}
+
+/// The shape of these sizes.
+fn shape_of(alloc: Global, sizes: &[u64]) -> Shape
+    requires { IsShape sizes.now }
+    ensures { result ≡ sizes.now }
+{
+    Shape::new(alloc, sizes).unwrap()
+}
+
+/// What the type of words says.
+fn are_words(words: &[u64])
+    ensures { All (λ v. v < 2 ^ 64) words.now }
+{}
+
+/// What the type of a packed tensor says: it keeps the rules of its format, and its values are words.
+fn keeps_rules(packed: &Tensor)
+    ensures whole { IsStorage packed.now }
+    ensures words { All (λ v. v < 2 ^ 64) packed.now.values }
+{
+    let _levels = packed.format();
+    are_words(packed.values());
+}
+
+/// Packs an operand, whose entries are put in order and summed up where several have the same coordinates.
+fn pack_operand<S: Semiring>(
+    alloc: Global,
+    format: Format,
+    sizes: &[u64],
+    tensor: usize,
+    entries: &mut Entries,
+) -> Result<Tensor, PackFault>
+    requires { MayBePacked format sizes.now entries.old }
+    ensures { MatchResult result
+        (λ packed. IsPackedOperand S.arithmetic format sizes.now entries.old.list packed)
+        (IsPackRefusal S.arithmetic format sizes.now entries.old.list tensor) }
+{
+    sum_up::<S>(entries)?;
+    let shape = shape_of(alloc, sizes);
+    match Tensor::pack::<S>(alloc, format, &shape, entries) {
+        Ok(packed) => {
+            keeps_rules(&packed);
+            Ok(packed)
+        }
+        Err(refusal) => Err(fault_of(tensor, refusal)),
+    }
+}
+
+/// Packs the operands of a statement, tensor 1 and on, each in its format. A mode's size is the greatest range of the variables that
+/// stand there in any access.
+///
+/// Refused for the first level of the first operand that would have more positions than may be, or for want of memory.
+pub fn pack_operands<S: Semiring>(
+    alloc: Global,
+    statement: &Statement,
+    mut formats: Vec<Format>,
+    ranges: &[u64],
+    operands: &mut [Entries],
+) -> Result<Vec<Tensor>, PackFault>
+    requires many { length formats.items ≡ length operands.old }
+    requires may { (result_format : List ALevel) → MayAllBePacked statement.now (result_format ∷ formats.items) (slice_index ranges.now)
+        operands.old }
+    ensures { (result_format : List ALevel) → MatchResult result
+        (λ packed. ArePackedOperands S.arithmetic statement.now (result_format ∷ formats.items) (slice_index ranges.now) operands.old
+        packed.items)
+        (MayNotPack S.arithmetic statement.now (result_format ∷ formats.items) (slice_index ranges.now) operands.old) }
+{
+    let mut tensors = Vec::new(alloc);
+    for number in 0..operands.len() {
+        let format = formats.remove(0);
+        let entries = &mut operands[number];
+        let sizes = sizes_of(alloc, statement, ranges, number + 1, entries.order())?;
+        let tensor = match pack_operand::<S>(alloc, format, &sizes, number + 1, entries) {
+            Ok(tensor) => tensor,
+            Err(fault) => return Err(fault),
+        };
+        match tensors.push(tensor) {
+            Ok(()) => {}
+            Err(error) => return Err(PackFault::Memory(AllocError::from(error))),
+        }
+    }
+    Ok(tensors)
+}

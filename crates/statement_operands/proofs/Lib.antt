@@ -1,0 +1,10 @@
+pub mod Below
+pub mod FileEntries
+pub mod FilesReadable
+pub mod FormatsBound
+pub mod NamesRead
+pub mod RangesAbove
+pub mod RangesSmall
+pub mod Runnable
+pub mod SizeLaws
+pub mod SizeLemmas
