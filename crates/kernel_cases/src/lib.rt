@@ -1,4 +1,4 @@
-//! Tests alone: words and semirings, entries, workspaces, kernels, and statements over dense operands, each public call
+//! Tests alone: words and semirings, entries, workspaces, kernels, and the values of statements, each public call
 //! once and each generic one over the ring and over a second semiring, costs. They stand apart from the crates that
 //! they try, so that no crate is proved a second time with them.
 #![tactic(auto)]
@@ -13,8 +13,6 @@ mod expressions;
 mod kernels;
 #[cfg(test)]
 mod least;
-#[cfg(test)]
-mod operands;
 #[cfg(test)]
 mod presences;
 #[cfg(test)]

@@ -3,7 +3,6 @@ use crate::least::Least;
 use expr_terms::{has_meaning, is_product, value_at};
 use index_notation::{Access, Expr, Name, Statement};
 use numbers::{Ring, Semiring};
-use range_loops::{ComputeFault, compute, is_computable, is_product_of_accesses};
 use std::alloc::{AllocError, Global};
 use std::process::Abort;
 use std::test::Fail;
@@ -22,27 +21,6 @@ pub enum Step {
     Neg,
 }
 
-/// What the loops answer.
-#[derive(Clone, Copy)]
-enum Answer {
-    /// They can't compute the statement.
-    No,
-    /// The number of the first tensor that is too large, of its first such level, and the number of that one's positions.
-    TooLarge(usize, usize, u64),
-    /// The sizes of the result, its values, and its costs.
-    Dense(&'static [u64], &'static [u64], &'static [u64]),
-}
-
-/// What a right side is.
-#[derive(Clone, Copy, PartialEq)]
-enum Form {
-    /// The product of all accesses, grouped to the left, in which each variable stands.
-    Grouped,
-    /// Another product of accesses.
-    Product,
-    Other,
-}
-
 struct Row {
     name: &'static str,
     vars: usize,
@@ -56,8 +34,8 @@ struct Row {
     value: u64,
     /// The value over costs. There is none where a minus stands.
     cost: Option<u64>,
-    form: Form,
-    answer: Answer,
+    /// Whether the right side is the product of all accesses, grouped to the left, in which each variable stands.
+    is_product: bool,
 }
 
 const ONE_AND_TWO: &[Line] = &[(&[0], 1), (&[1], 2)];
@@ -78,8 +56,7 @@ const ROWS: [Row; 17] = [
         coords: &[],
         value: 8,
         cost: Some(1),
-        form: Form::Other,
-        answer: Answer::No,
+        is_product: false,
     },
     Row {
         name: "a = 2 * (b(i) + 5)",
@@ -98,8 +75,7 @@ const ROWS: [Row; 17] = [
         coords: &[],
         value: 26,
         cost: Some(3),
-        form: Form::Other,
-        answer: Answer::No,
+        is_product: false,
     },
     Row {
         name: "a = 2 - 3 * -4",
@@ -119,8 +95,7 @@ const ROWS: [Row; 17] = [
         coords: &[],
         value: 14,
         cost: None,
-        form: Form::Other,
-        answer: Answer::No,
+        is_product: false,
     },
     Row {
         name: "a = -(b(i) - 5)",
@@ -133,8 +108,7 @@ const ROWS: [Row; 17] = [
         coords: &[],
         value: 2,
         cost: None,
-        form: Form::Other,
-        answer: Answer::No,
+        is_product: false,
     },
     Row {
         name: "y(i) = A(i,j) * x(j)",
@@ -147,8 +121,7 @@ const ROWS: [Row; 17] = [
         coords: &[0],
         value: 28,
         cost: Some(11),
-        form: Form::Grouped,
-        answer: Answer::Dense(&[2], &[28, 66], &[11, 5]),
+        is_product: true,
     },
     Row {
         name: "y(i) = b(i) - c(j)",
@@ -161,8 +134,7 @@ const ROWS: [Row; 17] = [
         coords: &[1],
         value: 5,
         cost: None,
-        form: Form::Other,
-        answer: Answer::No,
+        is_product: false,
     },
     Row {
         name: "y(i) = 3, past what is listed",
@@ -175,8 +147,7 @@ const ROWS: [Row; 17] = [
         coords: &[6],
         value: 3,
         cost: Some(3),
-        form: Form::Other,
-        answer: Answer::No,
+        is_product: false,
     },
     Row {
         name: "y(i) = x(j), a left variable alone",
@@ -189,8 +160,7 @@ const ROWS: [Row; 17] = [
         coords: &[2],
         value: 3,
         cost: Some(1),
-        form: Form::Product,
-        answer: Answer::Dense(&[3], &[3, 3, 3], &[1, 1, 1]),
+        is_product: false,
     },
     Row {
         name: "a = b(i)",
@@ -203,8 +173,7 @@ const ROWS: [Row; 17] = [
         coords: &[],
         value: 3,
         cost: Some(1),
-        form: Form::Grouped,
-        answer: Answer::Dense(&[], &[3], &[1]),
+        is_product: true,
     },
     Row {
         name: "C(i,j) = a(i) * b(j)",
@@ -217,8 +186,7 @@ const ROWS: [Row; 17] = [
         coords: &[1, 0],
         value: 15,
         cost: Some(8),
-        form: Form::Grouped,
-        answer: Answer::Dense(&[2, 2], &[10, 14, 15, 21], &[7, 9, 8, 10]),
+        is_product: true,
     },
     Row {
         name: "C(i,j) = A(j,i)",
@@ -231,8 +199,7 @@ const ROWS: [Row; 17] = [
         coords: &[2, 1],
         value: 6,
         cost: Some(1),
-        form: Form::Grouped,
-        answer: Answer::Dense(&[3, 2], &[0, 2, 4, 0, 0, 6], &[LAST, 2, 4, LAST, LAST, 1]),
+        is_product: true,
     },
     Row {
         name: "y(i) = x(i), without entries",
@@ -245,8 +212,7 @@ const ROWS: [Row; 17] = [
         coords: &[0],
         value: 0,
         cost: Some(LAST),
-        form: Form::Grouped,
-        answer: Answer::Dense(&[1], &[0], &[LAST]),
+        is_product: true,
     },
     Row {
         name: "C(i,j) = a(i) * b(j), too large a result",
@@ -259,8 +225,7 @@ const ROWS: [Row; 17] = [
         coords: &[65_535, 65_535],
         value: 1,
         cost: Some(2),
-        form: Form::Grouped,
-        answer: Answer::TooLarge(0, 2, 4_294_967_296),
+        is_product: true,
     },
     Row {
         name: "y(i) = A(i,j), a coordinate past its range",
@@ -273,8 +238,7 @@ const ROWS: [Row; 17] = [
         coords: &[1],
         value: 0,
         cost: Some(LAST),
-        form: Form::Grouped,
-        answer: Answer::No,
+        is_product: true,
     },
     Row {
         name: "y(i) = A(i,j) * (x(j) * b(i))",
@@ -293,8 +257,7 @@ const ROWS: [Row; 17] = [
         coords: &[1],
         value: 132,
         cost: Some(7),
-        form: Form::Product,
-        answer: Answer::Dense(&[2], &[28, 132], &[12, 7]),
+        is_product: false,
     },
     Row {
         name: "C(i,j) = A(i,j), too large an operand",
@@ -307,8 +270,7 @@ const ROWS: [Row; 17] = [
         coords: &[1, 1_073_741_823],
         value: 1,
         cost: Some(1),
-        form: Form::Grouped,
-        answer: Answer::TooLarge(1, 2, 2_147_483_648),
+        is_product: true,
     },
     Row {
         name: "C(i,j,k) = a(i) * B(i,j,k), too large a level above one without positions",
@@ -321,8 +283,7 @@ const ROWS: [Row; 17] = [
         coords: &[1, 2, 0],
         value: 0,
         cost: Some(LAST),
-        form: Form::Grouped,
-        answer: Answer::TooLarge(2, 2, 4_294_967_296),
+        is_product: true,
     },
 ];
 
@@ -413,36 +374,6 @@ fn value_of<S: Semiring>(
     Ok(Some(value))
 }
 
-/// Whether the loops answer as the row says, with these values of the result.
-fn is_answer<S: Semiring>(
-    rt: &impl Abort,
-    alloc: Global,
-    row: &Row,
-    statement: &Statement,
-    operands: &[Entries],
-    wanted: &[u64],
-) -> Result<bool, AllocError> {
-    assert!(rt; is_computable(statement, operands, row.ranges));
-    let told = compute::<S>(alloc, statement, operands, row.ranges);
-    match (told, row.answer) {
-        (Ok(dense), Answer::Dense(sizes, _, _)) => {
-            Ok(dense.sizes.as_slice() == sizes && dense.values.as_slice() == wanted)
-        }
-        (
-            Err(
-                ComputeFault::SizeLimit {
-                    tensor,
-                    level,
-                    count,
-                },
-            ),
-            Answer::TooLarge(t, l, c),
-        ) => { Ok((tensor, level, count) == (t, l, c)) }
-        (Err(ComputeFault::Memory(error)), _) => Err(error),
-        _ => Ok(false),
-    }
-}
-
 fn assert_values(
     rt: &impl Abort,
     alloc: Global,
@@ -450,44 +381,11 @@ fn assert_values(
     statement: &Statement,
     operands: &[Entries],
 ) -> Result<(), AllocError> {
-    assert_eq!(rt;
-        is_product(statement),
-        row.form == Form::Grouped,
-        "{}",
-        row.name
-    );
-    let is_product = is_product_of_accesses(&statement.expr);
-    assert_eq!(rt; is_product, row.form != Form::Other, "{}", row.name);
+    assert_eq!(rt; is_product(statement), row.is_product, "{}", row.name);
     let value = value_of::<Ring>(rt, alloc, row, statement, operands)?;
     assert_eq!(rt; value, Some(row.value), "{}", row.name);
     let cost = value_of::<Least>(rt, alloc, row, statement, operands)?;
     assert_eq!(rt; cost, row.cost, "{}", row.name);
-    Ok(())
-}
-
-fn assert_loops(
-    rt: &impl Abort,
-    alloc: Global,
-    row: &Row,
-    statement: &Statement,
-    operands: &[Entries],
-) -> Result<(), AllocError> {
-    let (values, costs): (&[u64], &[u64]) = match row.answer {
-        Answer::No => {
-            assert!(rt;
-                !is_computable(statement, operands, row.ranges),
-                "{}",
-                row.name
-            );
-            return Ok(());
-        }
-        Answer::TooLarge(_, _, _) => (&[], &[]),
-        Answer::Dense(_, values, costs) => (values, costs),
-    };
-    let told = is_answer::<Ring>(rt, alloc, row, statement, operands, values)?;
-    assert!(rt; told, "{}", row.name);
-    let told = is_answer::<Least>(rt, alloc, row, statement, operands, costs)?;
-    assert!(rt; told, "{}, costs", row.name);
     Ok(())
 }
 
@@ -498,88 +396,12 @@ fn statements_have_their_values(rt: HostRuntime) -> Result<(), Fail> {
         let statement = statement_of(alloc, row.vars, row.left, 1, row.accesses, row.steps)?;
         let operands = operands_of(&rt, alloc, row)?;
         assert_values(&rt, alloc, row, &statement, operands.as_slice())?;
-        assert_loops(&rt, alloc, row, &statement, operands.as_slice())?;
     }
     Ok(())
 }
 
-/// Accesses, of which there are two, operands, each with an entry, and ranges, and whether the loops compute the product.
-struct Taken {
-    accesses: &'static [&'static [usize]],
-    operands: &'static [&'static [u64]],
-    ranges: &'static [u64],
-    is_taken: bool,
-}
-
-const TAKEN: [Taken; 9] = [
-    Taken {
-        accesses: &[&[0, 1], &[1]],
-        operands: &[&[1, 2], &[2]],
-        ranges: &[2, 3],
-        is_taken: true,
-    },
-    Taken {
-        accesses: &[&[0, 1], &[1]],
-        operands: &[&[1, 2]],
-        ranges: &[2, 3],
-        is_taken: false,
-    },
-    Taken {
-        accesses: &[&[0, 1], &[1]],
-        operands: &[&[1], &[2]],
-        ranges: &[2, 3],
-        is_taken: false,
-    },
-    Taken {
-        accesses: &[&[0, 1], &[1]],
-        operands: &[&[1, 2], &[2], &[0]],
-        ranges: &[2, 3],
-        is_taken: false,
-    },
-    Taken {
-        accesses: &[&[0, 0], &[1]],
-        operands: &[&[1, 1], &[2]],
-        ranges: &[2, 3],
-        is_taken: false,
-    },
-    Taken {
-        accesses: &[&[0, 1], &[1]],
-        operands: &[&[1, 2], &[2]],
-        ranges: &[2, 2],
-        is_taken: false,
-    },
-    Taken {
-        accesses: &[&[0, 1], &[1]],
-        operands: &[&[1, 2], &[2]],
-        ranges: &[2, 3, 1],
-        is_taken: false,
-    },
-    Taken {
-        accesses: &[&[0, 1], &[1]],
-        operands: &[&[1, 2], &[2]],
-        ranges: &[2, 2_147_483_648],
-        is_taken: false,
-    },
-    Taken {
-        accesses: &[&[0], &[0]],
-        operands: &[&[1], &[1]],
-        ranges: &[2, 3],
-        is_taken: false,
-    },
-];
-
 #[test]
-fn what_is_computable(rt: HostRuntime) -> Result<(), Fail> {
-    let alloc = rt.alloc();
-    for row in &TAKEN {
-        let statement = statement_of(alloc, 2, &[0], 1, row.accesses, PRODUCT)?;
-        let mut operands = Vec::new(alloc);
-        for coords in row.operands {
-            operands.push(entries_of(&rt, alloc, coords.len(), &[(*coords, 1)])?)?;
-        }
-        let told = is_computable(&statement, operands.as_slice(), row.ranges);
-        assert_eq!(rt; told, row.is_taken, "{:?} {:?}", row.operands, row.ranges);
-    }
+fn laws_of_statements(_rt: HostRuntime) {
     expr_terms::sums_change_places();
     expr_terms::values_depend_on_little();
     expr_terms::values_are_words();
@@ -588,5 +410,4 @@ fn what_is_computable(rt: HostRuntime) -> Result<(), Fail> {
     expr_terms::products_are_one_sum();
     expr_terms::ranges_without_words();
     expr_terms::results_have_the_left_ranges();
-    Ok(())
 }
