@@ -49,7 +49,8 @@ format_order built (Some text) n levels is = some_order text.order n (modes_of l
 format_long : (built : List ℕ) (s : Statement) (words : List (List ℕ)) (formats : List (List FormatLevel))
     → AreFormats built s words formats → (tensor : ℕ) → tensor < length s.tensors → length (format_of formats tensor) ≡ order_of s tensor
 format_long built s words formats are tensor h =
-    let order = format_order built (first_in (format_in s tensor) words) (order_of s tensor) (format_of formats tensor) (are.are tensor [] h) in
+    let order = format_order built (first_in (format_in s tensor) words) (order_of s tensor) (format_of formats tensor)
+    (are.are tensor [] h) in
     sym (length-map (format_of formats tensor) (λ (level : FormatLevel). level.mode)) ∙ order.count
 
 pub formats_fit : (built : List ℕ) (s : Statement) (words : List (List ℕ)) (need : Bool) (formats : List (List FormatLevel))
