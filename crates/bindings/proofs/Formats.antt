@@ -35,48 +35,48 @@ pub order_small : (s : Statement) → IsNumbered s → (tensor : ℕ) → order_
 order_small s is tensor = orders_small (length s.tensors) (length s.vars) (s.left ∷ s.accesses) (is.left, is.right) tensor
 
 -- the formats of the first so many tensors
-pub record FormatsSoFar (built : List ℕ) (s : Statement) (words : List (List ℕ)) (count : ℕ)
+pub record FormatsSoFar (s : Statement) (words : List (List ℕ)) (count : ℕ)
     (formats : List (List FormatLevel)) : Type 0 where
   pub long : length formats ≡ count
-  pub are : (tensor : ℕ) (d : List FormatLevel) → tensor < count → FormatIs built s words tensor (Ok (slice_index_or formats tensor d))
+  pub are : (tensor : ℕ) (d : List FormatLevel) → tensor < count → FormatIs s words tensor (Ok (slice_index_or formats tensor d))
 
-pub no_formats : (built : List ℕ) (s : Statement) (words : List (List ℕ)) → FormatsSoFar built s words 0 []
-no_formats built s words = record { long = refl; are = λ tensor d lt. absurd (omega (arith, lt)) }
+pub no_formats : (s : Statement) (words : List (List ℕ)) → FormatsSoFar s words 0 []
+no_formats s words = record { long = refl; are = λ tensor d lt. absurd (omega (arith, lt)) }
 
-pub formats_on : (built : List ℕ) (s : Statement) (words : List (List ℕ)) (count : ℕ) (formats : List (List FormatLevel))
+pub formats_on : (s : Statement) (words : List (List ℕ)) (count : ℕ) (formats : List (List FormatLevel))
     (format : List FormatLevel)
-    → FormatsSoFar built s words count formats → FormatIs built s words count (Ok format)
-    → FormatsSoFar built s words (count + 1) (formats ++ format ∷ [])
-formats_on built s words count formats format before here = record {
+    → FormatsSoFar s words count formats → FormatIs s words count (Ok format)
+    → FormatsSoFar s words (count + 1) (formats ++ format ∷ [])
+formats_on s words count formats format before here = record {
   long = let long : length (formats ++ format ∷ []) ≡ length formats + 1 = grind (arith, common_steps) in omega (arith, long, before.long);
   are = λ tensor d lt. by_place tensor d lt (tensor == count) refl;
 }
   where
     by_place : (tensor : ℕ) (d : List FormatLevel) → tensor < count + 1 → (b : Bool) → (tensor == count) ≡ b
-        → FormatIs built s words tensor (Ok (slice_index_or (formats ++ format ∷ []) tensor d))
+        → FormatIs s words tensor (Ok (slice_index_or (formats ++ format ∷ []) tensor d))
     by_place tensor d lt true same =
         let at : tensor ≡ count = same_number tensor count same in
         let long : length formats ≡ count = before.long in
         let there : slice_index_or (formats ++ format ∷ []) tensor d ≡ format = grind (arith, common_steps) in
-        subst (λ f. FormatIs built s words tensor (Ok f)) (sym there) (subst (λ n. FormatIs built s words n (Ok format)) (sym at) here)
+        subst (λ f. FormatIs s words tensor (Ok f)) (sym there) (subst (λ n. FormatIs s words n (Ok format)) (sym at) here)
     by_place tensor d lt false apart =
         let other : tensor ≡ count
         → ⊥ = λ same. let yes : (tensor == count) ≡ true = ap (λ n. tensor == n) (sym same) ∙ number_same tensor in cc in
         let long : length formats ≡ count = before.long in
         let below : tensor < count = omega (arith, lt, other) in
         let there : slice_index_or (formats ++ format ∷ []) tensor d ≡ slice_index_or formats tensor d = grind (arith, common_steps) in
-        subst (λ f. FormatIs built s words tensor (Ok f)) (sym there) (before.are tensor d below)
+        subst (λ f. FormatIs s words tensor (Ok f)) (sym there) (before.are tensor d below)
 
 -- the answer for the text that is bound to a tensor
-pub format_here : (built : List ℕ) (s : Statement) (words : List (List ℕ)) (bound : Bound) (tensor order : ℕ) (text d : Option FormatText)
+pub format_here : (s : Statement) (words : List (List ℕ)) (bound : Bound) (tensor order : ℕ) (text d : Option FormatText)
     (answer : Result (List FormatLevel) FormatFault) → IsBound s words bound → tensor < length s.tensors
     → (items : List (Option FormatText))
     → items ≡ bound.texts.items → text ≡ slice_index_or items tensor d → order ≡ order_of s tensor
-    → HasFormat built (option_map text_in text) order answer
-    → FormatIs built s words tensor answer
-format_here built s words bound tensor order text d answer is within items same there orders has =
+    → HasFormat (option_map text_in text) order answer
+    → FormatIs s words tensor answer
+format_here s words bound tensor order text d answer is within items same there orders has =
     let says : option_map text_in text ≡ first_in (format_in s tensor) words = ap (option_map text_in) (there
     ∙ ap (λ l. slice_index_or l tensor d) same)
     ∙ is.texts tensor d within in
-    subst (λ n. HasFormat built (first_in (format_in s tensor) words) n answer) orders
-    (subst (λ t. HasFormat built t order answer) says has)
+    subst (λ n. HasFormat (first_in (format_in s tensor) words) n answer) orders
+    (subst (λ t. HasFormat t order answer) says has)

@@ -10,15 +10,15 @@ use Rattle.format_spec.proofs.WordLaws.{one_answer}
 use Rattle.index_notation.specs.declared.syntax.Statement.{Statement}
 use Rattle.bindings.specs.Words.{FormatText}
 use Rattle.bindings.specs.Bindings.{AreSound, IsFirstFault, first_in, format_in, path_in, range_in, order_of}
-use Rattle.bindings.specs.Outcome.{are_built, TextFormat, HasFormat, FormatIs, AreFormats, IsFirstBad, HaveFiles, LacksFile}
+use Rattle.bindings.specs.Outcome.{HasFormat, FormatIs, AreFormats, IsFirstBad, HaveFiles, LacksFile}
 use Rattle.bindings.specs.Outcome.{HasBadFormat, Binds, IsRefused, IsWant}
 use Rattle.bindings.specs.declared.fault.BindingFault.{BindingFault}
 use Rattle.bindings.specs.declared.fault.BindingFault.TheVariants.{Word, NoFile, BadFormat, Memory}
 
-pub same_files : (built : List ℕ) (s : Statement) (words : List (List ℕ)) (need : Bool)
+pub same_files : (s : Statement) (words : List (List ℕ)) (need : Bool)
     (formats layouts : List (List FormatLevel)) (files others : List (ℕ × List ℕ)) (ranges given : List (Option ℕ))
-    → Binds built s words need formats files ranges → Binds built s words need layouts others given → files ≡ others
-same_files built s words need formats layouts files others ranges given binds bind = binds.files_are ∙ sym bind.files_are
+    → Binds s words need formats files ranges → Binds s words need layouts others given → files ≡ others
+same_files s words need formats layouts files others ranges given binds bind = binds.files_are ∙ sym bind.files_are
 
 -- two lists of one length that agree at each place
 lists_agree : {A : Type 0} (xs ys : List A) → length xs ≡ length ys
@@ -30,10 +30,10 @@ lists_agree (x ∷ xs) (y ∷ ys) long agree =
     ap (λ head. head ∷ xs) (agree 0 x (omega arith))
     ∙ ap (λ tail. y ∷ tail) (lists_agree xs ys (omega (arith, long)) (λ k d lt. agree (suc k) d (omega (arith, lt))))
 
-pub same_ranges : (built : List ℕ) (s : Statement) (words : List (List ℕ)) (need : Bool)
+pub same_ranges : (s : Statement) (words : List (List ℕ)) (need : Bool)
     (formats layouts : List (List FormatLevel)) (files others : List (ℕ × List ℕ)) (ranges given : List (Option ℕ))
-    → Binds built s words need formats files ranges → Binds built s words need layouts others given → ranges ≡ given
-same_ranges built s words need formats layouts files others ranges given binds bind =
+    → Binds s words need formats files ranges → Binds s words need layouts others given → ranges ≡ given
+same_ranges s words need formats layouts files others ranges given binds bind =
     lists_agree ranges given (binds.variables ∙ sym bind.variables) (λ var d lt.
     let within : var < length s.vars = subst (λ n. var < n) binds.variables lt in
     binds.ranges_are var d within ∙ sym (bind.ranges_are var d within))
@@ -55,20 +55,20 @@ abbrev ok_or : List FormatLevel → Result (List FormatLevel) FormatFault → Li
 ok_or d (Ok levels) = levels
 ok_or d (Err fault) = d
 
-format_once : (built : List ℕ) (text : Option FormatText) (order : ℕ) (levels others : List FormatLevel)
-    → HasFormat built text order (Ok levels) → HasFormat built text order (Ok others) → levels ≡ others
-format_once built None order levels others is be =
+format_once : (text : Option FormatText) (order : ℕ) (levels others : List FormatLevel)
+    → HasFormat text order (Ok levels) → HasFormat text order (Ok others) → levels ≡ others
+format_once None order levels others is be =
     levels_same levels others (is.0 ∙ sym be.0) (is.1 ∙ sym be.1)
-format_once built (Some text) order levels others is be =
-    ap (ok_or []) (one_answer text.letters text.order order (Ok levels) (Ok others) is.1 be.1)
+format_once (Some text) order levels others is be =
+    ap (ok_or []) (one_answer text.letters text.order order (Ok levels) (Ok others) is be)
 
-pub same_formats : (built : List ℕ) (s : Statement) (words : List (List ℕ)) (need : Bool)
+pub same_formats : (s : Statement) (words : List (List ℕ)) (need : Bool)
     (formats layouts : List (List FormatLevel)) (files others : List (ℕ × List ℕ)) (ranges given : List (Option ℕ))
-    → Binds built s words need formats files ranges → Binds built s words need layouts others given → formats ≡ layouts
-same_formats built s words need formats layouts files others ranges given binds bind =
+    → Binds s words need formats files ranges → Binds s words need layouts others given → formats ≡ layouts
+same_formats s words need formats layouts files others ranges given binds bind =
     lists_agree formats layouts (binds.formats_are.tensors ∙ sym bind.formats_are.tensors) (λ tensor d lt.
     let within : tensor < length s.tensors = subst (λ n. tensor < n) binds.formats_are.tensors lt in
-    format_once built (first_in (format_in s tensor) words) (order_of s tensor) (slice_index_or formats tensor d)
+    format_once (first_in (format_in s tensor) words) (order_of s tensor) (slice_index_or formats tensor d)
     (slice_index_or layouts tensor d) (binds.formats_are.are tensor d within) (bind.formats_are.are tensor d within))
 
 -- a format is there or isn't
@@ -79,35 +79,27 @@ answers_apart text order levels fault is bad = apart (one_answer text.letters te
     apart : {A B : Type 0} {x : A} {y : B} → Ok x ≡ Err y → ⊥
     apart h = cc
 
-text_apart : (built : Bool) (text : FormatText) (order : ℕ) (levels : List FormatLevel) (fault : FormatFault)
-    → TextFormat built text order (Ok levels) → TextFormat built text order (Err fault) → ⊥
-text_apart built text order levels fault is (inl bad) = answers_apart text order levels fault is.1 bad
-text_apart built text order levels fault is (inr bad) = true_or_false (sym is.0 ∙ bad.0)
-  where
-    true_or_false : true ≡ false → ⊥
-    true_or_false h = cc
-
-format_apart : (built : List ℕ) (text : Option FormatText) (order : ℕ) (levels : List FormatLevel) (fault : FormatFault)
-    → HasFormat built text order (Ok levels) → HasFormat built text order (Err fault) → ⊥
-format_apart built None order levels fault is bad = bad
-format_apart built (Some text) order levels fault is bad = text_apart (are_built built text.letters) text order levels fault is bad
+format_apart : (text : Option FormatText) (order : ℕ) (levels : List FormatLevel) (fault : FormatFault)
+    → HasFormat text order (Ok levels) → HasFormat text order (Err fault) → ⊥
+format_apart None order levels fault is bad = bad
+format_apart (Some text) order levels fault is bad = answers_apart text order levels fault is bad
 
 none_is_some : (o : Option (List ℕ)) → is_some o ≡ true → o ≡ None → ⊥
 none_is_some None some none = cc
 none_is_some (Some x) some none = cc
 
-pub never_both : (built : List ℕ) (s : Statement) (words : List (List ℕ)) (need : Bool)
+pub never_both : (s : Statement) (words : List (List ℕ)) (need : Bool)
     (formats : List (List FormatLevel)) (files : List (ℕ × List ℕ)) (ranges : List (Option ℕ)) (fault : BindingFault)
-    → Binds built s words need formats files ranges → IsRefused built s words need fault → IsWant fault
-never_both built s words need formats files ranges (Word word why) binds first =
+    → Binds s words need formats files ranges → IsRefused s words need fault → IsWant fault
+never_both s words need formats files ranges (Word word why) binds first =
     apart (sym (binds.sound first.at first.within) ∙ first.is)
   where
     apart : {A : Type 0} {x : A} → None ≡ Some x → ⊥
     apart h = cc
-never_both built s words need formats files ranges (NoFile tensor) binds lacks =
+never_both s words need formats files ranges (NoFile tensor) binds lacks =
     none_is_some (first_in (path_in s tensor) words)
     (binds.all_read lacks.needed tensor lacks.lacks.operand lacks.lacks.within) lacks.lacks.lacks
-never_both built s words need formats files ranges (BadFormat tensor why) binds bad =
-    format_apart built (first_in (format_in s tensor) words) (order_of s tensor) (slice_index_or formats tensor []) why
+never_both s words need formats files ranges (BadFormat tensor why) binds bad =
+    format_apart (first_in (format_in s tensor) words) (order_of s tensor) (slice_index_or formats tensor []) why
     (binds.formats_are.are tensor [] bad.bad.within) bad.bad.is
-never_both built s words need formats files ranges (Memory error) binds want = want
+never_both s words need formats files ranges (Memory error) binds want = want

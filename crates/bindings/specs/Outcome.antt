@@ -1,13 +1,11 @@
 -- What words bind, whole, and why they bind nothing.
 use Rattle.std.specs.Prelude.{◌≡◌, ℕ, ◌<◌, Bool, true, false, List, [], ◌∷◌, length, Option, Some, None, is_some, Result, Ok, Err}
 use Rattle.std.specs.Prelude.{slice_index_or}
-use Rattle.std.specs.Prelude.{replicate, ◌==◌, ◌⊎◌}
-use Rattle.std.specs.List.{list_all, list_any}
+use Rattle.std.specs.Prelude.{replicate}
 use Rattle.level_core.specs.declared.letter.Letter.TheVariants.{Dense}
 use Rattle.format_spec.specs.declared.format.FormatLevel.{FormatLevel}
 use Rattle.format_spec.specs.Formats.{letters_of, modes_of, standing}
 use Rattle.format_spec.specs.declared.fault.FormatFault.{FormatFault}
-use Rattle.format_spec.specs.declared.fault.FormatFault.TheVariants.{BadLetter}
 use Rattle.format_spec.specs.Words.{Answers}
 use Rattle.index_notation.specs.declared.syntax.Statement.{Statement}
 use Rattle.index_notation.specs.Numbering.{place_of}
@@ -16,25 +14,14 @@ use Rattle.bindings.specs.Bindings.{AreSound, IsFirstFault, first_in, format_in,
 use Rattle.bindings.specs.declared.fault.BindingFault.{BindingFault}
 use Rattle.bindings.specs.declared.fault.BindingFault.TheVariants.{Word, NoFile, BadFormat, Memory}
 
--- each of these letters is one of those that formats may have
-abbrev pub are_built : List ℕ → List ℕ → Bool
-are_built built letters = list_all (λ letter. list_any (λ other. letter == other) built) letters
+-- the format of a tensor of this order, or why there is none: by its word, or all dense, the modes in their own order
+abbrev pub HasFormat : Option FormatText → ℕ → Result (List FormatLevel) FormatFault → Type 0
+HasFormat None order (Ok levels) = (letters_of levels ≡ replicate order Dense) × (modes_of levels ≡ standing order)
+HasFormat None order (Err fault) = ⊥
+HasFormat (Some text) order answer = Answers text.letters text.order order answer
 
--- the format of a text, whose letters are all built; or why there is none: a letter that isn't built is told behind all else
-abbrev pub TextFormat : Bool → FormatText → ℕ → Result (List FormatLevel) FormatFault → Type 0
-TextFormat built text order (Ok levels) = (built ≡ true) × Answers text.letters text.order order (Ok levels)
-TextFormat built text order (Err fault) = Answers text.letters text.order order (Err fault) ⊎ ((built ≡ false) × (fault ≡ BadLetter)
-    × ((levels : List FormatLevel) × Answers text.letters text.order order (Ok levels)))
-
--- the format of a tensor of this order, or why there is none: by its word, or all dense, the modes in their own order. `built`
--- has the letters that formats may have
-abbrev pub HasFormat : List ℕ → Option FormatText → ℕ → Result (List FormatLevel) FormatFault → Type 0
-HasFormat built None order (Ok levels) = (letters_of levels ≡ replicate order Dense) × (modes_of levels ≡ standing order)
-HasFormat built None order (Err fault) = ⊥
-HasFormat built (Some text) order answer = TextFormat (are_built built text.letters) text order answer
-
-abbrev pub FormatIs : List ℕ → Statement → List (List ℕ) → ℕ → Result (List FormatLevel) FormatFault → Type 0
-FormatIs built s words tensor answer = HasFormat built (first_in (format_in s tensor) words) (order_of s tensor) answer
+abbrev pub FormatIs : Statement → List (List ℕ) → ℕ → Result (List FormatLevel) FormatFault → Type 0
+FormatIs s words tensor answer = HasFormat (first_in (format_in s tensor) words) (order_of s tensor) answer
 
 abbrev pub with_file : Statement → Option Said → List (ℕ × List ℕ) → List (ℕ × List ℕ)
 with_file s (Some (SaysFile name path)) files = (place_of s.tensors (record { bytes = name }), path) ∷ files
@@ -74,31 +61,31 @@ IsFileRefused s words need (BadFormat tensor fault) = ⊥
 IsFileRefused s words need (Memory error) = ⊥
 
 -- each tensor has its format
-pub record AreFormats (built : List ℕ) (s : Statement) (words : List (List ℕ)) (formats : List (List FormatLevel)) : Type 0 where
+pub record AreFormats (s : Statement) (words : List (List ℕ)) (formats : List (List FormatLevel)) : Type 0 where
   pub tensors : length formats ≡ length s.tensors
   pub are : (tensor : ℕ) (d : List FormatLevel) → tensor < length s.tensors
-      → FormatIs built s words tensor (Ok (slice_index_or formats tensor d))
+      → FormatIs s words tensor (Ok (slice_index_or formats tensor d))
 
 -- the tensor is the first whose format is none
-pub record IsFirstBad (built : List ℕ) (s : Statement) (words : List (List ℕ)) (tensor : ℕ) (fault : FormatFault) : Type 0 where
+pub record IsFirstBad (s : Statement) (words : List (List ℕ)) (tensor : ℕ) (fault : FormatFault) : Type 0 where
   pub within : tensor < length s.tensors
-  pub before : (other : ℕ) → other < tensor → (levels : List FormatLevel) × FormatIs built s words other (Ok levels)
-  pub is : FormatIs built s words tensor (Err fault)
+  pub before : (other : ℕ) → other < tensor → (levels : List FormatLevel) × FormatIs s words other (Ok levels)
+  pub is : FormatIs s words tensor (Err fault)
 
-abbrev pub IsFormatRefused : List ℕ → Statement → List (List ℕ) → BindingFault → Type 0
-IsFormatRefused built s words (Word word fault) = ⊥
-IsFormatRefused built s words (NoFile tensor) = ⊥
-IsFormatRefused built s words (BadFormat tensor fault) = IsFirstBad built s words tensor fault
-IsFormatRefused built s words (Memory error) = Unit {0}
+abbrev pub IsFormatRefused : Statement → List (List ℕ) → BindingFault → Type 0
+IsFormatRefused s words (Word word fault) = ⊥
+IsFormatRefused s words (NoFile tensor) = ⊥
+IsFormatRefused s words (BadFormat tensor fault) = IsFirstBad s words tensor fault
+IsFormatRefused s words (Memory error) = Unit {0}
 
 -- what words bind that have no fault: a format for each tensor, the files, and a range for each variable that has a word
-pub record Binds (built : List ℕ) (s : Statement) (words : List (List ℕ)) (need : Bool) (formats : List (List FormatLevel))
+pub record Binds (s : Statement) (words : List (List ℕ)) (need : Bool) (formats : List (List FormatLevel))
     (files : List (ℕ × List ℕ))
     (ranges : List (Option ℕ)) : Type 0 where
   pub sound : AreSound s words (length words)
   pub files_are : files ≡ files_in s words
   pub all_read : need ≡ true → HaveFiles s words (length s.tensors)
-  pub formats_are : AreFormats built s words formats
+  pub formats_are : AreFormats s words formats
   pub variables : length ranges ≡ length s.vars
   pub ranges_are : (var : ℕ) (d : Option ℕ) → var < length s.vars → slice_index_or ranges var d ≡ first_in (range_in s var) words
 
@@ -109,18 +96,18 @@ pub record LacksFile (s : Statement) (words : List (List ℕ)) (need : Bool) (te
   pub lacks : IsWithoutFile s words tensor
 
 -- no word is refused, each operand has its file where files are needed, and the tensor is the first whose format is none
-pub record HasBadFormat (built : List ℕ) (s : Statement) (words : List (List ℕ)) (need : Bool) (tensor : ℕ)
+pub record HasBadFormat (s : Statement) (words : List (List ℕ)) (need : Bool) (tensor : ℕ)
     (fault : FormatFault) : Type 0 where
   pub sound : AreSound s words (length words)
   pub all_read : need ≡ true → HaveFiles s words (length s.tensors)
-  pub bad : IsFirstBad built s words tensor fault
+  pub bad : IsFirstBad s words tensor fault
 
 -- why words bind nothing
-abbrev pub IsRefused : List ℕ → Statement → List (List ℕ) → Bool → BindingFault → Type 0
-IsRefused built s words need (Word word fault) = IsFirstFault s words word fault
-IsRefused built s words need (NoFile tensor) = LacksFile s words need tensor
-IsRefused built s words need (BadFormat tensor fault) = HasBadFormat built s words need tensor fault
-IsRefused built s words need (Memory error) = Unit {0}
+abbrev pub IsRefused : Statement → List (List ℕ) → Bool → BindingFault → Type 0
+IsRefused s words need (Word word fault) = IsFirstFault s words word fault
+IsRefused s words need (NoFile tensor) = LacksFile s words need tensor
+IsRefused s words need (BadFormat tensor fault) = HasBadFormat s words need tensor fault
+IsRefused s words need (Memory error) = Unit {0}
 
 -- a refusal for want of memory
 abbrev pub IsWant : BindingFault → Type 0

@@ -1,12 +1,10 @@
 // What all words bind.
-ghost use Rattle.std.specs.Prelude.{◌≡◌, ◌==◌, ◌<◌, ◌≤◌, ◌+◌, ℕ, List, Some, None, Ok, Err, map, length, take, All, IfOk, MatchResult};
+ghost use Rattle.std.specs.Prelude.{◌≡◌, ◌<◌, ◌≤◌, ◌+◌, ℕ, List, Some, None, Ok, Err, map, length, take, All, IfOk, MatchResult};
 ghost use Rattle.std.specs.Prelude.{MatchOption, IsTrue};
 ghost use Rattle.std.specs.Prelude.{true, OnOk, ◌++◌, ◌∷◌, [], option_map};
 ghost use Rattle.limits.specs.Limits.{greatest_order};
 ghost use Rattle.index_notation.specs.Statement.{IsNumbered};
 ghost use Rattle.bindings.specs.Bindings.{AreSound, IsFirstFault};
-ghost use Rattle.std.specs.List.{list_any};
-ghost use Rattle.bindings.specs.Outcome.{are_built as are_built_letters, TextFormat};
 ghost use Rattle.bindings.specs.Outcome.{HasFormat, HaveFiles, AreFormats, IsWithoutFile, IsFileRefused, IsWordRefused, IsFormatRefused};
 ghost use Rattle.bindings.specs.Outcome.{Binds, IsRefused};
 ghost use Rattle.bindings.specs.Tables.{IsBound, file_in};
@@ -86,64 +84,17 @@ fn check_files(
     }
 }
 
-/// Whether a letter is one of these.
-fn is_among(letters: &[u8], letter: u8) -> bool
-    ensures { result ≡ list_any (λ other. letter == other) letters.now }
-{
-    for other in letters {
-        if letter == *other {
-            return true;
-        }
-    }
-    false
-}
-
-/// Whether each of these letters is one of those that formats may have.
-fn are_built(built: &[u8], letters: &[u8]) -> bool
-    ensures { result ≡ are_built_letters built.now letters.now }
-{
-    for letter in letters {
-        if !is_among(built, *letter) {
-            return false;
-        }
-    }
-    true
-}
-
-/// The format of a text for a tensor of this order. A letter that isn't built is told behind all other faults.
-fn format_of_text(
-    alloc: Global,
-    built: &[u8],
-    text: FormatText<'_>,
-    order: usize,
-) -> Result<Format, FormatFault>
-    requires { order ≤ greatest_order }
-    ensures { TextFormat (are_built_letters built.now text.entry.letters.now) (text_in text.entry) order result }
-{
-    match parse_format(alloc, text.letters, text.order, order) {
-        Ok(format) => {
-            if are_built(built, text.letters.as_bytes()) {
-                Ok(format)
-            } else {
-                Err(FormatFault::BadLetter)
-            }
-        }
-        Err(fault) => Err(fault),
-    }
-}
-
 /// The format of a tensor of this order: by its text, or all dense.
 fn format_of(
     alloc: Global,
-    built: &[u8],
     text: Option<FormatText<'_>>,
     order: usize,
 ) -> Result<Format, FormatFault>
     requires { order ≤ greatest_order }
-    ensures { HasFormat built.now (option_map text_in text.entry) order result }
+    ensures { HasFormat (option_map text_in text.entry) order result }
 {
     match text {
-        Some(text) => format_of_text(alloc, built, text, order),
+        Some(text) => parse_format(alloc, text.letters, text.order, order),
         None => Ok(Format::all_dense(alloc, order)),
     }
 }
@@ -158,18 +109,17 @@ fn push(formats: &mut Vec<Format>, format: Format) -> Result<(), AllocError>
 /// The formats of all tensors, or the first that is none.
 fn formats_of(
     alloc: Global,
-    built: &[u8],
     statement: &Statement,
     bound: &Bound<'_>,
 ) -> Result<Vec<Format>, BindingFault>
     requires { IsNumbered statement.now }
     ensures { (words : List (List ℕ)) → IsBound statement.now words bound.now
-        → MatchResult result (λ formats. AreFormats built.now statement.now words formats.items)
-        (IsFormatRefused built.now statement.now words) }
+        → MatchResult result (λ formats. AreFormats statement.now words formats.items)
+        (IsFormatRefused statement.now words) }
 {
     let mut formats = Vec::new(alloc);
     for (tensor, text) in bound.texts.iter().enumerate() {
-        match format_of(alloc, built, *text, order_of(statement, tensor)) {
+        match format_of(alloc, *text, order_of(statement, tensor)) {
             Ok(format) => push(&mut formats, format)?,
             Err(fault) => return Err(BindingFault::BadFormat { tensor, fault }),
         }
@@ -178,24 +128,22 @@ fn formats_of(
 }
 
 /// What the words behind EXPR bind, or the first refusal in order: of the words, of the files where they are needed, of the
-/// formats. Refused for want of memory besides. `built` has the letters that formats may have so far: any other is told as a
-/// letter that there isn't, tensor by tensor, behind all other faults of that tensor's format.
+/// formats. Refused for want of memory besides.
 pub fn bind<'a>(
     alloc: Global,
-    built: &[u8],
     statement: &Statement,
     words: &[&'a str],
     need_files: bool,
 ) -> Result<Bindings<'a>, BindingFault>
     requires { IsNumbered statement.now }
     ensures { MatchResult result
-        (λ b. Binds built.now statement.now (map (λ word. word.now) words.now) need_files b.formats.items
+        (λ b. Binds statement.now (map (λ word. word.now) words.now) need_files b.formats.items
         (map file_in b.files.entries) b.ranges.items)
-        (IsRefused built.now statement.now (map (λ word. word.now) words.now) need_files) }
+        (IsRefused statement.now (map (λ word. word.now) words.now) need_files) }
 {
     let bound = bind_words(alloc, statement, words)?;
     check_files(statement, &bound, need_files)?;
-    let formats = formats_of(alloc, built, statement, &bound)?;
+    let formats = formats_of(alloc, statement, &bound)?;
     Ok(Bindings {
         formats,
         files: bound.files,

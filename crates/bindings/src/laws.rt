@@ -7,16 +7,16 @@ ghost use Rattle.bindings.specs.declared.fault.BindingFault.{BindingFault};
 
 /// Words bind one format to each tensor, one list of files and one list of ranges, and words that bind are refused for want of memory alone.
 pub fn one_answer_of_words()
-    ensures formats { (built : List ℕ) (s : Statement) (words : List (List ℕ)) (need : Bool)
+    ensures formats { (s : Statement) (words : List (List ℕ)) (need : Bool)
         (formats layouts : List (List FormatLevel)) (files others : List (ℕ × List ℕ)) (ranges given : List (Option ℕ))
-        → Binds built s words need formats files ranges → Binds built s words need layouts others given → formats ≡ layouts }
-    ensures files { (built : List ℕ) (s : Statement) (words : List (List ℕ)) (need : Bool)
+        → Binds s words need formats files ranges → Binds s words need layouts others given → formats ≡ layouts }
+    ensures files { (s : Statement) (words : List (List ℕ)) (need : Bool)
         (formats layouts : List (List FormatLevel)) (files others : List (ℕ × List ℕ)) (ranges given : List (Option ℕ))
-        → Binds built s words need formats files ranges → Binds built s words need layouts others given → files ≡ others }
-    ensures ranges { (built : List ℕ) (s : Statement) (words : List (List ℕ)) (need : Bool)
+        → Binds s words need formats files ranges → Binds s words need layouts others given → files ≡ others }
+    ensures ranges { (s : Statement) (words : List (List ℕ)) (need : Bool)
         (formats layouts : List (List FormatLevel)) (files others : List (ℕ × List ℕ)) (ranges given : List (Option ℕ))
-        → Binds built s words need formats files ranges → Binds built s words need layouts others given → ranges ≡ given }
-    ensures never_both { (built : List ℕ) (s : Statement) (words : List (List ℕ)) (need : Bool)
+        → Binds s words need formats files ranges → Binds s words need layouts others given → ranges ≡ given }
+    ensures never_both { (s : Statement) (words : List (List ℕ)) (need : Bool)
         (formats : List (List FormatLevel)) (files : List (ℕ × List ℕ)) (ranges : List (Option ℕ)) (fault : BindingFault)
-        → Binds built s words need formats files ranges → IsRefused built s words need fault → IsWant fault }
+        → Binds s words need formats files ranges → IsRefused s words need fault → IsWant fault }
 {}

@@ -19,19 +19,19 @@ some_order : (order : Option (List ℕ)) (n : ℕ) (modes : List ℕ) → HasOrd
 some_order None n modes is = subst (IsOrder n) (sym is) (standing_is_order n)
 some_order (Some text) n modes is = is.0
 
-format_order : (built : List ℕ) (text : Option FormatText) (n : ℕ) (levels : List FormatLevel) → HasFormat built text n (Ok levels)
+format_order : (text : Option FormatText) (n : ℕ) (levels : List FormatLevel) → HasFormat text n (Ok levels)
     → IsOrder n (modes_of levels)
-format_order built None n levels is = subst (IsOrder n) (sym is.1) (standing_is_order n)
-format_order built (Some text) n levels is = some_order text.order n (modes_of levels) is.1.0.modes_are
+format_order None n levels is = subst (IsOrder n) (sym is.1) (standing_is_order n)
+format_order (Some text) n levels is = some_order text.order n (modes_of levels) is.0.modes_are
 
-pub formats_bound : (built : List ℕ) (s : Statement) (words : List (List ℕ)) (formats : List (List FormatLevel))
-    → AreFormats built s words formats → (operands : List Entries) → length operands + 1 ≡ length s.tensors
+pub formats_bound : (s : Statement) (words : List (List ℕ)) (formats : List (List FormatLevel))
+    → AreFormats s words formats → (operands : List Entries) → length operands + 1 ≡ length s.tensors
     → ((tensor : ℕ) → tensor ≤ length operands → bindings.order_of s tensor ≡ order_of s operands tensor)
     → AreFormatsOf s formats operands
-formats_bound built s words formats are operands many orders = record {
+formats_bound s words formats are operands many orders = record {
   long = are.tensors ∙ sym many;
   orders = λ tensor h.
       subst (λ n. IsOrder n (modes_of (stored.format_in formats tensor))) (orders tensor h)
-      (format_order built (first_in (format_in s tensor) words) (bindings.order_of s tensor) (stored.format_in formats tensor)
+      (format_order (first_in (format_in s tensor) words) (bindings.order_of s tensor) (stored.format_in formats tensor)
       (are.are tensor [] (omega (arith, many, h))));
 }

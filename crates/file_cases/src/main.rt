@@ -8,6 +8,7 @@
 //! ```text
 //! lines | 1 5\r\n3 7          The lines of a text.
 //! tokens | 1 2                The tokens of a line.
+//! blanks | \t1                Which bytes of a line are blanks.
 //! index 5 | 007               The number of a token, which is at most 5.
 //! whole | 1.0                 The signed whole number of a token.
 //! tns 2 | 1 1 2\n            The entries or the fault of a `.tns` file of order 2, in pieces of 1, 2 and 4,096 bytes.
@@ -18,15 +19,17 @@
 //! absent 5 |                  So is a file that isn't there.
 //! write cut 4 fail 3 | abc    A text is put into the file `old`, through a sink over the folder.
 //! batch 9000 fail 2 | a       The text is put 9,000 times into a batch over a sink.
+//! copy | abc                  A file is written, read back and given to a sink, over objects that never fail.
+//! copy_real | abc             So is a file of the system, whose text is printed.
+//! laws |                      Each call that states a law.
 //! ```
 #![tactic(auto)]
 
 mod case;
+mod copies;
 mod files;
 mod pieces;
 mod streams;
-#[cfg(test)]
-mod tests;
 mod texts;
 
 use anyhow::{Context, Result};
@@ -35,7 +38,7 @@ use std::alloc::Global;
 use std::rt::{Env, Files};
 use std::{env, fs};
 
-/// What comes of a case that isn't one of texts.
+/// What comes of a case that is neither one of texts nor one of copies.
 fn answer_of(alloc: Global, case: &Case) -> Result<String> {
     match files::answer(alloc, case)? {
         Some(answer) => Ok(answer),
@@ -43,14 +46,22 @@ fn answer_of(alloc: Global, case: &Case) -> Result<String> {
     }
 }
 
+/// What comes of a case that isn't one of texts.
+fn told_of<R: Files + Print + AllocGlobal>(rt: &R, case: &Case) -> Result<String> {
+    match copies::answer(rt, case)? {
+        Some(answer) => Ok(answer),
+        None => answer_of(rt.alloc(), case),
+    }
+}
+
 /// Runs the case of a line, and prints what came.
-fn run_line<R: Print + AllocGlobal>(rt: &R, line: &str) -> Result<()> {
+fn run_line<R: Files + Print + AllocGlobal>(rt: &R, line: &str) -> Result<()> {
+    println!(rt; "{line}")?;
     let case = Case::read(rt.alloc(), line)?;
     let answer = match texts::answer(rt.alloc(), &case)? {
         Some(answer) => answer,
-        None => answer_of(rt.alloc(), &case)?,
+        None => told_of(rt, &case)?,
     };
-    println!(rt; "{line}")?;
     println!(rt; "    {answer}")?;
     Ok(())
 }

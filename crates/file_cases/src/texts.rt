@@ -3,7 +3,7 @@ use crate::case::Case;
 use anyhow::Result;
 use std::alloc::{AllocError, Global};
 use std::fmt::Display;
-use text_lines::{NumFault, cut_line, cut_token, read_index, read_whole};
+use text_lines::{NumFault, cut_line, cut_token, is_blank, read_index, read_whole};
 
 /// What comes of the case, if it is one of texts.
 pub(crate) fn answer(alloc: Global, case: &Case) -> Result<Option<String>> {
@@ -11,6 +11,7 @@ pub(crate) fn answer(alloc: Global, case: &Case) -> Result<Option<String>> {
     let answer = match case.keyword.as_str() {
         "lines" => lines_of(alloc, text)?,
         "tokens" => tokens_of(alloc, text)?,
+        "blanks" => blanks_of(alloc, text)?,
         "index" => number_or_fault(alloc, read_index(text, case.number()?))?,
         "whole" => number_or_fault(alloc, read_whole(text))?,
         _ => return Ok(None),
@@ -45,6 +46,15 @@ fn tokens_of(alloc: Global, line: &[u8]) -> Result<String, AllocError> {
         };
         push_quoted(&mut answer, token)?;
         rest = behind;
+    }
+    answer.push_str(".")?;
+    Ok(answer)
+}
+
+fn blanks_of(alloc: Global, line: &[u8]) -> Result<String, AllocError> {
+    let mut answer = String::new(alloc);
+    for byte in line {
+        write!(answer, "{} ", is_blank(*byte))?;
     }
     answer.push_str(".")?;
     Ok(answer)

@@ -5,7 +5,7 @@ use Rattle.numbers.specs.Arithmetic.{Arithmetic}
 use Rattle.kernel_code.specs.declared.syntax.Kernel.{Kernel}
 use Rattle.kernel_code.specs.declared.syntax.KStmt.{KStmt}
 use Rattle.kernel_code.specs.declared.syntax.LoopKind.{LoopKind}
-use Rattle.kernel_code.specs.Kernels.{KernelOutcome, Finished, NotFinished, all_turns, go, told, within, start_state}
+use Rattle.kernel_code.specs.Kernels.{KernelOutcome, Finished, GotStuck, NotFinished, all_turns, go, told, within, start_state}
 use Rattle.kernel_code.specs.Meaning.{State, run_list}
 use Rattle.kernel_code.proofs.More.{goes_on}
 use Rattle.level_core.specs.Meaning.{Arrays}
@@ -39,18 +39,26 @@ one_first n m = grind arith
 not_unfinished : (nothing : ℕ) (store : Store) (o : KernelOutcome) → IsSoundOutcome nothing store o → o ≡ NotFinished → ⊥
 not_unfinished nothing store o so e = subst (IsSoundOutcome nothing store) e so
 
-finished_apart : (arrays : Arrays) (turns : LoopKind → ℕ) → Finished arrays turns ≡ NotFinished → ⊥
-finished_apart arrays turns e = cc
+-- what a sound kernel comes to within the turns that a run may make, unless they are too few
+sound_at : (a : Arithmetic) (order : ℕ) (kernel : Kernel) (store : Store) (given : Arrays) (o : KernelOutcome)
+    → Ends a order kernel given (IsSoundOutcome a.zero store) → go a order kernel given most_turns ≡ o → (o ≡ NotFinished → ⊥)
+    → IsSoundOutcome a.zero store o
+sound_at a order kernel store given o e f told = by (one_first e.turns most_turns)
+  where
+    by : (e.turns ≤ most_turns) ⊎ (most_turns ≤ e.turns) → IsSoundOutcome a.zero store o
+    by (inl l) = subst (IsSoundOutcome a.zero store)
+        (sym e.is ∙ sym (goes_on a order kernel given e.turns most_turns l
+        (λ n. not_unfinished a.zero store e.outcome e.so (sym e.is ∙ n))) ∙ f) e.so
+    by (inr l) = subst (IsSoundOutcome a.zero store)
+        (sym e.is ∙ goes_on a order kernel given most_turns e.turns l (λ n. told (sym f ∙ n)) ∙ f) e.so
 
 -- a sound kernel that finishes leaves a storage
 pub sound_leaves : (a : Arithmetic) (order : ℕ) (kernel : Kernel) (store : Store) (given arrays : Arrays) (turns : LoopKind → ℕ)
     → Ends a order kernel given (IsSoundOutcome a.zero store) → go a order kernel given most_turns ≡ Finished arrays turns
     → LeavesStorage a.zero store arrays
-sound_leaves a order kernel store given arrays turns e f = by (one_first e.turns most_turns)
-  where
-    by : (e.turns ≤ most_turns) ⊎ (most_turns ≤ e.turns) → LeavesStorage a.zero store arrays
-    by (inl l) = subst (IsSoundOutcome a.zero store)
-        (sym e.is ∙ sym (goes_on a order kernel given e.turns most_turns l
-        (λ n. not_unfinished a.zero store e.outcome e.so (sym e.is ∙ n))) ∙ f) e.so
-    by (inr l) = subst (IsSoundOutcome a.zero store)
-        (sym e.is ∙ goes_on a order kernel given most_turns e.turns l (λ n. finished_apart arrays turns (sym f ∙ n)) ∙ f) e.so
+sound_leaves a order kernel store given arrays turns e f = sound_at a order kernel store given (Finished arrays turns) e f (λ n. cc)
+
+-- and is never stuck
+pub never_stuck : (a : Arithmetic) (order : ℕ) (kernel : Kernel) (store : Store) (given : Arrays)
+    → Ends a order kernel given (IsSoundOutcome a.zero store) → go a order kernel given most_turns ≡ GotStuck → ⊥
+never_stuck a order kernel store given e f = sound_at a order kernel store given GotStuck e f (λ n. cc)

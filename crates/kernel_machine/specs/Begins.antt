@@ -13,6 +13,7 @@ use Rattle.tensor_storage.specs.Storages.{Storage}
 use Rattle.storage_builder.specs.Building.{building}
 use Rattle.storage_builder.specs.declared.part.Part.TheVariants.{Missing}
 use Rattle.kernel_steps.specs.declared.machine.Machine.{Machine}
+use Rattle.kernel_steps.specs.Memory.{SetsBelow, Through, variable_room}
 use Rattle.kernel_steps.specs.Store.{state_of}
 use Rattle.kernel_stores.specs.Stores.{Store, IsGiven, StartsFew, parents_below, result_sizes}
 use Rattle.kernel_machine.specs.declared.prepared.Prepared.{Prepared}
@@ -38,12 +39,14 @@ pub record StartsOn (nothing : ℕ) (kernel : Kernel) (store : Store) (machine :
   pub is_given : IsGiven nothing store given
   pub is : state_of machine ≡ start_state kernel given
 
--- the kernel stands ready to run on the store: its run starts on the store's arrays, and nothing of the result was handed over yet
+-- the kernel stands ready to run on the store: its run starts on the store's arrays, each variable that it sets has a place, and nothing
+-- of the result was handed over yet
 pub record IsReadyFor (a : Arithmetic) (kernel : Kernel) (store : Store) (p : Prepared) : Type 0 where
   pub kernel_is : p.kernel.now ≡ kernel
   pub order : p.order ≡ length store.format
   pub few : StartsFew (letters_of store.format) (result_sizes store) 1
   pub starts : StartsOn a.zero kernel store p.machine
+  pub room : Through (SetsBelow (variable_room p.machine)) kernel.body
   pub building : p.builder ≡ building store.format (result_sizes store) (replicate (length store.format) Missing)
 
 -- a refusal before the run: of the first level that can't be begun

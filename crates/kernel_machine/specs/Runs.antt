@@ -5,7 +5,7 @@ use Rattle.kernel_code.specs.declared.syntax.Arr.{Arr}
 use Rattle.kernel_code.specs.declared.syntax.Arr.TheVariants.{Values}
 use Rattle.kernel_code.specs.declared.syntax.Kernel.{Kernel}
 use Rattle.kernel_code.specs.declared.syntax.Turns.{Turns}
-use Rattle.kernel_code.specs.Kernels.{Finished, TooLong, go}
+use Rattle.kernel_code.specs.Kernels.{Finished, TooLong, NotFinished, go}
 use Rattle.level_core.specs.declared.letter.Letter.{Letter}
 use Rattle.level_core.specs.declared.letter.Letter.TheVariants.{Dense}
 use Rattle.level_core.specs.Fragments.{IsOf}
@@ -13,10 +13,11 @@ use Rattle.level_core.specs.Meaning.{Arrays}
 use Rattle.format_spec.specs.declared.format.FormatLevel.{FormatLevel}
 use Rattle.format_spec.specs.Formats.{letters_of}
 use Rattle.tensor_storage.specs.Storages.{Storage}
-use Rattle.storage_builder.specs.Building.{Building}
+use Rattle.storage_builder.specs.Building.{Building, AreDense}
 use Rattle.storage_builder.specs.declared.part.Part.{Part}
 use Rattle.storage_builder.specs.declared.part.Part.TheVariants.{Missing}
 use Rattle.storage_builder.specs.Handed.{HoldsPart}
+use Rattle.kernel_steps.specs.Memory.{IsInPlace, Through}
 use Rattle.kernel_steps.specs.Store.{count_of}
 use Rattle.kernel_stores.specs.Results.{IsLeft, summed}
 use Rattle.kernel_stores.specs.Stores.{Store, AreHeld}
@@ -39,9 +40,15 @@ pub record HasRun (a : Arithmetic) (kernel : Kernel) (store : Store) (given : Ar
   pub format_is : tensor.format ≡ store.format
   pub is_left : IsLeft store arrays tensor.levels tensor.values
 
--- the growth of an array of the result or of a workspace is refused; or memory is wanted
+-- the kernel appends no words, and sorts neither a scratch list nor a workspace
+abbrev pub WorksInPlace : Kernel → Type 0
+WorksInPlace kernel = Through IsInPlace kernel.body
+
+-- the growth of an array of the result or of a workspace is refused; or memory is wanted, of a kernel that works in place and whose
+-- result is all dense only where its turns don't end
 abbrev pub IsRunRefusal : Arithmetic → Kernel → Store → Arrays → RunRefusal → Type 0
-IsRunRefusal a kernel store given Memory = Unit {0}
+IsRunRefusal a kernel store given Memory =
+    WorksInPlace kernel → AreDense store.format → go a (length store.format) kernel given most_turns ≡ NotFinished
 IsRunRefusal a kernel store given (SizeLimit place count) = go a (length store.format) kernel given most_turns ≡ TooLong place count
 
 -- nothing was handed over of any level

@@ -1,7 +1,7 @@
 //! The arrays of the result's levels, taken out of the machine and handed over.
-ghost use Rattle.std.specs.Prelude.{◌≡◌, ◌≤◌, ◌-◌, ◌<◌, IfSome, Some, length, slice_get, slice_set};
+ghost use Rattle.std.specs.Prelude.{◌≡◌, ◌≤◌, ◌-◌, ◌<◌, IfSome, IsSome, Some, length, slice_get, slice_set};
 ghost use Rattle.kernel_code.specs.declared.syntax.Arr.{Arr};
-ghost use Rattle.level_core.specs.declared.letter.Letter.TheVariants.{Compressed, Singleton, Hashed};
+ghost use Rattle.level_core.specs.declared.letter.Letter.TheVariants.{Dense, Compressed, Singleton, Hashed};
 ghost use Rattle.level_core.specs.Fragments.{IsOf};
 ghost use Rattle.storage_builder.specs.Building.{building};
 ghost use Rattle.storage_builder.specs.declared.part.Part.TheVariants.{Missing};
@@ -59,7 +59,7 @@ fn taken_slots(machine: &mut Machine, level: u64) -> Option<Part>
     Some(Part::Slots { wid, crd })
 }
 
-/// What is left of a level of a kind, taken out of the machine; none where its arrays aren't there.
+/// What is left of a level of a kind, taken out of the machine; none where its arrays aren't there. A dense level has none.
 pub(crate) fn taken_part(
     machine: &mut Machine,
     alloc: Global,
@@ -68,6 +68,7 @@ pub(crate) fn taken_part(
 ) -> Option<Part>
     ensures part { IfSome result (λ part. LeftPart letter level part (state_of machine.old).arrays) }
     ensures others { (b : Arr) → (IsOf 0 level b → ⊥) → (state_of machine.new).arrays b ≡ (state_of machine.old).arrays b }
+    ensures dense { letter ≡ Dense → IsSome result }
 {
     match letter {
         Letter::Dense => Some(Part::Missing),

@@ -7,6 +7,7 @@ ghost use Rattle.tensor_storage.specs.Storages.{in_level_order};
 ghost use Rattle.storage_builder.specs.Building.{building};
 ghost use Rattle.storage_builder.specs.declared.part.Part.TheVariants.{Missing};
 ghost use Rattle.kernel_stores.specs.Stores.{StartsFew};
+ghost use Rattle.kernel_steps.specs.Memory.{SetsBelow, Through, variable_room};
 ghost use Rattle.kernel_machine.specs.Begins.{store_of, StartsOn, IsReadyFor, IsBeginRefusal};
 
 use crate::prepared::Prepared;
@@ -14,7 +15,7 @@ use crate::refusal::RunRefusal;
 use crate::sizes::{TooLarge, first_too_large, sizes_of_levels};
 use format_spec::{Format, FormatLevel};
 use kernel_code::{Kernel, Place};
-use kernel_steps::Machine;
+use kernel_steps::{Machine, make_room};
 use lent_arrays::LentArrays;
 use machine_starts::{begin_result, begin_scratch, lent_operands};
 use numbers::Semiring;
@@ -23,7 +24,7 @@ use storage_builder::Builder;
 use tensor_map::Shape;
 use tensor_storage::Tensor;
 
-/// A machine with the arrays with which a kernel's run starts.
+/// A machine with the arrays with which a kernel's run starts, and with a place for each variable that it sets.
 fn started_machine<'a, S: Semiring>(
     alloc: Global,
     kernel: &Kernel,
@@ -35,7 +36,8 @@ fn started_machine<'a, S: Semiring>(
     requires sizes { sizes.now ≡ in_level_order format.now ranges.now }
     requires few { StartsFew (letters_of format.now) sizes.now 1 }
     requires done { All (λ t. AreDone 1 t.levels) operands.now }
-    ensures { IfOk result (StartsOn S.arithmetic.zero kernel.now (store_of ranges.now operands.now format.now)) }
+    ensures starts { IfOk result (StartsOn S.arithmetic.zero kernel.now (store_of ranges.now operands.now format.now)) }
+    ensures room { IfOk result (λ m. Through (SetsBelow (variable_room m)) kernel.now.body) }
 {
     let lent = LentArrays {
         ranges,
@@ -50,6 +52,7 @@ fn started_machine<'a, S: Semiring>(
         kernel.workspaces.as_slice(),
         kernel.lists,
     )?;
+    make_room(&mut machine, kernel.body.as_slice())?;
     Ok(machine)
 }
 

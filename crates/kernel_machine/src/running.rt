@@ -1,9 +1,9 @@
 //! Runs of kernels that stand ready.
-ghost use Rattle.std.specs.Prelude.{◌≡◌, ◌∷◌, [], ◌<◌, ◌≤◌, ℕ, IfOk, MatchResult, length, replicate, slice_get, Some, true};
+ghost use Rattle.std.specs.Prelude.{◌≡◌, ◌∷◌, [], ◌<◌, ◌≤◌, ℕ, IfOk, IsOk, MatchResult, length, replicate, slice_get, Some, true};
 ghost use Rattle.kernel_code.specs.declared.syntax.Arr.{Arr};
 ghost use Rattle.kernel_code.specs.Kernels.{place_of};
 ghost use Rattle.level_core.specs.Meaning.{Arrays};
-ghost use Rattle.storage_builder.specs.Building.{building};
+ghost use Rattle.storage_builder.specs.Building.{building, AreDense};
 ghost use Rattle.storage_builder.specs.declared.part.Part.TheVariants.{Missing};
 ghost use Rattle.kernel_steps.specs.Store.{state_of};
 ghost use Rattle.kernel_stores.specs.Kernels.{IsSoundOn};
@@ -51,7 +51,8 @@ fn place_of(order: usize, a: Arr) -> Place
 fn hand_over(machine: &mut Machine, builder: &mut Builder, alloc: Global, order: usize) -> bool
     requires order { order ≡ length builder.old.format }
     requires missing { IsUntouched builder.old }
-    ensures { result ≡ true → WasHanded builder.old (state_of machine.old).arrays builder.new (state_of machine.new).arrays }
+    ensures handed { result ≡ true → WasHanded builder.old (state_of machine.old).arrays builder.new (state_of machine.new).arrays }
+    ensures dense { AreDense builder.old.format → result ≡ true }
 {
     for number in 0..order {
         let letter = builder.letter(number + 1);
@@ -63,7 +64,7 @@ fn hand_over(machine: &mut Machine, builder: &mut Builder, alloc: Global, order:
     true
 }
 
-/// The tensor that the arrays of the result make.
+/// The tensor that the arrays of the result make. Where all levels are dense it takes no memory.
 fn made_tensor(
     alloc: Global,
     mut machine: Machine,
@@ -73,7 +74,8 @@ fn made_tensor(
     requires order { order ≡ length builder.format }
     requires left { (nothing : ℕ) × (store : Store) × LeavesStorage nothing store (state_of machine).arrays
         × (builder ≡ building store.format (result_sizes store) (replicate (length store.format) Missing)) }
-    ensures { IfOk result (λ t. IsMadeFrom builder.format (state_of machine.entry).arrays t) }
+    ensures made { IfOk result (λ t. IsMadeFrom builder.format (state_of machine.entry).arrays t) }
+    ensures dense { AreDense builder.format → IsOk result }
 {
     if !hand_over(&mut machine, &mut builder, alloc, order) {
         return Err(AllocError);
@@ -86,7 +88,8 @@ fn made_tensor(
 
 /// Runs a kernel that is sound on the store on which it stands ready. It answers the result and the turns that the loops made, exactly
 /// where the kernel's meaning finishes so within 2^64 - 1 turns; or the growth that it is refused, exactly where the meaning is; or it
-/// wants memory, also where there would be more turns.
+/// wants memory, also where there would be more turns. A kernel that appends and sorts nothing takes no memory where its result is all
+/// dense.
 pub fn run<S: Semiring>(prepared: Prepared) -> Result<(Tensor, Turns), RunRefusal>
     requires { (store : Store) × IsReadyFor S.arithmetic prepared.kernel.now store prepared
         × IsSoundOn S.arithmetic prepared.kernel.now store }

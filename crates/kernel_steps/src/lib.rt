@@ -5,8 +5,10 @@
 
 mod ending;
 mod machine;
+mod room;
 mod runs;
 
 pub use ending::Ending;
 pub use machine::Machine;
+pub use room::make_room;
 pub use runs::run_statements;

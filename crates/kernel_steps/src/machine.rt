@@ -1,6 +1,6 @@
 //! The machine: variables, arrays that are lent and arrays of its own, and the turns that loops have made.
-ghost use Rattle.std.specs.Prelude.{◌≡◌, ℕ, ◌+◌, ◌^◌, ◌<◌, List, length, MatchOption, IfOk, OnOk, ◌++◌, ◌∷◌, [], Some, None, take, true};
-ghost use Rattle.std.specs.Prelude.{replicate, slice_get, option_map, unwrap_or, map, IsTrue, ◌↔◌};
+ghost use Rattle.std.specs.Prelude.{◌≡◌, ℕ, ◌+◌, ◌^◌, ◌<◌, ◌≤◌, List, length, MatchOption, IfOk, IsOkAnd, OnOk, OnErr};
+ghost use Rattle.std.specs.Prelude.{◌++◌, ◌∷◌, [], Some, None, take, true, replicate, slice_get, option_map, unwrap_or, map, IsTrue, ◌↔◌};
 ghost use Rattle.kernel_code.specs.Arrays.{sum_in, may_write};
 ghost use Rattle.kernel_code.specs.declared.syntax.Arr.{Arr};
 ghost use Rattle.kernel_code.specs.declared.syntax.Arr.TheVariants.{ListCoordinates, ListPositions, Key, Sums};
@@ -10,6 +10,7 @@ ghost use Rattle.kernel_code.specs.Meaning.{put_outcome, add_outcome, push_outco
 ghost use Rattle.lent_arrays.specs.Lent.{lent_array};
 ghost use Rattle.machine_parts.specs.Places.{held};
 ghost use Rattle.machine_parts.specs.Rows.{row_of};
+ghost use Rattle.kernel_steps.specs.Memory.{variable_room};
 ghost use Rattle.kernel_steps.specs.Store.{count_of, state_of, own_array, outcome_of, made, IsPlaceOf, IsWritable};
 
 use crate::ending::Ending;
@@ -216,9 +217,19 @@ impl<'a> Machine<'a> {
         }
     }
 
+    /// Gives a variable a place, whether or not it has a value. Refused for want of memory alone.
+    pub(crate) fn make_room(&mut self, x: u64) -> Result<(), AllocError>
+        ensures state { OnOk result (state_of self.new ≡ state_of self.old) }
+        ensures more { OnOk result (variable_room self.old ≤ variable_room self.new) }
+        ensures room { OnOk result (x < variable_room self.new) }
+    {
+        self.variables.make_room(x)
+    }
+
     pub(crate) fn set(&mut self, x: u64, value: Option<u64>) -> Result<Ending, AllocError>
         ensures is { IfOk result (λ ending. outcome_of ending (state_of self.new) ≡ set_outcome (state_of self.old) x value) }
         ensures turns { OnOk result (self.new.turns ≡ self.old.turns) }
+        ensures memory { (n : ℕ) → x < n → n ≤ variable_room self.old → IsOkAnd result (λ _. n ≤ variable_room self.new) }
     {
         let Some(value) = value else {
             return Ok(Ending::Stuck);
@@ -242,6 +253,7 @@ impl<'a> Machine<'a> {
         ensures is { outcome_of result (state_of self.new)
             ≡ with_array (state_of self.old) a (changed (state_of self.old) a i (λ _. value)) }
         ensures turns { self.new.turns ≡ self.old.turns }
+        ensures variables { self.new.variables ≡ self.old.variables }
     {
         let Some(place) = self.writable(a) else {
             return Ending::Stuck;
@@ -258,6 +270,7 @@ impl<'a> Machine<'a> {
         ensures is { outcome_of result (state_of self.new)
             ≡ with_array (state_of self.old) a (changed (state_of self.old) a i (λ old. sum_in S.arithmetic a old value)) }
         ensures turns { self.new.turns ≡ self.old.turns }
+        ensures variables { self.new.variables ≡ self.old.variables }
     {
         let Some(place) = self.writable(a) else {
             return Ending::Stuck;
@@ -311,6 +324,7 @@ impl<'a> Machine<'a> {
         ensures is { outcome_of result (state_of self.new)
             ≡ with_array (state_of self.old) a (λ xs. Ended (set_array (state_of self.old) a (take n xs))) }
         ensures turns { self.new.turns ≡ self.old.turns }
+        ensures variables { self.new.variables ≡ self.old.variables }
     {
         let Some(place) = self.writable(a) else {
             return Ending::Stuck;
@@ -322,6 +336,7 @@ impl<'a> Machine<'a> {
     pub(crate) fn put(&mut self, a: Arr, i: Option<u64>, value: Option<u64>) -> Ending
         ensures is { outcome_of result (state_of self.new) ≡ put_outcome (state_of self.old) a i value }
         ensures turns { self.new.turns ≡ self.old.turns }
+        ensures variables { self.new.variables ≡ self.old.variables }
     {
         match (i, value) {
             (Some(i), Some(value)) => self.put_word(a, i, value),
@@ -332,6 +347,7 @@ impl<'a> Machine<'a> {
     pub(crate) fn add<S: Semiring>(&mut self, a: Arr, i: Option<u64>, value: Option<u64>) -> Ending
         ensures is { outcome_of result (state_of self.new) ≡ add_outcome S.arithmetic (state_of self.old) a i value }
         ensures turns { self.new.turns ≡ self.old.turns }
+        ensures variables { self.new.variables ≡ self.old.variables }
     {
         match (i, value) {
             (Some(i), Some(value)) => self.add_word::<S>(a, i, value),
@@ -367,6 +383,7 @@ impl<'a> Machine<'a> {
     pub(crate) fn cut(&mut self, a: Arr, n: Option<u64>) -> Ending
         ensures is { outcome_of result (state_of self.new) ≡ cut_outcome (state_of self.old) a n }
         ensures turns { self.new.turns ≡ self.old.turns }
+        ensures variables { self.new.variables ≡ self.old.variables }
     {
         match n {
             Some(n) => self.cut_words(a, n),
@@ -388,6 +405,7 @@ impl<'a> Machine<'a> {
         requires { made self.old + 1 < 2 ^ 64 }
         ensures is { state_of self.new ≡ one_turn (state_of self.old) kind }
         ensures made { made self.new ≡ made self.old + 1 }
+        ensures variables { self.new.variables ≡ self.old.variables }
     {
         match kind {
             LoopKind::Merge => self.turns.merge += 1,
@@ -404,6 +422,7 @@ impl<'a> Machine<'a> {
             ≡ sort_outcome (state_of self.old) list ((state_of self.old).arrays (Arr.ListCoordinates list))
             ((state_of self.old).arrays (Arr.ListPositions list))) }
         ensures turns { OnOk result (self.new.turns ≡ self.old.turns) }
+        ensures refused { OnErr result (self.new ≡ self.old) }
     {
         let Some(coordinates) = self.array(Arr::ListCoordinates(list)) else {
             return Ok(Ending::Stuck);

@@ -1,7 +1,8 @@
 //! Statements and loops, one turn after another.
-ghost use Rattle.std.specs.Prelude.{◌≡◌, ◌≤◌, IfOk, OnOk};
+ghost use Rattle.std.specs.Prelude.{◌≡◌, ◌≤◌, ℕ, IfOk, IsOkAnd, OnOk};
 ghost use Rattle.kernel_code.specs.Meaning.{Ended, run, run_list, run_turns, value};
 ghost use Rattle.kernel_code.specs.Kernels.{within};
+ghost use Rattle.kernel_steps.specs.Memory.{NeedsNone, Through, Throughout, variable_room};
 ghost use Rattle.kernel_steps.specs.Store.{state_of, outcome_of, made, setting};
 
 use crate::ending::Ending;
@@ -20,8 +21,10 @@ pub(crate) fn run_statement<S: Semiring>(
     limit: u64,
 ) -> Result<Ending, AllocError>
     requires { made machine.old ≤ limit }
-    ensures { IfOk result (λ ending. outcome_of ending (state_of machine.new)
+    ensures is { IfOk result (λ ending. outcome_of ending (state_of machine.new)
         ≡ within limit (run (setting S.arithmetic workspaces.now) limit s.now (state_of machine.old))) }
+    ensures memory { (n : ℕ) → n ≤ variable_room machine.old → Throughout (NeedsNone n) s.now
+        → IsOkAnd result (λ _. n ≤ variable_room machine.new) }
 {
     match s {
         KStmt::Set(x, e) => {
@@ -78,8 +81,10 @@ pub fn run_statements<S: Semiring>(
     limit: u64,
 ) -> Result<Ending, AllocError>
     requires { made machine.old ≤ limit }
-    ensures { IfOk result (λ ending. outcome_of ending (state_of machine.new)
+    ensures is { IfOk result (λ ending. outcome_of ending (state_of machine.new)
         ≡ within limit (run_list (setting S.arithmetic workspaces.now) limit statements.now (state_of machine.old))) }
+    ensures memory { (n : ℕ) → n ≤ variable_room machine.old → Through (NeedsNone n) statements.now
+        → IsOkAnd result (λ _. n ≤ variable_room machine.new) }
 {
     for s in statements {
         let ending = run_statement::<S>(machine, s, workspaces, limit)?;
@@ -101,9 +106,11 @@ fn run_loop<S: Semiring>(
     limit: u64,
 ) -> Result<Ending, AllocError>
     requires { made machine.old ≤ limit }
-    ensures { IfOk result (λ ending. outcome_of ending (state_of machine.new)
+    ensures is { IfOk result (λ ending. outcome_of ending (state_of machine.new)
         ≡ within limit (run_turns limit kind (value e.now) (run_list (setting S.arithmetic workspaces.now) limit body.now)
         (state_of machine.old))) }
+    ensures memory { (n : ℕ) → n ≤ variable_room machine.old → Through (NeedsNone n) body.now
+        → IsOkAnd result (λ _. n ≤ variable_room machine.new) }
 {
     for _ in 0..limit {
         match value_of(machine, e) {

@@ -11,7 +11,7 @@ use trees::Items;
 type Code = Result<Items<KStmt>, AllocError>;
 
 /// The sum of the values of tensor 1.
-fn sum_of_values(alloc: Global) -> Code {
+pub(crate) fn sum_of_values(alloc: Global) -> Code {
     let values = Arr::Values(1);
     let word = word_at_variable(alloc, values, 0)?;
     let add = KStmt::AddTo(Arr::Values(0), KExpr::Num(0), word);

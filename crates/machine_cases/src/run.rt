@@ -1,15 +1,17 @@
 //! A kernel run on the arrays of all cases, and what it leaves, printed.
-ghost use Rattle.std.specs.Prelude.{◌≡◌, IfOk};
+ghost use Rattle.std.specs.Prelude.{◌≡◌, All, IfOk};
+ghost use Rattle.storage_arrays.specs.Arrays.{AreDone};
 ghost use Rattle.kernel_steps.specs.Store.{made};
 
 use anyhow::Result;
 use kernel_code::{Arr, KStmt, Turns};
 use kernel_steps::{Ending, Machine, run_statements};
 use lent_arrays::{LentArrays, Operand};
-use machine_starts::{begin_result, begin_scratch};
+use machine_starts::{begin_result, begin_scratch, lent_operands};
 use numbers::Ring;
 use seg_buffer::Segment;
 use std::alloc::{AllocError, Global};
+use tensor_storage::Tensor;
 
 /// The turns that a run may make.
 const TURNS: u64 = 1000;
@@ -26,19 +28,14 @@ const SHOWN: [(&'static str, Arr); 8] = [
     ("g0_pos", Arr::ListPositions(0)),
 ];
 
-/// A machine with the arrays of all cases.
+/// A machine with the arrays of all cases, and these operands.
 fn started<'a>(
     alloc: Global,
     ranges: &'a [u64],
-    values: &'a [u64],
+    operands: Vec<Operand<'a>>,
 ) -> Result<Machine<'a>, AllocError>
     ensures { IfOk result (λ m. made m ≡ 0) }
 {
-    let mut operands = Vec::new(alloc);
-    operands.push(Operand {
-        levels: Vec::new(alloc),
-        values,
-    })?;
     let lent = LentArrays {
         ranges,
         sizes: Vec::new(alloc),
@@ -108,13 +105,40 @@ fn print_refusal<R: Print>(rt: &R, ending: Ending) -> Result<()> {
     Ok(())
 }
 
-/// Runs code, and prints what it leaves.
-pub(crate) fn run_case<R: Print + AllocGlobal>(rt: &R, name: &str, code: &[KStmt]) -> Result<()> {
-    let mut machine = started(rt.alloc(), &[6, 7], &[4, 5])?;
+/// Runs code on a machine to which nothing was done yet, and prints what it leaves.
+fn run_on<R: Print>(rt: &R, name: &str, mut machine: Machine, code: &[KStmt]) -> Result<()>
+    requires { made machine ≡ 0 }
+{
     let ending = run_statements::<Ring>(&mut machine, code, &[1], TURNS)?;
     let text = text_of(ending);
     println!(rt; "{name}: {text}")?;
     print_refusal(rt, ending)?;
     print_turns(rt, machine.turns())?;
     print_arrays(rt, &machine)
+}
+
+/// Runs code on an operand without levels, and prints what it leaves.
+pub(crate) fn run_case<R: Print + AllocGlobal>(rt: &R, name: &str, code: &[KStmt]) -> Result<()> {
+    let alloc = rt.alloc();
+    let mut operands = Vec::new(alloc);
+    operands.push(Operand {
+        levels: Vec::new(alloc),
+        values: &[4, 5],
+    })?;
+    let machine = started(alloc, &[6, 7], operands)?;
+    run_on(rt, name, machine, code)
+}
+
+/// Runs code on packed operands, and prints what it leaves.
+pub(crate) fn run_packed_case<R: Print + AllocGlobal>(
+    rt: &R,
+    name: &str,
+    tensors: &[Tensor],
+    code: &[KStmt],
+) -> Result<()>
+    requires { All (λ t. AreDone 1 t.levels) tensors.now }
+{
+    let operands = lent_operands(rt.alloc(), tensors)?;
+    let machine = started(rt.alloc(), &[6, 7], operands)?;
+    run_on(rt, name, machine, code)
 }

@@ -1,5 +1,5 @@
 -- Numbers that are looked up: by a number, by two, and by the name of an array.
-use Rattle.std.specs.Prelude.{ℕ, Option, Some, None, slice_get}
+use Rattle.std.specs.Prelude.{ℕ, length, Option, Some, None, slice_get}
 use Rattle.kernel_code.specs.declared.syntax.Arr.{Arr}
 use Rattle.kernel_code.specs.declared.syntax.Arr.TheVariants.{Range, Values, Dimension, Ends, Coordinates, Width, Key, Sums}
 use Rattle.kernel_code.specs.declared.syntax.Arr.TheVariants.{ListCoordinates, ListPositions}
@@ -15,6 +15,10 @@ kept_at (Some v) = v
 -- the number that a table has for a number
 abbrev pub held : Table → ℕ → Option ℕ
 held t x = kept_at (slice_get t.items.items x)
+
+-- how many numbers have a place in a table, whether or not it has one for them
+abbrev pub room_of : Table → ℕ
+room_of t = length t.items.items
 
 abbrev pub held_in : Option Table → ℕ → Option ℕ
 held_in None y = None

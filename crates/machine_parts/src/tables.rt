@@ -1,6 +1,6 @@
 //! Tables of numbers that are looked up in constant time: by a number, and by two.
-ghost use Rattle.std.specs.Prelude.{◌≡◌, ◌≤◌, ◌<◌, ℕ, length, OnOk, None, Some, if◌then◌else◌, ◌==◌, ◌&&◌};
-ghost use Rattle.machine_parts.specs.Places.{held, held_pair};
+ghost use Rattle.std.specs.Prelude.{◌≡◌, ◌≤◌, ◌<◌, ℕ, length, OnOk, IsOk, None, Some, if◌then◌else◌, ◌==◌, ◌&&◌};
+ghost use Rattle.machine_parts.specs.Places.{held, held_pair, room_of};
 
 use std::alloc::{AllocError, Global};
 
@@ -30,10 +30,12 @@ impl Table {
         }
     }
 
-    /// Gives each number up to x a place.
-    fn make_room(&mut self, x: u64) -> Result<(), AllocError>
+    /// Gives each number up to x a place. Refused for want of memory alone, and never where x has a place already.
+    pub fn make_room(&mut self, x: u64) -> Result<(), AllocError>
         ensures same { OnOk result ((y : ℕ) → held self.new y ≡ held self.old y) }
-        ensures room { OnOk result (x < length self.new.items.items) }
+        ensures room { OnOk result (x < room_of self.new) }
+        ensures more { OnOk result (room_of self.old ≤ room_of self.new) }
+        ensures enough { x < room_of self.old → IsOk result }
     {
         for _ in self.items.len() as u64..x {
             self.items.push(None)?;
@@ -46,7 +48,9 @@ impl Table {
 
     /// Gives x a number. Refused for want of memory alone, and never where x has a place already.
     pub fn set(&mut self, x: u64, value: u64) -> Result<(), AllocError>
-        ensures { OnOk result ((y : ℕ) → held self.new y ≡ (if x == y then Some value else held self.old y)) }
+        ensures value { OnOk result ((y : ℕ) → held self.new y ≡ (if x == y then Some value else held self.old y)) }
+        ensures more { OnOk result (room_of self.old ≤ room_of self.new) }
+        ensures enough { x < room_of self.old → IsOk result }
     {
         self.make_room(x)?;
         self.items[x as usize] = Some(value);

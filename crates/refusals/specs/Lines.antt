@@ -1,5 +1,5 @@
 -- The status of a fault, and its line.
-use Rattle.std.specs.Prelude.{ℕ, List, [], ◌∷◌, codes, Option, Some, None, slice_get}
+use Rattle.std.specs.Prelude.{ℕ, List, [], ◌∷◌, ◌++◌, codes, Option, Some, None, slice_get}
 use Rattle.std.specs.Fmt.{decimal}
 use Rattle.index_notation.specs.declared.syntax.Name.{Name}
 use Rattle.index_notation.specs.declared.syntax.Statement.{Statement}
@@ -47,6 +47,7 @@ named_status (named.Binding (binding.Word word why)) = word_status why
 named_status (named.Binding (binding.NoFile tensor)) = 1
 named_status (named.Binding (binding.BadFormat tensor why)) = 1
 named_status (named.Binding (binding.Memory error)) = 5
+named_status (named.Cycle cycle) = 1
 named_status (named.Range (range.NoRange var)) = 1
 named_status (named.Range (range.RangeConflict var first other)) = 1
 named_status (named.Range (range.OutOfRange tensor coordinate exact)) = 1
@@ -58,6 +59,7 @@ status_of fault.Usage = 2
 status_of (fault.Notation why) = notation_status why
 status_of (fault.Named s why) = named_status why
 status_of fault.NotBuilt = 1
+status_of (fault.WorkspaceLimit count) = 6
 status_of (fault.ReadFault path) = 3
 status_of (fault.FileBytes path) = 6
 status_of (fault.BadFile path number kind) = 1
@@ -135,9 +137,21 @@ abbrev pub size_text : List ℕ → ℕ → ℕ → List ℕ
 size_text tensor level count = joined (codes "taco: size limit: " ∷ tensor ∷ codes " level " ∷ decimal level
     ∷ codes " needs " ∷ decimal count ∷ codes " positions\n" ∷ [])
 
+abbrev pub workspace_text : ℕ → List ℕ
+workspace_text count = joined (codes "taco: size limit: workspace needs " ∷ decimal count ∷ codes " pairs\n" ∷ [])
+
+-- a blank and a name for each of these variables, and then the end of the line
+abbrev pub names_behind : List Name → List ℕ → List ℕ
+names_behind names [] = codes "\n"
+names_behind names (var ∷ vars) = joined (codes " " ∷ name_at names var ∷ []) ++ names_behind names vars
+
+abbrev pub cycle_text : Statement → List ℕ → List ℕ
+cycle_text s cycle = codes "taco: cycle" ++ names_behind s.vars cycle
+
 abbrev pub named_line : Statement → NamedFault → List ℕ
 named_line s (named.Name why) = name_line s why
 named_line s (named.Binding why) = binding_line s why
+named_line s (named.Cycle cycle) = cycle_text s cycle
 named_line s (named.Range why) = range_line s why
 named_line s (named.SizeLimit tensor level count) = size_text (name_at s.tensors tensor) level count
 
@@ -161,6 +175,7 @@ line_of fault.Usage = codes "usage: taco run EXPR WORD.. | taco kernel EXPR WORD
 line_of (fault.Notation why) = notation_line why
 line_of (fault.Named s why) = named_line s why
 line_of fault.NotBuilt = codes "taco: not built yet\n"
+line_of (fault.WorkspaceLimit count) = workspace_text count
 line_of (fault.ReadFault path) = joined (codes "taco: " ∷ path.now ∷ codes ": read fault\n" ∷ [])
 line_of (fault.FileBytes path) = joined (codes "taco: " ∷ path.now ∷ codes ": more than 1099511627776 bytes\n" ∷ [])
 line_of (fault.BadFile path number kind) = joined (codes "taco: " ∷ path.now ∷ codes ": line " ∷ decimal number ∷ kind_text kind ∷ [])

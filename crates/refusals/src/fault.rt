@@ -9,6 +9,7 @@ use index_notation::{NotationFault, Statement};
 use mtx_io::LineKind;
 use std::alloc::AllocError;
 use thiserror::Error;
+use trees::Items;
 
 /// A fault that is told by names of the statement.
 #[derive(Debug, Drop)]
@@ -17,6 +18,8 @@ pub enum NamedFault {
     Name(NameFault),
     /// A word, a file or a format is missing or wrong.
     Binding(BindingFault),
+    /// No loop order respects the storage order of every tensor: these variables wait for one another in a cycle.
+    Cycle(Items<usize>),
     /// A variable has no range, or two.
     Range(RangeFault),
     /// This level of this tensor, counted from 1, would have so many positions, which pass the limit.
@@ -45,6 +48,9 @@ pub enum Fault<'a> {
     /// The statement isn't among those that are built so far.
     #[error("not built yet")]
     NotBuilt,
+    /// The result's workspace would have so many pairs of coordinates and a value, which pass the limit.
+    #[error("too many pairs")]
+    WorkspaceLimit(u64),
     /// Reading this file failed, or it isn't there.
     #[error("{0}: read fault")]
     ReadFault(&'a str),
@@ -78,7 +84,7 @@ impl<'a> Fault<'a> {
             Fault::NotBuilt | Fault::BadFile { .. } => 1,
             Fault::ReadFault(_) => 3,
             Fault::WriteFault(_) => 4,
-            Fault::FileBytes(_) => 6,
+            Fault::FileBytes(_) | Fault::WorkspaceLimit(_) => 6,
             Fault::Memory => 5,
         }
     }
@@ -112,7 +118,7 @@ fn status_of_named(fault: &NamedFault) -> u8
     ensures { result ≡ named_status fault.now }
 {
     match fault {
-        NamedFault::Name(_) => 1,
+        NamedFault::Name(_) | NamedFault::Cycle(_) => 1,
         NamedFault::Binding(
             BindingFault::Word {
                 fault: WordFault::RangeLimit,

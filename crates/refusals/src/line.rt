@@ -4,7 +4,7 @@ ghost use Rattle.std.specs.Fmt.{decimal};
 ghost use Rattle.outside.specs.Sink.{Appends};
 ghost use Rattle.text_lines.specs.Puts.{AppendsPart};
 ghost use Rattle.refusals.specs.Lines.{name_at, at_byte, counted_text, notation_line, name_line, word_text, format_text, binding_line};
-ghost use Rattle.refusals.specs.Lines.{range_line, size_text, named_line, kind_text, line_of};
+ghost use Rattle.refusals.specs.Lines.{range_line, size_text, workspace_text, names_behind, cycle_text, named_line, kind_text, line_of};
 ghost use Rattle.refusals.specs.Pieces.{joined};
 
 use crate::fault::{Fault, NamedFault};
@@ -340,6 +340,47 @@ fn put_size<S: Sink>(sink: &mut S, tensor: &[u8], level: usize, count: u64) -> R
     put_pieces(sink, &pieces)
 }
 
+/// Appends the line of a workspace with too many pairs.
+fn put_workspace<S: Sink>(sink: &mut S, count: u64) -> Result<(), Refusal>
+    ensures whole { OnOk result (Appends (S.state sink.old) (S.state sink.new) (workspace_text count)) }
+    ensures part { IfErr result (AppendsPart (S.state sink.old) (S.state sink.new) (workspace_text count)) }
+{
+    let pieces = [
+        Piece::Text(b"taco: size limit: workspace needs "),
+        Piece::Number(count),
+        Piece::Text(b" pairs\n"),
+    ];
+    put_pieces(sink, &pieces)
+}
+
+/// Appends a blank and a name for each of these variables, and then the end of the line.
+fn put_names<S: Sink>(sink: &mut S, names: &[Name], vars: &[usize]) -> Result<(), Refusal>
+    ensures whole { OnOk result (Appends (S.state sink.old) (S.state sink.new) (names_behind names.now vars.now)) }
+    ensures part { IfErr result (AppendsPart (S.state sink.old) (S.state sink.new) (names_behind names.now vars.now)) }
+{
+    let Some((var, others)) = vars.split_first() else {
+        return put_all(sink, b"\n");
+    };
+    match put_pieces(
+        sink,
+        &[Piece::Text(b" "), Piece::Text(bytes_of(names, *var))],
+    ) {
+        Ok(()) => put_names(sink, names, others),
+        Err(refusal) => Err(refusal),
+    }
+}
+
+/// Appends the line of variables that wait for one another.
+fn put_cycle<S: Sink>(sink: &mut S, statement: &Statement, cycle: &[usize]) -> Result<(), Refusal>
+    ensures whole { OnOk result (Appends (S.state sink.old) (S.state sink.new) (cycle_text statement.now cycle.now)) }
+    ensures part { IfErr result (AppendsPart (S.state sink.old) (S.state sink.new) (cycle_text statement.now cycle.now)) }
+{
+    match put_all(sink, b"taco: cycle") {
+        Ok(()) => put_names(sink, statement.vars.as_slice(), cycle),
+        Err(refusal) => Err(refusal),
+    }
+}
+
 /// Appends the line of a fault that is told by names.
 fn put_named_line<S: Sink>(
     sink: &mut S,
@@ -352,6 +393,7 @@ fn put_named_line<S: Sink>(
     match fault {
         NamedFault::Name(fault) => put_name_line(sink, statement, *fault),
         NamedFault::Binding(fault) => put_binding_line(sink, statement, fault),
+        NamedFault::Cycle(cycle) => put_cycle(sink, statement, cycle.as_slice()),
         NamedFault::Range(fault) => put_range_line(sink, statement, fault),
         NamedFault::SizeLimit {
             tensor,
@@ -396,6 +438,7 @@ pub fn put_line<S: Sink>(sink: &mut S, fault: &Fault<'_>) -> Result<(), Refusal>
         Fault::Notation(fault) => put_notation_line(sink, fault),
         Fault::Named { statement, fault } => put_named_line(sink, statement, fault),
         Fault::NotBuilt => put_all(sink, b"taco: not built yet\n"),
+        Fault::WorkspaceLimit(count) => put_workspace(sink, *count),
         Fault::ReadFault(path) => put_of_path(sink, path, b": read fault\n"),
         Fault::FileBytes(path) => put_of_path(sink, path, b": more than 1099511627776 bytes\n"),
         Fault::BadFile { path, line, kind } => put_bad_line(sink, path, *line, *kind),

@@ -15,7 +15,7 @@ use Rattle.bindings.specs.declared.fault.BindingFault.TheVariants as binding
 use Rattle.refusals.specs.declared.fault.NamedFault.TheVariants as named
 use Rattle.refusals.specs.declared.fault.Fault.{Fault}
 use Rattle.refusals.specs.declared.fault.Fault.TheVariants as fault
-use Rattle.run_request.specs.Asked.{Asks, Names, IsRefusedByWords, IsBindingFault, IsWant, built_letters}
+use Rattle.run_request.specs.Asked.{Asks, Names, IsRefusedByWords, IsBindingFault, IsWant}
 
 abbrev expr_of : Option CommandLine → List ℕ
 expr_of None = []
@@ -50,32 +50,32 @@ same_statement words s t formats layouts files others ranges given asks ask =
 same_binds : (words : List (List ℕ)) (s t : Statement) (formats layouts : List (List FormatLevel))
     (files others : List (ℕ × List ℕ)) (ranges given : List (Option ℕ))
     → (asks : Asks words s formats files ranges) → (ask : Asks words t layouts others given)
-    → Binds built_letters s asks.rest true layouts others given
+    → Binds s asks.rest true layouts others given
 same_binds words s t formats layouts files others ranges given asks ask =
-    subst (λ u. Binds built_letters u asks.rest true layouts others given)
+    subst (λ u. Binds u asks.rest true layouts others given)
     (sym (same_statement words s t formats layouts files others ranges given asks ask))
-    (subst (λ rest. Binds built_letters t rest true layouts others given)
+    (subst (λ rest. Binds t rest true layouts others given)
     (one_rest words ask.names.text asks.names.text ask.rest asks.rest ask.names.line asks.names.line) ask.binds)
 
 pub same_formats : (words : List (List ℕ)) (s t : Statement) (formats layouts : List (List FormatLevel))
     (files others : List (ℕ × List ℕ)) (ranges given : List (Option ℕ))
     → Asks words s formats files ranges → Asks words t layouts others given → formats ≡ layouts
 same_formats words s t formats layouts files others ranges given asks ask =
-    bindings.same_formats built_letters s asks.rest true formats layouts files others ranges given asks.binds
+    bindings.same_formats s asks.rest true formats layouts files others ranges given asks.binds
     (same_binds words s t formats layouts files others ranges given asks ask)
 
 pub same_files : (words : List (List ℕ)) (s t : Statement) (formats layouts : List (List FormatLevel))
     (files others : List (ℕ × List ℕ)) (ranges given : List (Option ℕ))
     → Asks words s formats files ranges → Asks words t layouts others given → files ≡ others
 same_files words s t formats layouts files others ranges given asks ask =
-    bindings.same_files built_letters s asks.rest true formats layouts files others ranges given asks.binds
+    bindings.same_files s asks.rest true formats layouts files others ranges given asks.binds
     (same_binds words s t formats layouts files others ranges given asks ask)
 
 pub same_ranges : (words : List (List ℕ)) (s t : Statement) (formats layouts : List (List FormatLevel))
     (files others : List (ℕ × List ℕ)) (ranges given : List (Option ℕ))
     → Asks words s formats files ranges → Asks words t layouts others given → ranges ≡ given
 same_ranges words s t formats layouts files others ranges given asks ask =
-    bindings.same_ranges built_letters s asks.rest true formats layouts files others ranges given asks.binds
+    bindings.same_ranges s asks.rest true formats layouts files others ranges given asks.binds
     (same_binds words s t formats layouts files others ranges given asks ask)
 
 apart : {A : Type 0} {x : A} → None ≡ Some x → ⊥
@@ -83,14 +83,14 @@ apart h = cc
 
 -- what is bound isn't refused
 binding_apart : (s : Statement) (words : List (List ℕ)) (formats : List (List FormatLevel)) (files : List (ℕ × List ℕ))
-    (ranges : List (Option ℕ)) (why : BindingFault) → Binds built_letters s words true formats files ranges
+    (ranges : List (Option ℕ)) (why : BindingFault) → Binds s words true formats files ranges
     → IsBindingFault s words why → ⊥
 binding_apart s words formats files ranges (binding.Word word why) binds is =
-    bindings.never_both built_letters s words true formats files ranges (binding.Word word why) binds is
+    bindings.never_both s words true formats files ranges (binding.Word word why) binds is
 binding_apart s words formats files ranges (binding.NoFile tensor) binds is =
-    bindings.never_both built_letters s words true formats files ranges (binding.NoFile tensor) binds is
+    bindings.never_both s words true formats files ranges (binding.NoFile tensor) binds is
 binding_apart s words formats files ranges (binding.BadFormat tensor why) binds is =
-    bindings.never_both built_letters s words true formats files ranges (binding.BadFormat tensor why) binds is
+    bindings.never_both s words true formats files ranges (binding.BadFormat tensor why) binds is
 binding_apart s words formats files ranges (binding.Memory error) binds is = is
 
 pub never_both : (words : List (List ℕ)) (s : Statement) (formats : List (List FormatLevel)) (files : List (ℕ × List ℕ))
@@ -106,13 +106,15 @@ never_both words s formats files ranges (fault.Named t (named.Name why)) asks (t
     notation) asks.names.names) is
 never_both words s formats files ranges (fault.Named t (named.Binding why)) asks (rest, names, is) =
     binding_apart t rest formats files ranges why
-    (subst (λ u. Binds built_letters u rest true formats files ranges)
+    (subst (λ u. Binds u rest true formats files ranges)
     (one_statement words s t asks.rest rest asks.names names)
-    (subst (λ r. Binds built_letters s r true formats files ranges)
+    (subst (λ r. Binds s r true formats files ranges)
     (one_rest words asks.names.text names.text asks.rest rest asks.names.line names.line) asks.binds)) is
+never_both words s formats files ranges (fault.Named t (named.Cycle cycle)) asks is = is
 never_both words s formats files ranges (fault.Named t (named.Range why)) asks is = is
 never_both words s formats files ranges (fault.Named t (named.SizeLimit tensor level count)) asks is = is
 never_both words s formats files ranges fault.NotBuilt asks is = is
+never_both words s formats files ranges (fault.WorkspaceLimit count) asks is = is
 never_both words s formats files ranges (fault.ReadFault path) asks is = is
 never_both words s formats files ranges (fault.FileBytes path) asks is = is
 never_both words s formats files ranges (fault.BadFile path line kind) asks is = is

@@ -1,6 +1,6 @@
 -- What the words of a command line ask for, and why they are refused before any file is opened: the first of the refusals in
 -- order.
-use Rattle.std.specs.Prelude.{◌≡◌, ℕ, List, Option, Some, None, map, true, codes}
+use Rattle.std.specs.Prelude.{◌≡◌, ℕ, List, Option, Some, None, map, true}
 use denote.Ref.{Bor}
 use Rattle.format_spec.specs.declared.format.FormatLevel.{FormatLevel}
 use Rattle.index_notation.specs.declared.syntax.Statement.{Statement}
@@ -17,10 +17,6 @@ use Rattle.refusals.specs.declared.fault.Fault.TheVariants.{Usage, Notation, Nam
 abbrev pub texts_in : List (Bor (List ℕ)) → List (List ℕ)
 texts_in words = map (λ word. word.now) words
 
--- the letters of formats that are built so far
-abbrev pub built_letters : List ℕ
-built_letters = codes "d"
-
 -- the command line is `run`, this text is its statement, whose names are in order
 pub record Names (words : List (List ℕ)) (s : Statement) (rest : List (List ℕ)) : Type 0 where
   pub text : List ℕ
@@ -33,7 +29,7 @@ pub record Asks (words : List (List ℕ)) (s : Statement) (formats : List (List 
     (ranges : List (Option ℕ)) : Type 0 where
   pub rest : List (List ℕ)
   pub names : Names words s rest
-  pub binds : Binds built_letters s rest true formats files ranges
+  pub binds : Binds s rest true formats files ranges
 
 -- ---- the refusals, stage by stage
 abbrev pub IsLineRefused : List (List ℕ) → Fault → Type 0
@@ -49,7 +45,7 @@ IsTextRefused text _ = ⊥
 -- why words bind nothing to the names of a statement
 abbrev pub IsBindingFault : Statement → List (List ℕ) → BindingFault → Type 0
 IsBindingFault s words (binding.Memory error) = ⊥
-IsBindingFault s words fault = IsRefused built_letters s words true fault
+IsBindingFault s words fault = IsRefused s words true fault
 
 abbrev pub IsBindingRefused : Statement → List (List ℕ) → Fault → Type 0
 IsBindingRefused s words (Named t (Binding fault)) = (t ≡ s) × IsBindingFault s words fault

@@ -1,4 +1,4 @@
-ghost use Rattle.std.specs.Prelude.{◌≡◌, ℕ, List, Some, true, map, codes, string_bytes, IfOk, IfErr, MatchResult};
+ghost use Rattle.std.specs.Prelude.{◌≡◌, ℕ, List, Some, true, map, string_bytes, IfOk, IfErr, MatchResult};
 ghost use Rattle.index_notation.specs.Notation.{IsNotationOf};
 ghost use Rattle.index_notation.specs.Statement.{IsNumbered};
 ghost use Rattle.command_line.specs.CommandLine.{command_line_of, Run};
@@ -21,9 +21,6 @@ pub struct Asked<'a> {
     pub statement: Statement,
     pub bindings: Bindings<'a>,
 }
-
-/// The letters of formats that are built so far.
-const BUILT: &[u8] = b"d";
 
 /// The text of the statement, and the words behind it.
 fn read_words<'a>(alloc: Global, words: &'a [String]) -> Result<(&'a str, Vec<&'a str>), Fault<'a>>
@@ -58,11 +55,11 @@ fn bind_names<'a>(
 ) -> Result<Asked<'a>, Fault<'a>>
     requires { IsNumbered statement }
     ensures { MatchResult result
-        (λ asked. (asked.statement ≡ statement) × Binds (codes "d") statement (texts_in words.now) true
+        (λ asked. (asked.statement ≡ statement) × Binds statement (texts_in words.now) true
         asked.bindings.formats.items (map file_in asked.bindings.files.entries) asked.bindings.ranges.items)
         (IsBindingRefused statement (texts_in words.now)) }
 {
-    match bind(alloc, BUILT, &statement, words, true) {
+    match bind(alloc, &statement, words, true) {
         Ok(bindings) => Ok(Asked {
             statement,
             bindings,

@@ -12,7 +12,11 @@ use Rattle.term_code.specs.WorkspaceSinks.{workspace_sink}
 pub workspace_laws : SinkLaws workspace_sink
 workspace_laws = record {
   long = λ k ranges row h. h;
-  same = λ k a ranges rows s t f g h. record { key = λ j l. g (Key k.number j) ∙ h.key j l; sums = g (Sums k.number) ∙ h.sums };
+  same = λ k a ranges rows s t f g h. record {
+    key = λ j l. g (Key k.number j) ∙ h.key j l;
+    sums = g (Sums k.number) ∙ h.sums;
+    few = h.few;
+  };
   more = λ k rows others b count r. record {
     array = r.array;
     above = r.above;

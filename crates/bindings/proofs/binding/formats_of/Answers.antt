@@ -23,7 +23,7 @@ returns-in-Err c words is =
     record {
       within = within;
       before = λ other lt. (_, before.are other [] lt);
-      is = format_here c.args.built.now s words c.args.bound.now c.loop-tensor.tensor _ _ _ _ is within c.deref-text-items.result.now
+      is = format_here s words c.args.bound.now c.loop-tensor.tensor _ _ _ _ is within c.deref-text-items.result.now
           c.deref-text-items.ensures.value refl
           c.order_of.ensures c.in-Err.ensures;
     }

@@ -5,4 +5,4 @@ use Rattle.bindings.proofs.binding.formats_of.Given as goal
 
 abbrev pub invariant-loop-tensor : goal.invariant-loop-tensor
 invariant-loop-tensor l = (words : List (List ℕ)) → IsBound l.statement words l.bound
-    → FormatsSoFar l.built l.statement words l.tensor l.formats.items
+    → FormatsSoFar l.statement words l.tensor l.formats.items

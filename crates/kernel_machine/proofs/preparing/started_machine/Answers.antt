@@ -1,21 +1,22 @@
-use Rattle.std.proofs.Common.{◌∙◌, ap, refl, map}
+use Rattle.std.proofs.Common.{◌∙◌, ap, subst, refl, map, arith}
 use Rattle.format_spec.specs.Formats.{letters_of}
 use Rattle.kernel_code.specs.Meaning.{State}
 use Rattle.lent_arrays.specs.declared.lent.LentArrays.{LentArrays}
 use Rattle.machine_starts.specs.Begun.{begun_result, with_workspaces, with_lists}
 use Rattle.machine_starts.specs.Lending.{lent_of}
+use Rattle.kernel_steps.specs.Memory.{SetsBelow, Through, variable_room}
 use Rattle.kernel_steps.specs.Store.{state_of}
 use Rattle.kernel_machine.proofs.Starts.{starts_on}
 use Rattle.kernel_machine.proofs.preparing.started_machine.Goals as goal
 
-pub returns : goal.returns
-returns g c =
+pub returns-clause-starts : goal.returns-clause-starts
+returns-clause-starts g c =
     let m = c.new-machine.result in
     let zero = g.S.Semiring.arithmetic.zero in
     let kernel = c.args.kernel.now in
     let letters = letters_of c.args.format.now in
     let lent = c.new-machine.ensures.lent in
-    starts_on m c.begin_scratch.new.machine m.lent kernel zero c.args.format.now c.args.ranges.now c.args.operands.now
+    starts_on m c.make_room.new.machine m.lent kernel zero c.args.format.now c.args.ranges.now c.args.operands.now
     (record {
       vars = c.new-machine.ensures.vars;
       own = c.new-machine.ensures.own;
@@ -25,8 +26,13 @@ returns g c =
     (ap (λ (l : LentArrays). l.ranges.now) lent)
     (ap (λ (l : LentArrays). l.sizes.items) lent ∙ c.in_ok-from_slice.ensures.items ∙ c.requires.sizes)
     (ap (λ (l : LentArrays). map lent_of l.operands.items) lent ∙ c.in_ok-lent_operands.ensures)
-    (c.in_ok-begin_scratch.ensures
+    (c.in_ok-make_room.ensures.state ∙ c.in_ok-begin_scratch.ensures
     ∙ ap (λ ws. with_lists kernel.lists (with_workspaces ws 0 (state_of c.begin_result.new.machine))) c.as_slice.ensures
     ∙ ap (λ (s : State). with_lists kernel.lists (with_workspaces kernel.workspaces 0 s)) (c.in_ok-begin_result.ensures
     ∙ ap (λ n. begun_result n letters c.args.sizes.now 1 1 (state_of m)) c.zero.ensures
     ∙ ap (λ ns. begun_result zero letters ns 1 1 (state_of m)) c.requires.sizes))
+
+pub returns-clause-room : goal.returns-clause-room
+returns-clause-room g c =
+    let n = variable_room c.make_room.new.machine in
+    subst (Through (SetsBelow n)) c.as_slice-2.ensures (c.in_ok-make_room.ensures.room n (omega arith))

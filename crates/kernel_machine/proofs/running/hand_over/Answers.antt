@@ -4,6 +4,7 @@ use Rattle.format_spec.specs.Formats.{letters_of}
 use Rattle.storage_builder.specs.Building.{Building, building}
 use Rattle.storage_builder.specs.declared.part.Part.TheVariants.{Missing}
 use Rattle.kernel_steps.specs.Store.{state_of}
+use Rattle.kernel_machine.proofs.InPlace.{dense_letter}
 use Rattle.kernel_machine.proofs.HandedParts.{Handing, handing_more, get_inside}
 use Rattle.kernel_machine.proofs.running.hand_over.Goals as goal
 
@@ -25,3 +26,13 @@ loop-number-preserved c =
     subst (λ (x : Building). Handing old before (n + 1) x (state_of c.taken_part.new.machine).arrays) (sym made)
     (handing_more old before n b (state_of l.machine).arrays (state_of c.taken_part.new.machine).arrays c.letter-letter.result
     c.in-Some.part l.invariant short here c.in-Some.ensures.part c.in-Some.ensures.others)
+
+pub returns-in_default-clause-dense : goal.returns-in_default-clause-dense
+returns-in_default-clause-dense c =
+    let l = c.loop-number in
+    let old = c.args.builder.now in
+    let minus : l.number + 1 - 1 ≡ l.number = omega arith in
+    let here : slice_get (letters_of old.format) l.number ≡ Some c.letter-letter.result =
+    ap (λ f. slice_get (letters_of f) l.number) (sym l.invariant.format) ∙ ap (slice_get (letters_of l.builder.format)) (sym minus)
+    ∙ c.letter-letter.ensures in
+    λ dense. c.in_default.ensures.dense (dense_letter old.format l.number c.letter-letter.result dense here)

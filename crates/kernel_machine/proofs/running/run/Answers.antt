@@ -1,11 +1,13 @@
-use Rattle.std.proofs.Common.{◌≡◌, ◌∙◌, ◌≤◌, ap, sym, subst, arith}
+use Rattle.std.proofs.Common.{inl, inr, ◌≡◌, ◌∙◌, ◌≤◌, ap, sym, subst, arith}
 use Rattle.std.specs.Prelude.{length}
-use Rattle.kernel_code.specs.Kernels.{Finished, TooLong, go, told, place_of}
+use Rattle.kernel_code.specs.Kernels.{Finished, NotFinished, TooLong, go, told, place_of}
 use Rattle.storage_builder.specs.Building.{Building}
 use Rattle.kernel_steps.specs.declared.ending.Ending.{Ending}
+use Rattle.kernel_steps.specs.Memory.{variable_room}
 use Rattle.kernel_steps.specs.Store.{count_of, outcome_of, state_of}
 use Rattle.kernel_machine.specs.Runs.{most_turns}
-use Rattle.kernel_machine.proofs.Ends.{none_made, ends_told, sound_leaves}
+use Rattle.kernel_machine.proofs.Ends.{none_made, ends_told, sound_leaves, never_stuck}
+use Rattle.kernel_machine.proofs.InPlace.{spared}
 use Rattle.kernel_machine.proofs.running.run.Goals as goal
 
 pub run_statements-requires : goal.run_statements-requires
@@ -25,7 +27,8 @@ made_tensor-requires-clause-left g c =
     let new = state_of c.run_statements.new.machine in
     let ends : go a order kernel given most_turns ≡ Finished new.arrays new.turns =
     ends_told a order kernel given c.args.prepared.machine c.run_statements.new.machine c.in-Ok.ending c.as_slice.result.now
-    c.as_slice-2.result.now c.most_turns.result c.as_slice.ensures c.as_slice-2.ensures c.most_turns.ensures ready.starts.is c.in-Ok.ensures
+    c.as_slice-2.result.now c.most_turns.result c.as_slice.ensures c.as_slice-2.ensures c.most_turns.ensures ready.starts.is
+    c.in-Ok.ensures.is
     ∙ ap (λ (e : Ending). told order (outcome_of e new)) c.in-Ended.is in (
       a.zero,
       store,
@@ -44,14 +47,14 @@ returns-in-Ok-made_tensor g c =
     let ends : go a order kernel given most_turns ≡ Finished new.arrays (count_of c.turns-turns.result) =
     ends_told a order kernel given c.args.prepared.machine c.run_statements.new.machine c.in-Ok.ending c.as_slice.result.now
     c.as_slice-2.result.now c.most_turns.result c.as_slice.ensures c.as_slice-2.ensures c.most_turns.ensures ready.starts.is
-    c.in-Ok.ensures
+    c.in-Ok.ensures.is
     ∙ ap (λ (e : Ending). told order (outcome_of e new)) c.in-Ended.is
     ∙ ap (Finished new.arrays) (sym c.turns-turns.ensures) in
     record {
       arrays = new.arrays;
       ends = ends;
-      format_is = c.in-Ok-made_tensor.ensures.format_is ∙ ap (λ (b : Building). b.format) ready.building;
-      is_left = record { held = c.in-Ok-made_tensor.ensures.held; values_held = c.in-Ok-made_tensor.ensures.values };
+      format_is = c.in-Ok-made_tensor.ensures.made.format_is ∙ ap (λ (b : Building). b.format) ready.building;
+      is_left = record { held = c.in-Ok-made_tensor.ensures.made.held; values_held = c.in-Ok-made_tensor.ensures.made.values };
     }
 
 pub returns-in-Over : goal.returns-in-Over
@@ -64,7 +67,34 @@ returns-in-Over g c =
     let given = ready.starts.given in
     ends_told a order kernel given c.args.prepared.machine c.run_statements.new.machine c.in-Ok.ending c.as_slice.result.now
     c.as_slice-2.result.now c.most_turns.result c.as_slice.ensures c.as_slice-2.ensures c.most_turns.ensures ready.starts.is
-    c.in-Ok.ensures
+    c.in-Ok.ensures.is
     ∙ ap (λ (e : Ending). told order (outcome_of e new)) c.in-Over.is
     ∙ ap (λ n. TooLong (place_of n c.in-Over.array) c.in-Over.count) (sym ready.order)
     ∙ ap (λ p. TooLong p c.in-Over.count) (sym c.place_of-place.ensures)
+
+pub returns-in_default : goal.returns-in_default
+returns-in_default g c =
+    let m = c.args.prepared.machine in
+    λ store ready works dense. absurd (c.in_default.ensures.memory (variable_room m) (omega arith)
+    (spared c.args.prepared.kernel.now m c.as_slice.result.now c.as_slice.ensures works ready.room))
+
+pub returns-in-Stuck : goal.returns-in-Stuck
+returns-in-Stuck g c =
+    let a = g.S.Semiring.arithmetic in
+    let store = c.requires.0 in
+    let begun = c.requires.1.starts in
+    let kernel = c.args.prepared.kernel.now in
+    let order = length store.format in
+    let new = state_of c.run_statements.new.machine in
+    λ other ready works dense.
+    elim c.in-Stuck.is as (λ _. go a (length other.format) kernel ready.starts.given most_turns ≡ NotFinished) [
+      | inl stuck ↦ absurd (never_stuck a order kernel store begun.given (c.requires.2 begun.given begun.is_given)
+          (ends_told a order kernel begun.given c.args.prepared.machine c.run_statements.new.machine c.in-Ok.ending c.as_slice.result.now
+          c.as_slice-2.result.now c.most_turns.result c.as_slice.ensures c.as_slice-2.ensures c.most_turns.ensures begun.is
+          c.in-Ok.ensures.is
+          ∙ ap (λ (e : Ending). told order (outcome_of e new)) stuck))
+      | inr more ↦ ends_told a (length other.format) kernel ready.starts.given c.args.prepared.machine c.run_statements.new.machine
+          c.in-Ok.ending c.as_slice.result.now c.as_slice-2.result.now c.most_turns.result c.as_slice.ensures c.as_slice-2.ensures
+          c.most_turns.ensures ready.starts.is c.in-Ok.ensures.is
+          ∙ ap (λ (e : Ending). told (length other.format) (outcome_of e new)) more
+    ]

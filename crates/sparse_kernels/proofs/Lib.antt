@@ -1,0 +1,6 @@
+pub mod Ends
+pub mod Filled
+pub mod Kernels
+pub mod Points
+pub mod Starts
+pub mod Turns
