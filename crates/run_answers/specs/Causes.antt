@@ -1,5 +1,5 @@
--- Why a run ends as it does, and what stands then. Each stage has causes of its own: the words, the operands' files, the ranges
--- and sizes, the writing.
+-- Why a run ends as it does, and what stands then. Each stage has causes of its own: the words, the loop order, the operands'
+-- files, the ranges and sizes, the writing.
 use Rattle.std.specs.Prelude.{◌≡◌, ℕ, ◌⊎◌, List, Option, Some, None, Ok, Err, length, map, slice_index, true, Vec}
 use Rattle.std.specs.declared.alloc.Global.{Global}
 use Rattle.std.specs.declared.alloc.AllocError.{AllocError}
@@ -15,9 +15,15 @@ use Rattle.expr_terms.specs.declared.bound.Bound.{Bound}
 use Rattle.expr_terms.specs.declared.range_fault.RangeFault.{RangeFault}
 use Rattle.operand_files.specs.Decoded.{operand_of}
 use Rattle.operand_files.specs.Reads.{OnlyReads, HaveRead, Meaning, RefusedAtFault, RefusedAtLength, RefusedAtLine, OpensFirst, NoReadFails}
-use Rattle.range_loops.specs.Products.{IsProductOfAccesses}
-use Rattle.dense_runs.specs.Stored.{AllLevelsFit}
-use Rattle.dense_runs.specs.Runs.{told_ranges, IsTooLarge}
+use Rattle.kernel_code.specs.declared.syntax.Kernel.{Kernel}
+use Rattle.kernel_code.specs.declared.syntax.Turns.{Turns}
+use Rattle.iteration_graph.specs.Edges.{format_of}
+use Rattle.concrete_notation.specs.Workspaces.{AreAllDense}
+use Rattle.tensor_storage.specs.Storages.{Storage}
+use Rattle.kernel_stores.specs.Stores.{Store}
+use Rattle.taco_compiler.specs.Compiled.{IsOrder, HasCycle, IsCompiled}
+use Rattle.statement_operands.specs.Runnable.{told_ranges}
+use Rattle.kernel_runs.specs.Runs.{IsStoreFor, RunsKernel, IsTooLarge, NeedsPairs}
 use Rattle.result_files.specs.Writes.{WritesResult, RefusesResult}
 use Rattle.result_files.specs.declared.refusal.WriteRefusal.{WriteRefusal}
 use Rattle.result_files.specs.declared.refusal.WriteRefusal.TheVariants as write
@@ -31,10 +37,17 @@ use Rattle.run_answers.specs.Run.{Request, AsksFor, path_of, orders_of, paths_of
 abbrev pub means : Meaning
 means = operand_of ring true
 
--- the words ask for a product of accesses
-pub record IsBuilt (words : List (List ℕ)) (r : Request) : Type 0 where
+-- the words ask for a statement, and it has a loop order by the formats of its tensors
+pub record IsAccepted (words : List (List ℕ)) (r : Request) : Type 0 where
   pub asks : AsksFor words r
-  pub product : IsProductOfAccesses r.statement.expr
+  pub order : List ℕ
+  pub is_order : IsOrder r.statement r.formats order
+
+-- a kernel that is right for the statement and its formats, in their loop order
+pub record IsKernelOf (r : Request) (kernel : Kernel) : Type 0 where
+  pub order : List ℕ
+  pub is_order : IsOrder r.statement r.formats order
+  pub compiled : IsCompiled ring r.statement r.formats order kernel
 
 -- the orders and the paths of its operands' files
 abbrev pub asked_orders : Request → List ℕ
@@ -46,18 +59,25 @@ asked_paths r = paths_of r.statement r.files
 -- and its operands were read: these are their entries, and what their modes give
 pub record HasOperands (words : List (List ℕ)) (old new : FolderState) (r : Request) (entries : List Entries)
     (bounds : List (Vec Bound Global)) : Type 0 where
-  pub built : IsBuilt words r
+  pub accepted : IsAccepted words r
   pub read : HaveRead means old new (asked_orders r) (asked_paths r) (length (asked_paths r)) entries (map (λ b. b.items) bounds)
 
--- what a run computes: the statement over its operands, where the ranges agree and no level has too many positions
+-- what a run computes: the ranges agree, and a kernel that is right for the statement runs on the operands, packed in their
+-- formats. It leaves the storage that stands for the statement's values, named by its support
 pub record IsComputed (words : List (List ℕ)) (old new : FolderState) : Type 0 where
   pub request : Request
   pub entries : List Entries
   pub bounds : List (Vec Bound Global)
-  pub ranges : List ℕ
   pub operands : HasOperands words old new request entries bounds
+  pub kernel : Kernel
+  pub is_kernel : IsKernelOf request kernel
+  pub ranges : List ℕ
   pub ranges_are : told_ranges request.statement request.given bounds ≡ Ok ranges
-  pub fits : AllLevelsFit request.statement request.formats entries (slice_index ranges)
+  pub store : Store
+  pub is_store : IsStoreFor ring request.statement request.formats ranges entries store
+  pub tensor : Storage
+  pub turns : Turns
+  pub runs : RunsKernel ring request.statement kernel store tensor turns
 
 -- the result's ranges, and its values
 abbrev pub result_ranges : Statement → List ℕ → List ℕ
@@ -66,17 +86,24 @@ result_ranges s ranges = map (slice_index ranges) s.left.vars
 abbrev pub result_value : Statement → List Entries → List ℕ → List ℕ → ℕ
 result_value s entries ranges = statement_value ring s (operand_values ring entries) (slice_index ranges)
 
--- the words ask for a product, and no more was opened of its operands' files than the first of them, in order
+-- a statement is accepted, and no more was opened of its operands' files than the first of them, in order
 pub record OpensOperands (words : List (List ℕ)) (old new : FolderState) : Type 0 where
   pub request : Request
-  pub built : IsBuilt words request
+  pub accepted : IsAccepted words request
   pub opens : OpensFirst old new (asked_paths request)
   pub no_fault : NoReadFails old new
+
+-- the storage orders of the tensors have this cycle
+pub record HasCycleFault (words : List (List ℕ)) (s : Statement) (cycle : List ℕ) : Type 0 where
+  pub request : Request
+  pub statement_is : request.statement ≡ s
+  pub asks : AsksFor words request
+  pub is : HasCycle s request.formats cycle
 
 -- why the operands of what the words ask for aren't read
 pub record StopsReading (words : List (List ℕ)) (Why : (orders : List ℕ) (paths : List (List ℕ)) → Type 0) : Type 0 where
   pub request : Request
-  pub built : IsBuilt words request
+  pub accepted : IsAccepted words request
   pub why : Why (asked_orders request) (asked_paths request)
 
 -- why the ranges of this statement don't agree
@@ -88,20 +115,30 @@ pub record HasRangeFault (words : List (List ℕ)) (old new : FolderState) (s : 
   pub operands : HasOperands words old new request entries bounds
   pub is : told_ranges s request.given bounds ≡ Err why
 
--- this level of this tensor is the first with too many positions
+-- a level of this tensor has too many positions
 pub record HasLargeLevel (words : List (List ℕ)) (old new : FolderState) (s : Statement) (tensor level count : ℕ) : Type 0 where
   pub request : Request
   pub statement_is : request.statement ≡ s
   pub entries : List Entries
   pub bounds : List (Vec Bound Global)
   pub operands : HasOperands words old new request entries bounds
-  pub large : IsTooLarge s request.formats request.given entries bounds tensor level count
+  pub large : IsTooLarge ring s request.formats request.given entries bounds tensor level count
 
--- no refusal of the words comes, and the right side is no product
-pub record IsNoProduct (words : List (List ℕ)) : Type 0 where
+-- the result's workspace needs too many pairs
+pub record HasManyPairs (words : List (List ℕ)) (old new : FolderState) (count : ℕ) : Type 0 where
+  pub request : Request
+  pub entries : List Entries
+  pub bounds : List (Vec Bound Global)
+  pub operands : HasOperands words old new request entries bounds
+  pub needs : NeedsPairs ring request.statement request.formats request.given entries bounds count
+
+-- there is a loop order, and the result has a level that isn't dense
+pub record IsNotBuilt (words : List (List ℕ)) : Type 0 where
   pub request : Request
   pub asks : AsksFor words request
-  pub no_product : IsProductOfAccesses request.statement.expr → ⊥
+  pub order : List ℕ
+  pub is_order : IsOrder request.statement request.formats order
+  pub sparse : AreAllDense (format_of request.formats request.statement.left.tensor) → ⊥
 
 -- no file was opened, and the words are refused so
 pub record RefusesWords (words : List (List ℕ)) (old new : FolderState) (why : Fault) : Type 0 where
@@ -114,10 +151,12 @@ Stops words old new (fault.ReadFault path) = StopsReading words (λ orders paths
 Stops words old new (fault.FileBytes path) = StopsReading words (λ orders paths. RefusedAtLength means old new orders paths path.now)
 Stops words old new (fault.BadFile path line kind) =
     StopsReading words (λ orders paths. RefusedAtLine means old new orders paths path.now line kind)
+Stops words old new (fault.Named s (named.Cycle cycle)) = (new ≡ old) × HasCycleFault words s cycle
 Stops words old new (fault.Named s (named.Range why)) = HasRangeFault words old new s why
 Stops words old new (fault.Named s (named.SizeLimit tensor level count)) = HasLargeLevel words old new s tensor level count
+Stops words old new (fault.WorkspaceLimit count) = HasManyPairs words old new count
 Stops words old new (fault.WriteFault path) = ⊥
-Stops words old new fault.NotBuilt = (new ≡ old) × IsNoProduct words
+Stops words old new fault.NotBuilt = (new ≡ old) × IsNotBuilt words
 Stops words old new fault.Memory = (new ≡ old) ⊎ OpensOperands words old new
 Stops words old new why = RefusesWords words old new why
 

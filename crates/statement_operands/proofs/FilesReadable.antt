@@ -88,12 +88,12 @@ readable_from order from (suc count) (path ∷ paths) long each =
     )
 
 -- the paths that words bind to tensor 1 and on
-pub files_readable : (built : List ℕ) (s : Statement) (words : List (List ℕ)) (need : Bool) (formats : List (List FormatLevel))
-    (files : List (ℕ × List ℕ)) (given : List (Option ℕ)) → Binds built s words need formats files given → IsNumbered s
+pub files_readable : (s : Statement) (words : List (List ℕ)) (need : Bool) (formats : List (List FormatLevel))
+    (files : List (ℕ × List ℕ)) (given : List (Option ℕ)) → Binds s words need formats files given → IsNumbered s
     → (paths : List (List ℕ)) → length paths ≡ length s.tensors - 1
     → ((n : ℕ) (path : List ℕ) → slice_get paths n ≡ Some path → first_in (path_in s (n + 1)) words ≡ Some path)
     → AreReadable (operand_orders s) paths
-files_readable built s words need formats files given binds numbered paths long each =
+files_readable s words need formats files given binds numbered paths long each =
     readable_from (order_of s) 1 (length s.tensors - 1) paths long (λ n path is.
     let found = first_found (path_in s (n + 1)) words path (each n path is) in
     let next : n + 1 ≡ 1 + n = omega arith in

@@ -41,22 +41,21 @@ some_order : (order : Option (List ℕ)) (n : ℕ) (modes : List ℕ) → HasOrd
 some_order None n modes is = subst (IsOrder n) (sym is) (standing_is_order n)
 some_order (Some text) n modes is = is.0
 
-format_order : (built : List ℕ) (text : Option FormatText) (n : ℕ) (levels : List FormatLevel) → HasFormat built text n (Ok levels)
+format_order : (text : Option FormatText) (n : ℕ) (levels : List FormatLevel) → HasFormat text n (Ok levels)
     → IsOrder n (modes_of levels)
-format_order built None n levels is = subst (IsOrder n) (sym is.1) (standing_is_order n)
-format_order built (Some text) n levels is = some_order text.order n (modes_of levels) is.1.0.modes_are
+format_order None n levels is = subst (IsOrder n) (sym is.1) (standing_is_order n)
+format_order (Some text) n levels is = some_order text.order n (modes_of levels) is.0.modes_are
 
-format_long : (built : List ℕ) (s : Statement) (words : List (List ℕ)) (formats : List (List FormatLevel))
-    → AreFormats built s words formats → (tensor : ℕ) → tensor < length s.tensors → length (format_of formats tensor) ≡ order_of s tensor
-format_long built s words formats are tensor h =
-    let order = format_order built (first_in (format_in s tensor) words) (order_of s tensor) (format_of formats tensor)
-    (are.are tensor [] h) in
+format_long : (s : Statement) (words : List (List ℕ)) (formats : List (List FormatLevel))
+    → AreFormats s words formats → (tensor : ℕ) → tensor < length s.tensors → length (format_of formats tensor) ≡ order_of s tensor
+format_long s words formats are tensor h =
+    let order = format_order (first_in (format_in s tensor) words) (order_of s tensor) (format_of formats tensor) (are.are tensor [] h) in
     sym (length-map (format_of formats tensor) (λ (level : FormatLevel). level.mode)) ∙ order.count
 
-pub formats_fit : (built : List ℕ) (s : Statement) (words : List (List ℕ)) (need : Bool) (formats : List (List FormatLevel))
-    (files : List (ℕ × List ℕ)) (given : List (Option ℕ)) → Binds built s words need formats files given → IsNumbered s → IsWellNamed s
+pub formats_fit : (s : Statement) (words : List (List ℕ)) (need : Bool) (formats : List (List FormatLevel))
+    (files : List (ℕ × List ℕ)) (given : List (Option ℕ)) → Binds s words need formats files given → IsNumbered s → IsWellNamed s
     → edges.HasFormat formats s.left × Each (edges.HasFormat formats) s.accesses
-formats_fit built s words need formats files given binds numbered named = (
+formats_fit s words need formats files given binds numbered named = (
   fit 0 s.left refl numbered.left,
   each_from (edges.HasFormat formats) s.accesses (λ j access is. fit (suc j) access is
       (each_get (IsAccess (length s.tensors) (length s.vars)) s.accesses j access numbered.right is)),
@@ -66,6 +65,6 @@ formats_fit built s words need formats files given binds numbered named = (
         → IsAccess (length s.tensors) (length s.vars) access → edges.HasFormat formats access
     fit j access is at = record {
       tensor = let below = at.tensor in let many = binds.formats_are.tensors in omega (arith, below, many);
-      order = format_long built s words formats binds.formats_are access.tensor at.tensor
+      order = format_long s words formats binds.formats_are access.tensor at.tensor
           ∙ order_is (s.left ∷ s.accesses) j access named.orders is;
     }

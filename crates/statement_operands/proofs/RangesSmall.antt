@@ -152,10 +152,10 @@ slice_there [] n x d is = absurd cc
 slice_there (y ∷ xs) zero x d is = (omega arith, cc)
 slice_there (y ∷ xs) (suc n) x d is = let rest = slice_there xs n x d is in ((let h = rest.0 in omega (arith, h)), rest.1)
 
-pub given_small : (built : List ℕ) (s : Statement) (words : List (List ℕ)) (need : Bool) (formats : List (List FormatLevel))
-    (files : List (ℕ × List ℕ)) (given : List (Option ℕ)) → Binds built s words need formats files given
+pub given_small : (s : Statement) (words : List (List ℕ)) (need : Bool) (formats : List (List FormatLevel))
+    (files : List (ℕ × List ℕ)) (given : List (Option ℕ)) → Binds s words need formats files given
     → (v n : ℕ) → given_at given v ≡ Some n → IsSmall n
-given_small built s words need formats files given binds v n is = by (slice_get given v) refl is
+given_small s words need formats files given binds v n is = by (slice_get given v) refl is
   where
     by : (o : Option (Option ℕ)) → slice_get given v ≡ o → word_or_none o ≡ Some n → IsSmall n
     by None at is = absurd cc

@@ -198,17 +198,17 @@ module _ (a : Arithmetic) (has_minus : Bool) (s : Statement) (old new : FolderSt
 -- a statement of a text over the operands that were read for it
 pub read_is_runnable : (a : Arithmetic) (has_minus : Bool) (text : List ℕ) (s : Statement) → IsNotationOf text s → HasNoNameFault s
     → IsNumbered s
-    → (built : List ℕ) (words : List (List ℕ)) (need : Bool) (formats : List (List FormatLevel))
-    (files : List (ℕ × List ℕ)) (given : List (Option ℕ)) → Binds built s words need formats files given
+    → (words : List (List ℕ)) (need : Bool) (formats : List (List FormatLevel))
+    (files : List (ℕ × List ℕ)) (given : List (Option ℕ)) → Binds s words need formats files given
     → (old new : FolderState) (paths : List (List ℕ)) (count : ℕ) (entries : List Entries) (bounds : List (Vec Bound Global))
     → AreReadable (operand_orders s) paths → count ≡ length paths
     → HaveRead (decoded.operand_of a has_minus) old new (operand_orders s) paths count entries (map (λ b. b.items) bounds)
     → IsRunnable s formats given entries bounds
-read_is_runnable a has_minus text s notation names numbered built words need formats files given binds old new paths count entries
+read_is_runnable a has_minus text s notation names numbered words need formats files given binds old new paths count entries
     bounds readable all read =
     let named = notation_well_named text s notation names in
     let long = many a has_minus s old new paths count entries bounds readable all read in
-    let fit = formats_fit built s words need formats files given binds numbered named in
+    let fit = formats_fit s words need formats files given binds numbered named in
     record {
       operands_are = record {
         numbered = numbered;
@@ -222,7 +222,7 @@ read_is_runnable a has_minus text s notation names numbered built words need for
       };
       ranges_fit = λ ranges found. record {
         long = ranges_long s (given_at given) (bound_at bounds) ranges found;
-        small = ranges_small s (given_at given) (bound_at bounds) ranges (given_small built s words need formats files given binds)
+        small = ranges_small s (given_at given) (bound_at bounds) ranges (given_small s words need formats files given binds)
             (bounds_small a has_minus s old new paths count entries bounds readable all read) found;
         below = bounded_below s numbered entries (given_at given) (bound_at bounds) ranges found
             (are_bounded a has_minus s old new paths count entries bounds readable all read numbered named);

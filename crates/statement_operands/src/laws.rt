@@ -24,8 +24,8 @@ ghost use Rattle.statement_operands.specs.Runnable.{IsRunnable};
 pub fn read_statements_are_runnable()
     ensures { (a : Arithmetic) (has_minus : Bool) (text : List ℕ) (s : AStatement) → IsNotationOf text s → HasNoNameFault s
         → IsNumbered s
-        → (built : List ℕ) (words : List (List ℕ)) (need : Bool) (formats : List (List FormatLevel))
-        (files : List (ℕ × List ℕ)) (given : List (Option ℕ)) → Binds built s words need formats files given
+        → (words : List (List ℕ)) (need : Bool) (formats : List (List FormatLevel))
+        (files : List (ℕ × List ℕ)) (given : List (Option ℕ)) → Binds s words need formats files given
         → (old new : FolderState) (paths : List (List ℕ)) (count : ℕ) (entries : List SomeEntries) (bounds : List (Vec ABound AnAllocator))
         → AreReadable (operand_orders s) paths → count ≡ length paths
         → HaveRead (operand_of a has_minus) old new (operand_orders s) paths count entries (map (λ b. b.items) bounds)
@@ -35,8 +35,8 @@ pub fn read_statements_are_runnable()
 /// The files that words bind to a statement's operands, tensor 1 and on, may be read at the orders of its accesses: no order
 /// is too large, and a matrix has order 1 or 2.
 pub fn bound_files_are_readable()
-    ensures { (built : List ℕ) (s : AStatement) (words : List (List ℕ)) (need : Bool) (formats : List (List FormatLevel))
-        (files : List (ℕ × List ℕ)) (given : List (Option ℕ)) → Binds built s words need formats files given → IsNumbered s
+    ensures { (s : AStatement) (words : List (List ℕ)) (need : Bool) (formats : List (List FormatLevel))
+        (files : List (ℕ × List ℕ)) (given : List (Option ℕ)) → Binds s words need formats files given → IsNumbered s
         → (paths : List (List ℕ)) → length paths ≡ length s.tensors - 1
         → ((n : ℕ) (path : List ℕ) → slice_get paths n ≡ Some path → first_in (path_in s (n + 1)) words ≡ Some path)
         → AreReadable (operand_orders s) paths }
@@ -44,7 +44,7 @@ pub fn bound_files_are_readable()
 
 /// The formats that words bind to a statement's tensors are such as its accesses ask for: there is one for each, of its order.
 pub fn bound_formats_fit()
-    ensures { (built : List ℕ) (s : AStatement) (words : List (List ℕ)) (need : Bool) (formats : List (List FormatLevel))
-        (files : List (ℕ × List ℕ)) (given : List (Option ℕ)) → Binds built s words need formats files given → IsNumbered s
+    ensures { (s : AStatement) (words : List (List ℕ)) (need : Bool) (formats : List (List FormatLevel))
+        (files : List (ℕ × List ℕ)) (given : List (Option ℕ)) → Binds s words need formats files given → IsNumbered s
         → IsWellNamed s → HasFormat formats s.left × Each (HasFormat formats) s.accesses }
 {}

@@ -1,3 +1,4 @@
+pub mod Accepted
 pub mod Paths
 pub mod Reading
 pub mod Prepares

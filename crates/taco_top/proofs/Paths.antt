@@ -18,9 +18,9 @@ use Rattle.bindings.specs.Outcome.{files_in, with_file, Binds}
 use Rattle.bindings.specs.Tables.{file_in}
 use Rattle.bindings.proofs.Tables.{eq_turned}
 use Rattle.operand_files.specs.Decoded.{AreReadable}
-use Rattle.dense_runs.specs.Orders.{operand_orders}
-use Rattle.dense_runs.proofs.FilesReadable.{files_readable, file_readable}
-use Rattle.dense_runs.proofs.RangesSmall.{first_found}
+use Rattle.statement_operands.specs.Orders.{operand_orders}
+use Rattle.statement_operands.proofs.FilesReadable.{files_readable, file_readable}
+use Rattle.statement_operands.proofs.RangesSmall.{first_found}
 use Rattle.result_files.specs.ResultText.{asks_matrix}
 use Rattle.run_answers.specs.Run.{path_of, paths_of}
 
@@ -75,11 +75,11 @@ pub paths_long : (s : Statement) (files : List (ℕ × List ℕ)) → length (pa
 paths_long s files = length-map-range_with_len (λ tensor. unwrap_or (path_of files tensor) []) 1 (length s.tensors - 1)
 
 -- the paths that words bind may be read at the orders of their accesses
-pub paths_readable : (built : List ℕ) (s : Statement) (words : List (List ℕ)) (formats : List (List FormatLevel))
-    (files : List (ℕ × List ℕ)) (given : List (Option ℕ)) → Binds built s words true formats files given → IsNumbered s
+pub paths_readable : (s : Statement) (words : List (List ℕ)) (formats : List (List FormatLevel))
+    (files : List (ℕ × List ℕ)) (given : List (Option ℕ)) → Binds s words true formats files given → IsNumbered s
     → AreReadable (operand_orders s) (paths_of s files)
-paths_readable built s words formats files given binds numbered =
-    files_readable built s words true formats files given binds numbered (paths_of s files) (paths_long s files) (λ n path is.
+paths_readable s words formats files given binds numbered =
+    files_readable s words true formats files given binds numbered (paths_of s files) (paths_long s files) (λ n path is.
     let there = range_there (λ tensor. unwrap_or (path_of files tensor) []) 1 (length s.tensors - 1) n path is in
     let named : path_of files (1 + n) ≡ first_in (path_in s (1 + n)) words =
     ap (λ fs. path_of fs (1 + n)) binds.files_are ∙ path_found s (1 + n) words in
@@ -91,10 +91,10 @@ paths_readable built s words formats files given binds numbered =
     (unwrapped (first_in (path_in s (1 + n)) words) some ∙ ap (λ p. Some p) (sym path_is)))
 
 -- a result that goes to a matrix has the order of one
-pub result_is_matrix : (built : List ℕ) (s : Statement) (words : List (List ℕ)) (formats : List (List FormatLevel))
-    (files : List (ℕ × List ℕ)) (given : List (Option ℕ)) → Binds built s words true formats files given → s.left.tensor ≡ 0
+pub result_is_matrix : (s : Statement) (words : List (List ℕ)) (formats : List (List FormatLevel))
+    (files : List (ℕ × List ℕ)) (given : List (Option ℕ)) → Binds s words true formats files given → s.left.tensor ≡ 0
     → asks_matrix (path_of files 0) ≡ true → IsMatrixOrder (length s.left.vars)
-result_is_matrix built s words formats files given binds left matrix = by_path (path_of files 0) refl matrix
+result_is_matrix s words formats files given binds left matrix = by_path (path_of files 0) refl matrix
   where
     order : order_of s 0 ≡ length s.left.vars
     order = ap (λ b. if b then length s.left.vars else order_in s.accesses 0) (ap (λ n. n == 0) left)

@@ -11,14 +11,16 @@ use Rattle.operand_files.specs.Decoded.{AreReadable}
 use Rattle.operand_files.specs.Reads.{HaveRead, IsRefused}
 use Rattle.operand_files.specs.declared.fault.OperandFault.{OperandFault}
 use Rattle.operand_files.specs.declared.fault.OperandFault.TheVariants as operand
-use Rattle.format_spec.specs.declared.format.FormatLevel.{FormatLevel}
-use Rattle.dense_runs.specs.Runs.{IsRunnable, IsRun}
-use Rattle.dense_runs.proofs.Runnable.{read_is_runnable}
+use Rattle.kernel_code.specs.declared.syntax.Kernel.{Kernel}
+use Rattle.kernel_code.specs.declared.syntax.Turns.{Turns}
+use Rattle.tensor_storage.specs.Storages.{Storage}
+use Rattle.statement_operands.specs.Runnable.{IsRunnable}
+use Rattle.kernel_runs.specs.Runs.{IsRun}
+use Rattle.statement_operands.proofs.Runnable.{read_is_runnable}
 use Rattle.refusals.specs.declared.fault.Fault.{Fault}
 use Rattle.refusals.specs.declared.fault.Fault.TheVariants as fault
-use Rattle.run_request.specs.Asked.{built_letters}
 use Rattle.run_answers.specs.Run.{Request}
-use Rattle.run_answers.specs.Causes.{means, IsBuilt, HasOperands, asked_orders, asked_paths, Stops}
+use Rattle.run_answers.specs.Causes.{means, IsAccepted, HasOperands, asked_orders, asked_paths, Stops}
 use Rattle.taco_top.specs.Prepared.{IsUncomputed}
 use Rattle.taco_top.proofs.Paths.{paths_readable}
 
@@ -29,23 +31,23 @@ fault_of (operand.FileBytes path) = fault.FileBytes path
 fault_of (operand.BadFile path line kind) = fault.BadFile path line kind
 fault_of operand.Memory = fault.Memory
 
-pub request_readable : (words : List (List ℕ)) (r : Request) → IsBuilt words r → IsNumbered r.statement
+pub request_readable : (words : List (List ℕ)) (r : Request) → IsAccepted words r → IsNumbered r.statement
     → AreReadable (asked_orders r) (asked_paths r)
-request_readable words r built numbered =
-    paths_readable built_letters r.statement built.asks.rest r.formats r.files r.given built.asks.binds numbered
+request_readable words r accepted numbered =
+    paths_readable r.statement accepted.asks.rest r.formats r.files r.given accepted.asks.binds numbered
 
 -- the orders and paths that were handed in are those of the request
 module _ (words : List (List ℕ)) (old new : FolderState) (r : Request) (orders : List ℕ) (paths : List (List ℕ))
     (orders_are : orders ≡ asked_orders r) (paths_are : paths ≡ asked_paths r) where
-  pub readable : IsBuilt words r → IsNumbered r.statement → AreReadable orders paths
-  readable built numbered =
+  pub readable : IsAccepted words r → IsNumbered r.statement → AreReadable orders paths
+  readable accepted numbered =
       subst (λ os. AreReadable os paths) (sym orders_are)
-      (subst (λ ps. AreReadable (asked_orders r) ps) (sym paths_are) (request_readable words r built numbered))
+      (subst (λ ps. AreReadable (asked_orders r) ps) (sym paths_are) (request_readable words r accepted numbered))
 
-  pub have_operands : (count : ℕ) (entries : List Entries) (bounds : List (Vec Bound Global)) → count ≡ length paths → IsBuilt words r
+  pub have_operands : (count : ℕ) (entries : List Entries) (bounds : List (Vec Bound Global)) → count ≡ length paths → IsAccepted words r
       → HaveRead means old new orders paths count entries (map (λ b. b.items) bounds) → HasOperands words old new r entries bounds
-  have_operands count entries bounds many built read = record {
-    built = built;
+  have_operands count entries bounds many accepted read = record {
+    accepted = accepted;
     read = subst (λ n. HaveRead means old new (asked_orders r) (asked_paths r) n entries (map (λ b. b.items) bounds))
         (many ∙ ap length paths_are)
         (subst (λ os. HaveRead means old new os (asked_paths r) count entries (map (λ b. b.items) bounds)) orders_are
@@ -58,58 +60,54 @@ module _ (words : List (List ℕ)) (old new : FolderState) (r : Request) (orders
       subst (λ os. IsRefused means old new os (asked_paths r) why) orders_are
       (subst (λ ps. IsRefused means old new orders ps why) paths_are is)
 
-  stops : (why : OperandFault) → IsBuilt words r → IsRefused means old new orders paths why → Stops words old new (fault_of why)
-  stops (operand.ReadFault path) built is = record {
+  stops : (why : OperandFault) → IsAccepted words r → IsRefused means old new orders paths why → Stops words old new (fault_of why)
+  stops (operand.ReadFault path) accepted is = record {
     request = r;
-    built = built;
+    accepted = accepted;
     why = refused_at (operand.ReadFault path) is;
   }
-  stops (operand.FileBytes path) built is = record {
+  stops (operand.FileBytes path) accepted is = record {
     request = r;
-    built = built;
+    accepted = accepted;
     why = refused_at (operand.FileBytes path) is;
   }
-  stops (operand.BadFile path line kind) built is = record {
+  stops (operand.BadFile path line kind) accepted is = record {
     request = r;
-    built = built;
+    accepted = accepted;
     why = refused_at (operand.BadFile path line kind) is;
   }
-  stops operand.Memory built is =
+  stops operand.Memory accepted is =
       let here = refused_at operand.Memory is in
-      inr (record { request = r; built = built; opens = here.0; no_fault = here.1 })
+      inr (record { request = r; accepted = accepted; opens = here.0; no_fault = here.1 })
 
-  pub stops_reading : (told why : OperandFault) → told ≡ why → IsBuilt words r → IsRefused means old new orders paths told
+  pub stops_reading : (told why : OperandFault) → told ≡ why → IsAccepted words r → IsRefused means old new orders paths told
       → Stops words old new (fault_of why)
-  stops_reading told why same built is = stops why built (subst (λ w. IsRefused means old new orders paths w) same is)
+  stops_reading told why same accepted is = stops why accepted (subst (λ w. IsRefused means old new orders paths w) same is)
 
 -- a statement can be computed over the operands that were read for it
 request_runnable : (words : List (List ℕ)) (old new : FolderState) (r : Request) (entries : List Entries)
     (bounds : List (Vec Bound Global)) → HasOperands words old new r entries bounds → IsNumbered r.statement
     → IsRunnable r.statement r.formats r.given entries bounds
 request_runnable words old new r entries bounds operands numbered =
-    let names = operands.built.asks.names in
-    read_is_runnable ring true names.text r.statement names.notation names.names numbered operands.built.product built_letters
-    operands.built.asks.rest true r.formats r.files r.given operands.built.asks.binds old new (asked_paths r) (length (asked_paths r))
-    entries bounds (request_readable words r operands.built numbered) refl operands.read
+    let names = operands.accepted.asks.names in
+    read_is_runnable ring true names.text r.statement names.notation names.names numbered operands.accepted.asks.rest true r.formats r.files r.given operands.accepted.asks.binds old new (asked_paths r) (length (asked_paths r))
+    entries bounds (request_readable words r operands.accepted numbered) refl operands.read
 
--- the formats and ranges that were handed in are those of the request
-module _ (r : Request) (formats : List (List FormatLevel)) (given : List (Option ℕ)) (formats_are : formats ≡ r.formats)
-    (given_are : given ≡ r.given) (entries : List Entries) (bounds : List (Vec Bound Global)) where
+-- the ranges that were handed in are those of the request
+module _ (r : Request) (given : List (Option ℕ)) (given_are : given ≡ r.given) (entries : List Entries)
+    (bounds : List (Vec Bound Global)) where
   pub runnable : (words : List (List ℕ)) (old new : FolderState) → HasOperands words old new r entries bounds → IsNumbered r.statement
-      → IsRunnable r.statement formats given entries bounds
+      → IsRunnable r.statement r.formats given entries bounds
   runnable words old new operands numbered =
-      subst (λ gs. IsRunnable r.statement formats gs entries bounds) (sym given_are)
-      (subst (λ fs. IsRunnable r.statement fs r.given entries bounds) (sym formats_are)
-      (request_runnable words old new r entries bounds operands numbered))
+      subst (λ gs. IsRunnable r.statement r.formats gs entries bounds) (sym given_are)
+      (request_runnable words old new r entries bounds operands numbered)
 
-  pub run_of_request : (shape : List ℕ) (result : Entries) → IsRun ring r.statement formats given entries bounds shape result
-      → IsRun ring r.statement r.formats r.given entries bounds shape result
-  run_of_request shape result run =
-      subst (λ gs. IsRun ring r.statement r.formats gs entries bounds shape result) given_are
-      (subst (λ fs. IsRun ring r.statement fs given entries bounds shape result) formats_are run)
+  pub run_of_request : (kernel : Kernel) (shape : List ℕ) (result : Entries) (tensor : Storage) (turns : Turns)
+      → IsRun ring r.statement r.formats kernel given entries bounds shape result tensor turns
+      → IsRun ring r.statement r.formats kernel r.given entries bounds shape result tensor turns
+  run_of_request kernel shape result tensor turns run =
+      subst (λ gs. IsRun ring r.statement r.formats kernel gs entries bounds shape result tensor turns) given_are run
 
-  pub uncomputed_of_request : (why : Fault) → IsUncomputed r.statement formats given entries bounds why
+  pub uncomputed_of_request : (why : Fault) → IsUncomputed r.statement r.formats given entries bounds why
       → IsUncomputed r.statement r.formats r.given entries bounds why
-  uncomputed_of_request why is =
-      subst (λ gs. IsUncomputed r.statement r.formats gs entries bounds why) given_are
-      (subst (λ fs. IsUncomputed r.statement fs given entries bounds why) formats_are is)
+  uncomputed_of_request why is = subst (λ gs. IsUncomputed r.statement r.formats gs entries bounds why) given_are is

@@ -1,11 +1,17 @@
 -- Why a run stops, from why its parts do.
-use Rattle.std.specs.Prelude.{◌≡◌, ℕ, Bool, true, false, IsTrue, List, ◌++◌, Option, Some, Vec, Result, Ok, Err, OnOk, IfErr, refl}
+use Rattle.std.specs.Prelude.{◌≡◌, ℕ, ◌⊎◌, List, ◌++◌, Option, Some, Vec, Result, Ok, Err, OnOk, IfErr, refl}
 use Rattle.std.proofs.Common.{◌∙◌, sym, ap, subst, inl, inr}
 use Rattle.std.proofs.lemmas.List.{append-nil}
 use Rattle.std.specs.declared.alloc.Global.{Global}
 use Rattle.numbers.specs.Ring.{ring}
+use Rattle.outside.specs.Count.{Rose}
 use Rattle.outside.specs.Folder.{FolderState}
-use Rattle.outside.specs.Sink.{SinkState}
+use Rattle.outside.specs.Refusal.{IsCounted}
+use Rattle.outside.specs.Sink.{SinkState, Appends}
+use Rattle.outside.specs.declared.refusal.Refusal.{Refusal}
+use Rattle.outside.specs.declared.refusal.Refusal.TheVariants.{Failed, Absent}
+use Rattle.outside.specs.declared.refusal.Refusal.TheVariants as refusal
+use Rattle.text_lines.specs.Puts.{AppendsPart}
 use Rattle.tensor_map.specs.Entries.{Entries, value_at}
 use Rattle.expr_terms.specs.declared.bound.Bound.{Bound}
 use Rattle.operand_files.specs.Reads.{OnlyReads}
@@ -19,15 +25,11 @@ use Rattle.refusals.specs.declared.fault.Fault.{Fault}
 use Rattle.refusals.specs.declared.fault.Fault.TheVariants as fault
 use Rattle.run_request.specs.Asked.{IsRefusedByWords}
 use Rattle.run_answers.specs.Causes.{HasOperands, result_ranges, result_value, OpensOperands, Stops, IsWritten, IsUnwritten, Cause}
-use Rattle.dense_runs.specs.Runs.{told_ranges, IsTooLarge}
+use Rattle.statement_operands.specs.Runnable.{told_ranges}
+use Rattle.kernel_runs.specs.Runs.{IsTooLarge}
+use Rattle.run_answers.specs.Ends.{PutsLine}
 use Rattle.run_answers.specs.Run.{Request, path_of}
 use Rattle.taco_top.specs.Prepared.{IsPrepared, IsUncomputed, StopsWriting, end_of}
-
-pub not_true : (b : Bool) → IsTrue b → b ≡ false → ⊥
-not_true b told not = true_or_false (sym told ∙ not)
-  where
-    true_or_false : true ≡ false → ⊥
-    true_or_false h = cc
 
 -- the words are refused, and no file was opened
 pub stops_by_words : (words : List (List ℕ)) (why : Fault) (files : FolderState) → IsRefusedByWords words why → Stops words files files why
@@ -35,8 +37,10 @@ stops_by_words words fault.Usage files is = record { folder_is = refl; refused =
 stops_by_words words (fault.Notation why) files is = record { folder_is = refl; refused = is }
 stops_by_words words (fault.Named s (named.Name why)) files is = record { folder_is = refl; refused = is }
 stops_by_words words (fault.Named s (named.Binding why)) files is = record { folder_is = refl; refused = is }
+stops_by_words words (fault.Named s (named.Cycle cycle)) files is = absurd is
 stops_by_words words (fault.Named s (named.Range why)) files is = absurd is
 stops_by_words words (fault.Named s (named.SizeLimit tensor level count)) files is = absurd is
+stops_by_words words (fault.WorkspaceLimit count) files is = absurd is
 stops_by_words words fault.NotBuilt files is = absurd is
 stops_by_words words (fault.ReadFault path) files is = absurd is
 stops_by_words words (fault.FileBytes path) files is = absurd is
@@ -49,7 +53,7 @@ opened : (words : List (List ℕ)) (old new : FolderState) (r : Request) (entrie
     → HasOperands words old new r entries bounds → OpensOperands words old new
 opened words old new r entries bounds operands = record {
   request = r;
-  built = operands.built;
+  accepted = operands.accepted;
   opens = record {
     files = operands.read.read.files;
     given_is = operands.read.read.given_is ∙ ap (λ fs. old.given ++ fs) (append-nil operands.read.read.files);
@@ -78,10 +82,13 @@ module _ (words : List (List ℕ)) (old new : FolderState) (r : Request) (entrie
         entries = entries;
         bounds = bounds;
         operands = operands;
-        large = subst (λ u. IsTooLarge u r.formats r.given entries bounds tensor level count) (sym same) is;
+        large = subst (λ u. IsTooLarge ring u r.formats r.given entries bounds tensor level count) (sym same) is;
       }
+  stops_uncomputed (fault.WorkspaceLimit count) needs =
+      record { request = r; entries = entries; bounds = bounds; operands = operands; needs = needs }
   stops_uncomputed (fault.Named t (named.Name why)) is = absurd is
   stops_uncomputed (fault.Named t (named.Binding why)) is = absurd is
+  stops_uncomputed (fault.Named t (named.Cycle cycle)) is = absurd is
   stops_uncomputed fault.Usage is = absurd is
   stops_uncomputed (fault.Notation why) is = absurd is
   stops_uncomputed fault.NotBuilt is = absurd is
@@ -97,6 +104,7 @@ pub stopped : (words : List (List ℕ)) (files files' : FolderState) (out : Sink
 stopped words files files' out fault.Usage reads is = record { only_reads = reads; stops = is; out_is = refl }
 stopped words files files' out (fault.Notation why) reads is = record { only_reads = reads; stops = is; out_is = refl }
 stopped words files files' out (fault.Named s why) reads is = record { only_reads = reads; stops = is; out_is = refl }
+stopped words files files' out (fault.WorkspaceLimit count) reads is = record { only_reads = reads; stops = is; out_is = refl }
 stopped words files files' out fault.NotBuilt reads is = record { only_reads = reads; stops = is; out_is = refl }
 stopped words files files' out (fault.ReadFault path) reads is = record { only_reads = reads; stops = is; out_is = refl }
 stopped words files files' out (fault.FileBytes path) reads is = record { only_reads = reads; stops = is; out_is = refl }
@@ -159,6 +167,7 @@ module _ (words : List (List ℕ)) (files between files' : FolderState) (out out
   unwritten fault.Usage stops = absurd stops
   unwritten (fault.Notation why) stops = absurd stops
   unwritten (fault.Named s why) stops = absurd stops
+  unwritten (fault.WorkspaceLimit count) stops = absurd stops
   unwritten fault.NotBuilt stops = absurd stops
   unwritten (fault.ReadFault at) stops = absurd stops
   unwritten (fault.FileBytes at) stops = absurd stops
@@ -171,3 +180,16 @@ module _ (words : List (List ℕ)) (files between files' : FolderState) (out out
       → Cause words files files' out out' (end_of result)
   cause_of_write (Ok done) writes stops = written writes
   cause_of_write (Err why) writes stops = unwritten why stops
+
+-- a line that was put, or a part of it
+module _ {A : Type 0} where
+  pub line_put : (r : Result A Refusal) (old new : SinkState) (line : List ℕ) → OnOk r (Appends old new line)
+      → IfErr r (AppendsPart old new line) → PutsLine old new line
+  line_put (Ok done) old new line whole part = inl whole.written_is
+  line_put (Err why) old new line whole part = inr (part.less, counted why part.counted)
+    where
+      counted : (why : Refusal) → IsCounted why old.faults new.faults old.wants new.wants
+          → Rose old.faults new.faults ⊎ Rose old.wants new.wants
+      counted Failed is = inl is.0.rose
+      counted Absent is = absurd is
+      counted (refusal.Memory e) is = inr is.1.rose

@@ -45,6 +45,7 @@ named_not_two (named.Binding (binding.Word word why)) is = word_not_two why is
 named_not_two (named.Binding (binding.NoFile tensor)) is = cc
 named_not_two (named.Binding (binding.BadFormat tensor why)) is = cc
 named_not_two (named.Binding (binding.Memory error)) is = cc
+named_not_two (named.Cycle cycle) is = cc
 named_not_two (named.Range (range.NoRange var)) is = cc
 named_not_two (named.Range (range.RangeConflict var first other)) is = cc
 named_not_two (named.Range (range.OutOfRange tensor coordinate exact)) is = cc
@@ -57,6 +58,7 @@ module _ (words : List (List ℕ)) (files files' : FolderState) (out out' : Sink
   told (Some fault.Usage) is cause = cause.stops.refused
   told (Some (fault.Notation why)) is cause = absurd (notation_not_two why is)
   told (Some (fault.Named s why)) is cause = absurd (named_not_two why is)
+  told (Some (fault.WorkspaceLimit count)) is cause = absurd cc
   told (Some fault.NotBuilt) is cause = absurd cc
   told (Some (fault.ReadFault path)) is cause = absurd cc
   told (Some (fault.FileBytes path)) is cause = absurd cc
@@ -71,7 +73,7 @@ module _ (words : List (List ℕ)) (files files' : FolderState) (out out' : Sink
 
     found : (ended : Option Fault) → Cause words files files' out out' ended
         → (status_of_end ended ≡ 2) ⊎ (status_of_end ended ≡ 5)
-    found None cause = absurd (never cause.computed.operands.built.asks.names.line)
+    found None cause = absurd (never cause.computed.operands.accepted.asks.names.line)
     found (Some fault.Usage) cause = inl refl
     found (Some (fault.Notation why)) cause = by cause.stops.refused
       where
@@ -87,13 +89,15 @@ module _ (words : List (List ℕ)) (files files' : FolderState) (out out' : Sink
         by : IsRefusedByWords words (fault.Named s (named.Binding why))
             → (named_status (named.Binding why) ≡ 2) ⊎ (named_status (named.Binding why) ≡ 5)
         by (rest, names, is) = absurd (never names.line)
-    found (Some (fault.Named s (named.Range why))) cause = absurd (never cause.stops.operands.built.asks.names.line)
-    found (Some (fault.Named s (named.SizeLimit tensor level count))) cause = absurd (never cause.stops.operands.built.asks.names.line)
+    found (Some (fault.Named s (named.Cycle cycle))) cause = absurd (never cause.stops.1.asks.names.line)
+    found (Some (fault.Named s (named.Range why))) cause = absurd (never cause.stops.operands.accepted.asks.names.line)
+    found (Some (fault.Named s (named.SizeLimit tensor level count))) cause = absurd (never cause.stops.operands.accepted.asks.names.line)
+    found (Some (fault.WorkspaceLimit count)) cause = absurd (never cause.stops.operands.accepted.asks.names.line)
     found (Some fault.NotBuilt) cause = absurd (never cause.stops.1.asks.names.line)
-    found (Some (fault.ReadFault path)) cause = absurd (never cause.stops.built.asks.names.line)
-    found (Some (fault.FileBytes path)) cause = absurd (never cause.stops.built.asks.names.line)
-    found (Some (fault.BadFile path line kind)) cause = absurd (never cause.stops.built.asks.names.line)
-    found (Some (fault.WriteFault path)) cause = absurd (never cause.computed.operands.built.asks.names.line)
+    found (Some (fault.ReadFault path)) cause = absurd (never cause.stops.accepted.asks.names.line)
+    found (Some (fault.FileBytes path)) cause = absurd (never cause.stops.accepted.asks.names.line)
+    found (Some (fault.BadFile path line kind)) cause = absurd (never cause.stops.accepted.asks.names.line)
+    found (Some (fault.WriteFault path)) cause = absurd (never cause.computed.operands.accepted.asks.names.line)
     found (Some fault.Memory) cause = inr refl
 
 pub usage_told : (words : List (String Global)) (files files' : FolderState) (out out' err err' : SinkState)

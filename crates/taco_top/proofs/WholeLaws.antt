@@ -21,10 +21,15 @@ use Rattle.operand_files.specs.Laws.{AreTold, told_operands}
 use Rattle.operand_files.specs.Reads.{RefusedAtFault, RefusedAtLength, RefusedAtLine}
 use Rattle.operand_files.specs.declared.fault.OperandFault.TheVariants as operand
 use Rattle.operand_files.proofs.ToldLaws.{told_answer, told_bad_line, told_others}
-use Rattle.range_loops.specs.Products.{IsProductOfAccesses}
-use Rattle.dense_runs.specs.Stored.{AllLevelsFit, stored_sizes}
-use Rattle.dense_operands.proofs.LevelLemmas.{none_above}
-use Rattle.dense_runs.specs.Runs.{told_ranges, IsTooLarge}
+use Rattle.iteration_graph.specs.Edges.{statement_edges, format_of}
+use Rattle.iteration_graph.proofs.OrderLaws.{no_order}
+use Rattle.concrete_notation.specs.Workspaces.{AreAllDense}
+use Rattle.taco_compiler.specs.Compiled.{HasCycle}
+use Rattle.statement_operands.specs.Runnable.{told_ranges}
+use Rattle.kernel_runs.specs.Runs.{MayRefuse, IsTooLarge, NeedsPairs, AllFit, IsOfSizes}
+use Rattle.kernel_runs.specs.declared.fault.RunFault.{RunFault}
+use Rattle.kernel_runs.specs.declared.fault.RunFault.TheVariants.{SizeLimit, Workspace}
+use Rattle.kernel_runs.proofs.Fits.{none_refused}
 use Rattle.result_files.specs.ResultText.{IsResultText}
 use Rattle.result_files.specs.Writes.{PutsPart}
 use Rattle.result_files.specs.declared.refusal.WriteRefusal.TheVariants as write
@@ -37,7 +42,8 @@ use Rattle.run_request.specs.Asked.{IsRefusedByWords, IsWant}
 use Rattle.run_request.proofs.OneRequest as request
 use Rattle.run_answers.specs.Run.{Request, AsksFor, path_of}
 use Rattle.run_answers.specs.Causes.{means, asked_orders, asked_paths, HasOperands, IsComputed, result_ranges, result_value}
-use Rattle.run_answers.specs.Causes.{StopsReading, HasRangeFault, HasLargeLevel, Stops, IsWritten, IsUnwritten, Cause}
+use Rattle.run_answers.specs.Causes.{StopsReading, HasCycleFault, HasRangeFault, HasLargeLevel, HasManyPairs, IsNotBuilt, Stops}
+use Rattle.run_answers.specs.Causes.{IsWritten, IsUnwritten, Cause}
 use Rattle.run_answers.specs.Ends.{Ends, status_of_end}
 use Rattle.taco_top.specs.Whole.{IsWhole, modes_told, bound_told}
 
@@ -75,18 +81,18 @@ module _ (words : List (List ℕ)) (files : FolderState) (whole : IsWhole words 
   request_is : (r : Request) → AsksFor words r → r ≡ whole.request
   request_is r asks =
       let s = request.same_statement words r.statement whole.request.statement r.formats whole.request.formats r.files whole.request.files
-      r.given whole.request.given asks whole.built.asks in
+      r.given whole.request.given asks whole.accepted.asks in
       let formats = request.same_formats words r.statement whole.request.statement r.formats whole.request.formats r.files
-      whole.request.files r.given whole.request.given asks whole.built.asks in
+      whole.request.files r.given whole.request.given asks whole.accepted.asks in
       let fs = request.same_files words r.statement whole.request.statement r.formats whole.request.formats r.files whole.request.files
-      r.given whole.request.given asks whole.built.asks in
+      r.given whole.request.given asks whole.accepted.asks in
       let gs = request.same_ranges words r.statement whole.request.statement r.formats whole.request.formats r.files whole.request.files
-      r.given whole.request.given asks whole.built.asks in
+      r.given whole.request.given asks whole.accepted.asks in
       λ i. record { statement = s i; formats = formats i; files = fs i; given = gs i }
 
   reading_at : (Why : (orders : List ℕ) (paths : List (List ℕ)) → Type 0) → StopsReading words Why
       → Why (asked_orders whole.request) (asked_paths whole.request)
-  reading_at Why is = subst (λ r. Why (asked_orders r) (asked_paths r)) (request_is is.request is.built.asks) is.why
+  reading_at Why is = subst (λ r. Why (asked_orders r) (asked_paths r)) (request_is is.request is.accepted.asks) is.why
 
   -- ---- the operands that were read are those that the folder tells
   module _ (new : FolderState) (entries : List Entries) (bounds : List (Vec Bound Global))
@@ -107,32 +113,29 @@ module _ (words : List (List ℕ)) (files : FolderState) (whole : IsWhole words 
     told_there = ap (ranges_of whole.request.statement (given_at whole.request.given)) (bounds_same bounds ∙ ap bound_told bounds_are)
         ∙ whole.ranges_are
 
-    no_large_level : (tensor level count : ℕ)
-        → IsTooLarge whole.request.statement whole.request.formats whole.request.given entries bounds tensor level count → ⊥
-    no_large_level tensor level count large =
-        let same : large.ranges ≡ whole.ranges = ap (ok_of []) (sym large.ranges_are ∙ told_there) in
-        let fits_here = subst (λ es. AllLevelsFit whole.request.statement whole.request.formats es (slice_index whole.ranges))
-        (sym entries_are) whole.fits in
-        let fits_by = subst (λ rs. AllLevelsFit whole.request.statement whole.request.formats entries (slice_index rs))
-        (sym same) fits_here in
-        none_above (stored_sizes whole.request.statement whole.request.formats entries (slice_index large.ranges) tensor)
-        level count large.first.first
-        (fits_by tensor large.first.stands)
+    -- no size passes a limit
+    no_size_fault : (why : RunFault)
+        → MayRefuse ring whole.request.statement whole.request.formats whole.request.given entries bounds why → IsOfSizes why → ⊥
+    no_size_fault why may of_sizes =
+        none_refused ring whole.request.statement whole.request.formats whole.request.given entries bounds whole.ranges why
+        told_there
+        (subst (λ es. AllFit ring whole.request.statement whole.request.formats whole.ranges es) (sym entries_are) whole.fits)
+        may of_sizes
 
   operands_at : (new : FolderState) (r : Request) (entries : List Entries) (bounds : List (Vec Bound Global))
       → HasOperands words files new r entries bounds → HasOperands words files new whole.request entries bounds
   operands_at new r entries bounds operands =
-      subst (λ q. HasOperands words files new q entries bounds) (request_is r operands.built.asks) operands
+      subst (λ q. HasOperands words files new q entries bounds) (request_is r operands.accepted.asks) operands
 
   -- ---- no stage has a cause
   module _ (new : FolderState) (no_fault : Rose files.read_faults new.read_faults → ⊥) where
     never_by_words : (why : Fault) → IsRefusedByWords words why → IsWant why
     never_by_words why is = request.never_both words whole.request.statement whole.request.formats whole.request.files whole.request.given
-        why whole.built.asks is
+        why whole.accepted.asks is
 
     no_range_fault : (s : Statement) (why : RangeFault) → HasRangeFault words files new s why → ⊥
     no_range_fault s why is =
-        let r = request_is is.request is.operands.built.asks in
+        let r = request_is is.request is.operands.accepted.asks in
         let there = told_there new is.entries is.bounds (operands_at new is.request is.entries is.bounds is.operands) in
         let here : told_ranges is.request.statement is.request.given is.bounds ≡ Ok whole.ranges =
         subst (λ q. told_ranges q.statement q.given is.bounds ≡ Ok whole.ranges) (sym r) there in
@@ -140,21 +143,45 @@ module _ (words : List (List ℕ)) (files : FolderState) (whole : IsWhole words 
 
     no_level_fault : (s : Statement) (tensor level count : ℕ) → HasLargeLevel words files new s tensor level count → ⊥
     no_level_fault s tensor level count is =
-        no_large_level new is.entries is.bounds (operands_at new is.request is.entries is.bounds is.operands) tensor level count
-        (subst (λ q. IsTooLarge q.statement q.formats q.given is.entries is.bounds tensor level count)
-        (request_is is.request is.operands.built.asks)
-        (subst (λ u. IsTooLarge u is.request.formats is.request.given is.entries is.bounds tensor level count)
+        no_size_fault new is.entries is.bounds (operands_at new is.request is.entries is.bounds is.operands)
+        (SizeLimit tensor level count)
+        (subst (λ q. IsTooLarge ring q.statement q.formats q.given is.entries is.bounds tensor level count)
+        (request_is is.request is.operands.accepted.asks)
+        (subst (λ u. IsTooLarge ring u is.request.formats is.request.given is.entries is.bounds tensor level count)
         (sym is.statement_is) is.large))
+        tt
+
+    no_pairs_fault : (count : ℕ) → HasManyPairs words files new count → ⊥
+    no_pairs_fault count is =
+        no_size_fault new is.entries is.bounds (operands_at new is.request is.entries is.bounds is.operands) (Workspace count)
+        (subst (λ q. NeedsPairs ring q.statement q.formats q.given is.entries is.bounds count)
+        (request_is is.request is.operands.accepted.asks) is.needs)
+        tt
+
+    -- a graph with a loop order has no cycle
+    no_cycle_fault : (s : Statement) (cycle : List ℕ) → HasCycleFault words s cycle → ⊥
+    no_cycle_fault s cycle is =
+        no_order (length whole.request.statement.vars) (statement_edges whole.request.statement whole.request.formats) cycle
+        whole.accepted.order
+        (subst (λ q. HasCycle q.statement q.formats cycle) (request_is is.request is.asks)
+        (subst (λ u. HasCycle u is.request.formats cycle) (sym is.statement_is) is.is))
+        whole.accepted.is_order
+
+    not_sparse : IsNotBuilt words → ⊥
+    not_sparse is =
+        is.sparse (subst (λ q. AreAllDense (format_of q.formats q.statement.left.tensor)) (sym (request_is is.request is.asks))
+        whole.dense)
 
     never_stops : (why : Fault) → Stops words files new why → why ≡ fault.Memory
     never_stops fault.Usage is = absurd (never_by_words fault.Usage is.refused)
     never_stops (fault.Notation why) is = absurd (never_by_words (fault.Notation why) is.refused)
     never_stops (fault.Named s (named.Name why)) is = absurd (never_by_words (fault.Named s (named.Name why)) is.refused)
     never_stops (fault.Named s (named.Binding why)) is = absurd (never_by_words (fault.Named s (named.Binding why)) is.refused)
+    never_stops (fault.Named s (named.Cycle cycle)) (same, is) = absurd (no_cycle_fault s cycle is)
     never_stops (fault.Named s (named.Range why)) is = absurd (no_range_fault s why is)
     never_stops (fault.Named s (named.SizeLimit tensor level count)) is = absurd (no_level_fault s tensor level count is)
-    never_stops fault.NotBuilt (same, is) =
-        absurd (is.no_product (subst (λ q. IsProductOfAccesses q.statement.expr) (sym (request_is is.request is.asks)) whole.built.product))
+    never_stops (fault.WorkspaceLimit count) is = absurd (no_pairs_fault count is)
+    never_stops fault.NotBuilt (same, is) = absurd (not_sparse is)
     never_stops (fault.ReadFault path) is =
         absurd (told_others means files new (asked_orders whole.request) (asked_paths whole.request) (operand.ReadFault path) whole.told
         no_fault (reading_at (λ orders paths. RefusedAtFault means files new orders paths path.now) is))
@@ -191,6 +218,8 @@ module _ (words : List (List ℕ)) (files : FolderState) (whole : IsWhole words 
       inr (ap status_of (never_stops files' no_read (fault.Notation why) cause.stops))
   ends_well files' out out' (Some (fault.Named s why)) no_read no_write no_out cause =
       inr (ap status_of (never_stops files' no_read (fault.Named s why) cause.stops))
+  ends_well files' out out' (Some (fault.WorkspaceLimit count)) no_read no_write no_out cause =
+      inr (ap status_of (never_stops files' no_read (fault.WorkspaceLimit count) cause.stops))
   ends_well files' out out' (Some fault.NotBuilt) no_read no_write no_out cause =
       inr (ap status_of (never_stops files' no_read fault.NotBuilt cause.stops))
   ends_well files' out out' (Some (fault.ReadFault path)) no_read no_write no_out cause =
@@ -207,7 +236,7 @@ module _ (words : List (List ℕ)) (files : FolderState) (whole : IsWhole words 
       → IsResultText ring (path_of whole.request.files 0) (result_ranges whole.request.statement whole.ranges)
       (result_value whole.request.statement (map (λ operand. operand.entries) whole.operands) whole.ranges) text
   text_at new c text is =
-      let r = request_is c.request c.operands.built.asks in
+      let r = request_is c.request c.operands.accepted.asks in
       let here = operands_at new c.request c.entries c.bounds c.operands in
       let told : told_ranges whole.request.statement whole.request.given c.bounds ≡ Ok c.ranges =
       subst (λ q. told_ranges q.statement q.given c.bounds ≡ Ok c.ranges) r c.ranges_are in
@@ -242,7 +271,8 @@ whole_text words files files' others others' out out' away away' whole holds fir
       request = whole.request;
       operands = whole.operands;
       ranges = whole.ranges;
-      built = whole.built;
+      accepted = whole.accepted;
+      dense = whole.dense;
       told = subst (λ h. AreTold h (asked_paths whole.request)) (sym holds) whole.told;
       operands_are = subst (λ h. told_operands means h (asked_orders whole.request) (asked_paths whole.request) ≡ Ok whole.operands)
           (sym holds) whole.operands_are;

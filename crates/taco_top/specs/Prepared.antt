@@ -11,7 +11,8 @@ use Rattle.tensor_map.specs.Entries.{Entries}
 use Rattle.format_spec.specs.declared.format.FormatLevel.{FormatLevel}
 use Rattle.index_notation.specs.declared.syntax.Statement.{Statement}
 use Rattle.expr_terms.specs.declared.bound.Bound.{Bound}
-use Rattle.dense_runs.specs.Runs.{IsTensorOf, IsTooLarge, told_ranges}
+use Rattle.statement_operands.specs.Runnable.{told_ranges}
+use Rattle.kernel_runs.specs.Runs.{IsTensorOf, IsTooLarge, NeedsPairs}
 use Rattle.result_files.specs.EntriesText.{MayBeWritten}
 use Rattle.result_files.specs.ResultText.{asks_matrix}
 use Rattle.result_files.specs.Writes.{RefusesResult}
@@ -31,7 +32,8 @@ end_of (Err why) = Some why
 abbrev pub IsUncomputed : Statement → List (List FormatLevel) → List (Option ℕ) → List Entries → List (Vec Bound Global) → Fault → Type 0
 IsUncomputed s formats given entries bounds (fault.Named t (named.Range why)) = (t ≡ s) × (told_ranges s given bounds ≡ Err why)
 IsUncomputed s formats given entries bounds (fault.Named t (named.SizeLimit tensor level count)) =
-    (t ≡ s) × IsTooLarge s formats given entries bounds tensor level count
+    (t ≡ s) × IsTooLarge ring s formats given entries bounds tensor level count
+IsUncomputed s formats given entries bounds (fault.WorkspaceLimit count) = NeedsPairs ring s formats given entries bounds count
 IsUncomputed s formats given entries bounds fault.Memory = Unit {0}
 IsUncomputed s formats given entries bounds _ = ⊥
 

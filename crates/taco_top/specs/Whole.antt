@@ -1,5 +1,6 @@
 -- Where all input is whole: then a run ends with its result, unless a fault occurs or memory is wanted.
-use Rattle.std.specs.Prelude.{◌≡◌, ℕ, zero, suc, List, [], map, Option, Result, Ok, slice_get, slice_index, unwrap_or}
+use Rattle.std.specs.Prelude.{◌≡◌, ℕ, zero, suc, List, [], map, Option, Result, Ok, slice_get, unwrap_or}
+use Rattle.numbers.specs.Ring.{ring}
 use Rattle.outside.specs.Told.{Told}
 use Rattle.index_notation.specs.declared.syntax.Statement.{Statement}
 use Rattle.expr_terms.specs.Ranges.{ranges_of}
@@ -8,8 +9,10 @@ use Rattle.expr_terms.specs.declared.bound.Bound.{Bound}
 use Rattle.expr_terms.specs.declared.range_fault.RangeFault.{RangeFault}
 use Rattle.operand_files.specs.Decoded.{Operand}
 use Rattle.operand_files.specs.Laws.{AreTold, told_operands}
-use Rattle.dense_runs.specs.Stored.{AllLevelsFit}
-use Rattle.run_answers.specs.Causes.{IsBuilt, asked_orders, asked_paths, means}
+use Rattle.iteration_graph.specs.Edges.{format_of}
+use Rattle.concrete_notation.specs.Workspaces.{AreAllDense}
+use Rattle.kernel_runs.specs.Runs.{AllFit}
+use Rattle.run_answers.specs.Causes.{IsAccepted, asked_orders, asked_paths, means}
 use Rattle.run_answers.specs.Run.{Request}
 
 -- what the modes of a tensor tell, where tensor 1, tensor 2 and so on stand in a row; tensor 0, the result, tells nothing
@@ -24,14 +27,15 @@ bound_told bounds tensor mode = bound_or_none (slice_get (modes_told bounds tens
 abbrev pub ranges_told : Statement → List (Option ℕ) → List Operand → Result (List ℕ) RangeFault
 ranges_told s given operands = ranges_of s (given_at given) (bound_told (map (λ operand. operand.bounds) operands))
 
--- the words pass; every operand's file is there and stands for entries; the ranges agree; and no level of a tensor has more
--- positions than may be
+-- the words pass, there is a loop order, and the result's levels are dense; every operand's file is there and stands for entries; the
+-- ranges agree; no level of an operand or of the result's storage has more positions than may be; and no workspace needs more pairs
 pub record IsWhole (words : List (List ℕ)) (holds : List ℕ → Told) : Type 0 where
   pub request : Request
   pub operands : List Operand
   pub ranges : List ℕ
-  pub built : IsBuilt words request
+  pub accepted : IsAccepted words request
+  pub dense : AreAllDense (format_of request.formats request.statement.left.tensor)
   pub told : AreTold holds (asked_paths request)
   pub operands_are : told_operands means holds (asked_orders request) (asked_paths request) ≡ Ok operands
   pub ranges_are : ranges_told request.statement request.given operands ≡ Ok ranges
-  pub fits : AllLevelsFit request.statement request.formats (map (λ operand. operand.entries) operands) (slice_index ranges)
+  pub fits : AllFit ring request.statement request.formats ranges (map (λ operand. operand.entries) operands)

@@ -3,17 +3,21 @@ ghost use Rattle.std.specs.Prelude.{◌≡◌, ℕ, List, Bool, true, length, ma
 ghost use Rattle.std.specs.Option.{option_map};
 ghost use Rattle.numbers.specs.Ring.{ring};
 ghost use Rattle.mtx_io.specs.Progress.{IsMatrixOrder};
+ghost use Rattle.kernel_stores.specs.Kernels.{IsRightKernel};
 ghost use Rattle.operand_files.specs.Reads.{OnlyReads};
-ghost use Rattle.dense_runs.specs.Runs.{IsRunnable, IsRun};
+ghost use Rattle.statement_operands.specs.Runnable.{IsRunnable};
+ghost use Rattle.kernel_runs.specs.Runs.{IsRun};
 ghost use Rattle.result_files.specs.EntriesText.{MayBeWritten};
 ghost use Rattle.run_answers.specs.Causes.{Stops};
 ghost use Rattle.taco_top.specs.Prepared.{IsPrepared, IsUncomputed};
 
-use crate::asking::ask_product;
+use crate::asking::{Task, ask_kernel};
 use crate::operands::{operands_of, path_of};
-use dense_runs::{DenseResult, RunFault, run_dense};
+use bindings::Bindings;
 use format_spec::Format;
 use index_notation::Statement;
+use kernel_code::Kernel;
+use kernel_runs::{KernelRun, RunFault, run_kernel};
 use numbers::Ring;
 use operand_files::Operands;
 use outside::Folder;
@@ -25,26 +29,28 @@ use std::alloc::Global;
 #[derive(Drop)]
 pub(crate) struct Prepared<'a> {
     pub path: Option<&'a str>,
-    pub result: DenseResult,
+    pub result: KernelRun,
 }
 
-/// Computes the statement; a refusal is told by its names.
+/// Computes the statement by its kernel; a refusal is told by its names.
 fn compute<'a>(
     alloc: Global,
     statement: Statement,
-    formats: &[Format],
+    formats: Vec<Format>,
+    kernel: &Kernel,
     given: &[Option<u64>],
-    operands: &Operands,
-) -> Result<DenseResult, Fault<'a>>
-    requires { IsRunnable statement formats.now given.now operands.now.entries.items operands.now.bounds.items }
-    ensures run { IfOk result (λ run. IsRun ring statement formats.now given.now operands.now.entries.items operands.now.bounds.items
-        run.shape run.entries) }
+    operands: Operands,
+) -> Result<KernelRun, Fault<'a>>
+    requires runnable { IsRunnable statement formats.items given.now operands.entries.items operands.bounds.items }
+    requires right { IsRightKernel ring statement formats.items kernel.now }
+    ensures run { IfOk result (λ run. IsRun ring statement formats.items kernel.now given.now operands.entries.items
+        operands.bounds.items run.shape run.entries run.tensor run.turns) }
     ensures written { IfOk result (λ run. (is_matrix : Bool) → (is_matrix ≡ true → IsMatrixOrder (length statement.left.vars))
         → MayBeWritten is_matrix run.shape run.entries) }
-    ensures refused { IfErr result (IsUncomputed statement formats.now given.now operands.now.entries.items operands.now.bounds.items) }
+    ensures refused { IfErr result (IsUncomputed statement formats.items given.now operands.entries.items operands.bounds.items) }
 {
-    match run_dense::<Ring>(alloc, &statement, formats, given, operands) {
-        Ok(result) => Ok(result),
+    match run_kernel::<Ring>(alloc, &statement, formats, kernel, given, operands) {
+        Ok(run) => Ok(run),
         Err(RunFault::Range(why)) => Err(Fault::Named {
             statement,
             fault: NamedFault::Range(why),
@@ -63,12 +69,13 @@ fn compute<'a>(
                 count,
             },
         }),
+        Err(RunFault::Workspace { count }) => Err(Fault::WorkspaceLimit(count)),
         Err(RunFault::Memory(_)) => Err(Fault::Memory),
     }
 }
 
-/// Does all that comes before the first write: reads the words and the operands, and computes the result. All memory of the
-/// program's own is taken here.
+/// Does all that comes before the first write: reads the words, compiles a kernel, reads the operands, and runs the kernel. All
+/// memory of the program's own is taken here.
 pub(crate) fn prepare<'a, F: Folder>(
     alloc: Global,
     words: &'a [String],
@@ -79,8 +86,8 @@ pub(crate) fn prepare<'a, F: Folder>(
         (option_map (λ path. path.now) prepared.path) prepared.result.shape prepared.result.entries) }
     ensures stops { IfErr result (Stops (map string_bytes words.now) (F.state files.old) (F.state files.new)) }
 {
-    let asked = match ask_product(alloc, words) {
-        Ok(asked) => asked,
+    let Task { asked, compiled } = match ask_kernel(alloc, words) {
+        Ok(task) => task,
         Err(fault) => return Err(fault),
     };
     let path = path_of(&asked.bindings, 0);
@@ -92,9 +99,12 @@ pub(crate) fn prepare<'a, F: Folder>(
         statement,
         bindings,
     } = asked;
-    let formats = bindings.formats.as_slice();
-    let given = bindings.ranges.as_slice();
-    match compute(alloc, statement, formats, given, &operands) {
+    let Bindings {
+        formats,
+        files: _,
+        ranges,
+    } = bindings;
+    match compute(alloc, statement, formats, &compiled.kernel, ranges.as_slice(), operands) {
         Ok(result) => Ok(Prepared { path, result }),
         Err(fault) => Err(fault),
     }

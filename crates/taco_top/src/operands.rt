@@ -4,7 +4,7 @@ ghost use Rattle.std.specs.Option.{option_map};
 ghost use Rattle.index_notation.specs.Statement.{IsNumbered};
 ghost use Rattle.bindings.specs.Tables.{file_in};
 ghost use Rattle.operand_files.specs.Reads.{OnlyReads};
-ghost use Rattle.run_answers.specs.Causes.{IsBuilt, HasOperands, Stops};
+ghost use Rattle.run_answers.specs.Causes.{IsAccepted, HasOperands, Stops};
 ghost use Rattle.run_answers.specs.Run.{orders_of as orders_of_operands, path_of as path_of_tensor, paths_of as paths_of_operands};
 ghost use Rattle.taco_top.specs.Asked.{request_of};
 
@@ -67,12 +67,12 @@ pub(crate) fn operands_of<'a, F: Folder>(
     asked: &Asked<'a>,
     files: &mut F,
 ) -> Result<Operands, Fault<'a>>
-    requires built { (words : List (List ℕ)) × IsBuilt words (request_of asked.now) }
+    requires accepted { (words : List (List ℕ)) × IsAccepted words (request_of asked.now) }
     requires numbered { IsNumbered asked.now.statement }
     ensures only_reads { OnlyReads (F.state files.old) (F.state files.new) }
-    ensures read { IfOk result (λ operands. (words : List (List ℕ)) → IsBuilt words (request_of asked.now)
+    ensures read { IfOk result (λ operands. (words : List (List ℕ)) → IsAccepted words (request_of asked.now)
         → HasOperands words (F.state files.old) (F.state files.new) (request_of asked.now) operands.entries.items operands.bounds.items) }
-    ensures refused { IfErr result (λ fault. (words : List (List ℕ)) → IsBuilt words (request_of asked.now)
+    ensures refused { IfErr result (λ fault. (words : List (List ℕ)) → IsAccepted words (request_of asked.now)
         → Stops words (F.state files.old) (F.state files.new) fault) }
 {
     let orders = orders_of(alloc, &asked.statement)?;

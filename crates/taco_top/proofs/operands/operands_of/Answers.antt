@@ -6,34 +6,34 @@ use Rattle.taco_top.proofs.operands.operands_of.Goals as goal
 
 pub read_operands-requires : goal.read_operands-requires
 read_operands-requires g c =
-    readable c.requires.built.0 (g.F.Folder.state c.args.files.now) (g.F.Folder.state c.args.files.now) (request_of c.args.asked.now)
+    readable c.requires.accepted.0 (g.F.Folder.state c.args.files.now) (g.F.Folder.state c.args.files.now) (request_of c.args.asked.now)
     c.as_slice.result.now (map (λ (path : Bor (List ℕ)). path.now) c.as_slice-2.result.now)
     (c.as_slice.ensures.value ∙ c.in_ok-orders.ensures)
     (ap (map (λ (path : Bor (List ℕ)). path.now)) c.as_slice-2.ensures.value ∙ c.in_ok-paths.ensures)
-    c.requires.built.1 c.requires.numbered
+    c.requires.accepted.1 c.requires.numbered
 
 pub returns-in-Err-ReadFault-clause-refused : goal.returns-in-Err-ReadFault-clause-refused
-returns-in-Err-ReadFault-clause-refused g c = λ words built.
+returns-in-Err-ReadFault-clause-refused g c = λ words accepted.
     let told = c.in-Err-ReadFault.field-0-is in
     let same : c.in-Err-ReadFault.field-0 ≡ (operand.ReadFault c.in-Err-ReadFault.path) = cc in
     stops_reading words (g.F.Folder.state c.args.files.now) (g.F.Folder.state c.read_operands.new.files) (request_of c.args.asked.now)
     c.as_slice.result.now (map (λ (path : Bor (List ℕ)). path.now) c.as_slice-2.result.now)
     (c.as_slice.ensures.value ∙ c.in_ok-orders.ensures)
     (ap (map (λ (path : Bor (List ℕ)). path.now)) c.as_slice-2.ensures.value ∙ c.in_ok-paths.ensures)
-    c.in-Err-ReadFault.field-0 (operand.ReadFault c.in-Err-ReadFault.path) same built c.in-Err-ReadFault.ensures.refused
+    c.in-Err-ReadFault.field-0 (operand.ReadFault c.in-Err-ReadFault.path) same accepted c.in-Err-ReadFault.ensures.refused
 
 pub returns-in-Err-FileBytes-clause-refused : goal.returns-in-Err-FileBytes-clause-refused
-returns-in-Err-FileBytes-clause-refused g c = λ words built.
+returns-in-Err-FileBytes-clause-refused g c = λ words accepted.
     let told = c.in-Err-FileBytes.field-0-is in
     let same : c.in-Err-FileBytes.field-0 ≡ (operand.FileBytes c.in-Err-FileBytes.path) = cc in
     stops_reading words (g.F.Folder.state c.args.files.now) (g.F.Folder.state c.read_operands.new.files) (request_of c.args.asked.now)
     c.as_slice.result.now (map (λ (path : Bor (List ℕ)). path.now) c.as_slice-2.result.now)
     (c.as_slice.ensures.value ∙ c.in_ok-orders.ensures)
     (ap (map (λ (path : Bor (List ℕ)). path.now)) c.as_slice-2.ensures.value ∙ c.in_ok-paths.ensures)
-    c.in-Err-FileBytes.field-0 (operand.FileBytes c.in-Err-FileBytes.path) same built c.in-Err-FileBytes.ensures.refused
+    c.in-Err-FileBytes.field-0 (operand.FileBytes c.in-Err-FileBytes.path) same accepted c.in-Err-FileBytes.ensures.refused
 
 pub returns-in-Err-BadFile-clause-refused : goal.returns-in-Err-BadFile-clause-refused
-returns-in-Err-BadFile-clause-refused g c = λ words built.
+returns-in-Err-BadFile-clause-refused g c = λ words accepted.
     let told = c.in-Err-BadFile.field-0-is in
     let same : c.in-Err-BadFile.field-0 ≡ (operand.BadFile c.in-Err-BadFile.path c.in-Err-BadFile.line c.in-Err-BadFile.kind) = cc in
     stops_reading words (g.F.Folder.state c.args.files.now) _ (request_of c.args.asked.now)
@@ -41,14 +41,14 @@ returns-in-Err-BadFile-clause-refused g c = λ words built.
     (c.as_slice.ensures.value ∙ c.in_ok-orders.ensures)
     (ap (map (λ (path : Bor (List ℕ)). path.now)) c.as_slice-2.ensures.value ∙ c.in_ok-paths.ensures)
     c.in-Err-BadFile.field-0 (operand.BadFile c.in-Err-BadFile.path c.in-Err-BadFile.line c.in-Err-BadFile.kind)
-    same built c.in-Err-BadFile.ensures.refused
+    same accepted c.in-Err-BadFile.ensures.refused
 
 pub returns-clause-refused : goal.returns-clause-refused
-returns-clause-refused g c = λ words built.
+returns-clause-refused g c = λ words accepted.
     let told = c.in-Err-Memory.field-0-is in
     let same : c.in-Err-Memory.field-0 ≡ operand.Memory = cc in
     stops_reading words (g.F.Folder.state c.args.files.now) (g.F.Folder.state c.read_operands.new.files) (request_of c.args.asked.now)
     c.as_slice.result.now (map (λ (path : Bor (List ℕ)). path.now) c.as_slice-2.result.now)
     (c.as_slice.ensures.value ∙ c.in_ok-orders.ensures)
     (ap (map (λ (path : Bor (List ℕ)). path.now)) c.as_slice-2.ensures.value ∙ c.in_ok-paths.ensures)
-    c.in-Err-Memory.field-0 operand.Memory same built c.in-Err-Memory.ensures.refused
+    c.in-Err-Memory.field-0 operand.Memory same accepted c.in-Err-Memory.ensures.refused
