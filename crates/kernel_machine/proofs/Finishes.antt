@@ -3,7 +3,7 @@ use Rattle.std.specs.Prelude.{◌≡◌, ℕ, suc, ◌+◌, Bool, true, false, L
 use Rattle.std.proofs.Common.{◌∙◌, sym, ap, subst, arith}
 use Rattle.kernel_code.specs.declared.syntax.Arr.TheVariants.{Dimension}
 use Rattle.level_core.specs.declared.letter.Letter.{Letter}
-use Rattle.level_core.specs.declared.letter.Letter.TheVariants.{Dense}
+use Rattle.level_core.specs.declared.letter.Letter.TheVariants.{Dense, Compressed, CompressedGroups, Singleton, SingletonGroups, Hashed}
 use Rattle.level_core.specs.declared.span.Span.{Span}
 use Rattle.level_core.specs.Entries.{StandsAt, one}
 use Rattle.level_core.specs.Meaning.{Arrays}
@@ -19,6 +19,7 @@ use Rattle.storage_arrays.specs.Arrays.{AreDone, positions_in}
 use Rattle.storage_builder.specs.Building.{building, MayFinish}
 use Rattle.storage_builder.specs.Handed.{AreAlike}
 use Rattle.storage_builder.specs.declared.part.Part.{Part}
+use Rattle.storage_builder.specs.declared.part.Part.TheVariants.{Missing, Lists, Slots}
 use Rattle.storage_builder.specs.Made.{level_of, IsReady, AreReady, AreMade, levels_of, positions_of, values_for}
 use Rattle.storage_builder.proofs.Left.{finished_may_be_handed_over}
 use Rattle.kernel_stores.specs.Results.{LeavesStorage, positions_below, summed}
@@ -171,5 +172,53 @@ pub made_left : (nothing : ℕ) (store : Store) (a : Arrays) (parts : List Part)
     → HoldParts left.levels parts 1 a → AreMade (letters_of store.format) (result_sizes store) parts 1 ts → AreHeld ts 0 1 (summed a)
 made_left nothing store a parts ts left parts_left made =
     made_are_held left.levels ts parts 1 1 a left.is_left.held left.done parts_left
+    (subst (λ ls. AreMade ls (map meaning.size left.levels) parts 1 ts) (sym left.storage.letters)
+    (subst (λ ns. AreMade (letters_of store.format) ns parts 1 ts) (sym left.sizes) made))
+
+-- the levels that are made are finished
+spare_free : (spare : ℕ) (letter : Letter) (size parents : ℕ) (part : Part)
+    → positions_in parents (level_of spare letter size parents part) ≡ positions_of letter size parents part
+spare_free spare Dense size parents part = refl
+spare_free spare Compressed size parents Missing = refl
+spare_free spare Compressed size parents (Lists pos crd) = refl
+spare_free spare Compressed size parents (Slots wid crd) = refl
+spare_free spare CompressedGroups size parents Missing = refl
+spare_free spare CompressedGroups size parents (Lists pos crd) = refl
+spare_free spare CompressedGroups size parents (Slots wid crd) = refl
+spare_free spare Singleton size parents Missing = refl
+spare_free spare Singleton size parents (Lists pos crd) = refl
+spare_free spare Singleton size parents (Slots wid crd) = refl
+spare_free spare SingletonGroups size parents Missing = refl
+spare_free spare SingletonGroups size parents (Lists pos crd) = refl
+spare_free spare SingletonGroups size parents (Slots wid crd) = refl
+spare_free spare Hashed size parents part = refl
+
+made_are_done : (ls ts : List StorageLevel) (parts : List Part) (parents level : ℕ) (a : Arrays) → AreHeld ls 0 level (summed a)
+    → AreDone parents ls → HoldParts ls parts level a → AreMade (map meaning.kind ls) (map meaning.size ls) parts parents ts
+    → AreDone parents ts
+made_are_done [] [] parts parents level a held done left made = tt
+made_are_done [] (t ∷ ts) parts parents level a held done left made = absurd made
+made_are_done (l ∷ ls) [] parts parents level a held done left made = tt
+made_are_done (l ∷ ls) (t ∷ ts) [] parents level a held done left made = absurd left
+made_are_done (l ∷ ls) (t ∷ ts) (part ∷ parts) parents level a held done left made =
+    let words = words_left l level parents part a held.0 done.0.has_parents left.0 in
+    let alike : AreAlike l t = (finished_may_be_handed_over l parents part done.0.has_parents words).1 t made.0 in
+    let positions = positions_left l parents part words in
+    let same : positions_in parents t ≡ positions_in parents l =
+    ap (positions_in parents) made.0.1 ∙ spare_free made.0.0 (meaning.kind l) (meaning.size l) parents part ∙ positions in (
+      record {
+        has_parents = alike.has_parents parents done.0.has_parents;
+        width = λ none w h. done.0.width none w (sym alike.width ∙ h);
+      },
+      subst (λ n. AreDone n ts) (sym same)
+          (made_are_done ls ts parts (positions_in parents l) (suc level) a held.1 done.1 left.1
+          (subst (λ n. AreMade (map meaning.kind ls) (map meaning.size ls) parts n ts) positions made.1)),
+    )
+
+pub made_done : (nothing : ℕ) (store : Store) (a : Arrays) (parts : List Part) (ts : List StorageLevel)
+    (left : LeavesStorage nothing store a)
+    → HoldParts left.levels parts 1 a → AreMade (letters_of store.format) (result_sizes store) parts 1 ts → AreDone 1 ts
+made_done nothing store a parts ts left parts_left made =
+    made_are_done left.levels ts parts 1 1 a left.is_left.held left.done parts_left
     (subst (λ ls. AreMade ls (map meaning.size left.levels) parts 1 ts) (sym left.storage.letters)
     (subst (λ ns. AreMade (letters_of store.format) ns parts 1 ts) (sym left.sizes) made))

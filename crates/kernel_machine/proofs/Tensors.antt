@@ -16,7 +16,7 @@ use Rattle.storage_builder.specs.Made.{AreMade}
 use Rattle.kernel_stores.specs.Results.{LeavesStorage}
 use Rattle.kernel_stores.specs.Stores.{Store, result_sizes}
 use Rattle.kernel_machine.specs.Runs.{LeftPart, WasHanded, IsUntouched, IsMadeFrom}
-use Rattle.kernel_machine.proofs.Finishes.{HoldParts, collected, may_finish, made_left}
+use Rattle.kernel_machine.proofs.Finishes.{HoldParts, collected, may_finish, made_left, made_done}
 use Rattle.kernel_machine.proofs.HandedParts.{all_missing}
 
 some_is : {X : Type 0} (x y : X) → Some x ≡ Some y → x ≡ y
@@ -98,4 +98,7 @@ module _ (nothing : ℕ) (store : Store) (before after : Arrays) (old new : Buil
         (subst (λ ns. AreMade (letters_of store.format) ns new.parts 1 t.levels) sizes_is
         (subst (λ (f : List FormatLevel). AreMade (letters_of f) new.sizes new.parts 1 t.levels) format_is levels));
     values = left.is_left.values_held ∙ ap Some (sym values_are ∙ sym same);
+    done = made_done nothing store before new.parts t.levels left handed_parts
+        (subst (λ ns. AreMade (letters_of store.format) ns new.parts 1 t.levels) sizes_is
+        (subst (λ (f : List FormatLevel). AreMade (letters_of f) new.sizes new.parts 1 t.levels) format_is levels));
   }

@@ -13,6 +13,7 @@ use Rattle.level_core.specs.Meaning.{Arrays}
 use Rattle.format_spec.specs.declared.format.FormatLevel.{FormatLevel}
 use Rattle.format_spec.specs.Formats.{letters_of}
 use Rattle.tensor_storage.specs.Storages.{Storage}
+use Rattle.storage_arrays.specs.Arrays.{AreDone}
 use Rattle.storage_builder.specs.Building.{Building, AreDense}
 use Rattle.storage_builder.specs.declared.part.Part.{Part}
 use Rattle.storage_builder.specs.declared.part.Part.TheVariants.{Missing}
@@ -33,12 +34,13 @@ abbrev pub LeftPart : Letter → ℕ → Part → Arrays → Type 0
 LeftPart Dense level part a = Unit {0}
 LeftPart letter level part a = HoldsPart letter 0 0 level part a
 
--- the kernel finishes on the given arrays after these turns, and the tensor has what it leaves of the result
+-- the kernel finishes on the given arrays after these turns, and the tensor has what it leaves of the result, in finished levels
 pub record HasRun (a : Arithmetic) (kernel : Kernel) (store : Store) (given : Arrays) (tensor : Storage) (turns : Turns) : Type 0 where
   pub arrays : Arrays
   pub ends : go a (length store.format) kernel given most_turns ≡ Finished arrays (count_of turns)
   pub format_is : tensor.format ≡ store.format
   pub is_left : IsLeft store arrays tensor.levels tensor.values
+  pub done : AreDone 1 tensor.levels
 
 -- the kernel appends no words, and sorts neither a scratch list nor a workspace
 abbrev pub WorksInPlace : Kernel → Type 0
@@ -64,8 +66,9 @@ pub record WasHanded (old : Building) (before : Arrays) (new : Building) (after 
       → slice_get new.parts i ≡ Some part → LeftPart letter (suc i) part before
   pub others : (x : Arr) → ((k : ℕ) → IsOf 0 k x → ⊥) → after x ≡ before x
 
--- a tensor has the levels and the values that arrays have of the result
+-- a tensor has the levels and the values that arrays have of the result, and its levels are finished
 pub record IsMadeFrom (format : List FormatLevel) (arrays : Arrays) (t : Storage) : Type 0 where
   pub format_is : t.format ≡ format
   pub held : AreHeld t.levels 0 1 (summed arrays)
   pub values : arrays (Values 0) ≡ Some t.values
+  pub done : AreDone 1 t.levels

@@ -53,7 +53,8 @@ module _ (a : Arithmetic) (s : Statement) (formats : List (List FormatLevel)) (g
       (subst (λ (rs : List ℕ). ArePackedOperands a s formats (slice_index rs) entries storages) lent_is
       (subst (λ fs. ArePackedOperands a s fs (slice_index lent) entries storages) split (packed first)))
 
-  pub unpacked_lent : (fault : PackFault) → ((result : List FormatLevel) → MayNotPack a s (result ∷ others) (slice_index lent) entries fault)
+  pub unpacked_lent : (fault : PackFault)
+      → ((result : List FormatLevel) → MayNotPack a s (result ∷ others) (slice_index lent) entries fault)
       → MayNotPack a s formats (slice_index ranges) operands fault
   unpacked_lent fault why =
       subst (λ es. MayNotPack a s formats (slice_index ranges) es fault) entries_are

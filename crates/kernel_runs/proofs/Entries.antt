@@ -124,7 +124,8 @@ module _ (a : Arithmetic) (laws : Laws a) (s : Statement) (formats : List (List 
     (for : IsStoreFor a s formats ranges operands store) (arrays : Arrays) (leaves : LeavesResult a s (told_by a store) store arrays)
     (tensor : Storage) (whole : IsStorage tensor) (format_is : tensor.format ≡ store.format)
     (left : IsLeft store arrays tensor.levels tensor.values) (entries : Entries) (lists : ListsNonzero a tensor entries) where
-  stands : Stands meaning a.zero (letters_of store.format) (in_level_order store.format store.ranges) leaves.table leaves.levels leaves.values
+  stands : Stands meaning a.zero (letters_of store.format) (in_level_order store.format store.ranges) leaves.table leaves.levels
+      leaves.values
   stands = leaves.packed.stands
 
   is_format : IsFormat store.format

@@ -17,5 +17,6 @@ pub outcome_is : (a : Arithmetic) (order : ℕ) (kernel : Kernel) (given : Array
 outcome_is a order kernel given P o e none is finished = by (one_first e.turns most_turns)
   where
     by : (e.turns ≤ most_turns) ⊎ (most_turns ≤ e.turns) → P o
-    by (inl l) = subst P (sym e.is ∙ sym (goes_on a order kernel given e.turns most_turns l (λ n. none (subst P (sym e.is ∙ n) e.so))) ∙ is) e.so
+    by (inl l) = subst P
+        (sym e.is ∙ sym (goes_on a order kernel given e.turns most_turns l (λ n. none (subst P (sym e.is ∙ n) e.so))) ∙ is) e.so
     by (inr l) = subst P (sym e.is ∙ goes_on a order kernel given most_turns e.turns l (λ n. finished (sym is ∙ n)) ∙ is) e.so

@@ -143,7 +143,8 @@ module _ (a : Arithmetic) (laws : Laws a) (s : Statement) (formats : List (List 
       where
         leaves : LeavesResult a s (told_by a (store_of ranges storages format)) (store_of ranges storages format) ends.has_run.arrays
         leaves = outcome_is a (length format) kernel ends.given
-            (IsRightOutcome a s (told_by a (store_of ranges storages format)) (store_of ranges storages format)) (Finished ends.has_run.arrays (count_of turns))
+            (IsRightOutcome a s (told_by a (store_of ranges storages format)) (store_of ranges storages format))
+            (Finished ends.has_run.arrays (count_of turns))
             (right (store_of ranges storages format) (store_for ends.few).is_store ends.given ends.is_given) (λ none. none)
             ends.has_run.ends apart
           where

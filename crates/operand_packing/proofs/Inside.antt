@@ -1,6 +1,6 @@
 -- Entries that are summed up have the coordinates that they had before.
-use Rattle.std.specs.Prelude.{◌≡◌, ◌⊎◌, ℕ, ◌<◌, List, [], ◌∷◌, length, slice_index, slice_index_or}
-use Rattle.std.proofs.Common.{sym, subst, arith, inl, inr}
+use Rattle.std.specs.Prelude.{ℕ, ◌<◌, List, [], ◌∷◌, length, slice_index, slice_index_or}
+use Rattle.std.proofs.Common.{subst, arith, inl, inr}
 use Rattle.std.proofs.lemmas.List.Elements.{All-tail}
 use Rattle.tensor_map.specs.Entries.{Listed, SameListed}
 use Rattle.tensor_map.specs.declared.entries.Entry.{Entry}

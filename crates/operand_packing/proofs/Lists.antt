@@ -1,7 +1,7 @@
 -- Lists that are taken apart from the front, and elements that are written.
-use Rattle.std.specs.Prelude.{◌≡◌, ◌≢◌, ◌⊎◌, ℕ, zero, suc, ◌+◌, ◌<◌, ◌≤◌, List, [], ◌∷◌, ◌++◌, length, drop, Some, slice_get, slice_index_or, slice_set, refl}
-use Rattle.std.specs.List.{remove}
-use Rattle.std.proofs.Common.{◌∙◌, sym, ap, subst, arith, inl, inr}
+use Rattle.std.specs.Prelude.{◌≡◌, ◌⊎◌, ℕ, zero, suc, ◌+◌, ◌<◌, List, [], ◌∷◌, ◌++◌, length}
+use Rattle.std.specs.Prelude.{drop, Some, slice_get, slice_index_or, slice_set, refl}
+use Rattle.std.proofs.Common.{sym, ap, arith, inl, inr}
 
 module _ {X : Type 0} where
   pub first_left : (xs : List X) (n : ℕ) (d : X) → slice_index_or (drop n xs) 0 d ≡ slice_index_or xs n d

@@ -1,5 +1,6 @@
 -- The operands of a statement may be packed where its ranges are above their coordinates.
-use Rattle.std.specs.Prelude.{◌≡◌, ℕ, zero, suc, ◌+◌, ◌<◌, ◌≤◌, List, [], ◌∷◌, length, map, All, Some, slice_get, slice_index, slice_index_or, refl}
+use Rattle.std.specs.Prelude.{◌≡◌, ℕ, zero, suc, ◌+◌, ◌<◌, List, [], ◌∷◌, length, map}
+use Rattle.std.specs.Prelude.{All, Some, slice_get, slice_index, slice_index_or, refl}
 use Rattle.std.proofs.Common.{◌∙◌, sym, ap, subst, arith, add-one}
 use Rattle.lists.proofs.Each.{each_get}
 use Rattle.limits.specs.Limits.{greatest_position_count}
@@ -14,7 +15,7 @@ use Rattle.expr_terms.specs.Ranges.{mode_size}
 use Rattle.tns_io.specs.Positions.{IsBelow}
 use Rattle.statement_operands.specs.Operands.{AreOperands, AreRanges, HasOrder, ReadsBelow, ReadsOperand, mode_sizes, operand_of}
 use Rattle.statement_operands.proofs.SizeLaws.{entries_below_sizes, index_small, mode_sizes_small}
-use Rattle.operand_packing.specs.Packed.{MayAllBePacked, MayBePacked, operand_sizes}
+use Rattle.operand_packing.specs.Packed.{MayAllBePacked, operand_sizes}
 
 sizes_long : (size : ℕ → ℕ) (from count : ℕ) → length (map size (numbers_from from count)) ≡ count
 sizes_long size from zero = refl

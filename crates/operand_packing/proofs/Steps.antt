@@ -1,5 +1,6 @@
 -- Operands that are packed one after another.
-use Rattle.std.specs.Prelude.{◌≡◌, ◌⊎◌, ℕ, zero, suc, ◌+◌, ◌<◌, ◌≤◌, List, [], ◌∷◌, ◌++◌, length, drop, Some, slice_get, slice_index_or, slice_set, refl}
+use Rattle.std.specs.Prelude.{◌≡◌, ◌⊎◌, ℕ, zero, suc, ◌+◌, ◌<◌, ◌≤◌, List, [], ◌∷◌, ◌++◌, length}
+use Rattle.std.specs.Prelude.{drop, Some, slice_get, slice_index_or, slice_set, refl}
 use Rattle.std.specs.List.{remove}
 use Rattle.std.proofs.Common.{◌∙◌, sym, ap, subst, arith, inl, inr, add-one}
 use Rattle.numbers.specs.Arithmetic.{Arithmetic}

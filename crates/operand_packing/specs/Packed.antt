@@ -36,7 +36,8 @@ pub record IsPackedOperand (a : Arithmetic) (format : List FormatLevel) (sizes :
   pub words : All (λ v. v < 2 ^ 64) storage.values
 
 -- the levels of a tensor of this format have so many positions for its entries, told by the coordinates that these name
-pub record HavePositions (a : Arithmetic) (format : List FormatLevel) (sizes : List ℕ) (entries : List Entry) (counts : List ℕ) : Type 0 where
+pub record HavePositions (a : Arithmetic) (format : List FormatLevel) (sizes : List ℕ) (entries : List Entry)
+    (counts : List ℕ) : Type 0 where
   pub summed : List Entry
   pub numbers : List ℕ
   pub are_summed : AreSummed a (length format) entries summed
@@ -48,7 +49,8 @@ abbrev pub FitsLevels : Arithmetic → List FormatLevel → List ℕ → List En
 FitsLevels a format sizes entries = (counts : List ℕ) → HavePositions a format sizes entries counts → AreFew counts
 
 -- this level is the first that has more positions than may be, and it has so many
-pub record IsLargeOperand (a : Arithmetic) (format : List FormatLevel) (sizes : List ℕ) (entries : List Entry) (level count : ℕ) : Type 0 where
+pub record IsLargeOperand (a : Arithmetic) (format : List FormatLevel) (sizes : List ℕ) (entries : List Entry)
+    (level count : ℕ) : Type 0 where
   pub counts : List ℕ
   pub have : HavePositions a format sizes entries counts
   pub first : IsFirstAbove counts level count

@@ -53,7 +53,8 @@ no_matrix_fault false true wrong rest none = absurd cc
 no_matrix_fault false false true rest none = absurd cc
 no_matrix_fault false false false rest none = refl
 
-pub file_readable : (s : Statement) (before : List (List ℕ)) (said : Option Said) (tensor : ℕ) (path : List ℕ) → fault_of s before said ≡ None
+pub file_readable : (s : Statement) (before : List (List ℕ)) (said : Option Said) (tensor : ℕ) (path : List ℕ)
+    → fault_of s before said ≡ None
     → path_in s tensor said ≡ Some path → is_mtx path ≡ true → IsMatrixOrder (order_of s tensor)
 file_readable s before None tensor path none is e = absurd cc
 file_readable s before (Some (SaysFormat name text)) tensor path none is e = absurd cc

@@ -1,29 +1,20 @@
 -- Each tensor of a text's statement but the result is read on its right side.
-use Rattle.std.specs.Prelude.{◌≡◌, ℕ, zero, suc, ◌+◌, ◌<◌, ◌≤◌, Bool, true, false, nat_eq, ◌||◌, ◌⊎◌, List, [], ◌∷◌, ◌++◌, length}
+use Rattle.std.specs.Prelude.{◌≡◌, ℕ, zero, suc, ◌+◌, ◌<◌, false, List, [], ◌∷◌, length}
 use Rattle.std.specs.Prelude.{map, Some, slice_get, refl}
-use Rattle.std.proofs.Common.{sym, ◌∙◌, ap, subst, arith, length-append, inl, inr}
-use Rattle.std.proofs.lemmas.Bool.{eq-eqb}
+use Rattle.std.proofs.Common.{sym, ◌∙◌, ap, subst, arith}
 use Rattle.lists.specs.Each.{Each}
 use Rattle.lists.proofs.Each.{each_get}
 use Rattle.index_notation.specs.declared.syntax.Name.{Name}
-use Rattle.index_notation.specs.declared.syntax.Access.{Access}
 use Rattle.index_notation.specs.declared.syntax.Statement.{Statement}
 use Rattle.index_notation.specs.declared.sentence.WrittenAccess.{WrittenAccess}
-use Rattle.index_notation.specs.Grammar.{Factor, Digits, Read, Bracketed, Negated, Product, Lone, Multiplied, Sum, Alone, Added}
-use Rattle.index_notation.specs.Grammar.{Taken, Tree}
-use Rattle.index_notation.specs.Numbering.{is_same, place_of, without, distinct, name_of, variables_of, numbered}
+use Rattle.index_notation.specs.Grammar.{Tree}
+use Rattle.index_notation.specs.Numbering.{is_same, place_of, without, distinct, name_of, numbered}
 use Rattle.index_notation.specs.NumberingLaws.{yes, no}
-use Rattle.index_notation.specs.Statement.{IsWellNamed, numbers_from}
 use Rattle.index_notation.specs.Notation.{IsNotationOf}
-use Rattle.index_notation.specs.TreeStatement.{accesses_of_factor, accesses_of_product, accesses_of_sum, reads_in_factor}
-use Rattle.index_notation.specs.TreeStatement.{reads_in_product, reads_in_sum}
-use Rattle.index_notation.specs.TreeStatement.{factor_expr, product_expr, sum_expr, statement_of_tree}
+use Rattle.index_notation.specs.TreeStatement.{accesses_of_sum}
+use Rattle.index_notation.specs.TreeStatement.{statement_of_tree}
 use Rattle.index_notation.proofs.NumberingLaws.{tested, same_self, place_here, place_later, without_keeps, without_drops}
-use Rattle.std.proofs.lemmas.Bool.Decides.{nat_tests}
-use Rattle.std.specs.Prelude.{nat_lt}
-use Rattle.expr_terms.specs.Terms.{contains, is_at_access, stands_in}
 use Rattle.statement_operands.specs.Operands.{IsRead}
-use Rattle.expr_terms.proofs.Equations.{stands_in_add, stands_in_sub, stands_in_mul, stands_in_neg}
 
 -- names that differ from one, and from each other
 abbrev Apart : Name → List Name → Type 0

@@ -1,11 +1,10 @@
 -- A statement can be computed over the operands that were read for it.
-use Rattle.std.specs.Prelude.{◌≡◌, ◌≢◌, ℕ, zero, suc, ◌+◌, ◌-◌, ◌<◌, ◌≤◌, Bool, true, false, ◌==◌, if◌then◌else◌, List, [], ◌∷◌}
+use Rattle.std.specs.Prelude.{◌≡◌, ◌≢◌, ℕ, zero, suc, ◌+◌, ◌-◌, ◌<◌, ◌≤◌, Bool, List, [], ◌∷◌}
 use Rattle.std.specs.Prelude.{length, map, take}
 use Rattle.std.specs.Prelude.{Option, None, Some, All, Vec, slice_get, refl}
 use Rattle.std.specs.declared.alloc.Global.{Global}
 use Rattle.std.specs.List.{range_with_len}
 use Rattle.std.proofs.Common.{◌∙◌, sym, ap, subst, arith}
-use Rattle.std.proofs.lemmas.Bool.{eqb-true, eq-eqb}
 use Rattle.std.proofs.lemmas.List.{length-map}
 use Rattle.std.proofs.lemmas.List.FromFn.{length-map-range_with_len}
 use Rattle.lists.specs.Each.{Each}
@@ -19,13 +18,13 @@ use Rattle.format_spec.specs.declared.format.FormatLevel.{FormatLevel}
 use Rattle.index_notation.specs.declared.syntax.Access.{Access}
 use Rattle.index_notation.specs.declared.syntax.Statement.{Statement}
 use Rattle.index_notation.specs.Notation.{IsNotationOf}
-use Rattle.index_notation.specs.Statement.{IsAccess, IsNumbered, IsWellNamed, HaveOneOrder, HaveOrders}
+use Rattle.index_notation.specs.Statement.{IsAccess, IsNumbered, IsWellNamed}
 use Rattle.expr_terms.specs.Names.{HasNoNameFault}
 use Rattle.expr_terms.specs.Operands.{entries_of, list_or_none}
 use Rattle.expr_terms.specs.Told.{given_at, bound_at, bound_or_none, modes_of, modes_or_none}
 use Rattle.expr_terms.specs.declared.bound.Bound.{Bound}
 use Rattle.expr_terms.proofs.WellNamed.{notation_well_named}
-use Rattle.bindings.specs.Bindings.{order_in, order_of}
+use Rattle.bindings.specs.Bindings.{order_of}
 use Rattle.bindings.specs.Outcome.{Binds}
 use Rattle.operand_files.specs.Decoded.{Operand, IsReadable, AreReadable}
 use Rattle.operand_files.specs.Decoded as decoded

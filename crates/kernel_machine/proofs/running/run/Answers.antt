@@ -55,6 +55,7 @@ returns-in-Ok-made_tensor g c =
       ends = ends;
       format_is = c.in-Ok-made_tensor.ensures.made.format_is ∙ ap (λ (b : Building). b.format) ready.building;
       is_left = record { held = c.in-Ok-made_tensor.ensures.made.held; values_held = c.in-Ok-made_tensor.ensures.made.values };
+      done = c.in-Ok-made_tensor.ensures.made.done;
     }
 
 pub returns-in-Over : goal.returns-in-Over

@@ -144,7 +144,8 @@ returns-clause-written g c =
     let ranges = c.in_ok-ranges.ranges.items in
     let told : told_ranges s given bounds ≡ Ok ranges = ap (told_ranges s given) (sym c.as_slice.ensures.value)
     ∙ c.in_ok-ranges.ensures.ranges in
-    let run = run_lent a s formats given operands bounds c.requires.runnable ranges told c.remove-format.result c.remove-format.new.self.items
+    let run =
+    run_lent a s formats given operands bounds c.requires.runnable ranges told c.remove-format.result c.remove-format.new.self.items
     c.remove-format.ensures.value c.remove-format.ensures.items c.deref.result.now c.deref.ensures.value
     c.as_mut_slice-entries.result.now c.as_mut_slice-entries.ensures.value
     g.met.S.Semiring.laws c.args.kernel.now c.requires.right c.deref-3.result.now c.deref-3.ensures.value

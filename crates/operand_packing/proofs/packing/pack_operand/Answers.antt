@@ -1,4 +1,3 @@
-use Rattle.std.specs.Prelude.{length}
 use Rattle.std.proofs.Common.{sym, subst}
 use Rattle.format_spec.specs.Formats.{IsFormat}
 use Rattle.tensor_storage.specs.Arranged.{AreInside, IsPackedFrom, IsRefusalOf}
