@@ -110,8 +110,8 @@ hashed_of at site through count test again coord total greatest insert code boun
         codes ∙ ap (λ t. (greatest ++ t ∷ []) ++ insert) totals
         ∙ append_assoc greatest (Set base (Bin Mul count (Width (Var (base + 1 + 2)))) ∷ []) insert in
         subst (λ k. Does c k s (LeavesLevel nothing letters sizes table w g d base s) (RefusesLevel letters sizes table d s)) (sym code_is)
-        (hashed letters rest w g d through base count greatest insert bounded left chain finds_here places_here c nothing sizes table may s
-        dr)
+        (hashed letters rest w g d through base count bounded left chain nothing sizes table may s dr greatest insert finds_here places_here
+        c)
 
 pub dense_of : (at site : DrainSite) (through : ℕ) (count test coord : KExpr) (total : KStmt) (refuse insert code : List KStmt)
     → Below at.base count → site ≡ rows_of at → test ≡ begins_test site.base site.workspace through

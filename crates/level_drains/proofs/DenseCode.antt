@@ -78,8 +78,9 @@ module _ (letters rest : List Letter) (w g d n base : ℕ) (count : KExpr) (inse
   unfolding drained_then
   inserts fits =
       does_weaker c insert then _ _ _ _
-      (inserted letters rest Dense w g d n base count (Num 0) insert left through refl places c nothing sizes table may
-      then drained_then 0 (λ sparse. apart sparse) (λ full. refl) total (this_var s base total) (λ h. refl) refl (omega arith)
+      (inserted letters rest Dense w g d n base count (Num 0) left through refl nothing sizes table may
+      then drained_then 0 (λ sparse. apart sparse) (λ full. refl) total (this_var s base total) (λ h. refl) c insert places refl
+      (omega arith)
       (λ full. fits))
       (λ u z. record {
         drained = z.0;
@@ -135,9 +136,9 @@ module _ (letters rest : List Letter) (w g d n base : ℕ) (count : KExpr) (inse
           at_most : word_count (0 + total) ≤ slice_index (positions_from table 0 1 letters sizes) d
           at_most =
               let f = counted_few total (word_count (0 + total)) none_more in
-              let told = told_level letters rest Dense w g d n base count (Num 0) insert left through refl places c nothing sizes table may
+              let told = told_level letters rest Dense w g d n base count (Num 0) left through refl nothing sizes table may
               s dr 0 (λ sparse. apart sparse) (λ full. refl) in
-              let same = needed_is letters rest Dense w g d n base count (Num 0) insert left through refl places c nothing sizes table may
+              let same = needed_is letters rest Dense w g d n base count (Num 0) left through refl nothing sizes table may
               s dr 0 (λ sparse. apart sparse) (λ full. refl) in
               omega (arith, f, told, same)
       by_limit (inr fits) =

@@ -57,17 +57,14 @@ still_drained nothing letters sizes table w g d count s u dr same is = record {
   values = subst (λ (xs : Arrays). xs (Values 0) ≡ Some []) same dr.values;
 }
 
-module _ (letters rest : List Letter) (w g d n base : ℕ) (count : KExpr) (greatest insert : List KStmt) (bounded : Below base count)
+module _ (letters rest : List Letter) (w g d n base : ℕ) (count : KExpr) (bounded : Below base count)
     (left : drop d letters ≡ Hashed ∷ rest) (through : n ≡ d + chain_length (Hashed ∷ rest))
-    (finds : FindsGreatest (base + 1) w g (suc d) (begins_test (base + 1) w n) greatest)
-    (places : PlacesRows meaning Hashed (suc d) (base + 1) w g count (Var (base + 1 + 2)) (begins_test (base + 1) w n)
-    (At (Key w d) (Var (base + 1))) insert)
-    (c : Setting) (nothing : ℕ) (sizes : List ℕ) (table : Table) (may : MayDrain letters sizes table)
+    (nothing : ℕ) (sizes : List ℕ) (table : Table) (may : MayDrain letters sizes table)
     (s : State) (dr : AreDrained nothing letters sizes table w g d count s) where
-  abbrev rows : Rows
+  abbrev pub rows : Rows
   rows = rows_here letters rest Hashed w g d n count left through nothing sizes table may s dr
 
-  counts : MayCount (base + 1) w g (suc d) (begins_test (base + 1) w n) rows s
+  pub counts : MayCount (base + 1) w g (suc d) (begins_test (base + 1) w n) rows s
   counts = record {
     few = few_words letters rest Hashed w g d n count left through nothing sizes table may s dr;
     together = ((fill_here letters rest Hashed w g d n count left through nothing sizes table may s dr).inserts refl).1;
@@ -82,51 +79,56 @@ module _ (letters rest : List Letter) (w g d n base : ℕ) (count : KExpr) (grea
   }
 
   module _ (t : State) (l : LeavesGreatest (base + 1) rows s t) where
-    total : ℕ
+    pub total : ℕ
     total = word_product dr.parents (slot_width l.most)
 
-    few_most : l.most ≤ greatest_position_count
+    pub few_most : l.most ≤ greatest_position_count
     few_most =
         let m = greatest_few rows l.most l.greatest in
         let f = few_rows letters rest Hashed w g d n count left through nothing sizes table may s dr in omega (arith, m, f)
 
-    count_kept : value count t ≡ value count s
+    pub count_kept : value count t ≡ value count s
     count_kept = value_kept (λ y. y < base) EveryArray count s t bounded (λ y less. l.leaves.below y (omega (arith, less)) (λ e. e))
         (λ a every. l.leaves.arrays a every)
 
-    total_told : value (Bin Mul count (Width (Var (base + 1 + 2)))) t ≡ Some total
+    pub total_told : value (Bin Mul count (Width (Var (base + 1 + 2)))) t ≡ Some total
     unfolding total
     total_told =
         let small = positions_are_small in let few = few_most in
         binary_is Mul count (Width (Var (base + 1 + 2))) dr.parents (slot_width l.most) t (count_kept ∙ dr.told)
         (value_width (Var (base + 1 + 2)) t ∙ ap width_of l.answer ∙ width_is_slot_width l.most (omega (arith, small, few)))
 
-    counted : dr.parents * slot_width l.most ≤ greatest_position_count → total ≡ dr.parents * slot_width l.most
+    pub counted : dr.parents * slot_width l.most ≤ greatest_position_count → total ≡ dr.parents * slot_width l.most
     unfolding total
     counted h = let small = positions_are_small in word_product_is dr.parents (slot_width l.most) (omega (arith, h, small))
 
-    same : s.arrays ≡ t.arrays
+    pub same : s.arrays ≡ t.arrays
     same = fun_ext (λ a. sym (l.leaves.arrays a tt))
 
-    drained_then : AreDrained nothing letters sizes table w g d count (set_var t base total)
+    abbrev pub drained_then : AreDrained nothing letters sizes table w g d count (set_var t base total)
     drained_then = still_drained nothing letters sizes table w g d count s (set_var t base total) dr same
         (value_kept (λ y. y < base) EveryArray count t (set_var t base total) bounded
         (λ y less. other_var t base y total (λ e. absurd (omega (arith, e, less)))) (λ a every. refl) ∙ count_kept)
 
-    inserts : Does c insert (set_var t base total) (LeavesLevel nothing letters sizes table w g d base s)
+  module _ (greatest insert : List KStmt)
+      (finds : FindsGreatest (base + 1) w g (suc d) (begins_test (base + 1) w n) greatest)
+      (places : PlacesRows meaning Hashed (suc d) (base + 1) w g count (Var (base + 1 + 2)) (begins_test (base + 1) w n)
+      (At (Key w d) (Var (base + 1))) insert) (c : Setting) where
+    inserts : (t : State) (l : LeavesGreatest (base + 1) rows s t)
+        → Does c insert (set_var t base (total t l)) (LeavesLevel nothing letters sizes table w g d base s)
         (RefusesLevel letters sizes table d s)
-    unfolding drained_then
-    inserts =
-        does_weaker c insert (set_var t base total) _ _ _ _
-        (inserted letters rest Hashed w g d n base count (Var (base + 1 + 2)) insert left through refl places c nothing sizes table may
-        (set_var t base total) drained_then l.most (λ sparse. l.greatest) (λ full. apart (sym full)) total (this_var t base total) counted
-        (other_var t base (base + 1 + 2) total (λ e. absurd (omega (arith, e))) ∙ l.answer) few_most (λ full. apart (sym full)))
+    inserts t l =
+        does_weaker c insert (set_var t base (total t l)) _ _ _ _
+        (inserted letters rest Hashed w g d n base count (Var (base + 1 + 2)) left through refl nothing sizes table may
+        (set_var t base (total t l)) (drained_then t l) l.most (λ sparse. l.greatest) (λ full. apart (sym full)) (total t l)
+        (this_var t base (total t l)) (counted t l) c insert places
+        (other_var t base (base + 1 + 2) (total t l) (λ e. absurd (omega (arith, e))) ∙ l.answer) (few_most t l) (λ full. apart (sym full)))
         (λ u z. record {
           drained = z.0;
           probes = times_of (slot_width l.most) rows.count;
           leaves = record {
             below = λ y less no. z.1.below y (omega (arith, less)) no
-                ∙ other_var t base y total (λ e. absurd (omega (arith, e, less))) ∙ l.leaves.below y (omega (arith, less)) no;
+                ∙ other_var t base y (total t l) (λ e. absurd (omega (arith, e, less))) ∙ l.leaves.below y (omega (arith, less)) no;
             arrays = λ a st. z.1.arrays a st ∙ l.leaves.arrays a tt;
             turns = λ k. counted_then_placed (s.turns k) (t.turns k) (u.turns k) (passes_at letters d) rows.count
                 (slot_width l.most) k (two_here letters rest d rows.count left) (l.leaves.turns k)
@@ -142,9 +144,9 @@ module _ (letters rest : List Letter) (w g d n base : ℕ) (count : KExpr) (grea
           ),
         ))
 
-  pub hashed : Does c (greatest ++ Set base (Bin Mul count (Width (Var (base + 1 + 2)))) ∷ insert) s
-      (LeavesLevel nothing letters sizes table w g d base s) (RefusesLevel letters sizes table d s)
-  hashed =
-      does_append c greatest (Set base (Bin Mul count (Width (Var (base + 1 + 2)))) ∷ insert) s (LeavesGreatest (base + 1) rows s) _ _
-      (does_weaker c greatest s _ _ _ _ (finds c rows s counts) (λ t l. l) (λ turns a k never. absurd never))
-      (λ t l. does_set c base (Bin Mul count (Width (Var (base + 1 + 2)))) insert t (total t l) _ _ (total_told t l) (inserts t l))
+    pub hashed : Does c (greatest ++ Set base (Bin Mul count (Width (Var (base + 1 + 2)))) ∷ insert) s
+        (LeavesLevel nothing letters sizes table w g d base s) (RefusesLevel letters sizes table d s)
+    hashed =
+        does_append c greatest (Set base (Bin Mul count (Width (Var (base + 1 + 2)))) ∷ insert) s (LeavesGreatest (base + 1) rows s) _ _
+        (does_weaker c greatest s _ _ _ _ (finds c rows s counts) (λ t l. l) (λ turns a k never. absurd never))
+        (λ t l. does_set c base (Bin Mul count (Width (Var (base + 1 + 2)))) insert t (total t l) _ _ (total_told t l) (inserts t l))

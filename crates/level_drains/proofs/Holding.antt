@@ -54,6 +54,22 @@ no_list (Sums n) tensor k g h = absurd h
 no_list (ListCoordinates n) tensor k g h = absurd h
 no_list (ListPositions n) tensor k g h = absurd h
 
+no_value : (x : Arr) (tensor k : ℕ) → IsOf tensor k x → same_arr (Values 0) x ≡ false
+no_value Range tensor k h = absurd h
+no_value (Values n) tensor k h = absurd h
+no_value (Dimension n j) tensor k h = refl
+no_value (Ends n j) tensor k h = refl
+no_value (Coordinates n j) tensor k h = refl
+no_value (Width n j) tensor k h = refl
+no_value (Key n j) tensor k h = absurd h
+no_value (Sums n) tensor k h = absurd h
+no_value (ListCoordinates n) tensor k h = absurd h
+no_value (ListPositions n) tensor k h = absurd h
+
+-- an array of a level is neither the positions of a scratch list nor the values
+pub level_beside : (x : Arr) (level g : ℕ) → IsOf 0 level x → (same_arr (ListPositions g) x ≡ false) × (same_arr (Values 0) x ≡ false)
+level_beside x level g of = (no_list x 0 level g of, no_value x 0 level of)
+
 -- the arrays of another level of the result stay
 pub stays_other : (x : Arr) (k m g : ℕ) → k ≢ m → IsOf 0 k x → Stays m g x
 stays_other x k m g away of = (λ also. away (of_one x 0 k m of also), no_list x 0 k g of)

@@ -81,11 +81,9 @@ greatest_few rows most is = by_reached is.reached
     by_reached (inl none) = omega (arith, none)
     by_reached (inr at) = let few = below_few rows (rows.parent at.0) rows.count in let same = at.2 in omega (arith, few, same)
 
-module _ (letters rest : List Letter) (letter : Letter) (w g d n base : ℕ) (count most_is : KExpr) (code : List KStmt)
+module _ (letters rest : List Letter) (letter : Letter) (w g d n base : ℕ) (count most_is : KExpr)
     (left : drop d letters ≡ letter ∷ rest) (through : n ≡ d + chain_length (letter ∷ rest)) (able : (capabilities letter).append ≡ false)
-    (places : PlacesRows meaning letter (suc d) (base + 1) w g count most_is (begins_test (base + 1) w n)
-    (At (Key w d) (Var (base + 1))) code)
-    (c : Setting) (nothing : ℕ) (sizes : List ℕ) (table : Table) (may : MayDrain letters sizes table)
+    (nothing : ℕ) (sizes : List ℕ) (table : Table) (may : MayDrain letters sizes table)
     (s : State) (dr : AreDrained nothing letters sizes table w g d count s) (most : ℕ) where
   abbrev rows : Rows
   rows = rows_here letters rest letter w g d n count left through nothing sizes table may s dr
@@ -127,7 +125,7 @@ module _ (letters rest : List Letter) (letter : Letter) (w g d n base : ℕ) (co
       within = (let f = counted_few r.0 k r.1.told in let upto = r.2 in let told = told_level in omega (arith, f, upto, told));
     }
 
-    may_insert : MayInsertRows (meaning.size start.start) dr.parents rows
+    pub may_insert : MayInsertRows (meaning.size start.start) dr.parents rows
     may_insert =
         let new = is_new letter size in
         let f = (fill_here letters rest letter w g d n count left through nothing sizes table may s dr).inserts
@@ -155,7 +153,7 @@ module _ (letters rest : List Letter) (letter : Letter) (w g d n base : ℕ) (co
     module _ (total : ℕ) (stands : s.vars base ≡ Some total)
         (counted : positions_for letter size dr.parents most ≤ greatest_position_count → total ≡ positions_for letter size dr.parents most)
       where
-        after : (t : State) → LeavesPlaced meaning start.start (suc d) g (base + 1) dr.parents most rows s t
+        pub after : (t : State) → LeavesPlaced meaning start.start (suc d) g (base + 1) dr.parents most rows s t
             → AreDrained nothing letters sizes table w g (suc d) (Var base) t
         after t l =
             drained_here letters rest letter w g d n count left through nothing sizes table may s dr t (λ a st. l.leaves.arrays a st) l.left
@@ -187,12 +185,15 @@ module _ (letters rest : List Letter) (letter : Letter) (w g d n base : ℕ) (co
             fills = record { appended = λ is. apart (sym is ∙ unable); inserted = λ no. l.inserted }
 
         -- what the code does
-        pub inserted : value most_is s ≡ Some most → most ≤ greatest_position_count
+        pub inserted : (c : Setting) (code : List KStmt)
+            → PlacesRows meaning letter (suc d) (base + 1) w g count most_is (begins_test (base + 1) w n)
+            (At (Key w d) (Var (base + 1))) code
+            → value most_is s ≡ Some most → most ≤ greatest_position_count
             → ((properties letter).full ≡ true → positions_for letter size dr.parents most ≤ greatest_position_count)
             → Does c code s (λ t. AreDrained nothing letters sizes table w g (suc d) (Var base) t
             × Leaves NoVariable (Stays (suc d) g) (base + 1) (insert_turns (slot_width most) rows.count) s t)
             (RefusedWithin (insert_turns (slot_width most) rows.count) s (PassesAt letters sizes table d))
-        inserted is few guarded =
+        inserted c code places is few guarded =
             does_weaker c code s _ _ _ _
             (places c start.start start.kind start.keeps rows dr.parents most
             (record {

@@ -11,3 +11,7 @@ pub mod Codes
 pub mod AllLevels
 pub mod ValueCode
 pub mod WholeResult
+pub mod Stepwise
+pub mod FillSteps
+pub mod FillCode
+pub mod LastCode

@@ -1,5 +1,6 @@
 -- Turns and counts, of whatever kind.
-use Rattle.std.specs.Prelude.{◌≡◌, ◌⊎◌, ◌*◌, ℕ, zero, suc, ◌+◌, ◌≤◌, ◌<◌, List, [], ◌∷◌, length, drop}
+use Rattle.std.specs.Prelude.{◌≡◌, ◌⊎◌, ◌*◌, ℕ, zero, suc, ◌+◌, ◌-◌, ◌≤◌, ◌<◌, true, if◌then◌else◌, List, [], ◌∷◌, length, drop}
+use Rattle.std.specs.Prelude.{None, refl}
 use Rattle.std.proofs.Common.{◌∙◌, sym, ap, subst, arith, inl, inr}
 use Rattle.std.proofs.lemmas.Bool.{cases_lt}
 use Rattle.limits.specs.Limits.{greatest_position_count}
@@ -10,8 +11,9 @@ use Rattle.kernel_code.specs.declared.syntax.LoopKind.TheVariants.{Merge, Skip, 
 use Rattle.level_core.specs.declared.letter.Letter.{Letter}
 use Rattle.level_core.specs.declared.letter.Letter.TheVariants.{Dense, Compressed, CompressedGroups, Singleton, SingletonGroups, Hashed}
 use Rattle.level_core.specs.Fragments.{turns_of}
+use Rattle.level_core.specs.Kinds.{properties}
 use Rattle.level_rows.specs.Placing.{times, insert_turns}
-use Rattle.level_drains.specs.Drained.{passes, passes_at, passes_of, drain_turns}
+use Rattle.level_drains.specs.Drained.{passes, passes_at, passes_of, most_passes, drain_turns, IsAboveLast}
 
 -- the passes of a level by its kind
 pub passes_here : (letters rest : List Letter) (letter : Letter) (d : ℕ) → drop d letters ≡ letter ∷ rest
@@ -136,3 +138,39 @@ few_passes letters k (suc d) less one = by_place (cases_lt k d) (few_passes lett
         let last : k ≡ d = omega (arith, less, from) in
         let here : passes_at letters d ≤ 1 = subst (λ n. passes_at letters n ≤ 1) last one in
         let i = passes_at_most letters d in omega (arith, here, i)
+
+-- two passes a level at most, and the values
+pub within_most : (letters : List Letter) (d : ℕ) → suc d ≡ length letters
+    → passes_of letters (length letters) ≤ most_passes (length letters)
+within_most letters d many =
+    let whole = passes_at_most letters (length letters) in
+    subst (λ n. passes_of letters (length letters) ≤ most_passes n) many (omega (arith, whole, many))
+
+pub values_within : (letters : List Letter) → IsAboveLast letters None
+    → passes_of letters (length letters) + 1 ≤ most_passes (length letters)
+values_within letters once = by (length letters) refl
+  where
+    by : (n : ℕ) → length letters ≡ n → passes_of letters n + 1 ≤ most_passes n
+    by zero none = omega arith
+    by (suc d) many = few_passes letters d (suc d) (omega arith) (once d (sym many))
+
+-- fewer turns are within more passes
+pub fewer_passes : (before after each most rows probes : ℕ) (k : LoopKind) → each ≤ most → after ≤ before + drain_turns each rows probes k
+    → after ≤ before + drain_turns most rows probes k
+fewer_passes before after each most rows probes k le h =
+    let all : each + (most - each) ≡ most = omega (arith, le) in
+    subst (λ n. after ≤ before + drain_turns n rows probes k) all (fewer_turns before after each (most - each) rows probes k h)
+
+-- a pass more
+pub one_pass_more : (before after each rows probes : ℕ) (k : LoopKind)
+    → after ≤ before + (drain_turns each rows probes k + turns_of Drain rows k) → after ≤ before + drain_turns (each + 1) rows probes k
+one_pass_more before after each rows probes Merge h = omega (arith, h)
+one_pass_more before after each rows probes Skip h = omega (arith, h)
+one_pass_more before after each rows probes Gather h = omega (arith, h)
+one_pass_more before after each rows probes Drain h =
+    let t = times_add each 1 rows in let once : times 1 rows ≡ rows = omega arith in omega (arith, h, t, once)
+one_pass_more before after each rows probes Probe h = omega (arith, h)
+
+-- an ordered level is gone over once
+pub once_ordered : (letter : Letter) → (properties letter).ordered ≡ true → passes letter ≤ 1
+once_ordered letter is = subst (λ b. (if b then 1 else 2) ≤ 1) (sym is) (omega arith)

@@ -1,6 +1,7 @@
 -- Levels of a kernel's result that are filled from the rows of a workspace, one below another: what arrays hold after each, and what the
 -- code of one level does.
-use Rattle.std.specs.Prelude.{◌≡◌, ◌⊎◌, ℕ, zero, suc, ◌+◌, ◌≤◌, ◌<◌, List, [], ◌∷◌, length, drop, if◌then◌else◌, All, Some, slice_index}
+use Rattle.std.specs.Prelude.{◌≡◌, ◌⊎◌, ℕ, zero, suc, ◌+◌, ◌*◌, ◌≤◌, ◌<◌, List, [], ◌∷◌, length, drop, if◌then◌else◌, All}
+use Rattle.std.specs.Prelude.{Option, Some, None, slice_index}
 use Rattle.limits.specs.Limits.{greatest_position_count, greatest_workspace_pairs}
 use Rattle.kernel_code.specs.Does.{Does, Refusal}
 use Rattle.kernel_code.specs.Keeps.{Leaves, NoVariable}
@@ -12,6 +13,7 @@ use Rattle.kernel_code.specs.declared.syntax.KStmt.{KStmt}
 use Rattle.kernel_code.specs.declared.syntax.LoopKind.{LoopKind}
 use Rattle.kernel_code.specs.declared.syntax.LoopKind.TheVariants.{Drain, Probe}
 use Rattle.level_core.specs.declared.letter.Letter.{Letter}
+use Rattle.level_core.specs.declared.letter.Letter.TheVariants.{Hashed}
 use Rattle.level_core.specs.Fragments.{IsOf, RefusedWithin, turns_of}
 use Rattle.level_core.specs.Kinds.{properties}
 use Rattle.level_core.specs.Meaning.{Arrays}
@@ -80,6 +82,16 @@ passes_at (letter ∷ letters) (suc d) = passes_at letters d
 abbrev pub passes_of : List Letter → ℕ → ℕ
 passes_of letters zero = 0
 passes_of letters (suc d) = passes_of letters d + passes_at letters d
+
+-- how many levels stand above the last one where that is gone over twice; it is gone over once where nothing is told
+abbrev pub IsAboveLast : List Letter → Option ℕ → Type 0
+IsAboveLast letters None = (d : ℕ) → suc d ≡ length letters → passes_at letters d ≤ 1
+IsAboveLast letters (Some d) = drop d letters ≡ Hashed ∷ []
+
+-- how often the rows are gone over at most for so many levels and their values: twice for each level, and once where there is none
+abbrev pub most_passes : ℕ → ℕ
+most_passes zero = 1
+most_passes (suc n) = 2 * suc n
 
 -- so many drain turns for each row at most, so many probe turns, and no others
 abbrev pub drain_turns : ℕ → ℕ → ℕ → LoopKind → ℕ

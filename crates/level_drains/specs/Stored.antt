@@ -1,5 +1,5 @@
 -- The values of the rows, stored at their positions; and a whole result: its levels and its values.
-use Rattle.std.specs.Prelude.{◌≡◌, ℕ, ◌+◌, false, List, [], ◌∷◌, length, map, replicate, slice_index, Some}
+use Rattle.std.specs.Prelude.{◌≡◌, ℕ, false, List, [], ◌∷◌, length, map, replicate, slice_index, Some}
 use Rattle.kernel_code.specs.Arrays.{same_arr}
 use Rattle.kernel_code.specs.Does.{Does}
 use Rattle.kernel_code.specs.Keeps.{Leaves, NoVariable}
@@ -21,7 +21,7 @@ use Rattle.tensor_storage.specs.Storages.{IsStorage, storage_of, in_level_order}
 use Rattle.tensor_storage.specs.Tables.{Table}
 use Rattle.kernel_stores.specs.Results.{summed}
 use Rattle.kernel_stores.specs.Stores.{AreHeld}
-use Rattle.level_drains.specs.Drained.{MayDrain, drain_turns, passes_of}
+use Rattle.level_drains.specs.Drained.{MayDrain, drain_turns, most_passes}
 use Rattle.level_drains.specs.Levels.{IsReady, IsBeside, RefusesLevels}
 
 -- variable `base` is the row
@@ -58,7 +58,7 @@ pub record LeavesStored (nothing : ℕ) (format : List FormatLevel) (ranges : Li
   pub storage : IsStorage (storage_of format levels values)
   pub probes : ℕ
   pub leaves : Leaves NoVariable (λ a. IsBeside g a × IsNoValue a) base
-      (λ k. drain_turns (passes_of (letters_of format) (length format)) table.count probes k + turns_of Drain table.count k) s t
+      (drain_turns (most_passes (length format)) table.count probes) s t
 
 -- what the code does that fills a whole result
 abbrev pub DrainsResult : List FormatLevel → ℕ → ℕ → ℕ → ℕ → List KStmt → Type 0

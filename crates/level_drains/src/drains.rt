@@ -27,22 +27,24 @@ fn chain_end(format: &[FormatLevel], level: usize) -> usize
     end + 1
 }
 
-/// Code that fills all levels of a kernel's result, of this format, from the rows of a workspace, which increase: scratch list `list` has
-/// a zero for each row, and then its position at the last level. The number of positions of the level that stands below k others is
-/// left in the variable `base + k + 1`; those from `base` on are its own. Refused for want of memory alone.
+/// Code that fills the first `levels` levels of a kernel's result, of this format, from the rows of a workspace, which increase:
+/// scratch list `list` has a zero for each row, and then its position at the last of them. The number of positions of the level that
+/// stands below k others is left in the variable `base + k + 1`; those from `base` on are its own. Refused for want of memory alone.
 pub fn drain_levels(
     alloc: Global,
     format: &[FormatLevel],
+    levels: usize,
     workspace: u64,
     list: u64,
     base: u64,
 ) -> Result<Items<KStmt>, AllocError>
     requires format { IsFormat format.now }
+    requires levels { levels ≤ length format.now }
     requires room { base ≤ 2 ^ 60 }
-    ensures { IfOk result (DrainsFirst (letters_of format.now) (length format.now) workspace list base) }
+    ensures { IfOk result (DrainsFirst (letters_of format.now) levels workspace list base) }
 {
     let mut code = one_statement(alloc, KStmt::Set(base, KExpr::Num(1)))?;
-    for above in 0..format.len() {
+    for above in 0..levels {
         let place = base + above as u64 + 1;
         let at = DrainSite {
             level: above as u64 + 1,

@@ -24,7 +24,7 @@ use tensor_storage::StorageLevel;
 use trees::{Boxed, Items};
 
 /// A level of this kind, whose code is asked for. Refused for want of memory alone.
-fn level_of(alloc: Global, letter: Letter) -> Result<StorageLevel, AllocError>
+pub(crate) fn level_of(alloc: Global, letter: Letter) -> Result<StorageLevel, AllocError>
     ensures { IfOk result (λ level. meaning.kind level ≡ letter) }
 {
     let level = match letter {
@@ -41,7 +41,7 @@ fn level_of(alloc: Global, letter: Letter) -> Result<StorageLevel, AllocError>
 }
 
 /// Where the rows of a level are gone over whose number of positions stands in the variable `at.base`: their variables stand above it.
-fn rows_site(at: DrainSite) -> DrainSite
+pub(crate) fn rows_site(at: DrainSite) -> DrainSite
     requires { at.base ≤ 2 ^ 61 }
     ensures { result ≡ record { level = at.level; base = at.base + 1; workspace = at.workspace; list = at.list } }
 {
@@ -89,7 +89,7 @@ fn drain_appended(
 }
 
 /// The number of positions of a hashed level: as many for each parent as a block is wide. Refused for want of memory alone.
-fn block_positions(
+pub(crate) fn block_positions(
     alloc: Global,
     base: u64,
     parents: &KExpr,

@@ -3,11 +3,13 @@
 #![tactic(auto)]
 
 mod drains;
+mod last;
 mod levels;
 mod tests_of_rows;
 mod values;
 
 pub use drains::drain_levels;
+pub use last::fill_last;
 pub use levels::drain_level;
 pub use tests_of_rows::begins_by_keys;
 pub use values::drain_result;

@@ -1,10 +1,16 @@
-ghost use Rattle.std.specs.Prelude.{◌≡◌, ◌≤◌, ◌+◌, ◌^◌, IfOk};
-ghost use Rattle.format_spec.specs.Formats.{IsFormat};
+ghost use Rattle.std.specs.Prelude.{◌≡◌, ◌≤◌, ◌+◌, ◌^◌, ◌∷◌, [], None, IfOk, drop};
+ghost use Rattle.format_spec.specs.Formats.{letters_of, IsFormat};
+ghost use Rattle.level_core.specs.declared.letter.Letter.TheVariants.{Hashed};
+ghost use Rattle.level_drains.specs.Drained.{IsAboveLast};
 ghost use Rattle.level_drains.specs.Stored.{value_row_code, values_code, DrainsResult};
 
 use crate::drains::drain_levels;
+use crate::last::fill_last;
+use crate::levels::level_of;
 use format_spec::FormatLevel;
 use kernel_code::{Arr, KExpr, KStmt, LoopKind, Op, binary, one_statement, word_at};
+use level_core::{Letter, props_of};
+use level_rows::DrainSite;
 use std::alloc::{AllocError, Global};
 use trees::Items;
 
@@ -47,7 +53,72 @@ fn store_row_values(
     Ok(code)
 }
 
-/// Code that fills a kernel's result, of this format, from the rows of a workspace, which increase: all its levels and then its values,
+/// How many levels stand above the last one, where that is gone over twice.
+fn above_last(format: &[FormatLevel]) -> Option<usize>
+    ensures { IsAboveLast (letters_of format.now) result }
+{
+    if format.is_empty() {
+        return None;
+    }
+    let above = format.len() - 1;
+    if props_of(format[above].letter).ordered {
+        return None;
+    }
+    Some(above)
+}
+
+/// The code of a result whose last level, below so many others, is hashed. Refused for want of memory alone.
+fn fill_hashed(
+    alloc: Global,
+    format: &[FormatLevel],
+    above: usize,
+    workspace: u64,
+    list: u64,
+    base: u64,
+    zero: u64,
+) -> Result<Items<KStmt>, AllocError>
+    requires format { IsFormat format.now }
+    requires last { drop above (letters_of format.now) ≡ Hashed ∷ [] }
+    requires room { base ≤ 2 ^ 60 }
+    ensures { IfOk result (DrainsResult format.now workspace list base zero) }
+{
+    let mut code = drain_levels(alloc, format, above, workspace, list, base)?;
+    let place = base + above as u64 + 1;
+    let at = DrainSite {
+        level: above as u64 + 1,
+        base: place,
+        workspace,
+        list,
+    };
+    let level = level_of(alloc, Letter::Hashed)?;
+    let count = KExpr::Var(base + above as u64);
+    let last = fill_last(alloc, &level, at, count, zero)?;
+    code.append(last)?;
+    Ok(code)
+}
+
+/// The code of a result whose last level is gone over once alone, or which has no level. Refused for want of memory alone.
+fn fill_values(
+    alloc: Global,
+    format: &[FormatLevel],
+    workspace: u64,
+    list: u64,
+    base: u64,
+    zero: u64,
+) -> Result<Items<KStmt>, AllocError>
+    requires format { IsFormat format.now }
+    requires last { IsAboveLast (letters_of format.now) None }
+    requires room { base ≤ 2 ^ 60 }
+    ensures { IfOk result (DrainsResult format.now workspace list base zero) }
+{
+    let mut code = drain_levels(alloc, format, format.len(), workspace, list, base)?;
+    let last = base + format.len() as u64;
+    let values = store_row_values(alloc, workspace, list, last + 1, KExpr::Var(last), zero)?;
+    code.append(values)?;
+    Ok(code)
+}
+
+/// Code that fills a kernel's result, of this format, from the rows of a workspace, which increase: all its levels and its values,
 /// which are `zero` where no row is. Scratch list `list` has a zero for each row before. Variables from `base` on are its own. Refused
 /// for want of memory alone.
 pub fn drain_result(
@@ -62,9 +133,8 @@ pub fn drain_result(
     requires room { base ≤ 2 ^ 60 }
     ensures { IfOk result (DrainsResult format.now workspace list base zero) }
 {
-    let mut code = drain_levels(alloc, format, workspace, list, base)?;
-    let last = base + format.len() as u64;
-    let values = store_row_values(alloc, workspace, list, last + 1, KExpr::Var(last), zero)?;
-    code.append(values)?;
-    Ok(code)
+    match above_last(format) {
+        Some(above) => fill_hashed(alloc, format, above, workspace, list, base, zero),
+        None => fill_values(alloc, format, workspace, list, base, zero),
+    }
 }

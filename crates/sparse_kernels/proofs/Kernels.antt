@@ -3,6 +3,7 @@ use Rattle.std.specs.Prelude.{◌≡◌, ℕ, ◌+◌, ◌*◌, ◌≤◌, ◌<�
 use Rattle.std.specs.Prelude.{slice_get, slice_index, refl}
 use Rattle.std.proofs.Common.{◌∙◌, sym, ap, subst, arith}
 use Rattle.std.proofs.lemmas.List.{length-map}
+use Rattle.std.proofs.lemmas.List.Elements.{All-nil}
 use Rattle.lists.specs.Each.{Each}
 use Rattle.numbers.specs.Arithmetic.{Arithmetic, Laws}
 use Rattle.kernel_code.specs.declared.syntax.Arr.{Arr}
@@ -17,8 +18,9 @@ use Rattle.kernel_code.specs.Kernels.{start_state}
 use Rattle.kernel_code.specs.Keeps.{Leaves, NoVariable, EveryArray, no_turns}
 use Rattle.kernel_code.specs.Meaning.{Setting, State, length_of, set_array}
 use Rattle.kernel_code.proofs.Does.{does_append, does_extend, does_then, does_weaker}
+use Rattle.level_core.specs.declared.letter.Letter.TheVariants.{Dense}
 use Rattle.level_core.specs.Entries.{one}
-use Rattle.level_core.specs.Fragments.{RefusedWithin, turns_of}
+use Rattle.level_core.specs.Fragments.{RefusedWithin}
 use Rattle.level_core.specs.Meaning.{Arrays}
 use Rattle.level_cursors.specs.Children.{ChildLeft}
 use Rattle.level_rows.specs.Placing.{times}
@@ -49,7 +51,7 @@ use Rattle.operand_arrays.specs.Operands.{stored_in}
 use Rattle.dense_results.specs.Kernels.{AreAtBase}
 use Rattle.dense_results.specs.Operands.{IsReadStore, operands_in}
 use Rattle.dense_results.specs.Results.{left_ranges}
-use Rattle.level_drains.specs.Drained.{drain_turns, passes_of}
+use Rattle.level_drains.specs.Drained.{drain_turns, most_passes}
 use Rattle.level_drains.specs.Levels.{RefusesLevels}
 use Rattle.level_drains.specs.Stored.{DrainsResult, LeavesStored}
 use Rattle.sparse_results.specs.Keys.{HasOrderedResult}
@@ -62,12 +64,12 @@ use Rattle.sparse_results.proofs.Loops.{loops_add_rows, loops_sum_to_result}
 use Rattle.sparse_results.proofs.Sorting.{sorting_sums}
 use Rattle.sparse_results.proofs.Stored.{standing_is_result}
 use Rattle.sparse_kernels.specs.Kernels.{IsForSparse, PushesFromTop, SparseKernelsAreRight, sorting_code}
-use Rattle.sparse_kernels.specs.Turns.{AreTurns, MakesTurns, row_passes}
+use Rattle.sparse_kernels.specs.Turns.{AreTurns, MakesTurns}
 use Rattle.sparse_kernels.proofs.Ends.{IsDone, MayRefuse, done_told}
 use Rattle.sparse_kernels.proofs.Filled.{IsFilled, still_filled, ready, may_drain}
 use Rattle.sparse_kernels.proofs.Points.{has_points}
 use Rattle.sparse_kernels.proofs.Starts.{at_top, starts_empty, list_starts_empty, values_start}
-use Rattle.sparse_kernels.proofs.Turns.{times_and_one}
+use Rattle.sparse_kernels.proofs.Turns.{passes_are, times_is}
 
 rows_long : (many : ℕ) (rows : List Entry) → Each (IsRow many) rows → Each (λ (row : Entry). length row.coords ≡ many) rows
 rows_long many [] each = tt
@@ -99,6 +101,14 @@ module _ (a : Arithmetic) (laws : Laws a) (s : Statement) (formats : List (List 
 
   left_many : length s.left.vars ≡ length store.format
   left_many = sym f.left.order ∙ ap (λ t. length (format_of formats t)) f.named.result ∙ ap length (sym is.format_is)
+
+  -- a format without levels would be dense throughout
+  some_level : 0 < length store.format
+  some_level = by store.format some_sparse
+    where
+      by : (format : List FormatLevel) → (AreAllDense format → ⊥) → 0 < length format
+      by [] none = absurd (none (All-nil (λ (level : FormatLevel). level.letter ≡ Dense)))
+      by (level ∷ format) some = omega arith
 
   letters_many : length (letters_of store.format) ≡ length store.format
   letters_many = length-map store.format (λ (level : FormatLevel). level.letter)
@@ -155,22 +165,17 @@ module _ (a : Arithmetic) (laws : Laws a) (s : Statement) (formats : List (List 
         gathers = by_none Gather refl;
         drains =
             (let made = filled.turns Drain in
-            let same = times_and_one (passes_of (letters_of store.format) (length store.format)) (length sums) in
-            let more : u.turns Drain ≤ t.turns Drain + (times (passes_of (letters_of store.format) (length store.format)) (length sums)
-            + length sums) = drained in
-            let passes : (passes_of (letters_of store.format) (length store.format) + 1) * length sums
-            ≡ row_passes (letters_of store.format) * length sums =
-            ap (λ n. (passes_of (letters_of store.format) n + 1) * length sums) (sym letters_many) in
-            omega (arith, made, same, more, passes));
+            let more = drained in
+            let same = times_is (most_passes (length store.format)) (length sums) in
+            let each : most_passes (length store.format) * length sums ≡ 2 * length (letters_of store.format) * length sums =
+            ap (λ n. n * length sums) (passes_are (length store.format) some_level ∙ ap (λ n. 2 * n) (sym letters_many)) in
+            omega (arith, made, more, same, each));
       }
         where
-          by_none : (j : LoopKind)
-              → drain_turns (passes_of (letters_of store.format) (length store.format)) (length sums) l.probes j
-              + turns_of Drain (length sums) j ≡ 0 → u.turns j ≤ most j
+          by_none : (j : LoopKind) → drain_turns (most_passes (length store.format)) (length sums) l.probes j ≡ 0 → u.turns j ≤ most j
           by_none j none = let made = filled.turns j in let more = l.leaves.turns j in omega (arith, made, more, none)
 
-          drained : u.turns Drain ≤ t.turns Drain + (times (passes_of (letters_of store.format) (length store.format)) (length sums)
-              + length sums)
+          drained : u.turns Drain ≤ t.turns Drain + times (most_passes (length store.format)) (length sums)
           drained = let more = l.leaves.turns Drain in omega (arith, more)
 
       ended : (u : State) → LeavesStored a.zero store.format store.ranges (table_of sums) g low zeroed u → IsEnd u

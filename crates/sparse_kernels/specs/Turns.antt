@@ -1,14 +1,12 @@
 -- How often the loops of a kernel turn whose result goes through a workspace: by the points of a statement's support.
-use Rattle.std.specs.Prelude.{◌≡◌, ℕ, ◌+◌, ◌*◌, ◌≤◌, ◌<◌, List, length, All}
+use Rattle.std.specs.Prelude.{◌≡◌, ℕ, ◌+◌, ◌*◌, ◌≤◌, ◌<◌, List, length}
 use Rattle.kernel_code.specs.declared.syntax.LoopKind.{LoopKind}
 use Rattle.kernel_code.specs.declared.syntax.LoopKind.TheVariants.{Merge, Skip, Gather, Drain}
 use Rattle.kernel_code.specs.Kernels.{KernelOutcome, Finished, GotStuck, TooLong, NotFinished}
 use Rattle.level_core.specs.declared.letter.Letter.{Letter}
-use Rattle.level_core.specs.declared.letter.Letter.TheVariants.{Hashed}
 use Rattle.index_notation.specs.declared.syntax.Statement.{Statement}
 use Rattle.concrete_notation.specs.Contributions.{Inputs}
 use Rattle.concrete_notation.specs.Right.{IsInSupport}
-use Rattle.level_drains.specs.Drained.{passes_of}
 
 -- the support of a statement has so many points: each has a number below that, and no two have the same
 pub record HasPoints (s : Statement) (inputs : Inputs) (count : ℕ) : Type 0 where
@@ -17,18 +15,14 @@ pub record HasPoints (s : Statement) (inputs : Inputs) (count : ℕ) : Type 0 wh
   pub once : (i j : ℕ) → i < j → j < count → point i ≡ point j → ⊥
   pub each : (coords : List ℕ) → IsInSupport s inputs coords → (i : ℕ) × (i < count) × (point i ≡ coords)
 
--- how often rows are gone over that fill levels of these kinds: for each level, and once more for their values
-abbrev pub row_passes : List Letter → ℕ
-row_passes letters = passes_of letters (length letters) + 1
-
--- no more turns than the code of loops makes, and for each point of the support those that go over its row
+-- no more turns than the code of loops makes, but two more drain turns at most for each point of the support and each of these levels
 pub record AreTurns (s : Statement) (inputs : Inputs) (letters : List Letter) (most turns : LoopKind → ℕ) : Type 0 where
   pub points : ℕ
   pub have : HasPoints s inputs points
   pub merges : turns Merge ≤ most Merge
   pub skips : turns Skip ≤ most Skip
   pub gathers : turns Gather ≤ most Gather
-  pub drains : turns Drain ≤ most Drain + row_passes letters * points
+  pub drains : turns Drain ≤ most Drain + 2 * length letters * points
 
 -- so it is of a run that finishes
 abbrev pub MakesTurns : Statement → Inputs → List Letter → (LoopKind → ℕ) → KernelOutcome → Type 0
@@ -36,7 +30,3 @@ MakesTurns s inputs letters most (Finished arrays turns) = AreTurns s inputs let
 MakesTurns s inputs letters most GotStuck = ⊥
 MakesTurns s inputs letters most (TooLong place count) = Unit {0}
 MakesTurns s inputs letters most NotFinished = ⊥
-
--- rows are gone over twice a level at most, unless all levels are hashed
-abbrev pub PassesAreFew : Type 0
-PassesAreFew = (letters : List Letter) → (All (λ letter. letter ≡ Hashed) letters → ⊥) → row_passes letters ≤ 2 * length letters

@@ -1,11 +1,5 @@
 //! The laws, as calls whose contracts they are. They do nothing.
 ghost use Rattle.sparse_kernels.specs.Kernels.{SparseKernelsAreRight};
-ghost use Rattle.sparse_kernels.specs.Turns.{PassesAreFew};
-
-/// Rows are gone over twice a level at most, unless all levels are hashed.
-pub fn passes_are_few()
-    ensures { PassesAreFew }
-{}
 
 /// A kernel is right whose code pushes the rows of a statement's loops into a workspace, sorts and sums them there, and fills the
 /// result's levels from them; and it makes no more turns than these rows and the code of the loops tell.

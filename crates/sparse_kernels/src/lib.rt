@@ -5,4 +5,4 @@
 
 mod laws;
 
-pub use laws::{passes_are_few, sparse_kernels_are_right};
+pub use laws::sparse_kernels_are_right;

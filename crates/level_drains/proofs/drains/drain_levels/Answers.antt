@@ -1,5 +1,5 @@
 use Rattle.std.specs.Prelude.{◌+◌, suc, drop, refl}
-use Rattle.std.proofs.Common.{◌∙◌, sym, ap, subst, add-one, get_or}
+use Rattle.std.proofs.Common.{◌∙◌, sym, ap, subst, add-one, arith, get_or}
 use Rattle.format_spec.specs.declared.format.FormatLevel.{FormatLevel}
 use Rattle.format_spec.specs.Formats.{letters_of}
 use Rattle.level_core.specs.declared.letter.Letter.TheVariants.{Dense}
@@ -23,7 +23,9 @@ unfolding none
 loop-above-preserved c =
     let format = c.args.format.now in
     let above = c.loop-above.above in
-    let here = letter_left format above none c.loop-above-test.true in
+    let test = c.loop-above-test.true in
+    let levels = c.requires.levels in
+    let here = letter_left format above none (omega (arith, test, levels)) in
     subst (λ k. DrainsFirst (letters_of format) k c.args.workspace c.args.list c.args.base c.append.new.self) (sym (add-one above))
     (next_drained (letters_of format) (drop (suc above) (letters_of format)) (get_or format above none).letter above (above + 1)
     c.args.workspace c.args.list c.args.base (c.args.base + above + 1) c.chain_end-through.result (Var (c.args.base + above))
