@@ -58,7 +58,6 @@ abbrev pub status_of : Fault → ℕ
 status_of fault.Usage = 2
 status_of (fault.Notation why) = notation_status why
 status_of (fault.Named s why) = named_status why
-status_of fault.NotBuilt = 1
 status_of (fault.WorkspaceLimit count) = 6
 status_of (fault.ReadFault path) = 3
 status_of (fault.FileBytes path) = 6
@@ -174,7 +173,6 @@ abbrev pub line_of : Fault → List ℕ
 line_of fault.Usage = codes "usage: taco run EXPR WORD.. | taco kernel EXPR WORD.. | taco report EXPR WORD.. | taco gen N\n"
 line_of (fault.Notation why) = notation_line why
 line_of (fault.Named s why) = named_line s why
-line_of fault.NotBuilt = codes "taco: not built yet\n"
 line_of (fault.WorkspaceLimit count) = workspace_text count
 line_of (fault.ReadFault path) = joined (codes "taco: " ∷ path.now ∷ codes ": read fault\n" ∷ [])
 line_of (fault.FileBytes path) = joined (codes "taco: " ∷ path.now ∷ codes ": more than 1099511627776 bytes\n" ∷ [])

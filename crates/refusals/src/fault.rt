@@ -45,9 +45,6 @@ pub enum Fault<'a> {
         statement: Statement,
         fault: NamedFault,
     },
-    /// The statement isn't among those that are built so far.
-    #[error("not built yet")]
-    NotBuilt,
     /// The result's workspace would have so many pairs of coordinates and a value, which pass the limit.
     #[error("too many pairs")]
     WorkspaceLimit(u64),
@@ -81,7 +78,7 @@ impl<'a> Fault<'a> {
             Fault::Usage => 2,
             Fault::Notation(fault) => status_of_notation(fault),
             Fault::Named { fault, .. } => status_of_named(fault),
-            Fault::NotBuilt | Fault::BadFile { .. } => 1,
+            Fault::BadFile { .. } => 1,
             Fault::ReadFault(_) => 3,
             Fault::WriteFault(_) => 4,
             Fault::FileBytes(_) | Fault::WorkspaceLimit(_) => 6,

@@ -437,7 +437,6 @@ pub fn put_line<S: Sink>(sink: &mut S, fault: &Fault<'_>) -> Result<(), Refusal>
         Fault::Usage => put_all(sink, USAGE),
         Fault::Notation(fault) => put_notation_line(sink, fault),
         Fault::Named { statement, fault } => put_named_line(sink, statement, fault),
-        Fault::NotBuilt => put_all(sink, b"taco: not built yet\n"),
         Fault::WorkspaceLimit(count) => put_workspace(sink, *count),
         Fault::ReadFault(path) => put_of_path(sink, path, b": read fault\n"),
         Fault::FileBytes(path) => put_of_path(sink, path, b": more than 1099511627776 bytes\n"),

@@ -17,8 +17,6 @@ use Rattle.operand_files.specs.Decoded.{operand_of}
 use Rattle.operand_files.specs.Reads.{OnlyReads, HaveRead, Meaning, RefusedAtFault, RefusedAtLength, RefusedAtLine, OpensFirst, NoReadFails}
 use Rattle.kernel_code.specs.declared.syntax.Kernel.{Kernel}
 use Rattle.kernel_code.specs.declared.syntax.Turns.{Turns}
-use Rattle.iteration_graph.specs.Edges.{format_of}
-use Rattle.concrete_notation.specs.Workspaces.{AreAllDense}
 use Rattle.tensor_storage.specs.Storages.{Storage}
 use Rattle.kernel_stores.specs.Stores.{Store}
 use Rattle.taco_compiler.specs.Compiled.{IsOrder, HasCycle, IsCompiled}
@@ -132,14 +130,6 @@ pub record HasManyPairs (words : List (List ℕ)) (old new : FolderState) (count
   pub operands : HasOperands words old new request entries bounds
   pub needs : NeedsPairs ring request.statement request.formats request.given entries bounds count
 
--- there is a loop order, and the result has a level that isn't dense
-pub record IsNotBuilt (words : List (List ℕ)) : Type 0 where
-  pub request : Request
-  pub asks : AsksFor words request
-  pub order : List ℕ
-  pub is_order : IsOrder request.statement request.formats order
-  pub sparse : AreAllDense (format_of request.formats request.statement.left.tensor) → ⊥
-
 -- no file was opened, and the words are refused so
 pub record RefusesWords (words : List (List ℕ)) (old new : FolderState) (why : Fault) : Type 0 where
   pub folder_is : new ≡ old
@@ -156,7 +146,6 @@ Stops words old new (fault.Named s (named.Range why)) = HasRangeFault words old 
 Stops words old new (fault.Named s (named.SizeLimit tensor level count)) = HasLargeLevel words old new s tensor level count
 Stops words old new (fault.WorkspaceLimit count) = HasManyPairs words old new count
 Stops words old new (fault.WriteFault path) = ⊥
-Stops words old new fault.NotBuilt = (new ≡ old) × IsNotBuilt words
 Stops words old new fault.Memory = (new ≡ old) ⊎ OpensOperands words old new
 Stops words old new why = RefusesWords words old new why
 

@@ -113,7 +113,6 @@ never_both words s formats files ranges (fault.Named t (named.Binding why)) asks
 never_both words s formats files ranges (fault.Named t (named.Cycle cycle)) asks is = is
 never_both words s formats files ranges (fault.Named t (named.Range why)) asks is = is
 never_both words s formats files ranges (fault.Named t (named.SizeLimit tensor level count)) asks is = is
-never_both words s formats files ranges fault.NotBuilt asks is = is
 never_both words s formats files ranges (fault.WorkspaceLimit count) asks is = is
 never_both words s formats files ranges (fault.ReadFault path) asks is = is
 never_both words s formats files ranges (fault.FileBytes path) asks is = is

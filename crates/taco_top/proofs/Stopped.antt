@@ -41,7 +41,6 @@ stops_by_words words (fault.Named s (named.Cycle cycle)) files is = absurd is
 stops_by_words words (fault.Named s (named.Range why)) files is = absurd is
 stops_by_words words (fault.Named s (named.SizeLimit tensor level count)) files is = absurd is
 stops_by_words words (fault.WorkspaceLimit count) files is = absurd is
-stops_by_words words fault.NotBuilt files is = absurd is
 stops_by_words words (fault.ReadFault path) files is = absurd is
 stops_by_words words (fault.FileBytes path) files is = absurd is
 stops_by_words words (fault.BadFile path line kind) files is = absurd is
@@ -91,7 +90,6 @@ module _ (words : List (List ℕ)) (old new : FolderState) (r : Request) (entrie
   stops_uncomputed (fault.Named t (named.Cycle cycle)) is = absurd is
   stops_uncomputed fault.Usage is = absurd is
   stops_uncomputed (fault.Notation why) is = absurd is
-  stops_uncomputed fault.NotBuilt is = absurd is
   stops_uncomputed (fault.ReadFault path) is = absurd is
   stops_uncomputed (fault.FileBytes path) is = absurd is
   stops_uncomputed (fault.BadFile path line kind) is = absurd is
@@ -105,7 +103,6 @@ stopped words files files' out fault.Usage reads is = record { only_reads = read
 stopped words files files' out (fault.Notation why) reads is = record { only_reads = reads; stops = is; out_is = refl }
 stopped words files files' out (fault.Named s why) reads is = record { only_reads = reads; stops = is; out_is = refl }
 stopped words files files' out (fault.WorkspaceLimit count) reads is = record { only_reads = reads; stops = is; out_is = refl }
-stopped words files files' out fault.NotBuilt reads is = record { only_reads = reads; stops = is; out_is = refl }
 stopped words files files' out (fault.ReadFault path) reads is = record { only_reads = reads; stops = is; out_is = refl }
 stopped words files files' out (fault.FileBytes path) reads is = record { only_reads = reads; stops = is; out_is = refl }
 stopped words files files' out (fault.BadFile path line kind) reads is = record { only_reads = reads; stops = is; out_is = refl }
@@ -168,7 +165,6 @@ module _ (words : List (List ℕ)) (files between files' : FolderState) (out out
   unwritten (fault.Notation why) stops = absurd stops
   unwritten (fault.Named s why) stops = absurd stops
   unwritten (fault.WorkspaceLimit count) stops = absurd stops
-  unwritten fault.NotBuilt stops = absurd stops
   unwritten (fault.ReadFault at) stops = absurd stops
   unwritten (fault.FileBytes at) stops = absurd stops
   unwritten (fault.BadFile at line kind) stops = absurd stops

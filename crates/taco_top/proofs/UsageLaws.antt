@@ -59,7 +59,6 @@ module _ (words : List (List ℕ)) (files files' : FolderState) (out out' : Sink
   told (Some (fault.Notation why)) is cause = absurd (notation_not_two why is)
   told (Some (fault.Named s why)) is cause = absurd (named_not_two why is)
   told (Some (fault.WorkspaceLimit count)) is cause = absurd cc
-  told (Some fault.NotBuilt) is cause = absurd cc
   told (Some (fault.ReadFault path)) is cause = absurd cc
   told (Some (fault.FileBytes path)) is cause = absurd cc
   told (Some (fault.BadFile path line kind)) is cause = absurd cc
@@ -93,7 +92,6 @@ module _ (words : List (List ℕ)) (files files' : FolderState) (out out' : Sink
     found (Some (fault.Named s (named.Range why))) cause = absurd (never cause.stops.operands.accepted.asks.names.line)
     found (Some (fault.Named s (named.SizeLimit tensor level count))) cause = absurd (never cause.stops.operands.accepted.asks.names.line)
     found (Some (fault.WorkspaceLimit count)) cause = absurd (never cause.stops.operands.accepted.asks.names.line)
-    found (Some fault.NotBuilt) cause = absurd (never cause.stops.1.asks.names.line)
     found (Some (fault.ReadFault path)) cause = absurd (never cause.stops.accepted.asks.names.line)
     found (Some (fault.FileBytes path)) cause = absurd (never cause.stops.accepted.asks.names.line)
     found (Some (fault.BadFile path line kind)) cause = absurd (never cause.stops.accepted.asks.names.line)

@@ -21,9 +21,8 @@ use Rattle.operand_files.specs.Laws.{AreTold, told_operands}
 use Rattle.operand_files.specs.Reads.{RefusedAtFault, RefusedAtLength, RefusedAtLine}
 use Rattle.operand_files.specs.declared.fault.OperandFault.TheVariants as operand
 use Rattle.operand_files.proofs.ToldLaws.{told_answer, told_bad_line, told_others}
-use Rattle.iteration_graph.specs.Edges.{statement_edges, format_of}
+use Rattle.iteration_graph.specs.Edges.{statement_edges}
 use Rattle.iteration_graph.proofs.OrderLaws.{no_order}
-use Rattle.concrete_notation.specs.Workspaces.{AreAllDense}
 use Rattle.taco_compiler.specs.Compiled.{HasCycle}
 use Rattle.statement_operands.specs.Runnable.{told_ranges}
 use Rattle.kernel_runs.specs.Runs.{MayRefuse, IsTooLarge, NeedsPairs, AllFit, IsOfSizes}
@@ -42,7 +41,7 @@ use Rattle.run_request.specs.Asked.{IsRefusedByWords, IsWant}
 use Rattle.run_request.proofs.OneRequest as request
 use Rattle.run_answers.specs.Run.{Request, AsksFor, path_of}
 use Rattle.run_answers.specs.Causes.{means, asked_orders, asked_paths, HasOperands, IsComputed, result_ranges, result_value}
-use Rattle.run_answers.specs.Causes.{StopsReading, HasCycleFault, HasRangeFault, HasLargeLevel, HasManyPairs, IsNotBuilt, Stops}
+use Rattle.run_answers.specs.Causes.{StopsReading, HasCycleFault, HasRangeFault, HasLargeLevel, HasManyPairs, Stops}
 use Rattle.run_answers.specs.Causes.{IsWritten, IsUnwritten, Cause}
 use Rattle.run_answers.specs.Ends.{Ends, status_of_end}
 use Rattle.taco_top.specs.Whole.{IsWhole, modes_told, bound_told}
@@ -167,11 +166,6 @@ module _ (words : List (List ℕ)) (files : FolderState) (whole : IsWhole words 
         (subst (λ u. HasCycle u is.request.formats cycle) (sym is.statement_is) is.is))
         whole.accepted.is_order
 
-    not_sparse : IsNotBuilt words → ⊥
-    not_sparse is =
-        is.sparse (subst (λ q. AreAllDense (format_of q.formats q.statement.left.tensor)) (sym (request_is is.request is.asks))
-        whole.dense)
-
     never_stops : (why : Fault) → Stops words files new why → why ≡ fault.Memory
     never_stops fault.Usage is = absurd (never_by_words fault.Usage is.refused)
     never_stops (fault.Notation why) is = absurd (never_by_words (fault.Notation why) is.refused)
@@ -181,7 +175,6 @@ module _ (words : List (List ℕ)) (files : FolderState) (whole : IsWhole words 
     never_stops (fault.Named s (named.Range why)) is = absurd (no_range_fault s why is)
     never_stops (fault.Named s (named.SizeLimit tensor level count)) is = absurd (no_level_fault s tensor level count is)
     never_stops (fault.WorkspaceLimit count) is = absurd (no_pairs_fault count is)
-    never_stops fault.NotBuilt (same, is) = absurd (not_sparse is)
     never_stops (fault.ReadFault path) is =
         absurd (told_others means files new (asked_orders whole.request) (asked_paths whole.request) (operand.ReadFault path) whole.told
         no_fault (reading_at (λ orders paths. RefusedAtFault means files new orders paths path.now) is))
@@ -220,8 +213,6 @@ module _ (words : List (List ℕ)) (files : FolderState) (whole : IsWhole words 
       inr (ap status_of (never_stops files' no_read (fault.Named s why) cause.stops))
   ends_well files' out out' (Some (fault.WorkspaceLimit count)) no_read no_write no_out cause =
       inr (ap status_of (never_stops files' no_read (fault.WorkspaceLimit count) cause.stops))
-  ends_well files' out out' (Some fault.NotBuilt) no_read no_write no_out cause =
-      inr (ap status_of (never_stops files' no_read fault.NotBuilt cause.stops))
   ends_well files' out out' (Some (fault.ReadFault path)) no_read no_write no_out cause =
       inr (ap status_of (never_stops files' no_read (fault.ReadFault path) cause.stops))
   ends_well files' out out' (Some (fault.FileBytes path)) no_read no_write no_out cause =
@@ -272,7 +263,6 @@ whole_text words files files' others others' out out' away away' whole holds fir
       operands = whole.operands;
       ranges = whole.ranges;
       accepted = whole.accepted;
-      dense = whole.dense;
       told = subst (λ h. AreTold h (asked_paths whole.request)) (sym holds) whole.told;
       operands_are = subst (λ h. told_operands means h (asked_orders whole.request) (asked_paths whole.request) ≡ Ok whole.operands)
           (sym holds) whole.operands_are;

@@ -9,8 +9,6 @@ use Rattle.expr_terms.specs.declared.bound.Bound.{Bound}
 use Rattle.expr_terms.specs.declared.range_fault.RangeFault.{RangeFault}
 use Rattle.operand_files.specs.Decoded.{Operand}
 use Rattle.operand_files.specs.Laws.{AreTold, told_operands}
-use Rattle.iteration_graph.specs.Edges.{format_of}
-use Rattle.concrete_notation.specs.Workspaces.{AreAllDense}
 use Rattle.kernel_runs.specs.Runs.{AllFit}
 use Rattle.run_answers.specs.Causes.{IsAccepted, asked_orders, asked_paths, means}
 use Rattle.run_answers.specs.Run.{Request}
@@ -27,14 +25,13 @@ bound_told bounds tensor mode = bound_or_none (slice_get (modes_told bounds tens
 abbrev pub ranges_told : Statement → List (Option ℕ) → List Operand → Result (List ℕ) RangeFault
 ranges_told s given operands = ranges_of s (given_at given) (bound_told (map (λ operand. operand.bounds) operands))
 
--- the words pass, there is a loop order, and the result's levels are dense; every operand's file is there and stands for entries; the
--- ranges agree; no level of an operand or of the result's storage has more positions than may be; and no workspace needs more pairs
+-- the words pass, and there is a loop order; every operand's file is there and stands for entries; the ranges agree; no level of an
+-- operand or of the result's storage has more positions than may be; and no workspace needs more pairs
 pub record IsWhole (words : List (List ℕ)) (holds : List ℕ → Told) : Type 0 where
   pub request : Request
   pub operands : List Operand
   pub ranges : List ℕ
   pub accepted : IsAccepted words request
-  pub dense : AreAllDense (format_of request.formats request.statement.left.tensor)
   pub told : AreTold holds (asked_paths request)
   pub operands_are : told_operands means holds (asked_orders request) (asked_paths request) ≡ Ok operands
   pub ranges_are : ranges_told request.statement request.given operands ≡ Ok ranges

@@ -36,7 +36,6 @@ pub(crate) fn ask_kernel<'a>(alloc: Global, words: &'a [String]) -> Result<Task<
             statement: asked.statement,
             fault: NamedFault::Cycle(cycle),
         }),
-        Err(CompileFault::NotBuilt) => Err(Fault::NotBuilt),
         Err(CompileFault::Memory(_)) => Err(Fault::Memory),
     }
 }

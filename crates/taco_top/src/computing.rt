@@ -104,7 +104,14 @@ pub(crate) fn prepare<'a, F: Folder>(
         files: _,
         ranges,
     } = bindings;
-    match compute(alloc, statement, formats, &compiled.kernel, ranges.as_slice(), operands) {
+    match compute(
+        alloc,
+        statement,
+        formats,
+        &compiled.kernel,
+        ranges.as_slice(),
+        operands,
+    ) {
         Ok(result) => Ok(Prepared { path, result }),
         Err(fault) => Err(fault),
     }

@@ -36,19 +36,3 @@ returns-in-Err-Cycle-clause-refused c = λ files.
             (subst (λ why. Answers ring c.in-Ok.asked.statement c.as_slice.result.now (Err why)) same c.in-Err-Cycle.ensures);
       },
     )
-
-pub returns-in-Err-NotBuilt-clause-refused : goal.returns-in-Err-NotBuilt-clause-refused
-returns-in-Err-NotBuilt-clause-refused c = λ files.
-    let told = c.in-Err-NotBuilt.field-0-is in
-    let same : c.in-Err-NotBuilt.field-0 ≡ compile.NotBuilt = cc in
-    let answer = subst (λ formats. Answers ring c.in-Ok.asked.statement formats (Err compile.NotBuilt)) c.as_slice.ensures.value
-    (subst (λ why. Answers ring c.in-Ok.asked.statement c.as_slice.result.now (Err why)) same c.in-Err-NotBuilt.ensures) in (
-      refl,
-      record {
-        request = request_of c.in-Ok.asked;
-        asks = c.in-Ok.ensures.asked;
-        order = answer.0.0;
-        is_order = answer.0.1;
-        sparse = answer.1;
-      },
-    )
