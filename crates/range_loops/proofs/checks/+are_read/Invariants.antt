@@ -1,4 +1,0 @@
-use Rattle.range_loops.proofs.checks.+are_read.Given as goal
-
-abbrev pub decreases-are_read : goal.decreases-are_read
-decreases-are_read l = l.operands
