@@ -112,7 +112,6 @@ pub(crate) fn compiled(
     match compile::<Ring>(alloc, statement, formats.as_slice()) {
         Ok(compiled) => Ok((compiled.kernel, formats)),
         Err(CompileFault::Cycle(_cycle)) => bail!("a cycle"),
-        Err(CompileFault::NotBuilt) => bail!("not built"),
         Err(CompileFault::Memory(error)) => Err(error.into()),
     }
 }

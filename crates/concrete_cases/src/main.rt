@@ -13,9 +13,10 @@
 //! sums                         The rows into which the workspace is drained.
 //! compare                      Whether the contributions add up to the statement's value at each point, and stand exactly
 //!                              where some term is present.
-//! run d ds d                   The statement's kernel under a format for each tensor, run on the packed operands: the values
-//!                              that it leaves, and its turns, those kinds that it makes.
-//! leaves d ds d                The values that it leaves alone.
+//! run s ds d                   The statement's kernel under a format for each tensor, run on the packed operands: what it leaves
+//!                              of the result, of each level that isn't dense where its segments end and its coordinates, and
+//!                              the values; and its turns, those kinds that it makes.
+//! leaves s ds d                What it leaves alone.
 //! ```
 #![tactic(auto)]
 
@@ -23,6 +24,7 @@ mod arrays;
 mod compared;
 mod forms;
 mod kept;
+mod results;
 mod rows;
 mod runs;
 mod session;

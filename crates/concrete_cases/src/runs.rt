@@ -2,14 +2,15 @@
 ghost use Rattle.std.specs.Prelude.{◌≡◌, ◌<◌, length, true, IfOk};
 ghost use Rattle.storage_arrays.specs.Arrays.{AreDone};
 
-use crate::arrays::{add_tensor, one_word};
+use crate::arrays::add_tensor;
 use crate::kept::compiled;
+use crate::results::{result_shape, start_result, start_scratch};
 use crate::rows::Given;
 use anyhow::{Context, Result, bail};
 use case_tensors::are_inside;
 use format_spec::Format;
 use kernel_code::{Arr, Ending, Kernel, Machine, Turns};
-use numbers::{Ring, signed};
+use numbers::Ring;
 use std::alloc::Global;
 use std::fmt::Write;
 use tensor_map::{Entries, Shape};
@@ -61,21 +62,6 @@ fn packed(given: &Given, tensor: usize, format: Format) -> Result<Tensor>
     }
 }
 
-// Gives a machine the sizes of the levels of a dense result, and its values, all zero.
-fn start_result(machine: &mut Machine, given: &Given, format: &Format) -> Result<()> {
-    let mut count: u64 = 1;
-    for (n, level) in format.levels().iter().enumerate() {
-        let left = given.statement.left.vars.as_slice();
-        let size = given.range(left.get(level.mode).copied().context("no variable")?);
-        count = count.checked_mul(size).context("too large a result")?;
-        let words = one_word(given.alloc, size)?;
-        machine.add_array(Arr::Dimension(0, n as u64 + 1), words)?;
-    }
-    let values = vec![in given.alloc; 0u64; usize::try_from(count)?]?;
-    machine.add_array(Arr::Values(0), values)?;
-    Ok(())
-}
-
 fn put_turns(out: &mut String, turns: Turns) -> Result<()> {
     for (name, count) in [
         ("merge", turns.merge),
@@ -89,16 +75,6 @@ fn put_turns(out: &mut String, turns: Turns) -> Result<()> {
         }
     }
     Ok(())
-}
-
-// The values that a run has left.
-fn values_shape(given: &Given, machine: &Machine) -> Result<String> {
-    let mut out = String::from_str(given.alloc, "values")?;
-    let values = machine.array(Arr::Values(0)).context("no values")?;
-    for value in values {
-        write!(out, " {}", signed(*value))?;
-    }
-    Ok(out)
 }
 
 // A machine that has run a kernel to its end.
@@ -116,35 +92,56 @@ fn run_kernel(mut machine: Machine, kernel: &Kernel) -> Result<Machine> {
     }
 }
 
-// A machine that has run the kernel of the statement, compiled under the formats of words, on its operands, packed.
-fn ran(given: &Given, words: &str) -> Result<Machine> {
-    let (kernel, formats) = compiled(given.alloc, &given.statement, words)?;
+// A machine that has run a kernel, and the format of its result.
+#[derive(Drop)]
+struct Run {
+    machine: Machine,
+    format: Format,
+}
+
+// A machine with the arrays of the operands, packed in these formats.
+fn with_operands(mut machine: Machine, given: &Given, formats: Vec<Format>) -> Result<Machine> {
+    let mut tensor: usize = 0;
+    for format in formats {
+        tensor = tensor.checked_add(1).context("too many tensors")?;
+        let operand = packed(given, tensor, format)?;
+        add_tensor(&mut machine, given.alloc, tensor as u64, &operand)?;
+    }
+    Ok(machine)
+}
+
+// The kernel of the statement, compiled under the formats of words, run on its operands, packed.
+fn ran(given: &Given, words: &str) -> Result<Run> {
+    let (kernel, mut formats) = compiled(given.alloc, &given.statement, words)?;
     let mut machine = Machine::new(given.alloc);
     let ranges = Vec::from_slice(given.alloc, given.ranges.as_slice())?;
     machine.add_array(Arr::Range, ranges)?;
-    let mut tensor = 0;
-    for format in formats {
-        if tensor == 0 {
-            start_result(&mut machine, given, &format)?;
-        } else {
-            let operand = packed(given, tensor, format)?;
-            add_tensor(&mut machine, given.alloc, tensor as u64, &operand)?;
-        }
-        tensor = tensor.checked_add(1).context("too many tensors")?;
+    if formats.is_empty() {
+        bail!("no format");
     }
-    run_kernel(machine, &kernel)
+    let format = formats.remove(0);
+    start_result(&mut machine, given, &format)?;
+    start_scratch(
+        &mut machine,
+        given.alloc,
+        kernel.workspaces.as_slice(),
+        kernel.lists,
+    )?;
+    let machine = with_operands(machine, given, formats)?;
+    let machine = run_kernel(machine, &kernel)?;
+    Ok(Run { machine, format })
 }
 
-// The values that the statement's kernel under the formats of words leaves.
+// What the statement's kernel under the formats of words leaves.
 pub(crate) fn leaves_shape(given: &Given, words: &str) -> Result<String> {
-    let machine = ran(given, words)?;
-    values_shape(given, &machine)
+    let run = ran(given, words)?;
+    result_shape(given, &run.machine, &run.format)
 }
 
 // The same, and the kernel's turns.
 pub(crate) fn run_shape(given: &Given, words: &str) -> Result<String> {
-    let machine = ran(given, words)?;
-    let mut out = values_shape(given, &machine)?;
-    put_turns(&mut out, machine.turns())?;
+    let run = ran(given, words)?;
+    let mut out = result_shape(given, &run.machine, &run.format)?;
+    put_turns(&mut out, run.machine.turns())?;
     Ok(out)
 }

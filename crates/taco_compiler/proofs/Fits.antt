@@ -8,6 +8,7 @@ use Rattle.index_notation.specs.Statement.{IsNumbered, IsWellNamed}
 use Rattle.index_notation.specs.declared.syntax.Access.{Access}
 use Rattle.index_notation.specs.declared.syntax.Statement.{Statement}
 use Rattle.iteration_graph.specs.Edges.{HasFormat, format_of}
+use Rattle.limits.specs.Limits.{greatest_order}
 use Rattle.lists.specs.Each.{Each}
 use Rattle.expr_terms.specs.Minus.{HasMeaning}
 use Rattle.loop_code.specs.declared.loops.LoopCode.{LoopCode}
@@ -26,7 +27,7 @@ each_all P [] h k d l = absurd (omega (arith, l))
 each_all P (x ∷ xs) h zero d l = h.0
 each_all P (x ∷ xs) h (suc k) d l = each_all P xs h.1 k d (omega (arith, l))
 
-map_long : {X Y : Type 0} (f : X → Y) (xs : List X) → length (map f xs) ≡ length xs
+pub map_long : {X Y : Type 0} (f : X → Y) (xs : List X) → length (map f xs) ≡ length xs
 map_long f [] = refl
 map_long f (x ∷ xs) = ap suc (map_long f xs)
 
@@ -41,6 +42,12 @@ replicate_below (suc n) x y l (suc k) d h = replicate_below n x y l k d (omega (
 
 some_same : (p q : AccessPlace) → Some p ≡ Some q → p ≡ q
 some_same p q h = cc
+
+-- variables of the statement, as many as there are keys
+pub record IsTarget (s : Statement) (target : List ℕ) (keys : ℕ) : Type 0 where
+  pub within : All (λ v. v < length s.vars) target
+  pub short : length target ≤ greatest_order
+  pub many : length target ≡ keys
 
 -- the place of each access before all loops is at the base, of its tensor
 record IsPlace (base : ℕ) (p : AccessPlace) : Type 0 where
@@ -58,20 +65,19 @@ place_is base (a ∷ accesses) each zero p is =
     positive n other = omega (arith, other)
 place_is base (a ∷ accesses) each (suc k) p is = place_is base accesses each.1 k p is
 
-pub places_fit : (s : Statement) (formats : List (List FormatLevel)) (places : Places) (modes : List ℕ) → IsNumbered s → IsWellNamed s
-    → HasFormat formats s.left → Each (HasFormat formats) s.accesses → places.variables ≡ replicate (length s.vars) 0
-    → AreAtBase s 0 places → modes ≡ modes_of (format_of formats s.left.tensor)
-    → PlacesFit s formats places s.left.vars (length modes) 3
-places_fit s formats places modes numbered named left right variables at modes_are = record {
+pub places_fit : (s : Statement) (formats : List (List FormatLevel)) (places : Places) (target : List ℕ) (keys : ℕ) → IsNumbered s
+    → IsWellNamed s → Each (HasFormat formats) s.accesses → places.variables ≡ replicate (length s.vars) 0 → AreAtBase s 0 places
+    → IsTarget s target keys → PlacesFit s formats places target keys 3
+places_fit s formats places target keys numbered named right variables at t = record {
   numbered = numbered;
   have_formats = right;
   accesses = ap length at ∙ map_long (new_access 0) (map (λ (a : Access). a.tensor) s.accesses)
       ∙ map_long (λ (a : Access). a.tensor) s.accesses;
   variables = ap length variables ∙ replicate_long (length s.vars) 0;
   operands = λ k p is. (place k p is).operand;
-  target_within = each_all (λ v. v < length s.vars) s.left.vars numbered.left.vars_stand;
-  short = numbered.left.order;
-  many = sym left.order ∙ sym (ap length modes_are ∙ map_long (λ (l : FormatLevel). l.mode) (format_of formats s.left.tensor));
+  target_within = t.within;
+  short = t.short;
+  many = t.many;
   below = record {
     variables = subst (All (λ y. y < 3)) (sym variables) (replicate_below (length s.vars) 0 3 (omega arith));
     accesses = λ k p is. let base = (place k p is).base_is in omega (arith, base);
@@ -81,6 +87,15 @@ places_fit s formats places modes numbered named left right variables at modes_a
   where
     place : (k : ℕ) (p : AccessPlace) → slice_get places.accesses k ≡ Some p → IsPlace 0 p
     place k p is = place_is 0 s.accesses named.unread k p (ap (λ ps. slice_get ps k) (sym at) ∙ is)
+
+-- the left variables are the target of a dense result, which has a mode for each
+pub left_is_target : (s : Statement) (formats : List (List FormatLevel)) (modes : List ℕ) → IsNumbered s → HasFormat formats s.left
+    → modes ≡ modes_of (format_of formats s.left.tensor) → IsTarget s s.left.vars (length modes)
+left_is_target s formats modes numbered left modes_are = record {
+  within = each_all (λ v. v < length s.vars) s.left.vars numbered.left.vars_stand;
+  short = numbered.left.order;
+  many = sym left.order ∙ sym (ap length modes_are ∙ map_long (λ (l : FormatLevel). l.mode) (format_of formats s.left.tensor));
+}
 
 pub loops_fit : (has_minus : Bool) (s : Statement) (formats : List (List FormatLevel)) (order : List ℕ) (loops : LoopCode)
     → IsNumbered s → HasMeaning has_minus s.expr → AreLoopsOf s formats order loops → LoopsFit has_minus s formats loops

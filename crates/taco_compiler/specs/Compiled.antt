@@ -1,8 +1,9 @@
 -- What is promised of the answer to a statement and formats.
-use Rattle.std.specs.Prelude.{◌≡◌, ◌≢◌, ℕ, ◌≤◌, List, length, All, Result, Ok, Err, slice_index}
+use Rattle.std.specs.Prelude.{◌≡◌, ◌≢◌, ℕ, ◌*◌, ◌≤◌, List, length, All, Result, Ok, Err, slice_index}
 use Rattle.numbers.specs.Arithmetic.{Arithmetic}
 use Rattle.kernel_code.specs.declared.syntax.Kernel.{Kernel}
-use Rattle.kernel_code.specs.declared.syntax.LoopKind.TheVariants.{Merge, Skip}
+use Rattle.kernel_code.specs.declared.syntax.LoopKind.{LoopKind}
+use Rattle.kernel_code.specs.declared.syntax.LoopKind.TheVariants.{Merge, Skip, Drain}
 use Rattle.kernel_code.specs.Kernels.{KernelOutcome, Finished, GotStuck, TooLong, NotFinished}
 use Rattle.level_core.specs.declared.letter.Letter.TheVariants.{Hashed}
 use Rattle.level_core.specs.Meaning.{Arrays}
@@ -10,14 +11,16 @@ use Rattle.format_spec.specs.declared.format.FormatLevel.{FormatLevel}
 use Rattle.index_notation.specs.declared.syntax.Statement.{Statement}
 use Rattle.iteration_graph.specs.Edges.{statement_edges, format_of}
 use Rattle.iteration_graph.specs.Graphs.{IsLoopOrder, NamesCycle}
+use Rattle.concrete_notation.specs.Contributions.{Inputs}
 use Rattle.concrete_notation.specs.Workspaces.{AreAllDense}
 use Rattle.kernel_stores.specs.Kernels.{Ends, IsRightKernel, IsSoundKernel}
-use Rattle.kernel_stores.specs.Stores.{Store, IsStoreOf, IsGiven, operand_of}
+use Rattle.kernel_stores.specs.Stores.{Store, IsStoreOf, IsGiven, operand_of, told_by}
 use Rattle.lists.specs.Each.{Each}
 use Rattle.lowering.specs.Stored.{stored_of}
+use Rattle.sparse_kernels.specs.Turns.{HasPoints}
 use Rattle.statement_costs.specs.Costs.{statement_cost, statement_repeats}
 use Rattle.taco_compiler.specs.declared.compiled.CompileFault.{CompileFault}
-use Rattle.taco_compiler.specs.declared.compiled.CompileFault.TheVariants.{Cycle, NotBuilt, Memory}
+use Rattle.taco_compiler.specs.declared.compiled.CompileFault.TheVariants.{Cycle, Memory}
 use Rattle.taco_compiler.specs.declared.compiled.Compiled.{Compiled}
 
 -- the variables in the one loop order that the iteration graph has
@@ -31,18 +34,21 @@ HasCycle s formats cycle = NamesCycle (length s.vars) (statement_edges s formats
 abbrev pub HasOrder : Statement → List (List FormatLevel) → Result (List ℕ) CompileFault → Type 0
 HasOrder s formats (Ok order) = IsOrder s formats order
 HasOrder s formats (Err (Cycle cycle)) = HasCycle s formats cycle
-HasOrder s formats (Err NotBuilt) = ⊥
 HasOrder s formats (Err (Memory error)) = Unit {0}
 
 -- no level of an operand is hashed
 abbrev pub NoneHashed : Statement → List (List FormatLevel) → Type 0
 NoneHashed s formats = Each (λ a. All (λ level. level.letter ≢ Hashed) (format_of formats a.tensor)) s.accesses
 
--- a run that finishes makes no more merge turns than the statement's cost, nor skip turns than coordinates are repeated in groups
-abbrev pub AreFewTurns : Statement → List (List FormatLevel) → List ℕ → Store → KernelOutcome → Type 0
-AreFewTurns s formats order store (Finished arrays turns) =
+-- no more merge turns than the statement's cost, nor skip turns than coordinates are repeated in groups
+abbrev pub AreWithinCost : Statement → List (List FormatLevel) → List ℕ → Store → (LoopKind → ℕ) → Type 0
+AreWithinCost s formats order store turns =
     (turns Merge ≤ statement_cost s formats order (stored_of s (operand_of store)) (slice_index store.ranges))
     × (turns Skip ≤ statement_repeats s formats order (stored_of s (operand_of store)) (slice_index store.ranges))
+
+-- so are those of a run that finishes
+abbrev pub AreFewTurns : Statement → List (List FormatLevel) → List ℕ → Store → KernelOutcome → Type 0
+AreFewTurns s formats order store (Finished arrays turns) = AreWithinCost s formats order store turns
 AreFewTurns s formats order store GotStuck = ⊥
 AreFewTurns s formats order store (TooLong place count) = Unit {0}
 AreFewTurns s formats order store NotFinished = ⊥
@@ -53,17 +59,39 @@ KeepsCost a s formats order kernel =
     NoneHashed s formats → (store : Store) → IsStoreOf s formats store → (arrays : Arrays) → IsGiven a.zero store arrays
     → Ends a (length store.format) kernel arrays (AreFewTurns s formats order store)
 
--- the kernel is right and sound, and its loops turn within the cost
+-- so many points the support has, and there are two drain turns for each level and point at most
+pub record AreWithinPasses (s : Statement) (inputs : Inputs) (format : List FormatLevel) (drains : ℕ) : Type 0 where
+  pub points : ℕ
+  pub have : HasPoints s inputs points
+  pub few : drains ≤ 2 * length format * points
+
+-- a result that is dense throughout has no drain turns
+pub record AreFewDrains (s : Statement) (inputs : Inputs) (format : List FormatLevel) (drains : ℕ) : Type 0 where
+  pub none : AreAllDense format → drains ≡ 0
+  pub within : (AreAllDense format → ⊥) → AreWithinPasses s inputs format drains
+
+-- so are the drain turns of a run that finishes
+abbrev pub DrainsFew : Statement → Inputs → List FormatLevel → KernelOutcome → Type 0
+DrainsFew s inputs format (Finished arrays turns) = AreFewDrains s inputs format (turns Drain)
+DrainsFew s inputs format GotStuck = ⊥
+DrainsFew s inputs format (TooLong place count) = Unit {0}
+DrainsFew s inputs format NotFinished = ⊥
+
+-- so they are on every store
+abbrev pub KeepsDrains : Arithmetic → Statement → List (List FormatLevel) → Kernel → Type 0
+KeepsDrains a s formats kernel =
+    (store : Store) → IsStoreOf s formats store → (arrays : Arrays) → IsGiven a.zero store arrays
+    → Ends a (length store.format) kernel arrays (DrainsFew s (told_by a store) store.format)
+
+-- the kernel is right and sound, its loops turn within the cost, and the rows of its workspace are gone over no more often than that
 pub record IsCompiled (a : Arithmetic) (s : Statement) (formats : List (List FormatLevel)) (order : List ℕ) (kernel : Kernel) : Type 0 where
   pub right : IsRightKernel a s formats kernel
   pub sound : IsSoundKernel a s formats kernel
   pub few : KeepsCost a s formats order kernel
+  pub drains : KeepsDrains a s formats kernel
 
--- such a kernel in the loop order; or the cycle, where there is one; or that it isn't built, where there is none and the result has a
--- level that isn't dense; or want of memory
+-- such a kernel in the loop order; or the cycle, where there is one; or want of memory
 abbrev pub Answers : Arithmetic → Statement → List (List FormatLevel) → Result Compiled CompileFault → Type 0
 Answers a s formats (Ok c) = IsOrder s formats c.order × IsCompiled a s formats c.order c.kernel
 Answers a s formats (Err (Cycle cycle)) = HasCycle s formats cycle
-Answers a s formats (Err NotBuilt) =
-    ((order : List ℕ) × IsOrder s formats order) × (AreAllDense (format_of formats s.left.tensor) → ⊥)
 Answers a s formats (Err (Memory error)) = Unit {0}

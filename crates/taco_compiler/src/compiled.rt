@@ -14,8 +14,6 @@ pub struct Compiled {
 pub enum CompileFault {
     /// No loop order respects the storage order of every tensor: these variables wait for one another in a cycle.
     Cycle(Items<usize>),
-    /// The result's format has a level that isn't dense.
-    NotBuilt,
     /// Want of memory.
     Memory(AllocError),
 }

@@ -7,6 +7,8 @@ mod compiled;
 mod compiling;
 mod dense;
 mod lowered;
+mod sparse;
+mod starts;
 
 pub use compiled::{CompileFault, Compiled};
 pub use compiling::compile;

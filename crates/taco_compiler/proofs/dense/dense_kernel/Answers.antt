@@ -7,7 +7,7 @@ use Rattle.kernel_emit.specs.Emitted.{AddsLoops}
 use Rattle.kernel_emit.specs.Given.{PlacesFit}
 use Rattle.term_code.specs.DenseSinks.{dense_sink}
 use Rattle.taco_compiler.proofs.DenseKernels.{dense_compiled}
-use Rattle.taco_compiler.proofs.Fits.{loops_fit, places_fit}
+use Rattle.taco_compiler.proofs.Fits.{left_is_target, loops_fit, places_fit}
 use Rattle.taco_compiler.proofs.dense.dense_kernel.Goals as goal
 
 pub emit-requires-clause-places : goal.emit-requires-clause-places
@@ -17,8 +17,9 @@ emit-requires-clause-places g c =
     let modes = c.in_ok-sink.sink.modes in
     let places = c.in_ok-places.places in
     subst (λ target. PlacesFit s formats places target (length modes) 3) (sym c.as_slice-target.ensures)
-    (places_fit s formats places modes c.requires.numbered c.requires.named c.requires.left c.requires.right
-    c.in_ok-places.ensures.variables c.in_ok-places.ensures.accesses c.in_ok-sink.ensures)
+    (places_fit s formats places s.left.vars (length modes) c.requires.numbered c.requires.named c.requires.right
+    c.in_ok-places.ensures.variables c.in_ok-places.ensures.accesses
+    (left_is_target s formats modes c.requires.numbered c.requires.left c.in_ok-sink.ensures))
 
 pub emit-requires-clause-loops : goal.emit-requires-clause-loops
 emit-requires-clause-loops g c =

@@ -1,9 +1,26 @@
 use Rattle.std.specs.Prelude.{length}
 use Rattle.iteration_graph.specs.Edges.{statement_edges}
 use Rattle.concrete_notation.proofs.Orders.{is_order_of}
+use Rattle.taco_compiler.proofs.NoLevels.{no_levels_dense}
 use Rattle.taco_compiler.proofs.lowered.loops_of.Goals as goal
 
 pub concretize-requires-clause-order : goal.concretize-requires-clause-order
 concretize-requires-clause-order c =
     is_order_of (length c.args.statement.now.vars) (statement_edges c.args.statement.now c.args.formats.now) c.args.order.now
     c.requires.order
+
+pub returns : goal.returns
+returns c = record {
+  concrete = c.in_ok-concrete.concrete;
+  is_order = c.requires.order;
+  terms = c.in_ok-concrete.ensures.terms;
+  shares = c.in_ok-concrete.ensures.shared;
+  none = c.in_ok-concrete.ensures.workspaces.none
+      (no_levels_dense c.all_dense.result c.args.statement.now.left.tensor c.requires.named.result c.all_dense.ensures.letters);
+  rows = c.in_ok-loops.ensures.rows;
+  shape = c.in_ok-loops.ensures.shape;
+  placed = c.in_ok-loops.ensures.placed;
+  found = c.in_ok-loops.ensures.found;
+  needed = c.in_ok-loops.ensures.needed;
+  words = c.terms_have_words.ensures;
+}

@@ -1,0 +1,132 @@
+-- The turns of the loops that a statement is lowered to are within its cost.
+use Rattle.std.specs.Prelude.{◌≡◌, ◌≢◌, ℕ, zero, suc, ◌+◌, ◌≤◌, List, [], ◌∷◌, length, All, slice_get, slice_index}
+use Rattle.std.specs.Prelude.{slice_index_or}
+use Rattle.std.proofs.Common.{sym, subst, arith}
+use Rattle.numbers.specs.Arithmetic.{Arithmetic, Laws}
+use Rattle.kernel_code.specs.declared.syntax.LoopKind.{LoopKind}
+use Rattle.kernel_code.specs.declared.syntax.LoopKind.TheVariants.{Merge, Skip}
+use Rattle.level_core.specs.declared.letter.Letter.TheVariants.{Dense, Hashed}
+use Rattle.format_spec.specs.declared.format.FormatLevel.{FormatLevel}
+use Rattle.format_spec.specs.Formats.{letters_of}
+use Rattle.index_notation.specs.declared.syntax.Access.{Access}
+use Rattle.index_notation.specs.declared.syntax.Statement.{Statement}
+use Rattle.iteration_graph.specs.Edges.{format_of}
+use Rattle.lists.specs.Each.{Each}
+use Rattle.concrete_notation.specs.declared.concrete.Concrete.{Concrete}
+use Rattle.concrete_notation.specs.Nests.{SharesLoops}
+use Rattle.loop_code.specs.declared.loops.LoopCode.{LoopCode}
+use Rattle.loop_code.specs.Loops.{start}
+use Rattle.loop_code.specs.Turns.{cost, dups, merge_turns, skip_turns}
+use Rattle.loop_code.proofs.Turns.{skips_within, turns_within}
+use Rattle.lowering.specs.Layouts.{layout_of, letter_at, levels_of}
+use Rattle.lowering.specs.Lowered.{IsInOrder, plain}
+use Rattle.lowering.specs.Stored.{stored_of}
+use Rattle.operand_arrays.specs.Operands.{stored_in}
+use Rattle.kernel_stores.specs.Stores.{Store, operand_of, told_by}
+use Rattle.dense_results.specs.Operands.{IsReadStore, operands_in}
+use Rattle.dense_results.proofs.Operands.{has_storages, operands_told}
+use Rattle.kernel_emit.specs.Emitted as emitted
+use Rattle.statement_costs.specs.Costs.{group_length, group_repeats, statement_cost, statement_repeats}
+use Rattle.statement_costs.proofs.Packed.{packed_groups}
+use Rattle.statement_costs.proofs.SharedLoops.{shared_plain}
+use Rattle.statement_costs.proofs.Steps.{length_most, repeats_most}
+use Rattle.statement_costs.proofs.Trees.{cost_counts, dups_count, loop_length, loop_repeats}
+use Rattle.statement_costs.proofs.Whole.{length_same, repeats_same, whole}
+use Rattle.taco_compiler.specs.Compiled.{AreWithinCost, NoneHashed}
+use Rattle.taco_compiler.specs.Loops.{AreLoopsOf}
+
+through : (m n o : ℕ) → m ≤ n → n ≤ o → m ≤ o
+through m n o l k = omega (arith, l, k)
+
+-- formats without a hashed level name none at any level
+none_hashed : (s : Statement) (formats : List (List FormatLevel)) → NoneHashed s formats → emitted.NoneHashed s formats
+none_hashed s formats none k level = by_access s.accesses k none
+  where
+    dense_is_other : Dense ≢ Hashed
+    dense_is_other h = cc
+
+    by_letter : (levels : List FormatLevel) (depth : ℕ) → All (λ (l : FormatLevel). l.letter ≢ Hashed) levels
+        → slice_index_or (letters_of levels) depth Dense ≢ Hashed
+    by_letter [] depth all = dense_is_other
+    by_letter (l ∷ levels) zero all = all 0 l (omega arith)
+    by_letter (l ∷ levels) (suc depth) all = by_letter levels depth (λ i d h. all (suc i) d (omega (arith, h)))
+
+    by_level : (levels : List FormatLevel) (n : ℕ) → All (λ (l : FormatLevel). l.letter ≢ Hashed) levels → letter_at levels n ≢ Hashed
+    by_level levels zero all = dense_is_other
+    by_level levels (suc depth) all = by_letter levels depth all
+
+    by_access : (accesses : List Access) (k : ℕ)
+        → Each (λ (a : Access). All (λ (l : FormatLevel). l.letter ≢ Hashed) (format_of formats a.tensor)) accesses
+        → letter_at (levels_of formats (slice_get accesses k)) level ≢ Hashed
+    by_access [] k each = by_level [] level (λ i d h. absurd (omega (arith, h)))
+    by_access (a ∷ accesses) zero each = by_level (format_of formats a.tensor) level each.0
+    by_access (a ∷ accesses) (suc k) each = by_access accesses k each.1
+
+-- the loops' concrete statement
+abbrev pub in_order_of : (s : Statement) (formats : List (List FormatLevel)) (order : List ℕ) (loops : LoopCode)
+    (l : AreLoopsOf s formats order loops) → IsInOrder s formats l.concrete
+in_order_of s formats order loops l = record { order = order; is_order = l.is_order; terms = l.terms }
+
+module _ (a : Arithmetic) (laws : Laws a) (s : Statement) (formats : List (List FormatLevel)) (order : List ℕ)
+    (loops : LoopCode) (l : AreLoopsOf s formats order loops) (store : Store) (read_store : IsReadStore s formats store) where
+  abbrev c : Concrete
+  c = l.concrete
+
+  abbrev in_order : IsInOrder s formats c
+  in_order = in_order_of s formats order loops l
+
+  shared : SharesLoops (plain c)
+  shared = shared_plain c l.none l.shares
+
+  same_stored : stored_in (operands_in s store) ≡ stored_of s (operand_of store)
+  same_stored = (operands_told a laws s formats store read_store).stored
+
+  merges_most : merge_turns (layout_of s formats) (stored_in (operands_in s store)) (slice_index store.ranges) loops start
+      ≤ statement_cost s formats order (stored_of s (operand_of store)) (slice_index store.ranges)
+  merges_most =
+      let stored = stored_of s (operand_of store) in
+      let ranges = slice_index store.ranges in
+      let groups = packed_groups a s formats (operand_of store) (told_by a store) (has_storages s formats store read_store a) in
+      let turns = turns_within (layout_of s formats) stored ranges loops start in
+      let costs = whole s formats stored ranges c in_order shared loops l.shape l.placed l.found l.needed
+      (loop_length (layout_of s formats) stored ranges) (cost (layout_of s formats) stored ranges)
+      (cost_counts (layout_of s formats) stored ranges) (group_length s formats stored ranges)
+      (λ bound depth v seeks body env step. length_most s formats stored bound depth v seeks body env step groups ranges)
+      (length_same s formats stored ranges) in
+      subst (λ held. merge_turns (layout_of s formats) held ranges loops start ≤ statement_cost s formats order stored ranges)
+      (sym same_stored) (through (merge_turns (layout_of s formats) stored ranges loops start)
+      (cost (layout_of s formats) stored ranges loops start)
+      (statement_cost s formats order stored ranges) turns costs)
+
+  skips_most : skip_turns (layout_of s formats) (stored_in (operands_in s store)) (slice_index store.ranges) loops start
+      ≤ statement_repeats s formats order (stored_of s (operand_of store)) (slice_index store.ranges)
+  skips_most =
+      let stored = stored_of s (operand_of store) in
+      let ranges = slice_index store.ranges in
+      let turns = skips_within (layout_of s formats) stored ranges loops start in
+      let costs = whole s formats stored ranges c in_order shared loops l.shape l.placed l.found l.needed
+      (loop_repeats (layout_of s formats) stored ranges) (dups (layout_of s formats) stored ranges)
+      (dups_count (layout_of s formats) stored ranges) (group_repeats s formats stored ranges)
+      (λ bound depth v seeks body env step. repeats_most s formats stored bound depth v seeks body env step ranges)
+      (repeats_same s formats stored ranges) in
+      subst (λ held. skip_turns (layout_of s formats) held ranges loops start ≤ statement_repeats s formats order stored ranges)
+      (sym same_stored) (through (skip_turns (layout_of s formats) stored ranges loops start)
+      (dups (layout_of s formats) stored ranges loops start)
+      (statement_repeats s formats order stored ranges) turns costs)
+
+  -- so are turns that are no more than those of the loops' code
+  pub within_cost : NoneHashed s formats → (most : LoopKind → ℕ)
+      → emitted.AreFew s formats loops (operands_in s store) (slice_index store.ranges) start most
+      → (turns : LoopKind → ℕ) → turns Merge ≤ most Merge → turns Skip ≤ most Skip → AreWithinCost s formats order store turns
+  within_cost none most few turns merges skips = (
+    through (turns Merge) (most Merge)
+        (statement_cost s formats order (stored_of s (operand_of store)) (slice_index store.ranges)) merges
+        (through (most Merge) (merge_turns (layout_of s formats) (stored_in (operands_in s store)) (slice_index store.ranges) loops start)
+        (statement_cost s formats order (stored_of s (operand_of store)) (slice_index store.ranges))
+        (few.merges (none_hashed s formats none)) merges_most),
+    through (turns Skip) (most Skip)
+        (statement_repeats s formats order (stored_of s (operand_of store)) (slice_index store.ranges)) skips
+        (through (most Skip) (skip_turns (layout_of s formats) (stored_in (operands_in s store)) (slice_index store.ranges) loops start)
+        (statement_repeats s formats order (stored_of s (operand_of store)) (slice_index store.ranges))
+        (few.skips (none_hashed s formats none)) skips_most),
+  )

@@ -1,0 +1,188 @@
+-- A kernel whose code pushes the rows of a statement's loops into a workspace, and fills the result from them, is compiled: it is right
+-- and sound, its loops turn no more often than the statement costs, and its rows are gone over no more often than twice a level.
+use Rattle.std.specs.Prelude.{◌≡◌, ℕ, zero, suc, ◌+◌, ◌*◌, ◌≤◌, ◌<◌, List, [], ◌∷◌, ◌++◌, length, All, Some, slice_get}
+use Rattle.std.specs.Prelude.{slice_index, true}
+use Rattle.std.proofs.Common.{◌∙◌, sym, ap, subst, arith}
+use Rattle.std.proofs.lemmas.List.{length-map}
+use Rattle.numbers.specs.Arithmetic.{Arithmetic, Laws}
+use Rattle.kernel_code.specs.declared.syntax.Kernel.{Kernel}
+use Rattle.kernel_code.specs.declared.syntax.KStmt.{KStmt}
+use Rattle.kernel_code.specs.declared.syntax.LoopKind.{LoopKind}
+use Rattle.kernel_code.specs.declared.syntax.LoopKind.TheVariants.{Merge, Skip, Drain}
+use Rattle.kernel_code.specs.Kernels.{KernelOutcome, Finished, GotStuck, TooLong, NotFinished}
+use Rattle.level_core.specs.Meaning.{Arrays}
+use Rattle.tensor_map.specs.declared.entries.Entry.{Entry}
+use Rattle.format_spec.specs.declared.format.FormatLevel.{FormatLevel}
+use Rattle.format_spec.specs.Formats.{letters_of}
+use Rattle.index_notation.specs.declared.syntax.Statement.{Statement}
+use Rattle.iteration_graph.specs.Edges.{format_of}
+use Rattle.lists.specs.Each.{Each}
+use Rattle.concrete_notation.specs.declared.concrete.Concrete.{Concrete}
+use Rattle.concrete_notation.specs.Nests.{left_in_order}
+use Rattle.concrete_notation.specs.Workspaces.{AreAllDense}
+use Rattle.loop_code.specs.declared.loops.LoopCode.{LoopCode}
+use Rattle.loop_code.specs.Loops.{start}
+use Rattle.lowering.specs.Lowered.{IsInOrder}
+use Rattle.lowering.specs.Right.{rows_to}
+use Rattle.term_code.specs.declared.places.Places.{Places}
+use Rattle.term_code.specs.declared.workspace_sink.WorkspaceSink.{WorkspaceSink}
+use Rattle.term_code.specs.Places.{StartsAt}
+use Rattle.term_code.specs.WorkspaceSinks.{workspace_sink}
+use Rattle.operand_arrays.specs.Operands.{stored_in}
+use Rattle.operand_arrays.specs.Terms.{TargetIsBound}
+use Rattle.kernel_stores.specs.Kernels.{Ends, IsRightKernel, IsRightOutcome}
+use Rattle.kernel_stores.proofs.Sound.{right_is_sound}
+use Rattle.kernel_stores.specs.Stores.{Store, IsStoreOf, IsGiven, told_by}
+use Rattle.dense_results.specs.Kernels.{AreAtBase}
+use Rattle.dense_results.specs.Operands.{IsReadStore, operands_in}
+use Rattle.dense_results.specs.Results.{left_ranges}
+use Rattle.dense_results.proofs.Loops.{lowered_loops_go_through}
+use Rattle.kernel_emit.specs.Emitted.{AddsLoops}
+use Rattle.sparse_results.specs.Keys.{HasOrderedResult}
+use Rattle.sparse_results.specs.Tables.{IsRow}
+use Rattle.sparse_results.proofs.Loops.{loops_add_rows}
+use Rattle.sparse_kernels.specs.Kernels.{IsForSparse, PushesFromTop, sorting_code}
+use Rattle.sparse_kernels.specs.Turns.{AreTurns, MakesTurns}
+use Rattle.sparse_kernels.proofs.Ends.{ends_weaker}
+use Rattle.sparse_kernels.proofs.Kernels.{sparse_kernels_are_right}
+use Rattle.taco_compiler.specs.Compiled.{AreFewDrains, AreFewTurns, DrainsFew, IsCompiled, NoneHashed}
+use Rattle.taco_compiler.specs.Filling.{FillsFromRows}
+use Rattle.taco_compiler.specs.Loops.{AreLoopsOf}
+use Rattle.taco_compiler.proofs.LoopTurns.{in_order_of, within_cost}
+use Rattle.taco_compiler.proofs.Targets.{keys_bound, keys_many}
+
+-- rows of so many coordinates are such as a workspace takes
+rows_taken : (keys : ℕ) (ranges : List ℕ) (rows : List Entry) → Each (IsRow keys) rows
+    → All (workspace_sink.takes (record { number = 0; keys = keys }) ranges) rows
+rows_taken keys ranges [] each k d l = absurd (omega (arith, l))
+rows_taken keys ranges (row ∷ rows) each zero d l = each.0.many
+rows_taken keys ranges (row ∷ rows) each (suc k) d l = rows_taken keys ranges rows each.1 k d (omega (arith, l))
+
+drop_none : (x none y : ℕ) → none ≡ 0 → x ≤ none + y → x ≤ y
+drop_none x none y is h = omega (arith, is, h)
+
+-- turns of rows that are gone over so often
+few_drains : (s : Statement) (store : Store) (a : Arithmetic) (most turns : LoopKind → ℕ)
+    → (AreAllDense store.format → ⊥) → most Drain ≡ 0
+    → AreTurns s (told_by a store) (letters_of store.format) most turns → AreFewDrains s (told_by a store) store.format (turns Drain)
+few_drains s store a most turns some none t = record {
+  none = λ dense. absurd (some dense);
+  within = λ other. record {
+    points = t.points;
+    have = t.have;
+    few = subst (λ n. turns Drain ≤ 2 * n * t.points) (length-map store.format (λ (level : FormatLevel). level.letter))
+        (drop_none (turns Drain) (most Drain) (2 * length (letters_of store.format) * t.points) none t.drains);
+  };
+}
+
+module _ (a : Arithmetic) (laws : Laws a) (s : Statement) (formats : List (List FormatLevel)) (f : IsForSparse s formats) (order : List ℕ)
+    (loops : LoopCode) (l : AreLoopsOf s formats order loops) where
+  abbrev c : Concrete
+  c = l.concrete
+
+  abbrev in_order : IsInOrder s formats c
+  in_order = in_order_of s formats order loops l
+
+  abbrev keys : List ℕ
+  keys = left_in_order s order
+
+  ordered : HasOrderedResult s formats
+  ordered = record { numbered = f.numbered; named = f.named; left = f.left; format = f.format; some = f.some }
+
+  read_store : (store : Store) → IsStoreOf s formats store → IsReadStore s formats store
+  read_store store is = record { numbered = f.numbered; named = f.named; read = f.read; is = is }
+
+  many : length keys ≡ length s.left.vars
+  many = keys_many s formats ordered order l.is_order
+
+  bound_there : TargetIsBound keys [] loops
+  bound_there =
+      keys_bound s formats ordered order l.is_order loops
+      (lowered_loops_go_through s f.numbered formats c in_order loops l.shape true).bound
+
+  module _ (places : Places) (at : AreAtBase s 0 places) (top code fill : List KStmt)
+      (tops : StartsAt 0 top) (free : ℕ)
+      (e : AddsLoops a workspace_sink (record { number = 0; keys = length keys }) s formats places keys loops free code)
+      (fills : FillsFromRows (format_of formats 0) a.zero fill) (kernel : Kernel) (spaces : kernel.workspaces ≡ length s.left.vars ∷ [])
+      (lists : kernel.lists ≡ 1) (body : kernel.body ≡ (top ++ code) ++ fill) where
+    abbrev k : WorkspaceSink
+    k = record { number = 0; keys = length keys }
+
+    taken : (store : Store) (r : IsReadStore s formats store) → All (workspace_sink.takes k (left_ranges s store))
+        (rows_to a s formats (told_by a store) (stored_in (operands_in s store)) keys loops)
+    taken store r =
+        rows_taken (length keys) (left_ranges s store)
+        (rows_to a s formats (told_by a store) (stored_in (operands_in s store)) keys loops)
+        (loops_add_rows a laws s formats store r loops l.words keys)
+
+    -- from the top the code pushes the loops' rows
+    abbrev pushes : PushesFromTop a k s formats places keys loops code
+    pushes = record {
+      free = free;
+      most = λ store. e.most (operands_in s store) (slice_index store.ranges) start;
+      pushes = λ setting same store r st t.
+          e.adds setting same laws 0 (omega arith) [] (λ j. 0) (operands_in s store) (slice_index store.ranges) start (left_ranges s store)
+          [] st l.placed bound_there (taken store r) (record {
+            mine_below = t.none;
+            from = t.from;
+            kept = t.kept;
+            ready = t.stands.ready;
+            opened = t.stands.opened;
+            has_ranges = t.stands.ranges;
+            keeps = t.keeps;
+            held = t.held;
+          });
+    }
+
+    has_keys : slice_get kernel.workspaces 0 ≡ Some (length keys)
+    has_keys = ap (λ ns. slice_get ns 0) spaces ∙ ap Some (sym many)
+
+    has_list : 0 < kernel.lists
+    has_list = omega (arith, lists)
+
+    body_is : kernel.body ≡ (top ++ code) ++ (sorting_code 0 0 ++ fills.drain)
+    body_is = body ∙ ap (λ fs. (top ++ code) ++ fs) fills.is
+
+    -- a run
+    module _ (store : Store) (is : IsStoreOf s formats store) (arrays : Arrays) (given : IsGiven a.zero store arrays) where
+      abbrev IsTold : KernelOutcome → Type 0
+      IsTold outcome =
+          IsRightOutcome a s (told_by a store) store outcome
+          × MakesTurns s (told_by a store) (letters_of store.format) (pushes.most store) outcome
+
+      told : Ends a (length store.format) kernel arrays IsTold
+      told =
+          sparse_kernels_are_right a laws s formats f c in_order loops l.rows l.words k many 0 places at top code fills.drain
+          tops pushes 0 0 fills.drains kernel has_keys has_list body_is store is arrays given
+
+      few_turns : NoneHashed s formats → (o : KernelOutcome) → IsTold o → AreFewTurns s formats order store o
+      few_turns none (Finished left turns) h =
+          within_cost a laws s formats order loops l store (read_store store is) none (pushes.most store)
+          (e.few (operands_in s store) (slice_index store.ranges) start) turns h.1.merges h.1.skips
+      few_turns none GotStuck h = absurd h.1
+      few_turns none (TooLong place count) h = tt
+      few_turns none NotFinished h = absurd h.1
+
+      drains_few : (o : KernelOutcome) → IsTold o → DrainsFew s (told_by a store) store.format o
+      drains_few (Finished left turns) h =
+          few_drains s store a (pushes.most store) turns
+          (λ dense. f.some (subst AreAllDense is.format_is dense))
+          (e.few (operands_in s store) (slice_index store.ranges) start).drains h.1
+      drains_few GotStuck h = absurd h.1
+      drains_few (TooLong place count) h = tt
+      drains_few NotFinished h = absurd h.1
+
+    right_kernel : IsRightKernel a s formats kernel
+    right_kernel store is arrays given =
+        ends_weaker a (length store.format) kernel arrays (IsTold store is arrays given) (IsRightOutcome a s (told_by a store) store)
+        (λ o h. h.0) (told store is arrays given)
+
+    pub sparse_compiled : IsCompiled a s formats order kernel
+    sparse_compiled = record {
+      right = right_kernel;
+      sound = right_is_sound a s formats kernel right_kernel;
+      few = λ none store is arrays given. ends_weaker a (length store.format) kernel arrays (IsTold store is arrays given)
+          (AreFewTurns s formats order store) (few_turns store is arrays given none) (told store is arrays given);
+      drains = λ store is arrays given. ends_weaker a (length store.format) kernel arrays (IsTold store is arrays given)
+          (DrainsFew s (told_by a store) store.format) (drains_few store is arrays given) (told store is arrays given);
+    }

@@ -1,0 +1,29 @@
+//! Where a kernel keeps the variables and the accesses of a statement before all loops.
+ghost use Rattle.std.specs.Prelude.{◌≡◌, IfOk, length, map, replicate};
+ghost use Rattle.dense_results.specs.Kernels.{AreAtBase};
+
+use index_notation::{Access, Statement};
+use std::alloc::{AllocError, Global};
+use term_code::Places;
+use trees::Items;
+
+/// The numbers of the accesses' tensors. Refused only for want of memory.
+fn tensors_of(alloc: Global, accesses: &[Access]) -> Result<Items<u64>, AllocError>
+    ensures { IfOk result (λ tensors. tensors ≡ map (λ a. a.tensor) accesses.now) }
+{
+    let mut tensors = Items::new(alloc);
+    for access in accesses {
+        tensors.push(access.tensor as u64)?;
+    }
+    Ok(tensors)
+}
+
+/// Where the variables and the accesses of a statement are kept before all loops. Refused only for want of memory.
+pub(crate) fn first_places(alloc: Global, statement: &Statement) -> Result<Places, AllocError>
+    ensures variables { IfOk result (λ places. places.variables ≡ replicate (length statement.now.vars) 0) }
+    ensures accesses { IfOk result (AreAtBase statement.now 0) }
+{
+    let tensors = tensors_of(alloc, statement.accesses.as_slice())?;
+    let places = Places::new(alloc, statement.vars.len(), tensors.as_slice(), 0)?;
+    Ok(places)
+}
