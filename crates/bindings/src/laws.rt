@@ -5,7 +5,8 @@ ghost use Rattle.index_notation.specs.declared.syntax.Statement.{Statement};
 ghost use Rattle.bindings.specs.Outcome.{Binds, IsRefused, IsWant};
 ghost use Rattle.bindings.specs.declared.fault.BindingFault.{BindingFault};
 
-/// Words bind one format to each tensor, one list of files and one list of ranges, and words that bind are refused for want of memory alone.
+/// Words bind one format to each tensor, one list of files and one list of ranges, and words that bind are refused for want of memory
+/// alone.
 pub fn one_answer_of_words()
     ensures formats { (s : Statement) (words : List (List ℕ)) (need : Bool)
         (formats layouts : List (List FormatLevel)) (files others : List (ℕ × List ℕ)) (ranges given : List (Option ℕ))

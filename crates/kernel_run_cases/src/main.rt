@@ -8,7 +8,7 @@
 //! text y(i) = A(i,j) * x(j)    A statement, which is kept.
 //! operand 1 1 2; 2 3 -1        The entries of the next tensor, which are kept: their lines parted by `;`, coordinates counted from 1 and
 //!                              a value, as in a file.
-//! ranges 2 -                   The range that a word gives each variable, a minus where none does. Where a line is missing, none has a word.
+//! ranges 2 -                   The range that a word gives each variable, a minus where none does. Without the line none has a word.
 //! run d ds d                   The statement's kernel under a format for each tensor, a minus for a scalar's, run on the packed operands.
 //! ```
 //!

@@ -1,6 +1,6 @@
 //! A machine that runs the statements of kernels as they stand. The arrays that a kernel only reads are lent to it, the others are its
 //! own; each is found by its name in constant time, and no code is copied. `specs/Store.antt` says what state a machine stands for,
-//! `specs/Lent.antt` which words are lent, and `run_statements` does what the meaning of kernels says.
+//! `specs/Memory.antt` which code takes no memory, and `run_statements` does what the meaning of kernels says.
 #![tactic(auto)]
 
 mod ending;
