@@ -1,24 +1,24 @@
--- A stable sort by coordinates: what it leaves never falls, and has the same values at each coordinate list.
-use Rattle.std.specs.Prelude.{◌≡◌, ◌≢◌, ℕ, suc, ◌<◌, ◌≤◌, Bool, true, false, not, ◌&&◌, cond, List, [], ◌∷◌, ◌++◌, length, take, filter}
-use Rattle.std.specs.Prelude.{map, All, ◌⊎◌, ◌↔◌, refl, slice_index_or}
+-- A sort by coordinates: what it leaves never falls, and has the same values at each coordinate list.
+use Rattle.std.specs.Prelude.{◌≡◌, ℕ, suc, ◌<◌, ◌≤◌, Bool, false, List, [], ◌∷◌, ◌++◌, length, take}
+use Rattle.std.specs.Prelude.{All, ◌⊎◌, ◌↔◌, refl, slice_index_or}
 use Rattle.std.specs.declared.cmp.Ordering.{Ordering}
 use Rattle.std.specs.declared.cmp.Ordering.TheVariants.{Less, Equal, Greater}
-use Rattle.std.specs.Ordering.{nat_cmp, is_lt, ordering_reverse}
-use Rattle.std.specs.Cmp.{IsStrictWeakOrder, tied_itself}
+use Rattle.std.specs.Ordering.{nat_cmp, is_lt}
+use Rattle.std.specs.Cmp.{IsStrictWeakOrder}
 use Rattle.std.specs.Cmp.Lexicographic.{slice_cmp, nat_list_cmp_total}
-use Rattle.std.specs.List.Sorted.{ties, IsPermutation, IsSortedBy, IsStableBy}
+use Rattle.std.specs.List.Sorted.{IsPermutation, IsSortedBy}
 use Rattle.std.proofs.Common.{arith, ap, subst, sym, ◌∙◌, inl, inr}
 use Rattle.std.proofs.lemmas.List.{take_at}
 use Rattle.std.proofs.lemmas.List.Sorted.{ranks_by, sorted_far, All-permutation}
 use Rattle.std.proofs.lemmas.List.Elements.{All-cons, All-tail}
 use Rattle.numbers.specs.Arithmetic.{Arithmetic, Laws}
-use Rattle.numbers.specs.Sums.{total_of}
 use Rattle.tensor_map.specs.Order.{IsBefore}
 use Rattle.tensor_map.proofs.OrderLaws.{compared_as}
-use Rattle.tensor_map.specs.Entries.{Entry, IsEntry, is_at, values_at, value_at, Listed, StrictlyIncreasing}
+use Rattle.tensor_map.specs.Entries.{Entry, IsEntry, value_at, Listed, StrictlyIncreasing}
 use Rattle.tensor_map.specs.Laws.{same, other}
 use Rattle.tensor_map.proofs.Lemmas.{tested}
 use Rattle.tensor_map.specs.Summed.{joined, summed_from, summed}
+use Rattle.tensor_map.proofs.Permutations.{value_permutation, listed_permutation}
 use Rattle.tensor_map.proofs.Summed.{IsNotAfterAll, NeverFalls, summed_same, summed_other, value_summed, listed_summed, increasing_summed}
 
 -- whether the first entry's coordinates are before the second's
@@ -55,67 +55,6 @@ never_falls_from (entry ∷ entries) h = (
 pub never_falls : (entries : List Entry) → IsSortedBy is_before entries → NeverFalls entries
 never_falls entries sorted = never_falls_from entries (sorted_far is_before is_before_orders entries sorted)
 
--- two lists tie where they are the same
-ties_as : (xs ys : List ℕ) (r : Ordering) → slice_cmp nat_cmp xs ys ≡ r → ys ≢ xs
-    → (not (is_lt r) && not (is_lt (ordering_reverse r))) ≡ false
-ties_as xs ys Less e isnt = refl
-ties_as xs ys Equal e isnt = absurd (isnt (sym (compared_as xs ys Equal e)))
-ties_as xs ys Greater e isnt = refl
-
-ties_at : (coords : List ℕ) (value : ℕ) (entry : Entry)
-    → ties is_before (record { coords = coords; value = value }) entry ≡ is_at coords entry
-ties_at coords value entry = elim (tested entry.coords coords) [
-  | same is t ↦ (
-      let level : slice_cmp nat_cmp coords entry.coords ≡ Equal = ap (slice_cmp nat_cmp coords) is
-      ∙ tied_itself nat_list_cmp_total coords in
-      let back : slice_cmp nat_cmp entry.coords coords ≡ Equal = ap (λ xs. slice_cmp nat_cmp xs coords) is
-      ∙ tied_itself nat_list_cmp_total coords in
-      (λ i. not (is_lt (level i)) && not (is_lt (back i))) ∙ sym t)
-  | other isnt t ↦ (
-      (λ i. not (is_lt (slice_cmp nat_cmp coords entry.coords)) && not (is_lt (nat_list_cmp_total.antisymm entry.coords coords i)))
-      ∙ ties_as coords entry.coords (slice_cmp nat_cmp coords entry.coords) refl isnt ∙ sym t)
-]
-
--- so a stable sort keeps the entries at each coordinate list, in their order
-pub same_at : (coords : List ℕ) (old sorted : List Entry)
-    → ((x : Entry) → filter (ties is_before x) sorted ≡ filter (ties is_before x) old)
-    → filter (is_at coords) sorted ≡ filter (is_at coords) old
-same_at coords old sorted stable =
-    (λ i. filter (λ entry. sym (ties_at coords 0 entry) i) sorted) ∙ stable (record { coords = coords; value = 0 })
-    ∙ (λ i. filter (λ entry. ties_at coords 0 entry i) old)
-
-pub same_values : (old sorted : List Entry) → ((x : Entry) → filter (ties is_before x) sorted ≡ filter (ties is_before x) old)
-    → (coords : List ℕ) → values_at sorted coords ≡ values_at old coords
-same_values old sorted stable coords = ap (map (λ (entry : Entry). entry.value)) (same_at coords old sorted stable)
-
-listed_kept : (coords : List ℕ) (entries : List Entry) → Listed entries coords → Listed (filter (is_at coords) entries) coords
-listed_kept coords [] h = h
-listed_kept coords (entry ∷ entries) h = elim (tested entry.coords coords) [
-  | same is t ↦ subst (λ b. Listed (cond b (entry ∷ filter (is_at coords) entries) (filter (is_at coords) entries)) coords) (sym t) (inl is)
-  | other isnt t ↦ subst (λ b. Listed (cond b (entry ∷ filter (is_at coords) entries) (filter (is_at coords) entries)) coords) (sym t)
-      (elim h [ inl here ↦ absurd (isnt here) | inr more ↦ listed_kept coords entries more ])
-]
-
-kept_more : (b : Bool) (coords : List ℕ) (entry : Entry) (kept entries : List Entry) → (Listed kept coords → Listed entries coords)
-    → Listed (cond b (entry ∷ kept) kept) coords → Listed (entry ∷ entries) coords
-kept_more true coords entry kept entries more (inl here) = inl here
-kept_more true coords entry kept entries more (inr there) = inr (more there)
-kept_more false coords entry kept entries more h = inr (more h)
-
--- what a filter keeps was listed
-pub kept_listed : (p : Entry → Bool) (coords : List ℕ) (entries : List Entry) → Listed (filter p entries) coords → Listed entries coords
-kept_listed p coords [] h = h
-kept_listed p coords (entry ∷ entries) h = kept_more (p entry) coords entry (filter p entries) entries (kept_listed p coords entries) h
-
-pub same_listed : (old sorted : List Entry) → ((x : Entry) → filter (ties is_before x) sorted ≡ filter (ties is_before x) old)
-    → (coords : List ℕ) → Listed sorted coords ↔ Listed old coords
-same_listed old sorted stable coords = (
-  λ h. kept_listed (is_at coords) coords old
-      (subst (λ es. Listed es coords) (same_at coords old sorted stable) (listed_kept coords sorted h)),
-  λ h. kept_listed (is_at coords) coords sorted
-      (subst (λ es. Listed es coords) (sym (same_at coords old sorted stable)) (listed_kept coords old h)),
-)
-
 -- sums of entries are entries
 module _ (a : Arithmetic) (laws : Laws a) (order : ℕ) where
   joined_entry : (entry next : Entry) → IsEntry order entry → IsEntry order (joined a entry next)
@@ -151,12 +90,12 @@ both_ways : {A B C : Type 0} → (A ↔ B) → (B ↔ C) → (A ↔ C)
 both_ways p q = (λ x. q.0 (p.0 x), λ z. p.1 (q.1 z))
 
 pub sorts_and_adds : (a : Arithmetic) → Laws a → (old sorted new : List Entry) → IsPermutation old sorted → IsSortedBy is_before sorted
-    → IsStableBy is_before old sorted → new ≡ summed a sorted → SortsAndAdds a old new
-sorts_and_adds a laws old sorted new moved rising stable is = record {
+    → new ≡ summed a sorted → SortsAndAdds a old new
+sorts_and_adds a laws old sorted new moved rising is = record {
   values = λ coords. ap (λ es. value_at a es coords) is ∙ value_summed a laws sorted coords
-      ∙ ap (total_of a) (same_values old sorted stable coords);
+      ∙ value_permutation a laws old sorted moved coords;
   listed = λ coords. subst (λ es. Listed es coords ↔ Listed old coords) (sym is)
-      (both_ways (listed_summed a sorted coords) (same_listed old sorted stable coords));
+      (both_ways (listed_summed a sorted coords) (listed_permutation old sorted moved coords));
   increasing = subst StrictlyIncreasing (sym is) (increasing_summed a sorted (never_falls sorted rising));
   each = λ order all. subst (All (IsEntry order)) (sym is)
       (all_summed a laws order sorted (All-permutation (IsEntry order) old sorted moved all));

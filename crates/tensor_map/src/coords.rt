@@ -1,7 +1,7 @@
 ghost use Rattle.std.specs.Prelude.{◌≡◌, ◌≤◌, ◌<◌, [], ◌∷◌, ◌++◌, ◌↔◌, length, IsTrue};
 ghost use Rattle.limits.specs.Limits.{greatest_order};
 
-use smallvec::SmallVec;
+use arrayvec::ArrayVec;
 use std::alloc::Global;
 use std::marker::Model;
 
@@ -9,7 +9,7 @@ use std::marker::Model;
 /// they stand in the value itself.
 #[derive(Debug, Drop)]
 pub struct Coords {
-    numbers: SmallVec<u64, 6>,
+    numbers: ArrayVec<u64, 6, Global>,
 }
 
 impl Model for Coords {
@@ -20,7 +20,7 @@ impl Model for Coords {
 
     ghost view = { λ c. c.numbers.items };
 
-    ghost invariant = { λ c. IsShort c.numbers };
+    ghost invariant = { λ c. IsShort c.numbers.items };
 }
 
 impl Coords {
@@ -29,7 +29,7 @@ impl Coords {
         ensures { result ≡ [] }
     {
         Coords {
-            numbers: SmallVec::new(alloc),
+            numbers: ArrayVec::new_in(alloc),
         }
     }
 
@@ -39,9 +39,9 @@ impl Coords {
         requires { length coords.now ≤ greatest_order }
         ensures { result ≡ coords.now }
     {
-        Coords {
-            numbers: SmallVec::from_slice(alloc, coords).unwrap(),
-        }
+        let mut numbers = ArrayVec::new_in(alloc);
+        numbers.try_extend_from_slice(coords).unwrap();
+        Coords { numbers }
     }
 
     /// Appends a coordinate.
@@ -50,7 +50,7 @@ impl Coords {
         requires { length self.old < greatest_order }
         ensures { self.new ≡ self.old ++ coordinate ∷ [] }
     {
-        self.numbers.push_reserved(coordinate);
+        self.numbers.push(coordinate);
     }
 
     /// The coordinates, from mode 0 on.

@@ -107,16 +107,19 @@ impl Entries {
     }
 
     /// Puts the entries in increasing lexicographic order of their coordinates, and adds the values of equal ones, as
-    /// `S` says. A sum of zero stays. Refused for want of memory, the entries are as before.
+    /// `S` says. A sum of zero stays. They are sorted where they stand, which takes no memory: nothing is refused.
     pub fn sort_sum<S: Semiring>(&mut self) -> Result<(), AllocError>
         ensures order { self.new.order ≡ self.old.order }
         ensures values { OnOk result (SameValues S.arithmetic self.old.list self.new.list) }
         ensures listed { OnOk result (SameListed self.old.list self.new.list) }
         ensures increasing { OnOk result (StrictlyIncreasing self.new.list) }
         ensures shorter { length self.new.list ≤ length self.old.list }
-        ensures err { OnErr result (self.new ≡ self.old) }
+        ensures succeeds { IsOk result }
     {
-        self.list.sort_by(|left, right| left.coords.as_slice().cmp(&right.coords.as_slice()))?;
+        self.list.sort_unstable_by(|left, right| left
+            .coords
+            .as_slice()
+            .cmp(&right.coords.as_slice()));
         let kept = add_neighbours::<S>(self.list.as_mut_slice());
         self.list.truncate(kept);
         Ok(())

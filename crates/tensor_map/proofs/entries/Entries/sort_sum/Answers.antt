@@ -6,17 +6,16 @@ use Rattle.tensor_map.proofs.entries.Entries.sort_sum.Goals as goal
 
 all_of : (g : _) (c : goal.After-truncate g) → SortsAndAdds g.S.Semiring.arithmetic c.self.inside.list.items c.truncate.new.self.items
 all_of g c =
-    let long : length c.add_neighbours-kept.new.entries ≡ c.sort_by.new.self.len =
+    let long : length c.add_neighbours-kept.new.entries ≡ c.sort_unstable_by.new.self.len =
     omega (arith, c.as_mut_slice.ensures.len, c.add_neighbours-kept.auto.entries) in
-    sorts_and_adds g.S.Semiring.arithmetic g.met.S.Semiring.laws c.self.inside.list.items c.sort_by.new.self.items
-    c.truncate.new.self.items c.in_ok-sort_by.ensures.permutation
-    (c.in_ok-sort_by.ensures.sorted is_before is_before_orders (answers_always _ _ _ (λ f a r f' k. search rules)))
-    (c.in_ok-sort_by.ensures.stable is_before is_before_orders (answers_always _ _ _ (λ f a r f' k. search rules)))
+    sorts_and_adds g.S.Semiring.arithmetic g.met.S.Semiring.laws c.self.inside.list.items c.sort_unstable_by.new.self.items
+    c.truncate.new.self.items c.sort_unstable_by.ensures.permutation
+    (c.sort_unstable_by.ensures.sorted is_before is_before_orders (answers_always _ _ _ (λ f a r f' k. search rules)))
     (c.truncate.ensures.items ∙ front_written c.add_neighbours-kept.result _ _ _ long ∙ c.add_neighbours-kept.ensures.front
     ∙ ap (summed g.S.Semiring.arithmetic) c.as_mut_slice.ensures.value)
 
-pub invariant_of-self-2 : goal.invariant_of-self-2
-invariant_of-self-2 g c = record { short = c.self.invariant.short; each = (all_of g c).each _ c.self.invariant.each }
+pub invariant_of-self : goal.invariant_of-self
+invariant_of-self g c = record { short = c.self.invariant.short; each = (all_of g c).each _ c.self.invariant.each }
 
 pub returns-clause-values : goal.returns-clause-values
 returns-clause-values g c = rw (← c.self.view_is) (all_of g c).values
