@@ -1,5 +1,6 @@
-use Rattle.std.proofs.Common.{◌≡◌, ◌∙◌, ◌<◌, ◌^◌, ℕ, ℤ, pos, Some, refl, sym, ap, subst, arith, w64, to_z}
-use Rattle.std.specs.Cmp.{Less, nat_cmp, nat_cmp_is, ord_min}
+use Rattle.std.proofs.Common.{◌≡◌, ◌∙◌, ◌<◌, ◌^◌, ℕ, ℤ, pos, Less, nat_cmp, Some, refl, sym, ap, subst, arith, w64, to_z}
+use Rattle.std.specs.Ordering.{ord_min}
+use Rattle.std.specs.Cmp.{nat_cmp_is}
 use Rattle.std.proofs.Math.Facts.{to_z_pos}
 use Rattle.clap.specs.Words.{NarrowsTo}
 use Rattle.clap.specs.declared.builder.value_parser.ValueParser.{ValueParser}
