@@ -120,7 +120,236 @@ fault_is n xs = refl
 takes_is : (n : Text) (xs : List Text) → takes taco_app (n ∷ xs) ≡ taken_after (walk_passes top names start xs) (walk [] names nothing_held xs)
 takes_is n xs = refl
 
-submodule _ (n c : Text) (rest : List Text) (u : All IsUtf8 (c ∷ rest)) (fits : length rest ≤ usize_max + 1) where
+subcommand_is : (n : Text) (xs : List Text) → subcommand_of taco_app (n ∷ xs) ≡ entered whole (walk [] names nothing_held xs).stopped
+subcommand_is n xs = refl
+
+-- what a subcommand of this shape makes of the rest
+abbrev Inside : Text → Shape → List Text → Type 0
+Inside name sh rest = (after_fault (stopped_at name rest) ≡ or_else (level_fault sh [] nothing_held rest false []) [])
+    × (taken_after true (stopped_at name rest) ≡ (level_passes sh [] nothing_held rest false && true))
+    × (entered whole (Some (name, rest)) ≡ Some (name, rows_after sh.rules [] rest))
+
+inside_run : (rest : List Text) → Inside (codes "run") (statement_shape (codes "run")) rest
+unfolding defaults_fault
+inside_run rest = (refl, refl, refl)
+
+inside_kernel : (rest : List Text) → Inside (codes "kernel") (statement_shape (codes "kernel")) rest
+unfolding defaults_fault
+inside_kernel rest = (refl, refl, refl)
+
+inside_report : (rest : List Text) → Inside (codes "report") (statement_shape (codes "report")) rest
+unfolding defaults_fault
+inside_report rest = (refl, refl, refl)
+
+inside_gen : (rest : List Text) → Inside (codes "gen") workload_shape rest
+unfolding defaults_fault
+inside_gen rest = (refl, refl, refl)
+
+abbrev Whole : List Text → Text → Shape → List Text → Type 0
+Whole ws name sh rest = (fault_of taco_app ws ≡ or_else (level_fault sh [] nothing_held rest false []) [])
+    × (takes taco_app ws ≡ (level_passes sh [] nothing_held rest false && true))
+    × (subcommand_of taco_app ws ≡ Some (name, rows_after sh.rules [] rest))
+
+whole_is : (n c name : Text) (sh : Shape) (rest : List Text) → Enters c name rest → Inside name sh rest → Whole (n ∷ c ∷ rest) name sh rest
+whole_is n c name sh rest e i = (
+  fault_is n (c ∷ rest) ∙ ap₂ (λ k w. or_else k (after_fault w)) e.1 e.0 ∙ i.0,
+  takes_is n (c ∷ rest) ∙ ap₂ taken_after e.2 e.0 ∙ i.1,
+  subcommand_is n (c ∷ rest) ∙ ap (λ (w : Walk). entered whole w.stopped) e.0 ∙ i.2,
+)
+
+-- ---- what `clap` makes of the line is what `command_line_of` says
+
+abbrev pub LineIs : List Text → Option CommandLine → Type 0
+LineIs ws None = (fault_of taco_app ws ≡ [] → ⊥) × (takes taco_app ws ≡ false)
+LineIs ws (Some l) = (fault_of taco_app ws ≡ []) × (takes taco_app ws ≡ true) × (clap_line ws ≡ Some l)
+
+sub_fails : (ws : List Text) (name : Text) (sh : Shape) (rest : List Text) → Whole ws name sh rest
+    → (level_fault sh [] nothing_held rest false [] ≡ [] → ⊥) × (level_passes sh [] nothing_held rest false ≡ false) → LineIs ws None
+sub_fails ws name sh rest w l = (λ e. l.0 (first_empty _ _ (sym w.0 ∙ e)), w.1 ∙ ap (λ b. b && true) l.1)
+
+module _ (ws : List Text) (name : Text) (rest : List Text) (task : Task) (w : Whole ws name (statement_shape name) rest)
+    (m : (e : Text) (os : List Text) → matched_line (name, statement_rows (e ∷ os)) ≡ Some (Statement task e os)) where
+  statement_is : (o : Option (List Text)) → LevelIs name rest o → LineIs ws (statement_line task o)
+  statement_is None l = sub_fails ws name (statement_shape name) rest w l
+  statement_is (Some []) l = sub_fails ws name (statement_shape name) rest w l
+  statement_is (Some (x ∷ os)) l = (
+    w.0 ∙ ap (λ k. or_else k []) l.0,
+    w.1 ∙ ap (λ b. b && true) l.1,
+    ap (option_and_then matched_line) (w.2 ∙ ap (λ r. Some (name, r)) l.2) ∙ m x os,
+  )
+
+run_matched : (e : Text) (os : List Text) → matched_line (codes "run", statement_rows (e ∷ os)) ≡ Some (Statement Run e os)
+run_matched e [] = refl
+run_matched e (w ∷ ws) = refl
+
+kernel_matched : (e : Text) (os : List Text) → matched_line (codes "kernel", statement_rows (e ∷ os)) ≡ Some (Statement Kernel e os)
+kernel_matched e [] = refl
+kernel_matched e (w ∷ ws) = refl
+
+report_matched : (e : Text) (os : List Text) → matched_line (codes "report", statement_rows (e ∷ os)) ≡ Some (Statement Report e os)
+report_matched e [] = refl
+report_matched e (w ∷ ws) = refl
+
+-- N passes its parser where it is a size within the limit, and is read as that
+size_accepted : (n : Text) → is_size n ≡ true → (accepts false (value_parser.Unsigned 0 greatest_workload) n ≡ true) × (u64_read n ≡ Some (digits_value 10 (without_leading_plus n)))
+size_accepted n h =
+    let ds = without_leading_plus n in
+    let a = both (nat_lt 0 (length ds)) _ h in
+    let b = both (list_all (λ d. nat_lt (digit_value d) 10) ds) _ a.1 in
+    let most : digits_value 10 ds ≤ greatest_workload = leb-true (digits_value 10 ds) greatest_workload b.1 in
+    let fits : nat_lt (digits_value 10 ds) (2 ^ 64) ≡ true =
+    lt-ltb (digits_value 10 ds) (2 ^ 64) (omega (arith, most, workloads_are_ranges, positions_are_small)) in
+    let least : nat_le 0 (digits_value 10 ds) ≡ true = le-leb 0 (digits_value 10 ds) (omega arith) in
+    (rw (a.0, b.0, fits, least, b.1) refl, rw (a.0, b.0, fits) refl)
+
+size_refused : (n : Text) → is_size n ≡ false → accepts false (value_parser.Unsigned 0 greatest_workload) n ≡ false
+size_refused n h = go (accepts false (value_parser.Unsigned 0 greatest_workload) n) refl
+  where
+    go : (t : Bool) → accepts false (value_parser.Unsigned 0 greatest_workload) n ≡ t → accepts false (value_parser.Unsigned 0 greatest_workload) n ≡ false
+    go false e = e
+    go true e =
+        let ds = without_leading_plus n in
+        let p = both (nat_lt 0 (length ds) && list_all (λ d. nat_lt (digit_value d) 10) ds) _ e in
+        let q = both (nat_lt 0 (length ds)) _ p.0 in
+        let r = both (nat_lt (digits_value 10 ds) (2 ^ 64)) _ p.1 in
+        let s = both (nat_le 0 (digits_value 10 ds)) _ r.1 in
+        let small : is_size n ≡ true = rw (q.0, q.1, s.1) refl in
+        absurd (true≢false (sym small ∙ h))
+
+size_matched : (n : Text) → u64_read n ≡ Some (digits_value 10 (without_leading_plus n))
+    → matched_line (codes "gen", size_row n ∷ []) ≡ Some (Workload (digits_value 10 (without_leading_plus n)))
+size_matched n e = ap (option_map Workload) e
+
+size_is : (ws rest : List Text) (n : Text) (b : Bool) → is_size n ≡ b → Whole ws (codes "gen") workload_shape rest
+    → SizeIs rest n (accepts false (value_parser.Unsigned 0 greatest_workload) n) → LineIs ws (size_line n)
+size_is ws rest n true h w l =
+    let a = size_accepted n h in
+    let k : SizeIs rest n true = subst (SizeIs rest n) a.0 l in
+    let line : LineIs ws (Some (Workload (digits_value 10 (without_leading_plus n)))) = (
+      w.0 ∙ ap (λ k. or_else k []) k.0,
+      w.1 ∙ ap (λ b. b && true) k.1,
+      ap (option_and_then matched_line) (w.2 ∙ ap (λ r. Some (codes "gen", r)) k.2) ∙ size_matched n a.1,
+    ) in
+    rw h line
+size_is ws rest n false h w l =
+    let k : SizeIs rest n false = subst (SizeIs rest n) (size_refused n h) l in
+    let line : LineIs ws None = sub_fails ws (codes "gen") workload_shape rest w k in
+    rw h line
+
+workload_line_is : (ws rest : List Text) → Whole ws (codes "gen") workload_shape rest → (o : Option (List Text)) → WorkloadIs rest o → LineIs ws (workload_line o)
+workload_line_is ws rest w None l = sub_fails ws (codes "gen") workload_shape rest w l
+workload_line_is ws rest w (Some []) l = sub_fails ws (codes "gen") workload_shape rest w l
+workload_line_is ws rest w (Some (n ∷ [])) l = size_is ws rest n (is_size n) refl w l
+workload_line_is ws rest w (Some (n ∷ m ∷ ms)) l = sub_fails ws (codes "gen") workload_shape rest w l
+
+-- ---- a word that is no command
+
+abbrev Refused : Text → Kinds → Type 0
+Refused c kinds = (turn_fault top names start c ≡ kinds) × (turn_passes top names start c ≡ false)
+
+module _ (c : Text) (a : bytes_eq (codes "run") c ≡ false) (b : bytes_eq (codes "kernel") c ≡ false) (d : bytes_eq (codes "report") c ≡ false) (e : bytes_eq (codes "gen") c ≡ false) where
+  other_long : (p : Text × Option Text) → bytes_eq c (45 ∷ 45 ∷ []) ≡ false → long_of c ≡ Some p → Refused c (kind.UnknownArgument ∷ [])
+  other_long p f l = (rw (a, b, d, e, f, l) refl, rw (a, b, d, e, f, l) refl)
+
+  other_short : (x : ℕ) (flags : Text) (y : ℕ) → bytes_eq c (45 ∷ 45 ∷ []) ≡ false → long_of c ≡ None → short_of c ≡ Some (x ∷ flags)
+      → slice_get (chars (x ∷ flags)) 0 ≡ Some y → Refused c (kind.UnknownArgument ∷ [])
+  unfolding flags_fault flags_pass
+  other_short x flags y f l h g = (rw (a, b, d, e, f, l, h, g) refl, rw (a, b, d, e, f, l, h, g) refl)
+
+  other_operand : bytes_eq c (45 ∷ 45 ∷ []) ≡ false → long_of c ≡ None → short_of c ≡ None → Refused c (kind.UnknownArgument ∷ kind.InvalidSubcommand ∷ [])
+  other_operand f l h = (rw (a, b, d, e, f, l, h) refl, rw (a, b, d, e, f, l, h) refl)
+
+  other_dashes : bytes_eq c (45 ∷ 45 ∷ []) ≡ true → (walked [] names start c ≡ record start { is_trailing = true }) × (turn_fault top names start c ≡ []) × (turn_passes top names start c ≡ true)
+  unfolding walked
+  other_dashes f = (rw (a, b, d, e, f) refl, rw (a, b, d, e, f) refl, rw (a, b, d, e, f) refl)
+
+dashes_end : (after_fault (record start { is_trailing = true }) ≡ kind.MissingSubcommand ∷ []) × (taken_after true (record start { is_trailing = true }) ≡ false)
+unfolding defaults_fault
+dashes_end = (refl, refl)
+
+dashes_value : (w : Text) → (turn_fault top names (record start { is_trailing = true }) w ≡ kind.UnknownArgument ∷ kind.InvalidSubcommand ∷ [])
+    × (turn_passes top names (record start { is_trailing = true }) w ≡ false)
+dashes_value w = (refl, refl)
+
+-- a walk that doesn't pass isn't taken
+never_taken : (w : Walk) → taken_after false w ≡ false
+never_taken w = go (entered_passes whole w.stopped)
+  where
+    go : (b : Bool) → (b && false) ≡ false
+    go true = refl
+    go false = refl
+
+walk_refused : (n : Text) (xs : List Text) → walk_passes top names start xs ≡ false → takes taco_app (n ∷ xs) ≡ false
+walk_refused n xs p = takes_is n xs ∙ ap (λ b. taken_after b (walk [] names nothing_held xs)) p ∙ never_taken (walk [] names nothing_held xs)
+
+turn_fails : (n c : Text) (rest : List Text) (k : ErrorKind) (ks : Kinds) → Refused c (k ∷ ks) → LineIs (n ∷ c ∷ rest) None
+unfolding walk_fault walk_passes
+turn_fails n c rest k ks f = (
+  λ e. some_kind _ _ (sym f.0 ∙ first_empty _ _ (first_empty _ _ (sym (fault_is n (c ∷ rest)) ∙ e))),
+  walk_refused n (c ∷ rest) (ap (λ b. b && walk_passes top names (walked [] names start c) rest) f.1),
+)
+
+dashes_fail : (n c : Text) (rest : List Text)
+    → (walked [] names start c ≡ record start { is_trailing = true }) × (turn_fault top names start c ≡ []) × (turn_passes top names start c ≡ true)
+    → LineIs (n ∷ c ∷ rest) None
+unfolding walk_fault walk_passes
+dashes_fail n c [] s =
+    let left : fault_of taco_app (n ∷ c ∷ []) ≡ kind.MissingSubcommand ∷ [] =
+    fault_is n (c ∷ []) ∙ ap₂ (λ k w. or_else (or_else k []) (after_fault w)) s.1 s.0 ∙ dashes_end.0 in (
+      λ e. some_kind _ _ (sym left ∙ e),
+      takes_is n (c ∷ []) ∙ ap₂ (λ b w. taken_after (b && true) w) s.2 s.0 ∙ dashes_end.1,
+    )
+dashes_fail n c (w ∷ ws) s = (
+  λ e.
+      let walk_none : walk_fault top names start (c ∷ w ∷ ws) ≡ [] =
+      first_empty (walk_fault top names start (c ∷ w ∷ ws)) (after_fault (walk [] names nothing_held (c ∷ w ∷ ws))) (sym (fault_is n (c ∷ w ∷ ws)) ∙ e) in
+      let next : walk_fault top names (record start { is_trailing = true }) (w ∷ ws) ≡ [] =
+      sym (ap₂ (λ k v. or_else k (walk_fault top names v (w ∷ ws))) s.1 s.0) ∙ walk_none in
+      some_kind _ _ (sym (dashes_value w).0 ∙ first_empty (turn_fault top names (record start { is_trailing = true }) w)
+      (walk_fault top names (walked [] names (record start { is_trailing = true }) w) ws) next),
+  walk_refused n (c ∷ w ∷ ws)
+      (ap₂ (λ b v. b && walk_passes top names v (w ∷ ws)) s.2 s.0
+      ∙ ap (λ b. b && walk_passes top names (walked [] names (record start { is_trailing = true }) w) ws) (dashes_value w).1),
+)
+
+other_fails : (n c : Text) (rest : List Text) → bytes_eq (codes "run") c ≡ false → bytes_eq (codes "kernel") c ≡ false → bytes_eq (codes "report") c ≡ false
+    → bytes_eq (codes "gen") c ≡ false → Kind c → LineIs (n ∷ c ∷ rest) None
+other_fails n c rest a b d e (dashes f) = dashes_fail n c rest (other_dashes c a b d e f)
+other_fails n c rest a b d e (long p f o l) = turn_fails n c rest _ _ (other_long c a b d e p f l)
+other_fails n c rest a b d e (short x flags y f o l h g) = turn_fails n c rest _ _ (other_short c a b d e x flags y f l h g)
+other_fails n c rest a b d e (operand f o l h) = turn_fails n c rest _ _ (other_operand c a b d e f l h)
+
+-- ---- all lines
+
+none_fails : (fault_of taco_app [] ≡ kind.MissingSubcommand ∷ []) × (takes taco_app [] ≡ false)
+unfolding clap_on_literals
+none_fails = (refl, refl)
+
+name_fails : (n : Text) → (fault_of taco_app (n ∷ []) ≡ kind.MissingSubcommand ∷ []) × (takes taco_app (n ∷ []) ≡ false)
+unfolding clap_on_literals
+name_fails n = (refl, refl)
+
+abbrev count_in : Option (List Text) → ℕ
+count_in None = 0
+count_in (Some os) = length os
+
+one_more : (w : Text) (o : Option (List Text)) → count_in (option_map (λ ys. w ∷ ys) o) ≤ suc (count_in o)
+one_more w None = omega arith
+one_more w (Some os) = omega arith
+
+operands_count : (ws : List Text) → count_in (operands ws) ≤ length ws
+operands_count [] = omega arith
+operands_count (w ∷ ws) = go (bytes_eq w (codes "--")) (is_option w) (operands_count ws)
+  where
+    go : (s t : Bool) → count_in (operands ws) ≤ length ws → count_in (cond s (Some ws) (cond t None (option_map (λ ys. w ∷ ys) (operands ws)))) ≤ suc (length ws)
+    go true t h = omega arith
+    go false true h = omega arith
+    go false false h = omega (arith, one_more w (operands ws), h)
+
+operands_length : (ws os : List Text) → operands ws ≡ Some os → length os ≤ length ws
+operands_length ws os e = subst (λ o. count_in o ≤ length ws) e (operands_count ws)
+
+module _ (n c : Text) (rest : List Text) (u : All IsUtf8 (c ∷ rest)) (fits : length rest ≤ usize_max + 1) where
   below : (os : List Text) → operands rest ≡ Some os → length os ≤ usize_max + 1
   below os e = omega (arith, operands_length rest os e, fits)
 
