@@ -1,5 +1,6 @@
 -- The size of a workload is within the limit.
-use Rattle.std.proofs.Common.{◌≡◌, ◌≤◌, ◌&&◌, ℕ, Bool, true, false, refl, sym, subst, ap, List, [], ◌∷◌, length, Option, Some, None, codes, nat_lt, nat_le}
+use Rattle.std.proofs.Common.{◌≡◌, ◌≤◌, ℕ, Bool, true, false, refl, subst, List, [], ◌∷◌, length, Option, Some, None}
+use Rattle.std.proofs.Common.{codes, nat_lt}
 use Rattle.std.specs.List.{list_all}
 use Rattle.std.specs.Char.{digit_value}
 use Rattle.std.specs.Str.{bytes_eq}

@@ -125,7 +125,8 @@ module _ (name : Text) where
   dashes_fault (e ∷ []) w d = rw d refl
   dashes_fault (e ∷ v ∷ ws) w d = rw d refl
 
-  dashes_pass : (xs : List Text) (w : Text) → bytes_eq w (45 ∷ 45 ∷ []) ≡ true → turn_passes (statement_shape name) [] (at false xs) w ≡ true
+  dashes_pass : (xs : List Text) (w : Text) → bytes_eq w (45 ∷ 45 ∷ []) ≡ true
+      → turn_passes (statement_shape name) [] (at false xs) w ≡ true
   unfolding clap_on_literals
   dashes_pass [] w d = rw d refl
   dashes_pass (e ∷ []) w d = rw d refl
@@ -174,7 +175,8 @@ module _ (name : Text) where
   unfolding walk_fault
   rest_fault xs [] = refl
   rest_fault xs (w ∷ ws) =
-      ap₂ (λ a b. or_else a (walk_fault (statement_shape name) [] b ws)) (value_fault xs w) (value_walked xs w) ∙ rest_fault (xs ++ w ∷ []) ws
+      ap₂ (λ a b. or_else a (walk_fault (statement_shape name) [] b ws)) (value_fault xs w) (value_walked xs w)
+      ∙ rest_fault (xs ++ w ∷ []) ws
 
   rest_passes : (xs ws : List Text) → walk_passes (statement_shape name) [] (at true xs) ws ≡ true
   unfolding walk_passes
@@ -203,8 +205,8 @@ module _ (name : Text) where
       → Reaches (xs ++ w ∷ []) ws o → Reaches xs (w ∷ ws) (option_map (λ ys. w ∷ ys) o)
   unfolding walk_fault walk_passes
   after_operand xs w ws None d l h r = (
-    λ e. r.0 (sym (ap₂ (λ a b. or_else a (walk_fault (statement_shape name) [] b ws)) (operand_fault xs w d l h) (operand_walked xs w d l h))
-        ∙ e),
+    λ e. r.0 (sym (ap₂ (λ a b. or_else a (walk_fault (statement_shape name) [] b ws)) (operand_fault xs w d l h)
+        (operand_walked xs w d l h)) ∙ e),
     ap₂ (λ a b. a && walk_passes (statement_shape name) [] b ws) (operand_passes xs w d l h) (operand_walked xs w d l h) ∙ r.1,
   )
   after_operand xs w ws (Some os) d l h r = (
@@ -214,11 +216,13 @@ module _ (name : Text) where
     ap₂ (λ a b. a && walk_passes (statement_shape name) [] b ws) (operand_passes xs w d l h) (operand_walked xs w d l h) ∙ r.3,
   )
 
-  after_option : (xs : List Text) (w : Text) (ws : List Text) → turn_fault (statement_shape name) [] (at false xs) w ≡ kind.UnknownArgument ∷ []
+  after_option : (xs : List Text) (w : Text) (ws : List Text)
+      → turn_fault (statement_shape name) [] (at false xs) w ≡ kind.UnknownArgument ∷ []
       → turn_passes (statement_shape name) [] (at false xs) w ≡ false → Reaches xs (w ∷ ws) None
   unfolding walk_fault walk_passes
   after_option xs w ws f p = (
-    λ e. some_kind _ _ (sym (ap (λ a. or_else a (walk_fault (statement_shape name) [] (walked statement_rules [] (at false xs) w) ws)) f) ∙ e),
+    λ e. some_kind _ _ (sym (ap (λ a. or_else a (walk_fault (statement_shape name) [] (walked statement_rules [] (at false xs) w) ws)) f)
+        ∙ e),
     ap (λ a. a && walk_passes (statement_shape name) [] (walked statement_rules [] (at false xs) w) ws) p,
   )
 

@@ -32,7 +32,7 @@ use Rattle.command_line.specs.declared.Task.{Task}
 use Rattle.command_line.specs.declared.Task.TheVariants.{Run, Kernel, Report}
 use Rattle.command_line.specs.CommandLine.{CommandLine, Statement, Workload, is_option, is_size, operands, size_line}
 use Rattle.command_line.specs.CommandLine.{statement_line, workload_line, line_of_command, command_line_of}
-use Rattle.command_line.specs.Law.{IsRead, ReadsAll, AreLimited}
+use Rattle.command_line.specs.Law.{IsRead, ReadsAll}
 use Rattle.command_line.specs.Clap.{taco_app, clap_line, matched_line, u64_read}
 use Rattle.command_line.proofs.Kind.{Kind, dashes, long, short, operand, kind_of_word}
 use Rattle.command_line.proofs.StatementLeaf.{some_kind, first_empty, statement_shape, statement_rows, LevelIs, level_is}
@@ -58,7 +58,8 @@ start = walk_from nothing_held
 abbrev stopped_at : Text → List Text → Walk
 stopped_at name ws = record start { stopped = Some (name, ws) }
 
-subs_are : (built taco_app).subs ≡ statement_shape (codes "run") ∷ statement_shape (codes "kernel") ∷ statement_shape (codes "report") ∷ workload_shape ∷ []
+subs_are : (built taco_app).subs ≡ statement_shape (codes "run") ∷ statement_shape (codes "kernel") ∷ statement_shape (codes "report")
+    ∷ workload_shape ∷ []
 subs_are = refl
 
 stopped_passes : (w : Walk) (p : Text × List Text) (ws : List Text) → walk_passes top names (record w { stopped = Some p }) ws ≡ true
@@ -78,11 +79,13 @@ stops_kernel : (c : Text) → bytes_eq (codes "run") c ≡ false → bytes_eq (c
 unfolding walked
 stops_kernel c a b = (rw (a, b) refl, rw (a, b) refl, rw (a, b) refl)
 
-stops_report : (c : Text) → bytes_eq (codes "run") c ≡ false → bytes_eq (codes "kernel") c ≡ false → bytes_eq (codes "report") c ≡ true → Stops c (codes "report")
+stops_report : (c : Text) → bytes_eq (codes "run") c ≡ false → bytes_eq (codes "kernel") c ≡ false → bytes_eq (codes "report") c ≡ true
+    → Stops c (codes "report")
 unfolding walked
 stops_report c a b d = (rw (a, b, d) refl, rw (a, b, d) refl, rw (a, b, d) refl)
 
-stops_gen : (c : Text) → bytes_eq (codes "run") c ≡ false → bytes_eq (codes "kernel") c ≡ false → bytes_eq (codes "report") c ≡ false → bytes_eq (codes "gen") c ≡ true
+stops_gen : (c : Text) → bytes_eq (codes "run") c ≡ false → bytes_eq (codes "kernel") c ≡ false → bytes_eq (codes "report") c ≡ false
+    → bytes_eq (codes "gen") c ≡ true
     → Stops c (codes "gen")
 unfolding walked
 stops_gen c a b d e = (rw (a, b, d, e) refl, rw (a, b, d, e) refl, rw (a, b, d, e) refl)
@@ -114,10 +117,12 @@ abbrev taken_after : Bool → Walk → Bool
 taken_after b w = entered_passes whole w.stopped && (b && (settle_passes top.rules false w.held
     && (list_all default_passes top.rules && is_valid top (finished top.rules w.held) (is_some (entered whole w.stopped)))))
 
-fault_is : (n : Text) (xs : List Text) → fault_of taco_app (n ∷ xs) ≡ or_else (walk_fault top names start xs) (after_fault (walk [] names nothing_held xs))
+fault_is : (n : Text) (xs : List Text)
+    → fault_of taco_app (n ∷ xs) ≡ or_else (walk_fault top names start xs) (after_fault (walk [] names nothing_held xs))
 fault_is n xs = refl
 
-takes_is : (n : Text) (xs : List Text) → takes taco_app (n ∷ xs) ≡ taken_after (walk_passes top names start xs) (walk [] names nothing_held xs)
+takes_is : (n : Text) (xs : List Text)
+    → takes taco_app (n ∷ xs) ≡ taken_after (walk_passes top names start xs) (walk [] names nothing_held xs)
 takes_is n xs = refl
 
 subcommand_is : (n : Text) (xs : List Text) → subcommand_of taco_app (n ∷ xs) ≡ entered whole (walk [] names nothing_held xs).stopped
@@ -191,7 +196,8 @@ report_matched e [] = refl
 report_matched e (w ∷ ws) = refl
 
 -- N passes its parser where it is a size within the limit, and is read as that
-size_accepted : (n : Text) → is_size n ≡ true → (accepts false (value_parser.Unsigned 0 greatest_workload) n ≡ true) × (u64_read n ≡ Some (digits_value 10 (without_leading_plus n)))
+size_accepted : (n : Text) → is_size n ≡ true → (accepts false (value_parser.Unsigned 0 greatest_workload) n ≡ true)
+    × (u64_read n ≡ Some (digits_value 10 (without_leading_plus n)))
 size_accepted n h =
     let ds = without_leading_plus n in
     let a = both (nat_lt 0 (length ds)) _ h in
@@ -205,7 +211,8 @@ size_accepted n h =
 size_refused : (n : Text) → is_size n ≡ false → accepts false (value_parser.Unsigned 0 greatest_workload) n ≡ false
 size_refused n h = go (accepts false (value_parser.Unsigned 0 greatest_workload) n) refl
   where
-    go : (t : Bool) → accepts false (value_parser.Unsigned 0 greatest_workload) n ≡ t → accepts false (value_parser.Unsigned 0 greatest_workload) n ≡ false
+    go : (t : Bool) → accepts false (value_parser.Unsigned 0 greatest_workload) n ≡ t
+        → accepts false (value_parser.Unsigned 0 greatest_workload) n ≡ false
     go false e = e
     go true e =
         let ds = without_leading_plus n in
@@ -236,7 +243,8 @@ size_is ws rest n false h w l =
     let line : LineIs ws None = sub_fails ws (codes "gen") workload_shape rest w k in
     rw h line
 
-workload_line_is : (ws rest : List Text) → Whole ws (codes "gen") workload_shape rest → (o : Option (List Text)) → WorkloadIs rest o → LineIs ws (workload_line o)
+workload_line_is : (ws rest : List Text) → Whole ws (codes "gen") workload_shape rest → (o : Option (List Text)) → WorkloadIs rest o
+    → LineIs ws (workload_line o)
 workload_line_is ws rest w None l = sub_fails ws (codes "gen") workload_shape rest w l
 workload_line_is ws rest w (Some []) l = sub_fails ws (codes "gen") workload_shape rest w l
 workload_line_is ws rest w (Some (n ∷ [])) l = size_is ws rest n (is_size n) refl w l
@@ -247,7 +255,8 @@ workload_line_is ws rest w (Some (n ∷ m ∷ ms)) l = sub_fails ws (codes "gen"
 abbrev Refused : Text → Kinds → Type 0
 Refused c kinds = (turn_fault top names start c ≡ kinds) × (turn_passes top names start c ≡ false)
 
-module _ (c : Text) (a : bytes_eq (codes "run") c ≡ false) (b : bytes_eq (codes "kernel") c ≡ false) (d : bytes_eq (codes "report") c ≡ false) (e : bytes_eq (codes "gen") c ≡ false) where
+module _ (c : Text) (a : bytes_eq (codes "run") c ≡ false) (b : bytes_eq (codes "kernel") c ≡ false)
+    (d : bytes_eq (codes "report") c ≡ false) (e : bytes_eq (codes "gen") c ≡ false) where
   other_long : (p : Text × Option Text) → bytes_eq c (45 ∷ 45 ∷ []) ≡ false → long_of c ≡ Some p → Refused c (kind.UnknownArgument ∷ [])
   other_long p f l = (rw (a, b, d, e, f, l) refl, rw (a, b, d, e, f, l) refl)
 
@@ -256,18 +265,22 @@ module _ (c : Text) (a : bytes_eq (codes "run") c ≡ false) (b : bytes_eq (code
   unfolding flags_fault flags_pass
   other_short x flags y f l h g = (rw (a, b, d, e, f, l, h, g) refl, rw (a, b, d, e, f, l, h, g) refl)
 
-  other_operand : bytes_eq c (45 ∷ 45 ∷ []) ≡ false → long_of c ≡ None → short_of c ≡ None → Refused c (kind.UnknownArgument ∷ kind.InvalidSubcommand ∷ [])
+  other_operand : bytes_eq c (45 ∷ 45 ∷ []) ≡ false → long_of c ≡ None → short_of c ≡ None
+      → Refused c (kind.UnknownArgument ∷ kind.InvalidSubcommand ∷ [])
   other_operand f l h = (rw (a, b, d, e, f, l, h) refl, rw (a, b, d, e, f, l, h) refl)
 
-  other_dashes : bytes_eq c (45 ∷ 45 ∷ []) ≡ true → (walked [] names start c ≡ record start { is_trailing = true }) × (turn_fault top names start c ≡ []) × (turn_passes top names start c ≡ true)
+  other_dashes : bytes_eq c (45 ∷ 45 ∷ []) ≡ true → (walked [] names start c ≡ record start { is_trailing = true })
+      × (turn_fault top names start c ≡ []) × (turn_passes top names start c ≡ true)
   unfolding walked
   other_dashes f = (rw (a, b, d, e, f) refl, rw (a, b, d, e, f) refl, rw (a, b, d, e, f) refl)
 
-dashes_end : (after_fault (record start { is_trailing = true }) ≡ kind.MissingSubcommand ∷ []) × (taken_after true (record start { is_trailing = true }) ≡ false)
+dashes_end : (after_fault (record start { is_trailing = true }) ≡ kind.MissingSubcommand ∷ [])
+    × (taken_after true (record start { is_trailing = true }) ≡ false)
 unfolding defaults_fault
 dashes_end = (refl, refl)
 
-dashes_value : (w : Text) → (turn_fault top names (record start { is_trailing = true }) w ≡ kind.UnknownArgument ∷ kind.InvalidSubcommand ∷ [])
+dashes_value : (w : Text)
+    → (turn_fault top names (record start { is_trailing = true }) w ≡ kind.UnknownArgument ∷ kind.InvalidSubcommand ∷ [])
     × (turn_passes top names (record start { is_trailing = true }) w ≡ false)
 dashes_value w = (refl, refl)
 
@@ -280,7 +293,8 @@ never_taken w = go (entered_passes whole w.stopped)
     go false = refl
 
 walk_refused : (n : Text) (xs : List Text) → walk_passes top names start xs ≡ false → takes taco_app (n ∷ xs) ≡ false
-walk_refused n xs p = takes_is n xs ∙ ap (λ b. taken_after b (walk [] names nothing_held xs)) p ∙ never_taken (walk [] names nothing_held xs)
+walk_refused n xs p = takes_is n xs ∙ ap (λ b. taken_after b (walk [] names nothing_held xs)) p
+    ∙ never_taken (walk [] names nothing_held xs)
 
 turn_fails : (n c : Text) (rest : List Text) (k : ErrorKind) (ks : Kinds) → Refused c (k ∷ ks) → LineIs (n ∷ c ∷ rest) None
 unfolding walk_fault walk_passes
@@ -290,7 +304,8 @@ turn_fails n c rest k ks f = (
 )
 
 dashes_fail : (n c : Text) (rest : List Text)
-    → (walked [] names start c ≡ record start { is_trailing = true }) × (turn_fault top names start c ≡ []) × (turn_passes top names start c ≡ true)
+    → (walked [] names start c ≡ record start { is_trailing = true }) × (turn_fault top names start c ≡ [])
+    × (turn_passes top names start c ≡ true)
     → LineIs (n ∷ c ∷ rest) None
 unfolding walk_fault walk_passes
 dashes_fail n c [] s =
@@ -302,7 +317,8 @@ dashes_fail n c [] s =
 dashes_fail n c (w ∷ ws) s = (
   λ e.
       let walk_none : walk_fault top names start (c ∷ w ∷ ws) ≡ [] =
-      first_empty (walk_fault top names start (c ∷ w ∷ ws)) (after_fault (walk [] names nothing_held (c ∷ w ∷ ws))) (sym (fault_is n (c ∷ w ∷ ws)) ∙ e) in
+      first_empty (walk_fault top names start (c ∷ w ∷ ws)) (after_fault (walk [] names nothing_held (c ∷ w ∷ ws)))
+      (sym (fault_is n (c ∷ w ∷ ws)) ∙ e) in
       let next : walk_fault top names (record start { is_trailing = true }) (w ∷ ws) ≡ [] =
       sym (ap₂ (λ k v. or_else k (walk_fault top names v (w ∷ ws))) s.1 s.0) ∙ walk_none in
       some_kind _ _ (sym (dashes_value w).0 ∙ first_empty (turn_fault top names (record start { is_trailing = true }) w)
@@ -312,7 +328,8 @@ dashes_fail n c (w ∷ ws) s = (
       ∙ ap (λ b. b && walk_passes top names (walked [] names (record start { is_trailing = true }) w) ws) (dashes_value w).1),
 )
 
-other_fails : (n c : Text) (rest : List Text) → bytes_eq (codes "run") c ≡ false → bytes_eq (codes "kernel") c ≡ false → bytes_eq (codes "report") c ≡ false
+other_fails : (n c : Text) (rest : List Text) → bytes_eq (codes "run") c ≡ false → bytes_eq (codes "kernel") c ≡ false
+    → bytes_eq (codes "report") c ≡ false
     → bytes_eq (codes "gen") c ≡ false → Kind c → LineIs (n ∷ c ∷ rest) None
 other_fails n c rest a b d e (dashes f) = dashes_fail n c rest (other_dashes c a b d e f)
 other_fails n c rest a b d e (long p f o l) = turn_fails n c rest _ _ (other_long c a b d e p f l)
@@ -341,7 +358,8 @@ operands_count : (ws : List Text) → count_in (operands ws) ≤ length ws
 operands_count [] = omega arith
 operands_count (w ∷ ws) = go (bytes_eq w (codes "--")) (is_option w) (operands_count ws)
   where
-    go : (s t : Bool) → count_in (operands ws) ≤ length ws → count_in (cond s (Some ws) (cond t None (option_map (λ ys. w ∷ ys) (operands ws)))) ≤ suc (length ws)
+    go : (s t : Bool) → count_in (operands ws) ≤ length ws
+        → count_in (cond s (Some ws) (cond t None (option_map (λ ys. w ∷ ys) (operands ws)))) ≤ suc (length ws)
     go true t h = omega arith
     go false true h = omega arith
     go false false h = omega (arith, one_more w (operands ws), h)
@@ -398,7 +416,8 @@ all_utf8 : {Z : Type 0} (ws : List (String Z)) → All IsUtf8 (map string_bytes 
 all_utf8 [] = All-nil IsUtf8
 all_utf8 (w ∷ ws) = All-cons IsUtf8 (string_bytes w) (map string_bytes ws) (IsUtf8-string_bytes w) (all_utf8 ws)
 
-told_by : (ws : List Text) (o : Option CommandLine) → LineIs ws o → fault_of taco_app ws ≡ [] → (l : CommandLine) × (o ≡ Some l) × (takes taco_app ws ≡ true) × (clap_line ws ≡ Some l)
+told_by : (ws : List Text) (o : Option CommandLine) → LineIs ws o → fault_of taco_app ws ≡ [] → (l : CommandLine) × (o ≡ Some l)
+    × (takes taco_app ws ≡ true) × (clap_line ws ≡ Some l)
 told_by ws None h e = absurd (h.0 e)
 told_by ws (Some l) h e = (l, refl, h.1, h.2)
 
@@ -407,11 +426,17 @@ untold_by ws None h fails = refl
 untold_by ws (Some l) h fails = absurd (fails h.0)
 
 pub told_line : {Z : Type 0} (ws : List (String Z)) → length ws ≤ usize_max → fault_of taco_app (map string_bytes ws) ≡ []
-    → (l : CommandLine) × (command_line_of (map string_bytes ws) ≡ Some l) × (takes taco_app (map string_bytes ws) ≡ true) × (clap_line (map string_bytes ws) ≡ Some l)
-told_line ws fits e = told_by (map string_bytes ws) (command_line_of (map string_bytes ws)) (line_is (map string_bytes ws) (all_utf8 ws) (omega (arith, fits, length-map ws string_bytes))) e
+    → (l : CommandLine) × (command_line_of (map string_bytes ws) ≡ Some l) × (takes taco_app (map string_bytes ws) ≡ true)
+    × (clap_line (map string_bytes ws) ≡ Some l)
+told_line ws fits e =
+    told_by (map string_bytes ws) (command_line_of (map string_bytes ws))
+    (line_is (map string_bytes ws) (all_utf8 ws) (omega (arith, fits, length-map ws string_bytes))) e
 
-pub untold_line : {Z : Type 0} (ws : List (String Z)) → length ws ≤ usize_max → (fault_of taco_app (map string_bytes ws) ≡ [] → ⊥) → command_line_of (map string_bytes ws) ≡ None
-untold_line ws fits fails = untold_by (map string_bytes ws) (command_line_of (map string_bytes ws)) (line_is (map string_bytes ws) (all_utf8 ws) (omega (arith, fits, length-map ws string_bytes))) fails
+pub untold_line : {Z : Type 0} (ws : List (String Z)) → length ws ≤ usize_max → (fault_of taco_app (map string_bytes ws) ≡ [] → ⊥)
+    → command_line_of (map string_bytes ws) ≡ None
+untold_line ws fits fails =
+    untold_by (map string_bytes ws) (command_line_of (map string_bytes ws))
+    (line_is (map string_bytes ws) (all_utf8 ws) (omega (arith, fits, length-map ws string_bytes))) fails
 
 read_by : (ws : List Text) (o : Option CommandLine) → command_line_of ws ≡ o → LineIs ws o → IsRead ws
 read_by ws None is h = (h.1 ∙ sym (ap (λ (o : Option CommandLine). is_some o) is), λ e. absurd (true≢false (sym e ∙ h.1)))

@@ -93,12 +93,14 @@ second_operand n w d l s = (rw (d, l, s) refl, rw (d, l, s) refl)
 
 -- `--` itself
 first_dashes : (w : Text) → bytes_eq w (45 ∷ 45 ∷ []) ≡ true
-    → (walked workload_rules [] (before false) w ≡ before true) × (turn_fault workload_shape [] (before false) w ≡ []) × (turn_passes workload_shape [] (before false) w ≡ true)
+    → (walked workload_rules [] (before false) w ≡ before true) × (turn_fault workload_shape [] (before false) w ≡ [])
+    × (turn_passes workload_shape [] (before false) w ≡ true)
 unfolding clap_on_literals
 first_dashes w d = (rw d refl, rw d refl, rw d refl)
 
 later_dashes : (n w : Text) → bytes_eq w (45 ∷ 45 ∷ []) ≡ true
-    → (walked workload_rules [] (after false n) w ≡ after true n) × (turn_fault workload_shape [] (after false n) w ≡ []) × (turn_passes workload_shape [] (after false n) w ≡ true)
+    → (walked workload_rules [] (after false n) w ≡ after true n) × (turn_fault workload_shape [] (after false n) w ≡ [])
+    × (turn_passes workload_shape [] (after false n) w ≡ true)
 unfolding clap_on_literals
 later_dashes n w d = (rw d refl, rw d refl, rw d refl)
 
@@ -113,12 +115,14 @@ long_after : (n w : Text) (p : Text × Option Text) → bytes_eq w (45 ∷ 45 �
 unfolding clap_on_literals
 long_after n w p d l = (rw (d, l) refl, rw (d, l) refl)
 
-short_before : (w : Text) (b : ℕ) (flags : Text) (x : ℕ) → bytes_eq w (45 ∷ 45 ∷ []) ≡ false → long_of w ≡ None → short_of w ≡ Some (b ∷ flags)
+short_before : (w : Text) (b : ℕ) (flags : Text) (x : ℕ) → bytes_eq w (45 ∷ 45 ∷ []) ≡ false → long_of w ≡ None
+    → short_of w ≡ Some (b ∷ flags)
     → slice_get (chars (b ∷ flags)) 0 ≡ Some x → Refused (before false) w
 unfolding flags_fault flags_pass
 short_before w b flags x d l s c = (rw (d, l, s, c) refl, rw (d, l, s, c) refl)
 
-short_after : (n w : Text) (b : ℕ) (flags : Text) (x : ℕ) → bytes_eq w (45 ∷ 45 ∷ []) ≡ false → long_of w ≡ None → short_of w ≡ Some (b ∷ flags)
+short_after : (n w : Text) (b : ℕ) (flags : Text) (x : ℕ) → bytes_eq w (45 ∷ 45 ∷ []) ≡ false → long_of w ≡ None
+    → short_of w ≡ Some (b ∷ flags)
     → slice_get (chars (b ∷ flags)) 0 ≡ Some x → Refused (after false n) w
 unfolding flags_fault flags_pass
 short_after n w b flags x d l s c = (rw (d, l, s, c) refl, rw (d, l, s, c) refl)
@@ -130,7 +134,8 @@ abbrev Fails : Walk → List Text → Type 0
 Fails from ws = (walk_fault workload_shape [] from ws ≡ [] → ⊥) × (walk_passes workload_shape [] from ws ≡ false)
 
 abbrev Ends : Walk → List Text → Walk → Type 0
-Ends from ws end = (fold (walked workload_rules []) from ws ≡ end) × (walk_fault workload_shape [] from ws ≡ []) × (walk_passes workload_shape [] from ws ≡ true)
+Ends from ws end = (fold (walked workload_rules []) from ws ≡ end) × (walk_fault workload_shape [] from ws ≡ [])
+    × (walk_passes workload_shape [] from ws ≡ true)
 
 -- after N nothing more may come
 abbrev Stays : Text → List Text → Option (List Text) → Type 0
@@ -151,7 +156,8 @@ turn_fails from w ws f = (
   ap (λ a. a && walk_passes workload_shape [] (walked workload_rules [] from w) ws) f.1,
 )
 
-later_fails : (from next : Walk) (w : Text) (ws : List Text) → walked workload_rules [] from w ≡ next → turn_fault workload_shape [] from w ≡ [] → turn_passes workload_shape [] from w ≡ true
+later_fails : (from next : Walk) (w : Text) (ws : List Text) → walked workload_rules [] from w ≡ next
+    → turn_fault workload_shape [] from w ≡ [] → turn_passes workload_shape [] from w ≡ true
     → Fails next ws → Fails from (w ∷ ws)
 unfolding walk_fault walk_passes
 later_fails from next w ws is fault passes f = (
@@ -159,7 +165,8 @@ later_fails from next w ws is fault passes f = (
   ap₂ (λ a b. a && walk_passes workload_shape [] b ws) passes is ∙ f.1,
 )
 
-later_ends : (from next end : Walk) (w : Text) (ws : List Text) → walked workload_rules [] from w ≡ next → turn_fault workload_shape [] from w ≡ [] → turn_passes workload_shape [] from w ≡ true
+later_ends : (from next end : Walk) (w : Text) (ws : List Text) → walked workload_rules [] from w ≡ next
+    → turn_fault workload_shape [] from w ≡ [] → turn_passes workload_shape [] from w ≡ true
     → Ends next ws end → Ends from (w ∷ ws) end
 unfolding walk_fault walk_passes
 later_ends from next end w ws is fault passes r = (
@@ -180,7 +187,8 @@ stays_dashes n w (m ∷ ms) d =
     let step = later_dashes n w d in
     later_fails _ _ w (m ∷ ms) step.0 step.1 step.2 (turn_fails _ m ms (second_value n m))
 
-stays_operand : (n w : Text) (ws : List Text) (o : Option (List Text)) → Fails (after false n) (w ∷ ws) → Stays n (w ∷ ws) (option_map (λ ys. w ∷ ys) o)
+stays_operand : (n w : Text) (ws : List Text) (o : Option (List Text)) → Fails (after false n) (w ∷ ws)
+    → Stays n (w ∷ ws) (option_map (λ ys. w ∷ ys) o)
 stays_operand n w ws None f = f
 stays_operand n w ws (Some os) f = f
 
@@ -199,17 +207,24 @@ reaches_dashes w [] d =
     let step = first_dashes w d in
     (true, later_ends _ _ _ w [] step.0 step.1 step.2 (here (before true)))
 reaches_dashes w (n ∷ []) d =
-    let step = first_dashes w d in
-    (true, later_ends _ _ _ w (n ∷ []) step.0 step.1 step.2 (later_ends _ _ _ n [] (value_walked n) (value_fault n) (value_passes n) (here (after true n))))
+    let step = first_dashes w d in (
+      true,
+      later_ends _ _ _ w (n ∷ []) step.0 step.1 step.2
+          (later_ends _ _ _ n [] (value_walked n) (value_fault n) (value_passes n) (here (after true n))),
+    )
 reaches_dashes w (n ∷ m ∷ ms) d =
     let step = first_dashes w d in
-    later_fails _ _ w (n ∷ m ∷ ms) step.0 step.1 step.2 (later_fails _ _ n (m ∷ ms) (value_walked n) (value_fault n) (value_passes n) (turn_fails _ m ms (second_value n m)))
+    later_fails _ _ w (n ∷ m ∷ ms) step.0 step.1 step.2
+    (later_fails _ _ n (m ∷ ms) (value_walked n) (value_fault n) (value_passes n) (turn_fails _ m ms (second_value n m)))
 
-reaches_operand : (w : Text) (ws : List Text) (o : Option (List Text)) → bytes_eq w (45 ∷ 45 ∷ []) ≡ false → long_of w ≡ None → short_of w ≡ None
+reaches_operand : (w : Text) (ws : List Text) (o : Option (List Text)) → bytes_eq w (45 ∷ 45 ∷ []) ≡ false → long_of w ≡ None
+    → short_of w ≡ None
     → Stays w ws o → Reaches (w ∷ ws) (option_map (λ ys. w ∷ ys) o)
 reaches_operand w ws None d l s r = later_fails _ _ w ws (operand_walked w d l s) (operand_fault w d l s) (operand_passes w d l s) r
-reaches_operand w ws (Some []) d l s r = (r.0, later_ends _ _ _ w ws (operand_walked w d l s) (operand_fault w d l s) (operand_passes w d l s) r.1)
-reaches_operand w ws (Some (m ∷ ms)) d l s r = later_fails _ _ w ws (operand_walked w d l s) (operand_fault w d l s) (operand_passes w d l s) r
+reaches_operand w ws (Some []) d l s r =
+    (r.0, later_ends _ _ _ w ws (operand_walked w d l s) (operand_fault w d l s) (operand_passes w d l s) r.1)
+reaches_operand w ws (Some (m ∷ ms)) d l s r =
+    later_fails _ _ w ws (operand_walked w d l s) (operand_fault w d l s) (operand_passes w d l s) r
 
 reaches : (ws : List Text) → All IsUtf8 ws → Reaches ws (operands ws)
 reaches [] u = (false, here (before false))
@@ -228,7 +243,8 @@ end_fault h = or_else (settle_fault workload_rules false h) (or_else (defaults_f
     (check_fault workload_shape (finished workload_rules h) false))
 
 abbrev end_passes : Held → Bool
-end_passes h = settle_passes workload_rules false h && (list_all default_passes workload_rules && is_valid workload_shape (finished workload_rules h) false)
+end_passes h = settle_passes workload_rules false h
+    && (list_all default_passes workload_rules && is_valid workload_shape (finished workload_rules h) false)
 
 end_empty : (t : Bool) → end_fault (before t).held ≡ kind.MissingRequiredArgument ∷ []
 unfolding clap_on_literals
@@ -238,19 +254,23 @@ end_refused : (t : Bool) → end_passes (before t).held ≡ false
 unfolding clap_on_literals
 end_refused t = refl
 
-end_size_refused : (t : Bool) (n : Text) → accepts false (value_parser.Unsigned 0 greatest_workload) n ≡ false → end_passes (after t n).held ≡ false
+end_size_refused : (t : Bool) (n : Text) → accepts false (value_parser.Unsigned 0 greatest_workload) n ≡ false
+    → end_passes (after t n).held ≡ false
 unfolding clap_on_literals
 end_size_refused t n a = rw a refl
 
-end_fault_none : (t : Bool) (n : Text) → accepts false (value_parser.Unsigned 0 greatest_workload) n ≡ true → end_fault (after t n).held ≡ []
+end_fault_none : (t : Bool) (n : Text) → accepts false (value_parser.Unsigned 0 greatest_workload) n ≡ true
+    → end_fault (after t n).held ≡ []
 unfolding clap_on_literals
 end_fault_none t n a = rw a refl
 
-end_fault_some : (t : Bool) (n : Text) → accepts false (value_parser.Unsigned 0 greatest_workload) n ≡ false → end_fault (after t n).held ≡ kind.ValueValidation ∷ []
+end_fault_some : (t : Bool) (n : Text) → accepts false (value_parser.Unsigned 0 greatest_workload) n ≡ false
+    → end_fault (after t n).held ≡ kind.ValueValidation ∷ []
 unfolding clap_on_literals
 end_fault_some t n a = rw a refl
 
-end_passes_all : (t : Bool) (n : Text) → accepts false (value_parser.Unsigned 0 greatest_workload) n ≡ true → end_passes (after t n).held ≡ true
+end_passes_all : (t : Bool) (n : Text) → accepts false (value_parser.Unsigned 0 greatest_workload) n ≡ true
+    → end_passes (after t n).held ≡ true
 unfolding clap_on_literals
 end_passes_all t n a = rw a refl
 
@@ -260,7 +280,8 @@ end_rows t n = refl
 
 -- what `clap` makes of the words of the command, by their operands
 abbrev WorkloadFails : List Text → Type 0
-WorkloadFails ws = (level_fault workload_shape [] nothing_held ws false [] ≡ [] → ⊥) × (level_passes workload_shape [] nothing_held ws false ≡ false)
+WorkloadFails ws = (level_fault workload_shape [] nothing_held ws false [] ≡ [] → ⊥)
+    × (level_passes workload_shape [] nothing_held ws false ≡ false)
 
 abbrev pub SizeIs : List Text → Text → Bool → Type 0
 SizeIs ws n true = (level_fault workload_shape [] nothing_held ws false [] ≡ [])
@@ -273,7 +294,8 @@ WorkloadIs ws (Some []) = WorkloadFails ws
 WorkloadIs ws (Some (n ∷ [])) = SizeIs ws n (accepts false (value_parser.Unsigned 0 greatest_workload) n)
 WorkloadIs ws (Some (n ∷ m ∷ ms)) = WorkloadFails ws
 
-size_is : (ws : List Text) (n : Text) (b : Bool) (t : Bool) → accepts false (value_parser.Unsigned 0 greatest_workload) n ≡ b → Ends (before false) ws (after t n) → SizeIs ws n b
+size_is : (ws : List Text) (n : Text) (b : Bool) (t : Bool) → accepts false (value_parser.Unsigned 0 greatest_workload) n ≡ b
+    → Ends (before false) ws (after t n) → SizeIs ws n b
 size_is ws n true t a r = (
   ap₂ (λ k (w : Walk). or_else k (end_fault w.held)) r.1 r.0 ∙ end_fault_none t n a,
   ap₂ (λ k (w : Walk). k && end_passes w.held) r.2 r.0 ∙ end_passes_all t n a,

@@ -41,7 +41,9 @@ pub enum Request<'a> {
         words: Vec<&'a str>,
     },
     /// N, the size of the generated workload.
-    Workload { size: u64 },
+    Workload {
+        size: u64,
+    },
 }
 
 /// Why a command line isn't read.

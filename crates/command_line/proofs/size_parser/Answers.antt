@@ -1,4 +1,4 @@
-use Rattle.std.proofs.Common.{◌≡◌, ◌∙◌, ◌<◌, ◌^◌, ℕ, ℤ, pos, Less, nat_cmp, Some, refl, sym, ap, subst, arith, w64, to_z}
+use Rattle.std.proofs.Common.{◌≡◌, ◌∙◌, ◌<◌, ◌^◌, ℤ, pos, Less, nat_cmp, Some, refl, sym, ap, subst, arith, w64, to_z}
 use Rattle.std.specs.Ordering.{ord_min}
 use Rattle.std.specs.Cmp.{nat_cmp_is}
 use Rattle.std.proofs.Math.Facts.{to_z_pos}

@@ -1,6 +1,6 @@
 use Rattle.std.proofs.Common.{ap, ap₂, codes, true, ◌≡◌, ◌∙◌}
 use Rattle.clap.specs.Simple.{App, Shape, app_of, app_of_fields, new_app, on_top, with_subcommand}
-use Rattle.command_line.specs.Clap.{bare_app, statement_app, workload_app}
+use Rattle.command_line.specs.Clap.{bare_app, statement_app}
 use Rattle.command_line.proofs.taco_command.Goals as goal
 
 abbrev top_of : App → Shape
