@@ -5,21 +5,20 @@ use outside::{MemFolder, MemSink};
 use std::alloc::{AllocError, Global};
 use std::io;
 
-// Runs a command line over the files of the case.
-fn run(
-    alloc: Global,
-    words: &[String],
-    files: &[CaseFile],
-    folder: &mut MemFolder,
-    out: &mut MemSink,
-    err: &mut MemSink,
-) -> Result<u8, AllocError> {
-    for file in files {
+// Runs the case, and answers the status.
+fn run(alloc: Global, case: &mut Case) -> Result<u8, AllocError> {
+    for file in &case.files {
         if let Some(bytes) = &file.bytes {
-            folder.add_file(file.name.as_str(), bytes.as_slice())?;
+            case.folder.add_file(file.name.as_str(), bytes.as_slice())?;
         }
     }
-    Ok(taco_top::taco(alloc, words, folder, out, err))
+    Ok(taco_top::taco(
+        alloc,
+        case.words.as_slice(),
+        &mut case.folder,
+        &mut case.out,
+        &mut case.err,
+    ))
 }
 
 // The text that a stream holds, or none if its end is inside a character.
@@ -44,7 +43,10 @@ fn print_stream<R: Print + AllocGlobal>(
         return println!(rt; "{name} \"{}\"{end}", stream.written().escape_ascii());
     }
     let telling = Telling::new(rt.alloc(), &[text])?;
-    println!(rt; "{name} \"{}\"{end}", telling.text.as_bytes().escape_ascii())
+    println!(rt;
+        "{name} \"{}\"{end}",
+        telling.text.as_bytes().escape_ascii()
+    )
 }
 
 // What stands in a file's place afterwards.
@@ -78,9 +80,9 @@ fn print_end<R: Print + AllocGlobal>(rt: &R, case: &Case, status: u8) -> io::Res
     print_folder(rt, &case.folder)
 }
 
-// What both streams of a run tell.
-fn tell(alloc: Global, out: &MemSink, err: &MemSink) -> Result<Telling, AllocError> {
-    Telling::new(alloc, &[text_of(out), text_of(err)])
+// What both streams of a case tell.
+fn tell(alloc: Global, case: &Case) -> Result<Telling, AllocError> {
+    Telling::new(alloc, &[text_of(&case.out), text_of(&case.err)])
 }
 
 // The words for two texts that are the same or not, where both are there.
@@ -94,31 +96,32 @@ fn compared<'a>(one: &str, other: &str, same: &'a str, different: &'a str) -> &'
     }
 }
 
-// Runs another command line over the same files, with no fault, and prints whether its kernel and its turns are those of the case.
+// Runs another command line over the same files, and prints whether its kernel and its turns are those of the case.
 fn run_beside<R: Print + AllocGlobal>(rt: &R, case: &Case, words: &[String]) -> io::Result<()> {
     let alloc = rt.alloc();
-    let mut folder = MemFolder::new(alloc);
-    let mut out = MemSink::new(alloc);
-    let mut err = MemSink::new(alloc);
-    let status = run(alloc, words, case.files.as_slice(), &mut folder, &mut out, &mut err)?;
-    let own = tell(alloc, &case.out, &case.err)?;
-    let other = tell(alloc, &out, &err)?;
+    let mut beside = case.with_words(words)?;
+    let status = run(alloc, &mut beside)?;
+    let own = tell(alloc, case)?;
+    let other = tell(alloc, &beside)?;
     let command = words.get(1).map_or("", |word| word.as_str());
-    let kernels = compared(own.kernel.as_str(), other.kernel.as_str(), ", same kernel", ", another kernel");
-    let turns = compared(own.turns.as_str(), other.turns.as_str(), ", same turns", ", other turns");
+    let kernels = compared(
+        own.kernel.as_str(),
+        other.kernel.as_str(),
+        ", same kernel",
+        ", another kernel",
+    );
+    let turns = compared(
+        own.turns.as_str(),
+        other.turns.as_str(),
+        ", same turns",
+        ", other turns",
+    );
     println!(rt; "beside {command}: status {status}{kernels}{turns}")
 }
 
-// Runs the case, and prints how it ended.
+// Runs the case, and prints how it ended, and the command lines beside it.
 pub(crate) fn run_case<R: Print + AllocGlobal>(rt: &R, mut case: Case) -> io::Result<()> {
-    let status = run(
-        rt.alloc(),
-        case.words.as_slice(),
-        case.files.as_slice(),
-        &mut case.folder,
-        &mut case.out,
-        &mut case.err,
-    )?;
+    let status = run(rt.alloc(), &mut case)?;
     print_end(rt, &case, status)?;
     for words in &case.beside {
         run_beside(rt, &case, words.as_slice())?;
