@@ -2,7 +2,10 @@
 use Rattle.std.specs.Prelude.{◌≡◌, ℕ, zero, suc, ◌+◌, ◌<◌, ◌≤◌, ◌==◌, ◌&&◌, ◌||◌, Bool, true, false, if◌then◌else◌, List, [], ◌∷◌}
 use Rattle.std.specs.Prelude.{◌⊎◌, length, refl}
 use Rattle.std.proofs.Common.{◌∙◌, sym, ap, subst, arith, inl, inr}
+use Rattle.lists.specs.Each.{Each}
 use Rattle.lists.proofs.Tests.{number_same}
+use Rattle.level_core.specs.Entries.{Distinct, Lacks}
+use Rattle.level_core.specs.declared.span.Entry.{Entry as LevelEntry}
 use Rattle.tensor_map.specs.declared.entries.Entry.{Entry}
 use Rattle.tensor_map.specs.Entries.{Listed, is_at}
 use Rattle.tensor_map.specs.Laws.{Tested, same, other}
@@ -162,3 +165,56 @@ few_different coords (suc i) es there = by (few_different coords i) (is_met coor
         unmet coords 2 i i j h t (same_agree coords j i first second))) in
         let less = fewer (coords 0 i ∷ coords 1 i ∷ []) es (there i (omega arith)) in
         subst (λ b. (if b then different coords 2 i else different coords 2 i + 1) ≤ length es) (sym t) (omega (arith, most, less))
+
+-- ---- entries of levels
+still_each : (x y : ℕ) (cs : List LevelEntry) (es : List Entry) → Lacks y cs → Each (λ (e : LevelEntry). Listed es (x ∷ e.coord ∷ [])) cs
+    → Each (λ (e : LevelEntry). Listed (without (x ∷ y ∷ []) es) (x ∷ e.coord ∷ [])) cs
+still_each x y [] es lacks there = tt
+still_each x y (c ∷ cs) es lacks there = (
+  still (x ∷ y ∷ []) (x ∷ c.coord ∷ []) es there.0 (λ e. lacks.0 cc),
+  still_each x y cs es lacks.1 there.1,
+)
+
+each_kept : {P Q : LevelEntry → Type 0} → ((e : LevelEntry) → P e → Q e) → (cs : List LevelEntry) → Each P cs → Each Q cs
+each_kept keep [] all = tt
+each_kept keep (c ∷ cs) all = (keep c all.0, each_kept keep cs all.1)
+
+-- one for each entry below row x, whose coordinates are different
+taken_list : (x : ℕ) (cs : List LevelEntry) (es : List Entry) → Distinct cs → Each (λ (e : LevelEntry). Listed es (x ∷ e.coord ∷ [])) cs
+    → Taken es (length cs) (λ coords. (y : ℕ) × (coords ≡ x ∷ y ∷ []))
+taken_list x [] es apart there = record { rest = es; counted = omega arith; keeps = λ coords l none. l }
+taken_list x (c ∷ cs) es apart there =
+    let more = taken_list x cs (without (x ∷ c.coord ∷ []) es) apart.1 (still_each x c.coord cs es apart.0 there.1) in
+    let less = fewer (x ∷ c.coord ∷ []) es there.0 in
+    let counted = more.counted in
+    record {
+      rest = more.rest;
+      counted = omega (arith, less, counted);
+      keeps = λ coords l none. more.keeps coords (still (x ∷ c.coord ∷ []) coords es l (λ e. none (c.coord, e))) none;
+    }
+
+-- one for each entry below each row
+taken_segments : (m : ℕ) (segment : ℕ → List LevelEntry) (es : List Entry) → ((x : ℕ) → Distinct (segment x))
+    → ((x : ℕ) → x < m → Each (λ (e : LevelEntry). Listed es (x ∷ e.coord ∷ [])) (segment x))
+    → Taken es (count_below m (λ x. length (segment x))) (λ coords. (x : ℕ) × (x < m) × ((y : ℕ) × (coords ≡ x ∷ y ∷ [])))
+taken_segments zero segment es apart there = record { rest = es; counted = omega arith; keeps = λ coords l none. l }
+taken_segments (suc m) segment es apart there =
+    let row = taken_list m (segment m) es (apart m) (there m (omega arith)) in
+    let more = taken_segments m segment row.rest apart (λ x h. each_kept {P = λ e. Listed es (x ∷ e.coord ∷ [])}
+    {Q = λ e. Listed row.rest (x ∷ e.coord ∷ [])} (λ e l. row.keeps (x ∷ e.coord ∷ []) l
+    (λ found. let e = found.1 in let same : x ≡ m = cc in omega (arith, same, h))) (segment x) (there x (omega (arith, h)))) in
+    let first = row.counted in
+    let counted = more.counted in
+    record {
+      rest = more.rest;
+      counted = omega (arith, first, counted);
+      keeps = λ coords l none. more.keeps coords (row.keeps coords l (λ found. none (m, omega arith, found)))
+          (λ found. none (found.0, (let h = found.1 in omega (arith, h)), found.2));
+    }
+
+-- where the entries below each row have different columns, and all are listed, there are no more than entries
+pub few_stored : (m : ℕ) (segment : ℕ → List LevelEntry) (es : List Entry) → ((x : ℕ) → Distinct (segment x))
+    → ((x : ℕ) → x < m → Each (λ (e : LevelEntry). Listed es (x ∷ e.coord ∷ [])) (segment x))
+    → count_below m (λ x. length (segment x)) ≤ length es
+few_stored m segment es apart there =
+    let taken = taken_segments m segment es apart there in let counted = taken.counted in omega (arith, counted)

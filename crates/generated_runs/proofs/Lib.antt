@@ -1,3 +1,4 @@
+pub mod Costs
 pub mod Counting
 pub mod Cycles
 pub mod Facts
@@ -5,4 +6,6 @@ pub mod Fits
 pub mod Formats
 pub mod Paths
 pub mod Runnable
+pub mod Segments
 pub mod Totals
+pub mod Turns

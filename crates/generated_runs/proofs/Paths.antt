@@ -110,12 +110,12 @@ found_at [] n x d is = absurd cc
 found_at (y ∷ xs) zero x d is = cc
 found_at (y ∷ xs) (suc n) x d is = found_at xs n x d is
 
--- what a store tells to be a path of an operand in format `ds` is listed among the operand's entries
-pub operand_listed : (a : Arithmetic) (s : Statement) (formats : List (List FormatLevel)) (ranges : List ℕ) (operands : List Entries)
+-- the storage of an operand in format `ds`
+pub operand_packed : (a : Arithmetic) (s : Statement) (formats : List (List FormatLevel)) (ranges : List ℕ) (operands : List Entries)
     (store : Store) → IsStoreFor a s formats ranges operands store → (n : ℕ) (entries : Entries) → slice_get operands n ≡ Some entries
-    → format_of formats (suc n) ≡ by_rows → (x y : ℕ) → (told_by a store).paths (suc n) (x ∷ y ∷ []) ≡ true
-    → Listed entries.list (x ∷ y ∷ [])
-operand_listed a s formats ranges operands store is n entries at format x y path =
+    → format_of formats (suc n) ≡ by_rows
+    → (sizes : List ℕ) × IsPackedOperand a by_rows sizes entries.list (operand_of store (suc n))
+operand_packed a s formats ranges operands store is n entries at format =
     let inside = within operands n entries at in
     let many = is.packed.many in
     let there = some_at store.operands n (omega (arith, inside, many)) in
@@ -123,9 +123,18 @@ operand_listed a s formats ranges operands store is n entries at format x y path
     let found : there.0 ≡ operand_of store (suc n) = sym (found_at store.operands n there.0 (storage_of [] [] []) there.1) in
     let both : Some packed.entries ≡ Some entries = sym packed.is ∙ at in
     let same : packed.entries ≡ entries = cc in
-    let sizes = operand_sizes s (slice_index ranges) n packed.entries in
-    let whole : IsPackedOperand a by_rows sizes packed.entries.list (operand_of store (suc n)) =
-    subst (λ f. IsPackedOperand a f sizes packed.entries.list (operand_of store (suc n))) format
-    (subst (IsPackedOperand a (format_of formats (suc n)) sizes packed.entries.list) found packed.packed) in
-    subst (λ (e : Entries). Listed e.list (x ∷ y ∷ [])) same
-    (told_listed a (operand_of store) (slice_index store.ranges) (suc n) sizes packed.entries.list whole x y path)
+    let sizes = operand_sizes s (slice_index ranges) n packed.entries in (
+      sizes,
+      subst (λ (e : Entries). IsPackedOperand a by_rows sizes e.list (operand_of store (suc n))) same
+          (subst (λ f. IsPackedOperand a f sizes packed.entries.list (operand_of store (suc n))) format
+          (subst (IsPackedOperand a (format_of formats (suc n)) sizes packed.entries.list) found packed.packed)),
+    )
+
+-- what a store tells to be a path of it is listed among the operand's entries
+pub operand_listed : (a : Arithmetic) (s : Statement) (formats : List (List FormatLevel)) (ranges : List ℕ) (operands : List Entries)
+    (store : Store) → IsStoreFor a s formats ranges operands store → (n : ℕ) (entries : Entries) → slice_get operands n ≡ Some entries
+    → format_of formats (suc n) ≡ by_rows → (x y : ℕ) → (told_by a store).paths (suc n) (x ∷ y ∷ []) ≡ true
+    → Listed entries.list (x ∷ y ∷ [])
+operand_listed a s formats ranges operands store is n entries at format x y path =
+    let whole = operand_packed a s formats ranges operands store is n entries at format in
+    told_listed a (operand_of store) (slice_index store.ranges) (suc n) whole.0 entries.list whole.1 x y path
