@@ -24,6 +24,7 @@ pub(crate) struct KernelReport<'a> {
 impl<'a> Text for KernelReport<'a> {
     ghost text = { λ r. kernel_report r.statement.now r.order.now r.formats.now r.kernel.now };
 
+    #[tactic(auto, using(text_lines::proofs::PutsLemmas::part_of_first, text_lines::proofs::PutsLemmas::part_of_second))]
     fn put<K: Sink>(&self, sink: &mut K) -> Result<(), Refusal> {
         put_heading(sink, self.statement, self.order, self.formats)?;
         put_kernel(sink, self.kernel)

@@ -28,6 +28,7 @@ fn result_name(statement: &Statement) -> &[u8]
 }
 
 /// Appends the turns that loops made, and the storage of the result.
+#[tactic(auto, using(text_lines::proofs::PutsLemmas::part_of_first, text_lines::proofs::PutsLemmas::part_of_second))]
 fn put_result<K: Sink>(
     sink: &mut K,
     statement: &Statement,
@@ -56,6 +57,7 @@ impl<'a> Text for RunReport<'a> {
     ghost text = { λ r. run_report r.kernel.statement.now r.kernel.order.now r.kernel.formats.now r.kernel.kernel.now r.turns.now
         r.tensor.now };
 
+    #[tactic(auto, using(text_lines::proofs::PutsLemmas::part_of_first, text_lines::proofs::PutsLemmas::part_of_second))]
     fn put<K: Sink>(&self, sink: &mut K) -> Result<(), Refusal> {
         self.kernel.put(sink)?;
         put_result(sink, self.kernel.statement, self.turns, self.tensor)
@@ -67,14 +69,14 @@ impl<'a> Text for RunReport<'a> {
 ///
 /// A fault comes only where the output counted one, and want of memory only where it counted one. A front of the text stands
 /// there after a refusal.
-pub fn print_run_report<O: Sink>(
+pub fn print_run_report<'a, O: Sink>(
     out: &mut O,
-    statement: &Statement,
-    order: &[usize],
-    formats: &[Format],
-    kernel: &Kernel,
-    turns: &Turns,
-    tensor: &Tensor,
+    statement: &'a Statement,
+    order: &'a [usize],
+    formats: &'a [Format],
+    kernel: &'a Kernel,
+    turns: &'a Turns,
+    tensor: &'a Tensor,
 ) -> Result<(), WriteRefusal>
     requires formats { length formats.now ≡ length statement.now.tensors }
     requires done { AreDone 1 tensor.now.levels }
