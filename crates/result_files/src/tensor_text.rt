@@ -1,6 +1,6 @@
 //! The text of the tensor that entries stand for.
 ghost use Rattle.result_files.specs.EntriesText.{result_text, MayBeWritten};
-ghost use Rattle.std.proofs.Props.{props};
+ghost use Rattle.result_files.specs.WrittenFacts.{may_be_written_prop};
 
 use crate::printing::Text;
 use mtx_io::put_mtx;
@@ -16,7 +16,7 @@ pub(crate) struct TensorText<'a, S: Semiring> {
     pub(crate) shape: &'a Shape,
     pub(crate) entries: &'a Entries,
     pub(crate) semiring: PhantomData<S>,
-    ghost may_be_written: { ∥ MayBeWritten is_matrix shape.now entries.now ∥₁ },
+    ghost may_be_written: { MayBeWritten is_matrix shape.now entries.now } by { may_be_written_prop is_matrix shape.now entries.now },
 }
 
 impl<'a, S: Semiring> Drop for TensorText<'a, S> {
