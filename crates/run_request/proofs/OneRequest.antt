@@ -1,12 +1,12 @@
 -- A command line asks for one thing, or is refused.
-use Rattle.std.specs.Prelude.{◌≡◌, ℕ, Bool, List, [], Option, Some, None, refl}
+use Rattle.std.specs.Prelude.{◌≡◌, ℕ, Bool, List, [], Option, Some, None}
 use Rattle.std.proofs.Common.{◌∙◌, sym, ap, subst}
 use Rattle.format_spec.specs.declared.format.FormatLevel.{FormatLevel}
 use Rattle.index_notation.specs.declared.syntax.Statement.{Statement}
-use Rattle.index_notation.specs.Notation.{IsNotationOf, IsFaultOf}
+use Rattle.index_notation.specs.Notation.{IsNotationOf}
 use Rattle.notation_reader.proofs.NotationLaws as notations
 use Rattle.expr_terms.proofs.NameOnce.{names_never_both}
-use Rattle.expr_terms.specs.Names.{HasNoNameFault, IsFirstNameFault}
+use Rattle.expr_terms.specs.Names.{HasNoNameFault}
 use Rattle.command_line.specs.declared.Task.{Task}
 use Rattle.command_line.specs.declared.Task.TheVariants.{Run}
 use Rattle.command_line.specs.CommandLine.{CommandLine, Workload, command_line_of}
@@ -116,24 +116,29 @@ module _ (words : List (List ℕ)) (task : Task) (s : Statement) (formats : List
       (subst (λ for. Binds s asks.rest (needs_files for) formats files ranges)
       (one_task words task other asks.names.text names.text asks.rest rest asks.names.line names.line) asks.binds))
 
-  pub never_both : (why : Fault) → IsRefusedByWords words why → IsWant why
-  never_both fault.Usage is = apart (sym is ∙ asks.names.line)
-  never_both (fault.Notation why) (other, text, rest, line, is) =
+  only_want : (why : Fault) → IsRefusedByWords words why → IsWant why
+  only_want fault.Usage is = apart (sym is ∙ asks.names.line)
+  only_want (fault.Notation why) (other, text, rest, line, is) =
       notations.never_both text s why (notation_of other text rest line) is
-  never_both (fault.Named t (named.Name why)) (other, text, rest, line, notation, is) =
+  only_want (fault.Named t (named.Name why)) (other, text, rest, line, notation, is) =
       names_never_both t why
       (subst HasNoNameFault (notations.statement_once text s t (notation_of other text rest line) notation) asks.names.names) is
-  never_both (fault.Named t (named.Binding why)) (other, rest, names, is) =
+  only_want (fault.Named t (named.Binding why)) (other, rest, names, is) =
       binding_apart t rest (needs_files other) formats files ranges why (binds_of other t rest names) is
-  never_both (fault.Named t (named.Cycle cycle)) is = is
-  never_both (fault.Named t (named.Range why)) is = is
-  never_both (fault.Named t (named.SizeLimit tensor level count)) is = is
-  never_both (fault.WorkspaceLimit count) is = is
-  never_both (fault.ReadFault path) is = is
-  never_both (fault.FileBytes path) is = is
-  never_both (fault.BadFile path line kind) is = is
-  never_both (fault.WriteFault path) is = is
-  never_both fault.Memory is = is
+  only_want (fault.Named t (named.Cycle cycle)) is = is
+  only_want (fault.Named t (named.Range why)) is = is
+  only_want (fault.Named t (named.SizeLimit tensor level count)) is = is
+  only_want (fault.WorkspaceLimit count) is = is
+  only_want (fault.ReadFault path) is = is
+  only_want (fault.FileBytes path) is = is
+  only_want (fault.BadFile path line kind) is = is
+  only_want (fault.WriteFault path) is = is
+  only_want fault.Memory is = is
+
+pub never_both : (words : List (List ℕ)) (task : Task) (s : Statement) (formats : List (List FormatLevel)) (files : List (ℕ × List ℕ))
+    (ranges : List (Option ℕ)) (why : Fault)
+    → Asks words task s formats files ranges → IsRefusedByWords words why → IsWant why
+never_both words task s formats files ranges why asks is = only_want words task s formats files ranges asks why is
 
 -- a command line is no statement's and a workload's both
 abbrev IsStatement : Option CommandLine → Type 0
@@ -155,7 +160,7 @@ pub workload_taken : (words : List (List ℕ)) (size : ℕ) (why : Fault)
     → command_line_of words ≡ Some (Workload size) → IsRefusedByWords words why → IsWant why
 workload_taken words size fault.Usage is refused = apart (sym refused ∙ is)
 workload_taken words size (fault.Notation why) is (task, text, rest, line, h) = absurd (no_statement words size task text rest is line)
-workload_taken words size (fault.Named t (named.Name why)) is (task, text, rest, line, h) =
+workload_taken words size (fault.Named t (named.Name why)) is (task, text, rest, line, notation, h) =
     absurd (no_statement words size task text rest is line)
 workload_taken words size (fault.Named t (named.Binding why)) is (task, rest, names, h) =
     absurd (no_statement words size task names.text rest is names.line)

@@ -19,7 +19,6 @@ use Rattle.bindings.specs.declared.fault.BindingFault.TheVariants as binding
 use Rattle.refusals.specs.declared.fault.NamedFault.TheVariants.{Name, Binding}
 use Rattle.refusals.specs.declared.fault.Fault.{Fault}
 use Rattle.refusals.specs.declared.fault.Fault.TheVariants.{Usage, Notation, Named, Memory}
-use Rattle.run_request.specs.declared.asked.Asked.{Asked}
 use Rattle.run_request.specs.declared.asked.Work.{Work}
 use Rattle.run_request.specs.declared.asked.Work.TheVariants as work
 
