@@ -34,8 +34,10 @@ pack_table-requires-clause-below g c =
     c.requires.inside) a)
 
 pub invariant_of-rows : goal.invariant_of-rows
-invariant_of-rows g c = subst (λ f. HasColumns f c.args.entries.now.list c.in-Ok.order)
-    (c.levels.ensures.value ∙ sym c.levels-2.ensures.value) c.in-Ok.ensures.columns
+invariant_of-rows g c = record {
+  gathered = subst (λ f. HasColumns f c.args.entries.now.list c.in-Ok.order) (c.levels.ensures.value ∙ sym c.levels-2.ensures.value)
+      c.in-Ok.ensures.columns;
+}
 
 pub invariant_of-result : goal.invariant_of-result
 invariant_of-result g c = subst (λ f. IsStorage (storage_of f c.in-Ok-pack_table.packed.levels c.in-Ok-pack_table.packed.values))
