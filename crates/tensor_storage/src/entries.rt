@@ -148,10 +148,11 @@ pub(crate) fn arrange(
     ensures arranged { IfOk result (λ order. AreArranged format.now entries.now.list (numbers_of (length entries.now.list) order)) }
     ensures columns { IfOk result (HasColumns format.now entries.now.list) }
 {
+    let count = entries.len();
     if are_in_order(format, entries) {
         return Ok(EntryOrder::Own);
     }
-    let mut numbers = numbers_below(alloc, entries.len())?;
+    let mut numbers = numbers_below(alloc, count)?;
     sort_numbers(format, entries, &mut numbers)?;
     let columns = columns_of(alloc, format, entries, &numbers)?;
     Ok(EntryOrder::Sorted { numbers, columns })
