@@ -12,7 +12,7 @@ use format_spec::Format;
 use index_notation::Statement;
 use kernel_code::{Kernel, Turns};
 use outside::{Refusal, Sink};
-use report_text::put_turns;
+use report_text::{name_of, put_turns};
 use result_files::{Text, WriteRefusal, print_text};
 use storage_text::put_store_text;
 use tensor_storage::Tensor;
@@ -21,10 +21,7 @@ use tensor_storage::Tensor;
 fn result_name(statement: &Statement) -> &[u8]
     ensures { result.now ≡ bytes_of (slice_get statement.now.tensors 0) }
 {
-    match statement.tensors.as_slice().first() {
-        Some(name) => name.bytes.as_slice(),
-        None => b"",
-    }
+    name_of(statement.tensors.as_slice(), 0)
 }
 
 /// Appends the turns that loops made, and the storage of the result.

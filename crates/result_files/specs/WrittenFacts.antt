@@ -1,4 +1,4 @@
--- That entries may be written has one proof at most.
+-- That entries may be written has one proof at most: what a value holds beside its fields is told by them.
 use Rattle.std.specs.Prelude.{◌≡◌, ◌⊎◌, ℕ, ◌<◌, Bool, List, [], ◌∷◌}
 use Rattle.std.specs.Coded.{×_prop, Unit-prop, le_prop}
 use Rattle.std.proofs.Common.{ap, arith, inl, inr}

@@ -11,23 +11,13 @@ use tensor_map::{Entries, Shape};
 use tns_io::put_tns;
 
 /// The entries' tensor over this shape, as a Matrix Market file or else as a `.tns` file, without what `S` says is zero.
+#[derive(Drop)]
 pub(crate) struct TensorText<'a, S: Semiring> {
     pub(crate) is_matrix: bool,
     pub(crate) shape: &'a Shape,
     pub(crate) entries: &'a Entries,
     pub(crate) semiring: PhantomData<S>,
     ghost may_be_written: { MayBeWritten is_matrix shape.now entries.now } by { may_be_written_prop is_matrix shape.now entries.now },
-}
-
-impl<'a, S: Semiring> Drop for TensorText<'a, S> {
-    fn drop(self) {
-        let TensorText {
-            is_matrix: _,
-            shape: _,
-            entries: _,
-            semiring: _,
-        } = self;
-    }
 }
 
 impl<'a, S: Semiring> Text for TensorText<'a, S> {

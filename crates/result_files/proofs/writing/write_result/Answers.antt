@@ -30,8 +30,8 @@ returns-in-Some-clause-refused g c =
     (part_in_file _ text _ _ (g.O.Sink.state c.args.out.now) (g.O.Sink.state c.args.out.now) c.in-Some.path.now why path part))
     c.write_file.ensures.part
 
-pub returns-clause-written : goal.returns-clause-written
-returns-clause-written g c =
+pub returns-in-None-clause-written : goal.returns-in-None-clause-written
+returns-in-None-clause-written g c =
     let a = g.S.Semiring.arithmetic in
     let entries = c.args.entries.now in
     let text : List ℕ = result_text c.is_matrix.result a c.args.shape.now entries.list in
@@ -42,8 +42,8 @@ returns-clause-written g c =
     (put_out _ text (g.F.Folder.state c.args.files.now) (g.F.Folder.state c.args.files.now) _ _ path whole))
     c.print_text.ensures.whole
 
-pub returns-clause-refused : goal.returns-clause-refused
-returns-clause-refused g c =
+pub returns-in-None-clause-refused : goal.returns-in-None-clause-refused
+returns-in-None-clause-refused g c =
     let a = g.S.Semiring.arithmetic in
     let entries = c.args.entries.now in
     let text : List ℕ = result_text c.is_matrix.result a c.args.shape.now entries.list in
