@@ -6,3 +6,4 @@ pub mod Fills
 pub mod ResultText
 pub mod Writes
 pub mod Tally
+pub mod WrittenFacts

@@ -1,9 +1,8 @@
 -- Texts of lists, element by element.
-use Rattle.std.specs.Prelude.{◌≡◌, ℕ, zero, suc, ◌+◌, List, [], ◌∷◌, ◌++◌, map, drop, Some, None, slice_get}
+use Rattle.std.specs.Prelude.{◌≡◌, ℕ, zero, suc, ◌+◌, List, [], ◌∷◌, ◌++◌, drop, Some, None, slice_get}
 use Rattle.std.specs.List.{flat_map}
-use Rattle.std.proofs.Common.{◌∙◌, sym, ap, add-one}
-use Rattle.std.proofs.lemmas.Option.{same_Some, slice_get-map}
-use Rattle.std.specs.Option.{option_map}
+use Rattle.std.proofs.Common.{◌∙◌, ap, sym, add-one}
+use Rattle.std.proofs.lemmas.Option.{same_Some}
 
 module _ {A : Type 0} where
   nothing : (x : A) → None ≡ Some x → ⊥
@@ -16,12 +15,7 @@ module _ {A : Type 0} where
   get_drop (y ∷ xs) zero x h = ap (λ (z : A). z ∷ xs) (same_Some y x h)
   get_drop (y ∷ xs) (suc i) x h = get_drop xs i x h
 
-  -- the text from an element on
+  -- the text of the elements from one on
   pub text_step : (f : A → List ℕ) (xs : List A) (i : ℕ) (x : A) → slice_get xs i ≡ Some x
       → flat_map f (drop i xs) ≡ f x ++ flat_map f (drop (i + 1) xs)
   text_step f xs i x h = ap (flat_map f) (get_drop xs i x h) ∙ ap (λ (k : ℕ). f x ++ flat_map f (drop k xs)) (sym (add-one i))
-
--- an element of a list that is made of another's
-pub get_of_map : {A B : Type 0} (f : A → B) (xs : List A) (i : ℕ) (x : A) → slice_get xs i ≡ Some x
-    → slice_get (map f xs) i ≡ Some (f x)
-get_of_map f xs i x h = slice_get-map f xs i ∙ ap (option_map f) h
