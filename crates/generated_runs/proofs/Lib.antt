@@ -4,6 +4,7 @@ pub mod Cycles
 pub mod Facts
 pub mod Fits
 pub mod Formats
+pub mod Matrices
 pub mod Paths
 pub mod Runnable
 pub mod Segments

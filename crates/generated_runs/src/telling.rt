@@ -27,10 +27,11 @@ fn sum_of(entries: &Entries) -> u64
 /// Runs the workload of this size: draws B, C and D, each with as many entries as rows, of which those with equal coordinates are added,
 /// and computes `A(i,j) = B(i,j) * C(i,j) + D(i,j)` by its kernel, all tensors in format `ds`.
 ///
-/// Refused only for want of memory.
+/// Its merged loops turn no more often than the cost that is told. Refused only for want of memory.
 pub fn run_workload(alloc: Global, size: u64) -> Result<Workload, AllocError>
     requires { size ≤ greatest_workload }
-    ensures { IfOk result (IsWorkload size) }
+    ensures run { IfOk result (IsWorkload size) }
+    ensures few { IfOk result (λ workload. workload.turns.merge ≤ workload.cost) }
 {
     let (first, second, third) = generate(alloc, size)?;
     let first_count = first.len() as u64;
