@@ -82,11 +82,11 @@ no_rows_walked (suc zero) h = refl
 no_rows_walked (suc (suc zero)) h = refl
 no_rows_walked (suc (suc (suc k))) h = absurd (omega (arith, h))
 
-module _ (stored : Stored) (ranges : ℕ → ℕ) where
-  -- the entries below row x that are stored of an access
-  abbrev pub entries_below : ℕ → ℕ → List LevelEntry
-  entries_below k x = segment workload_statement workload_formats stored (0 ∷ []) (with_coordinate (λ v. 0) 0 x) k
+-- the entries below row x that are stored of an access
+abbrev pub entries_below : Stored → ℕ → ℕ → List LevelEntry
+entries_below stored k x = segment workload_statement workload_formats stored (0 ∷ []) (with_coordinate (λ v. 0) 0 x) k
 
+module _ (stored : Stored) (ranges : ℕ → ℕ) where
   abbrev all_nests : List Nest
   all_nests = map (nest_of workload_statement (0 ∷ 1 ∷ [])) (terms workload_statement.expr)
 
@@ -95,25 +95,25 @@ module _ (stored : Stored) (ranges : ℕ → ℕ) where
 
   -- the columns of a row: those that are stored of each operand
   columns_most : (x : ℕ) → number (group_of 1 (group_of 0 all_nests)) (0 ∷ []) (with_coordinate (λ v. 0) 0 x) 1
-      ≤ length (entries_below 0 x) + length (entries_below 1 x) + length (entries_below 2 x)
+      ≤ length (entries_below stored 0 x) + length (entries_below stored 1 x) + length (entries_below stored 2 x)
   unfolding workload_statement workload_formats hidden-the_row-Expr-0 hidden
   columns_most x =
       let point = with_coordinate (λ v. 0) 0 x in
       let group = group_of 1 (group_of 0 all_nests) in
       let counted = walked_most workload_statement workload_formats stored
       (segment_length workload_statement workload_formats stored (0 ∷ []) point) group (0 ∷ []) point 1 in
-      let first = ones (entries_below 0 x) in
-      let second = ones (entries_below 1 x) in
-      let third = ones (entries_below 2 x) in
+      let first = ones (entries_below stored 0 x) in
+      let second = ones (entries_below stored 1 x) in
+      let third = ones (entries_below stored 2 x) in
       omega (arith, counted, first, second, third)
 
   inner : (x : ℕ) → total workload_statement workload_formats stored ranges number (1 ∷ []) (group_of 0 all_nests) (0 ∷ [])
-      (with_coordinate (λ v. 0) 0 x) ≤ length (entries_below 0 x) + length (entries_below 1 x) + length (entries_below 2 x)
+      (with_coordinate (λ v. 0) 0 x) ≤ length (entries_below stored 0 x) + length (entries_below stored 1 x) + length (entries_below stored 2 x)
   inner x =
       let none = count_none (ranges 1) in
       let columns = columns_most x in
       total_most workload_statement workload_formats stored ranges number 1 [] (group_of 0 all_nests) (0 ∷ []) (with_coordinate (λ v. 0) 0 x)
-      (length (entries_below 0 x) + length (entries_below 1 x) + length (entries_below 2 x)) (omega (arith, none, columns)) (omega arith)
+      (length (entries_below stored 0 x) + length (entries_below stored 1 x) + length (entries_below stored 2 x)) (omega (arith, none, columns)) (omega arith)
 
   rows_most : number (group_of 0 all_nests) [] (λ v. 0) 0 ≤ ranges 0
   rows_most =
@@ -128,17 +128,17 @@ module _ (stored : Stored) (ranges : ℕ → ℕ) where
   no_columns = refl
 
   pub cost_most : statement_cost workload_statement workload_formats (0 ∷ 1 ∷ []) stored ranges
-      ≤ ranges 0 + (count_below (ranges 0) (λ x. length (entries_below 0 x)) + count_below (ranges 0) (λ x. length (entries_below 1 x))
-      + count_below (ranges 0) (λ x. length (entries_below 2 x)))
+      ≤ ranges 0 + (count_below (ranges 0) (λ x. length (entries_below stored 0 x)) + count_below (ranges 0) (λ x. length (entries_below stored 1 x))
+      + count_below (ranges 0) (λ x. length (entries_below stored 2 x)))
   cost_most =
       let rows = rows_most in
       let none = no_columns in
       let each = count_most (ranges 0)
       (λ x. total workload_statement workload_formats stored ranges number (1 ∷ []) (group_of 0 all_nests) (0 ∷ [])
       (with_coordinate (λ v. 0) 0 x))
-      (λ x. length (entries_below 0 x) + length (entries_below 1 x) + length (entries_below 2 x)) inner in
-      let two = count_plus (ranges 0) (λ x. length (entries_below 0 x)) (λ x. length (entries_below 1 x)) in
-      let three = count_plus (ranges 0) (λ x. length (entries_below 0 x) + length (entries_below 1 x)) (λ x. length (entries_below 2 x)) in
+      (λ x. length (entries_below stored 0 x) + length (entries_below stored 1 x) + length (entries_below stored 2 x)) inner in
+      let two = count_plus (ranges 0) (λ x. length (entries_below stored 0 x)) (λ x. length (entries_below stored 1 x)) in
+      let three = count_plus (ranges 0) (λ x. length (entries_below stored 0 x) + length (entries_below stored 1 x)) (λ x. length (entries_below stored 2 x)) in
       total_most workload_statement workload_formats stored ranges number 0 (1 ∷ []) all_nests [] (λ v. 0)
-      (ranges 0 + (count_below (ranges 0) (λ x. length (entries_below 0 x)) + count_below (ranges 0) (λ x. length (entries_below 1 x))
-      + count_below (ranges 0) (λ x. length (entries_below 2 x)))) (omega (arith, rows, each, two, three)) (omega (arith, none))
+      (ranges 0 + (count_below (ranges 0) (λ x. length (entries_below stored 0 x)) + count_below (ranges 0) (λ x. length (entries_below stored 1 x))
+      + count_below (ranges 0) (λ x. length (entries_below stored 2 x)))) (omega (arith, rows, each, two, three)) (omega (arith, none))

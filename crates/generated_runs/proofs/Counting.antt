@@ -175,7 +175,7 @@ still_each x y (c ∷ cs) es lacks there = (
   still_each x y cs es lacks.1 there.1,
 )
 
-each_kept : {P Q : LevelEntry → Type 0} → ((e : LevelEntry) → P e → Q e) → (cs : List LevelEntry) → Each P cs → Each Q cs
+pub each_kept : {P Q : LevelEntry → Type 0} → ((e : LevelEntry) → P e → Q e) → (cs : List LevelEntry) → Each P cs → Each Q cs
 each_kept keep [] all = tt
 each_kept keep (c ∷ cs) all = (keep c all.0, each_kept keep cs all.1)
 

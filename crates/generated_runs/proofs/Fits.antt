@@ -18,7 +18,7 @@ use Rattle.loop_code.specs.Turns.{count_below}
 use Rattle.lowering.specs.Right.{pairs, one_if}
 use Rattle.iteration_graph.specs.Edges.{format_of}
 use Rattle.tensor_storage.specs.Arranged.{table_of}
-use Rattle.tensor_storage.specs.Counts.{AreFew, positions_from, positions_of}
+use Rattle.tensor_storage.specs.Counts.{AreFew, different, positions_from, positions_of}
 use Rattle.tensor_storage.specs.Stands.{row_from}
 use Rattle.tensor_storage.specs.Storages.{in_level_order}
 use Rattle.tensor_storage.specs.Tables.{Table}
@@ -42,13 +42,17 @@ unfolding greatest_workload greatest_position_count
 twice = lit≤ tt
 
 -- ---- positions of a tensor in format `ds`
+abbrev within : ℕ → Type 0
+within count = count ≤ greatest_position_count
+
 few_positions : (table : Table) (rows columns : ℕ) (es : List Entry) → rows ≤ greatest_position_count
     → length es ≤ greatest_position_count
     → ((i : ℕ) → i < table.count → Listed es (table.coords 0 i ∷ table.coords 1 i ∷ []))
     → AreFew (positions_from table 0 1 (Dense ∷ Compressed ∷ []) (rows ∷ columns ∷ []))
 few_positions table rows columns es few short there =
     let entries = few_different table.coords table.count es there in
-    All-cons _ _ _ (omega (arith, few)) (All-cons _ _ _ (omega (arith, entries, short)) (All-nil _))
+    All-cons within (1 * rows) (different table.coords 2 table.count ∷ []) (omega (arith, few))
+    (All-cons within (different table.coords 2 table.count) [] (omega (arith, entries, short)) (All-nil within))
 
 greatest_is : (n : ℕ) → max n 0 ≡ n
 greatest_is n = omega arith
@@ -62,7 +66,7 @@ operand_fits a n rows columns entries most small is counts have =
     (omega (arith, few, small)) (row_listed a entries.list have.summed have.numbers have.are_summed have.arranged))
 
 -- ---- the operands
-format_at : (k : ℕ) → k < 3 → format_of workload_formats (suc k) ≡ by_rows
+pub format_at : (k : ℕ) → k < 3 → format_of workload_formats (suc k) ≡ by_rows
 unfolding workload_formats
 format_at zero h = refl
 format_at (suc zero) h = refl
@@ -170,7 +174,7 @@ module _ (a : Arithmetic) (n : ℕ) (first second third : Entries) (few : n ≤ 
         (λ x y h k is. listed_at_first x y (both_true _ _ is).0) in
         let others = few_pass rows columns (λ x y. paths 3 (x ∷ y ∷ [])) third.list (λ x y h k is. listed_at_third x y is) in
         let both : pairs workload_statement (standing_order workload_statement) (told_by a store)
-        ≡ count_below rows (λ x. count_below columns (λ y. one_if (paths 1 (x ∷ y ∷ []) && paths 2 (x ∷ y ∷ []))))
+        ≡ 0 + count_below rows (λ x. count_below columns (λ y. one_if (paths 1 (x ∷ y ∷ []) && paths 2 (x ∷ y ∷ []))))
         + count_below rows (λ x. count_below columns (λ y. one_if (paths 3 (x ∷ y ∷ [])))) = refl in
         let one = are.0.few in
         let other = are.2.few in

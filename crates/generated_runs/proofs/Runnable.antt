@@ -29,12 +29,15 @@ are_read (suc zero) h = record { place = 1; access = matrix_at 2; stands = refl;
 are_read (suc (suc zero)) h = record { place = 2; access = matrix_at 3; stands = refl; tensor_is = refl }
 are_read (suc (suc (suc n))) h = absurd (omega (arith, h))
 
+abbrev within : ℕ → Type 0
+within range = range ≤ greatest_position_count
+
 are_ranges : (n : ℕ) (first second third : Entries) → n ≤ greatest_position_count → AreMatrices n (first ∷ second ∷ third ∷ [])
     → AreRanges workload_statement (first ∷ second ∷ third ∷ []) (n ∷ n ∷ [])
 unfolding workload_statement
 are_ranges n first second third small are = record {
   long = refl;
-  small = All-cons _ n (n ∷ []) small (All-cons _ n [] small (All-nil _));
+  small = All-cons within n (n ∷ []) small (All-cons within n [] small (All-nil within));
   below = (are.0.below, (are.1.below, (are.2.below, tt)));
 }
 

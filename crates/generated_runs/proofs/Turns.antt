@@ -45,12 +45,14 @@ same_below : (levels : List StorageLevel) (stored : Stored) (k : ℕ) → ((p : 
 same_below levels stored k same None = refl
 same_below levels stored k same (Some p) = same p
 
-hashed_level : FormatLevel → Type 0
-hashed_level level = level.letter ≡ Hashed → ⊥
+isnt_hashed : FormatLevel → Type 0
+isnt_hashed level = level.letter ≡ Hashed → ⊥
 
-none_hashed : All hashed_level by_rows
-unfolding hashed_level
-none_hashed = All-cons hashed_level _ _ dense_isnt (All-cons hashed_level _ _ compressed_isnt (All-nil hashed_level))
+none_hashed : All isnt_hashed by_rows
+unfolding isnt_hashed
+none_hashed = 
+    All-cons isnt_hashed (record { letter = Dense; mode = 0 }) (record { letter = Compressed; mode = 1 } ∷ []) dense_isnt
+    (All-cons isnt_hashed (record { letter = Compressed; mode = 1 }) [] compressed_isnt (All-nil isnt_hashed))
   where
     dense_isnt : Dense ≡ Hashed → ⊥
     dense_isnt e = cc
@@ -59,7 +61,7 @@ none_hashed = All-cons hashed_level _ _ dense_isnt (All-cons hashed_level _ _ co
     compressed_isnt e = cc
 
 operands_unhashed : NoneHashed workload_statement workload_formats
-unfolding workload_statement workload_formats hashed_level
+unfolding workload_statement workload_formats isnt_hashed
 operands_unhashed = (none_hashed, (none_hashed, (none_hashed, tt)))
 
 module _ (a : Arithmetic) (n : ℕ) (first second third : Entries) (store : Store)
