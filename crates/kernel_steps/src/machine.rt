@@ -17,8 +17,8 @@ use crate::ending::Ending;
 use kernel_code::{Arr, KExpr, LoopKind, Turns};
 use lent_arrays::LentArrays;
 use machine_parts::{
-    OwnArray, PlacedRow, Places, Table, append_copies, append_word, apply_to_operands,
-    coordinates_of, count_told, is_same, least_operand, may_be_written, may_grow, number_of_keys,
+    OwnArray, PlacedRow, Places, Table, append_copies, append_word, apply_to_words, coordinates_of,
+    count_told, decided_by_first, is_same, least_operand, may_be_written, may_grow, number_of_keys,
     positions_of, rows_of_list, sort_rows, sum_of_words, sum_rows, values_of, width_of_operand,
     words_at,
 };
@@ -59,9 +59,12 @@ pub(crate) fn value_of(machine: &Machine, e: &KExpr) -> Option<u64>
         }
         KExpr::Len(a) => machine.length(*a),
         KExpr::Bin(op, a, b) => {
-            let x = value_of(machine, a.get());
-            let y = value_of(machine, b.get());
-            apply_to_operands(*op, x, y)
+            let x = value_of(machine, a.get())?;
+            if let Some(decided) = decided_by_first(*op, x) {
+                return Some(decided);
+            }
+            let y = value_of(machine, b.get())?;
+            Some(apply_to_words(*op, x, y))
         }
         KExpr::Min(a, b) => {
             let x = value_of(machine, a.get());

@@ -10,7 +10,9 @@ mod sums;
 mod tables;
 mod words;
 
-pub use operators::{apply_to_operands, combine_operands, least_operand, width_of_operand};
+pub use operators::{
+    apply_to_words, combine_operands, decided_by_first, least_operand, width_of_operand,
+};
 pub use places::Places;
 pub use rows::{ScratchRow, coordinates_of, positions_of, rows_of_list, sort_rows};
 pub use sums::{PlacedRow, number_of_keys, sum_rows, values_of, words_at};

@@ -1,5 +1,5 @@
 //! The operators of expressions, on operands that may be stuck.
-ghost use Rattle.std.specs.Prelude.{◌≡◌, Some, min};
+ghost use Rattle.std.specs.Prelude.{◌≡◌, ℕ, Option, Some, MatchOption, min};
 ghost use Rattle.kernel_code.specs.Meaning.{apply, apply_each, apply_both, combined, width, width_of};
 
 use kernel_code::{Op, ValueOp};
@@ -25,8 +25,9 @@ pub fn width_of_operand(x: Option<u64>) -> Option<u64>
     }
 }
 
+/// The operator of two words.
 #[tactic(auto, unfolding(numbers::specs::Ring::word_sum, numbers::specs::Ring::word_difference, numbers::specs::Ring::word_product))]
-fn apply_to_words(op: Op, x: u64, y: u64) -> u64
+pub fn apply_to_words(op: Op, x: u64, y: u64) -> u64
     ensures { result ≡ apply op x y }
 {
     match op {
@@ -42,26 +43,16 @@ fn apply_to_words(op: Op, x: u64, y: u64) -> u64
     }
 }
 
-fn apply_to_first(op: Op, x: u64, y: Option<u64>) -> Option<u64>
-    ensures { result ≡ apply_both op (Some x) y }
+/// The value where the first operand decides it, whatever the second one is or wherever that is stuck; else none, and the
+/// second operand counts.
+pub fn decided_by_first(op: Op, x: u64) -> Option<u64>
+    ensures { MatchOption result ((y : Option ℕ) → apply_both op (Some x) y ≡ apply_each (apply op) (Some x) y)
+        (λ v. (y : Option ℕ) → apply_both op (Some x) y ≡ Some v) }
 {
     match op {
         Op::And if x == 0 => Some(0),
         Op::Or if x != 0 => Some(1),
-        _ => match y {
-            None => None,
-            Some(y) => Some(apply_to_words(op, x, y)),
-        },
-    }
-}
-
-/// Of operands that may be stuck: the second counts only where the first leaves the answer open.
-pub fn apply_to_operands(op: Op, x: Option<u64>, y: Option<u64>) -> Option<u64>
-    ensures { result ≡ apply_both op x y }
-{
-    match x {
-        None => None,
-        Some(x) => apply_to_first(op, x, y),
+        _ => None,
     }
 }
 

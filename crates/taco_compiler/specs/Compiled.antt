@@ -17,6 +17,7 @@ use Rattle.kernel_stores.specs.Kernels.{Ends, IsRightKernel, IsSoundKernel}
 use Rattle.kernel_stores.specs.Stores.{Store, IsStoreOf, IsGiven, operand_of, told_by}
 use Rattle.lists.specs.Each.{Each}
 use Rattle.lowering.specs.Stored.{stored_of}
+use Rattle.simplifier.specs.Folded.{SimpleCode}
 use Rattle.sparse_kernels.specs.Turns.{HasPoints}
 use Rattle.statement_costs.specs.Costs.{statement_cost, statement_repeats}
 use Rattle.taco_compiler.specs.declared.compiled.CompileFault.{CompileFault}
@@ -90,8 +91,8 @@ pub record IsCompiled (a : Arithmetic) (s : Statement) (formats : List (List For
   pub few : KeepsCost a s formats order kernel
   pub drains : KeepsDrains a s formats kernel
 
--- such a kernel in the loop order; or the cycle, where there is one; or want of memory
+-- such a kernel in the loop order, in whose code numbers settle nothing; or the cycle, where there is one; or want of memory
 abbrev pub Answers : Arithmetic → Statement → List (List FormatLevel) → Result Compiled CompileFault → Type 0
-Answers a s formats (Ok c) = IsOrder s formats c.order × IsCompiled a s formats c.order c.kernel
+Answers a s formats (Ok c) = IsOrder s formats c.order × IsCompiled a s formats c.order c.kernel × SimpleCode c.kernel.body
 Answers a s formats (Err (Cycle cycle)) = HasCycle s formats cycle
 Answers a s formats (Err (Memory error)) = Unit {0}

@@ -1,6 +1,6 @@
 //! From a statement and the storage formats of its tensors to a kernel: the order of its loops, its concrete notation, the loops over
-//! levels, and their code. `specs/Compiled.antt` says what is promised of the kernel, by what it leaves and how often its loops turn;
-//! it names no loop and no code.
+//! levels, and their code, which is simplified. `specs/Compiled.antt` says what is promised of the kernel, by what it leaves and how
+//! often its loops turn; of its loops and code it names nothing, but that numbers settle nothing in it.
 #![tactic(auto)]
 
 mod compiled;

@@ -249,11 +249,27 @@ next_number n =
     let same : 0 + n ≡ n = omega arith in
     ap (λ k. range_with_len 0 n ++ k ∷ []) (sym same) ∙ range_more 0 n ∙ ap (range_with_len 0) (sym (add-one n))
 
--- what was read anew is arranged as well
-pub same_arranged : (given format : List FormatLevel) (entries : List Entry) (items numbers : List ℕ) → given ≡ format → items ≡ numbers
-    → AreArranged given entries items → AreArranged format entries numbers
-same_arranged given format entries items numbers same read a =
-    subst (λ f. AreArranged f entries numbers) same (subst (λ ns. AreArranged given entries ns) read a)
+-- in their own order entries are named by their places
+pub number_at : (n i : ℕ) → i < length (range_with_len 0 n) → slice_index (range_with_len 0 n) i ≡ i
+number_at n i h =
+    let long = length-range_with_len 0 n in
+    let at = get_or-range_with_len 0 n i 0 (omega (arith, h, long)) in
+    omega (arith, at)
+
+-- what doesn't stand behind the next in its own order is sorted by the numbers
+pub sorted_range : (before : ℕ → ℕ → Bool) (n : ℕ) → ((k : ℕ) → k + 1 < n → before (k + 1) k ≡ false)
+    → IsSortedBy before (range_with_len 0 n)
+sorted_range before n each k d low high =
+    let long = length-range_with_len 0 n in
+    let within : k + 1 < n = omega (arith, high, long) in
+    let here : get_or (range_with_len 0 n) k d ≡ k = get_or-range_with_len 0 n k d (omega arith) ∙ omega arith in
+    let next : get_or (range_with_len 0 n) (k + 1) d ≡ k + 1 = get_or-range_with_len 0 n (k + 1) d within ∙ omega arith in
+    ap (λ x. before x (get_or (range_with_len 0 n) k d)) next ∙ ap (before (k + 1)) here ∙ each k within
+
+-- entries are arranged for a format that is read anew as well
+pub same_arranged : (given format : List FormatLevel) (entries : List Entry) (numbers : List ℕ) → given ≡ format
+    → AreArranged given entries numbers → AreArranged format entries numbers
+same_arranged given format entries numbers same a = subst (λ f. AreArranged f entries numbers) same a
 
 -- a refusal of the rows is one of the entries
 pub refused : (format : List FormatLevel) (ranges : List ℕ) (entries : List Entry) (numbers : List ℕ) (refusal : PackRefusal)

@@ -3,6 +3,7 @@ pub mod Arranging
 pub mod Chains
 pub mod Children
 pub mod Counts
+pub mod EntryOrderLaws
 pub mod EntrySame
 pub mod LevelSame
 pub mod LevelSorts

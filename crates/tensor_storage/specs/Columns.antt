@@ -8,7 +8,7 @@ use Rattle.tensor_storage.specs.Arranged.{level_coords}
 abbrev pub column_of : List FormatLevel → List Entry → List ℕ → ℕ → List ℕ
 column_of format entries numbers level = map (λ number. slice_index (level_coords format entries number) level) numbers
 
--- each column is that of its level, and there may be fewer columns than levels
-abbrev pub AreColumns : List FormatLevel → List Entry → List ℕ → List (List ℕ) → Type 0
-AreColumns format entries numbers columns = (level : ℕ) → level < length columns
-    → slice_index_or columns level [] ≡ column_of format entries numbers level
+-- of each level its column
+pub record AreColumns (format : List FormatLevel) (entries : List Entry) (numbers : List ℕ) (columns : List (List ℕ)) : Type 0 where
+  pub as_many : length columns ≡ length format
+  pub each : (level : ℕ) → level < length columns → slice_index_or columns level [] ≡ column_of format entries numbers level

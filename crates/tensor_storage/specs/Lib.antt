@@ -4,6 +4,7 @@ pub mod Chains
 pub mod Columns
 pub mod Children
 pub mod Counts
+pub mod EntryOrders
 pub mod Laws
 pub mod Levels
 pub mod New

@@ -1,5 +1,5 @@
 // The entries of a tensor as rows for the levels of a format.
-ghost use Rattle.std.specs.Prelude.{◌≡◌, ◌≤◌, ◌<◌, length, slice_index, All, IfOk, OnOk, true};
+ghost use Rattle.std.specs.Prelude.{◌≡◌, ◌<◌, length, slice_index, IfOk, OnOk, true};
 ghost use Rattle.std.specs.Ordering.{nat_cmp, is_lt};
 ghost use Rattle.std.specs.Cmp.Lexicographic.{slice_cmp};
 ghost use Rattle.std.specs.List.{range_with_len};
@@ -8,6 +8,7 @@ ghost use Rattle.format_spec.specs.Formats.{IsFormat};
 ghost use Rattle.tensor_map.specs.Entries.{StrictlyIncreasing};
 ghost use Rattle.tensor_storage.specs.Arranged.{level_coords, table_of, AreArranged};
 ghost use Rattle.tensor_storage.specs.Columns.{column_of, AreColumns};
+ghost use Rattle.tensor_storage.specs.EntryOrders.{numbers_of, HasColumns};
 ghost use Rattle.std.proofs.Props.{props};
 
 use crate::table::RowTable;
@@ -16,6 +17,19 @@ use std::alloc::{AllocError, Global};
 use std::cmp::Ordering;
 use tensor_map::Entries;
 use trees::Items;
+
+/// The order of the entries of a tensor by their coordinates, level by level.
+#[derive(Drop)]
+pub(crate) enum EntryOrder {
+    /// The entries stand in it.
+    Own,
+    /// Their numbers stand in it, and beside them the coordinates at each level, which are looked up once: the entries themselves
+    /// stand far apart in memory.
+    Sorted {
+        numbers: Vec<usize>,
+        columns: Items<Items<u64>>,
+    },
+}
 
 /// The coordinate at a level of the entry of this number: zero where there is no such level or entry.
 fn coordinate(format: &[FormatLevel], entries: &Entries, level: usize, number: usize) -> u64
@@ -47,13 +61,13 @@ fn compare_entries(format: &[FormatLevel], entries: &Entries, left: usize, right
     Ordering::Equal
 }
 
-/// Whether no entry stands behind the next by the coordinates, level by level, in the order in which the numbers name them.
-fn are_in_order(format: &[FormatLevel], entries: &Entries, numbers: &[usize]) -> bool
+/// Whether no entry stands behind the next by the coordinates, level by level.
+fn are_in_order(format: &[FormatLevel], entries: &Entries) -> bool
     ensures { result ≡ true → IsSortedBy (λ left right. is_lt (slice_cmp nat_cmp (level_coords format.now entries.now.list left)
-        (level_coords format.now entries.now.list right))) numbers.now }
+        (level_coords format.now entries.now.list right))) (range_with_len 0 (length entries.now.list)) }
 {
-    for next in 1..numbers.len() {
-        if compare_entries(format, entries, numbers[next], numbers[next - 1]) == Ordering::Less {
+    for next in 1..entries.len() {
+        if compare_entries(format, entries, next, next - 1) == Ordering::Less {
             return false;
         }
     }
@@ -88,35 +102,6 @@ fn sort_numbers(
     Ok(())
 }
 
-/// The numbers of the entries in the order of their coordinates, level by level. Refused for want of memory alone.
-pub(crate) fn arrange(
-    alloc: Global,
-    format: &[FormatLevel],
-    entries: &Entries,
-) -> Result<Vec<usize>, AllocError>
-    requires format { IsFormat format.now }
-    requires order { entries.now.order ≡ length format.now }
-    requires increasing { StrictlyIncreasing entries.now.list }
-    ensures { IfOk result (λ numbers. AreArranged format.now entries.now.list numbers.items) }
-{
-    let mut numbers = numbers_below(alloc, entries.len())?;
-    if are_in_order(format, entries, &numbers) {
-        return Ok(numbers);
-    }
-    sort_numbers(format, entries, &mut numbers)?;
-    Ok(numbers)
-}
-
-/// Whether numbers count from 0 on.
-fn count_up(numbers: &[usize]) -> bool {
-    for at in 0..numbers.len() {
-        if numbers[at] != at {
-            return false;
-        }
-    }
-    true
-}
-
 /// The coordinates at a level of the entries that numbers name. Refused for want of memory alone.
 fn column(
     alloc: Global,
@@ -134,53 +119,90 @@ fn column(
     Ok(column)
 }
 
-/// The coordinates of entries level by level, which are looked up once: where numbers name the entries in another order than their
-/// own, these stand far apart in memory. Else there are no columns. Refused for want of memory alone.
-pub(crate) fn columns_of(
+/// The coordinates of the entries that numbers name, level by level. Refused for want of memory alone.
+fn columns_of(
     alloc: Global,
     format: &[FormatLevel],
     entries: &Entries,
     numbers: &[usize],
 ) -> Result<Items<Items<u64>>, AllocError>
-    ensures { IfOk result (λ columns. AreColumns format.now entries.now.list numbers.now columns) }
+    ensures { IfOk result (AreColumns format.now entries.now.list numbers.now) }
 {
     let mut columns = Items::new(alloc);
-    if count_up(numbers) {
-        return Ok(columns);
-    }
     for level in 0..format.len() {
         columns.push(column(alloc, format, entries, numbers, level)?)?;
     }
     Ok(columns)
 }
 
-/// The entries of a tensor as the rows of a table, in the order in which the numbers name them, with the coordinates of some levels
-/// at hand.
+/// The order of the entries by their coordinates, level by level: where they don't stand in it, their numbers are sorted. Refused
+/// for want of memory alone, and never where they do.
+pub(crate) fn arrange(
+    alloc: Global,
+    format: &[FormatLevel],
+    entries: &Entries,
+) -> Result<EntryOrder, AllocError>
+    requires format { IsFormat format.now }
+    requires order { entries.now.order ≡ length format.now }
+    requires increasing { StrictlyIncreasing entries.now.list }
+    ensures arranged { IfOk result (λ order. AreArranged format.now entries.now.list (numbers_of (length entries.now.list) order)) }
+    ensures columns { IfOk result (HasColumns format.now entries.now.list) }
+{
+    let count = entries.len();
+    if are_in_order(format, entries) {
+        return Ok(EntryOrder::Own);
+    }
+    let mut numbers = numbers_below(alloc, count)?;
+    sort_numbers(format, entries, &mut numbers)?;
+    let columns = columns_of(alloc, format, entries, &numbers)?;
+    Ok(EntryOrder::Sorted { numbers, columns })
+}
+
+/// The entries of a tensor as the rows of a table, in an order of theirs.
 #[derive(Drop)]
 pub(crate) struct EntryRows<'a> {
     pub(crate) format: &'a [FormatLevel],
     pub(crate) entries: &'a Entries,
-    pub(crate) numbers: &'a [usize],
-    pub(crate) columns: &'a Items<Items<u64>>,
-    ghost gathered: { AreColumns format.now entries.now.list numbers.now columns.now } by { Prim.hlevel props },
+    pub(crate) order: &'a EntryOrder,
+    ghost gathered: { HasColumns format.now entries.now.list order.now } by { Prim.hlevel props },
+}
+
+impl<'a> EntryRows<'a> {
+    /// The number of the entry of a row.
+    fn number(&self, row: usize) -> usize
+        requires { row < length (numbers_of (length self.now.entries.now.list) self.now.order.now) }
+        ensures { result ≡ slice_index (numbers_of (length self.now.entries.now.list) self.now.order.now) row }
+    {
+        match self.order {
+            EntryOrder::Own => row,
+            EntryOrder::Sorted { numbers, .. } => numbers[row],
+        }
+    }
 }
 
 impl<'a> RowTable for EntryRows<'a> {
-    ghost table = { λ rows. table_of rows.format.now rows.entries.now.list rows.numbers.now };
+    ghost table = { λ rows. table_of rows.format.now rows.entries.now.list
+        (numbers_of (length rows.entries.now.list) rows.order.now) };
 
     fn count(&self) -> usize {
-        self.numbers.len()
+        match self.order {
+            EntryOrder::Own => self.entries.len(),
+            EntryOrder::Sorted { numbers, .. } => numbers.len(),
+        }
     }
 
     fn coord(&self, level: usize, row: usize) -> u64 {
-        match self.columns.get(level) {
-            Some(column) => column.as_slice()[row],
-            None => coordinate(self.format, self.entries, level, self.numbers[row]),
+        match self.order {
+            EntryOrder::Own => coordinate(self.format, self.entries, level, row),
+            EntryOrder::Sorted { columns, .. } => match columns.get(level) {
+                Some(column) => column.as_slice()[row],
+                None => 0,
+            },
         }
     }
 
     fn value(&self, row: usize) -> u64 {
-        let number = self.numbers[row];
+        let number = self.number(row);
         if number < self.entries.len() {
             self.entries.value(number)
         } else {

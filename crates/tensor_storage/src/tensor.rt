@@ -6,7 +6,7 @@ ghost use Rattle.tensor_storage.specs.Packed.{IsRefusal};
 ghost use Rattle.tensor_map.specs.Entries.{StrictlyIncreasing};
 ghost use Rattle.tensor_storage.specs.Tables.{AreBelow};
 
-use crate::entries::{EntryRows, arrange, columns_of};
+use crate::entries::{EntryRows, arrange};
 use crate::finding::value_at;
 use crate::level::StorageLevel;
 use crate::listing::{append_paths, levels_of_modes, sort_entries};
@@ -61,17 +61,13 @@ impl Tensor {
         ensures { MatchResult result (IsPackedFrom S.arithmetic.zero format shape.now entries.now.list)
             (IsRefusalOf format shape.now entries.now.list) }
     {
-        let Ok(numbers) = arrange(alloc, format.levels(), entries) else {
-            return Err(PackRefusal::Memory);
-        };
-        let Ok(columns) = columns_of(alloc, format.levels(), entries, &numbers) else {
+        let Ok(order) = arrange(alloc, format.levels(), entries) else {
             return Err(PackRefusal::Memory);
         };
         let rows = EntryRows {
             format: format.levels(),
             entries,
-            numbers: &numbers,
-            columns: &columns,
+            order: &order,
         };
         let packed = match pack_table::<S, EntryRows>(
             alloc,
