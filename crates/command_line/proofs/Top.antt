@@ -1,31 +1,42 @@
 -- What `clap` makes of a whole command line, and that it is what `command_line_of` says.
-use Rattle.std.proofs.Common.{◌≡◌, ◌∙◌, ◌≤◌, ◌+◌, ◌++◌, ◌&&◌, ℕ, Bool, cond, true, false, suc, refl, sym, ap, ap₂, subst, arith, codes}
-use Rattle.std.proofs.Common.{map, List, [], ◌∷◌, length, Option, Some, None, true≢false}
+use Rattle.std.proofs.Common.{◌≡◌, ◌∙◌, ◌≤◌, ◌+◌, ◌^◌, ◌++◌, ◌&&◌, ℕ, Bool, cond, true, false, suc, refl, sym, ap, ap₂, subst, arith}
+use Rattle.std.proofs.Common.{codes, map, List, [], ◌∷◌, length, Option, Some, None, true≢false, lt-ltb, nat_lt, nat_le}
 use Rattle.std.specs.Prelude.{String, option_map, option_and_then, slice_get, is_some}
 use Rattle.std.specs.List.{All, fold, list_all}
+use Rattle.std.specs.Char.{digit_value}
 use Rattle.std.specs.Str.{bytes_eq, chars, IsUtf8}
+use Rattle.std.specs.Str.Parse.{digits_value, without_leading_plus}
 use Rattle.std.proofs.lemmas.List.Elements.{All-head, All-tail, All-nil, All-cons}
 use Rattle.std.proofs.lemmas.Str.{IsUtf8-string_bytes}
 use Rattle.std.specs.String.{string_bytes}
 use Rattle.std.proofs.lemmas.List.{length-map}
+use Rattle.std.proofs.lemmas.Bool.{le-leb, leb-true}
 use Rattle.clap.specs.Lexer.{long_of, short_of, usize_max}
 use Rattle.clap.specs.Walk.{Names, Text, Walk, walked, walk, walk_from, nothing_held, rows_after, settled, finished}
 use Rattle.clap.specs.Kinds.{Kinds, or_else}
+use Rattle.clap.specs.ValueTests.{accepts}
 use Rattle.clap.specs.Simple.{App, Shape, built, is_simple, names_of, subcommand_of, entered}
 use Rattle.clap.specs.Takes.{settle_passes, default_passes, is_valid, takes, walk_passes, turn_passes, level_passes, flags_pass}
 use Rattle.clap.specs.Takes.{entered_passes}
 use Rattle.clap.specs.Faults.{settle_fault, defaults_fault, check_fault, fault_of, walk_fault, turn_fault, level_fault, flags_fault}
 use Rattle.clap.specs.Faults.{is_simple_and_free, entered_fault}
+use Rattle.clap.specs.declared.builder.value_parser.ValueParser.TheVariants as value_parser
 use Rattle.clap.specs.declared.error.kind.ErrorKind.{ErrorKind}
 use Rattle.clap.specs.declared.error.kind.ErrorKind.TheVariants as kind
 use Rattle.clap.proofs.OnLiterals.{clap_on_literals}
-use Rattle.clap.proofs.WalkLemmas.{walk_stopped}
+use Rattle.clap.proofs.WalkLemmas.{walk_stopped, both}
 use Rattle.clap.proofs.FaultLemmas.{stopped_fault}
-use Rattle.command_line.specs.CommandLine.{CommandLine, Run, is_option, operands, expr_line, line_of_command, command_line_of}
+use Rattle.limits.specs.Limits.{greatest_workload}
+use Rattle.limits.proofs.Limits.{workloads_are_ranges, positions_are_small}
+use Rattle.command_line.specs.declared.Task.{Task}
+use Rattle.command_line.specs.declared.Task.TheVariants.{Run, Kernel, Report}
+use Rattle.command_line.specs.CommandLine.{CommandLine, Statement, Workload, is_option, is_size, operands, size_line}
+use Rattle.command_line.specs.CommandLine.{statement_line, workload_line, line_of_command, command_line_of}
 use Rattle.command_line.specs.Law.{IsRead, ReadsAll}
-use Rattle.command_line.specs.Clap.{taco_app, clap_line, matched_line}
+use Rattle.command_line.specs.Clap.{taco_app, clap_line, matched_line, u64_read}
 use Rattle.command_line.proofs.Kind.{Kind, dashes, long, short, operand, kind_of_word}
-use Rattle.command_line.proofs.TextLeaf.{some_kind, first_empty, text_shape, text_rows, LevelIs, level_is}
+use Rattle.command_line.proofs.StatementLeaf.{some_kind, first_empty, statement_shape, statement_rows, LevelIs, level_is}
+use Rattle.command_line.proofs.WorkloadLeaf.{workload_shape, size_row, SizeIs, WorkloadIs, workload_is}
 
 pub is_simple_taco : is_simple taco_app ≡ true
 unfolding clap_on_literals
@@ -47,7 +58,8 @@ start = walk_from nothing_held
 abbrev stopped_at : Text → List Text → Walk
 stopped_at name ws = record start { stopped = Some (name, ws) }
 
-subs_are : (built taco_app).subs ≡ text_shape (codes "run") ∷ []
+subs_are : (built taco_app).subs ≡ statement_shape (codes "run") ∷ statement_shape (codes "kernel") ∷ statement_shape (codes "report")
+    ∷ workload_shape ∷ []
 subs_are = refl
 
 stopped_passes : (w : Walk) (p : Text × List Text) (ws : List Text) → walk_passes top names (record w { stopped = Some p }) ws ≡ true
@@ -62,6 +74,21 @@ Stops c name = (walked [] names start c ≡ stopped_at name []) × (turn_fault t
 stops_run : (c : Text) → bytes_eq (codes "run") c ≡ true → Stops c (codes "run")
 unfolding walked
 stops_run c a = (rw a refl, rw a refl, rw a refl)
+
+stops_kernel : (c : Text) → bytes_eq (codes "run") c ≡ false → bytes_eq (codes "kernel") c ≡ true → Stops c (codes "kernel")
+unfolding walked
+stops_kernel c a b = (rw (a, b) refl, rw (a, b) refl, rw (a, b) refl)
+
+stops_report : (c : Text) → bytes_eq (codes "run") c ≡ false → bytes_eq (codes "kernel") c ≡ false → bytes_eq (codes "report") c ≡ true
+    → Stops c (codes "report")
+unfolding walked
+stops_report c a b d = (rw (a, b, d) refl, rw (a, b, d) refl, rw (a, b, d) refl)
+
+stops_gen : (c : Text) → bytes_eq (codes "run") c ≡ false → bytes_eq (codes "kernel") c ≡ false → bytes_eq (codes "report") c ≡ false
+    → bytes_eq (codes "gen") c ≡ true
+    → Stops c (codes "gen")
+unfolding walked
+stops_gen c a b d e = (rw (a, b, d, e) refl, rw (a, b, d, e) refl, rw (a, b, d, e) refl)
 
 -- the rest goes to the subcommand
 abbrev Enters : Text → Text → List Text → Type 0
@@ -107,9 +134,21 @@ Inside name sh rest = (after_fault (stopped_at name rest) ≡ or_else (level_fau
     × (taken_after true (stopped_at name rest) ≡ (level_passes sh [] nothing_held rest false && true))
     × (entered whole (Some (name, rest)) ≡ Some (name, rows_after sh.rules [] rest))
 
-inside_run : (rest : List Text) → Inside (codes "run") (text_shape (codes "run")) rest
+inside_run : (rest : List Text) → Inside (codes "run") (statement_shape (codes "run")) rest
 unfolding defaults_fault
 inside_run rest = (refl, refl, refl)
+
+inside_kernel : (rest : List Text) → Inside (codes "kernel") (statement_shape (codes "kernel")) rest
+unfolding defaults_fault
+inside_kernel rest = (refl, refl, refl)
+
+inside_report : (rest : List Text) → Inside (codes "report") (statement_shape (codes "report")) rest
+unfolding defaults_fault
+inside_report rest = (refl, refl, refl)
+
+inside_gen : (rest : List Text) → Inside (codes "gen") workload_shape rest
+unfolding defaults_fault
+inside_gen rest = (refl, refl, refl)
 
 abbrev Whole : List Text → Text → Shape → List Text → Type 0
 Whole ws name sh rest = (fault_of taco_app ws ≡ or_else (level_fault sh [] nothing_held rest false []) [])
@@ -133,44 +172,107 @@ sub_fails : (ws : List Text) (name : Text) (sh : Shape) (rest : List Text) → W
     → (level_fault sh [] nothing_held rest false [] ≡ [] → ⊥) × (level_passes sh [] nothing_held rest false ≡ false) → LineIs ws None
 sub_fails ws name sh rest w l = (λ e. l.0 (first_empty _ _ (sym w.0 ∙ e)), w.1 ∙ ap (λ b. b && true) l.1)
 
-text_is : (ws : List Text) (name : Text) (rest : List Text) (make : Text → List Text → CommandLine) → Whole ws name (text_shape name) rest
-    → ((e : Text) (os : List Text) → matched_line (name, text_rows (e ∷ os)) ≡ Some (make e os))
-    → (o : Option (List Text)) → LevelIs name rest o → LineIs ws (expr_line make o)
-text_is ws name rest make w m None l = sub_fails ws name (text_shape name) rest w l
-text_is ws name rest make w m (Some []) l = sub_fails ws name (text_shape name) rest w l
-text_is ws name rest make w m (Some (x ∷ os)) l = (
-  w.0 ∙ ap (λ k. or_else k []) l.0,
-  w.1 ∙ ap (λ b. b && true) l.1,
-  ap (option_and_then matched_line) (w.2 ∙ ap (λ r. Some (name, r)) l.2) ∙ m x os,
-)
+module _ (ws : List Text) (name : Text) (rest : List Text) (task : Task) (w : Whole ws name (statement_shape name) rest)
+    (m : (e : Text) (os : List Text) → matched_line (name, statement_rows (e ∷ os)) ≡ Some (Statement task e os)) where
+  statement_is : (o : Option (List Text)) → LevelIs name rest o → LineIs ws (statement_line task o)
+  statement_is None l = sub_fails ws name (statement_shape name) rest w l
+  statement_is (Some []) l = sub_fails ws name (statement_shape name) rest w l
+  statement_is (Some (x ∷ os)) l = (
+    w.0 ∙ ap (λ k. or_else k []) l.0,
+    w.1 ∙ ap (λ b. b && true) l.1,
+    ap (option_and_then matched_line) (w.2 ∙ ap (λ r. Some (name, r)) l.2) ∙ m x os,
+  )
 
-run_matched : (e : Text) (os : List Text) → matched_line (codes "run", text_rows (e ∷ os)) ≡ Some (Run e os)
+run_matched : (e : Text) (os : List Text) → matched_line (codes "run", statement_rows (e ∷ os)) ≡ Some (Statement Run e os)
 run_matched e [] = refl
 run_matched e (w ∷ ws) = refl
+
+kernel_matched : (e : Text) (os : List Text) → matched_line (codes "kernel", statement_rows (e ∷ os)) ≡ Some (Statement Kernel e os)
+kernel_matched e [] = refl
+kernel_matched e (w ∷ ws) = refl
+
+report_matched : (e : Text) (os : List Text) → matched_line (codes "report", statement_rows (e ∷ os)) ≡ Some (Statement Report e os)
+report_matched e [] = refl
+report_matched e (w ∷ ws) = refl
+
+-- N passes its parser where it is a size within the limit, and is read as that
+size_accepted : (n : Text) → is_size n ≡ true → (accepts false (value_parser.Unsigned 0 greatest_workload) n ≡ true)
+    × (u64_read n ≡ Some (digits_value 10 (without_leading_plus n)))
+size_accepted n h =
+    let ds = without_leading_plus n in
+    let a = both (nat_lt 0 (length ds)) _ h in
+    let b = both (list_all (λ d. nat_lt (digit_value d) 10) ds) _ a.1 in
+    let most : digits_value 10 ds ≤ greatest_workload = leb-true (digits_value 10 ds) greatest_workload b.1 in
+    let fits : nat_lt (digits_value 10 ds) (2 ^ 64) ≡ true =
+    lt-ltb (digits_value 10 ds) (2 ^ 64) (omega (arith, most, workloads_are_ranges, positions_are_small)) in
+    let least : nat_le 0 (digits_value 10 ds) ≡ true = le-leb 0 (digits_value 10 ds) (omega arith) in
+    (rw (a.0, b.0, fits, least, b.1) refl, rw (a.0, b.0, fits) refl)
+
+size_refused : (n : Text) → is_size n ≡ false → accepts false (value_parser.Unsigned 0 greatest_workload) n ≡ false
+size_refused n h = go (accepts false (value_parser.Unsigned 0 greatest_workload) n) refl
+  where
+    go : (t : Bool) → accepts false (value_parser.Unsigned 0 greatest_workload) n ≡ t
+        → accepts false (value_parser.Unsigned 0 greatest_workload) n ≡ false
+    go false e = e
+    go true e =
+        let ds = without_leading_plus n in
+        let p = both (nat_lt 0 (length ds) && list_all (λ d. nat_lt (digit_value d) 10) ds) _ e in
+        let q = both (nat_lt 0 (length ds)) _ p.0 in
+        let r = both (nat_lt (digits_value 10 ds) (2 ^ 64)) _ p.1 in
+        let s = both (nat_le 0 (digits_value 10 ds)) _ r.1 in
+        let small : is_size n ≡ true = rw (q.0, q.1, s.1) refl in
+        absurd (true≢false (sym small ∙ h))
+
+size_matched : (n : Text) → u64_read n ≡ Some (digits_value 10 (without_leading_plus n))
+    → matched_line (codes "gen", size_row n ∷ []) ≡ Some (Workload (digits_value 10 (without_leading_plus n)))
+size_matched n e = ap (option_map Workload) e
+
+size_is : (ws rest : List Text) (n : Text) (b : Bool) → is_size n ≡ b → Whole ws (codes "gen") workload_shape rest
+    → SizeIs rest n (accepts false (value_parser.Unsigned 0 greatest_workload) n) → LineIs ws (size_line n)
+size_is ws rest n true h w l =
+    let a = size_accepted n h in
+    let k : SizeIs rest n true = subst (SizeIs rest n) a.0 l in
+    let line : LineIs ws (Some (Workload (digits_value 10 (without_leading_plus n)))) = (
+      w.0 ∙ ap (λ k. or_else k []) k.0,
+      w.1 ∙ ap (λ b. b && true) k.1,
+      ap (option_and_then matched_line) (w.2 ∙ ap (λ r. Some (codes "gen", r)) k.2) ∙ size_matched n a.1,
+    ) in
+    rw h line
+size_is ws rest n false h w l =
+    let k : SizeIs rest n false = subst (SizeIs rest n) (size_refused n h) l in
+    let line : LineIs ws None = sub_fails ws (codes "gen") workload_shape rest w k in
+    rw h line
+
+workload_line_is : (ws rest : List Text) → Whole ws (codes "gen") workload_shape rest → (o : Option (List Text)) → WorkloadIs rest o
+    → LineIs ws (workload_line o)
+workload_line_is ws rest w None l = sub_fails ws (codes "gen") workload_shape rest w l
+workload_line_is ws rest w (Some []) l = sub_fails ws (codes "gen") workload_shape rest w l
+workload_line_is ws rest w (Some (n ∷ [])) l = size_is ws rest n (is_size n) refl w l
+workload_line_is ws rest w (Some (n ∷ m ∷ ms)) l = sub_fails ws (codes "gen") workload_shape rest w l
 
 -- ---- a word that is no command
 
 abbrev Refused : Text → Kinds → Type 0
 Refused c kinds = (turn_fault top names start c ≡ kinds) × (turn_passes top names start c ≡ false)
 
-module _ (c : Text) (a : bytes_eq (codes "run") c ≡ false) where
+module _ (c : Text) (a : bytes_eq (codes "run") c ≡ false) (b : bytes_eq (codes "kernel") c ≡ false)
+    (d : bytes_eq (codes "report") c ≡ false) (e : bytes_eq (codes "gen") c ≡ false) where
   other_long : (p : Text × Option Text) → bytes_eq c (45 ∷ 45 ∷ []) ≡ false → long_of c ≡ Some p → Refused c (kind.UnknownArgument ∷ [])
-  other_long p f l = (rw (a, f, l) refl, rw (a, f, l) refl)
+  other_long p f l = (rw (a, b, d, e, f, l) refl, rw (a, b, d, e, f, l) refl)
 
   other_short : (x : ℕ) (flags : Text) (y : ℕ) → bytes_eq c (45 ∷ 45 ∷ []) ≡ false → long_of c ≡ None → short_of c ≡ Some (x ∷ flags)
       → slice_get (chars (x ∷ flags)) 0 ≡ Some y → Refused c (kind.UnknownArgument ∷ [])
   unfolding flags_fault flags_pass
-  other_short x flags y f l h g = (rw (a, f, l, h, g) refl, rw (a, f, l, h, g) refl)
+  other_short x flags y f l h g = (rw (a, b, d, e, f, l, h, g) refl, rw (a, b, d, e, f, l, h, g) refl)
 
   other_operand : bytes_eq c (45 ∷ 45 ∷ []) ≡ false → long_of c ≡ None → short_of c ≡ None
       → Refused c (kind.UnknownArgument ∷ kind.InvalidSubcommand ∷ [])
-  other_operand f l h = (rw (a, f, l, h) refl, rw (a, f, l, h) refl)
+  other_operand f l h = (rw (a, b, d, e, f, l, h) refl, rw (a, b, d, e, f, l, h) refl)
 
-  other_dashes : bytes_eq c (45 ∷ 45 ∷ []) ≡ true
-      → (walked [] names start c ≡ record start { is_trailing = true }) × (turn_fault top names start c ≡ [])
-      × (turn_passes top names start c ≡ true)
+  other_dashes : bytes_eq c (45 ∷ 45 ∷ []) ≡ true → (walked [] names start c ≡ record start { is_trailing = true })
+      × (turn_fault top names start c ≡ []) × (turn_passes top names start c ≡ true)
   unfolding walked
-  other_dashes f = (rw (a, f) refl, rw (a, f) refl, rw (a, f) refl)
+  other_dashes f = (rw (a, b, d, e, f) refl, rw (a, b, d, e, f) refl, rw (a, b, d, e, f) refl)
 
 dashes_end : (after_fault (record start { is_trailing = true }) ≡ kind.MissingSubcommand ∷ [])
     × (taken_after true (record start { is_trailing = true }) ≡ false)
@@ -226,11 +328,13 @@ dashes_fail n c (w ∷ ws) s = (
       ∙ ap (λ b. b && walk_passes top names (walked [] names (record start { is_trailing = true }) w) ws) (dashes_value w).1),
 )
 
-other_fails : (n c : Text) (rest : List Text) → bytes_eq (codes "run") c ≡ false → Kind c → LineIs (n ∷ c ∷ rest) None
-other_fails n c rest a (dashes f) = dashes_fail n c rest (other_dashes c a f)
-other_fails n c rest a (long p f o l) = turn_fails n c rest _ _ (other_long c a p f l)
-other_fails n c rest a (short x flags y f o l h g) = turn_fails n c rest _ _ (other_short c a x flags y f l h g)
-other_fails n c rest a (operand f o l h) = turn_fails n c rest _ _ (other_operand c a f l h)
+other_fails : (n c : Text) (rest : List Text) → bytes_eq (codes "run") c ≡ false → bytes_eq (codes "kernel") c ≡ false
+    → bytes_eq (codes "report") c ≡ false
+    → bytes_eq (codes "gen") c ≡ false → Kind c → LineIs (n ∷ c ∷ rest) None
+other_fails n c rest a b d e (dashes f) = dashes_fail n c rest (other_dashes c a b d e f)
+other_fails n c rest a b d e (long p f o l) = turn_fails n c rest _ _ (other_long c a b d e p f l)
+other_fails n c rest a b d e (short x flags y f o l h g) = turn_fails n c rest _ _ (other_short c a b d e x flags y f l h g)
+other_fails n c rest a b d e (operand f o l h) = turn_fails n c rest _ _ (other_operand c a b d e f l h)
 
 -- ---- all lines
 
@@ -263,22 +367,43 @@ operands_count (w ∷ ws) = go (bytes_eq w (codes "--")) (is_option w) (operands
 operands_length : (ws os : List Text) → operands ws ≡ Some os → length os ≤ length ws
 operands_length ws os e = subst (λ o. count_in o ≤ length ws) e (operands_count ws)
 
-command_is : (n c : Text) (rest : List Text) → All IsUtf8 (c ∷ rest) → length rest ≤ usize_max + 1
-    → LineIs (n ∷ c ∷ rest) (line_of_command c rest)
-command_is n c rest u fits = go (bytes_eq (codes "run") c) refl
-  where
-    below : (os : List Text) → operands rest ≡ Some os → length os ≤ usize_max + 1
-    below os e = omega (arith, operands_length rest os e, fits)
+module _ (n c : Text) (rest : List Text) (u : All IsUtf8 (c ∷ rest)) (fits : length rest ≤ usize_max + 1) where
+  below : (os : List Text) → operands rest ≡ Some os → length os ≤ usize_max + 1
+  below os e = omega (arith, operands_length rest os e, fits)
 
-    later : All IsUtf8 rest
-    later = All-tail IsUtf8 c rest u
+  later : All IsUtf8 rest
+  later = All-tail IsUtf8 c rest u
 
-    go : (r : Bool) → bytes_eq (codes "run") c ≡ r → LineIs (n ∷ c ∷ rest) (line_of_command c rest)
-    go true a =
-        rw a (text_is (n ∷ c ∷ rest) (codes "run") rest Run
-        (whole_is n c (codes "run") (text_shape (codes "run")) rest (enters c (codes "run") rest (stops_run c a)) (inside_run rest))
-        run_matched (operands rest) (level_is (codes "run") rest later below))
-    go false a = rw a (other_fails n c rest a (kind_of_word c (All-head IsUtf8 c rest u)))
+  inner : (name : Text) (sh : Shape) → Stops c name → Inside name sh rest → Whole (n ∷ c ∷ rest) name sh rest
+  inner name sh s i = whole_is n c name sh rest (enters c name rest s) i
+
+  for_task : (name : Text) (task : Task) → Stops c name → Inside name (statement_shape name) rest
+      → ((e : Text) (os : List Text) → matched_line (name, statement_rows (e ∷ os)) ≡ Some (Statement task e os))
+      → LineIs (n ∷ c ∷ rest) (statement_line task (operands rest))
+  for_task name task s i m =
+      statement_is (n ∷ c ∷ rest) name rest task (inner name (statement_shape name) s i) m (operands rest)
+      (level_is name rest later below)
+
+  for_workload : Stops c (codes "gen") → LineIs (n ∷ c ∷ rest) (workload_line (operands rest))
+  for_workload s =
+      workload_line_is (n ∷ c ∷ rest) rest (inner (codes "gen") workload_shape s (inside_gen rest)) (operands rest)
+      (workload_is rest later)
+
+  command_is : LineIs (n ∷ c ∷ rest) (line_of_command c rest)
+  command_is = go (bytes_eq (codes "run") c) refl (bytes_eq (codes "kernel") c) refl (bytes_eq (codes "report") c) refl
+      (bytes_eq (codes "gen") c) refl
+    where
+      go : (r : Bool) → bytes_eq (codes "run") c ≡ r → (k : Bool) → bytes_eq (codes "kernel") c ≡ k
+          → (p : Bool) → bytes_eq (codes "report") c ≡ p → (g : Bool) → bytes_eq (codes "gen") c ≡ g
+          → LineIs (n ∷ c ∷ rest) (line_of_command c rest)
+      go true a k b p d g e = rw a (for_task (codes "run") Run (stops_run c a) (inside_run rest) run_matched)
+      go false a true b p d g e =
+          rw (a, b) (for_task (codes "kernel") Kernel (stops_kernel c a b) (inside_kernel rest) kernel_matched)
+      go false a false b true d g e =
+          rw (a, b, d) (for_task (codes "report") Report (stops_report c a b d) (inside_report rest) report_matched)
+      go false a false b false d true e = rw (a, b, d, e) (for_workload (stops_gen c a b d e))
+      go false a false b false d false e =
+          rw (a, b, d, e) (other_fails n c rest a b d e (kind_of_word c (All-head IsUtf8 c rest u)))
 
 pub line_is : (ws : List Text) → All IsUtf8 ws → length ws ≤ usize_max → LineIs ws (command_line_of ws)
 line_is [] u fits = (λ e. some_kind _ _ (sym none_fails.0 ∙ e), none_fails.1)
@@ -291,8 +416,8 @@ all_utf8 : {Z : Type 0} (ws : List (String Z)) → All IsUtf8 (map string_bytes 
 all_utf8 [] = All-nil IsUtf8
 all_utf8 (w ∷ ws) = All-cons IsUtf8 (string_bytes w) (map string_bytes ws) (IsUtf8-string_bytes w) (all_utf8 ws)
 
-told_by : (ws : List Text) (o : Option CommandLine) → LineIs ws o → fault_of taco_app ws ≡ []
-    → (l : CommandLine) × (o ≡ Some l) × (takes taco_app ws ≡ true) × (clap_line ws ≡ Some l)
+told_by : (ws : List Text) (o : Option CommandLine) → LineIs ws o → fault_of taco_app ws ≡ [] → (l : CommandLine) × (o ≡ Some l)
+    × (takes taco_app ws ≡ true) × (clap_line ws ≡ Some l)
 told_by ws None h e = absurd (h.0 e)
 told_by ws (Some l) h e = (l, refl, h.1, h.2)
 
@@ -303,7 +428,8 @@ untold_by ws (Some l) h fails = absurd (fails h.0)
 pub told_line : {Z : Type 0} (ws : List (String Z)) → length ws ≤ usize_max → fault_of taco_app (map string_bytes ws) ≡ []
     → (l : CommandLine) × (command_line_of (map string_bytes ws) ≡ Some l) × (takes taco_app (map string_bytes ws) ≡ true)
     × (clap_line (map string_bytes ws) ≡ Some l)
-told_line ws fits e = told_by (map string_bytes ws) (command_line_of (map string_bytes ws))
+told_line ws fits e =
+    told_by (map string_bytes ws) (command_line_of (map string_bytes ws))
     (line_is (map string_bytes ws) (all_utf8 ws) (omega (arith, fits, length-map ws string_bytes))) e
 
 pub untold_line : {Z : Type 0} (ws : List (String Z)) → length ws ≤ usize_max → (fault_of taco_app (map string_bytes ws) ≡ [] → ⊥)

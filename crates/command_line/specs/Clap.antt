@@ -1,10 +1,18 @@
 -- The command that `clap` is given, and what its matches say.
-use Rattle.std.specs.Prelude.{true, List, [], Option, Some, None, codes, if◌then◌else◌, option_and_then, unwrap_or}
+use Rattle.std.specs.Prelude.{ℕ, Bool, ◌&&◌, ◌^◌, length, nat_lt, true, List, [], Option, Some, None, codes, if◌then◌else◌, option_map}
+use Rattle.std.specs.Prelude.{option_and_then, unwrap_or}
 use Rattle.std.specs.Str.{bytes_eq}
+use Rattle.std.specs.List.{list_all}
+use Rattle.std.specs.Char.{digit_value}
+use Rattle.std.specs.Str.Parse.{digits_value, without_leading_plus}
 use Rattle.clap.specs.Lexer.{usize_max}
-use Rattle.clap.specs.Walk.{Row, Rule, Text, all_of, first_of}
+use Rattle.clap.specs.Walk.{Row, Rule, Text, all_of, first_of, one_of}
 use Rattle.clap.specs.Simple.{App, new_app, new_rule, on_top, subcommand_of, with_rule, with_subcommand}
-use Rattle.command_line.specs.CommandLine.{CommandLine, Run}
+use Rattle.clap.specs.declared.builder.value_parser.ValueParser.TheVariants as value_parser
+use Rattle.limits.specs.Limits.{greatest_workload}
+use Rattle.command_line.specs.CommandLine.{CommandLine, Statement, Workload}
+use Rattle.command_line.specs.declared.Task.{Task}
+use Rattle.command_line.specs.declared.Task.TheVariants.{Run, Kernel, Report}
 
 abbrev pub expr_rule : Rule
 expr_rule = record (new_rule (codes "EXPR")) { required = true }
@@ -14,8 +22,17 @@ word_rule = record (new_rule (codes "WORD")) {
   range = Some (record { start_inclusive = 0; end_inclusive = usize_max });
 }
 
-abbrev pub text_app : Text → App
-text_app name = with_rule (with_rule (new_app name) expr_rule) word_rule
+abbrev pub size_rule : Rule
+size_rule = record (new_rule (codes "N")) {
+  required = true;
+  parser = Some (value_parser.Unsigned 0 greatest_workload);
+}
+
+abbrev pub statement_app : Text → App
+statement_app name = with_rule (with_rule (new_app name) expr_rule) word_rule
+
+abbrev pub workload_app : App
+workload_app = with_rule (new_app (codes "gen")) size_rule
 
 abbrev pub bare_app : App
 bare_app = on_top (λ s. record s {
@@ -25,20 +42,44 @@ bare_app = on_top (λ s. record s {
 }) (new_app (codes "taco"))
 
 abbrev pub taco_app : App
-taco_app = with_subcommand bare_app (text_app (codes "run")).top
+taco_app = with_subcommand (with_subcommand (with_subcommand
+    (with_subcommand bare_app (statement_app (codes "run")).top)
+    (statement_app (codes "kernel")).top)
+    (statement_app (codes "report")).top)
+    workload_app.top
 
--- the line of a subcommand with EXPR and WORDs
-abbrev pub text_line : Text → Text → List Text → Option CommandLine
-text_line name expr words = if bytes_eq name (codes "run") then Some (Run expr words) else None
+-- digits, after a `+` or none, whose number a `u64` holds
+abbrev pub is_u64_text : Text → Bool
+is_u64_text text =
+    let digits = without_leading_plus text in
+    nat_lt 0 (length digits) && (list_all (λ d. nat_lt (digit_value d) 10) digits
+    && nat_lt (digits_value 10 digits) (2 ^ 64))
 
--- the texts of EXPR and of the WORDs
-abbrev pub texts_matched : Text → List Row → Option CommandLine
-texts_matched name rows =
-    option_and_then (λ e. text_line name e (unwrap_or (all_of (codes "WORD") rows) [])) (first_of (codes "EXPR") rows)
+-- the number that a text is read as
+abbrev pub u64_read : Text → Option ℕ
+u64_read text = if is_u64_text text then Some (digits_value 10 (without_leading_plus text)) else None
+
+-- the task that a subcommand's name asks for
+abbrev pub task_of : Text → Option Task
+task_of name =
+    if bytes_eq name (codes "run") then Some Run
+    else (if bytes_eq name (codes "kernel") then Some Kernel
+    else (if bytes_eq name (codes "report") then Some Report else None))
+
+-- the text of EXPR and the WORDs
+abbrev pub statement_matched : Task → List Row → Option CommandLine
+statement_matched task rows =
+    option_map (λ expr. Statement task expr (unwrap_or (all_of (codes "WORD") rows) [])) (first_of (codes "EXPR") rows)
+
+-- the number that N is read as
+abbrev pub workload_matched : List Row → Option CommandLine
+workload_matched rows = option_map Workload (option_and_then u64_read (one_of (codes "N") rows))
 
 -- what the subcommand's name and its matches say
 abbrev pub matched_line : Text × List Row → Option CommandLine
-matched_line m = texts_matched m.0 m.1
+matched_line m =
+    if bytes_eq m.0 (codes "gen") then workload_matched m.1
+    else option_and_then (λ task. statement_matched task m.1) (task_of m.0)
 
 -- what `clap`'s matches of the words say
 abbrev pub clap_line : List Text → Option CommandLine

@@ -1,13 +1,14 @@
 -- What a request tells.
 use Rattle.std.specs.Prelude.{map, ⊤}
-use Rattle.command_line.specs.CommandLine.{CommandLine, Run}
+use Rattle.command_line.specs.CommandLine.{CommandLine, Statement, Workload}
 use Rattle.command_line.specs.declared.Request.{Request}
 use Rattle.command_line.specs.declared.Request.TheVariants as request
 use Rattle.command_line.specs.declared.RequestFault.{RequestFault}
 use Rattle.command_line.specs.declared.RequestFault.TheVariants as fault
 
 abbrev pub told : Request → CommandLine
-told (request.Run expr words) = Run expr.now (map (λ w. w.now) words.items)
+told (request.Statement task expr words) = Statement task expr.now (map (λ w. w.now) words.items)
+told (request.Workload size) = Workload size
 
 abbrev pub IsUsage : RequestFault → Type 0
 IsUsage fault.Usage = ⊤

@@ -1,5 +1,4 @@
 //! What a command line says, read by `clap`. `specs/CommandLine.antt` says it in words that name nothing of `clap`.
-//! Only `run` is a command so far.
 #![tactic(auto)]
 
 mod laws;
@@ -9,19 +8,42 @@ ghost use Rattle.std.specs.Prelude.{unwrap_or};
 ghost use Rattle.clap.specs.Words.{app_of, subcommand_of, subcommand_rows_of, takes, fault_of, all_of, first_of, one_of, rows_of, found_of};
 ghost use Rattle.clap.specs.Words.{kind_of};
 ghost use Rattle.clap.specs.declared.builder.command.Command.TheViews.{out-Command};
+ghost use Rattle.limits.specs.Limits.{greatest_workload};
 ghost use Rattle.command_line.specs.CommandLine.{command_line_of};
-ghost use Rattle.command_line.specs.Clap.{text_app, taco_app, clap_line, matched_line, text_line};
+ghost use Rattle.command_line.specs.Clap.{statement_app, workload_app, taco_app, clap_line, matched_line, statement_matched, task_of, u64_read};
 ghost use Rattle.command_line.specs.Told.{told, IsUsage};
 
+use clap::builder::ValueParser;
 use clap::error::ErrorKind;
-use clap::{Arg, ArgMatches, Command};
-pub use laws::clap_reads_lines;
+use clap::{Arg, ArgMatches, Command, value_parser};
+pub use laws::{clap_reads_lines, workload_sizes_are_limited};
+use limits::greatest_size_of_workload;
 use std::alloc::{AllocError, Global};
 
-/// What a command line says: its command, with the text of EXPR and the WORDs, in order.
+/// What a statement is asked for.
+#[derive(Clone, Copy, Debug, PartialEq, Eq)]
+pub enum Task {
+    /// To write its result.
+    Run,
+    /// To print its kernel. No file is read.
+    Kernel,
+    /// To run it, and print its kernel, the turns of its loops and the storage of its tensors.
+    Report,
+}
+
+/// What a command line says.
 #[derive(Debug, Drop)]
 pub enum Request<'a> {
-    Run { expr: &'a str, words: Vec<&'a str> },
+    /// The text of EXPR, the WORDs behind it in order, and what is asked for.
+    Statement {
+        task: Task,
+        expr: &'a str,
+        words: Vec<&'a str>,
+    },
+    /// N, the size of the generated workload.
+    Workload {
+        size: u64,
+    },
 }
 
 /// Why a command line isn't read.
@@ -34,8 +56,8 @@ pub enum RequestFault {
 }
 
 /// A subcommand of one EXPR and any number of WORDs.
-fn text_command<'a>(alloc: Global, name: &'a str) -> Result<Command<'a>, AllocError>
-    ensures app { IfOk result (λ c. app_of c ≡ text_app name.entry.now) }
+fn statement_command<'a>(alloc: Global, name: &'a str) -> Result<Command<'a>, AllocError>
+    ensures app { IfOk result (λ c. app_of c ≡ statement_app name.entry.now) }
     ensures local { IfOk result (λ c. (out-Command c).has_globals ≡ false) }
 {
     let expr = Arg::new(alloc, "EXPR").required(true);
@@ -44,16 +66,41 @@ fn text_command<'a>(alloc: Global, name: &'a str) -> Result<Command<'a>, AllocEr
     Ok(command)
 }
 
+/// A workload's size, within the limit.
+fn size_parser<'a>() -> ValueParser<'a>
+    ensures { result ≡ ValueParser.Unsigned 0 greatest_workload }
+{
+    value_parser!(u64).range(0..=greatest_size_of_workload() as i64)
+}
+
+/// The subcommand of one N.
+fn workload_command<'a>(alloc: Global) -> Result<Command<'a>, AllocError>
+    ensures app { IfOk result (λ c. app_of c ≡ workload_app) }
+    ensures local { IfOk result (λ c. (out-Command c).has_globals ≡ false) }
+{
+    let size = Arg::new(alloc, "N")
+        .required(true)
+        .value_parser(size_parser());
+    let command = Command::new(alloc, "gen").arg(size)?;
+    Ok(command)
+}
+
 /// The whole command.
 fn taco_command<'a>(alloc: Global) -> Result<Command<'a>, AllocError>
     ensures app { IfOk result (λ c. app_of c ≡ taco_app) }
 {
-    let run = text_command(alloc, "run")?;
+    let run = statement_command(alloc, "run")?;
+    let kernel = statement_command(alloc, "kernel")?;
+    let report = statement_command(alloc, "report")?;
+    let workload = workload_command(alloc)?;
     let command = Command::new(alloc, "taco")
         .disable_help_flag(true)
         .disable_help_subcommand(true)
         .subcommand_required(true)
-        .subcommand(run)?;
+        .subcommand(run)?
+        .subcommand(kernel)?
+        .subcommand(report)?
+        .subcommand(workload)?;
     Ok(command)
 }
 
@@ -100,6 +147,40 @@ fn words_of<'a>(alloc: Global, matches: &ArgMatches<'a>) -> Result<Vec<&'a str>,
     }
 }
 
+/// The number N.
+fn size_of(matches: &ArgMatches<'_>) -> Option<u64>
+    ensures { result ≡ option_and_then u64_read (one_of (codes "N") (rows_of (found_of matches.now))) }
+{
+    matches.get_one::<u64>("N")
+}
+
+/// The task that a subcommand's name asks for.
+fn task_named(name: &str) -> Option<Task>
+    ensures { result ≡ task_of name.now }
+{
+    match name {
+        "run" => Some(Task::Run),
+        "kernel" => Some(Task::Kernel),
+        "report" => Some(Task::Report),
+        _ => None,
+    }
+}
+
+/// The statement that the matches of a subcommand say.
+fn statement_of<'a>(
+    alloc: Global,
+    task: Task,
+    matches: &ArgMatches<'a>,
+) -> Result<Option<Request<'a>>, AllocError>
+    ensures { IfOk result (λ r. option_map told r ≡ statement_matched task (rows_of (found_of matches.now))) }
+{
+    let words = words_of(alloc, matches)?;
+    match expr_of(matches) {
+        Some(expr) => Ok(Some(Request::Statement { task, expr, words })),
+        None => Ok(None),
+    }
+}
+
 /// What the matches of a subcommand say, by its name.
 fn request_of<'a>(
     alloc: Global,
@@ -108,21 +189,12 @@ fn request_of<'a>(
 ) -> Result<Option<Request<'a>>, AllocError>
     ensures { IfOk result (λ r. option_map told r ≡ matched_line (name.now, rows_of (found_of matches.now))) }
 {
-    let words = words_of(alloc, matches)?;
-    match expr_of(matches) {
-        Some(expr) => Ok(text_request(name, expr, words)),
-        None => Ok(None),
+    if name == "gen" {
+        return Ok(size_of(matches).map(|size| Request::Workload { size }));
     }
-}
-
-/// The request of a subcommand with EXPR and WORDs.
-fn text_request<'a>(name: &str, expr: &'a str, words: Vec<&'a str>) -> Option<Request<'a>>
-    ensures { option_map told result ≡ text_line name.now expr.entry.now (map (λ w. w.now) words.entry.items) }
-{
-    if name == "run" {
-        Some(Request::Run { expr, words })
-    } else {
-        None
+    match task_named(name) {
+        Some(task) => statement_of(alloc, task, matches),
+        None => Ok(None),
     }
 }
 

@@ -84,6 +84,17 @@ impl Format {
             .all(|level| level.letter == Letter::Dense)
     }
 
+    /// The same format once more. It takes no memory.
+    #[tactic(auto, unfolding(limits::specs::Limits::greatest_order))]
+    pub fn copied(&self) -> Format
+        ensures { result ≡ self.now }
+    {
+        let alloc = self.allocator();
+        Format {
+            levels: SmallVec::from_slice(alloc, self.levels.as_slice()).unwrap(),
+        }
+    }
+
     /// Where lists that go with the format may take memory.
     pub(crate) fn allocator(&self) -> Global {
         *self.levels.allocator()

@@ -76,7 +76,7 @@ fn add_store_lines(
     requires { AreDone 1 tensor.now.levels }
 {
     let mut sink = MemSink::new(alloc);
-    if put_store_text(&mut sink, 0, name, tensor).is_err() {
+    if put_store_text(&mut sink, 0, name.as_bytes(), tensor).is_err() {
         bail!("a refusal");
     }
     for line in std::str::from_utf8(sink.written())?.lines() {

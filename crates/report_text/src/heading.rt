@@ -12,7 +12,7 @@ use text_lines::put_all;
 use text_pieces::{Piece, put_pieces};
 
 /// The bytes of a name, by its number: none where there is no such name.
-fn name_of(names: &[Name], number: usize) -> &[u8]
+pub fn name_of(names: &[Name], number: usize) -> &[u8]
     ensures { result.now ≡ bytes_of (slice_get names.now number) }
 {
     match names.get(number) {

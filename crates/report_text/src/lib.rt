@@ -6,6 +6,6 @@ mod heading;
 mod turns;
 mod workload;
 
-pub use heading::put_heading;
+pub use heading::{name_of, put_heading};
 pub use turns::put_turns;
 pub use workload::{Workload, put_workload};

@@ -10,8 +10,8 @@ use Rattle.tns_io.proofs.EntryTexts.{entries_are_text}
 use Rattle.mtx_io.specs.Text.{IsBelow as IsBelowMatrix}
 use Rattle.mtx_io.proofs.WrittenLaws.{text_of_entries}
 use Rattle.result_files.specs.EntriesText.{result_text, MayBeWritten}
-use Rattle.result_files.specs.ResultText.{IsTextIn, asks_matrix}
-use Rattle.result_files.specs.Writes.{FailsToFill, FillsFile, PutsAll, PutsFront, RefusesResult, WritesResult}
+use Rattle.result_files.specs.ResultText.{IsResultText, IsTextIn, asks_matrix}
+use Rattle.result_files.specs.Writes.{FailsToFill, FillsFile, Puts, PutsAll, PutsFront, PutsPart, RefusesResult, WritesResult}
 use Rattle.result_files.specs.declared.refusal.WriteRefusal.{WriteRefusal}
 
 -- both formats say it in the same words
@@ -36,54 +36,34 @@ are_text b a laws ranges entries are may = by b
     }
     by false = entries_are_text a laws ranges entries.list may.increasing each may.below
 
--- a file that was filled with the text holds the result, and so does the output
+-- a result whose text was put where its path says was written, or refused behind a part of it
 module _ (a : Arithmetic) (laws : Laws a) (ranges : List ℕ) (entries : Entries) (are : AreEntries entries)
+    (path : Option (List ℕ)) (b : Bool) (asked : b ≡ asks_matrix path) (may : MayBeWritten (asks_matrix path) ranges entries)
     (files files' : FolderState) (out out' : SinkState) where
-  pub file_result : (path : Option (List ℕ)) (name : List ℕ) → path ≡ Some name → MayBeWritten (asks_matrix path) ranges entries
-      → FillsFile files files' name (result_text (asks_matrix (Some name)) a ranges entries.list)
-      → WritesResult a path ranges (value_at a entries.list) files files' out out
-  file_result path name same may fills =
-      subst (λ (o : Option (List ℕ)). MayBeWritten (asks_matrix o) ranges entries
-      → WritesResult a o ranges (value_at a entries.list) files files' out out) (sym same)
-      (λ may. record {
-        text = result_text (asks_matrix (Some name)) a ranges entries.list;
-        text_is = are_text (asks_matrix (Some name)) a laws ranges entries are may;
-        puts = (fills, refl);
-      }) may
+  is_text : IsResultText a path ranges (value_at a entries.list) (result_text b a ranges entries.list)
+  is_text = subst (λ (is_matrix : Bool). IsTextIn is_matrix a ranges (value_at a entries.list) (result_text b a ranges entries.list)) asked
+      (are_text b a laws ranges entries are (subst (λ (is_matrix : Bool). MayBeWritten is_matrix ranges entries) (sym asked) may))
 
-  pub file_refusal : (path : Option (List ℕ)) (name : List ℕ) (why : WriteRefusal) → path ≡ Some name
-      → MayBeWritten (asks_matrix path) ranges entries
-      → FailsToFill files files' name (result_text (asks_matrix (Some name)) a ranges entries.list) why
-      → RefusesResult a path ranges (value_at a entries.list) files files' out out why
-  file_refusal path name why same may fails =
-      subst (λ (o : Option (List ℕ)). MayBeWritten (asks_matrix o) ranges entries
-      → RefusesResult a o ranges (value_at a entries.list) files files' out out why) (sym same)
-      (λ may. record {
-        text = result_text (asks_matrix (Some name)) a ranges entries.list;
-        text_is = are_text (asks_matrix (Some name)) a laws ranges entries are may;
-        puts = (fails, refl);
-      }) may
+  pub result_written : Puts path (result_text b a ranges entries.list) files files' out out'
+      → WritesResult a path ranges (value_at a entries.list) files files' out out'
+  result_written puts = record { text = result_text b a ranges entries.list; text_is = is_text; puts = puts }
 
-  pub out_result : (path : Option (List ℕ)) → path ≡ None → MayBeWritten (asks_matrix path) ranges entries
-      → PutsAll out out' (result_text false a ranges entries.list)
-      → WritesResult a path ranges (value_at a entries.list) files files out out'
-  out_result path same may puts =
-      subst (λ (o : Option (List ℕ)). MayBeWritten (asks_matrix o) ranges entries
-      → WritesResult a o ranges (value_at a entries.list) files files out out') (sym same)
-      (λ may. record {
-        text = result_text false a ranges entries.list;
-        text_is = are_text false a laws ranges entries are may;
-        puts = (refl, puts);
-      }) may
+  pub result_refused : (why : WriteRefusal) → PutsPart path (result_text b a ranges entries.list) files files' out out' why
+      → RefusesResult a path ranges (value_at a entries.list) files files' out out' why
+  result_refused why puts = record { text = result_text b a ranges entries.list; text_is = is_text; puts = puts }
 
-  pub out_refusal : (path : Option (List ℕ)) (why : WriteRefusal) → path ≡ None → MayBeWritten (asks_matrix path) ranges entries
-      → PutsFront out out' (result_text false a ranges entries.list) why
-      → RefusesResult a path ranges (value_at a entries.list) files files out out' why
-  out_refusal path why same may puts =
-      subst (λ (o : Option (List ℕ)). MayBeWritten (asks_matrix o) ranges entries
-      → RefusesResult a o ranges (value_at a entries.list) files files out out' why) (sym same)
-      (λ may. record {
-        text = result_text false a ranges entries.list;
-        text_is = are_text false a laws ranges entries are may;
-        puts = (refl, puts);
-      }) may
+-- where a text was put, by the path
+module _ (path : Option (List ℕ)) (text : List ℕ) (files files' : FolderState) (out out' : SinkState) where
+  pub put_in_file : (name : List ℕ) → path ≡ Some name → FillsFile files files' name text → Puts path text files files' out out
+  put_in_file name same fills = subst (λ (o : Option (List ℕ)). Puts o text files files' out out) (sym same) (fills, refl)
+
+  pub part_in_file : (name : List ℕ) (why : WriteRefusal) → path ≡ Some name → FailsToFill files files' name text why
+      → PutsPart path text files files' out out why
+  part_in_file name why same fails =
+      subst (λ (o : Option (List ℕ)). PutsPart o text files files' out out why) (sym same) (fails, refl)
+
+  pub put_out : path ≡ None → PutsAll out out' text → Puts path text files files out out'
+  put_out same puts = subst (λ (o : Option (List ℕ)). Puts o text files files out out') (sym same) (refl, puts)
+
+  pub part_put_out : (why : WriteRefusal) → path ≡ None → PutsFront out out' text why → PutsPart path text files files out out' why
+  part_put_out why same puts = subst (λ (o : Option (List ℕ)). PutsPart o text files files out out' why) (sym same) (refl, puts)

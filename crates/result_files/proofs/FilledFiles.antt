@@ -85,13 +85,12 @@ emptied_there : (old mid : FolderState) (name : List ℕ) → StartsFile old mid
     → told_written mid.writing mid.holds ≡ told_bytes (emptied (old.holds name))
 emptied_there old mid name starts = ap (λ w. told_written w mid.holds) starts.writing_is ∙ ap told_bytes starts.holds_is
 
-pub file_filled : (old mid new : FolderState) (start : SinkState) (name text told : List ℕ) (γ γ' : GName)
-    → start ≡ file_written mid γ → told ≡ text → StartsFile old mid name
-    → PutsAll start (file_written new γ') told → FillsFile old new name text
-file_filled old mid new start name text told γ γ' at same starts all =
+pub file_filled : (old mid new : FolderState) (start : SinkState) (name text : List ℕ) (γ γ' : GName)
+    → start ≡ file_written mid γ → StartsFile old mid name
+    → PutsAll start (file_written new γ') text → FillsFile old new name text
+file_filled old mid new start name text γ γ' at starts all =
     let puts : PutsAll (file_written mid γ) (file_written new γ') text =
-    subst (λ (t : List ℕ). PutsAll (file_written mid γ) (file_written new γ') t) same
-    (subst (λ (s : SinkState). PutsAll s (file_written new γ') told) at all) in
+    subst (λ (s : SinkState). PutsAll s (file_written new γ') text) at all in
     let stays = stays_beside mid new name γ γ' starts.writing_is puts.beside_is in
     record {
       holds_is = sym (told_there old mid new name starts stays.writing_is) ∙ puts.written_is
@@ -138,13 +137,12 @@ front_behind (Bytes old) (Some bytes) text front rest kept is same =
       is = refl;
     }
 
-pub file_part : (old mid new : FolderState) (start : SinkState) (name text told : List ℕ) (γ γ' : GName) (why : Refusal)
-    → start ≡ file_written mid γ → told ≡ text → StartsFile old mid name
-    → FillsPart start (file_written new γ') told why → FailsToFill old new name text (refused_as why)
-file_part old mid new start name text told γ γ' why at same_text starts all =
+pub file_part : (old mid new : FolderState) (start : SinkState) (name text : List ℕ) (γ γ' : GName) (why : Refusal)
+    → start ≡ file_written mid γ → StartsFile old mid name
+    → FillsPart start (file_written new γ') text why → FailsToFill old new name text (refused_as why)
+file_part old mid new start name text γ γ' why at starts all =
     let part : FillsPart (file_written mid γ) (file_written new γ') text why =
-    subst (λ (t : List ℕ). FillsPart (file_written mid γ) (file_written new γ') t why) same_text
-    (subst (λ (s : SinkState). FillsPart s (file_written new γ') told why) at all) in
+    subst (λ (s : SinkState). FillsPart s (file_written new γ') text why) at all in
     let stays = stays_beside mid new name γ γ' starts.writing_is part.beside_is in
     let same : appended (told_bytes (new.holds name)) part.kept ≡ appended (told_bytes (emptied (old.holds name))) part.front =
     ap (λ o. appended o part.kept) (sym (told_there old mid new name starts stays.writing_is)) ∙ part.written_is

@@ -1,5 +1,5 @@
 -- A result has one text.
-use Rattle.std.specs.Prelude.{◌≡◌, ◌⊎◌, ℕ, suc, ◌<◌, ◌≤◌, Bool, true, false, List, [], ◌∷◌, length, All, Option, refl}
+use Rattle.std.specs.Prelude.{◌≡◌, ◌⊎◌, ℕ, suc, ◌<◌, ◌≤◌, Bool, true, false, List, [], ◌∷◌, length, All, Option}
 use Rattle.std.proofs.Common.{sym, subst, ap, ◌∙◌, inl, inr, arith}
 use Rattle.std.proofs.lemmas.Bool.{cases_lt}
 use Rattle.numbers.specs.Arithmetic.{Arithmetic, Laws}
@@ -8,7 +8,7 @@ use Rattle.tensor_map.specs.Entries.{Listed, value_at}
 use Rattle.tensor_map.proofs.Lemmas.{value_unlisted, all_nonzero, one_row}
 use Rattle.tns_io.specs.Positions.{IsBelow}
 use Rattle.tns_io.proofs.TextLaws as tns
-use Rattle.mtx_io.specs.Text.{IsBelow as IsBelowMatrix, IsMatrixText, matrix_text}
+use Rattle.mtx_io.specs.Text.{IsBelow as IsBelowMatrix, matrix_text}
 use Rattle.result_files.specs.ResultText.{IsResultText, IsTextIn, IsMatrixOf, asks_matrix}
 
 below_back : (ranges coords : List ℕ) → IsBelowMatrix ranges coords → IsBelow ranges coords

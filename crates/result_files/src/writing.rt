@@ -1,79 +1,18 @@
 //! A result written to the output, or into a folder's file.
-ghost use Rattle.std.specs.Prelude.{◌≡◌, false, OnOk, IfErr, Some, None};
+ghost use Rattle.std.specs.Prelude.{◌≡◌, OnOk, IfErr, Some};
 ghost use Rattle.std.specs.Option.{option_map};
-ghost use Rattle.outside.specs.Sink.{Appends};
 ghost use Rattle.tensor_map.specs.Entries.{value_at};
-ghost use Rattle.text_lines.specs.Puts.{AppendsPart};
-ghost use Rattle.result_files.specs.EntriesText.{result_text, MayBeWritten};
-ghost use Rattle.result_files.specs.Fills.{FillsPart};
+ghost use Rattle.result_files.specs.EntriesText.{MayBeWritten};
 ghost use Rattle.result_files.specs.ResultText.{asks_matrix};
-ghost use Rattle.result_files.specs.Writes.{FailsToFill, FillsFile, PutsAll, PutsFront, RefusesResult, WritesResult};
+ghost use Rattle.result_files.specs.Writes.{FailsToFill, FillsFile, RefusesResult, WritesResult};
 
+use crate::printing::{Text, fill, print_text};
 use crate::refusal::WriteRefusal;
-use crate::tally::Tally;
-use mtx_io::put_mtx;
+use crate::tensor_text::TensorText;
 use numbers::Semiring;
-use outside::{Batch, FileSink, Folder, Refusal, Sink};
+use outside::{FileSink, Folder, Sink};
+use std::marker::PhantomData;
 use tensor_map::{Entries, Shape};
-use tns_io::put_tns;
-
-/// Appends the text of the entries' tensor over this shape.
-fn put_text<S: Semiring, K: Sink>(
-    sink: &mut K,
-    is_matrix: bool,
-    shape: &Shape,
-    entries: &Entries,
-) -> Result<(), Refusal>
-    requires { MayBeWritten is_matrix shape.now entries.now }
-    ensures whole { OnOk result (Appends (K.state sink.old) (K.state sink.new)
-        (result_text is_matrix S.arithmetic shape.now entries.now.list)) }
-    ensures part { IfErr result (AppendsPart (K.state sink.old) (K.state sink.new)
-        (result_text is_matrix S.arithmetic shape.now entries.now.list)) }
-{
-    // What is true of every shape is known where it is asked.
-    let _ranges = shape.ranges();
-    if is_matrix {
-        put_mtx::<S, K>(sink, shape, entries)
-    } else {
-        put_tns::<S, K>(sink, entries)
-    }
-}
-
-/// Appends the text in large pieces, and finishes.
-fn fill<S: Semiring, K: Sink>(
-    sink: &mut K,
-    is_matrix: bool,
-    shape: &Shape,
-    entries: &Entries,
-) -> Result<(), Refusal>
-    requires { MayBeWritten is_matrix shape.now entries.now }
-    ensures whole { OnOk result (PutsAll (K.state sink.old) (K.state sink.new)
-        (result_text is_matrix S.arithmetic shape.now entries.now.list)) }
-    ensures part { IfErr result (FillsPart (K.state sink.old) (K.state sink.new)
-        (result_text is_matrix S.arithmetic shape.now entries.now.list)) }
-{
-    let mut batch = Batch::new(sink);
-    put_text::<S, Batch<K>>(&mut batch, is_matrix, shape, entries)?;
-    batch.finish()?;
-    Ok(())
-}
-
-/// Writes the text to the output.
-fn write_out<S: Semiring, O: Sink>(
-    out: &mut O,
-    shape: &Shape,
-    entries: &Entries,
-) -> Result<(), WriteRefusal>
-    requires { MayBeWritten false shape.now entries.now }
-    ensures whole { OnOk result (PutsAll (O.state out.old) (O.state out.new)
-        (result_text false S.arithmetic shape.now entries.now.list)) }
-    ensures part { IfErr result (PutsFront (O.state out.old) (O.state out.new)
-        (result_text false S.arithmetic shape.now entries.now.list)) }
-{
-    let mut tally = Tally::new(out);
-    fill::<S, Tally<O>>(&mut tally, false, shape, entries)?;
-    Ok(())
-}
 
 /// Whether a path is that of a Matrix Market file.
 fn is_matrix_path(path: &str) -> bool
@@ -82,23 +21,25 @@ fn is_matrix_path(path: &str) -> bool
     path.as_bytes().ends_with(b".mtx")
 }
 
-/// Writes the text into the file of this path, which is made or emptied first.
-fn write_file<S: Semiring, F: Folder>(
-    files: &mut F,
-    path: &str,
-    shape: &Shape,
-    entries: &Entries,
-) -> Result<(), WriteRefusal>
-    requires { MayBeWritten (asks_matrix (Some path.now)) shape.now entries.now }
-    ensures whole { OnOk result (FillsFile (F.state files.old) (F.state files.new) path.now
-        (result_text (asks_matrix (Some path.now)) S.arithmetic shape.now entries.now.list)) }
-    ensures part { IfErr result (FailsToFill (F.state files.old) (F.state files.new) path.now
-        (result_text (asks_matrix (Some path.now)) S.arithmetic shape.now entries.now.list)) }
+/// Whether a result is written as a Matrix Market file.
+fn is_matrix(path: Option<&str>) -> bool
+    ensures { result ≡ asks_matrix (option_map (λ path. path.now) path.entry) }
 {
-    let is_matrix = is_matrix_path(path);
+    match path {
+        Some(path) => is_matrix_path(path),
+        None => false,
+    }
+}
+
+/// Writes a text into the file of this path, which is made or emptied first.
+fn write_file<F: Folder, T: Text>(files: &mut F, path: &str, text: &T) -> Result<(), WriteRefusal>
+    requires { T.may_be_put text.now }
+    ensures whole { OnOk result (FillsFile (F.state files.old) (F.state files.new) path.now (T.text text.now)) }
+    ensures part { IfErr result (FailsToFill (F.state files.old) (F.state files.new) path.now (T.text text.now)) }
+{
     files.start_write(path)?;
     let mut file = FileSink::new(files);
-    fill::<S, FileSink<F>>(&mut file, is_matrix, shape, entries)?;
+    fill(&mut file, text)?;
     Ok(())
 }
 
@@ -125,8 +66,14 @@ pub fn write_result<S: Semiring, F: Folder, O: Sink>(
 {
     // What is true of all entries is known where they are asked.
     let _count = entries.len();
+    let text = TensorText::<S> {
+        is_matrix: is_matrix(path),
+        shape,
+        entries,
+        semiring: PhantomData,
+    };
     match path {
-        Some(path) => write_file::<S, F>(files, path, shape, entries),
-        None => write_out::<S, O>(out, shape, entries),
+        Some(path) => write_file(files, path, &text),
+        None => print_text(out, &text),
     }
 }

@@ -1,10 +1,11 @@
--- What a run is about: the statement, the operands' files and the result's path, from the words alone.
+-- What a statement's command is about: the statement, the operands' files and the result's path, from the words alone.
 use Rattle.std.specs.Prelude.{ℕ, ◌-◌, ◌==◌, List, [], Option, length, map, unwrap_or}
 use Rattle.std.specs.List.{range_with_len}
 use Rattle.std_collections.specs.Map.{lookup}
 use Rattle.format_spec.specs.declared.format.FormatLevel.{FormatLevel}
 use Rattle.index_notation.specs.declared.syntax.Statement.{Statement}
 use Rattle.bindings.specs.Bindings.{order_of}
+use Rattle.command_line.specs.declared.Task.{Task}
 use Rattle.run_request.specs.Asked.{Asks}
 
 -- the path of a tensor's file, if it has one
@@ -23,12 +24,13 @@ orders_of s = map (order_of s) (operands_of s)
 abbrev pub paths_of : Statement → List (ℕ × List ℕ) → List (List ℕ)
 paths_of s files = map (λ tensor. unwrap_or (path_of files tensor) []) (operands_of s)
 
--- what words ask for: a statement, a format for each tensor, the files of tensors, and the ranges that words give variables
+-- what words ask for: a task, a statement, a format for each tensor, the files of tensors, and the ranges that words give variables
 pub record Request : Type 0 where
+  pub task : Task
   pub statement : Statement
   pub formats : List (List FormatLevel)
   pub files : List (ℕ × List ℕ)
   pub given : List (Option ℕ)
 
 abbrev pub AsksFor : List (List ℕ) → Request → Type 0
-AsksFor words r = Asks words r.statement r.formats r.files r.given
+AsksFor words r = Asks words r.task r.statement r.formats r.files r.given

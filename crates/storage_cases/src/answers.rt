@@ -93,7 +93,7 @@ pub(crate) fn add_store_lines(alloc: Global, tensor: &Tensor, texts: &mut Vec<St
 {
     let mut sink = MemSink::new(alloc);
     sink.cut_into(&[1, 4])?;
-    if put_store_text(&mut sink, 1, "A", tensor).is_err() {
+    if put_store_text(&mut sink, 1, b"A", tensor).is_err() {
         bail!("a refusal");
     }
     for line in std::str::from_utf8(sink.written())?.lines() {

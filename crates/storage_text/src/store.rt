@@ -14,10 +14,9 @@ use tensor_storage::Tensor;
 use text_lines::{put_all, put_u64};
 
 /// Appends a tensor's number and name.
-fn put_title<S: Sink>(sink: &mut S, number: u64, name: &str) -> Result<(), Refusal>
+fn put_title<S: Sink>(sink: &mut S, number: u64, name: &[u8]) -> Result<(), Refusal>
     ensures { Prints (S.state sink.old) (S.state sink.new) (codes "T" ++ (decimal number ++ (codes " = " ++ name.now))) result }
 {
-    let name = name.as_bytes();
     put_all(sink, b"T")?;
     put_u64(sink, number)?;
     put_all(sink, b" = ")?;
@@ -28,7 +27,7 @@ fn put_title<S: Sink>(sink: &mut S, number: u64, name: &str) -> Result<(), Refus
 fn put_first_line<S: Sink>(
     sink: &mut S,
     number: u64,
-    name: &str,
+    name: &[u8],
     tensor: &Tensor,
 ) -> Result<(), Refusal>
     ensures { Prints (S.state sink.old) (S.state sink.new) (text_of (first_line number name.now tensor.now ∷ [])) result }
@@ -55,7 +54,7 @@ fn put_values_line<S: Sink>(sink: &mut S, tensor: &Tensor) -> Result<(), Refusal
 pub fn put_store_text<S: Sink>(
     sink: &mut S,
     number: u64,
-    name: &str,
+    name: &[u8],
     tensor: &Tensor,
 ) -> Result<(), Refusal>
     requires { AreDone 1 tensor.now.levels }

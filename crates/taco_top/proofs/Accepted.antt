@@ -1,5 +1,5 @@
 -- What words ask for can be compiled: the statement is well named, and each tensor has a format of its order.
-use Rattle.std.specs.Prelude.{◌≡◌, ℕ, true, List}
+use Rattle.std.specs.Prelude.{◌≡◌, ℕ, List, length}
 use Rattle.std.proofs.Common.{sym, subst}
 use Rattle.lists.specs.Each.{Each}
 use Rattle.format_spec.specs.declared.format.FormatLevel.{FormatLevel}
@@ -7,6 +7,7 @@ use Rattle.index_notation.specs.Statement.{IsNumbered, IsWellNamed}
 use Rattle.iteration_graph.specs.Edges.{HasFormat}
 use Rattle.expr_terms.proofs.WellNamed.{notation_well_named}
 use Rattle.statement_operands.proofs.FormatsBound.{formats_fit}
+use Rattle.run_request.specs.Asked.{needs_files}
 use Rattle.run_answers.specs.Run.{Request, AsksFor}
 
 module _ (words : List (List ℕ)) (r : Request) (asks : AsksFor words r) where
@@ -16,10 +17,14 @@ module _ (words : List (List ℕ)) (r : Request) (asks : AsksFor words r) where
   -- the formats that were handed in are those of the request
   module _ (numbered : IsNumbered r.statement) (formats : List (List FormatLevel)) (formats_are : formats ≡ r.formats) where
     fit : HasFormat r.formats r.statement.left × Each (HasFormat r.formats) r.statement.accesses
-    fit = formats_fit r.statement asks.rest true r.formats r.files r.given asks.binds numbered well_named
+    fit = formats_fit r.statement asks.rest (needs_files r.task) r.formats r.files r.given asks.binds numbered well_named
 
     pub left_has_format : HasFormat formats r.statement.left
     left_has_format = subst (λ fs. HasFormat fs r.statement.left) (sym formats_are) fit.0
 
     pub right_have_formats : Each (HasFormat formats) r.statement.accesses
     right_have_formats = subst (λ fs. Each (HasFormat fs) r.statement.accesses) (sym formats_are) fit.1
+
+  -- and there is one for each tensor
+  pub each_format : length r.formats ≡ length r.statement.tensors
+  each_format = asks.binds.formats_are.tensors

@@ -5,3 +5,4 @@ pub mod Prepares
 pub mod Stopped
 pub mod UsageLaws
 pub mod WholeLaws
+pub mod TextLaws

@@ -75,26 +75,26 @@ pub paths_long : (s : Statement) (files : List (ℕ × List ℕ)) → length (pa
 paths_long s files = length-map-range_with_len (λ tensor. unwrap_or (path_of files tensor) []) 1 (length s.tensors - 1)
 
 -- the paths that words bind may be read at the orders of their accesses
-pub paths_readable : (s : Statement) (words : List (List ℕ)) (formats : List (List FormatLevel))
-    (files : List (ℕ × List ℕ)) (given : List (Option ℕ)) → Binds s words true formats files given → IsNumbered s
+pub paths_readable : (s : Statement) (words : List (List ℕ)) (need : Bool) → need ≡ true → (formats : List (List FormatLevel))
+    (files : List (ℕ × List ℕ)) (given : List (Option ℕ)) → Binds s words need formats files given → IsNumbered s
     → AreReadable (operand_orders s) (paths_of s files)
-paths_readable s words formats files given binds numbered =
-    files_readable s words true formats files given binds numbered (paths_of s files) (paths_long s files) (λ n path is.
+paths_readable s words need needed formats files given binds numbered =
+    files_readable s words need formats files given binds numbered (paths_of s files) (paths_long s files) (λ n path is.
     let there = range_there (λ tensor. unwrap_or (path_of files tensor) []) 1 (length s.tensors - 1) n path is in
     let named : path_of files (1 + n) ≡ first_in (path_in s (1 + n)) words =
     ap (λ fs. path_of fs (1 + n)) binds.files_are ∙ path_found s (1 + n) words in
     let within : 1 + n < length s.tensors = omega (arith, there.1) in
-    let some = binds.all_read refl (1 + n) (omega arith) within in
+    let some = binds.all_read needed (1 + n) (omega arith) within in
     let path_is : path ≡ unwrap_or (first_in (path_in s (1 + n)) words) [] = there.0 ∙ ap (λ o. unwrap_or o []) named in
     let turned : n + 1 ≡ 1 + n = omega arith in
     subst (λ k. first_in (path_in s k) words ≡ Some path) (sym turned)
     (unwrapped (first_in (path_in s (1 + n)) words) some ∙ ap (λ p. Some p) (sym path_is)))
 
 -- a result that goes to a matrix has the order of one
-pub result_is_matrix : (s : Statement) (words : List (List ℕ)) (formats : List (List FormatLevel))
-    (files : List (ℕ × List ℕ)) (given : List (Option ℕ)) → Binds s words true formats files given → s.left.tensor ≡ 0
+pub result_is_matrix : (s : Statement) (words : List (List ℕ)) (need : Bool) (formats : List (List FormatLevel))
+    (files : List (ℕ × List ℕ)) (given : List (Option ℕ)) → Binds s words need formats files given → s.left.tensor ≡ 0
     → asks_matrix (path_of files 0) ≡ true → IsMatrixOrder (length s.left.vars)
-result_is_matrix s words formats files given binds left matrix = by_path (path_of files 0) refl matrix
+result_is_matrix s words need formats files given binds left matrix = by_path (path_of files 0) refl matrix
   where
     order : order_of s 0 ≡ length s.left.vars
     order = ap (λ b. if b then length s.left.vars else order_in s.accesses 0) (ap (λ n. n == 0) left)

@@ -19,6 +19,7 @@ use Rattle.kernel_runs.specs.Runs.{IsRun}
 use Rattle.statement_operands.proofs.Runnable.{read_is_runnable}
 use Rattle.refusals.specs.declared.fault.Fault.{Fault}
 use Rattle.refusals.specs.declared.fault.Fault.TheVariants as fault
+use Rattle.run_request.specs.Asked.{needs_files}
 use Rattle.run_answers.specs.Run.{Request}
 use Rattle.run_answers.specs.Causes.{means, IsAccepted, HasOperands, asked_orders, asked_paths, Stops}
 use Rattle.taco_top.specs.Prepared.{IsUncomputed}
@@ -31,23 +32,24 @@ fault_of (operand.FileBytes path) = fault.FileBytes path
 fault_of (operand.BadFile path line kind) = fault.BadFile path line kind
 fault_of operand.Memory = fault.Memory
 
-pub request_readable : (words : List (List ℕ)) (r : Request) → IsAccepted words r → IsNumbered r.statement
+pub request_readable : (words : List (List ℕ)) (r : Request) → needs_files r.task ≡ true → IsAccepted words r → IsNumbered r.statement
     → AreReadable (asked_orders r) (asked_paths r)
-request_readable words r accepted numbered =
-    paths_readable r.statement accepted.asks.rest r.formats r.files r.given accepted.asks.binds numbered
+request_readable words r reads accepted numbered =
+    paths_readable r.statement accepted.asks.rest (needs_files r.task) reads r.formats r.files r.given accepted.asks.binds numbered
 
 -- the orders and paths that were handed in are those of the request
 module _ (words : List (List ℕ)) (old new : FolderState) (r : Request) (orders : List ℕ) (paths : List (List ℕ))
-    (orders_are : orders ≡ asked_orders r) (paths_are : paths ≡ asked_paths r) where
+    (orders_are : orders ≡ asked_orders r) (paths_are : paths ≡ asked_paths r) (reads : needs_files r.task ≡ true) where
   pub readable : IsAccepted words r → IsNumbered r.statement → AreReadable orders paths
   readable accepted numbered =
       subst (λ os. AreReadable os paths) (sym orders_are)
-      (subst (λ ps. AreReadable (asked_orders r) ps) (sym paths_are) (request_readable words r accepted numbered))
+      (subst (λ ps. AreReadable (asked_orders r) ps) (sym paths_are) (request_readable words r reads accepted numbered))
 
   pub have_operands : (count : ℕ) (entries : List Entries) (bounds : List (Vec Bound Global)) → count ≡ length paths → IsAccepted words r
       → HaveRead means old new orders paths count entries (map (λ b. b.items) bounds) → HasOperands words old new r entries bounds
   have_operands count entries bounds many accepted read = record {
     accepted = accepted;
+    reads = reads;
     read = subst (λ n. HaveRead means old new (asked_orders r) (asked_paths r) n entries (map (λ b. b.items) bounds))
         (many ∙ ap length paths_are)
         (subst (λ os. HaveRead means old new os (asked_paths r) count entries (map (λ b. b.items) bounds)) orders_are
@@ -64,21 +66,24 @@ module _ (words : List (List ℕ)) (old new : FolderState) (r : Request) (orders
   stops (operand.ReadFault path) accepted is = record {
     request = r;
     accepted = accepted;
+    reads = reads;
     why = refused_at (operand.ReadFault path) is;
   }
   stops (operand.FileBytes path) accepted is = record {
     request = r;
     accepted = accepted;
+    reads = reads;
     why = refused_at (operand.FileBytes path) is;
   }
   stops (operand.BadFile path line kind) accepted is = record {
     request = r;
     accepted = accepted;
+    reads = reads;
     why = refused_at (operand.BadFile path line kind) is;
   }
   stops operand.Memory accepted is =
       let here = refused_at operand.Memory is in
-      inr (record { request = r; accepted = accepted; opens = here.0; no_fault = here.1 })
+      inr (record { request = r; accepted = accepted; reads = reads; opens = here.0; no_fault = here.1 })
 
   pub stops_reading : (told why : OperandFault) → told ≡ why → IsAccepted words r → IsRefused means old new orders paths told
       → Stops words old new (fault_of why)
@@ -90,9 +95,9 @@ request_runnable : (words : List (List ℕ)) (old new : FolderState) (r : Reques
     → IsRunnable r.statement r.formats r.given entries bounds
 request_runnable words old new r entries bounds operands numbered =
     let names = operands.accepted.asks.names in
-    read_is_runnable ring true names.text r.statement names.notation names.names numbered operands.accepted.asks.rest true
-    r.formats r.files r.given operands.accepted.asks.binds old new (asked_paths r) (length (asked_paths r)) entries bounds
-    (request_readable words r operands.accepted numbered) refl operands.read
+    read_is_runnable ring true names.text r.statement names.notation names.names numbered operands.accepted.asks.rest
+    (needs_files r.task) r.formats r.files r.given operands.accepted.asks.binds old new (asked_paths r) (length (asked_paths r)) entries bounds
+    (request_readable words r operands.reads operands.accepted numbered) refl operands.read
 
 -- the ranges that were handed in are those of the request
 module _ (r : Request) (given : List (Option ℕ)) (given_are : given ≡ r.given) (entries : List Entries)

@@ -1,6 +1,7 @@
--- Why a run stops, from why its parts do.
+-- How a command ends, from how its parts do.
 use Rattle.std.specs.Prelude.{◌≡◌, ℕ, ◌⊎◌, List, ◌++◌, Option, Some, Vec, Result, Ok, Err, OnOk, IfErr, refl}
-use Rattle.std.proofs.Common.{◌∙◌, sym, ap, subst, inl, inr}
+use Rattle.std.specs.Option.{option_map}
+use Rattle.std.proofs.Common.{◌∙◌, sym, ap, subst, inl, inr, arith}
 use Rattle.std.proofs.lemmas.List.{append-nil}
 use Rattle.std.specs.declared.alloc.Global.{Global}
 use Rattle.numbers.specs.Ring.{ring}
@@ -13,9 +14,10 @@ use Rattle.outside.specs.declared.refusal.Refusal.TheVariants.{Failed, Absent}
 use Rattle.outside.specs.declared.refusal.Refusal.TheVariants as refusal
 use Rattle.text_lines.specs.Puts.{AppendsPart}
 use Rattle.tensor_map.specs.Entries.{Entries, value_at}
+use Rattle.kernel_code.specs.declared.syntax.Kernel.{Kernel}
 use Rattle.expr_terms.specs.declared.bound.Bound.{Bound}
 use Rattle.operand_files.specs.Reads.{OnlyReads}
-use Rattle.result_files.specs.Writes.{Puts, WritesResult, RefusesResult}
+use Rattle.result_files.specs.Writes.{Puts, PutsAll, PutsFront, WritesResult, RefusesResult}
 use Rattle.result_files.specs.ResultText.{IsResultText}
 use Rattle.result_files.specs.declared.refusal.WriteRefusal.{WriteRefusal}
 use Rattle.result_files.specs.declared.refusal.WriteRefusal.TheVariants as write
@@ -24,12 +26,21 @@ use Rattle.refusals.specs.declared.fault.NamedFault.TheVariants as named
 use Rattle.refusals.specs.declared.fault.Fault.{Fault}
 use Rattle.refusals.specs.declared.fault.Fault.TheVariants as fault
 use Rattle.run_request.specs.Asked.{IsRefusedByWords}
-use Rattle.run_answers.specs.Causes.{HasOperands, result_ranges, result_value, OpensOperands, Stops, IsWritten, IsUnwritten, Cause}
+use Rattle.run_answers.specs.Causes.{HasOperands, result_ranges, result_value, OpensOperands, Stops, IsWritten, IsUnwritten}
+use Rattle.run_answers.specs.Causes.{IsAccepted, IsKernelOf, Tells, IsPrinted, IsUnprinted, Refuses}
 use Rattle.statement_operands.specs.Runnable.{told_ranges}
 use Rattle.kernel_runs.specs.Runs.{IsTooLarge}
-use Rattle.run_answers.specs.Ends.{PutsLine}
-use Rattle.run_answers.specs.Run.{Request, path_of}
-use Rattle.taco_top.specs.Prepared.{IsPrepared, IsUncomputed, StopsWriting, end_of}
+use Rattle.command_line.specs.CommandLine.{Workload as WorkloadLine, command_line_of}
+use Rattle.command_line.specs.declared.Task.TheVariants as task
+use Rattle.report_text.specs.Report.{workload_line}
+use Rattle.report_text.specs.declared.workload.Workload.{Workload}
+use Rattle.generated_runs.specs.Workloads.{IsWorkload}
+use Rattle.reports.specs.Reports.{kernel_report, run_report}
+use Rattle.run_answers.specs.Ends.{Cause, PutsLine}
+use Rattle.run_answers.specs.Run.{Request}
+use Rattle.taco_top.specs.declared.computing.Computed.{Computed}
+use Rattle.taco_top.specs.declared.ending.Done.{Done}
+use Rattle.taco_top.specs.Prepared.{IsPrepared, IsUncomputed, end_of, end_of_printing}
 
 -- the words are refused, and no file was opened
 pub stops_by_words : (words : List (List ℕ)) (why : Fault) (files : FolderState) → IsRefusedByWords words why → Stops words files files why
@@ -53,6 +64,7 @@ opened : (words : List (List ℕ)) (old new : FolderState) (r : Request) (entrie
 opened words old new r entries bounds operands = record {
   request = r;
   accepted = operands.accepted;
+  reads = operands.reads;
   opens = record {
     files = operands.read.read.files;
     given_is = operands.read.read.given_is ∙ ap (λ fs. old.given ++ fs) (append-nil operands.read.read.files);
@@ -96,9 +108,9 @@ module _ (words : List (List ℕ)) (old new : FolderState) (r : Request) (entrie
   stops_uncomputed (fault.WriteFault path) is = absurd is
   stops_uncomputed fault.Memory is = inr (opened words old new r entries bounds operands)
 
--- a run stops before it writes
+-- a command stops before it writes
 pub stopped : (words : List (List ℕ)) (files files' : FolderState) (out : SinkState) (why : Fault) → OnlyReads files files'
-    → Stops words files files' why → Cause words files files' out out (Some why)
+    → Stops words files files' why → Refuses words files files' out out why
 stopped words files files' out fault.Usage reads is = record { only_reads = reads; stops = is; out_is = refl }
 stopped words files files' out (fault.Notation why) reads is = record { only_reads = reads; stops = is; out_is = refl }
 stopped words files files' out (fault.Named s why) reads is = record { only_reads = reads; stops = is; out_is = refl }
@@ -109,73 +121,127 @@ stopped words files files' out (fault.BadFile path line kind) reads is = record 
 stopped words files files' out (fault.WriteFault path) reads is = absurd is
 stopped words files files' out fault.Memory reads is = inl (record { only_reads = reads; stops = is; out_is = refl })
 
--- ---- the writing of a result that was prepared
-module _ (words : List (List ℕ)) (files between files' : FolderState) (out out' : SinkState) (path : Option (List ℕ)) (shape : List ℕ)
-    (entries : Entries) (reads : OnlyReads files between) (is : IsPrepared words files between path shape entries) where
-  ranges_are : shape ≡ result_ranges is.computed.request.statement is.computed.ranges
-  ranges_are = is.tensor.shape_is
+-- a folder that nothing was done with
+pub reads_nothing : (files : FolderState) → OnlyReads files files
+reads_nothing files = record {
+  keeps_writing = record {
+    holds_is = refl;
+    writing_is = refl;
+    unfinished_is = refl;
+    write_faults_are = refl;
+  };
+  read_faults_grow = omega arith;
+  wants_grow = omega arith;
+}
+
+-- ---- the writing of a result that was computed
+module _ (words : List (List ℕ)) (files between files' : FolderState) (out out' : SinkState) (kept : Computed)
+    (reads : OnlyReads files between) (is : IsPrepared words task.Run files between kept) where
+  path : Option (List ℕ)
+  path = option_map (λ p. p.now) kept.path
 
   -- the text of the result's entries is that of the statement's values
-  text_of_values : (text : List ℕ) → IsResultText ring path shape (value_at ring entries.list) text
-      → IsResultText ring (path_of is.computed.request.files 0) (result_ranges is.computed.request.statement is.computed.ranges)
+  text_of_values : (text : List ℕ) → IsResultText ring path kept.result.shape (value_at ring kept.result.entries.list) text
+      → IsResultText ring path (result_ranges is.computed.request.statement is.computed.ranges)
       (result_value is.computed.request.statement is.computed.entries is.computed.ranges) text
+  unfolding path
   text_of_values text text_is =
-      subst (λ p. IsResultText ring p (result_ranges is.computed.request.statement is.computed.ranges)
-      (result_value is.computed.request.statement is.computed.entries is.computed.ranges) text) (sym is.path_is)
-      (subst (λ ranges. IsResultText ring path ranges
-      (result_value is.computed.request.statement is.computed.entries is.computed.ranges) text) ranges_are
-      (same_text ring path shape (value_at ring entries.list)
+      subst (λ ranges. IsResultText ring path ranges
+      (result_value is.computed.request.statement is.computed.entries is.computed.ranges) text) is.tensor.shape_is
+      (same_text ring path kept.result.shape (value_at ring kept.result.entries.list)
       (result_value is.computed.request.statement is.computed.entries is.computed.ranges) text
-      is.tensor.values_are text_is))
+      is.tensor.values_are text_is)
 
-  pub written : WritesResult ring path shape (value_at ring entries.list) between files' out out' → IsWritten words files files' out out'
+  pub written : WritesResult ring (option_map (λ p. p.now) kept.path) kept.result.shape (value_at ring kept.result.entries.list)
+      between files' out out' → IsWritten words files files' out out' kept.result.turns
+  unfolding path
   written writes = record {
     between = between;
     only_reads = reads;
     computed = is.computed;
+    task_is = is.task_is;
+    turns_are = is.turns_are;
     writes = record {
       text = writes.text;
-      text_is = text_of_values writes.text writes.text_is;
+      text_is = subst (λ p. IsResultText ring p (result_ranges is.computed.request.statement is.computed.ranges)
+          (result_value is.computed.request.statement is.computed.entries is.computed.ranges) writes.text) (sym is.path_is)
+          (text_of_values writes.text writes.text_is);
       puts = subst (λ p. Puts p writes.text between files' out out') (sym is.path_is) writes.puts;
     };
   }
 
-  refused : (why : WriteRefusal) → RefusesResult ring path shape (value_at ring entries.list) between files' out out' why
-      → IsUnwritten words files files' out out' path why
-  refused why refuses = record {
+  pub unwritten : (why : WriteRefusal) → RefusesResult ring (option_map (λ p. p.now) kept.path) kept.result.shape
+      (value_at ring kept.result.entries.list) between files' out out' why
+      → IsUnwritten words files files' out out' (option_map (λ p. p.now) kept.path) why
+  unfolding path
+  unwritten why refuses = record {
     between = between;
     only_reads = reads;
     computed = is.computed;
+    task_is = is.task_is;
     path_is = is.path_is;
     refuses = record {
       text = refuses.text;
-      text_is = subst (λ p. IsResultText ring p (result_ranges is.computed.request.statement is.computed.ranges)
-          (result_value is.computed.request.statement is.computed.entries is.computed.ranges) refuses.text) is.path_is
-          (text_of_values refuses.text refuses.text_is);
+      text_is = text_of_values refuses.text refuses.text_is;
       puts = refuses.puts;
     };
   }
 
-  pub unwritten : (why : Fault) → StopsWriting path shape (value_at ring entries.list) between files' out out' why
-      → Cause words files files' out out' (Some why)
-  unwritten (fault.WriteFault at) (path_is, refuses) =
-      subst (λ p. IsUnwritten words files files' out out' p write.Fault) (sym path_is) (refused write.Fault refuses)
-  unwritten fault.Memory (error, refuses) = inr (path, error, refused (write.Memory error) refuses)
-  unwritten fault.Usage stops = absurd stops
-  unwritten (fault.Notation why) stops = absurd stops
-  unwritten (fault.Named s why) stops = absurd stops
-  unwritten (fault.WorkspaceLimit count) stops = absurd stops
-  unwritten (fault.ReadFault at) stops = absurd stops
-  unwritten (fault.FileBytes at) stops = absurd stops
-  unwritten (fault.BadFile at line kind) stops = absurd stops
+-- ---- the printing of a text
+module _ (words : List (List ℕ)) (files files' : FolderState) (out out' : SinkState) (text : List ℕ) (reads : OnlyReads files files')
+    (tells : Tells words files files' text) where
+  unprinted : (why : WriteRefusal) → PutsFront out out' text why → IsUnprinted words files files' out out' why
+  unprinted why puts = record { text = text; only_reads = reads; tells = tells; puts = puts }
 
-  -- what stands after the writing
-  pub cause_of_write : (result : Result (Unit {0}) Fault)
-      → OnOk result (WritesResult ring path shape (value_at ring entries.list) between files' out out')
-      → IfErr result (StopsWriting path shape (value_at ring entries.list) between files' out out')
-      → Cause words files files' out out' (end_of result)
-  cause_of_write (Ok done) writes stops = written writes
-  cause_of_write (Err why) writes stops = unwritten why stops
+  by_answer : (answer : Result (Unit {0}) WriteRefusal) → OnOk answer (PutsAll out out' text) → IfErr answer (PutsFront out out' text)
+      → Cause words files files' out out' (end_of_printing answer)
+  by_answer (Ok done) whole part = record { text = text; only_reads = reads; tells = tells; puts = whole }
+  by_answer (Err write.Fault) whole part = inr (refl, unprinted write.Fault part)
+  by_answer (Err (write.Memory error)) whole part = inr (inr (error, unprinted (write.Memory error) part))
+
+  pub cause_of_printing : (answer : Result (Unit {0}) WriteRefusal) (ended : Result Done Fault) → end_of ended ≡ end_of_printing answer
+      → OnOk answer (PutsAll out out' text) → IfErr answer (PutsFront out out' text)
+      → Cause words files files' out out' (end_of ended)
+  cause_of_printing answer ended is whole part =
+      subst (Cause words files files' out out') (sym is) (by_answer answer whole part)
+
+-- the text of a kernel
+pub tells_kernel : (words : List (List ℕ)) (files : FolderState) (r : Request) (order : List ℕ) (kernel : Kernel) → IsAccepted words r
+    → r.task ≡ task.Kernel → IsKernelOf r order kernel
+    → Tells words files files (kernel_report r.statement order r.formats kernel)
+tells_kernel words files r order kernel accepted task_is is_kernel = inl (record {
+  request = r;
+  accepted = accepted;
+  task_is = task_is;
+  order = order;
+  kernel = kernel;
+  is_kernel = is_kernel;
+  folder_is = refl;
+  text_is = refl;
+})
+
+-- the text of a run that was computed
+pub tells_run : (words : List (List ℕ)) (old new : FolderState) (kept : Computed) → IsPrepared words task.Report old new kept
+    → Tells words old new (run_report kept.statement kept.compiled.order kept.formats.items kept.compiled.kernel kept.result.turns
+    kept.result.tensor)
+tells_run words old new kept is = inr (inl (record {
+  computed = is.computed;
+  task_is = is.task_is;
+  text_is = λ i. run_report (sym is.statement_is i) (sym is.order_is i) (sym is.formats_are i) (sym is.kernel_is i) (sym is.turns_are i)
+      (sym is.storage_is i);
+}))
+
+-- the line of a workload
+pub tells_workload : (words : List (List ℕ)) (files : FolderState) (size : ℕ) (workload : Workload)
+    → command_line_of words ≡ Some (WorkloadLine size) → IsWorkload size workload → Tells words files files (workload_line workload)
+tells_workload words files size workload line is = inr (inr (record {
+  size = size;
+  line = line;
+  workload = workload;
+  is = is;
+  folder_is = refl;
+  text_is = refl;
+}))
 
 -- a line that was put, or a part of it
 module _ {A : Type 0} where

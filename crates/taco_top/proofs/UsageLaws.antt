@@ -1,5 +1,6 @@
 -- Status 2 is that of words that are no command line.
-use Rattle.std.specs.Prelude.{◌≡◌, ℕ, ◌⊎◌, List, Option, Some, None, map, String, string_bytes, refl}
+use Rattle.std.specs.Prelude.{◌≡◌, ℕ, ◌⊎◌, List, Some, None, map, String, string_bytes, refl}
+use Rattle.std.specs.Option.{option_map}
 use Rattle.std.proofs.Common.{◌∙◌, sym, subst, inl, inr}
 use Rattle.std.specs.declared.alloc.Global.{Global}
 use Rattle.outside.specs.Folder.{FolderState}
@@ -17,8 +18,8 @@ use Rattle.refusals.specs.declared.fault.Fault.{Fault}
 use Rattle.refusals.specs.declared.fault.Fault.TheVariants as fault
 use Rattle.command_line.specs.CommandLine.{CommandLine, command_line_of}
 use Rattle.run_request.specs.Asked.{IsRefusedByWords}
-use Rattle.run_answers.specs.Causes.{Cause}
-use Rattle.run_answers.specs.Ends.{Ends, status_of_end}
+use Rattle.run_answers.specs.Causes.{FailsToWrite, Tells}
+use Rattle.run_answers.specs.Ends.{Ends, Ending, Written, Printed, Refused, Cause, status_of_end}
 
 apart : {A : Type 0} {x : A} → None ≡ Some x → ⊥
 apart h = cc
@@ -53,50 +54,62 @@ named_not_two (named.Range (range.Memory error)) is = cc
 named_not_two (named.SizeLimit tensor level count) is = cc
 
 module _ (words : List (List ℕ)) (files files' : FolderState) (out out' : SinkState) where
-  told : (ended : Option Fault) → 2 ≡ status_of_end ended → Cause words files files' out out' ended → command_line_of words ≡ None
-  told None is cause = absurd cc
-  told (Some fault.Usage) is cause = cause.stops.refused
-  told (Some (fault.Notation why)) is cause = absurd (notation_not_two why is)
-  told (Some (fault.Named s why)) is cause = absurd (named_not_two why is)
-  told (Some (fault.WorkspaceLimit count)) is cause = absurd cc
-  told (Some (fault.ReadFault path)) is cause = absurd cc
-  told (Some (fault.FileBytes path)) is cause = absurd cc
-  told (Some (fault.BadFile path line kind)) is cause = absurd cc
-  told (Some (fault.WriteFault path)) is cause = absurd cc
-  told (Some fault.Memory) is cause = absurd cc
+  told : (ended : Ending) → 2 ≡ status_of_end ended → Cause words files files' out out' ended → command_line_of words ≡ None
+  told (Written turns) is cause = absurd cc
+  told Printed is cause = absurd cc
+  told (Refused fault.Usage) is cause = cause.stops.refused
+  told (Refused (fault.Notation why)) is cause = absurd (notation_not_two why is)
+  told (Refused (fault.Named s why)) is cause = absurd (named_not_two why is)
+  told (Refused (fault.WorkspaceLimit count)) is cause = absurd cc
+  told (Refused (fault.ReadFault path)) is cause = absurd cc
+  told (Refused (fault.FileBytes path)) is cause = absurd cc
+  told (Refused (fault.BadFile path line kind)) is cause = absurd cc
+  told (Refused (fault.WriteFault path)) is cause = absurd cc
+  told (Refused fault.Memory) is cause = absurd cc
 
   -- ---- no other cause has words that are no command line
   module _ (none : command_line_of words ≡ None) where
     never : {line : CommandLine} → command_line_of words ≡ Some line → ⊥
     never is = apart (sym none ∙ is)
 
-    found : (ended : Option Fault) → Cause words files files' out out' ended
+    -- there is no text for them
+    nothing_told : {text : List ℕ} → Tells words files files' text → ⊥
+    nothing_told (inl is) = never is.accepted.asks.names.line
+    nothing_told (inr (inl is)) = never is.computed.operands.accepted.asks.names.line
+    nothing_told (inr (inr is)) = never is.line
+
+    found : (ended : Ending) → Cause words files files' out out' ended
         → (status_of_end ended ≡ 2) ⊎ (status_of_end ended ≡ 5)
-    found None cause = absurd (never cause.computed.operands.accepted.asks.names.line)
-    found (Some fault.Usage) cause = inl refl
-    found (Some (fault.Notation why)) cause = by cause.stops.refused
+    found (Written turns) cause = absurd (never cause.computed.operands.accepted.asks.names.line)
+    found Printed cause = absurd (nothing_told cause.tells)
+    found (Refused fault.Usage) cause = inl refl
+    found (Refused (fault.Notation why)) cause = by cause.stops.refused
       where
         by : IsRefusedByWords words (fault.Notation why) → (notation_status why ≡ 2) ⊎ (notation_status why ≡ 5)
         by (text, rest, line, is) = absurd (never line)
-    found (Some (fault.Named s (named.Name why))) cause = by cause.stops.refused
+    found (Refused (fault.Named s (named.Name why))) cause = by cause.stops.refused
       where
         by : IsRefusedByWords words (fault.Named s (named.Name why))
             → (named_status (named.Name why) ≡ 2) ⊎ (named_status (named.Name why) ≡ 5)
         by (text, rest, line, notation, is) = absurd (never line)
-    found (Some (fault.Named s (named.Binding why))) cause = by cause.stops.refused
+    found (Refused (fault.Named s (named.Binding why))) cause = by cause.stops.refused
       where
         by : IsRefusedByWords words (fault.Named s (named.Binding why))
             → (named_status (named.Binding why) ≡ 2) ⊎ (named_status (named.Binding why) ≡ 5)
         by (rest, names, is) = absurd (never names.line)
-    found (Some (fault.Named s (named.Cycle cycle))) cause = absurd (never cause.stops.1.asks.names.line)
-    found (Some (fault.Named s (named.Range why))) cause = absurd (never cause.stops.operands.accepted.asks.names.line)
-    found (Some (fault.Named s (named.SizeLimit tensor level count))) cause = absurd (never cause.stops.operands.accepted.asks.names.line)
-    found (Some (fault.WorkspaceLimit count)) cause = absurd (never cause.stops.operands.accepted.asks.names.line)
-    found (Some (fault.ReadFault path)) cause = absurd (never cause.stops.accepted.asks.names.line)
-    found (Some (fault.FileBytes path)) cause = absurd (never cause.stops.accepted.asks.names.line)
-    found (Some (fault.BadFile path line kind)) cause = absurd (never cause.stops.accepted.asks.names.line)
-    found (Some (fault.WriteFault path)) cause = absurd (never cause.computed.operands.accepted.asks.names.line)
-    found (Some fault.Memory) cause = inr refl
+    found (Refused (fault.Named s (named.Cycle cycle))) cause = absurd (never cause.stops.1.asks.names.line)
+    found (Refused (fault.Named s (named.Range why))) cause = absurd (never cause.stops.operands.accepted.asks.names.line)
+    found (Refused (fault.Named s (named.SizeLimit tensor level count))) cause = absurd (never cause.stops.operands.accepted.asks.names.line)
+    found (Refused (fault.WorkspaceLimit count)) cause = absurd (never cause.stops.operands.accepted.asks.names.line)
+    found (Refused (fault.ReadFault path)) cause = absurd (never cause.stops.accepted.asks.names.line)
+    found (Refused (fault.FileBytes path)) cause = absurd (never cause.stops.accepted.asks.names.line)
+    found (Refused (fault.BadFile path line kind)) cause = absurd (never cause.stops.accepted.asks.names.line)
+    found (Refused (fault.WriteFault path)) cause = absurd (by cause)
+      where
+        by : FailsToWrite words files files' out out' (option_map (λ p. p.now) path) → ⊥
+        by (inl is) = never is.computed.operands.accepted.asks.names.line
+        by (inr is) = nothing_told is.1.tells
+    found (Refused fault.Memory) cause = inr refl
 
 pub usage_told : (words : List (String Global)) (files files' : FolderState) (out out' err err' : SinkState)
     → Ends words files files' out out' err err' 2 → command_line_of (map string_bytes words) ≡ None

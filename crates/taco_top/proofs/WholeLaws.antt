@@ -30,6 +30,7 @@ use Rattle.kernel_runs.specs.declared.fault.RunFault.{RunFault}
 use Rattle.kernel_runs.specs.declared.fault.RunFault.TheVariants.{SizeLimit, Workspace}
 use Rattle.kernel_runs.proofs.Fits.{none_refused}
 use Rattle.result_files.specs.ResultText.{IsResultText}
+use Rattle.kernel_code.specs.declared.syntax.Turns.{Turns}
 use Rattle.result_files.specs.Writes.{PutsPart}
 use Rattle.result_files.specs.declared.refusal.WriteRefusal.TheVariants as write
 use Rattle.result_files.proofs.OneText.{one_text}
@@ -42,8 +43,8 @@ use Rattle.run_request.proofs.OneRequest as request
 use Rattle.run_answers.specs.Run.{Request, AsksFor, path_of}
 use Rattle.run_answers.specs.Causes.{means, asked_orders, asked_paths, HasOperands, IsComputed, result_ranges, result_value}
 use Rattle.run_answers.specs.Causes.{StopsReading, HasCycleFault, HasRangeFault, HasLargeLevel, HasManyPairs, Stops}
-use Rattle.run_answers.specs.Causes.{IsWritten, IsUnwritten, Cause}
-use Rattle.run_answers.specs.Ends.{Ends, status_of_end}
+use Rattle.run_answers.specs.Causes.{IsWritten, IsUnwritten, IsUnprinted, FailsToWrite}
+use Rattle.run_answers.specs.Ends.{Ends, Ending, Written, Printed, Refused, Cause, status_of_end}
 use Rattle.taco_top.specs.Whole.{IsWhole, modes_told, bound_told}
 
 -- ---- bounds that are lent say what they hold
@@ -70,6 +71,19 @@ fault_rose : (path : Option (List ℕ)) (text : List ℕ) (between files' : Fold
 fault_rose None text between files' out out' puts = inr puts.1.cause.0.rose
 fault_rose (Some name) text between files' out out' puts = inl puts.0.cause.0.rose
 
+-- the words ask for one thing
+pub one_request : (words : List (List ℕ)) (r q : Request) → AsksFor words r → AsksFor words q → r ≡ q
+one_request words r q asks other =
+    let t = request.same_task words r.task q.task r.statement q.statement r.formats q.formats r.files q.files r.given q.given asks other in
+    let s = request.same_statement words r.task q.task r.statement q.statement r.formats q.formats r.files q.files r.given q.given asks
+    other in
+    let formats = request.same_formats words r.task q.task r.statement q.statement r.formats q.formats r.files q.files r.given q.given asks
+    other in
+    let fs = request.same_files words r.task q.task r.statement q.statement r.formats q.formats r.files q.files r.given q.given asks other in
+    let gs = request.same_ranges words r.task q.task r.statement q.statement r.formats q.formats r.files q.files r.given q.given asks
+    other in
+    λ i. record { task = t i; statement = s i; formats = formats i; files = fs i; given = gs i }
+
 module _ (words : List (List ℕ)) (files : FolderState) (whole : IsWhole words files.holds) where
   as_many : length (asked_orders whole.request) ≡ length (asked_paths whole.request)
   as_many = length-map-range_with_len (order_of whole.request.statement) 1 (length whole.request.statement.tensors - 1)
@@ -78,16 +92,7 @@ module _ (words : List (List ℕ)) (files : FolderState) (whole : IsWhole words 
 
   -- another reading of the same words asks for the same
   request_is : (r : Request) → AsksFor words r → r ≡ whole.request
-  request_is r asks =
-      let s = request.same_statement words r.statement whole.request.statement r.formats whole.request.formats r.files whole.request.files
-      r.given whole.request.given asks whole.accepted.asks in
-      let formats = request.same_formats words r.statement whole.request.statement r.formats whole.request.formats r.files
-      whole.request.files r.given whole.request.given asks whole.accepted.asks in
-      let fs = request.same_files words r.statement whole.request.statement r.formats whole.request.formats r.files whole.request.files
-      r.given whole.request.given asks whole.accepted.asks in
-      let gs = request.same_ranges words r.statement whole.request.statement r.formats whole.request.formats r.files whole.request.files
-      r.given whole.request.given asks whole.accepted.asks in
-      λ i. record { statement = s i; formats = formats i; files = fs i; given = gs i }
+  request_is r asks = one_request words r whole.request asks whole.accepted.asks
 
   reading_at : (Why : (orders : List ℕ) (paths : List (List ℕ)) → Type 0) → StopsReading words Why
       → Why (asked_orders whole.request) (asked_paths whole.request)
@@ -129,7 +134,7 @@ module _ (words : List (List ℕ)) (files : FolderState) (whole : IsWhole words 
   -- ---- no stage has a cause
   module _ (new : FolderState) (no_fault : Rose files.read_faults new.read_faults → ⊥) where
     never_by_words : (why : Fault) → IsRefusedByWords words why → IsWant why
-    never_by_words why is = request.never_both words whole.request.statement whole.request.formats whole.request.files whole.request.given
+    never_by_words why is = request.never_both words whole.request.task whole.request.statement whole.request.formats whole.request.files whole.request.given
         why whole.accepted.asks is
 
     no_range_fault : (s : Statement) (why : RangeFault) → HasRangeFault words files new s why → ⊥
@@ -198,26 +203,33 @@ module _ (words : List (List ℕ)) (files : FolderState) (whole : IsWhole words 
       by (inl rose) = no_write (subst (λ n. Rose n files'.write_faults) is.only_reads.keeps_writing.write_faults_are rose)
       by (inr rose) = no_out rose
 
-  pub ends_well : (files' : FolderState) (out out' : SinkState) (ended : Option Fault) → (Rose files.read_faults files'.read_faults → ⊥)
+  never_failed : (files' : FolderState) (out out' : SinkState) (path : Option (List ℕ))
+      → (Rose files.write_faults files'.write_faults → ⊥) → (Rose out.faults out'.faults → ⊥)
+      → FailsToWrite words files files' out out' path → ⊥
+  never_failed files' out out' path no_write no_out (inl is) = never_written_off files' out out' path no_write no_out is
+  never_failed files' out out' path no_write no_out (inr is) = no_out is.1.puts.cause.0.rose
+
+  pub ends_well : (files' : FolderState) (out out' : SinkState) (ended : Ending) → (Rose files.read_faults files'.read_faults → ⊥)
       → (Rose files.write_faults files'.write_faults → ⊥) → (Rose out.faults out'.faults → ⊥)
       → Cause words files files' out out' ended → (status_of_end ended ≡ 0) ⊎ (status_of_end ended ≡ 5)
-  ends_well files' out out' None no_read no_write no_out cause = inl refl
-  ends_well files' out out' (Some fault.Memory) no_read no_write no_out cause = inr refl
-  ends_well files' out out' (Some (fault.WriteFault path)) no_read no_write no_out cause =
-      absurd (never_written_off files' out out' (option_map (λ p. p.now) path) no_write no_out cause)
-  ends_well files' out out' (Some fault.Usage) no_read no_write no_out cause =
+  ends_well files' out out' (Written turns) no_read no_write no_out cause = inl refl
+  ends_well files' out out' Printed no_read no_write no_out cause = inl refl
+  ends_well files' out out' (Refused fault.Memory) no_read no_write no_out cause = inr refl
+  ends_well files' out out' (Refused (fault.WriteFault path)) no_read no_write no_out cause =
+      absurd (never_failed files' out out' (option_map (λ p. p.now) path) no_write no_out cause)
+  ends_well files' out out' (Refused fault.Usage) no_read no_write no_out cause =
       inr (ap status_of (never_stops files' no_read fault.Usage cause.stops))
-  ends_well files' out out' (Some (fault.Notation why)) no_read no_write no_out cause =
+  ends_well files' out out' (Refused (fault.Notation why)) no_read no_write no_out cause =
       inr (ap status_of (never_stops files' no_read (fault.Notation why) cause.stops))
-  ends_well files' out out' (Some (fault.Named s why)) no_read no_write no_out cause =
+  ends_well files' out out' (Refused (fault.Named s why)) no_read no_write no_out cause =
       inr (ap status_of (never_stops files' no_read (fault.Named s why) cause.stops))
-  ends_well files' out out' (Some (fault.WorkspaceLimit count)) no_read no_write no_out cause =
+  ends_well files' out out' (Refused (fault.WorkspaceLimit count)) no_read no_write no_out cause =
       inr (ap status_of (never_stops files' no_read (fault.WorkspaceLimit count) cause.stops))
-  ends_well files' out out' (Some (fault.ReadFault path)) no_read no_write no_out cause =
+  ends_well files' out out' (Refused (fault.ReadFault path)) no_read no_write no_out cause =
       inr (ap status_of (never_stops files' no_read (fault.ReadFault path) cause.stops))
-  ends_well files' out out' (Some (fault.FileBytes path)) no_read no_write no_out cause =
+  ends_well files' out out' (Refused (fault.FileBytes path)) no_read no_write no_out cause =
       inr (ap status_of (never_stops files' no_read (fault.FileBytes path) cause.stops))
-  ends_well files' out out' (Some (fault.BadFile path line kind)) no_read no_write no_out cause =
+  ends_well files' out out' (Refused (fault.BadFile path line kind)) no_read no_write no_out cause =
       inr (ap status_of (never_stops files' no_read (fault.BadFile path line kind) cause.stops))
 
   -- ---- the text is that of the values over the operands that the folder tells
@@ -248,9 +260,10 @@ whole_ends words files files' out out' err err' status whole no_read no_write no
     (ends_well (map string_bytes words) files whole files' out out' ends.ended no_read no_write no_out ends.cause)
 
 pub whole_text : (words : List (List ℕ)) (files files' others others' : FolderState) (out out' away away' : SinkState)
-    → IsWhole words files.holds → others.holds ≡ files.holds → (first : IsWritten words files files' out out')
-    → (second : IsWritten words others others' away away') → first.writes.text ≡ second.writes.text
-whole_text words files files' others others' out out' away away' whole holds first second =
+    (turns made : Turns) → IsWhole words files.holds → others.holds ≡ files.holds
+    → (first : IsWritten words files files' out out' turns) → (second : IsWritten words others others' away away' made)
+    → first.writes.text ≡ second.writes.text
+whole_text words files files' others others' out out' away away' turns made whole holds first second =
     one_text ring ring_laws (path_of whole.request.files 0) (result_ranges whole.request.statement whole.ranges)
     (result_value whole.request.statement (map (λ operand. operand.entries) whole.operands) whole.ranges)
     first.writes.text second.writes.text
@@ -263,6 +276,7 @@ whole_text words files files' others others' out out' away away' whole holds fir
       operands = whole.operands;
       ranges = whole.ranges;
       accepted = whole.accepted;
+      reads = whole.reads;
       told = subst (λ h. AreTold h (asked_paths whole.request)) (sym holds) whole.told;
       operands_are = subst (λ h. told_operands means h (asked_orders whole.request) (asked_paths whole.request) ≡ Ok whole.operands)
           (sym holds) whole.operands_are;

@@ -6,6 +6,7 @@ use Rattle.run_answers.specs.Run.{Request}
 
 abbrev pub request_of : Asked → Request
 request_of asked = record {
+  task = asked.task;
   statement = asked.statement;
   formats = asked.bindings.formats.items;
   files = map file_in asked.bindings.files.entries;

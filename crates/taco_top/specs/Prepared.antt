@@ -1,12 +1,9 @@
--- What is told between the parts of a run: why a statement isn't computed, a result that is to be written, and why its writing
--- stops.
-use Rattle.std.specs.Prelude.{◌≡◌, ℕ, List, Option, Some, None, Result, Ok, Err, Vec, slice_index}
+-- What is told between the parts of a command: how it ends, why a statement isn't computed, and what was computed.
+use Rattle.std.specs.Prelude.{◌≡◌, ℕ, List, Option, None, Result, Ok, Err, Vec, length, slice_index}
 use Rattle.std.specs.Option.{option_map}
 use Rattle.std.specs.declared.alloc.Global.{Global}
-use Rattle.std.specs.declared.alloc.AllocError.{AllocError}
 use Rattle.numbers.specs.Ring.{ring}
 use Rattle.outside.specs.Folder.{FolderState}
-use Rattle.outside.specs.Sink.{SinkState}
 use Rattle.tensor_map.specs.Entries.{Entries}
 use Rattle.format_spec.specs.declared.format.FormatLevel.{FormatLevel}
 use Rattle.index_notation.specs.declared.syntax.Statement.{Statement}
@@ -15,18 +12,31 @@ use Rattle.statement_operands.specs.Runnable.{told_ranges}
 use Rattle.kernel_runs.specs.Runs.{IsTensorOf, IsTooLarge, NeedsPairs}
 use Rattle.result_files.specs.EntriesText.{MayBeWritten}
 use Rattle.result_files.specs.ResultText.{asks_matrix}
-use Rattle.result_files.specs.Writes.{RefusesResult}
+use Rattle.storage_arrays.specs.Arrays.{AreDone}
+use Rattle.result_files.specs.declared.refusal.WriteRefusal.{WriteRefusal}
 use Rattle.result_files.specs.declared.refusal.WriteRefusal.TheVariants as write
+use Rattle.command_line.specs.declared.Task.{Task}
 use Rattle.refusals.specs.declared.fault.NamedFault.TheVariants as named
 use Rattle.refusals.specs.declared.fault.Fault.{Fault}
 use Rattle.refusals.specs.declared.fault.Fault.TheVariants as fault
 use Rattle.run_answers.specs.Causes.{IsComputed}
+use Rattle.run_answers.specs.Ends.{Ending, Written, Printed, Refused}
 use Rattle.run_answers.specs.Run.{path_of}
+use Rattle.taco_top.specs.declared.computing.Computed.{Computed}
+use Rattle.taco_top.specs.declared.ending.Done.{Done}
+use Rattle.taco_top.specs.declared.ending.Done.TheVariants as done
 
--- the fault that a call ended with, if any
-abbrev pub end_of : {A : Type 0} → Result A Fault → Option Fault
-end_of (Ok x) = None
-end_of (Err why) = Some why
+-- how a command ends
+abbrev pub end_of : Result Done Fault → Ending
+end_of (Ok (done.Written turns)) = Written turns
+end_of (Ok done.Printed) = Printed
+end_of (Err why) = Refused why
+
+-- and one that prints a text: it goes to the output, not to a path
+abbrev pub end_of_printing : Result (Unit {0}) WriteRefusal → Ending
+end_of_printing (Ok done) = Printed
+end_of_printing (Err write.Fault) = Refused (fault.WriteFault None)
+end_of_printing (Err (write.Memory error)) = Refused fault.Memory
 
 -- why a statement isn't computed over these operands
 abbrev pub IsUncomputed : Statement → List (List FormatLevel) → List (Option ℕ) → List Entries → List (Vec Bound Global) → Fault → Type 0
@@ -37,18 +47,19 @@ IsUncomputed s formats given entries bounds (fault.WorkspaceLimit count) = Needs
 IsUncomputed s formats given entries bounds fault.Memory = Unit {0}
 IsUncomputed s formats given entries bounds _ = ⊥
 
--- the result of what the words ask for, and the path that it goes to
-pub record IsPrepared (words : List (List ℕ)) (old new : FolderState) (path : Option (List ℕ)) (shape : List ℕ)
-    (entries : Entries) : Type 0 where
+-- what the words ask for was computed, for this task, and this is kept of it
+pub record IsPrepared (words : List (List ℕ)) (task : Task) (old new : FolderState) (kept : Computed) : Type 0 where
   pub computed : IsComputed words old new
-  pub path_is : path_of computed.request.files 0 ≡ path
-  pub tensor : IsTensorOf ring computed.request.statement computed.entries (slice_index computed.ranges) shape entries
-  pub written : MayBeWritten (asks_matrix path) shape entries
-
--- why a result isn't written
-abbrev pub StopsWriting : Option (List ℕ) → List ℕ → (List ℕ → ℕ) → FolderState → FolderState → SinkState → SinkState → Fault → Type 0
-StopsWriting path ranges value files files' out out' (fault.WriteFault at) =
-    (option_map (λ p. p.now) at ≡ path) × RefusesResult ring path ranges value files files' out out' write.Fault
-StopsWriting path ranges value files files' out out' fault.Memory =
-    (error : AllocError) × RefusesResult ring path ranges value files files' out out' (write.Memory error)
-StopsWriting path ranges value files files' out out' _ = ⊥
+  pub task_is : computed.request.task ≡ task
+  pub path_is : path_of computed.request.files 0 ≡ option_map (λ path. path.now) kept.path
+  pub statement_is : computed.request.statement ≡ kept.statement
+  pub formats_are : computed.request.formats ≡ kept.formats.items
+  pub each_format : length kept.formats.items ≡ length kept.statement.tensors
+  pub order_is : computed.order ≡ kept.compiled.order
+  pub kernel_is : computed.kernel ≡ kept.compiled.kernel
+  pub storage_is : computed.tensor ≡ kept.result.tensor
+  pub turns_are : computed.turns ≡ kept.result.turns
+  pub tensor : IsTensorOf ring computed.request.statement computed.entries (slice_index computed.ranges) kept.result.shape
+      kept.result.entries
+  pub written : MayBeWritten (asks_matrix (option_map (λ path. path.now) kept.path)) kept.result.shape kept.result.entries
+  pub finished : AreDone 1 kept.result.tensor.levels

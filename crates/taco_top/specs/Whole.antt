@@ -1,5 +1,5 @@
--- Where all input is whole: then a run ends with its result, unless a fault occurs or memory is wanted.
-use Rattle.std.specs.Prelude.{◌≡◌, ℕ, zero, suc, List, [], map, Option, Result, Ok, slice_get, unwrap_or}
+-- Where all input is whole: then `run` and `report` end with what they are to give, unless a fault occurs or memory is wanted.
+use Rattle.std.specs.Prelude.{◌≡◌, ℕ, zero, suc, List, [], map, Option, Result, Ok, true, slice_get, unwrap_or}
 use Rattle.numbers.specs.Ring.{ring}
 use Rattle.outside.specs.Told.{Told}
 use Rattle.index_notation.specs.declared.syntax.Statement.{Statement}
@@ -10,6 +10,7 @@ use Rattle.expr_terms.specs.declared.range_fault.RangeFault.{RangeFault}
 use Rattle.operand_files.specs.Decoded.{Operand}
 use Rattle.operand_files.specs.Laws.{AreTold, told_operands}
 use Rattle.kernel_runs.specs.Runs.{AllFit}
+use Rattle.run_request.specs.Asked.{needs_files}
 use Rattle.run_answers.specs.Causes.{IsAccepted, asked_orders, asked_paths, means}
 use Rattle.run_answers.specs.Run.{Request}
 
@@ -25,13 +26,14 @@ bound_told bounds tensor mode = bound_or_none (slice_get (modes_told bounds tens
 abbrev pub ranges_told : Statement → List (Option ℕ) → List Operand → Result (List ℕ) RangeFault
 ranges_told s given operands = ranges_of s (given_at given) (bound_told (map (λ operand. operand.bounds) operands))
 
--- the words pass, and there is a loop order; every operand's file is there and stands for entries; the ranges agree; no level of an
+-- the words of `run` or `report` pass, and there is a loop order; every operand's file is there and stands for entries; the ranges agree; no level of an
 -- operand or of the result's storage has more positions than may be; and no workspace needs more pairs
 pub record IsWhole (words : List (List ℕ)) (holds : List ℕ → Told) : Type 0 where
   pub request : Request
   pub operands : List Operand
   pub ranges : List ℕ
   pub accepted : IsAccepted words request
+  pub reads : needs_files request.task ≡ true
   pub told : AreTold holds (asked_paths request)
   pub operands_are : told_operands means holds (asked_orders request) (asked_paths request) ≡ Ok operands
   pub ranges_are : ranges_told request.statement request.given operands ≡ Ok ranges

@@ -1,37 +1,38 @@
 //! What the words ask for, with its kernel.
-ghost use Rattle.std.specs.Prelude.{◌≡◌, map, string_bytes, IfOk, IfErr};
+ghost use Rattle.std.specs.Prelude.{◌≡◌, ℕ, List, IfOk, IfErr};
 ghost use Rattle.index_notation.specs.Statement.{IsNumbered};
 ghost use Rattle.outside.specs.Folder.{FolderState};
 ghost use Rattle.run_answers.specs.Causes.{IsAccepted, IsKernelOf, Stops};
+ghost use Rattle.run_answers.specs.Run.{AsksFor};
 ghost use Rattle.taco_top.specs.Asked.{request_of};
 
 use numbers::Ring;
 use refusals::{Fault, NamedFault};
-use run_request::{Asked, ask};
+use run_request::Asked;
 use std::alloc::Global;
 use taco_compiler::{CompileFault, Compiled, compile};
 
 /// What the words ask for, and a kernel for it.
 #[derive(Drop)]
-pub(crate) struct Task<'a> {
+pub(crate) struct Accepted<'a> {
     pub asked: Asked<'a>,
     pub compiled: Compiled,
 }
 
-/// What the words ask for, with a kernel; or their first refusal in order; or the cycle of storage orders because of which there
-/// is none. No file is opened.
-pub(crate) fn ask_kernel<'a>(alloc: Global, words: &'a [String]) -> Result<Task<'a>, Fault<'a>>
-    ensures accepted { IfOk result (λ task. IsAccepted (map string_bytes words.now) (request_of task.asked)) }
-    ensures kernel { IfOk result (λ task. IsKernelOf (request_of task.asked) task.compiled.kernel) }
-    ensures numbered { IfOk result (λ task. IsNumbered task.asked.statement) }
-    ensures refused { IfErr result (λ fault. (files : FolderState) → Stops (map string_bytes words.now) files files fault) }
+/// A kernel for what the words ask for; or the cycle of storage orders because of which there is none.
+pub(crate) fn accept<'a>(alloc: Global, asked: Asked<'a>) -> Result<Accepted<'a>, Fault<'a>>
+    requires asked { (words : List (List ℕ)) × AsksFor words (request_of asked) }
+    requires numbered { IsNumbered asked.statement }
+    ensures accepted { IfOk result (λ accepted. (words : List (List ℕ)) → AsksFor words (request_of asked)
+        → IsAccepted words (request_of accepted.asked)) }
+    ensures kernel { IfOk result (λ accepted. IsKernelOf (request_of accepted.asked) accepted.compiled.order accepted.compiled.kernel) }
+    ensures task { IfOk result (λ accepted. accepted.asked.task ≡ asked.task) }
+    ensures numbered { IfOk result (λ accepted. IsNumbered accepted.asked.statement) }
+    ensures refused { IfErr result (λ fault. (words : List (List ℕ)) → AsksFor words (request_of asked) → (files : FolderState)
+        → Stops words files files fault) }
 {
-    let asked = match ask(alloc, words) {
-        Ok(asked) => asked,
-        Err(fault) => return Err(fault),
-    };
     match compile::<Ring>(alloc, &asked.statement, asked.bindings.formats.as_slice()) {
-        Ok(compiled) => Ok(Task { asked, compiled }),
+        Ok(compiled) => Ok(Accepted { asked, compiled }),
         Err(CompileFault::Cycle(cycle)) => Err(Fault::Named {
             statement: asked.statement,
             fault: NamedFault::Cycle(cycle),

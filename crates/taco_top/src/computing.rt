@@ -1,101 +1,108 @@
 //! The result of what the words ask for, over the operands that were read.
-ghost use Rattle.std.specs.Prelude.{◌≡◌, ℕ, List, Bool, true, length, map, string_bytes, IfOk, IfErr};
-ghost use Rattle.std.specs.Option.{option_map};
+ghost use Rattle.std.specs.Prelude.{◌≡◌, ℕ, List, Option, true, IfOk, IfErr, Vec};
+ghost use Rattle.std.specs.declared.alloc.Global.{Global as AGlobal};
 ghost use Rattle.numbers.specs.Ring.{ring};
-ghost use Rattle.mtx_io.specs.Progress.{IsMatrixOrder};
-ghost use Rattle.kernel_stores.specs.Kernels.{IsRightKernel};
+ghost use Rattle.tensor_map.specs.Entries.{Entries};
+ghost use Rattle.format_spec.specs.declared.format.FormatLevel.{FormatLevel};
+ghost use Rattle.index_notation.specs.Statement.{IsNumbered};
+ghost use Rattle.expr_terms.specs.declared.bound.Bound.{Bound};
 ghost use Rattle.operand_files.specs.Reads.{OnlyReads};
-ghost use Rattle.statement_operands.specs.Runnable.{IsRunnable};
-ghost use Rattle.kernel_runs.specs.Runs.{IsRun};
-ghost use Rattle.result_files.specs.EntriesText.{MayBeWritten};
-ghost use Rattle.run_answers.specs.Causes.{Stops};
+ghost use Rattle.run_request.specs.Asked.{needs_files};
+ghost use Rattle.kernel_runs.specs.Runs.{MayRefuse};
+ghost use Rattle.run_answers.specs.Causes.{IsAccepted, IsKernelOf, Stops};
+ghost use Rattle.taco_top.specs.Asked.{request_of};
 ghost use Rattle.taco_top.specs.Prepared.{IsPrepared, IsUncomputed};
 
-use crate::asking::{Task, ask_kernel};
+use crate::asking::Accepted;
 use crate::operands::{operands_of, path_of};
 use bindings::Bindings;
 use format_spec::Format;
 use index_notation::Statement;
-use kernel_code::Kernel;
 use kernel_runs::{KernelRun, RunFault, run_kernel};
 use numbers::Ring;
-use operand_files::Operands;
 use outside::Folder;
 use refusals::{Fault, NamedFault};
 use run_request::Asked;
-use std::alloc::Global;
+use std::alloc::{AllocError, Global};
+use taco_compiler::Compiled;
 
-/// A result, and the path that it goes to, if one is given.
+/// A statement that its kernel computed, with what a report tells of it, and the path that the result goes to, if one is given.
 #[derive(Drop)]
-pub(crate) struct Prepared<'a> {
+pub(crate) struct Computed<'a> {
     pub path: Option<&'a str>,
+    pub statement: Statement,
+    pub formats: Vec<Format>,
+    pub compiled: Compiled,
     pub result: KernelRun,
 }
 
-/// Computes the statement by its kernel; a refusal is told by its names.
-fn compute<'a>(
-    alloc: Global,
-    statement: Statement,
-    formats: Vec<Format>,
-    kernel: &Kernel,
-    given: &[Option<u64>],
-    operands: Operands,
-) -> Result<KernelRun, Fault<'a>>
-    requires runnable { IsRunnable statement formats.items given.now operands.entries.items operands.bounds.items }
-    requires right { IsRightKernel ring statement formats.items kernel.now }
-    ensures run { IfOk result (λ run. IsRun ring statement formats.items kernel.now given.now operands.entries.items
-        operands.bounds.items run.shape run.entries run.tensor run.turns) }
-    ensures written { IfOk result (λ run. (is_matrix : Bool) → (is_matrix ≡ true → IsMatrixOrder (length statement.left.vars))
-        → MayBeWritten is_matrix run.shape run.entries) }
-    ensures refused { IfErr result (IsUncomputed statement formats.items given.now operands.entries.items operands.bounds.items) }
+/// The refusal of a run, told by the names of the statement.
+fn fault_of<'a>(statement: Statement, why: RunFault) -> Fault<'a>
+    ensures { (formats : List (List FormatLevel)) (given : List (Option ℕ)) (entries : List Entries) (bounds : List (Vec Bound AGlobal))
+        → MayRefuse ring statement formats given entries bounds why → IsUncomputed statement formats given entries bounds result }
 {
-    match run_kernel::<Ring>(alloc, &statement, formats, kernel, given, operands) {
-        Ok(run) => Ok(run),
-        Err(RunFault::Range(why)) => Err(Fault::Named {
+    match why {
+        RunFault::Range(why) => Fault::Named {
             statement,
             fault: NamedFault::Range(why),
-        }),
-        Err(
-            RunFault::SizeLimit {
-                tensor,
-                level,
-                count,
-            },
-        ) => Err(Fault::Named {
+        },
+        RunFault::SizeLimit {
+            tensor,
+            level,
+            count,
+        } => Fault::Named {
             statement,
             fault: NamedFault::SizeLimit {
                 tensor,
                 level,
                 count,
             },
-        }),
-        Err(RunFault::Workspace { count }) => Err(Fault::WorkspaceLimit(count)),
-        Err(RunFault::Memory(_)) => Err(Fault::Memory),
+        },
+        RunFault::Workspace { count } => Fault::WorkspaceLimit(count),
+        RunFault::Memory(_) => Fault::Memory,
     }
 }
 
-/// Does all that comes before the first write: reads the words, compiles a kernel, reads the operands, and runs the kernel. All
-/// memory of the program's own is taken here.
-pub(crate) fn prepare<'a, F: Folder>(
-    alloc: Global,
-    words: &'a [String],
-    files: &mut F,
-) -> Result<Prepared<'a>, Fault<'a>>
-    ensures only_reads { OnlyReads (F.state files.old) (F.state files.new) }
-    ensures prepared { IfOk result (λ prepared. IsPrepared (map string_bytes words.now) (F.state files.old) (F.state files.new)
-        (option_map (λ path. path.now) prepared.path) prepared.result.shape prepared.result.entries) }
-    ensures stops { IfErr result (Stops (map string_bytes words.now) (F.state files.old) (F.state files.new)) }
+/// The same formats once more. Refused for want of memory alone.
+fn copied(alloc: Global, formats: &[Format]) -> Result<Vec<Format>, AllocError>
+    ensures { IfOk result (λ copy. copy.items ≡ formats.now) }
 {
-    let Task { asked, compiled } = match ask_kernel(alloc, words) {
-        Ok(task) => task,
-        Err(fault) => return Err(fault),
-    };
+    let mut copy = Vec::new(alloc);
+    for format in formats {
+        copy.push(format.copied())?;
+    }
+    Ok(copy)
+}
+
+/// Does all that comes before the first write: reads the operands, and runs the kernel. All memory of the program's own is taken
+/// here.
+pub(crate) fn compute<'a, F: Folder>(
+    alloc: Global,
+    accepted: Accepted<'a>,
+    files: &mut F,
+) -> Result<Computed<'a>, Fault<'a>>
+    requires accepted { (words : List (List ℕ)) × IsAccepted words (request_of accepted.asked) }
+    requires kernel { IsKernelOf (request_of accepted.asked) accepted.compiled.order accepted.compiled.kernel }
+    requires numbered { IsNumbered accepted.asked.statement }
+    requires reads { needs_files accepted.asked.task ≡ true }
+    ensures only_reads { OnlyReads (F.state files.old) (F.state files.new) }
+    ensures computed { IfOk result (λ computed. (words : List (List ℕ)) → IsAccepted words (request_of accepted.asked)
+        → IsPrepared words accepted.asked.task (F.state files.old) (F.state files.new) computed) }
+    ensures stops { IfErr result (λ fault. (words : List (List ℕ)) → IsAccepted words (request_of accepted.asked)
+        → Stops words (F.state files.old) (F.state files.new) fault) }
+{
+    let Accepted { asked, compiled } = accepted;
     let path = path_of(&asked.bindings, 0);
+    let copy = match copied(alloc, asked.bindings.formats.as_slice()) {
+        Ok(copy) => copy,
+        Err(_) => return Err(Fault::Memory),
+    };
     let operands = match operands_of(alloc, &asked, files) {
         Ok(operands) => operands,
         Err(fault) => return Err(fault),
     };
     let Asked {
+        task: _,
         statement,
         bindings,
     } = asked;
@@ -104,15 +111,21 @@ pub(crate) fn prepare<'a, F: Folder>(
         files: _,
         ranges,
     } = bindings;
-    match compute(
+    match run_kernel::<Ring>(
         alloc,
-        statement,
+        &statement,
         formats,
         &compiled.kernel,
         ranges.as_slice(),
         operands,
     ) {
-        Ok(result) => Ok(Prepared { path, result }),
-        Err(fault) => Err(fault),
+        Ok(result) => Ok(Computed {
+            path,
+            statement,
+            formats: copy,
+            compiled,
+            result,
+        }),
+        Err(why) => Err(fault_of(statement, why)),
     }
 }

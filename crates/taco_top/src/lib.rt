@@ -5,10 +5,12 @@
 
 mod asking;
 mod computing;
+mod ending;
 mod laws;
 mod operands;
+mod printing;
 mod top;
 mod writing;
 
-pub use laws::{usage_is_of_words_alone, whole_input_is_computed};
+pub use laws::{texts_are_printed, usage_is_of_words_alone, whole_input_is_computed};
 pub use top::taco;

@@ -1,9 +1,10 @@
 //! The operands of what the words ask for, from their files.
-ghost use Rattle.std.specs.Prelude.{◌≡◌, ℕ, List, [], map, unwrap_or, IfOk, IfErr};
+ghost use Rattle.std.specs.Prelude.{◌≡◌, ℕ, List, [], map, unwrap_or, true, IfOk, IfErr};
 ghost use Rattle.std.specs.Option.{option_map};
 ghost use Rattle.index_notation.specs.Statement.{IsNumbered};
 ghost use Rattle.bindings.specs.Tables.{file_in};
 ghost use Rattle.operand_files.specs.Reads.{OnlyReads};
+ghost use Rattle.run_request.specs.Asked.{needs_files};
 ghost use Rattle.run_answers.specs.Causes.{IsAccepted, HasOperands, Stops};
 ghost use Rattle.run_answers.specs.Run.{orders_of as orders_of_operands, path_of as path_of_tensor, paths_of as paths_of_operands};
 ghost use Rattle.taco_top.specs.Asked.{request_of};
@@ -69,6 +70,7 @@ pub(crate) fn operands_of<'a, F: Folder>(
 ) -> Result<Operands, Fault<'a>>
     requires accepted { (words : List (List ℕ)) × IsAccepted words (request_of asked.now) }
     requires numbered { IsNumbered asked.now.statement }
+    requires reads { needs_files asked.now.task ≡ true }
     ensures only_reads { OnlyReads (F.state files.old) (F.state files.new) }
     ensures read { IfOk result (λ operands. (words : List (List ℕ)) → IsAccepted words (request_of asked.now)
         → HasOperands words (F.state files.old) (F.state files.new) (request_of asked.now) operands.entries.items operands.bounds.items) }

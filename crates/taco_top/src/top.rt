@@ -1,34 +1,109 @@
 //! The top call.
-ghost use Rattle.std.specs.Prelude.{◌≡◌, map, string_bytes};
-ghost use Rattle.run_answers.specs.Causes.{Cause};
-ghost use Rattle.run_answers.specs.Ends.{Ends};
+ghost use Rattle.std.specs.Prelude.{◌≡◌, ℕ, List, map, string_bytes};
+ghost use Rattle.command_line.specs.declared.Task.TheVariants as task;
+ghost use Rattle.index_notation.specs.Statement.{IsNumbered};
+ghost use Rattle.run_answers.specs.Causes.{IsAccepted, IsKernelOf};
+ghost use Rattle.run_answers.specs.Ends.{Cause, Ends};
+ghost use Rattle.run_answers.specs.Run.{AsksFor};
+ghost use Rattle.taco_top.specs.Asked.{request_of};
 ghost use Rattle.taco_top.specs.Prepared.{end_of};
 
-use crate::computing::prepare;
+use crate::asking::{Accepted, accept};
+use crate::computing::compute;
+use crate::ending::Done;
+use crate::printing::{tell_kernel, tell_run, tell_workload};
 use crate::writing::write;
+use command_line::Task;
 use outside::{Folder, Sink};
 use refusals::{Fault, put_line};
+use report_text::put_turns;
+use run_request::{Asked, Work, ask};
 use std::alloc::Global;
 
-/// Does what the words say.
+/// Writes the result of what the words ask for.
 fn run<'a, F: Folder, O: Sink>(
+    alloc: Global,
+    accepted: Accepted<'a>,
+    files: &mut F,
+    out: &mut O,
+) -> Result<Done, Fault<'a>>
+    requires accepted { (words : List (List ℕ)) × IsAccepted words (request_of accepted.asked) }
+    requires kernel { IsKernelOf (request_of accepted.asked) accepted.compiled.order accepted.compiled.kernel }
+    requires numbered { IsNumbered accepted.asked.statement }
+    requires task { accepted.asked.task ≡ task.Run }
+    ensures { (words : List (List ℕ)) → IsAccepted words (request_of accepted.asked)
+        → Cause words (F.state files.old) (F.state files.new) (O.state out.old) (O.state out.new) (end_of result) }
+{
+    match compute(alloc, accepted, files) {
+        Ok(computed) => write(files, out, &computed),
+        Err(fault) => Err(fault),
+    }
+}
+
+/// Prints a report of the run of what the words ask for.
+fn report<'a, F: Folder, O: Sink>(
+    alloc: Global,
+    accepted: Accepted<'a>,
+    files: &mut F,
+    out: &mut O,
+) -> Result<Done, Fault<'a>>
+    requires accepted { (words : List (List ℕ)) × IsAccepted words (request_of accepted.asked) }
+    requires kernel { IsKernelOf (request_of accepted.asked) accepted.compiled.order accepted.compiled.kernel }
+    requires numbered { IsNumbered accepted.asked.statement }
+    requires task { accepted.asked.task ≡ task.Report }
+    ensures { (words : List (List ℕ)) → IsAccepted words (request_of accepted.asked)
+        → Cause words (F.state files.old) (F.state files.new) (O.state out.old) (O.state out.new) (end_of result) }
+{
+    match compute(alloc, accepted, files) {
+        Ok(computed) => tell_run(out, &computed),
+        Err(fault) => Err(fault),
+    }
+}
+
+/// Does what the words ask for with a statement.
+fn answer_statement<'a, F: Folder, O: Sink>(
+    alloc: Global,
+    asked: Asked<'a>,
+    files: &mut F,
+    out: &mut O,
+) -> Result<Done, Fault<'a>>
+    requires asked { (words : List (List ℕ)) × AsksFor words (request_of asked) }
+    requires numbered { IsNumbered asked.statement }
+    ensures { (words : List (List ℕ)) → AsksFor words (request_of asked)
+        → Cause words (F.state files.old) (F.state files.new) (O.state out.old) (O.state out.new) (end_of result) }
+{
+    let accepted = match accept(alloc, asked) {
+        Ok(accepted) => accepted,
+        Err(fault) => return Err(fault),
+    };
+    match accepted.asked.task {
+        Task::Run => run(alloc, accepted, files, out),
+        Task::Kernel => tell_kernel(out, &accepted),
+        Task::Report => report(alloc, accepted, files, out),
+    }
+}
+
+/// Does what the words say.
+fn answer<'a, F: Folder, O: Sink>(
     alloc: Global,
     words: &'a [String],
     files: &mut F,
     out: &mut O,
-) -> Result<(), Fault<'a>>
+) -> Result<Done, Fault<'a>>
     ensures { Cause (map string_bytes words.now) (F.state files.old) (F.state files.new) (O.state out.old) (O.state out.new)
         (end_of result) }
 {
-    match prepare(alloc, words, files) {
-        Ok(prepared) => write(files, out, &prepared),
+    match ask(alloc, words) {
+        Ok(Work::Statement(asked)) => answer_statement(alloc, asked, files, out),
+        Ok(Work::Workload(size)) => tell_workload(alloc, size, out),
         Err(fault) => Err(fault),
     }
 }
 
 /// All that the program does, and its status: 0 done, 1 refused input, 2 no command line, 3 read fault, 4 write fault, 5 want
 /// of memory, 6 a limit is passed. `words` is the command line with the program's name first. A result goes to `out`, or with
-/// a path into its file, and the line of a refusal to `err`.
+/// a path into its file; the text of another command goes to `out`. A line goes to `err`: of a refusal, or of the turns of the run
+/// whose result was written.
 pub fn taco<F: Folder, O: Sink, E: Sink>(
     alloc: Global,
     words: &[String],
@@ -37,12 +112,17 @@ pub fn taco<F: Folder, O: Sink, E: Sink>(
     err: &mut E,
 ) -> u8
     // The status has its cause: the first refusal in order of the words, the operands' files as reads gave them, ranges and
-    // sizes, and the writing; or the file of the statement's values was written. `err` grew by the line of it.
+    // sizes, and the writing; or the file of the statement's values was written; or the text of a kernel, of a run or of a workload
+    // was printed. `err` grew by the line of it.
     ensures { Ends words.now (F.state files.old) (F.state files.new) (O.state out.old) (O.state out.new)
         (E.state err.old) (E.state err.new) result }
 {
-    match run(alloc, words, files, out) {
-        Ok(()) => 0,
+    match answer(alloc, words, files, out) {
+        Ok(Done::Written(turns)) => {
+            let _ = put_turns(err, &turns);
+            0
+        }
+        Ok(Done::Printed) => 0,
         Err(fault) => {
             let _ = put_line(err, &fault);
             fault.status()

@@ -1,14 +1,13 @@
 //! The writing of a result.
-ghost use Rattle.std.specs.Prelude.{◌≡◌, map, OnOk, IfErr};
-ghost use Rattle.std.specs.Option.{option_map};
-ghost use Rattle.numbers.specs.Ring.{ring};
-ghost use Rattle.tensor_map.specs.Entries.{value_at};
-ghost use Rattle.result_files.specs.EntriesText.{MayBeWritten};
-ghost use Rattle.result_files.specs.ResultText.{asks_matrix};
-ghost use Rattle.result_files.specs.Writes.{WritesResult};
-ghost use Rattle.taco_top.specs.Prepared.{StopsWriting};
+ghost use Rattle.std.specs.Prelude.{ℕ, List};
+ghost use Rattle.outside.specs.Folder.{FolderState};
+ghost use Rattle.command_line.specs.declared.Task.TheVariants as task;
+ghost use Rattle.operand_files.specs.Reads.{OnlyReads};
+ghost use Rattle.run_answers.specs.Ends.{Cause};
+ghost use Rattle.taco_top.specs.Prepared.{IsPrepared, end_of};
 
-use crate::computing::Prepared;
+use crate::computing::Computed;
+use crate::ending::Done;
 use numbers::Ring;
 use outside::{Folder, Sink};
 use refusals::Fault;
@@ -18,21 +17,17 @@ use result_files::{WriteRefusal, write_result};
 pub(crate) fn write<'a, F: Folder, O: Sink>(
     files: &mut F,
     out: &mut O,
-    prepared: &Prepared<'a>,
-) -> Result<(), Fault<'a>>
-    requires { MayBeWritten (asks_matrix (option_map (λ path. path.now) prepared.now.path))
-        prepared.now.result.shape prepared.now.result.entries }
-    ensures written { OnOk result (WritesResult ring (option_map (λ path. path.now) prepared.now.path) prepared.now.result.shape
-        (value_at ring prepared.now.result.entries.list)
-        (F.state files.old) (F.state files.new) (O.state out.old) (O.state out.new)) }
-    ensures refused { IfErr result (StopsWriting (option_map (λ path. path.now) prepared.now.path) prepared.now.result.shape
-        (value_at ring prepared.now.result.entries.list)
-        (F.state files.old) (F.state files.new) (O.state out.old) (O.state out.new)) }
+    computed: &Computed<'a>,
+) -> Result<Done, Fault<'a>>
+    requires { (words : List (List ℕ)) × (before : FolderState) × IsPrepared words task.Run before (F.state files.old) computed.now }
+    ensures { (words : List (List ℕ)) (before : FolderState) → OnlyReads before (F.state files.old)
+        → IsPrepared words task.Run before (F.state files.old) computed.now
+        → Cause words before (F.state files.new) (O.state out.old) (O.state out.new) (end_of result) }
 {
-    let path = prepared.path;
-    let result = &prepared.result;
+    let path = computed.path;
+    let result = &computed.result;
     match write_result::<Ring, F, O>(files, out, path, &result.shape, &result.entries) {
-        Ok(()) => Ok(()),
+        Ok(()) => Ok(Done::Written(result.turns)),
         Err(WriteRefusal::Fault) => Err(Fault::WriteFault(path)),
         Err(WriteRefusal::Memory(_)) => Err(Fault::Memory),
     }

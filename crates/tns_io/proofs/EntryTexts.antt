@@ -9,7 +9,6 @@ use Rattle.tensor_map.specs.declared.entries.Entry.{Entry}
 use Rattle.tensor_map.specs.Entries.{IsEntry, Listed, StrictlyIncreasing, coords_of, is_nonzero, value_at}
 use Rattle.tensor_map.specs.Laws.{AllNonzero}
 use Rattle.tensor_map.proofs.Lemmas.{increasing_filter, listed_nonzero, none_zero_filter, all_nonzero, value_nonzero, value_of_entry}
-use Rattle.tensor_map.proofs.Sorting.{kept_listed}
 use Rattle.tns_io.specs.Positions.{IsBelow}
 use Rattle.tns_io.specs.Text.{line_text, entries_text, IsAmong, IsTnsText}
 
@@ -22,6 +21,17 @@ listed_among : (entries : List Entry) (coords : List ℕ) → Listed entries coo
 listed_among [] coords listed = listed
 listed_among (entry ∷ entries) coords (inl here) = inl here
 listed_among (entry ∷ entries) coords (inr more) = inr (listed_among entries coords more)
+
+kept_more : (b : Bool) (coords : List ℕ) (entry : Entry) (kept entries : List Entry) → (Listed kept coords → Listed entries coords)
+    → Listed (cond b (entry ∷ kept) kept) coords → Listed (entry ∷ entries) coords
+kept_more true coords entry kept entries more (inl here) = inl here
+kept_more true coords entry kept entries more (inr there) = inr (more there)
+kept_more false coords entry kept entries more h = inr (more h)
+
+-- what a filter keeps was listed
+kept_listed : (p : Entry → Bool) (coords : List ℕ) (entries : List Entry) → Listed (filter p entries) coords → Listed entries coords
+kept_listed p coords [] h = h
+kept_listed p coords (entry ∷ entries) h = kept_more (p entry) coords entry (filter p entries) entries (kept_listed p coords entries) h
 
 listed_below : (ranges : List ℕ) (entries : List Entry) (coords : List ℕ) → All (λ entry. IsBelow ranges entry.coords) entries
     → Listed entries coords → IsBelow ranges coords

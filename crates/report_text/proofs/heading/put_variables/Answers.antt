@@ -2,8 +2,8 @@ use Rattle.std.specs.Prelude.{ℕ, ◌+◌, drop, slice_index}
 use Rattle.std.specs.List.{flat_map}
 use Rattle.std.proofs.lemmas.Option.{slice_get-get_or}
 use Rattle.text_lines.proofs.PutPieces.{more_so_far, refused, rest_told, then_rest}
+use Rattle.text_pieces.proofs.ListTexts.{text_step}
 use Rattle.report_text.specs.Report.{variable_text}
-use Rattle.report_text.proofs.Lines.{text_step}
 use Rattle.report_text.proofs.heading.put_variables.Goals as goal
 
 pub loop-number-preserved : goal.loop-number-preserved

@@ -1,33 +1,55 @@
+use Rattle.std.specs.Prelude.{ℕ, List}
 use Rattle.std.specs.Option.{option_map}
 use Rattle.std.proofs.Common.{ap}
 use Rattle.std.proofs.lemmas.Result.{IfErr-weaker, on_ok_weaker}
-use Rattle.result_files.proofs.FileTexts.{file_result, file_refusal, out_result, out_refusal}
+use Rattle.result_files.specs.EntriesText.{result_text}
+use Rattle.result_files.proofs.FileTexts.{part_in_file, part_put_out, put_in_file, put_out, result_refused, result_written}
 use Rattle.result_files.proofs.writing.write_result.Goals as goal
 
 pub returns-in-Some-clause-written : goal.returns-in-Some-clause-written
 returns-in-Some-clause-written g c =
+    let a = g.S.Semiring.arithmetic in
+    let entries = c.args.entries.now in
+    let text : List ℕ = result_text c.is_matrix.result a c.args.shape.now entries.list in
+    let path = ap (option_map (λ path. path.now)) c.in-Some.is in
     on_ok_weaker c.write_file.result
-    (λ whole. file_result g.S.Semiring.arithmetic g.met.S.Semiring.laws c.args.shape.now c.args.entries.now c.len-count.ensures.entries
-    _ _ _ (g.O.Sink.state c.args.out.now) _ c.in-Some.path.now (ap (option_map (λ path. path.now)) c.in-Some.is) c.requires whole)
+    (λ whole. result_written a g.met.S.Semiring.laws c.args.shape.now entries c.len-count.ensures.entries _ c.is_matrix.result
+    c.is_matrix.ensures c.requires _ _ (g.O.Sink.state c.args.out.now) _
+    (put_in_file _ text _ _ (g.O.Sink.state c.args.out.now) (g.O.Sink.state c.args.out.now) c.in-Some.path.now path whole))
     c.write_file.ensures.whole
 
 pub returns-in-Some-clause-refused : goal.returns-in-Some-clause-refused
 returns-in-Some-clause-refused g c =
+    let a = g.S.Semiring.arithmetic in
+    let entries = c.args.entries.now in
+    let text : List ℕ = result_text c.is_matrix.result a c.args.shape.now entries.list in
+    let path = ap (option_map (λ path. path.now)) c.in-Some.is in
     IfErr-weaker c.write_file.result _ _
-    (λ why part. file_refusal g.S.Semiring.arithmetic g.met.S.Semiring.laws c.args.shape.now c.args.entries.now c.len-count.ensures.entries
-    _ _ _ (g.O.Sink.state c.args.out.now) _ c.in-Some.path.now why (ap (option_map (λ path. path.now)) c.in-Some.is) c.requires part)
+    (λ why part. result_refused a g.met.S.Semiring.laws c.args.shape.now entries c.len-count.ensures.entries _ c.is_matrix.result
+    c.is_matrix.ensures c.requires _ _ (g.O.Sink.state c.args.out.now) _ why
+    (part_in_file _ text _ _ (g.O.Sink.state c.args.out.now) (g.O.Sink.state c.args.out.now) c.in-Some.path.now why path part))
     c.write_file.ensures.part
 
 pub returns-in-None-clause-written : goal.returns-in-None-clause-written
 returns-in-None-clause-written g c =
-    on_ok_weaker c.write_out.result
-    (λ whole. out_result g.S.Semiring.arithmetic g.met.S.Semiring.laws c.args.shape.now c.args.entries.now c.len-count.ensures.entries
-    _ (g.F.Folder.state c.args.files.now) _ _ _ (ap (option_map (λ path. path.now)) c.in-None.is) c.requires whole)
-    c.write_out.ensures.whole
+    let a = g.S.Semiring.arithmetic in
+    let entries = c.args.entries.now in
+    let text : List ℕ = result_text c.is_matrix.result a c.args.shape.now entries.list in
+    let path = ap (option_map (λ path. path.now)) c.in-None.is in
+    on_ok_weaker c.print_text.result
+    (λ whole. result_written a g.met.S.Semiring.laws c.args.shape.now entries c.len-count.ensures.entries _ c.is_matrix.result
+    c.is_matrix.ensures c.requires (g.F.Folder.state c.args.files.now) _ _ _
+    (put_out _ text (g.F.Folder.state c.args.files.now) (g.F.Folder.state c.args.files.now) _ _ path whole))
+    c.print_text.ensures.whole
 
 pub returns-in-None-clause-refused : goal.returns-in-None-clause-refused
 returns-in-None-clause-refused g c =
-    IfErr-weaker c.write_out.result _ _
-    (λ why part. out_refusal g.S.Semiring.arithmetic g.met.S.Semiring.laws c.args.shape.now c.args.entries.now c.len-count.ensures.entries
-    _ (g.F.Folder.state c.args.files.now) _ _ _ why (ap (option_map (λ path. path.now)) c.in-None.is) c.requires part)
-    c.write_out.ensures.part
+    let a = g.S.Semiring.arithmetic in
+    let entries = c.args.entries.now in
+    let text : List ℕ = result_text c.is_matrix.result a c.args.shape.now entries.list in
+    let path = ap (option_map (λ path. path.now)) c.in-None.is in
+    IfErr-weaker c.print_text.result _ _
+    (λ why part. result_refused a g.met.S.Semiring.laws c.args.shape.now entries c.len-count.ensures.entries _ c.is_matrix.result
+    c.is_matrix.ensures c.requires (g.F.Folder.state c.args.files.now) _ _ _ why
+    (part_put_out _ text (g.F.Folder.state c.args.files.now) (g.F.Folder.state c.args.files.now) _ _ why path part))
+    c.print_text.ensures.part

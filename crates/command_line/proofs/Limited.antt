@@ -1,0 +1,65 @@
+-- The size of a workload is within the limit.
+use Rattle.std.proofs.Common.{◌≡◌, ◌≤◌, ℕ, Bool, true, false, refl, subst, List, [], ◌∷◌, length, Option, Some, None}
+use Rattle.std.proofs.Common.{codes, nat_lt}
+use Rattle.std.specs.List.{list_all}
+use Rattle.std.specs.Char.{digit_value}
+use Rattle.std.specs.Str.{bytes_eq}
+use Rattle.std.specs.Str.Parse.{digits_value, without_leading_plus}
+use Rattle.std.proofs.lemmas.Bool.{leb-true}
+use Rattle.clap.proofs.WalkLemmas.{both}
+use Rattle.limits.specs.Limits.{greatest_workload}
+use Rattle.command_line.specs.declared.Task.{Task}
+use Rattle.command_line.specs.declared.Task.TheVariants.{Run, Kernel, Report}
+use Rattle.command_line.specs.CommandLine.{CommandLine, Statement, Workload, is_size, operands, size_line}
+use Rattle.command_line.specs.CommandLine.{statement_line, workload_line, line_of_command, command_line_of}
+use Rattle.command_line.specs.Law.{AreLimited}
+
+-- a line that asks for a workload asks for one within the limit
+abbrev IsLimited : Option CommandLine → Type 0
+IsLimited None = Unit {0}
+IsLimited (Some (Statement task expr words)) = Unit {0}
+IsLimited (Some (Workload size)) = size ≤ greatest_workload
+
+statement_limited : (task : Task) (given : Option (List (List ℕ))) → IsLimited (statement_line task given)
+statement_limited task None = tt
+statement_limited task (Some []) = tt
+statement_limited task (Some (expr ∷ words)) = tt
+
+size_limited : (text : List ℕ) → IsLimited (size_line text)
+size_limited text = go (is_size text) refl
+  where
+    go : (b : Bool) → is_size text ≡ b → IsLimited (size_line text)
+    go false e = rw e tt
+    go true e =
+        let digits = without_leading_plus text in
+        let some = both (nat_lt 0 (length digits)) _ e in
+        let all = both (list_all (λ d. nat_lt (digit_value d) 10) digits) _ some.1 in
+        rw e (leb-true (digits_value 10 digits) greatest_workload all.1)
+
+workload_limited : (given : Option (List (List ℕ))) → IsLimited (workload_line given)
+workload_limited None = tt
+workload_limited (Some []) = tt
+workload_limited (Some (size ∷ [])) = size_limited size
+workload_limited (Some (size ∷ more ∷ rest)) = tt
+
+command_limited : (command : List ℕ) (rest : List (List ℕ)) → IsLimited (line_of_command command rest)
+command_limited command rest =
+    go (bytes_eq (codes "run") command) refl (bytes_eq (codes "kernel") command) refl (bytes_eq (codes "report") command) refl
+    (bytes_eq (codes "gen") command) refl
+  where
+    go : (r : Bool) → bytes_eq (codes "run") command ≡ r → (k : Bool) → bytes_eq (codes "kernel") command ≡ k
+        → (p : Bool) → bytes_eq (codes "report") command ≡ p → (g : Bool) → bytes_eq (codes "gen") command ≡ g
+        → IsLimited (line_of_command command rest)
+    go true a k b p d g e = rw a (statement_limited Run (operands rest))
+    go false a true b p d g e = rw (a, b) (statement_limited Kernel (operands rest))
+    go false a false b true d g e = rw (a, b, d) (statement_limited Report (operands rest))
+    go false a false b false d true e = rw (a, b, d, e) (workload_limited (operands rest))
+    go false a false b false d false e = rw (a, b, d, e) tt
+
+line_limited : (words : List (List ℕ)) → IsLimited (command_line_of words)
+line_limited [] = tt
+line_limited (name ∷ []) = tt
+line_limited (name ∷ command ∷ rest) = command_limited command rest
+
+pub are_limited : AreLimited
+are_limited words size is = subst IsLimited is (line_limited words)

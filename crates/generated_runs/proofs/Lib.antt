@@ -1,0 +1,12 @@
+pub mod Costs
+pub mod Counting
+pub mod Cycles
+pub mod Facts
+pub mod Fits
+pub mod Formats
+pub mod Matrices
+pub mod Paths
+pub mod Runnable
+pub mod Segments
+pub mod Totals
+pub mod Turns

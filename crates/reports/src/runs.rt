@@ -1,0 +1,98 @@
+// What is printed of a run.
+ghost use Rattle.std.specs.Prelude.{◌≡◌, OnOk, IfErr, length, slice_get};
+ghost use Rattle.outside.specs.Sink.{Appends};
+ghost use Rattle.text_lines.specs.Puts.{AppendsPart};
+ghost use Rattle.storage_arrays.specs.Arrays.{AreDone};
+ghost use Rattle.report_text.specs.Report.{bytes_of};
+ghost use Rattle.result_files.specs.Writes.{PutsAll, PutsFront};
+ghost use Rattle.reports.specs.Reports.{result_report, run_report};
+
+use crate::kernels::KernelReport;
+use format_spec::Format;
+use index_notation::Statement;
+use kernel_code::{Kernel, Turns};
+use outside::{Refusal, Sink};
+use report_text::{name_of, put_turns};
+use result_files::{Text, WriteRefusal, print_text};
+use storage_text::put_store_text;
+use tensor_storage::Tensor;
+
+/// The bytes of the result's name: none where a statement has no tensors.
+fn result_name(statement: &Statement) -> &[u8]
+    ensures { result.now ≡ bytes_of (slice_get statement.now.tensors 0) }
+{
+    name_of(statement.tensors.as_slice(), 0)
+}
+
+/// Appends the turns that loops made, and the storage of the result.
+fn put_result<K: Sink>(
+    sink: &mut K,
+    statement: &Statement,
+    turns: &Turns,
+    tensor: &Tensor,
+) -> Result<(), Refusal>
+    requires { AreDone 1 tensor.now.levels }
+    ensures whole { OnOk result (Appends (K.state sink.old) (K.state sink.new) (result_report statement.now turns.now tensor.now)) }
+    ensures part { IfErr result (AppendsPart (K.state sink.old) (K.state sink.new) (result_report statement.now turns.now tensor.now)) }
+{
+    let name = result_name(statement);
+    put_turns(sink, turns)?;
+    put_store_text(sink, 0, name, tensor)
+}
+
+/// A kernel, the turns that its loops made in a run, and the result.
+#[derive(Drop)]
+struct RunReport<'a> {
+    kernel: KernelReport<'a>,
+    turns: &'a Turns,
+    tensor: &'a Tensor,
+}
+
+impl<'a> Text for RunReport<'a> {
+    ghost text = { λ r. run_report r.kernel.statement.now r.kernel.order.now r.kernel.formats.now r.kernel.kernel.now r.turns.now
+        r.tensor.now };
+
+    ghost may_be_put = { λ r. (length r.kernel.formats.now ≡ length r.kernel.statement.now.tensors) × AreDone 1 r.tensor.now.levels };
+
+    fn put<K: Sink>(&self, sink: &mut K) -> Result<(), Refusal> {
+        self.kernel.put(sink)?;
+        put_result(sink, self.kernel.statement, self.turns, self.tensor)
+    }
+}
+
+/// Prints a kernel behind the order of its statement's loops and its tensors with their formats, then how many turns its loops made
+/// in a run and the storage of the result, and finishes the output. It takes no memory but what the output takes.
+///
+/// A fault comes only where the output counted one, and want of memory only where it counted one. A front of the text stands
+/// there after a refusal.
+pub fn print_run_report<'a, O: Sink>(
+    out: &mut O,
+    statement: &'a Statement,
+    order: &'a [usize],
+    formats: &'a [Format],
+    kernel: &'a Kernel,
+    turns: &'a Turns,
+    tensor: &'a Tensor,
+) -> Result<(), WriteRefusal>
+    requires formats { length formats.now ≡ length statement.now.tensors }
+    requires done { AreDone 1 tensor.now.levels }
+    ensures whole { OnOk result (PutsAll (O.state out.old) (O.state out.new)
+        (run_report statement.now order.now formats.now kernel.now turns.now tensor.now)) }
+    ensures part { IfErr result (PutsFront (O.state out.old) (O.state out.new)
+        (run_report statement.now order.now formats.now kernel.now turns.now tensor.now)) }
+{
+    let kernel = KernelReport {
+        statement,
+        order,
+        formats,
+        kernel,
+    };
+    print_text(
+        out,
+        &RunReport {
+            kernel,
+            turns,
+            tensor,
+        },
+    )
+}

@@ -1,5 +1,0 @@
-use Rattle.result_files.proofs.CoordinateSteps.{below_small}
-use Rattle.result_files.proofs.writing.put_text.Goals as goal
-
-pub put_tns-requires : goal.put_tns-requires
-put_tns-requires g c = λ k d h. below_small c.args.shape.now _ c.ranges-ranges.ensures.shape.within (c.requires.below k d h)

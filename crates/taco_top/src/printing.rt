@@ -1,0 +1,81 @@
+//! The texts of the commands that write no file.
+ghost use Rattle.std.specs.Prelude.{◌≡◌, ◌≤◌, ℕ, List, Some};
+ghost use Rattle.limits.specs.Limits.{greatest_workload};
+ghost use Rattle.outside.specs.Folder.{FolderState};
+ghost use Rattle.command_line.specs.CommandLine.{Workload as WorkloadLine, command_line_of};
+ghost use Rattle.command_line.specs.declared.Task.TheVariants as task;
+ghost use Rattle.operand_files.specs.Reads.{OnlyReads};
+ghost use Rattle.run_answers.specs.Causes.{IsAccepted, IsKernelOf};
+ghost use Rattle.run_answers.specs.Ends.{Cause};
+ghost use Rattle.taco_top.specs.Asked.{request_of};
+ghost use Rattle.taco_top.specs.Prepared.{IsPrepared, end_of};
+
+use crate::asking::Accepted;
+use crate::computing::Computed;
+use crate::ending::{Done, printed};
+use generated_runs::run_workload;
+use outside::Sink;
+use refusals::Fault;
+use reports::{print_kernel_report, print_run_report, print_workload};
+use std::alloc::Global;
+
+/// Prints the kernel of what the words ask for.
+pub(crate) fn tell_kernel<'a, O: Sink>(
+    out: &mut O,
+    accepted: &Accepted<'a>,
+) -> Result<Done, Fault<'a>>
+    requires accepted { (words : List (List ℕ)) × IsAccepted words (request_of accepted.now.asked) }
+    requires kernel { IsKernelOf (request_of accepted.now.asked) accepted.now.compiled.order accepted.now.compiled.kernel }
+    requires task { accepted.now.asked.task ≡ task.Kernel }
+    ensures { (words : List (List ℕ)) (files : FolderState) → IsAccepted words (request_of accepted.now.asked)
+        → Cause words files files (O.state out.old) (O.state out.new) (end_of result) }
+{
+    let asked = &accepted.asked;
+    let compiled = &accepted.compiled;
+    printed(print_kernel_report(
+        out,
+        &asked.statement,
+        compiled.order.as_slice(),
+        asked.bindings.formats.as_slice(),
+        &compiled.kernel,
+    ))
+}
+
+/// Prints the report of a run.
+pub(crate) fn tell_run<'a, O: Sink>(
+    out: &mut O,
+    computed: &Computed<'a>,
+) -> Result<Done, Fault<'a>>
+    requires { (words : List (List ℕ)) × (files : FolderState) × (between : FolderState)
+        × IsPrepared words task.Report files between computed.now }
+    ensures { (words : List (List ℕ)) (files between : FolderState) → OnlyReads files between
+        → IsPrepared words task.Report files between computed.now
+        → Cause words files between (O.state out.old) (O.state out.new) (end_of result) }
+{
+    let result = &computed.result;
+    printed(print_run_report(
+        out,
+        &computed.statement,
+        computed.compiled.order.as_slice(),
+        computed.formats.as_slice(),
+        &computed.compiled.kernel,
+        &result.turns,
+        &result.tensor,
+    ))
+}
+
+/// Runs the generated workload of this size, and prints its line.
+pub(crate) fn tell_workload<'a, O: Sink>(
+    alloc: Global,
+    size: u64,
+    out: &mut O,
+) -> Result<Done, Fault<'a>>
+    requires { size ≤ greatest_workload }
+    ensures { (words : List (List ℕ)) (files : FolderState) → command_line_of words ≡ Some (WorkloadLine size)
+        → Cause words files files (O.state out.old) (O.state out.new) (end_of result) }
+{
+    match run_workload(alloc, size) {
+        Ok(workload) => printed(print_workload(out, &workload)),
+        Err(_) => Err(Fault::Memory),
+    }
+}
