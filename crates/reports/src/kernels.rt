@@ -18,13 +18,13 @@ pub(crate) struct KernelReport<'a> {
     pub(crate) order: &'a [usize],
     pub(crate) formats: &'a [Format],
     pub(crate) kernel: &'a Kernel,
-    ghost all_formats: { length formats.now ≡ length statement.now.tensors },
 }
 
 impl<'a> Text for KernelReport<'a> {
     ghost text = { λ r. kernel_report r.statement.now r.order.now r.formats.now r.kernel.now };
 
-    #[tactic(auto, using(text_lines::proofs::PutsLemmas::part_of_first, text_lines::proofs::PutsLemmas::part_of_second))]
+    ghost may_be_put = { λ r. length r.formats.now ≡ length r.statement.now.tensors };
+
     fn put<K: Sink>(&self, sink: &mut K) -> Result<(), Refusal> {
         put_heading(sink, self.statement, self.order, self.formats)?;
         put_kernel(sink, self.kernel)

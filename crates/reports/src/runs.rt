@@ -25,7 +25,6 @@ fn result_name(statement: &Statement) -> &[u8]
 }
 
 /// Appends the turns that loops made, and the storage of the result.
-#[tactic(auto, using(text_lines::proofs::PutsLemmas::part_of_first, text_lines::proofs::PutsLemmas::part_of_second))]
 fn put_result<K: Sink>(
     sink: &mut K,
     statement: &Statement,
@@ -47,14 +46,14 @@ struct RunReport<'a> {
     kernel: KernelReport<'a>,
     turns: &'a Turns,
     tensor: &'a Tensor,
-    ghost done: { ∥ AreDone 1 tensor.now.levels ∥₁ },
 }
 
 impl<'a> Text for RunReport<'a> {
     ghost text = { λ r. run_report r.kernel.statement.now r.kernel.order.now r.kernel.formats.now r.kernel.kernel.now r.turns.now
         r.tensor.now };
 
-    #[tactic(auto, using(text_lines::proofs::PutsLemmas::part_of_first, text_lines::proofs::PutsLemmas::part_of_second))]
+    ghost may_be_put = { λ r. (length r.kernel.formats.now ≡ length r.kernel.statement.now.tensors) × AreDone 1 r.tensor.now.levels };
+
     fn put<K: Sink>(&self, sink: &mut K) -> Result<(), Refusal> {
         self.kernel.put(sink)?;
         put_result(sink, self.kernel.statement, self.turns, self.tensor)

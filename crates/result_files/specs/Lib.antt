@@ -6,4 +6,3 @@ pub mod Fills
 pub mod ResultText
 pub mod Writes
 pub mod Tally
-pub mod WrittenFacts

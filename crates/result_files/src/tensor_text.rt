@@ -1,6 +1,5 @@
 //! The text of the tensor that entries stand for.
 ghost use Rattle.result_files.specs.EntriesText.{result_text, MayBeWritten};
-ghost use Rattle.result_files.specs.WrittenFacts.{may_be_written_prop};
 
 use crate::printing::Text;
 use mtx_io::put_mtx;
@@ -17,11 +16,12 @@ pub(crate) struct TensorText<'a, S: Semiring> {
     pub(crate) shape: &'a Shape,
     pub(crate) entries: &'a Entries,
     pub(crate) semiring: PhantomData<S>,
-    ghost may_be_written: { MayBeWritten is_matrix shape.now entries.now } by { may_be_written_prop is_matrix shape.now entries.now },
 }
 
 impl<'a, S: Semiring> Text for TensorText<'a, S> {
     ghost text = { λ t. result_text t.is_matrix S.arithmetic t.shape.now t.entries.now.list };
+
+    ghost may_be_put = { λ t. MayBeWritten t.is_matrix t.shape.now t.entries.now };
 
     fn put<K: Sink>(&self, sink: &mut K) -> Result<(), Refusal> {
         // What is true of every shape is known where it is asked.

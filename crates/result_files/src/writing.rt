@@ -33,6 +33,7 @@ fn is_matrix(path: Option<&str>) -> bool
 
 /// Writes a text into the file of this path, which is made or emptied first.
 fn write_file<F: Folder, T: Text>(files: &mut F, path: &str, text: &T) -> Result<(), WriteRefusal>
+    requires { T.may_be_put text.now }
     ensures whole { OnOk result (FillsFile (F.state files.old) (F.state files.new) path.now (T.text text.now)) }
     ensures part { IfErr result (FailsToFill (F.state files.old) (F.state files.new) path.now (T.text text.now)) }
 {

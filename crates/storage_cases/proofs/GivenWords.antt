@@ -7,7 +7,7 @@ use Rattle.tensor_storage.specs.Levels.{meaning}
 use Rattle.storage_builder.specs.declared.part.Part.{Part}
 use Rattle.storage_builder.specs.declared.part.Part.TheVariants.{Lists, Slots}
 use Rattle.storage_builder.specs.Handed.{AreWordsOf}
-use Rattle.storage_text.proofs.ListTexts.{get_drop}
+use Rattle.text_pieces.proofs.ListTexts.{get_drop}
 use Rattle.storage_cases.specs.HandedParts.{AreGiven}
 use Rattle.level_core.specs.declared.stage.Stage.{Stage}
 use Rattle.level_core.specs.Logs.{running}

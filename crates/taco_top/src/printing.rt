@@ -52,14 +52,13 @@ pub(crate) fn tell_run<'a, O: Sink>(
         → IsPrepared words task.Report files between computed.now
         → Cause words files between (O.state out.old) (O.state out.new) (end_of result) }
 {
-    let compiled = &computed.compiled;
     let result = &computed.result;
     printed(print_run_report(
         out,
         &computed.statement,
-        compiled.order.as_slice(),
+        computed.compiled.order.as_slice(),
         computed.formats.as_slice(),
-        &compiled.kernel,
+        &computed.compiled.kernel,
         &result.turns,
         &result.tensor,
     ))

@@ -1,5 +1,5 @@
 -- The rows that an order of entries tells, by its numbers and columns.
-use Rattle.std.specs.Prelude.{◌≡◌, ◌⊎◌, ℕ, ◌≤◌, ◌<◌, List, [], length, map, slice_get, slice_index, Option, Some, None}
+use Rattle.std.specs.Prelude.{◌≡◌, ◌⊎◌, ℕ, ◌≤◌, ◌<◌, List, [], length, slice_get, slice_index, Some, None}
 use Rattle.std.proofs.Common.{◌∙◌, sym, ap, inl, inr, arith, get_or}
 use Rattle.std.proofs.Math.ListN.{get_or-eq_default}
 use Rattle.std.proofs.lemmas.List.{length-map, get_or-map}
@@ -8,7 +8,7 @@ use Rattle.std.proofs.lemmas.Option.{slice_get_cases, slice_get_within, get_or_f
 use Rattle.format_spec.specs.declared.format.FormatLevel.{FormatLevel}
 use Rattle.tensor_map.specs.declared.entries.Entry.{Entry}
 use Rattle.tensor_storage.specs.declared.entries.EntryOrder.{EntryOrder}
-use Rattle.tensor_storage.specs.declared.entries.EntryOrder.TheVariants.{Own, Sorted}
+use Rattle.tensor_storage.specs.declared.entries.EntryOrder.TheVariants.{Own}
 use Rattle.tensor_storage.specs.Arranged.{no_entry, level_coords}
 use Rattle.tensor_storage.specs.Columns.{column_of, AreColumns}
 use Rattle.tensor_storage.specs.EntryOrders.{numbers_of}

@@ -28,8 +28,8 @@ returns-in-Ok g c =
       words = c.keeps_rules.ensures.words;
     }
 
-pub returns : goal.returns
-returns g c =
+pub returns-in-Err : goal.returns-in-Err
+returns-in-Err g c =
     c.fault_of.ensures g.S.Semiring.arithmetic c.args.format c.args.sizes.now c.args.entries.now.list c.sum_up.new.entries.list
     (subst (λ n. AreSummed g.S.Semiring.arithmetic n c.args.entries.now.list c.sum_up.new.entries.list) c.requires.order
     c.in_ok-sum_up.ensures.summed)

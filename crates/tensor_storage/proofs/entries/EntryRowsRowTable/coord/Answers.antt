@@ -1,4 +1,4 @@
-use Rattle.std.specs.Prelude.{◌≡◌, ◌<◌, length, slice_get, slice_index, Some, None}
+use Rattle.std.specs.Prelude.{◌<◌, length, slice_index}
 use Rattle.std.proofs.Common.{◌∙◌, sym, ap, subst, rules}
 use Rattle.tensor_storage.specs.Arranged.{level_coords}
 use Rattle.tensor_storage.proofs.EntryOrderLaws.{own_number, column_long, column_at, no_column}
