@@ -120,8 +120,8 @@ module _ (stored : Stored) (ranges : ℕ → ℕ) where
   inner x =
       let none = count_none (ranges 1) in
       let most = columns_most x in
-      total_most workload_statement workload_formats stored ranges number 1 [] (group_of 0 all_nests) (0 ∷ []) (with_coordinate (λ v. 0) 0 x)
-      (columns 0 x + columns 1 x + columns 2 x) (omega (arith, none, most)) (omega arith)
+      total_most workload_statement workload_formats stored ranges number 1 [] (group_of 0 all_nests) (0 ∷ [])
+      (with_coordinate (λ v. 0) 0 x) (columns 0 x + columns 1 x + columns 2 x) (omega (arith, none, most)) (omega arith)
 
   rows_most : number (group_of 0 all_nests) [] (λ v. 0) 0 ≤ ranges 0
   rows_most =
