@@ -1,8 +1,8 @@
 -- The cost of the workload's statement is at most the number of rows and entries.
 use denote.Hole.Carrier.{hidden}
-use Rattle.std.specs.Prelude.{◌≡◌, ℕ, zero, suc, ◌+◌, ◌*◌, ◌<◌, ◌≤◌, Bool, true, false, ◌&&◌, if◌then◌else◌, List, [], ◌∷◌, length, map, refl}
-use Rattle.std.specs.Prelude.{slice_index}
-use Rattle.std.proofs.Common.{◌∙◌, sym, ap, subst, arith}
+use Rattle.std.specs.Prelude.{◌≡◌, ℕ, zero, suc, ◌+◌, ◌<◌, ◌≤◌, Bool, true, false, ◌&&◌, if◌then◌else◌, List, [], ◌∷◌, length, map}
+use Rattle.std.specs.Prelude.{refl}
+use Rattle.std.proofs.Common.{◌∙◌, ap, arith}
 use Rattle.level_core.specs.declared.span.Entry.{Entry as LevelEntry}
 use Rattle.format_spec.specs.declared.format.FormatLevel.{FormatLevel}
 use Rattle.index_notation.specs.declared.syntax.Expr.TheBlock.{hidden-the_row-Expr-0}
@@ -54,14 +54,18 @@ module _ (s : Statement) (formats : List (List FormatLevel)) (stored : Stored) w
       let first = if_at_most (some_term (remains (is_here s formats stored bound point)) (group_of v nests)) _ most here in
       omega (arith, first, rest)
 
+  -- whether an access stands in the part of a group that remains
+  abbrev is_live_in_group : List Nest → List ℕ → (ℕ → ℕ) → ℕ → Bool
+  is_live_in_group group bound point k = some_term (λ e. is_live (is_here s formats stored bound point) e k) group
+
   -- a number of each access that is gone through is one of each access at most
   walked_most : (number : ℕ → ℕ) (group : List Nest) (bound : List ℕ) (point : ℕ → ℕ) (v : ℕ)
       → sum_walked s formats stored number group bound point v ≤ count_below (length s.accesses) number
   walked_most number group bound point v =
       count_most (length s.accesses)
-      (λ k. if some_term (λ e. is_live (is_here s formats stored bound point) e k) group && is_walked s formats bound v k then number k else 0)
+      (λ k. if is_live_in_group group bound point k && is_walked s formats bound v k then number k else 0)
       number
-      (λ k. if_at_most (some_term (λ e. is_live (is_here s formats stored bound point) e k) group && is_walked s formats bound v k)
+      (λ k. if_at_most (is_live_in_group group bound point k && is_walked s formats bound v k)
       (number k) (number k) (omega arith))
 
   -- and none where none is gone through
@@ -70,9 +74,9 @@ module _ (s : Statement) (formats : List (List FormatLevel)) (stored : Stored) w
       → sum_walked s formats stored number group bound point v ≡ 0
   none_walked number group bound point v none =
       count_zero (length s.accesses)
-      (λ k. if some_term (λ e. is_live (is_here s formats stored bound point) e k) group && is_walked s formats bound v k then number k else 0)
-      (λ k h. ap (λ w. if some_term (λ e. is_live (is_here s formats stored bound point) e k) group && w then number k else 0) (none k h)
-      ∙ none_counted (some_term (λ e. is_live (is_here s formats stored bound point) e k) group) (number k))
+      (λ k. if is_live_in_group group bound point k && is_walked s formats bound v k then number k else 0)
+      (λ k h. ap (λ w. if is_live_in_group group bound point k && w then number k else 0) (none k h)
+      ∙ none_counted (is_live_in_group group bound point k) (number k))
 
 -- rows are found at once, and gone through for no access
 no_rows_walked : (k : ℕ) → k < length workload_statement.accesses → is_walked workload_statement workload_formats [] 0 k ≡ false
@@ -90,12 +94,16 @@ module _ (stored : Stored) (ranges : ℕ → ℕ) where
   abbrev all_nests : List Nest
   all_nests = map (nest_of workload_statement (0 ∷ 1 ∷ [])) (terms workload_statement.expr)
 
+  -- how many
+  abbrev columns : ℕ → ℕ → ℕ
+  columns k x = length (entries_below stored k x)
+
   abbrev number : List Nest → List ℕ → (ℕ → ℕ) → ℕ → ℕ
   number = group_length workload_statement workload_formats stored ranges
 
   -- the columns of a row: those that are stored of each operand
   columns_most : (x : ℕ) → number (group_of 1 (group_of 0 all_nests)) (0 ∷ []) (with_coordinate (λ v. 0) 0 x) 1
-      ≤ length (entries_below stored 0 x) + length (entries_below stored 1 x) + length (entries_below stored 2 x)
+      ≤ columns 0 x + columns 1 x + columns 2 x
   unfolding workload_statement workload_formats hidden-the_row-Expr-0 hidden
   columns_most x =
       let point = with_coordinate (λ v. 0) 0 x in
@@ -108,12 +116,12 @@ module _ (stored : Stored) (ranges : ℕ → ℕ) where
       omega (arith, counted, first, second, third)
 
   inner : (x : ℕ) → total workload_statement workload_formats stored ranges number (1 ∷ []) (group_of 0 all_nests) (0 ∷ [])
-      (with_coordinate (λ v. 0) 0 x) ≤ length (entries_below stored 0 x) + length (entries_below stored 1 x) + length (entries_below stored 2 x)
+      (with_coordinate (λ v. 0) 0 x) ≤ columns 0 x + columns 1 x + columns 2 x
   inner x =
       let none = count_none (ranges 1) in
-      let columns = columns_most x in
-      total_most workload_statement workload_formats stored ranges number 1 [] (group_of 0 all_nests) (0 ∷ []) (with_coordinate (λ v. 0) 0 x)
-      (length (entries_below stored 0 x) + length (entries_below stored 1 x) + length (entries_below stored 2 x)) (omega (arith, none, columns)) (omega arith)
+      let most = columns_most x in
+      total_most workload_statement workload_formats stored ranges number 1 [] (group_of 0 all_nests) (0 ∷ [])
+      (with_coordinate (λ v. 0) 0 x) (columns 0 x + columns 1 x + columns 2 x) (omega (arith, none, most)) (omega arith)
 
   rows_most : number (group_of 0 all_nests) [] (λ v. 0) 0 ≤ ranges 0
   rows_most =
@@ -128,17 +136,16 @@ module _ (stored : Stored) (ranges : ℕ → ℕ) where
   no_columns = refl
 
   pub cost_most : statement_cost workload_statement workload_formats (0 ∷ 1 ∷ []) stored ranges
-      ≤ ranges 0 + (count_below (ranges 0) (λ x. length (entries_below stored 0 x)) + count_below (ranges 0) (λ x. length (entries_below stored 1 x))
-      + count_below (ranges 0) (λ x. length (entries_below stored 2 x)))
+      ≤ ranges 0 + (count_below (ranges 0) (columns 0) + count_below (ranges 0) (columns 1) + count_below (ranges 0) (columns 2))
   cost_most =
       let rows = rows_most in
       let none = no_columns in
       let each = count_most (ranges 0)
       (λ x. total workload_statement workload_formats stored ranges number (1 ∷ []) (group_of 0 all_nests) (0 ∷ [])
       (with_coordinate (λ v. 0) 0 x))
-      (λ x. length (entries_below stored 0 x) + length (entries_below stored 1 x) + length (entries_below stored 2 x)) inner in
-      let two = count_plus (ranges 0) (λ x. length (entries_below stored 0 x)) (λ x. length (entries_below stored 1 x)) in
-      let three = count_plus (ranges 0) (λ x. length (entries_below stored 0 x) + length (entries_below stored 1 x)) (λ x. length (entries_below stored 2 x)) in
+      (λ x. columns 0 x + columns 1 x + columns 2 x) inner in
+      let two = count_plus (ranges 0) (columns 0) (columns 1) in
+      let three = count_plus (ranges 0) (λ x. columns 0 x + columns 1 x) (columns 2) in
       total_most workload_statement workload_formats stored ranges number 0 (1 ∷ []) all_nests [] (λ v. 0)
-      (ranges 0 + (count_below (ranges 0) (λ x. length (entries_below stored 0 x)) + count_below (ranges 0) (λ x. length (entries_below stored 1 x))
-      + count_below (ranges 0) (λ x. length (entries_below stored 2 x)))) (omega (arith, rows, each, two, three)) (omega (arith, none))
+      (ranges 0 + (count_below (ranges 0) (columns 0) + count_below (ranges 0) (columns 1)
+      + count_below (ranges 0) (columns 2))) (omega (arith, rows, each, two, three)) (omega (arith, none))

@@ -154,7 +154,9 @@ pub few_different : (coords : ℕ → ℕ → ℕ) (count : ℕ) (es : List Entr
 few_different coords zero es there = omega arith
 few_different coords (suc i) es there = by (few_different coords i) (is_met coords 2 i i) refl
   where
-    by : ((es : List Entry) → ((j : ℕ) → j < i → Listed es (coords 0 j ∷ coords 1 j ∷ [])) → different coords 2 i ≤ length es) → (b : Bool) → is_met coords 2 i i ≡ b → (if is_met coords 2 i i then different coords 2 i else different coords 2 i + 1) ≤ length es
+    by : ((es : List Entry) → ((j : ℕ) → j < i → Listed es (coords 0 j ∷ coords 1 j ∷ [])) → different coords 2 i ≤ length es)
+        → (b : Bool) → is_met coords 2 i i ≡ b
+        → (if is_met coords 2 i i then different coords 2 i else different coords 2 i + 1) ≤ length es
     by rest true t =
         subst (λ b. (if b then different coords 2 i else different coords 2 i + 1) ≤ length es) (sym t)
         (rest es (λ j h. there j (omega (arith, h))))

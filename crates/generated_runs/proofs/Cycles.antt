@@ -1,8 +1,7 @@
 -- The storage orders of the workload's tensors have no cycle: all have rows above columns.
-use Rattle.std.specs.Prelude.{◌≡◌, ℕ, zero, suc, ◌<◌, List, [], ◌∷◌, length, refl}
-use Rattle.std.proofs.Common.{arith, subst}
-use Rattle.iteration_graph.specs.Edges.{statement_edges}
-use Rattle.iteration_graph.specs.Graphs.{IsLoopOrder, IsPlaced}
+use Rattle.std.specs.Prelude.{ℕ, zero, suc, List, [], ◌∷◌, refl}
+use Rattle.std.proofs.Common.{arith}
+use Rattle.iteration_graph.specs.Graphs.{IsPlaced}
 use Rattle.iteration_graph.proofs.OrderLaws.{no_order}
 use Rattle.taco_compiler.specs.Compiled.{HasCycle, IsOrder}
 use Rattle.generated_runs.specs.Workloads.{workload_statement, workload_formats}

@@ -1,6 +1,6 @@
 -- The statement of the workload is well formed, and the formats are those of its tensors.
 use denote.Hole.Carrier.{hidden}
-use Rattle.std.specs.Prelude.{◌≡◌, ◌≢◌, ℕ, ◌<◌, ◌≤◌, true, refl}
+use Rattle.std.specs.Prelude.{ℕ, ◌<◌, ◌≤◌, true, refl}
 use Rattle.std.proofs.Common.{arith, lit<, lit≤}
 use Rattle.limits.specs.Limits.{greatest_order, greatest_variables}
 use Rattle.lists.specs.Each.{Each}
@@ -47,6 +47,7 @@ left_format = record { tensor = lit< tt; order = refl }
 
 pub right_formats : Each (HasFormat workload_formats) workload_statement.accesses
 unfolding workload_statement workload_formats
-right_formats =
-    (record { tensor = lit< tt; order = refl },
-    (record { tensor = lit< tt; order = refl }, (record { tensor = lit< tt; order = refl }, tt)))
+right_formats = (
+  record { tensor = lit< tt; order = refl },
+  (record { tensor = lit< tt; order = refl }, (record { tensor = lit< tt; order = refl }, tt)),
+)

@@ -31,6 +31,7 @@ use Rattle.kernel_runs.specs.declared.fault.RunFault.{RunFault}
 use Rattle.kernel_runs.specs.declared.fault.RunFault.TheVariants.{Range, SizeLimit, Workspace, Memory}
 use Rattle.kernel_runs.specs.Runs.{AllFit, IsStoreFor, MayRefuse, RefusesNoneThatFit, result_level_sizes}
 use Rattle.generated_runs.specs.Matrices.{AreMatrices, IsMatrix}
+use Rattle.generated_runs.specs.Refused.{IsForMemory}
 use Rattle.generated_runs.specs.Workloads.{by_rows, workload_statement, workload_formats}
 use Rattle.generated_runs.proofs.Counting.{few_pass, few_different}
 use Rattle.generated_runs.proofs.Paths.{row_listed, operand_listed}
@@ -134,13 +135,13 @@ module _ (a : Arithmetic) (n : ℕ) (first second third : Entries) (few : n ≤ 
           let here : p.point 0 ∷ p.point 1 ∷ [] ≡ x ∷ y ∷ [] = cc in
           either x y (inl (listed_at_first x y (subst (λ cs. (told_by a store).paths 1 cs ≡ true) here (both_true _ _ p.present).0)))
       | inr more ↦ elim more [
-          | inl p ↦
-              let row : p.point 0 ≡ x = p.others 0 refl in
-              let column : p.point 1 ≡ y = p.others 1 refl in
-              let here : p.point 0 ∷ p.point 1 ∷ [] ≡ x ∷ y ∷ [] = cc in
-              either x y (inr (listed_at_third x y (subst (λ cs. (told_by a store).paths 3 cs ≡ true) here p.present)))
-          | inr none ↦ absurd none
-        ]
+        | inl p ↦
+            let row : p.point 0 ≡ x = p.others 0 refl in
+            let column : p.point 1 ≡ y = p.others 1 refl in
+            let here : p.point 0 ∷ p.point 1 ∷ [] ≡ x ∷ y ∷ [] = cc in
+            either x y (inr (listed_at_third x y (subst (λ cs. (told_by a store).paths 3 cs ≡ true) here p.present)))
+        | inr none ↦ absurd none
+      ]
     ]
 
     most : length (first.list ++ third.list) ≤ greatest_position_count
@@ -200,11 +201,6 @@ all_fit a n (first ∷ []) few are = absurd are
 all_fit a n (first ∷ second ∷ []) few are = absurd are
 all_fit a n (first ∷ second ∷ third ∷ x ∷ xs) few are = absurd are
 all_fit a n (first ∷ second ∷ third ∷ []) few are = fit a n first second third few are
-
--- want of memory, and no other fault
-abbrev pub IsForMemory : RunFault → Type 0
-IsForMemory (Memory error) = Unit {0}
-IsForMemory fault = ⊥
 
 -- so a run of the workload is refused for want of memory alone
 pub refused_for_memory : (a : Arithmetic) (n : ℕ) (operands : List Entries) → n ≤ greatest_workload → AreMatrices n operands

@@ -1,9 +1,8 @@
 -- The format `ds` is what its letters name.
-use Rattle.std.specs.Prelude.{◌≡◌, ℕ, ◌<◌, ◌≤◌, true, [], ◌∷◌, All, AllPairs, Result, Ok, Err, None, refl}
+use Rattle.std.specs.Prelude.{◌≡◌, true, [], ◌∷◌, Ok, None, refl}
 use Rattle.std.proofs.Common.{arith}
 use Rattle.std.proofs.lemmas.List.Elements.{All-nil, All-cons}
 use Rattle.std.proofs.lemmas.List.Kept.{AllPairs-cons}
-use Rattle.level_core.specs.declared.letter.Letter.{Letter}
 use Rattle.level_core.specs.declared.letter.Letter.TheVariants.{Dense, Compressed, Hashed}
 use Rattle.level_core.specs.Kinds.{capabilities}
 use Rattle.format_spec.specs.Formats.{InsertedBelowHashed}

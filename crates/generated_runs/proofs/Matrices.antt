@@ -1,7 +1,7 @@
 -- The drawn operands are square matrices with few entries.
-use Rattle.std.specs.Prelude.{◌≡◌, ℕ, suc, ◌+◌, ◌<◌, ◌≤◌, ◌^◌, List, [], ◌∷◌, length, All}
+use Rattle.std.specs.Prelude.{◌≡◌, ℕ, ◌+◌, ◌<◌, ◌≤◌, ◌^◌, List, [], ◌∷◌, length, All}
 use Rattle.std.proofs.Common.{◌∙◌, arith}
-use Rattle.limits.specs.Limits.{greatest_position_count, greatest_workload}
+use Rattle.limits.specs.Limits.{greatest_workload}
 use Rattle.limits.proofs.Limits.{positions_are_small, workloads_are_ranges}
 use Rattle.tensor_map.specs.declared.entries.Entry.{Entry}
 use Rattle.tensor_map.specs.Entries.{AreEntries, Entries}

@@ -1,5 +1,6 @@
 -- A run of the workload turns its merged loops no more often than its cost.
-use Rattle.std.specs.Prelude.{◌≡◌, ℕ, zero, suc, ◌+◌, ◌<◌, ◌≤◌, true, List, [], ◌∷◌, length, All, Option, Some, None, Ok, slice_get, slice_index, refl}
+use Rattle.std.specs.Prelude.{◌≡◌, ℕ, zero, suc, ◌+◌, ◌<◌, ◌≤◌, true, List, [], ◌∷◌, length, All, Option, Some, None, Ok, slice_get}
+use Rattle.std.specs.Prelude.{slice_index, refl}
 use Rattle.std.proofs.Common.{◌∙◌, sym, ap, subst, arith}
 use Rattle.std.proofs.lemmas.List.Elements.{All-nil, All-cons}
 use Rattle.lists.specs.Each.{Each}
@@ -16,7 +17,6 @@ use Rattle.level_core.specs.declared.letter.Letter.TheVariants.{Dense, Compresse
 use Rattle.level_core.specs.declared.span.Span.{Span}
 use Rattle.level_core.specs.declared.span.Entry.{Entry as LevelEntry}
 use Rattle.level_core.specs.Entries.{Distinct, one}
-use Rattle.iteration_graph.specs.Edges.{format_of}
 use Rattle.iteration_graph.proofs.OrderLaws.{one_order}
 use Rattle.loop_code.specs.Loops.{Stored}
 use Rattle.loop_code.specs.Parts.{entries_of, is_some}
@@ -50,7 +50,7 @@ isnt_hashed level = level.letter ≡ Hashed → ⊥
 
 none_hashed : All isnt_hashed by_rows
 unfolding isnt_hashed
-none_hashed = 
+none_hashed =
     All-cons isnt_hashed (record { letter = Dense; mode = 0 }) (record { letter = Compressed; mode = 1 } ∷ []) dense_isnt
     (All-cons isnt_hashed (record { letter = Compressed; mode = 1 }) [] compressed_isnt (All-nil isnt_hashed))
   where

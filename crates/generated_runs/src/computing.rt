@@ -5,6 +5,7 @@ ghost use Rattle.numbers.specs.Ring.{ring};
 ghost use Rattle.taco_compiler.specs.Compiled.{IsCompiled, IsOrder};
 ghost use Rattle.kernel_runs.specs.Runs.{IsRun};
 ghost use Rattle.generated_runs.specs.Matrices.{AreMatrices};
+ghost use Rattle.generated_runs.specs.Refused.{IsForMemory};
 ghost use Rattle.generated_runs.specs.Workloads.{workload_statement, workload_formats, IsComputed};
 
 use crate::statement::{workload_formats, workload_statement};
@@ -56,6 +57,18 @@ fn operands_of(
     })
 }
 
+/// The want of memory that a run is refused for.
+fn memory_of(fault: RunFault) -> AllocError
+    requires { IsForMemory fault }
+{
+    match fault {
+        RunFault::Memory(error) => error,
+        RunFault::Range(_) => unreachable!(),
+        RunFault::SizeLimit { .. } => unreachable!(),
+        RunFault::Workspace { .. } => unreachable!(),
+    }
+}
+
 /// Runs the statement's kernel. All tensors fit the limits, so it is refused only for want of memory.
 fn run_on(
     alloc: Global,
@@ -84,8 +97,7 @@ fn run_on(
         operands,
     ) {
         Ok(run) => Ok(run),
-        Err(RunFault::Memory(error)) => Err(error),
-        Err(_) => unreachable!(),
+        Err(fault) => Err(memory_of(fault)),
     }
 }
 
@@ -105,12 +117,6 @@ pub(crate) fn compute(
     let formats = workload_formats(alloc)?;
     let compiled = workload_kernel(alloc, &statement, formats.as_slice())?;
     let operands = operands_of(alloc, first, second, third)?;
-    run_on(
-        alloc,
-        &statement,
-        formats,
-        &compiled.kernel,
-        size,
-        operands,
-    )
+    let run = run_on(alloc, &statement, formats, &compiled.kernel, size, operands)?;
+    Ok(run)
 }

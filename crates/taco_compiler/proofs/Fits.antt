@@ -1,6 +1,6 @@
 -- Places before all loops, and the loops of a statement, are such as code of loops is made from.
-use Rattle.std.specs.Prelude.{◌≡◌, ◌≢◌, ℕ, zero, suc, ◌+◌, ◌≤◌, ◌<◌, ◌^◌, Bool, List, [], ◌∷◌, length, All, Option, Some, None, map}
-use Rattle.std.specs.Prelude.{replicate, slice_get, slice_index_or, refl}
+use Rattle.std.specs.Prelude.{◌≡◌, ◌≢◌, ℕ, zero, suc, ◌≤◌, ◌<◌, Bool, List, [], ◌∷◌, length, All, Some, map}
+use Rattle.std.specs.Prelude.{replicate, slice_get, refl}
 use Rattle.std.proofs.Common.{◌∙◌, sym, ap, subst, arith}
 use Rattle.format_spec.specs.declared.format.FormatLevel.{FormatLevel}
 use Rattle.format_spec.specs.Formats.{modes_of}
@@ -12,11 +12,9 @@ use Rattle.limits.specs.Limits.{greatest_order}
 use Rattle.lists.specs.Each.{Each}
 use Rattle.expr_terms.specs.Minus.{HasMeaning}
 use Rattle.loop_code.specs.declared.loops.LoopCode.{LoopCode}
-use Rattle.lowering.specs.Lowered.{IsInOrder}
-use Rattle.operand_arrays.specs.Operands.{AreOperands}
 use Rattle.term_code.specs.declared.places.AccessPlace.{AccessPlace}
 use Rattle.term_code.specs.declared.places.Places.{Places}
-use Rattle.term_code.specs.Places.{AreBelow, new_access}
+use Rattle.term_code.specs.Places.{new_access}
 use Rattle.dense_results.specs.Kernels.{AreAtBase}
 use Rattle.dense_results.proofs.Loops.{lowered_loops_go_through}
 use Rattle.kernel_emit.specs.Given.{LoopsFit, PlacesFit}

@@ -1,12 +1,12 @@
 -- The left variables in loop order are a target as the left variables are.
 use Rattle.std.specs.Prelude.{◌≡◌, ℕ, zero, suc, ◌≤◌, ◌<◌, nat_eq, Bool, true, false, ◌||◌, List, [], ◌∷◌, length}
-use Rattle.std.specs.Prelude.{All, filter, slice_index_or, refl}
+use Rattle.std.specs.Prelude.{filter, slice_index_or, refl}
 use Rattle.std.proofs.Common.{◌∙◌, sym, ap, subst, arith}
 use Rattle.std.proofs.lemmas.Bool.{eqb-true, eq-eqb}
 use Rattle.format_spec.specs.declared.format.FormatLevel.{FormatLevel}
 use Rattle.format_spec.specs.Formats.{modes_of}
 use Rattle.index_notation.specs.declared.syntax.Statement.{Statement}
-use Rattle.iteration_graph.specs.Edges.{by_level, format_of, statement_edges}
+use Rattle.iteration_graph.specs.Edges.{format_of, statement_edges}
 use Rattle.limits.specs.Limits.{greatest_order}
 use Rattle.expr_terms.specs.Terms.{contains}
 use Rattle.concrete_notation.specs.Nests.{IsOrderOf, left_in_order}

@@ -1,4 +1,4 @@
-use Rattle.std.specs.Prelude.{◌≡◌, [], ◌∷◌, Result, Ok, Err, None}
+use Rattle.std.specs.Prelude.{◌≡◌, [], ◌∷◌, Ok, Err, None}
 use Rattle.std.proofs.Common.{◌∙◌, sym}
 use Rattle.generated_runs.specs.Workloads.{by_rows}
 use Rattle.generated_runs.proofs.Formats.{read_by_rows}

@@ -1,4 +1,4 @@
-use Rattle.std.specs.Prelude.{◌≡◌, ◌<◌, ◌^◌, [], take}
+use Rattle.std.specs.Prelude.{◌<◌, ◌^◌, [], take}
 use Rattle.std.proofs.Common.{◌∙◌, ap, subst, arith}
 use Rattle.numbers.specs.Ring.{ring}
 use Rattle.numbers.specs.Sums.{total_of}
