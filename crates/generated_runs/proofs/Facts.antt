@@ -1,6 +1,6 @@
 -- The statement of the workload is well formed, and the formats are those of its tensors.
 use denote.Hole.Carrier.{hidden}
-use Rattle.std.specs.Prelude.{ℕ, ◌<◌, ◌≤◌, true, refl}
+use Rattle.std.specs.Prelude.{ℕ, ◌<◌, true, refl}
 use Rattle.std.proofs.Common.{arith, lit<, lit≤}
 use Rattle.limits.specs.Limits.{greatest_order, greatest_variables}
 use Rattle.lists.specs.Each.{Each}
