@@ -200,12 +200,13 @@ pub record TellsRun (words : List (List ℕ)) (old new : FolderState) (text : Li
   pub text_is : text ≡ run_report computed.request.statement computed.order computed.request.formats computed.kernel computed.turns
       computed.tensor
 
--- `gen`: the line of the generated workload of this size; no file is opened
+-- `gen`: the line of the generated workload of this size, whose merged loops turn no more often than it costs; no file is opened
 pub record TellsWorkload (words : List (List ℕ)) (old new : FolderState) (text : List ℕ) : Type 0 where
   pub size : ℕ
   pub line : command_line_of words ≡ Some (WorkloadLine size)
   pub workload : Workload
   pub is : IsWorkload size workload
+  pub few : workload.turns.merge ≤ workload.cost
   pub folder_is : new ≡ old
   pub text_is : text ≡ workload_line workload
 

@@ -1,5 +1,5 @@
 -- How a command ends, from how its parts do.
-use Rattle.std.specs.Prelude.{◌≡◌, ℕ, ◌⊎◌, List, ◌++◌, Option, Some, Vec, Result, Ok, Err, OnOk, IfErr, refl}
+use Rattle.std.specs.Prelude.{◌≡◌, ℕ, ◌≤◌, ◌⊎◌, List, ◌++◌, Option, Some, Vec, Result, Ok, Err, OnOk, IfErr, refl}
 use Rattle.std.specs.Option.{option_map}
 use Rattle.std.proofs.Common.{◌∙◌, sym, ap, subst, inl, inr, arith}
 use Rattle.std.proofs.lemmas.List.{append-nil}
@@ -233,12 +233,14 @@ tells_run words old new kept is = inr (inl (record {
 
 -- the line of a workload
 pub tells_workload : (words : List (List ℕ)) (files : FolderState) (size : ℕ) (workload : Workload)
-    → command_line_of words ≡ Some (WorkloadLine size) → IsWorkload size workload → Tells words files files (workload_line workload)
-tells_workload words files size workload line is = inr (inr (record {
+    → command_line_of words ≡ Some (WorkloadLine size) → IsWorkload size workload → workload.turns.merge ≤ workload.cost
+    → Tells words files files (workload_line workload)
+tells_workload words files size workload line is few = inr (inr (record {
   size = size;
   line = line;
   workload = workload;
   is = is;
+  few = few;
   folder_is = refl;
   text_is = refl;
 }))
