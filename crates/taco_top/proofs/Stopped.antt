@@ -14,6 +14,7 @@ use Rattle.outside.specs.declared.refusal.Refusal.TheVariants.{Failed, Absent}
 use Rattle.outside.specs.declared.refusal.Refusal.TheVariants as refusal
 use Rattle.text_lines.specs.Puts.{AppendsPart}
 use Rattle.tensor_map.specs.Entries.{Entries, value_at}
+use Rattle.format_spec.specs.declared.format.FormatLevel.{FormatLevel}
 use Rattle.kernel_code.specs.declared.syntax.Kernel.{Kernel}
 use Rattle.expr_terms.specs.declared.bound.Bound.{Bound}
 use Rattle.operand_files.specs.Reads.{OnlyReads}
@@ -207,9 +208,9 @@ module _ (words : List (List ℕ)) (files files' : FolderState) (out out' : Sink
 
 -- the text of a kernel
 pub tells_kernel : (words : List (List ℕ)) (files : FolderState) (r : Request) (order : List ℕ) (kernel : Kernel) → IsAccepted words r
-    → r.task ≡ task.Kernel → IsKernelOf r order kernel
-    → Tells words files files (kernel_report r.statement order r.formats kernel)
-tells_kernel words files r order kernel accepted task_is is_kernel = inl (record {
+    → r.task ≡ task.Kernel → IsKernelOf r order kernel → (told : List ℕ) (formats : List (List FormatLevel)) → told ≡ order
+    → formats ≡ r.formats → Tells words files files (kernel_report r.statement told formats kernel)
+tells_kernel words files r order kernel accepted task_is is_kernel told formats told_is formats_are = inl (record {
   request = r;
   accepted = accepted;
   task_is = task_is;
@@ -217,19 +218,22 @@ tells_kernel words files r order kernel accepted task_is is_kernel = inl (record
   kernel = kernel;
   is_kernel = is_kernel;
   folder_is = refl;
-  text_is = refl;
+  text_is = λ i. kernel_report r.statement (told_is i) (formats_are i) kernel;
 })
 
 -- the text of a run that was computed
 pub tells_run : (words : List (List ℕ)) (old new : FolderState) (kept : Computed) → IsPrepared words task.Report old new kept
-    → Tells words old new (run_report kept.statement kept.compiled.order kept.formats.items kept.compiled.kernel kept.result.turns
-    kept.result.tensor)
-tells_run words old new kept is = inr (inl (record {
-  computed = is.computed;
-  task_is = is.task_is;
-  text_is = λ i. run_report (sym is.statement_is i) (sym is.order_is i) (sym is.formats_are i) (sym is.kernel_is i) (sym is.turns_are i)
-      (sym is.storage_is i);
-}))
+    → (told : List ℕ) (formats : List (List FormatLevel)) → told ≡ kept.compiled.order → formats ≡ kept.formats.items
+    → Tells words old new (run_report kept.statement told formats kept.compiled.kernel kept.result.turns kept.result.tensor)
+tells_run words old new kept is told formats told_is formats_are =
+    let order : told ≡ is.computed.order = told_is ∙ sym is.order_is in
+    let layouts : formats ≡ is.computed.request.formats = formats_are ∙ sym is.formats_are in
+    inr (inl (record {
+      computed = is.computed;
+      task_is = is.task_is;
+      text_is = λ i. run_report (sym is.statement_is i) (order i) (layouts i) (sym is.kernel_is i) (sym is.turns_are i)
+          (sym is.storage_is i);
+    }))
 
 -- the line of a workload
 pub tells_workload : (words : List (List ℕ)) (files : FolderState) (size : ℕ) (workload : Workload)

@@ -6,7 +6,10 @@ use Rattle.std.specs.declared.alloc.Global.{Global}
 use Rattle.outside.specs.Count.{Rose}
 use Rattle.outside.specs.Folder.{FolderState}
 use Rattle.outside.specs.Sink.{SinkState}
+use Rattle.index_notation.specs.declared.fault.NotationFault.{NotationFault}
 use Rattle.index_notation.specs.declared.syntax.Statement.{Statement}
+use Rattle.expr_terms.specs.declared.names.NameFault.{NameFault}
+use Rattle.bindings.specs.declared.fault.BindingFault.{BindingFault}
 use Rattle.iteration_graph.specs.Edges.{statement_edges}
 use Rattle.iteration_graph.proofs.OrderLaws.{no_order}
 use Rattle.taco_compiler.specs.Compiled.{HasCycle}
@@ -96,14 +99,14 @@ module _ (words : List (List ℕ)) (files files' : FolderState) (out out' : Sink
       never : Some (WorkloadLine size) ≡ None → ⊥
       never e = cc
 
-  by_notation : {why : _} → IsRefusedByWords words (fault.Notation why) → ⊥
-  by_notation (t, text, rest, is, other) = no_statement is
+  by_notation : (why : NotationFault) → IsRefusedByWords words (fault.Notation why) → ⊥
+  by_notation why (t, text, rest, is, other) = no_statement is
 
-  by_name : {s : Statement} {why : _} → IsRefusedByWords words (fault.Named s (named.Name why)) → ⊥
-  by_name (t, text, rest, is, other) = no_statement is
+  by_name : (s : Statement) (why : NameFault) → IsRefusedByWords words (fault.Named s (named.Name why)) → ⊥
+  by_name s why (t, text, rest, is, notation, other) = no_statement is
 
-  by_binding : {s : Statement} {why : _} → IsRefusedByWords words (fault.Named s (named.Binding why)) → ⊥
-  by_binding (t, rest, names, other) = no_statement names.line
+  by_binding : (s : Statement) (why : BindingFault) → IsRefusedByWords words (fault.Named s (named.Binding why)) → ⊥
+  by_binding s why (t, rest, names, other) = no_statement names.line
 
   unfailed : (path : Option (List ℕ)) → FailsToWrite words files files' out out' path → ⊥
   unfailed path (inl is) = no_statement is.computed.operands.accepted.asks.names.line
@@ -111,9 +114,9 @@ module _ (words : List (List ℕ)) (files files' : FolderState) (out out' : Sink
 
   workload_refused : (why : Fault) → Refuses words files files' out out' why → why ≡ fault.Memory
   workload_refused fault.Usage is = absurd (some is.stops.refused)
-  workload_refused (fault.Notation why) is = absurd (by_notation is.stops.refused)
-  workload_refused (fault.Named s (named.Name why)) is = absurd (by_name is.stops.refused)
-  workload_refused (fault.Named s (named.Binding why)) is = absurd (by_binding is.stops.refused)
+  workload_refused (fault.Notation why) is = absurd (by_notation why is.stops.refused)
+  workload_refused (fault.Named s (named.Name why)) is = absurd (by_name s why is.stops.refused)
+  workload_refused (fault.Named s (named.Binding why)) is = absurd (by_binding s why is.stops.refused)
   workload_refused (fault.Named s (named.Cycle cycle)) is = absurd (no_statement is.stops.1.asks.names.line)
   workload_refused (fault.Named s (named.Range why)) is = absurd (no_statement is.stops.operands.accepted.asks.names.line)
   workload_refused (fault.Named s (named.SizeLimit tensor level count)) is =

@@ -86,17 +86,17 @@ module _ (words : List (List ℕ)) (files files' : FolderState) (out out' : Sink
     found (Refused (fault.Notation why)) cause = by cause.stops.refused
       where
         by : IsRefusedByWords words (fault.Notation why) → (notation_status why ≡ 2) ⊎ (notation_status why ≡ 5)
-        by (text, rest, line, is) = absurd (never line)
+        by (task, text, rest, line, is) = absurd (never line)
     found (Refused (fault.Named s (named.Name why))) cause = by cause.stops.refused
       where
         by : IsRefusedByWords words (fault.Named s (named.Name why))
             → (named_status (named.Name why) ≡ 2) ⊎ (named_status (named.Name why) ≡ 5)
-        by (text, rest, line, notation, is) = absurd (never line)
+        by (task, text, rest, line, notation, is) = absurd (never line)
     found (Refused (fault.Named s (named.Binding why))) cause = by cause.stops.refused
       where
         by : IsRefusedByWords words (fault.Named s (named.Binding why))
             → (named_status (named.Binding why) ≡ 2) ⊎ (named_status (named.Binding why) ≡ 5)
-        by (rest, names, is) = absurd (never names.line)
+        by (task, rest, names, is) = absurd (never names.line)
     found (Refused (fault.Named s (named.Cycle cycle))) cause = absurd (never cause.stops.1.asks.names.line)
     found (Refused (fault.Named s (named.Range why))) cause = absurd (never cause.stops.operands.accepted.asks.names.line)
     found (Refused (fault.Named s (named.SizeLimit tensor level count))) cause = absurd (never cause.stops.operands.accepted.asks.names.line)

@@ -23,12 +23,12 @@ pub(crate) struct Accepted<'a> {
 pub(crate) fn accept<'a>(alloc: Global, asked: Asked<'a>) -> Result<Accepted<'a>, Fault<'a>>
     requires asked { (words : List (List ℕ)) × AsksFor words (request_of asked) }
     requires numbered { IsNumbered asked.statement }
-    ensures accepted { IfOk result (λ accepted. (words : List (List ℕ)) → AsksFor words (request_of asked)
+    ensures accepted { IfOk result (λ accepted. (words : List (List ℕ)) → AsksFor words (request_of asked.entry)
         → IsAccepted words (request_of accepted.asked)) }
     ensures kernel { IfOk result (λ accepted. IsKernelOf (request_of accepted.asked) accepted.compiled.order accepted.compiled.kernel) }
-    ensures task { IfOk result (λ accepted. accepted.asked.task ≡ asked.task) }
+    ensures task { IfOk result (λ accepted. accepted.asked.task ≡ asked.entry.task) }
     ensures numbered { IfOk result (λ accepted. IsNumbered accepted.asked.statement) }
-    ensures refused { IfErr result (λ fault. (words : List (List ℕ)) → AsksFor words (request_of asked) → (files : FolderState)
+    ensures refused { IfErr result (λ fault. (words : List (List ℕ)) → AsksFor words (request_of asked.entry) → (files : FolderState)
         → Stops words files files fault) }
 {
     match compile::<Ring>(alloc, &asked.statement, asked.bindings.formats.as_slice()) {

@@ -86,9 +86,9 @@ pub(crate) fn compute<'a, F: Folder>(
     requires numbered { IsNumbered accepted.asked.statement }
     requires reads { needs_files accepted.asked.task ≡ true }
     ensures only_reads { OnlyReads (F.state files.old) (F.state files.new) }
-    ensures computed { IfOk result (λ computed. (words : List (List ℕ)) → IsAccepted words (request_of accepted.asked)
-        → IsPrepared words accepted.asked.task (F.state files.old) (F.state files.new) computed) }
-    ensures stops { IfErr result (λ fault. (words : List (List ℕ)) → IsAccepted words (request_of accepted.asked)
+    ensures computed { IfOk result (λ computed. (words : List (List ℕ)) → IsAccepted words (request_of accepted.entry.asked)
+        → IsPrepared words accepted.entry.asked.task (F.state files.old) (F.state files.new) computed) }
+    ensures stops { IfErr result (λ fault. (words : List (List ℕ)) → IsAccepted words (request_of accepted.entry.asked)
         → Stops words (F.state files.old) (F.state files.new) fault) }
 {
     let Accepted { asked, compiled } = accepted;

@@ -31,7 +31,7 @@ fn run<'a, F: Folder, O: Sink>(
     requires kernel { IsKernelOf (request_of accepted.asked) accepted.compiled.order accepted.compiled.kernel }
     requires numbered { IsNumbered accepted.asked.statement }
     requires task { accepted.asked.task ≡ task.Run }
-    ensures { (words : List (List ℕ)) → IsAccepted words (request_of accepted.asked)
+    ensures { (words : List (List ℕ)) → IsAccepted words (request_of accepted.entry.asked)
         → Cause words (F.state files.old) (F.state files.new) (O.state out.old) (O.state out.new) (end_of result) }
 {
     match compute(alloc, accepted, files) {
@@ -51,7 +51,7 @@ fn report<'a, F: Folder, O: Sink>(
     requires kernel { IsKernelOf (request_of accepted.asked) accepted.compiled.order accepted.compiled.kernel }
     requires numbered { IsNumbered accepted.asked.statement }
     requires task { accepted.asked.task ≡ task.Report }
-    ensures { (words : List (List ℕ)) → IsAccepted words (request_of accepted.asked)
+    ensures { (words : List (List ℕ)) → IsAccepted words (request_of accepted.entry.asked)
         → Cause words (F.state files.old) (F.state files.new) (O.state out.old) (O.state out.new) (end_of result) }
 {
     match compute(alloc, accepted, files) {
@@ -69,7 +69,7 @@ fn answer_statement<'a, F: Folder, O: Sink>(
 ) -> Result<Done, Fault<'a>>
     requires asked { (words : List (List ℕ)) × AsksFor words (request_of asked) }
     requires numbered { IsNumbered asked.statement }
-    ensures { (words : List (List ℕ)) → AsksFor words (request_of asked)
+    ensures { (words : List (List ℕ)) → AsksFor words (request_of asked.entry)
         → Cause words (F.state files.old) (F.state files.new) (O.state out.old) (O.state out.new) (end_of result) }
 {
     let accepted = match accept(alloc, asked) {

@@ -9,7 +9,7 @@ read_operands-requires g c =
     readable c.requires.accepted.0 (g.F.Folder.state c.args.files.now) (g.F.Folder.state c.args.files.now) (request_of c.args.asked.now)
     c.as_slice.result.now (map (λ (path : Bor (List ℕ)). path.now) c.as_slice-2.result.now)
     (c.as_slice.ensures.value ∙ c.in_ok-orders.ensures)
-    (ap (map (λ (path : Bor (List ℕ)). path.now)) c.as_slice-2.ensures.value ∙ c.in_ok-paths.ensures)
+    (ap (map (λ (path : Bor (List ℕ)). path.now)) c.as_slice-2.ensures.value ∙ c.in_ok-paths.ensures) c.requires.reads
     c.requires.accepted.1 c.requires.numbered
 
 pub returns-in-Err-ReadFault-clause-refused : goal.returns-in-Err-ReadFault-clause-refused
@@ -19,7 +19,7 @@ returns-in-Err-ReadFault-clause-refused g c = λ words accepted.
     stops_reading words (g.F.Folder.state c.args.files.now) (g.F.Folder.state c.read_operands.new.files) (request_of c.args.asked.now)
     c.as_slice.result.now (map (λ (path : Bor (List ℕ)). path.now) c.as_slice-2.result.now)
     (c.as_slice.ensures.value ∙ c.in_ok-orders.ensures)
-    (ap (map (λ (path : Bor (List ℕ)). path.now)) c.as_slice-2.ensures.value ∙ c.in_ok-paths.ensures)
+    (ap (map (λ (path : Bor (List ℕ)). path.now)) c.as_slice-2.ensures.value ∙ c.in_ok-paths.ensures) c.requires.reads
     c.in-Err-ReadFault.field-0 (operand.ReadFault c.in-Err-ReadFault.path) same accepted c.in-Err-ReadFault.ensures.refused
 
 pub returns-in-Err-FileBytes-clause-refused : goal.returns-in-Err-FileBytes-clause-refused
@@ -29,7 +29,7 @@ returns-in-Err-FileBytes-clause-refused g c = λ words accepted.
     stops_reading words (g.F.Folder.state c.args.files.now) (g.F.Folder.state c.read_operands.new.files) (request_of c.args.asked.now)
     c.as_slice.result.now (map (λ (path : Bor (List ℕ)). path.now) c.as_slice-2.result.now)
     (c.as_slice.ensures.value ∙ c.in_ok-orders.ensures)
-    (ap (map (λ (path : Bor (List ℕ)). path.now)) c.as_slice-2.ensures.value ∙ c.in_ok-paths.ensures)
+    (ap (map (λ (path : Bor (List ℕ)). path.now)) c.as_slice-2.ensures.value ∙ c.in_ok-paths.ensures) c.requires.reads
     c.in-Err-FileBytes.field-0 (operand.FileBytes c.in-Err-FileBytes.path) same accepted c.in-Err-FileBytes.ensures.refused
 
 pub returns-in-Err-BadFile-clause-refused : goal.returns-in-Err-BadFile-clause-refused
@@ -39,7 +39,7 @@ returns-in-Err-BadFile-clause-refused g c = λ words accepted.
     stops_reading words (g.F.Folder.state c.args.files.now) _ (request_of c.args.asked.now)
     c.as_slice.result.now (map (λ (path : Bor (List ℕ)). path.now) c.as_slice-2.result.now)
     (c.as_slice.ensures.value ∙ c.in_ok-orders.ensures)
-    (ap (map (λ (path : Bor (List ℕ)). path.now)) c.as_slice-2.ensures.value ∙ c.in_ok-paths.ensures)
+    (ap (map (λ (path : Bor (List ℕ)). path.now)) c.as_slice-2.ensures.value ∙ c.in_ok-paths.ensures) c.requires.reads
     c.in-Err-BadFile.field-0 (operand.BadFile c.in-Err-BadFile.path c.in-Err-BadFile.line c.in-Err-BadFile.kind)
     same accepted c.in-Err-BadFile.ensures.refused
 
@@ -50,5 +50,5 @@ returns-clause-refused g c = λ words accepted.
     stops_reading words (g.F.Folder.state c.args.files.now) (g.F.Folder.state c.read_operands.new.files) (request_of c.args.asked.now)
     c.as_slice.result.now (map (λ (path : Bor (List ℕ)). path.now) c.as_slice-2.result.now)
     (c.as_slice.ensures.value ∙ c.in_ok-orders.ensures)
-    (ap (map (λ (path : Bor (List ℕ)). path.now)) c.as_slice-2.ensures.value ∙ c.in_ok-paths.ensures)
+    (ap (map (λ (path : Bor (List ℕ)). path.now)) c.as_slice-2.ensures.value ∙ c.in_ok-paths.ensures) c.requires.reads
     c.in-Err-Memory.field-0 operand.Memory same accepted c.in-Err-Memory.ensures.refused

@@ -1,0 +1,35 @@
+use Rattle.std.proofs.Common.{◌∙◌, refl}
+use Rattle.taco_top.specs.Asked.{request_of}
+use Rattle.taco_top.proofs.Reading.{runnable, run_of_request, uncomputed_of_request}
+use Rattle.taco_top.proofs.Prepares.{prepared}
+use Rattle.taco_top.proofs.Stopped.{stops_uncomputed}
+use Rattle.taco_top.proofs.computing.compute.Goals as goal
+
+pub run_kernel-requires-clause-runnable : goal.run_kernel-requires-clause-runnable
+run_kernel-requires-clause-runnable g c =
+    runnable (request_of c.args.accepted.asked) c.as_slice-2.result.now c.as_slice-2.ensures.value
+    c.in-Ok-operands_of.operands.entries.items c.in-Ok-operands_of.operands.bounds.items c.requires.accepted.0
+    (g.F.Folder.state c.args.files.now) (g.F.Folder.state c.operands_of.new.files)
+    (c.in-Ok-operands_of.ensures.read c.requires.accepted.0 c.requires.accepted.1) c.requires.numbered
+
+pub returns-in-Ok-run_kernel-clause-computed : goal.returns-in-Ok-run_kernel-clause-computed
+returns-in-Ok-run_kernel-clause-computed g c = λ words accepted.
+    prepared words (g.F.Folder.state c.args.files.now) (g.F.Folder.state c.operands_of.new.files)
+    (request_of c.args.accepted.asked) _ c.in-Ok-operands_of.operands.entries.items c.in-Ok-operands_of.operands.bounds.items
+    c.path_of-path.ensures refl (c.in-Ok.ensures ∙ c.as_slice.ensures.value) (c.in-Ok-operands_of.ensures.read words accepted)
+    c.requires.kernel
+    (run_of_request (request_of c.args.accepted.asked) c.as_slice-2.result.now c.as_slice-2.ensures.value
+    c.in-Ok-operands_of.operands.entries.items c.in-Ok-operands_of.operands.bounds.items c.args.accepted.compiled.kernel
+    c.in-Ok-run_kernel.result.shape c.in-Ok-run_kernel.result.entries c.in-Ok-run_kernel.result.tensor
+    c.in-Ok-run_kernel.result.turns c.in-Ok-run_kernel.ensures.run)
+    c.in-Ok-run_kernel.ensures.written
+
+pub returns-clause-stops : goal.returns-clause-stops
+returns-clause-stops g c = λ words accepted.
+    stops_uncomputed words (g.F.Folder.state c.args.files.now) (g.F.Folder.state c.operands_of.new.files)
+    (request_of c.args.accepted.asked) c.in-Ok-operands_of.operands.entries.items c.in-Ok-operands_of.operands.bounds.items
+    (c.in-Ok-operands_of.ensures.read words accepted) c.fault_of.result
+    (uncomputed_of_request (request_of c.args.accepted.asked) c.as_slice-2.result.now c.as_slice-2.ensures.value
+    c.in-Ok-operands_of.operands.entries.items c.in-Ok-operands_of.operands.bounds.items c.fault_of.result
+    (c.fault_of.ensures c.args.accepted.asked.bindings.formats.items c.as_slice-2.result.now
+    c.in-Ok-operands_of.operands.entries.items c.in-Ok-operands_of.operands.bounds.items c.in-Err-run_kernel.ensures.refused))

@@ -1,0 +1,37 @@
+use Rattle.std.proofs.Common.{◌≡◌, ℕ, List, subst, inl, inr, Bor}
+use Rattle.std.specs.Option.{option_map}
+use Rattle.numbers.specs.Ring.{ring}
+use Rattle.tensor_map.specs.Entries.{value_at}
+use Rattle.result_files.specs.Writes.{RefusesResult}
+use Rattle.result_files.specs.declared.refusal.WriteRefusal.TheVariants as write
+use Rattle.taco_top.proofs.Stopped.{written, unwritten}
+use Rattle.taco_top.proofs.writing.write.Goals as goal
+
+pub returns-in-Ok : goal.returns-in-Ok
+returns-in-Ok g c = λ words before reads is.
+    written words before (g.F.Folder.state c.args.files.now) (g.F.Folder.state c.write_result.new.files) (g.O.Sink.state c.args.out.now)
+    (g.O.Sink.state c.write_result.new.out) c.args.computed.now reads is c.in-Ok.ensures.written
+
+pub returns-in-Err-Fault : goal.returns-in-Err-Fault
+returns-in-Err-Fault g c = λ words before reads is.
+    let told = c.in-Err-Fault.field-0-is in
+    let same : c.in-Err-Fault.field-0 ≡ write.Fault = cc in
+    inl (unwritten words before (g.F.Folder.state c.args.files.now) (g.F.Folder.state c.write_result.new.files)
+    (g.O.Sink.state c.args.out.now) (g.O.Sink.state c.write_result.new.out) c.args.computed.now reads is write.Fault
+    (subst (λ why. RefusesResult ring (option_map (λ (p : Bor (List ℕ)). p.now) c.args.computed.now.path)
+    c.args.computed.now.result.shape (value_at ring c.args.computed.now.result.entries.list) (g.F.Folder.state c.args.files.now)
+    (g.F.Folder.state c.write_result.new.files) (g.O.Sink.state c.args.out.now) (g.O.Sink.state c.write_result.new.out) why) same
+    c.in-Err-Fault.ensures.refused))
+
+pub returns-in-Err-Memory : goal.returns-in-Err-Memory
+returns-in-Err-Memory g c = λ words before reads is.
+    let told = c.in-Err-Memory.field-0-is in
+    let same : c.in-Err-Memory.field-0 ≡ (write.Memory c.in-Err-Memory.field-0-0) = cc in
+    inr (inl (option_map (λ (p : Bor (List ℕ)). p.now) c.args.computed.now.path, c.in-Err-Memory.field-0-0,
+    unwritten words before (g.F.Folder.state c.args.files.now) (g.F.Folder.state c.write_result.new.files)
+    (g.O.Sink.state c.args.out.now) (g.O.Sink.state c.write_result.new.out) c.args.computed.now reads is
+    (write.Memory c.in-Err-Memory.field-0-0)
+    (subst (λ why. RefusesResult ring (option_map (λ (p : Bor (List ℕ)). p.now) c.args.computed.now.path)
+    c.args.computed.now.result.shape (value_at ring c.args.computed.now.result.entries.list) (g.F.Folder.state c.args.files.now)
+    (g.F.Folder.state c.write_result.new.files) (g.O.Sink.state c.args.out.now) (g.O.Sink.state c.write_result.new.out) why) same
+    c.in-Err-Memory.ensures.refused)))
