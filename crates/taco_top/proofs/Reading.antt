@@ -96,7 +96,8 @@ request_runnable : (words : List (List ℕ)) (old new : FolderState) (r : Reques
 request_runnable words old new r entries bounds operands numbered =
     let names = operands.accepted.asks.names in
     read_is_runnable ring true names.text r.statement names.notation names.names numbered operands.accepted.asks.rest
-    (needs_files r.task) r.formats r.files r.given operands.accepted.asks.binds old new (asked_paths r) (length (asked_paths r)) entries bounds
+    (needs_files r.task) r.formats r.files r.given operands.accepted.asks.binds old new (asked_paths r) (length (asked_paths r)) entries
+    bounds
     (request_readable words r operands.reads operands.accepted numbered) refl operands.read
 
 -- the ranges that were handed in are those of the request

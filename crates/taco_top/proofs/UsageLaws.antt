@@ -99,7 +99,8 @@ module _ (words : List (List ℕ)) (files files' : FolderState) (out out' : Sink
         by (task, rest, names, is) = absurd (never names.line)
     found (Refused (fault.Named s (named.Cycle cycle))) cause = absurd (never cause.stops.1.asks.names.line)
     found (Refused (fault.Named s (named.Range why))) cause = absurd (never cause.stops.operands.accepted.asks.names.line)
-    found (Refused (fault.Named s (named.SizeLimit tensor level count))) cause = absurd (never cause.stops.operands.accepted.asks.names.line)
+    found (Refused (fault.Named s (named.SizeLimit tensor level count))) cause =
+        absurd (never cause.stops.operands.accepted.asks.names.line)
     found (Refused (fault.WorkspaceLimit count)) cause = absurd (never cause.stops.operands.accepted.asks.names.line)
     found (Refused (fault.ReadFault path)) cause = absurd (never cause.stops.accepted.asks.names.line)
     found (Refused (fault.FileBytes path)) cause = absurd (never cause.stops.accepted.asks.names.line)

@@ -79,7 +79,8 @@ one_request words r q asks other =
     other in
     let formats = request.same_formats words r.task q.task r.statement q.statement r.formats q.formats r.files q.files r.given q.given asks
     other in
-    let fs = request.same_files words r.task q.task r.statement q.statement r.formats q.formats r.files q.files r.given q.given asks other in
+    let fs = request.same_files words r.task q.task r.statement q.statement r.formats q.formats r.files q.files r.given q.given asks
+    other in
     let gs = request.same_ranges words r.task q.task r.statement q.statement r.formats q.formats r.files q.files r.given q.given asks
     other in
     λ i. record { task = t i; statement = s i; formats = formats i; files = fs i; given = gs i }
@@ -134,7 +135,8 @@ module _ (words : List (List ℕ)) (files : FolderState) (whole : IsWhole words 
   -- ---- no stage has a cause
   module _ (new : FolderState) (no_fault : Rose files.read_faults new.read_faults → ⊥) where
     never_by_words : (why : Fault) → IsRefusedByWords words why → IsWant why
-    never_by_words why is = request.never_both words whole.request.task whole.request.statement whole.request.formats whole.request.files whole.request.given
+    never_by_words why is =
+        request.never_both words whole.request.task whole.request.statement whole.request.formats whole.request.files whole.request.given
         why whole.accepted.asks is
 
     no_range_fault : (s : Statement) (why : RangeFault) → HasRangeFault words files new s why → ⊥

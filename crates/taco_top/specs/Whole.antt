@@ -26,8 +26,8 @@ bound_told bounds tensor mode = bound_or_none (slice_get (modes_told bounds tens
 abbrev pub ranges_told : Statement → List (Option ℕ) → List Operand → Result (List ℕ) RangeFault
 ranges_told s given operands = ranges_of s (given_at given) (bound_told (map (λ operand. operand.bounds) operands))
 
--- the words of `run` or `report` pass, and there is a loop order; every operand's file is there and stands for entries; the ranges agree; no level of an
--- operand or of the result's storage has more positions than may be; and no workspace needs more pairs
+-- the words of `run` or `report` pass, and there is a loop order; every operand's file is there and stands for entries; the ranges
+-- agree; no level of an operand or of the result's storage has more positions than may be; and no workspace needs more pairs
 pub record IsWhole (words : List (List ℕ)) (holds : List ℕ → Told) : Type 0 where
   pub request : Request
   pub operands : List Operand

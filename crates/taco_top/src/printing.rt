@@ -42,10 +42,7 @@ pub(crate) fn tell_kernel<'a, O: Sink>(
 }
 
 /// Prints the report of a run.
-pub(crate) fn tell_run<'a, O: Sink>(
-    out: &mut O,
-    computed: &Computed<'a>,
-) -> Result<Done, Fault<'a>>
+pub(crate) fn tell_run<'a, O: Sink>(out: &mut O, computed: &Computed<'a>) -> Result<Done, Fault<'a>>
     requires { (words : List (List ℕ)) × (files : FolderState) × (between : FolderState)
         × IsPrepared words task.Report files between computed.now }
     ensures { (words : List (List ℕ)) (files between : FolderState) → OnlyReads files between

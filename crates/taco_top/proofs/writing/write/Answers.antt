@@ -27,11 +27,14 @@ pub returns-in-Err-Memory : goal.returns-in-Err-Memory
 returns-in-Err-Memory g c = λ words before reads is.
     let told = c.in-Err-Memory.field-0-is in
     let same : c.in-Err-Memory.field-0 ≡ (write.Memory c.in-Err-Memory.field-0-0) = cc in
-    inr (inl (option_map (λ (p : Bor (List ℕ)). p.now) c.args.computed.now.path, c.in-Err-Memory.field-0-0,
-    unwritten words before (g.F.Folder.state c.args.files.now) (g.F.Folder.state c.write_result.new.files)
-    (g.O.Sink.state c.args.out.now) (g.O.Sink.state c.write_result.new.out) c.args.computed.now reads is
-    (write.Memory c.in-Err-Memory.field-0-0)
-    (subst (λ why. RefusesResult ring (option_map (λ (p : Bor (List ℕ)). p.now) c.args.computed.now.path)
-    c.args.computed.now.result.shape (value_at ring c.args.computed.now.result.entries.list) (g.F.Folder.state c.args.files.now)
-    (g.F.Folder.state c.write_result.new.files) (g.O.Sink.state c.args.out.now) (g.O.Sink.state c.write_result.new.out) why) same
-    c.in-Err-Memory.ensures.refused)))
+    inr (inl (
+      option_map (λ (p : Bor (List ℕ)). p.now) c.args.computed.now.path,
+      c.in-Err-Memory.field-0-0,
+      unwritten words before (g.F.Folder.state c.args.files.now) (g.F.Folder.state c.write_result.new.files)
+          (g.O.Sink.state c.args.out.now) (g.O.Sink.state c.write_result.new.out) c.args.computed.now reads is
+          (write.Memory c.in-Err-Memory.field-0-0)
+          (subst (λ why. RefusesResult ring (option_map (λ (p : Bor (List ℕ)). p.now) c.args.computed.now.path)
+          c.args.computed.now.result.shape (value_at ring c.args.computed.now.result.entries.list) (g.F.Folder.state c.args.files.now)
+          (g.F.Folder.state c.write_result.new.files) (g.O.Sink.state c.args.out.now) (g.O.Sink.state c.write_result.new.out) why) same
+          c.in-Err-Memory.ensures.refused),
+    ))
