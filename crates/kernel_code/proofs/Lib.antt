@@ -1,4 +1,3 @@
-pub mod ArrayLemmas
 pub mod ArrayNames
 pub mod Does
 pub mod Equations
@@ -7,9 +6,7 @@ pub mod Lemmas
 pub mod More
 pub mod RunLemmas
 pub mod SortLemmas
-pub mod StoreLemmas
 pub mod SumLemmas
-pub mod ToldLemmas
 pub mod TurnsLemmas
 pub mod Widths
 pub mod Words

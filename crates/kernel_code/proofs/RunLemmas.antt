@@ -5,8 +5,6 @@ use Rattle.std.proofs.lemmas.Bool.Decides.{nat_tests}
 use Rattle.kernel_code.specs.declared.syntax.LoopKind.{LoopKind}
 use Rattle.kernel_code.specs.declared.syntax.KExpr.{KExpr}
 use Rattle.kernel_code.specs.declared.syntax.KStmt.{KStmt, If}
-use Rattle.kernel_code.specs.declared.machine.Ending.{Ending}
-use Rattle.kernel_code.specs.declared.machine.Ending.TheVariants as ending
 use Rattle.kernel_code.specs.Meaning.{Setting, State, Outcome, Ended, Stuck, Over, More, value, one_turn, then_run, choice, run, run_list}
 use Rattle.kernel_code.specs.Meaning.{run_turns}
 use Rattle.kernel_code.proofs.Equations.{run_if}
@@ -14,7 +12,6 @@ use Rattle.kernel_code.specs.Kernels.{all_turns, within}
 use Rattle.kernel_code.specs.Turns.{AtLeast}
 use Rattle.kernel_code.proofs.TurnsLemmas.{at_least_turns, at_least_list, one_turn_more, within_then, within_beyond, within_ended}
 use Rattle.kernel_code.proofs.TurnsLemmas.{within_stuck, at_least_after_turn}
-use Rattle.kernel_code.specs.Store.{outcome_of, has_ended}
 
 -- a run that has ended was within the bound
 within_test : (b : Bool) (n m : ℕ) (s s' : State) → nat_le (all_turns s'.turns) n ≡ b → Ended s ≡ (if b then Ended s' else More)
@@ -47,19 +44,6 @@ ended_within n s (Ended s') h = within_test (nat_le (all_turns s'.turns) n) n n 
 ended_within n s (Stuck t) h = stuck_apart (nat_le (all_turns t) n) n s t h
 ended_within n s (Over t a count) h = over_apart (nat_le (all_turns t) n) n s (Over t a count) (λ e. cc) h
 ended_within n s More h = cc
-
--- what hasn't ended stops what follows
-pub not_ended : (e : Ending) (s : State) (next : State → Outcome) → has_ended e ≡ false → outcome_of e s ≡ then_run (outcome_of e s) next
-not_ended ending.Ended s next h = cc
-not_ended ending.Stuck s next h = refl
-not_ended (ending.Over a count) s next h = refl
-not_ended ending.More s next h = refl
-
-pub is_ended : (e : Ending) (s : State) → has_ended e ≡ true → outcome_of e s ≡ Ended s
-is_ended ending.Ended s h = refl
-is_ended ending.Stuck s h = cc
-is_ended (ending.Over a count) s h = cc
-is_ended ending.More s h = cc
 
 -- a statement of a list, and the rest
 pub first_then : (c : Setting) (n : ℕ) (s : KStmt) (rest : List KStmt) (st : State) (o : Outcome) → o ≡ within n (run c n s st)

@@ -7,6 +7,5 @@ pub mod Meaning
 pub mod More
 pub mod Pieces
 pub mod Rows
-pub mod Store
 pub mod Turns
 pub mod Widths

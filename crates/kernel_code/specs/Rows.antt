@@ -3,8 +3,6 @@ use Rattle.std.specs.Prelude.{ℕ, ◌+◌, Bool, nat_lt, if◌then◌else◌, L
 use Rattle.std.specs.declared.cmp.Ordering.{Ordering}
 use Rattle.std.specs.Ordering.{nat_cmp, is_lt, is_eq}
 use Rattle.std.specs.Cmp.Lexicographic.{slice_cmp}
-use Rattle.kernel_code.specs.declared.rows.ListRow.{ListRow}
-use Rattle.kernel_code.specs.declared.sums.PlacedRow.{PlacedRow}
 use Rattle.numbers.specs.Arithmetic.{Arithmetic}
 
 -- an element among sorted ones: before the first that isn't before it
@@ -16,6 +14,11 @@ insert_by before r (q ∷ qs) = if before q r then q ∷ insert_by before r qs e
 abbrev pub sorted_by : {X : Type 0} → (X → X → Bool) → List X → List X
 sorted_by before [] = []
 sorted_by before (r ∷ rs) = insert_by before r (sorted_by before rs)
+
+-- a row of a scratch list
+pub record ListRow : Type 0 where
+  pub coordinate : ℕ
+  pub position : ℕ
 
 -- the rows of a scratch list
 abbrev pub list_rows : List ℕ → List ℕ → List ListRow
@@ -66,7 +69,3 @@ rows_from columns i (v ∷ vs) = record { keys = keys_at columns i; value = v } 
 -- column k of rows
 abbrev pub column_of : ℕ → List Row → List ℕ
 column_of k rows = map (λ r. slice_index r.keys k) rows
-
--- a row of which only the place of its keys is kept
-abbrev pub row_of : List (List ℕ) → PlacedRow → Row
-row_of columns p = record { keys = keys_at columns p.place; value = p.value }

@@ -1,19 +1,13 @@
-//! The kernel language: the code that a statement is compiled to, what it means, and how it runs.
+//! The kernel language: the code that a statement is compiled to, and what it means.
 //! `syntax` has the expressions, statements and kernels; `specs/Meaning.antt` says what a run of them
-//! does, `specs/Kernels.antt` what a kernel does within so many turns; `machine` runs them over vectors,
-//! and its contract is that meaning. `specs/Does.antt` and `specs/Keeps.antt` have the rules by which
-//! crates above reason about code, and `laws` the main ones as contracts.
+//! does, `specs/Kernels.antt` what a kernel does within so many turns. `specs/Does.antt` and
+//! `specs/Keeps.antt` have the rules by which crates above reason about code, and `laws` the main ones as
+//! contracts.
 #![tactic(auto)]
 
-mod arrays;
 mod builders;
 mod copies;
 mod laws;
-mod machine;
-mod operators;
-mod rows;
-mod runs;
-mod sums;
 mod syntax;
 
 pub use builders::{binary, one_statement, position_and_next, word_at};
@@ -22,5 +16,4 @@ pub use laws::{
     code_is_made_of_parts, expressions_depend_on_what_they_mention, kernels_start_on_what_is_given,
     more_turns_do_the_same, turns_are_only_added,
 };
-pub use machine::{Ending, Machine};
 pub use syntax::{Arr, KExpr, KStmt, Kernel, LoopKind, Op, Place, Turns, ValueOp};

@@ -2,7 +2,7 @@
 use Rattle.std.specs.Prelude.{◌≡◌, List, [], ◌∷◌, ◌++◌, map, refl}
 use Rattle.std.proofs.Common.{◌∙◌, ap}
 use Rattle.std.proofs.lemmas.List.{map-append}
-use Rattle.kernel_code.specs.declared.rows.ListRow.{ListRow}
+use Rattle.kernel_code.specs.Rows.{ListRow}
 use Rattle.machine_parts.specs.declared.rows.ScratchRow.{ScratchRow}
 use Rattle.machine_parts.specs.Rows.{as_row}
 

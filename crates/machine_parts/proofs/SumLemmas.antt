@@ -81,14 +81,6 @@ map_reverse f (x ∷ xs) =
     ap (map f) (reverse-append (x ∷ []) xs) ∙ map-append f (reverse xs) (x ∷ []) ∙ ap (λ ys. ys ++ f x ∷ []) (map_reverse f xs)
     ∙ sym (reverse-append (f x ∷ []) (map f xs))
 
-pub joins : (a : Arithmetic) (r q : Row) (qs : List Row) → is_eq (compare_keys r.keys q.keys) ≡ true
-    → record { keys = q.keys; value = a.plus r.value q.value } ∷ qs ≡ join_row a r (q ∷ qs)
-joins a r q qs h = sym (ap (λ b. if b then record { keys = q.keys; value = a.plus r.value q.value } ∷ qs else r ∷ (q ∷ qs)) h)
-
-pub joins_not : (a : Arithmetic) (r q : Row) (qs : List Row) → is_eq (compare_keys r.keys q.keys) ≡ false
-    → r ∷ (q ∷ qs) ≡ join_row a r (q ∷ qs)
-joins_not a r q qs h = sym (ap (λ b. if b then record { keys = q.keys; value = a.plus r.value q.value } ∷ qs else r ∷ (q ∷ qs)) h)
-
 -- rows joined ahead of sums
 abbrev pub onto : Arithmetic → List Row → List Row → List Row
 onto a [] sums = sums
@@ -131,13 +123,6 @@ other_column s w count k keys columns xs h g n l =
     none_stays s w count (suc k) keys (omega arith)
     (ap (λ cs. one_more_column count cs (s.arrays (Key w k))) h ∙ ap (one_more_column count (Some columns)) g
     ∙ ap (λ b. if b then Some (columns ++ xs ∷ []) else None) (other_length (length xs) count n))
-
-pub next_column : (s : State) (w count k : ℕ) (columns : List (List ℕ)) (xs : List ℕ) → key_columns s w count k ≡ Some columns
-    → s.arrays (Key w k) ≡ Some xs → length xs ≡ count → key_columns s w count (suc k) ≡ Some (columns ++ xs ∷ [])
-next_column s w count k columns xs h g n =
-    let same : (length xs == count) ≡ true = grind (arith, nat_tests) in
-    ap (λ cs. one_more_column count cs (s.arrays (Key w k))) h ∙ ap (one_more_column count (Some columns)) g
-    ∙ ap (λ b. if b then Some (columns ++ xs ∷ []) else None) same
 
 pub read_more : (columns : List (Bor (List ℕ))) (c : Bor (List ℕ)) → read (columns ++ c ∷ []) ≡ read columns ++ c.now ∷ []
 read_more columns c = map-append (λ (c : Bor (List ℕ)). c.now) columns (c ∷ [])

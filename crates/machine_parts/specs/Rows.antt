@@ -1,7 +1,6 @@
 -- Rows as the machine has them while it sorts.
 use Rattle.std.specs.Prelude.{ℕ, List}
-use Rattle.kernel_code.specs.declared.rows.ListRow.{ListRow}
-use Rattle.kernel_code.specs.Rows.{Row, keys_at}
+use Rattle.kernel_code.specs.Rows.{ListRow, Row, keys_at}
 use Rattle.machine_parts.specs.declared.rows.ScratchRow.{ScratchRow}
 use Rattle.machine_parts.specs.declared.sums.PlacedRow.{PlacedRow}
 

@@ -10,8 +10,8 @@ use Rattle.kernel_steps.specs.Memory.{NeedsNone, Through, Throughout}
 use Rattle.kernel_steps.specs.Store.{state_of, outcome_of, has_ended, setting}
 use Rattle.kernel_steps.proofs.MemoryLemmas.{first_body, second_body, loop_body, through_here, through_rest, kept_room}
 use Rattle.kernel_code.proofs.Equations.{run_while}
-use Rattle.kernel_steps.proofs.RunLemmas.{ended_within, not_ended, is_ended, first_then, loop_ended, loop_stuck, loop_more, turn_then}
-use Rattle.kernel_steps.proofs.RunLemmas.{if_no, if_yes}
+use Rattle.kernel_steps.proofs.RunLemmas.{not_ended, is_ended}
+use Rattle.kernel_code.proofs.RunLemmas.{ended_within, first_then, loop_ended, loop_stuck, loop_more, turn_then, if_no, if_yes}
 use Rattle.kernel_steps.proofs.ToldLemmas.{told, told_if_ok}
 use Rattle.kernel_steps.proofs.runs.+run.Goals as goal
 

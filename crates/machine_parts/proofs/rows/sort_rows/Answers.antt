@@ -4,8 +4,8 @@ use Rattle.std.specs.Cmp.{nat_cmp_total}
 use Rattle.std.specs.Ordering.{is_lt, nat_cmp}
 use Rattle.std.proofs.lemmas.Fn.{always_returns_same}
 use Rattle.std.proofs.lemmas.List.Sorted.{ranks_by}
-use Rattle.kernel_code.specs.declared.rows.ListRow.{ListRow}
 use Rattle.kernel_code.proofs.SortLemmas.{stable_sort_is, by_numbers}
+use Rattle.kernel_code.specs.Rows.{ListRow}
 use Rattle.machine_parts.specs.declared.rows.ScratchRow.{ScratchRow}
 use Rattle.machine_parts.specs.Rows.{as_row}
 use Rattle.machine_parts.proofs.SumLemmas.{sorted_map}

@@ -1,8 +1,7 @@
 use Rattle.std.proofs.Common.{◌≡◌, ◌∙◌, Some, sym, ap, arith}
 use Rattle.std.specs.Prelude.{map}
 use Rattle.kernel_code.specs.declared.syntax.Arr.TheVariants.{ListCoordinates, ListPositions}
-use Rattle.kernel_code.specs.declared.rows.ListRow.{ListRow}
-use Rattle.kernel_code.specs.Rows.{list_rows, sorted_rows}
+use Rattle.kernel_code.specs.Rows.{ListRow, list_rows, sorted_rows}
 use Rattle.kernel_code.specs.Meaning.{State, set_array}
 use Rattle.kernel_code.proofs.SortLemmas.{sort_done}
 use Rattle.machine_parts.specs.declared.rows.ScratchRow.{ScratchRow}
