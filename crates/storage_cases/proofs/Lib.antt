@@ -1,3 +1,1 @@
-pub mod GivenWords
-pub mod Handing
-pub mod MayHand
+pub mod Opened

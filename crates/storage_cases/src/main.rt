@@ -1,12 +1,13 @@
-//! Runs cases of packed tensors: each case file that the command line names. It prints each case and what came of it, which
-//! is compared with the file `stdout`, where stands what must come.
+//! Runs cases of packed tensors and of levels of all kinds: each case file that the command line names. It prints each case and
+//! what came of it, which is compared with the file `stdout`, where stands what must come.
 //!
 //! A line of a case file is a case, or a comment that begins with `#`, or empty. A case is
 //!
 //! ```text
 //! FORMAT | RANGES | ENTRIES
 //! FORMAT | RANGES | ENTRIES | COORDINATES
-//! built: FORMAT | RANGES | ENTRIES | ARRAYS
+//! levels: FORMAT | RANGES | ENTRIES
+//! kind: LETTER
 //! ```
 //!
 //! The format is a word, as `ds` or `ds:1,0`, and nothing for a tensor of order 0. The ranges are those of the modes. Entries
@@ -16,53 +17,61 @@
 //! entries that the packed tensor gives back, and its text as tensor 1, named `A`. Want of memory is printed as such, and comes in
 //! no case.
 //!
-//! Of a case that begins with `built:`, arrays are handed over level by level, and what is printed is the text of the tensor
-//! that is made of them. The arrays of the levels from the top, and behind them the values, are parted by `;`. Those of a level are
-//! `pos NUMBERS crd COORDINATES`, where the number of positions of each parent stands behind a zero, not yet summed up, `crd
-//! COORDINATES` at a singleton level, `width WIDTH crd SLOTS` at a hashed one, with a minus in an empty slot, and nothing at a dense
-//! level. They are compared with those of the packed entries first, and handed over only where they are the same.
+//! Of a case that begins with `levels:`, the levels of the packed entries are asked by their calls. What is printed first is the kind
+//! of each level, from the top, and how many parents and positions it has. Then, for each span that may be asked, in the order of paths,
+//! come its segment, and the coordinates there with their children. At a level that locates coordinates, below one position, the places
+//! of the coordinates follow, from 0 up to the range itself, with a minus for none.
+//!
+//! Of a case that begins with `kind:`, the properties and the capabilities of the kind of level that the letter names are printed.
 #![tactic(auto)]
 
-mod answers;
-mod built;
-mod given;
+mod kinds;
+mod levels;
+mod packing;
+mod values;
 
 use anyhow::{Context, Result};
 use case_tensors::Case;
 use std::alloc::Global;
-use std::rt::{Env, Files};
+use std::fmt::Write;
 use std::{env, fs};
 
-/// What comes of the case of a line.
-fn texts_of(alloc: Global, line: &str) -> Result<Vec<String>> {
-    match line.split_once("built:") {
-        Some((_front, case)) => built::built_answers(alloc, case),
-        None => answers::answers_of(alloc, Case::read(alloc, line)?),
+/// What comes of the case of a line, in lines.
+fn answers_of(alloc: Global, line: &str) -> Result<Vec<String>> {
+    if let Some(letter) = line.strip_prefix("kind:") {
+        return kinds::answers(alloc, letter.trim());
     }
+    if let Some(case) = line.strip_prefix("levels:") {
+        return levels::answers(alloc, Case::read(alloc, case)?);
+    }
+    values::answers(alloc, Case::read(alloc, line)?)
 }
 
-/// Runs the case of a line, and prints what came.
-fn run_line<R: Print + AllocGlobal>(rt: &R, line: &str) -> Result<()> {
-    println!(rt; "{line}")?;
-    for answer in &texts_of(rt.alloc(), line)? {
-        println!(rt; "    {answer}")?;
+/// A case, and below it what came of it.
+fn case_text(alloc: Global, line: &str) -> Result<String> {
+    let mut text = format!(in alloc; "{line}\n")?;
+    for answer in &answers_of(alloc, line).context(format_args!("{line}"))? {
+        writeln!(text, "    {answer}")?;
     }
-    Ok(())
+    Ok(text)
 }
 
-fn run_file<R: Files + Print + AllocGlobal>(rt: &R, path: &str) -> Result<()> {
-    let text = fs::read_to_string(rt, path)?;
-    for line in text.lines() {
+/// What is printed of the cases of a file.
+fn cases_text(alloc: Global, lines: &str) -> Result<String> {
+    let mut text = String::new(alloc);
+    for line in lines.lines() {
         if !line.is_empty() && !line.starts_with('#') {
-            run_line(rt, line).context(format_args!("{line}"))?;
+            text.push_str(case_text(alloc, line)?.as_str())?;
         }
     }
-    Ok(())
+    Ok(text)
 }
 
 fn main(rt: HostRuntime) -> Result<()> {
     for path in env::args(&rt)?.skip(1) {
-        run_file(&rt, path.as_str()).context(format_args!("{path}"))?;
+        let lines = fs::read_to_string(&rt, path.as_str())?;
+        let text = cases_text(rt.alloc(), lines.as_str()).context(format_args!("{path}"))?;
+        print!(rt; "{text}")?;
     }
     Ok(())
 }

@@ -1,8 +1,9 @@
-// What comes of a case.
+//! The values of packed entries, the entries that the tensor gives back, and its text.
 ghost use Rattle.storage_arrays.specs.Arrays.{AreDone};
 
+use crate::packing::packed;
 use anyhow::{Context, Result, bail};
-use case_tensors::{Case, are_inside};
+use case_tensors::Case;
 use numbers::{Ring, signed};
 use outside::MemSink;
 use std::alloc::{AllocError, Global};
@@ -88,7 +89,7 @@ fn refusal_text(alloc: Global, refusal: PackRefusal) -> Result<String, AllocErro
 }
 
 /// Adds the lines of the text of a tensor, which is written in pieces.
-pub(crate) fn add_store_lines(alloc: Global, tensor: &Tensor, texts: &mut Vec<String>) -> Result<()>
+fn add_store_lines(alloc: Global, tensor: &Tensor, texts: &mut Vec<String>) -> Result<()>
     requires { AreDone 1 tensor.now.levels }
 {
     let mut sink = MemSink::new(alloc);
@@ -114,22 +115,15 @@ fn tensor_texts(alloc: Global, tensor: &Tensor, asked: &[Vec<u64>]) -> Result<Ve
     Ok(texts)
 }
 
-/// What comes of a case, in lines.
-pub(crate) fn answers_of(alloc: Global, case: Case) -> Result<Vec<String>> {
+/// What comes of packed entries, in lines.
+pub(crate) fn answers(alloc: Global, case: Case) -> Result<Vec<String>> {
     let Case {
         format,
         shape,
-        mut entries,
+        entries,
         asked,
     } = case;
-    entries.sort_sum::<Ring>()?;
-    if shape.order() != format.order() || entries.order() != format.order() {
-        bail!("another order");
-    }
-    if !are_inside(shape.ranges(), &entries) {
-        bail!("an entry beyond the ranges");
-    }
-    match Tensor::pack::<Ring>(alloc, format, &shape, &entries) {
+    match packed(alloc, format, &shape, entries)? {
         Ok(tensor) => {
             let asked = asked_coords(alloc, &shape, asked)?;
             tensor_texts(alloc, &tensor, asked.as_slice())

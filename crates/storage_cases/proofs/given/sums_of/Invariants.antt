@@ -1,6 +1,0 @@
-use Rattle.std.specs.Prelude.{◌≡◌, take}
-use Rattle.level_core.specs.Logs.{running, total}
-use Rattle.storage_cases.proofs.given.sums_of.Given as goal
-
-abbrev pub invariant-loop-number : goal.invariant-loop-number
-invariant-loop-number l = (l.sums.items ≡ running 0 (take l.number-index l.numbers)) × (l.sum ≡ total (take l.number-index l.numbers))
