@@ -1,12 +1,12 @@
 //! A second semiring: costs, of which the sum is the lesser one and the product both together.
 ghost use Rattle.std.specs.Prelude.{false};
-ghost use Rattle.kernel_cases.specs.Least.{least, least_laws, least_minus_laws};
+ghost use Rattle.semiring_cases.specs.Least.{least, least_laws, least_minus_laws};
 
 use numbers::Semiring;
 
 /// Costs up to 2^64 - 1, which is no way at all. There is no minus.
 #[derive(Drop)]
-pub struct Least;
+pub(crate) struct Least;
 
 impl Semiring for Least {
     ghost arithmetic = { least };
