@@ -20,7 +20,9 @@ fn semiring_text<S: Semiring>(alloc: Global, a: u64, b: u64) -> Result<String, A
     let name = S::NAME;
     match S::minus_one() {
         None => format!(in alloc; "    {name}: plus {sum} times {product}\n"),
-        Some(minus) => format!(in alloc; "    {name}: plus {sum} times {product} minus one {minus}\n"),
+        Some(minus) => format!(in alloc;
+            "    {name}: plus {sum} times {product} minus one {minus}\n"
+        ),
     }
 }
 

@@ -137,12 +137,6 @@ pub(crate) fn answers(alloc: Global, case: Case) -> Result<Vec<String>> {
     let mut texts = Vec::new(alloc);
     add_positions(alloc, tensor.levels(), 1, &mut texts)?;
     let top = Span { lo: 0, hi: 1 };
-    add_levels(
-        alloc,
-        tensor.levels(),
-        ranges.as_slice(),
-        top,
-        &mut texts,
-    )?;
+    add_levels(alloc, tensor.levels(), ranges.as_slice(), top, &mut texts)?;
     Ok(texts)
 }
