@@ -43,7 +43,7 @@ fn coords_of(alloc: Global, text: &str, order: usize) -> Result<Vec<u64>>
 }
 
 /// The format of a word `LETTERS` or `LETTERS:ORDER`.
-pub fn format_of(alloc: Global, word: &str, order: usize) -> Result<Format> {
+fn format_of(alloc: Global, word: &str, order: usize) -> Result<Format> {
     if order as u64 > greatest_order_of_tensor() {
         bail!("too great an order");
     }

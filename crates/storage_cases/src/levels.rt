@@ -5,9 +5,8 @@ ghost use Rattle.tensor_storage.specs.Levels.{meaning};
 ghost use Rattle.tensor_storage.specs.Storages.{IsOpen};
 ghost use Rattle.storage_arrays.specs.Arrays.{AreDone};
 
-use crate::packing::packed;
 use anyhow::{Context, Result, bail};
-use case_tensors::Case;
+use case_tensors::{Case, packed};
 use format_spec::FormatLevel;
 use level_core::{Entry, Level, LevelKind, Span, positions_below, walk};
 use std::alloc::{AllocError, Global};

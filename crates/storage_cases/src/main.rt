@@ -27,7 +27,6 @@
 
 mod kinds;
 mod levels;
-mod packing;
 mod values;
 
 use anyhow::{Context, Result};

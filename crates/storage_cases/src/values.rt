@@ -1,9 +1,8 @@
 //! The values of packed entries, the entries that the tensor gives back, and its text.
 ghost use Rattle.storage_arrays.specs.Arrays.{AreDone};
 
-use crate::packing::packed;
 use anyhow::{Context, Result, bail};
-use case_tensors::Case;
+use case_tensors::{Case, packed};
 use numbers::{Ring, signed};
 use outside::MemSink;
 use std::alloc::{AllocError, Global};

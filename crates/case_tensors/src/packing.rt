@@ -1,17 +1,18 @@
-//! The packed tensor of a case.
+//! The tensor of a case, packed.
 ghost use Rattle.std.specs.Prelude.{IfOk};
 ghost use Rattle.storage_arrays.specs.Arrays.{AreDone};
 
+use crate::case::are_inside;
 use anyhow::{Result, bail};
-use case_tensors::are_inside;
 use format_spec::Format;
 use numbers::Ring;
 use std::alloc::Global;
 use tensor_map::{Entries, Shape};
 use tensor_storage::{PackRefusal, Tensor};
 
-/// What comes of packing entries, those with equal coordinates added. A case that means no tensor is refused with `?`.
-pub(crate) fn packed(
+/// What comes of packing entries, those with equal coordinates added. An error is a case that names no tensor, or want of memory
+/// before the entries are packed.
+pub fn packed(
     alloc: Global,
     format: Format,
     shape: &Shape,
