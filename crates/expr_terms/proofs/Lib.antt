@@ -8,7 +8,6 @@ pub mod NameLaws
 pub mod NameOnce
 pub mod OneGroup
 pub mod PointLaws
-pub mod ProductLaws
 pub mod PushedTerms
 pub mod RangeLaws
 pub mod RangesFound

@@ -12,11 +12,10 @@ use Rattle.index_notation.specs.declared.syntax.Access.{Access}
 use Rattle.index_notation.specs.declared.syntax.Statement.{Statement}
 use Rattle.expr_terms.proofs.PointLaws.{unequal}
 use Rattle.expr_terms.specs.Terms.{contains}
-use Rattle.expr_terms.specs.Products.{stands_at}
 use Rattle.expr_terms.proofs.TermLaws.{each_number}
 use Rattle.expr_terms.specs.Ranges.{greatest_of, Place, places_from, places_in, ranges_at, mode_size, reach, narrow_ranges, AtLeast}
 use Rattle.expr_terms.specs.Ranges.{RangeFault, exact_of, settled, range_of, and_range, ranges_or_first, ranges_of}
-use Rattle.expr_terms.specs.RangeLaws.{IsSomething}
+use Rattle.expr_terms.specs.RangeLaws.{stands_at, IsSomething}
 
 -- of two lists, one after the other
 pub greatest_append : (ms ns : List ℕ) → greatest_of (ms ++ ns) ≡ max (greatest_of ms) (greatest_of ns)

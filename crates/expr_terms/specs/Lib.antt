@@ -5,7 +5,6 @@ pub mod Names
 pub mod Operands
 pub mod PointLaws
 pub mod Points
-pub mod Products
 pub mod RangeLaws
 pub mod Ranges
 pub mod Result

@@ -1,21 +1,20 @@
 //! What follows from the definitions, as calls whose contract is the law. They do nothing.
-ghost use Rattle.std.specs.Prelude.{◌≡◌, ℕ, ◌-◌, ◌<◌, ◌^◌, Bool, true, false, not, List, ◌∷◌, [], map, length, Ok, None, slice_index};
+ghost use Rattle.std.specs.Prelude.{◌≡◌, ℕ, ◌<◌, ◌^◌, Bool, true, false, not, List, ◌∷◌, [], map, length, Ok, None, slice_index};
 ghost use Rattle.numbers.specs.Arithmetic.{Arithmetic, Laws, MinusLaws};
 ghost use Rattle.numbers.specs.Sums.{total_of};
-ghost use Rattle.index_notation.specs.Statement.{IsDistinct, IsNumbered, IsWellNamed, numbers_from};
+ghost use Rattle.index_notation.specs.Statement.{IsDistinct, IsWellNamed, numbers_from};
 ghost use Rattle.lists.specs.Each.{Each};
-ghost use Rattle.index_notation.specs.Numbering.{product_of};
 ghost use Rattle.index_notation.specs.declared.syntax.Access.{Access as AnAccess};
 ghost use Rattle.expr_terms.specs.Points.{point_of, sum_over};
-ghost use Rattle.expr_terms.specs.Value.{access_value, value_of, minus};
+ghost use Rattle.expr_terms.specs.Value.{value_of, minus};
 ghost use Rattle.expr_terms.specs.ValueLaws.{AgreeAt, AreWords, HasWords};
-ghost use Rattle.expr_terms.specs.Terms.{Term, terms, plain_term, negated_term, contains, stands_in, own_variables, term_value, term_sum};
+ghost use Rattle.expr_terms.specs.Terms.{Term, terms, negated_term, contains, stands_in, own_variables, term_value, term_sum};
 ghost use Rattle.expr_terms.specs.Terms.{statement_value};
 ghost use Rattle.std.specs.List.{flat_map};
 ghost use Rattle.std.specs.List.Sorted.{IsPermutation};
 ghost use Rattle.expr_terms.specs.Groups.{Group, groups, group_sum};
 ghost use Rattle.expr_terms.specs.GroupLaws.{AreApart, IsGroup};
-ghost use Rattle.expr_terms.specs.Products.{product_of_values, stands_at, IsProduct};
+ghost use Rattle.expr_terms.specs.RangeLaws.{stands_at};
 ghost use Rattle.expr_terms.specs.Ranges.{Bound, AtLeast, reach, narrow_ranges, ranges_of, mode_size};
 ghost use Rattle.tensor_map.specs.declared.entries.Entry.{Entry as AnEntry};
 
@@ -73,19 +72,6 @@ pub fn each_term_is_in_one_group()
     ensures all { (s : Statement) → IsPermutation (terms s.expr) (flat_map (λ (g : Group). g.terms) (groups s)) }
     ensures own { (s : Statement) → Each (IsGroup s) (groups s) }
     ensures apart { (s : Statement) → AreApart (groups s) }
-{}
-
-/// A product of accesses in which each variable stands is one term, whose own variables are the numbers after the
-/// left ones; the value of the statement is one sum of products over them.
-pub fn products_are_one_sum()
-    ensures own { (s : Statement) → IsNumbered s → IsWellNamed s → IsProduct s
-        → own_variables s (plain_term (product_of (length s.accesses)))
-        ≡ numbers_from (length s.left.vars) (length s.vars - length s.left.vars) }
-    ensures value { (a : Arithmetic) → Laws a → (s : Statement) → IsNumbered s → IsWellNamed s → IsProduct s
-        → (values : ℕ → List ℕ → ℕ) → AreWords values → (ranges : ℕ → ℕ) (coords : List ℕ)
-        → statement_value a s values ranges coords
-        ≡ sum_over a ranges (numbers_from (length s.left.vars) (length s.vars - length s.left.vars))
-        (λ p. product_of_values a (map (access_value values p) s.accesses)) (point_of s.left.vars coords) }
 {}
 
 /// Where no word gives a range and each mode only bounds it, the ranges of a statement whose variables all stand on

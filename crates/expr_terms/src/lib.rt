@@ -9,7 +9,6 @@ mod laws;
 mod lookups;
 mod minus;
 mod names;
-mod products;
 mod range;
 mod range_fault;
 mod term;
@@ -19,14 +18,12 @@ pub use bound::{Bound, Place, places_in};
 pub use group::{Group, Groups};
 pub use grouping::groups;
 pub use laws::{
-    each_term_is_in_one_group, groups_add_up, products_are_one_sum, ranges_without_words,
-    results_have_the_left_ranges, sums_change_places, terms_add_up, values_are_words,
-    values_depend_on_little,
+    each_term_is_in_one_group, groups_add_up, ranges_without_words, results_have_the_left_ranges,
+    sums_change_places, terms_add_up, values_are_words, values_depend_on_little,
 };
 pub use lookups::coords_at;
 pub use minus::has_meaning;
 pub use names::{NameFault, check_names, checked_statements_are_well_named, one_fault_of_names};
-pub use products::is_product;
 pub use range::ranges;
 pub use range_fault::RangeFault;
 pub use term::{Term, own_variables, stands_in, terms};

@@ -1,18 +1,13 @@
 -- Lemmas about what specs/NumberingLaws.antt defines.
-use Rattle.std.specs.Prelude.{◌≡◌, ℕ, zero, suc, ◌+◌, ◌<◌, ◌≤◌, Bool, true, false, cond, List, [], ◌∷◌, ◌++◌, length, map, refl}
+use Rattle.std.specs.Prelude.{◌≡◌, ℕ, ◌+◌, ◌<◌, ◌≤◌, Bool, true, false, cond, List, [], ◌∷◌, ◌++◌, length, map, refl}
 use Rattle.std.proofs.Common.{sym, ◌∙◌, ap, subst, arith}
-use Rattle.std.proofs.lemmas.List.{length-map}
 use Rattle.std.proofs.lemmas.Slice.Eq.{bytes_eq-Decides}
-use Rattle.limits.specs.Limits.{greatest_order, greatest_variables}
+use Rattle.limits.specs.Limits.{greatest_order}
 use Rattle.index_notation.specs.declared.syntax.Name.{Name}
-use Rattle.index_notation.specs.declared.syntax.Expr.{Access as AccessOf}
-use Rattle.index_notation.specs.declared.sentence.WrittenAccess.{WrittenAccess}
-use Rattle.index_notation.specs.declared.sentence.Sentence.{Sentence}
-use Rattle.index_notation.specs.Statement.{IsAccess, AccessesUnder, IsNumbered}
+use Rattle.index_notation.specs.declared.token.WrittenAccess.{WrittenAccess}
+use Rattle.index_notation.specs.Statement.{IsAccess}
 use Rattle.lists.specs.Each.{Each}
-use Rattle.index_notation.proofs.StatementLaws.{accesses_under_mul}
-use Rattle.index_notation.specs.Numbering.{is_same, place_of, without, distinct, name_of, accesses_of, variables_of, numbered}
-use Rattle.index_notation.specs.Numbering.{product_of, statement_of}
+use Rattle.index_notation.specs.Numbering.{is_same, place_of, without, distinct, name_of, variables_of, numbered}
 use Rattle.index_notation.specs.NumberingLaws.{Stands, Tested, Within, yes, no}
 
 pub tested : (b : Bool) → Tested b
@@ -114,28 +109,3 @@ numbered_are_accesses tensors vars (access ∷ accesses) t v o = (
   numbered_are_accesses tensors vars accesses (λ name s. t name (stands_later name access.name (map name_of accesses) s))
       (λ name s. v name (stands_back name access.vars (variables_of accesses) s)) o.1,
 )
-
--- a product reads the accesses below their number
-pub product_reads_below : (n k : ℕ) → n < k → AccessesUnder k (product_of (suc n))
-product_reads_below zero k h = h
-product_reads_below (suc n) k h =
-    rw (accesses_under_mul k (product_of (suc n)) (AccessOf (suc n))) (product_reads_below n k (omega arith), h)
-
--- the numbers of a sentence's statement stand in its lists
-pub statement_is_numbered : (w : Sentence) → length w.left.vars ≤ greatest_order
-    → Each (λ access. length access.vars ≤ greatest_order) (w.first ∷ w.more) → length (statement_of w).vars ≤ greatest_variables
-    → IsNumbered (statement_of w)
-statement_is_numbered w left right variables =
-    let all = accesses_of w in
-    let tensors = distinct (map name_of all) in
-    let vars = distinct (variables_of all) in
-    let stand = numbered_are_accesses tensors vars all (λ name s. stands_distinct name (map name_of all) s)
-    (λ name s. stands_distinct name (variables_of all) s) (left, right) in
-    record {
-      left = stand.0;
-      right = stand.1;
-      expr = product_reads_below (length w.more) (length (map (numbered tensors vars) (w.first ∷ w.more)))
-          (let h : length (map (numbered tensors vars) (w.first ∷ w.more)) ≡ length (w.first ∷ w.more) =
-          length-map (w.first ∷ w.more) (numbered tensors vars) in omega arith);
-      variables = variables;
-    }

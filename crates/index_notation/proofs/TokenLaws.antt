@@ -1,14 +1,13 @@
--- Lemmas about what specs/TokenLaws.antt defines.
+-- A text begins with one token at most.
 use Rattle.std.specs.Prelude.{◌≡◌, ℕ, Bool, true, false, Some, List, [], ◌∷◌, ◌++◌, refl}
 use Rattle.std.specs.Char.{is_ascii_alphabetic, is_ascii_digit}
 use Rattle.std.proofs.Common.{sym, ◌∙◌, ap, subst, arith}
 use Rattle.std.proofs.lemmas.Bool.Decides.{nat_tests}
-use Rattle.index_notation.specs.declared.sentence.Mark.{Mark}
-use Rattle.index_notation.specs.declared.sentence.Mark.TheVariants.{Equals, Plus, Minus, Times, Open, Close, Comma}
-use Rattle.index_notation.specs.declared.sentence.Token.{Token}
-use Rattle.index_notation.specs.declared.sentence.Token.TheVariants.{Name as NameToken, Number as NumberToken, Mark as MarkToken}
-use Rattle.index_notation.specs.Tokens.{goes_on, BeginsWith, StopsAt, EachPasses, byte_of, spelling, StandsBefore, IsNext, IsTokens}
-use Rattle.index_notation.specs.TokenLaws.{mark_at}
+use Rattle.index_notation.specs.declared.token.Mark.{Mark}
+use Rattle.index_notation.specs.declared.token.Mark.TheVariants.{Equals, Plus, Minus, Times, Open, Close, Comma}
+use Rattle.index_notation.specs.declared.token.Token.{Token}
+use Rattle.index_notation.specs.declared.token.Token.TheVariants.{Name as NameToken, Number as NumberToken, Mark as MarkToken}
+use Rattle.index_notation.specs.Tokens.{goes_on, BeginsWith, StopsAt, EachPasses, byte_of, mark_at, spelling, StandsBefore, IsNext}
 
 -- what passes a test, taken as long as possible, ends at one place
 pub longest_once : (test : ℕ → Bool) (xs ys r s : List ℕ) → EachPasses test xs → EachPasses test ys → StopsAt test r → StopsAt test s
@@ -104,14 +103,3 @@ token_full (MarkToken m) r h e = cc
 
 pub next_once : (text : List ℕ) (t u : Token) (r s : List ℕ) → IsNext text t r → IsNext text u s → (t ≡ u) × (r ≡ s)
 next_once text t u r s h k = token_once t u r s h.stands k.stands (sym h.spelled ∙ k.spelled)
-
--- a text has one token list at most
-pub tokens_once : (text : List ℕ) (ts us : List Token) → IsTokens text ts → IsTokens text us → ts ≡ us
-tokens_once text [] [] h k = refl
-tokens_once text [] (u ∷ us) h k = absurd (token_full u k.0 k.1.stands (sym k.1.spelled ∙ h))
-tokens_once text (t ∷ ts) [] h k = absurd (token_full t h.0 h.1.stands (sym h.1.spelled ∙ k))
-tokens_once text (t ∷ ts) (u ∷ us) h k =
-    let same = next_once text t u h.0 k.0 h.1 k.1 in
-    let first : t ≡ u = same.0 in
-    let others : ts ≡ us = tokens_once k.0 ts us (subst (λ r. IsTokens r ts) same.1 h.2) k.2 in
-    cc

@@ -3,12 +3,7 @@ pub mod Grammar
 pub mod Notation
 pub mod Numbering
 pub mod NumberingLaws
-pub mod ProductTrees
-pub mod Sentence
-pub mod SentenceLaws
 pub mod Statement
 pub mod Symbols
-pub mod Text
-pub mod TokenLaws
 pub mod Tokens
 pub mod TreeStatement

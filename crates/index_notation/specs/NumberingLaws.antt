@@ -1,4 +1,4 @@
--- The numbers of a sentence's statement stand in its lists.
+-- Names that stand in rows, and a test with its answer.
 use Rattle.std.specs.Prelude.{◌≡◌, ◌<◌, Bool, true, false, List, length}
 use Rattle.index_notation.specs.declared.syntax.Name.{Name}
 use Rattle.index_notation.specs.Numbering.{place_of}

@@ -1,6 +1,6 @@
 -- The symbols of a text: its tokens, taken as long as possible, and then its end or the first byte that begins none.
 use Rattle.std.specs.Prelude.{◌≡◌, ◌≢◌, ℕ, ◌-◌, List, [], ◌∷◌, length}
-use Rattle.index_notation.specs.declared.sentence.Token.{Token}
+use Rattle.index_notation.specs.declared.token.Token.{Token}
 use Rattle.index_notation.specs.declared.symbol.Symbol.{Symbol}
 use Rattle.index_notation.specs.declared.symbol.Symbol.TheVariants.{Lexeme, End, Stray}
 use Rattle.index_notation.specs.declared.symbol.PlacedSymbol.{PlacedSymbol}

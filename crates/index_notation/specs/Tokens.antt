@@ -1,10 +1,10 @@
 -- The tokens of a statement's text: its names, numbers and marks, with spaces and tabs anywhere between them.
-use Rattle.std.specs.Prelude.{◌≡◌, ℕ, Bool, true, false, ◌||◌, ◌==◌, if◌then◌else◌, List, [], ◌∷◌, ◌++◌}
+use Rattle.std.specs.Prelude.{◌≡◌, ℕ, Bool, true, false, ◌||◌, ◌==◌, if◌then◌else◌, Option, Some, None, List, [], ◌∷◌, ◌++◌}
 use Rattle.std.specs.Char.{is_ascii_alphabetic, is_ascii_alphanumeric, is_ascii_digit}
-use Rattle.index_notation.specs.declared.sentence.Mark.{Mark}
-use Rattle.index_notation.specs.declared.sentence.Mark.TheVariants.{Equals, Plus, Minus, Times, Open, Close, Comma}
-use Rattle.index_notation.specs.declared.sentence.Token.{Token}
-use Rattle.index_notation.specs.declared.sentence.Token.TheVariants.{Name as NameToken, Number as NumberToken, Mark as MarkToken}
+use Rattle.index_notation.specs.declared.token.Mark.{Mark}
+use Rattle.index_notation.specs.declared.token.Mark.TheVariants.{Equals, Plus, Minus, Times, Open, Close, Comma}
+use Rattle.index_notation.specs.declared.token.Token.{Token}
+use Rattle.index_notation.specs.declared.token.Token.TheVariants.{Name as NameToken, Number as NumberToken, Mark as MarkToken}
 use Rattle.lists.specs.Blanks.{is_blank}
 
 -- a letter, a digit or an underscore, with which a name goes on
@@ -47,6 +47,13 @@ byte_of Open = 40
 byte_of Close = 41
 byte_of Comma = 44
 
+-- the mark that a byte is
+abbrev pub mark_at : ℕ → Option Mark
+mark_at b =
+    if b == 61 then Some Equals else (if b == 43 then Some Plus else (if b == 45 then Some Minus else
+    (if b == 42 then Some Times else (if b == 40 then Some Open else (if b == 41 then Some Close else
+    (if b == 44 then Some Comma else None))))))
+
 -- the bytes of a token
 abbrev pub spelling : Token → List ℕ
 spelling (NameToken name) = name.bytes
@@ -63,8 +70,3 @@ StandsBefore (MarkToken mark) rest = Unit {0}
 pub record IsNext (text : List ℕ) (token : Token) (rest : List ℕ) : Type 0 where
   pub spelled : behind_blanks text ≡ spelling token ++ rest
   pub stands : StandsBefore token rest
-
--- a text is these tokens one after another, with blanks anywhere before, between and behind them
-abbrev pub IsTokens : List ℕ → List Token → Type 0
-IsTokens text [] = behind_blanks text ≡ []
-IsTokens text (token ∷ tokens) = (rest : List ℕ) × IsNext text token rest × IsTokens rest tokens

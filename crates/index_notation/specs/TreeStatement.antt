@@ -3,7 +3,7 @@
 use Rattle.std.specs.Prelude.{ℕ, ◌+◌, List, [], ◌∷◌, ◌++◌, map}
 use Rattle.index_notation.specs.declared.syntax.Expr.{Expr, Num, Access as AccessOf, Add, Sub, Mul, Neg}
 use Rattle.index_notation.specs.declared.syntax.Statement.{Statement}
-use Rattle.index_notation.specs.declared.sentence.WrittenAccess.{WrittenAccess}
+use Rattle.index_notation.specs.declared.token.WrittenAccess.{WrittenAccess}
 use Rattle.index_notation.specs.Grammar.{Factor, Digits, Read, Bracketed, Negated, Product, Lone, Multiplied, Sum, Alone, Added, Taken}
 use Rattle.index_notation.specs.Grammar.{Tree}
 use Rattle.index_notation.specs.Faults.{value_after}

@@ -2,8 +2,6 @@
 ghost use Rattle.std.specs.Prelude.{◌≡◌, ◌≢◌, ◌+◌, ◌<◌, ◌^◌, IsTrue, length};
 ghost use Rattle.index_notation.specs.Statement.{IsAccess, AccessesUnder, IsDistinct, HaveOneOrder, HaveOrders, numbers_from};
 ghost use Rattle.lists.specs.Each.{Each};
-ghost use Rattle.index_notation.specs.Numbering.{product_of};
-ghost use Rattle.index_notation.specs.declared.syntax.Expr.TheVariants.{Access as AccessOf};
 
 use crate::syntax::{Access, Expr, Statement};
 use limits::{greatest_order_of_tensor, greatest_variables_of_statement};
@@ -132,37 +130,6 @@ fn go_up_from(next: u64, numbers: &[usize]) -> bool
         return true;
     };
     *first as u64 == next && go_up_from(next + 1, others)
-}
-
-/// Whether an expression is the access of a number.
-fn is_access_of(expr: &Expr, number: usize) -> bool
-    ensures told { IsTrue result → expr.now ≡ AccessOf number }
-    ensures found { expr.now ≡ AccessOf number → IsTrue result }
-{
-    match expr {
-        Expr::Access(n) => *n == number,
-        _ => false,
-    }
-}
-
-impl Expr {
-    /// Whether the expression is the product of the first so many accesses, of which there is at least one, grouped to
-    /// the left.
-    pub fn is_product_of(&self, accesses: usize) -> bool
-        requires { 0 < accesses }
-        ensures told { IsTrue result → self.now ≡ product_of accesses }
-        ensures found { self.now ≡ product_of accesses → IsTrue result }
-    {
-        if accesses == 1 {
-            return is_access_of(self, 0);
-        }
-        match self {
-            Expr::Mul(first, second) => {
-                is_access_of(second.get(), accesses - 1) && first.get().is_product_of(accesses - 1)
-            }
-            _ => false,
-        }
-    }
 }
 
 impl Statement {

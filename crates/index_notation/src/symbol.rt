@@ -1,4 +1,4 @@
-use crate::sentence::Token;
+use crate::token::Token;
 
 /// A terminal symbol of a statement's text: a token, the end of the text, or a byte that begins no token.
 #[derive(Debug, Drop)]

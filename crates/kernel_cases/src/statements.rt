@@ -1,6 +1,6 @@
 use crate::entries::{Line, entries_of};
 use crate::least::Least;
-use expr_terms::{has_meaning, is_product, value_at};
+use expr_terms::{has_meaning, value_at};
 use index_notation::{Access, Expr, Name, Statement};
 use numbers::{Ring, Semiring};
 use std::alloc::{AllocError, Global};
@@ -34,8 +34,6 @@ struct Row {
     value: u64,
     /// The value over costs. There is none where a minus stands.
     cost: Option<u64>,
-    /// Whether the right side is the product of all accesses, grouped to the left, in which each variable stands.
-    is_product: bool,
 }
 
 const ONE_AND_TWO: &[Line] = &[(&[0], 1), (&[1], 2)];
@@ -56,7 +54,6 @@ const ROWS: [Row; 17] = [
         coords: &[],
         value: 8,
         cost: Some(1),
-        is_product: false,
     },
     Row {
         name: "a = 2 * (b(i) + 5)",
@@ -75,7 +72,6 @@ const ROWS: [Row; 17] = [
         coords: &[],
         value: 26,
         cost: Some(3),
-        is_product: false,
     },
     Row {
         name: "a = 2 - 3 * -4",
@@ -95,7 +91,6 @@ const ROWS: [Row; 17] = [
         coords: &[],
         value: 14,
         cost: None,
-        is_product: false,
     },
     Row {
         name: "a = -(b(i) - 5)",
@@ -108,7 +103,6 @@ const ROWS: [Row; 17] = [
         coords: &[],
         value: 2,
         cost: None,
-        is_product: false,
     },
     Row {
         name: "y(i) = A(i,j) * x(j)",
@@ -121,7 +115,6 @@ const ROWS: [Row; 17] = [
         coords: &[0],
         value: 28,
         cost: Some(11),
-        is_product: true,
     },
     Row {
         name: "y(i) = b(i) - c(j)",
@@ -134,7 +127,6 @@ const ROWS: [Row; 17] = [
         coords: &[1],
         value: 5,
         cost: None,
-        is_product: false,
     },
     Row {
         name: "y(i) = 3, past what is listed",
@@ -147,7 +139,6 @@ const ROWS: [Row; 17] = [
         coords: &[6],
         value: 3,
         cost: Some(3),
-        is_product: false,
     },
     Row {
         name: "y(i) = x(j), a left variable alone",
@@ -160,7 +151,6 @@ const ROWS: [Row; 17] = [
         coords: &[2],
         value: 3,
         cost: Some(1),
-        is_product: false,
     },
     Row {
         name: "a = b(i)",
@@ -173,7 +163,6 @@ const ROWS: [Row; 17] = [
         coords: &[],
         value: 3,
         cost: Some(1),
-        is_product: true,
     },
     Row {
         name: "C(i,j) = a(i) * b(j)",
@@ -186,7 +175,6 @@ const ROWS: [Row; 17] = [
         coords: &[1, 0],
         value: 15,
         cost: Some(8),
-        is_product: true,
     },
     Row {
         name: "C(i,j) = A(j,i)",
@@ -199,7 +187,6 @@ const ROWS: [Row; 17] = [
         coords: &[2, 1],
         value: 6,
         cost: Some(1),
-        is_product: true,
     },
     Row {
         name: "y(i) = x(i), without entries",
@@ -212,7 +199,6 @@ const ROWS: [Row; 17] = [
         coords: &[0],
         value: 0,
         cost: Some(LAST),
-        is_product: true,
     },
     Row {
         name: "C(i,j) = a(i) * b(j), too large a result",
@@ -225,7 +211,6 @@ const ROWS: [Row; 17] = [
         coords: &[65_535, 65_535],
         value: 1,
         cost: Some(2),
-        is_product: true,
     },
     Row {
         name: "y(i) = A(i,j), a coordinate past its range",
@@ -238,7 +223,6 @@ const ROWS: [Row; 17] = [
         coords: &[1],
         value: 0,
         cost: Some(LAST),
-        is_product: true,
     },
     Row {
         name: "y(i) = A(i,j) * (x(j) * b(i))",
@@ -257,7 +241,6 @@ const ROWS: [Row; 17] = [
         coords: &[1],
         value: 132,
         cost: Some(7),
-        is_product: false,
     },
     Row {
         name: "C(i,j) = A(i,j), too large an operand",
@@ -270,7 +253,6 @@ const ROWS: [Row; 17] = [
         coords: &[1, 1_073_741_823],
         value: 1,
         cost: Some(1),
-        is_product: true,
     },
     Row {
         name: "C(i,j,k) = a(i) * B(i,j,k), too large a level above one without positions",
@@ -283,7 +265,6 @@ const ROWS: [Row; 17] = [
         coords: &[1, 2, 0],
         value: 0,
         cost: Some(LAST),
-        is_product: true,
     },
 ];
 
@@ -381,7 +362,6 @@ fn assert_values(
     statement: &Statement,
     operands: &[Entries],
 ) -> Result<(), AllocError> {
-    assert_eq!(rt; is_product(statement), row.is_product, "{}", row.name);
     let value = value_of::<Ring>(rt, alloc, row, statement, operands)?;
     assert_eq!(rt; value, Some(row.value), "{}", row.name);
     let cost = value_of::<Least>(rt, alloc, row, statement, operands)?;
@@ -407,7 +387,6 @@ fn laws_of_statements(_rt: HostRuntime) {
     expr_terms::values_are_words();
     expr_terms::terms_add_up();
     expr_terms::groups_add_up();
-    expr_terms::products_are_one_sum();
     expr_terms::ranges_without_words();
     expr_terms::results_have_the_left_ranges();
 }

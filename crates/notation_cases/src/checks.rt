@@ -78,9 +78,5 @@ pub(crate) fn checked_numbers(alloc: Global, rest: &str) -> Result<String> {
     } else {
         ", not well named"
     })?;
-    let accesses = statement.accesses.len();
-    if accesses > 0 && statement.expr.is_product_of(accesses) {
-        out.push_str(", a product")?;
-    }
     Ok(out)
 }

@@ -4,7 +4,7 @@ use Rattle.std.proofs.Common.{sym, ◌∙◌, ap, append_assoc, arith}
 use Rattle.std.proofs.lemmas.List.{append-nil, drop_more, drop_all}
 use Rattle.std.proofs.lemmas.Bool.Decides.{Decides-eqb}
 use Rattle.index_notation.specs.declared.syntax.Name.{Name}
-use Rattle.index_notation.specs.declared.sentence.WrittenAccess.{WrittenAccess}
+use Rattle.index_notation.specs.declared.token.WrittenAccess.{WrittenAccess}
 use Rattle.index_notation.specs.Numbering.{is_same, place_of, without, distinct, name_of, variables_of}
 use Rattle.index_notation.specs.NumberingLaws.{Stands, yes, no}
 use Rattle.index_notation.proofs.NumberingLaws.{tested, same_names, place_here, place_later, stands_here, stands_later, stands_behind}

@@ -2,13 +2,13 @@
 use Rattle.std.specs.Prelude.{◌≡◌, ℕ, suc, ◌+◌, ◌-◌, Bool, true, false, Option, Some, None, List, [], ◌∷◌, ◌++◌, refl}
 use Rattle.std.proofs.Common.{sym, ◌∙◌, ap, arith}
 use Rattle.index_notation.specs.declared.syntax.Name.{Name}
-use Rattle.index_notation.specs.declared.sentence.WrittenAccess.{WrittenAccess}
+use Rattle.index_notation.specs.declared.token.WrittenAccess.{WrittenAccess}
 use Rattle.index_notation.specs.declared.syntax.Expr.{Expr, Access as AccessOf}
 use Rattle.notation_reader.specs.declared.builder.Joined.{Joined}
 use Rattle.notation_reader.specs.declared.builder.Frame.{Frame}
 use Rattle.notation_reader.specs.declared.builder.Builder.{Builder}
-use Rattle.index_notation.specs.declared.sentence.Mark.TheVariants.{Equals, Plus, Minus, Times, Open, Close, Comma}
-use Rattle.index_notation.specs.declared.sentence.Token.TheVariants.{Name as NameToken, Number as NumberToken, Mark as MarkToken}
+use Rattle.index_notation.specs.declared.token.Mark.TheVariants.{Equals, Plus, Minus, Times, Open, Close, Comma}
+use Rattle.index_notation.specs.declared.token.Token.TheVariants.{Name as NameToken, Number as NumberToken, Mark as MarkToken}
 use Rattle.index_notation.specs.declared.symbol.Symbol.{Symbol}
 use Rattle.index_notation.specs.declared.symbol.Symbol.TheVariants.{Lexeme, End}
 use Rattle.notation_reader.specs.declared.position.Lead.{Lead}

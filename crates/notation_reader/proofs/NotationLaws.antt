@@ -6,7 +6,7 @@ use Rattle.index_notation.specs.declared.symbol.Symbol.{Symbol}
 use Rattle.index_notation.specs.declared.symbol.Symbol.TheVariants.{Lexeme, End, Stray}
 use Rattle.index_notation.specs.declared.symbol.PlacedSymbol.{PlacedSymbol}
 use Rattle.index_notation.specs.declared.syntax.Statement.{Statement}
-use Rattle.index_notation.specs.declared.sentence.WrittenAccess.{WrittenAccess}
+use Rattle.index_notation.specs.declared.token.WrittenAccess.{WrittenAccess}
 use Rattle.index_notation.specs.declared.fault.NotationFault.{NotationFault}
 use Rattle.index_notation.specs.declared.fault.NotationFault.TheVariants.{TextLength, BadNotation, TooDeep, TooMany, LiteralRange, Memory}
 use Rattle.index_notation.specs.Grammar.{Tree}

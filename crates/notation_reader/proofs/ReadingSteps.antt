@@ -28,7 +28,7 @@ use Rattle.notation_reader.specs.Judging.{IsRefused, IsTaken, HasLast}
 use Rattle.notation_reader.proofs.JudgingLaws.{Comes, fault_of, tree_found}
 use Rattle.notation_reader.specs.Building.{built, Builds}
 use Rattle.index_notation.specs.TreeStatement.{sum_expr, accesses_of_tree}
-use Rattle.index_notation.specs.declared.sentence.WrittenAccess.{WrittenAccess}
+use Rattle.index_notation.specs.declared.token.WrittenAccess.{WrittenAccess}
 use Rattle.index_notation.specs.declared.symbol.PlacedSymbol.{PlacedSymbol}
 use Rattle.notation_reader.specs.declared.reader.Reader.{Reader}
 use Rattle.notation_reader.specs.Accesses.{accesses_so_far, Mentions}

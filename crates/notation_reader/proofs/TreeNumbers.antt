@@ -8,8 +8,8 @@ use Rattle.lists.specs.Each.{Each}
 use Rattle.lists.proofs.Each.{each_append}
 use Rattle.index_notation.specs.declared.syntax.Name.{Name}
 use Rattle.index_notation.specs.declared.syntax.Statement.{Statement}
-use Rattle.index_notation.specs.declared.sentence.Mark.TheVariants.{Close}
-use Rattle.index_notation.specs.declared.sentence.WrittenAccess.{WrittenAccess}
+use Rattle.index_notation.specs.declared.token.Mark.TheVariants.{Close}
+use Rattle.index_notation.specs.declared.token.WrittenAccess.{WrittenAccess}
 use Rattle.index_notation.specs.declared.symbol.Symbol.{Symbol}
 use Rattle.index_notation.specs.declared.fault.SymbolFault.{SymbolFault}
 use Rattle.index_notation.specs.declared.fault.SymbolFault.TheVariants.{TooMany}

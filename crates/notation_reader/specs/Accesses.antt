@@ -1,8 +1,8 @@
 -- The accesses that have been read at a place in the grammar, the left one first.
 use Rattle.std.specs.Prelude.{◌≡◌, List, [], ◌∷◌, ◌++◌}
 use Rattle.index_notation.specs.declared.syntax.Name.{Name}
-use Rattle.index_notation.specs.declared.sentence.Token.TheVariants.{Name as NameToken}
-use Rattle.index_notation.specs.declared.sentence.WrittenAccess.{WrittenAccess}
+use Rattle.index_notation.specs.declared.token.Token.TheVariants.{Name as NameToken}
+use Rattle.index_notation.specs.declared.token.WrittenAccess.{WrittenAccess}
 use Rattle.index_notation.specs.declared.symbol.Symbol.{Symbol}
 use Rattle.index_notation.specs.declared.symbol.Symbol.TheVariants.{Lexeme}
 use Rattle.index_notation.specs.TreeStatement.{accesses_of_product, accesses_of_sum, accesses_of_tree}

@@ -1,7 +1,7 @@
 -- What a symbol does at a stand of the reader.
-use Rattle.index_notation.specs.declared.sentence.Mark.{Mark}
-use Rattle.index_notation.specs.declared.sentence.Mark.TheVariants.{Equals, Plus, Minus, Times, Open, Close, Comma}
-use Rattle.index_notation.specs.declared.sentence.Token.TheVariants.{Name as NameToken, Number as NumberToken, Mark as MarkToken}
+use Rattle.index_notation.specs.declared.token.Mark.{Mark}
+use Rattle.index_notation.specs.declared.token.Mark.TheVariants.{Equals, Plus, Minus, Times, Open, Close, Comma}
+use Rattle.index_notation.specs.declared.token.Token.TheVariants.{Name as NameToken, Number as NumberToken, Mark as MarkToken}
 use Rattle.index_notation.specs.declared.symbol.Symbol.{Symbol}
 use Rattle.index_notation.specs.declared.symbol.Symbol.TheVariants.{Lexeme, End, Stray}
 use Rattle.notation_reader.specs.declared.position.Stand.{Stand}

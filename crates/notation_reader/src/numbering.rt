@@ -2,7 +2,7 @@
 ghost use Rattle.std.specs.Prelude.{◌≡◌, ◌∷◌, List, map, IfOk};
 ghost use Rattle.index_notation.specs.Numbering.{distinct, name_of, variables_of, numbered};
 ghost use Rattle.index_notation.specs.TreeStatement.{numbered_statement};
-ghost use Rattle.index_notation.specs.declared.sentence.WrittenAccess.{WrittenAccess};
+ghost use Rattle.index_notation.specs.declared.token.WrittenAccess.{WrittenAccess};
 
 use crate::names::{add_name, add_names, place};
 use index_notation::{Access, Expr, Name, Statement, WrittenAccess};

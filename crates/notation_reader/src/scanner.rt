@@ -1,11 +1,10 @@
 // The symbols of a text.
 ghost use Rattle.std.specs.Prelude.{◌≡◌, ◌<◌, ◌≤◌, ◌∷◌, ℕ, false, List, length, take, drop, MatchOption, IfOk};
 ghost use Rattle.std.specs.Char.{is_ascii_digit};
-ghost use Rattle.index_notation.specs.Tokens.{goes_on, behind_blanks, EachPasses, StopsAt, IsNext};
+ghost use Rattle.index_notation.specs.Tokens.{goes_on, behind_blanks, mark_at, EachPasses, StopsAt, IsNext};
 ghost use Rattle.lists.specs.Blanks.{is_blank};
 ghost use Rattle.index_notation.specs.Symbols.{AreSymbols};
-ghost use Rattle.index_notation.specs.TokenLaws.{mark_at};
-ghost use Rattle.index_notation.specs.declared.sentence.Token.{Token};
+ghost use Rattle.index_notation.specs.declared.token.Token.{Token};
 
 use index_notation::{Mark, Name, PlacedSymbol, Symbol, Token};
 use std::alloc::{AllocError, Global};

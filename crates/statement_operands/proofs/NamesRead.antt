@@ -6,7 +6,7 @@ use Rattle.lists.specs.Each.{Each}
 use Rattle.lists.proofs.Each.{each_get}
 use Rattle.index_notation.specs.declared.syntax.Name.{Name}
 use Rattle.index_notation.specs.declared.syntax.Statement.{Statement}
-use Rattle.index_notation.specs.declared.sentence.WrittenAccess.{WrittenAccess}
+use Rattle.index_notation.specs.declared.token.WrittenAccess.{WrittenAccess}
 use Rattle.index_notation.specs.Grammar.{Tree}
 use Rattle.index_notation.specs.Numbering.{is_same, place_of, without, distinct, name_of, numbered}
 use Rattle.index_notation.specs.NumberingLaws.{yes, no}

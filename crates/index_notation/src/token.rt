@@ -28,11 +28,3 @@ pub struct WrittenAccess {
     pub name: Name,
     pub vars: Items<Name>,
 }
-
-/// A statement as it is written: `left = first * more * ..`.
-#[derive(Debug, Drop)]
-pub struct Sentence {
-    pub left: WrittenAccess,
-    pub first: WrittenAccess,
-    pub more: Items<WrittenAccess>,
-}
