@@ -20,8 +20,8 @@
 //! test and two bodies before it, `while:KIND` its test and one. `names.rt` has the arrays that a case may name.
 //!
 //! Each run has the same arrays but for those of tensor 1: `range` has 6 and 7; the result has one value, 0, two segment ends and no
-//! coordinates at level 1, and no width at level 2; there is one workspace of one key and one scratch list. Behind the name come how the run
-//! ended, its turns of each kind, and the arrays that have words, with the first of these.
+//! coordinates at level 1, and no width at level 2; there is one workspace of one key and one scratch list. Behind the name come how
+//! the run ended, the turns of each kind, and the arrays that have words, with these.
 #![tactic(auto)]
 
 mod names;
