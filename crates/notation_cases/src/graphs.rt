@@ -1,5 +1,5 @@
 // Graphs, and the edges of statements.
-ghost use Rattle.std.specs.Prelude.{◌↔◌, IsTrue};
+ghost use Rattle.std.specs.Prelude.{◌↔◌, IfOk, IsTrue};
 ghost use Rattle.lists.specs.Each.{Each};
 ghost use Rattle.iteration_graph.specs.Edges.{HasFormat};
 
@@ -70,10 +70,11 @@ fn letters_in(word: &str) -> usize {
     }
 }
 
-// The formats of words, one for each tensor.
+// The formats of words, one for each tensor; a scalar's is `-`.
 fn read_formats(alloc: Global, words: &str) -> Result<Vec<Format>> {
     let mut formats = Vec::new(alloc);
     for word in words.split_whitespace() {
+        let word = if word == "-" { "" } else { word };
         match format_of(alloc, word, letters_in(word))? {
             Ok(format) => formats.push(format)?,
             Err(_) => bail!("no format: {word}"),
@@ -82,17 +83,25 @@ fn read_formats(alloc: Global, words: &str) -> Result<Vec<Format>> {
     Ok(formats)
 }
 
-// The edges of a statement under the formats of words.
-pub(crate) fn edge_shape(alloc: Global, statement: &Statement, words: &str) -> Result<String> {
+// The formats of words, one of the order of each tensor of a statement.
+pub(crate) fn formats_for(alloc: Global, statement: &Statement, words: &str) -> Result<Vec<Format>>
+    ensures left { IfOk result (λ formats. HasFormat formats.items statement.now.left) }
+    ensures right { IfOk result (λ formats. Each (HasFormat formats.items) statement.now.accesses) }
+{
     let formats = read_formats(alloc, words)?;
-    let formats = formats.as_slice();
-    if !has_format(formats, &statement.left)
-        || !have_formats(formats, statement.accesses.as_slice())
+    if !has_format(formats.as_slice(), &statement.left)
+        || !have_formats(formats.as_slice(), statement.accesses.as_slice())
     {
         bail!("a format of another order");
     }
+    Ok(formats)
+}
+
+// The edges of a statement under the formats of words.
+pub(crate) fn edge_shape(alloc: Global, statement: &Statement, words: &str) -> Result<String> {
+    let formats = formats_for(alloc, statement, words)?;
     let mut out = String::from_str(alloc, "edges")?;
-    for edge in edges(alloc, statement, formats)?.as_slice() {
+    for edge in edges(alloc, statement, formats.as_slice())?.as_slice() {
         write!(out, " {}-{}", edge.0, edge.1)?;
     }
     Ok(out)

@@ -11,6 +11,7 @@
 //! ranges i#3 A:=4,7 x:9        The ranges of the statement that was kept, or their fault: a word gives a variable its
 //!                              range, and operands tell of each mode a size, behind `=`, or a greatest coordinate.
 //! edges ds ds:1,0 d            The edges of the statement that was kept, under a format for each tensor.
+//! form ds ds:1,0               The loop order of the statement that was kept, and its concrete form, under a format for each tensor.
 //! graph 3 2-0 0-1              The order of so many variables with these edges, or their cycle.
 //! format 2 ds:1,0              The format of a word, for a tensor of this order, or its fault.
 //! dense 3                      The dense format of this order.
@@ -23,6 +24,7 @@
 
 mod checks;
 mod formats;
+mod forms;
 mod graphs;
 mod grouped;
 mod ranged;

@@ -1,6 +1,7 @@
 // The lines of a case file, one after another.
 use crate::checks::checked_numbers;
 use crate::formats::{dense_shape, format_shape};
+use crate::forms::form_shape;
 use crate::graphs::{edge_shape, graph_shape};
 use crate::grouped::group_shape;
 use crate::ranged::range_shape;
@@ -39,6 +40,10 @@ impl Session {
             },
             "edges" => match &self.statement {
                 Some(statement) => edge_shape(self.alloc, statement, rest),
+                None => bail!("no statement"),
+            },
+            "form" => match &self.statement {
+                Some(statement) => form_shape(self.alloc, statement, rest),
                 None => bail!("no statement"),
             },
             "graph" => graph_shape(self.alloc, rest),

@@ -1,9 +1,9 @@
-// A run of a case, and what it prints.
-use crate::case::{Case, CaseFile};
+// A run of a case, and the text that tells how it ended.
+use crate::case::{Case, CaseFile, Shown};
 use crate::telling::Telling;
 use outside::{MemFolder, MemSink};
 use std::alloc::{AllocError, Global};
-use std::io;
+use std::fmt::Write;
 
 // Runs the case, and answers the status.
 fn run(alloc: Global, case: &mut Case) -> Result<u8, AllocError> {
@@ -26,63 +26,65 @@ fn text_of(stream: &MemSink) -> &str {
     str::from_utf8(stream.written()).unwrap_or("")
 }
 
-// What a stream holds, and whether a finish is due. Only an exact case shows a kernel, and numbers of turns.
-fn print_stream<R: Print + AllocGlobal>(
-    rt: &R,
+// What a stream holds, and whether a finish is due.
+fn put_stream(
+    alloc: Global,
+    out: &mut String,
     name: &str,
     stream: &MemSink,
-    is_exact: bool,
-) -> io::Result<()> {
-    let end = if stream.is_unfinished() {
-        ", unfinished"
-    } else {
-        ""
-    };
+    shown: Shown,
+) -> Result<(), AllocError> {
     let text = text_of(stream);
-    if is_exact || text.is_empty() {
-        return println!(rt; "{name} \"{}\"{end}", stream.written().escape_ascii());
+    if shown == Shown::All || text.is_empty() {
+        write!(out, "{name} \"{}\"", stream.written().escape_ascii())?;
+    } else {
+        let telling = Telling::new(alloc, &[text], shown == Shown::Turns)?;
+        write!(out, "{name} \"{}\"", telling.text.as_bytes().escape_ascii())?;
     }
-    let telling = Telling::new(rt.alloc(), &[text])?;
-    println!(rt;
-        "{name} \"{}\"{end}",
-        telling.text.as_bytes().escape_ascii()
-    )
+    out.push_str(if stream.is_unfinished() {
+        ", unfinished\n"
+    } else {
+        "\n"
+    })
+}
+
+// The status, and both streams.
+fn put_streams(
+    alloc: Global,
+    out: &mut String,
+    case: &Case,
+    status: u8,
+) -> Result<(), AllocError> {
+    write!(out, "status {status}\n")?;
+    put_stream(alloc, out, "out", &case.out, case.shown)?;
+    put_stream(alloc, out, "err", &case.err, case.shown)
 }
 
 // What stands in a file's place afterwards.
-fn print_file(rt: &impl Print, file: &CaseFile, folder: &MemFolder) -> io::Result<()> {
+fn put_file(out: &mut String, file: &CaseFile, folder: &MemFolder) -> Result<(), AllocError> {
     let name = file.name.as_str();
     let before = file.bytes.as_ref().map(|bytes| bytes.as_slice());
     match folder.bytes(name) {
-        None => println!(rt; "absent {name}"),
-        after if after == before => println!(rt; "file {name} as before"),
-        Some(bytes) => println!(rt; "file {name} \"{}\"", bytes.escape_ascii()),
+        None => write!(out, "absent {name}\n"),
+        after if after == before => write!(out, "file {name} as before\n"),
+        Some(bytes) => write!(out, "file {name} \"{}\"\n", bytes.escape_ascii()),
     }
 }
 
-// Whether a finish of the folder's writing is due.
-fn print_folder(rt: &impl Print, folder: &MemFolder) -> io::Result<()> {
-    if folder.is_unfinished() {
-        println!(rt; "folder unfinished")?;
+// Each file of the case as it is afterwards, and whether a finish of the folder's writing is due.
+fn put_files(out: &mut String, case: &Case) -> Result<(), AllocError> {
+    for file in &case.files {
+        put_file(out, file, &case.folder)?;
+    }
+    if case.folder.is_unfinished() {
+        out.push_str("folder unfinished\n")?;
     }
     Ok(())
 }
 
-// How the case ended.
-fn print_end<R: Print + AllocGlobal>(rt: &R, case: &Case, status: u8) -> io::Result<()> {
-    println!(rt; "case {}", case.name.as_str())?;
-    println!(rt; "status {status}")?;
-    print_stream(rt, "out", &case.out, case.is_exact)?;
-    print_stream(rt, "err", &case.err, case.is_exact)?;
-    for file in &case.files {
-        print_file(rt, file, &case.folder)?;
-    }
-    print_folder(rt, &case.folder)
-}
-
 // What both streams of a case tell.
 fn tell(alloc: Global, case: &Case) -> Result<Telling, AllocError> {
-    Telling::new(alloc, &[text_of(&case.out), text_of(&case.err)])
+    Telling::new(alloc, &[text_of(&case.out), text_of(&case.err)], true)
 }
 
 // The words for two texts that are the same or not, where both are there.
@@ -96,9 +98,13 @@ fn compared<'a>(one: &str, other: &str, same: &'a str, different: &'a str) -> &'
     }
 }
 
-// Runs another command line over the same files, and prints whether its kernel and its turns are those of the case.
-fn run_beside<R: Print + AllocGlobal>(rt: &R, case: &Case, words: &[String]) -> io::Result<()> {
-    let alloc = rt.alloc();
+// Runs another command line over the same files, and tells whether its kernel and its turns are those of the case.
+fn put_beside(
+    alloc: Global,
+    out: &mut String,
+    case: &Case,
+    words: &[String],
+) -> Result<(), AllocError> {
     let mut beside = case.with_words(words)?;
     let status = run(alloc, &mut beside)?;
     let own = tell(alloc, case)?;
@@ -116,15 +122,35 @@ fn run_beside<R: Print + AllocGlobal>(rt: &R, case: &Case, words: &[String]) -> 
         ", same turns",
         ", other turns",
     );
-    println!(rt; "beside {command}: status {status}{kernels}{turns}")
+    write!(out, "beside {command}: status {status}{kernels}{turns}\n")
 }
 
-// Runs the case, and prints how it ended, and the command lines beside it.
-pub(crate) fn run_case<R: Print + AllocGlobal>(rt: &R, mut case: Case) -> io::Result<()> {
-    let status = run(rt.alloc(), &mut case)?;
-    print_end(rt, &case, status)?;
+// Runs another command with further words over the same files, and tells how that ended.
+fn put_again(alloc: Global, out: &mut String, case: &Case, text: &str) -> Result<(), AllocError> {
+    let mut again = case.again(text)?;
+    let status = run(alloc, &mut again)?;
+    write!(out, "again {text}\n")?;
+    put_streams(alloc, out, &again, status)
+}
+
+// The further command lines of a case.
+fn put_further(alloc: Global, out: &mut String, case: &Case) -> Result<(), AllocError> {
     for words in &case.beside {
-        run_beside(rt, &case, words.as_slice())?;
+        put_beside(alloc, out, case, words.as_slice())?;
     }
-    println!(rt; "")
+    for text in &case.again {
+        put_again(alloc, out, case, text.as_str())?;
+    }
+    Ok(())
+}
+
+// Runs the case, and tells how it ended, and its further command lines.
+pub(crate) fn case_text(alloc: Global, mut case: Case) -> Result<String, AllocError> {
+    let status = run(alloc, &mut case)?;
+    let mut out = String::new(alloc);
+    write!(out, "case {}\n", case.name.as_str())?;
+    put_streams(alloc, &mut out, &case, status)?;
+    put_files(&mut out, &case)?;
+    put_further(alloc, &mut out, &case)?;
+    Ok(out)
 }

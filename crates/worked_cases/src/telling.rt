@@ -3,23 +3,29 @@ use std::alloc::{AllocError, Global};
 
 #[derive(Drop)]
 pub(crate) struct Telling {
-    // The text, with `kernel {..}` in place of a kernel, and `turns ..` in place of numbers of turns.
+    // The text, with `kernel {..}` in place of a kernel, and `turns ..` in place of numbers of turns that aren't shown.
     pub(crate) text: String,
     // Its kernel, from the first line on.
     pub(crate) kernel: String,
     // Its numbers of turns.
     pub(crate) turns: String,
+    shows_turns: bool,
     // Whether a kernel has begun, and hasn't ended.
     is_inside: bool,
 }
 
 impl Telling {
     // What these texts tell, one after another.
-    pub(crate) fn new(alloc: Global, texts: &[&str]) -> Result<Self, AllocError> {
+    pub(crate) fn new(
+        alloc: Global,
+        texts: &[&str],
+        shows_turns: bool,
+    ) -> Result<Self, AllocError> {
         let mut telling = Telling {
             text: String::new(alloc),
             kernel: String::new(alloc),
             turns: String::new(alloc),
+            shows_turns,
             is_inside: false,
         };
         for text in texts {
@@ -54,15 +60,16 @@ impl Telling {
             self.kernel.push_str(line)?;
             return self.text.push_str("kernel {..");
         }
-        match split_turns(line) {
-            Some((before, turns, behind)) => {
-                self.turns.push_str(turns)?;
-                self.text.push_str(before)?;
-                self.text.push_str("turns ..")?;
-                self.text.push_str(behind)
-            }
-            None => self.text.push_str(line),
+        let Some((before, turns, behind)) = split_turns(line) else {
+            return self.text.push_str(line);
+        };
+        self.turns.push_str(turns)?;
+        if self.shows_turns {
+            return self.text.push_str(line);
         }
+        self.text.push_str(before)?;
+        self.text.push_str("turns ..")?;
+        self.text.push_str(behind)
     }
 }
 

@@ -1,5 +1,0 @@
-use Rattle.std.specs.Prelude.{length}
-use Rattle.runnable_checks.proofs.checks.+are_below.Given as goal
-
-abbrev pub decreases-are_below : goal.decreases-are_below
-decreases-are_below l = length l.vars.now
