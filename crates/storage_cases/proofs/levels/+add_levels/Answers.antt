@@ -1,0 +1,14 @@
+use Rattle.std.proofs.Common.{◌∙◌, arith, rules}
+use Rattle.storage_cases.proofs.Opened.{open_below}
+use Rattle.storage_cases.proofs.levels.+add_levels.Goals as goal
+
+pub add_levels-requires : goal.add_levels-requires
+add_levels-requires t c = (
+  search rules,
+  (
+    c.requires.0,
+    open_below c.args.levels.now c.in-Some.level.now c.in-Some.below.now c.requires.0 c.args.span c.as_slice-entry-items.result.now
+        c.loop-entry.entry-index _ c.in-Some.ensures.cases.0 c.requires.1 (c.as_slice-entry-items.ensures ∙ c.in_ok-entries.ensures)
+        c.loop-entry-test.true,
+  ),
+)
