@@ -1,11 +1,12 @@
 //! A kernel's body run on the arrays of all cases, and what it leaves.
-ghost use Rattle.std.specs.Prelude.{◌≡◌, IfOk, IfSome};
+ghost use Rattle.std.specs.Prelude.{◌≡◌, ◌<◌, true, IfOk, IfSome};
+ghost use Rattle.kernel_code.specs.Arrays.{may_write};
 ghost use Rattle.storage_arrays.specs.Arrays.{AreDone};
 ghost use Rattle.kernel_steps.specs.Store.{made};
 
 use crate::names::OWN;
 use case_tensors::{Case, are_inside};
-use kernel_code::{KStmt, Turns};
+use kernel_code::{Arr, KStmt, Turns};
 use kernel_steps::{Ending, Machine, run_statements};
 use lent_arrays::{LentArrays, Operand};
 use machine_starts::lent_operands;
@@ -41,6 +42,15 @@ fn packed(alloc: Global, line: &str) -> Option<Tensor>
     Some(tensor)
 }
 
+/// An array that a run may write, by its place in the table, and the number of zeros that it starts with.
+fn own_array(number: usize) -> (Arr, usize)
+    requires { number < 8 }
+    ensures { may_write result.0 ≡ true }
+{
+    let (_name, own) = OWN[number];
+    own
+}
+
 /// A machine with the arrays of all cases, and these operands.
 fn started<'a>(
     alloc: Global,
@@ -56,7 +66,7 @@ fn started<'a>(
     };
     let mut machine = Machine::new(alloc, lent);
     for number in 0..OWN.len() {
-        let (_name, (array, zeros)) = OWN[number];
+        let (array, zeros) = own_array(number);
         machine.add_array(array, Segment::filled(alloc, zeros, 0)?)?;
     }
     Ok(machine)
