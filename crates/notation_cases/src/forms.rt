@@ -86,6 +86,23 @@ fn put_concrete(
     out.push(')')
 }
 
+// The loop order, and the concrete form.
+fn loops_shape(
+    alloc: Global,
+    statement: &Statement,
+    order: &[usize],
+    tree: &Concrete,
+) -> Result<String, AllocError> {
+    let mut out = String::new(alloc);
+    for var in order {
+        put_named(&mut out, statement.vars.as_slice(), *var)?;
+        out.push(' ')?;
+    }
+    out.push_str("| ")?;
+    put_concrete(alloc, &mut out, statement, tree)?;
+    Ok(out)
+}
+
 // The loop order of a statement under the formats of words, and its concrete form.
 pub(crate) fn form_shape(alloc: Global, statement: &Statement, words: &str) -> Result<String> {
     let formats = formats_for(alloc, statement, words)?;
@@ -95,18 +112,13 @@ pub(crate) fn form_shape(alloc: Global, statement: &Statement, words: &str) -> R
     }
     let edges = edges(alloc, statement, formats)?;
     let groups = groups(alloc, statement)?;
-    let order = match order(alloc, statement.vars.len(), edges.as_slice()) {
-        Ok(order) => order,
+    match order(alloc, statement.vars.len(), edges.as_slice()) {
+        Ok(order) => {
+            let vars = order.as_slice();
+            let tree = concretize(alloc, statement, &groups, vars, formats)?;
+            Ok(loops_shape(alloc, statement, vars, &tree)?)
+        }
         Err(OrderFault::Cycle(_cycle)) => bail!("a cycle"),
-        Err(OrderFault::Memory(error)) => return Err(error.into()),
-    };
-    let concrete = concretize(alloc, statement, &groups, order.as_slice(), formats)?;
-    let mut out = String::new(alloc);
-    for var in order.as_slice() {
-        put_named(&mut out, statement.vars.as_slice(), *var)?;
-        out.push(' ')?;
+        Err(OrderFault::Memory(error)) => Err(error.into()),
     }
-    out.push_str("| ")?;
-    put_concrete(alloc, &mut out, statement, &concrete)?;
-    Ok(out)
 }

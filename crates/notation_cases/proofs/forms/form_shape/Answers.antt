@@ -6,6 +6,6 @@ use Rattle.notation_cases.proofs.forms.form_shape.Goals as goal
 
 pub concretize-requires-clause-order : goal.concretize-requires-clause-order
 concretize-requires-clause-order c =
-    subst (IsOrderOf (length c.args.statement.now.vars)) (sym c.as_slice-in-Ok.ensures)
+    subst (IsOrderOf (length c.args.statement.now.vars)) (sym c.as_slice-vars.ensures)
     (subst (λ n. IsOrderOf n c.in-Ok.order) c.len.ensures
     (is_order_of c.len.result c.as_slice.result.now c.in-Ok.order c.in-Ok.ensures))
