@@ -49,12 +49,7 @@ fn put_stream(
 }
 
 // The status, and both streams.
-fn put_streams(
-    alloc: Global,
-    out: &mut String,
-    case: &Case,
-    status: u8,
-) -> Result<(), AllocError> {
+fn put_streams(alloc: Global, out: &mut String, case: &Case, status: u8) -> Result<(), AllocError> {
     write!(out, "status {status}\n")?;
     put_stream(alloc, out, "out", &case.out, case.shown)?;
     put_stream(alloc, out, "err", &case.err, case.shown)
