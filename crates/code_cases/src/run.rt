@@ -5,7 +5,7 @@ ghost use Rattle.storage_arrays.specs.Arrays.{AreDone};
 ghost use Rattle.kernel_steps.specs.Store.{made};
 
 use crate::names::OWN;
-use case_tensors::{Case, are_inside};
+use case_tensors::{Case, packed};
 use kernel_code::{Arr, KStmt, Turns};
 use kernel_steps::{Ending, Machine, run_statements};
 use lent_arrays::{LentArrays, Operand};
@@ -20,23 +20,16 @@ use tensor_storage::Tensor;
 const TURNS: u64 = 1000;
 
 /// The tensor of a line, packed; none where the line says none, or for want of memory.
-fn packed(alloc: Global, line: &str) -> Option<Tensor>
+fn tensor_of(alloc: Global, line: &str) -> Option<Tensor>
     ensures { IfSome result (λ t. AreDone 1 t.levels) }
 {
     let Case {
         format,
         shape,
-        mut entries,
+        entries,
         asked: _asked,
     } = Case::read(alloc, line).ok()?;
-    entries.sort_sum::<Ring>().ok()?;
-    if shape.order() != format.order() || entries.order() != format.order() {
-        return None;
-    }
-    if !are_inside(shape.ranges(), &entries) {
-        return None;
-    }
-    let Ok(tensor) = Tensor::pack::<Ring>(alloc, format, &shape, &entries) else {
+    let Ok(Ok(tensor)) = packed(alloc, format, &shape, entries) else {
         return None;
     };
     Some(tensor)
@@ -130,7 +123,7 @@ fn add_arrays(text: &mut String, machine: &Machine) -> Result<(), AllocError> {
 
 /// What the run of a name leaves, over the tensor of a line; none where the line says none, or for want of memory.
 pub(crate) fn text_of_run(alloc: Global, name: &str, line: &str, code: &[KStmt]) -> Option<String> {
-    let tensors = [packed(alloc, line)?];
+    let tensors = [tensor_of(alloc, line)?];
     let operands = lent_operands(alloc, &tensors).ok()?;
     let mut machine = started(alloc, &[6, 7], operands).ok()?;
     let ending = run_statements::<Ring>(&mut machine, code, &[1], TURNS).ok()?;
