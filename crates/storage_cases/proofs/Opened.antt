@@ -11,7 +11,7 @@ use Rattle.tensor_storage.specs.Laws.{laws}
 use Rattle.tensor_storage.specs.Levels.{meaning}
 use Rattle.tensor_storage.specs.declared.level.StorageLevel.{StorageLevel}
 use Rattle.tensor_storage.specs.Storages.{IsOpen}
-use Rattle.storage_arrays.specs.Arrays.{IsDone, AreDone, positions_in}
+use Rattle.storage_arrays.specs.Arrays.{AreDone}
 
 -- where the first of some levels is finished, each of its parents may be asked
 pub parent_allowed : (levels : List StorageLevel) (l : StorageLevel) (below : List StorageLevel) (parents : ℕ) → levels ≡ l ∷ below

@@ -1,4 +1,4 @@
-use Rattle.std.proofs.Common.{◌∙◌, arith, rules}
+use Rattle.std.proofs.Common.{◌∙◌, rules}
 use Rattle.storage_cases.proofs.Opened.{open_below}
 use Rattle.storage_cases.proofs.levels.+add_levels.Goals as goal
 
