@@ -1,5 +1,6 @@
 // What all words bind.
-ghost use Rattle.std.specs.Prelude.{◌≡◌, ◌<◌, ◌≤◌, ◌+◌, ℕ, List, Some, None, Ok, Err, map, length, take, All, IfOk, MatchResult};
+ghost use Rattle.std.specs.Prelude.{◌≡◌, ◌<◌, ◌≤◌, ◌+◌, ℕ, List, Some, None};
+ghost use Rattle.std.specs.Prelude.{Ok, Err, map, length, take, All, IfOk, MatchResult};
 ghost use Rattle.std.specs.Prelude.{MatchOption, IsTrue};
 ghost use Rattle.std.specs.Prelude.{true, OnOk, ◌++◌, ◌∷◌, [], option_map};
 ghost use Rattle.limits.specs.Limits.{greatest_order};

@@ -1,5 +1,6 @@
 // What the words so far bind.
-ghost use Rattle.std.specs.Prelude.{◌≡◌, ◌<◌, ◌++◌, ◌∷◌, [], ℕ, List, Some, None, true, false, IfOk, OnOk, IsTrue, length, replicate};
+ghost use Rattle.std.specs.Prelude.{◌≡◌, ◌<◌, ◌++◌, ◌∷◌, [], ℕ, List, Some};
+ghost use Rattle.std.specs.Prelude.{None, true, false, IfOk, OnOk, IsTrue, length, replicate};
 ghost use Rattle.std.specs.Prelude.{nat_lt};
 ghost use Rattle.index_notation.specs.Numbering.{place_of};
 ghost use Rattle.bindings.specs.Words.{said_of};

@@ -1,5 +1,6 @@
 // Words and their forms.
-ghost use Rattle.std.specs.Prelude.{◌≡◌, ◌≢◌, ◌∷◌, ◌++◌, ◌==◌, false, true, not, ℕ, List, Some, None, MatchOption, IfSome, option_map};
+ghost use Rattle.std.specs.Prelude.{◌≡◌, ◌≢◌, ◌∷◌, ◌++◌, ◌==◌, false, true};
+ghost use Rattle.std.specs.Prelude.{not, ℕ, List, Some, None, MatchOption, IfSome, option_map};
 ghost use Rattle.std.specs.Prelude.{length, get_or, ◌||◌, ◌&&◌, ◌<◌};
 ghost use Rattle.std.specs.List.{list_all};
 ghost use Rattle.index_notation.specs.Tokens.{goes_on};

@@ -1,5 +1,6 @@
 -- The command that `clap` is given, and what its matches say.
-use Rattle.std.specs.Prelude.{ℕ, Bool, ◌&&◌, ◌^◌, length, nat_lt, true, List, [], Option, Some, None, codes, if◌then◌else◌, option_map}
+use Rattle.std.specs.Prelude.{ℕ, Bool, ◌&&◌, ◌^◌, length, nat_lt, true, List, []}
+use Rattle.std.specs.Prelude.{Option, Some, None, codes, if◌then◌else◌, option_map}
 use Rattle.std.specs.Prelude.{option_and_then, unwrap_or}
 use Rattle.std.specs.Str.{bytes_eq}
 use Rattle.std.specs.List.{list_all}

@@ -10,7 +10,8 @@ ghost use Rattle.clap.specs.Words.{kind_of};
 ghost use Rattle.clap.specs.declared.builder.command.Command.TheViews.{out-Command};
 ghost use Rattle.limits.specs.Limits.{greatest_workload};
 ghost use Rattle.command_line.specs.CommandLine.{command_line_of};
-ghost use Rattle.command_line.specs.Clap.{statement_app, workload_app, taco_app, clap_line, matched_line, statement_matched, task_of, u64_read};
+ghost use Rattle.command_line.specs.Clap.{statement_app, workload_app, taco_app, clap_line};
+ghost use Rattle.command_line.specs.Clap.{matched_line, statement_matched, task_of, u64_read};
 ghost use Rattle.command_line.specs.Told.{told, IsUsage};
 
 use clap::builder::ValueParser;

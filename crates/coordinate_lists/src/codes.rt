@@ -1,6 +1,7 @@
 //! The fragments that compressed and singleton levels have in common: the code of a level, numbered `level` of a tensor,
 //! whose coordinates are an array. Each is refused for want of memory alone.
-ghost use Rattle.std.specs.Prelude.{◌≡◌, ◌≤◌, ◌+◌, ◌-◌, ◌^◌, ℕ, List, [], ◌∷◌, length, Some, IfOk, true, false, if◌then◌else◌};
+ghost use Rattle.std.specs.Prelude.{◌≡◌, ◌≤◌, ◌+◌, ◌-◌, ◌^◌, ℕ, List, [], ◌∷◌};
+ghost use Rattle.std.specs.Prelude.{length, Some, IfOk, true, false, if◌then◌else◌};
 ghost use Rattle.limits.specs.Limits.{greatest_position_count};
 ghost use Rattle.kernel_code.specs.declared.syntax.Arr.TheVariants.{Coordinates};
 ghost use Rattle.kernel_code.specs.declared.syntax.LoopKind.TheVariants.{Skip};

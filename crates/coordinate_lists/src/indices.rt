@@ -1,5 +1,6 @@
 //! `Indices`: a list of coordinates or positions. A clause sees it as its `items` and its `spare`.
-ghost use Rattle.std.specs.Prelude.{◌≡◌, ◌+◌, ◌-◌, ◌^◌, ◌<◌, ◌≤◌, [], ◌∷◌, ◌++◌, length, replicate, slice_get, slice_set, Some, OnOk};
+ghost use Rattle.std.specs.Prelude.{◌≡◌, ◌+◌, ◌-◌, ◌^◌, ◌<◌, ◌≤◌, [], ◌∷◌};
+ghost use Rattle.std.specs.Prelude.{◌++◌, length, replicate, slice_get, slice_set, Some, OnOk};
 ghost use Rattle.std.specs.Prelude.{OnErr, IsOk};
 ghost use Rattle.limits.specs.Limits.{greatest_position_count};
 ghost use Rattle.level_core.specs.declared.span.Span.{Span};

@@ -67,10 +67,6 @@ pub faultless_step : (left : Access) (xs : List Access) (i : ℕ) (a : Access) �
 faultless_step left xs i a h e f k =
     subst (λ (l : List Access). AreFaultless left [] (left ∷ l)) (sym (one_more xs i a h e)) (faultless_on left [] (left ∷ take i xs) a f k)
 
--- the left access
-pub left_faultless : (left : Access) → IsDistinct left.vars → AreFaultless left [] (left ∷ [])
-left_faultless left h = (record { unread = λ r. absurd (let k = r.0 in omega (arith, k)); order = tt; once = h }, tt)
-
 pub left_fault : (s : Statement) (v : ℕ) → RepeatsFirst s.left.vars v → IsFirstNameFault s (RepeatedVariable s.left.tensor v)
 left_fault s v h = record {
   earlier = [];

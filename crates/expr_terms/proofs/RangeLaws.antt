@@ -23,11 +23,6 @@ greatest_append [] ns = omega arith
 greatest_append (m ∷ ms) ns = let rest : greatest_of (ms ++ ns) ≡ max (greatest_of ms) (greatest_of ns) =
     greatest_append ms ns in omega arith
 
--- how far one entry and then others reach
-pub reach_more : (entry : Entry) (entries : List Entry) (mode : ℕ)
-    → reach (entry ∷ entries) mode ≡ max (slice_index entry.coords mode + 1) (reach entries mode)
-reach_more entry entries mode = refl
-
 -- each entry is below
 pub reach_above : (entries : List Entry) (mode k : ℕ) (d : Entry) → k < length entries
     → slice_index (slice_index_or entries k d).coords mode < reach entries mode

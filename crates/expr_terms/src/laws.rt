@@ -1,5 +1,6 @@
 //! What follows from the definitions, as calls whose contract is the law. They do nothing.
-ghost use Rattle.std.specs.Prelude.{◌≡◌, ℕ, ◌<◌, ◌^◌, Bool, true, false, not, List, ◌∷◌, [], map, length, Ok, None, slice_index};
+ghost use Rattle.std.specs.Prelude.{◌≡◌, ℕ, ◌<◌, ◌^◌, Bool, true, false, not, List};
+ghost use Rattle.std.specs.Prelude.{◌∷◌, [], map, length, Ok, None, slice_index};
 ghost use Rattle.numbers.specs.Arithmetic.{Arithmetic, Laws, MinusLaws};
 ghost use Rattle.numbers.specs.Sums.{total_of};
 ghost use Rattle.index_notation.specs.Statement.{IsDistinct, IsWellNamed, numbers_from};

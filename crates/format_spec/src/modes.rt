@@ -1,4 +1,5 @@
-ghost use Rattle.std.specs.Prelude.{◌≡◌, ◌≢◌, ℕ, ◌+◌, ◌≤◌, ◌<◌, ◌↔◌, IsTrue, List, length, All, MatchOption, Some, slice_get};
+ghost use Rattle.std.specs.Prelude.{◌≡◌, ◌≢◌, ℕ, ◌+◌, ◌≤◌, ◌<◌, ◌↔◌};
+ghost use Rattle.std.specs.Prelude.{IsTrue, List, length, All, MatchOption, Some, slice_get};
 ghost use Rattle.std.specs.Option.{option_map};
 ghost use Rattle.limits.specs.Limits.{greatest_order};
 ghost use Rattle.format_spec.specs.Formats.{IsOrder, standing};

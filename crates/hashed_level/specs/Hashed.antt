@@ -1,5 +1,6 @@
 -- What a hashed level holds.
-use Rattle.std.specs.Prelude.{◌≡◌, ◌≢◌, ℕ, ◌+◌, ◌*◌, ◌^◌, ◌≤◌, ◌<◌, List, [], ◌∷◌, Option, Some, None, length, replicate, slice_index}
+use Rattle.std.specs.Prelude.{◌≡◌, ◌≢◌, ℕ, ◌+◌, ◌*◌, ◌^◌, ◌≤◌, ◌<◌, List}
+use Rattle.std.specs.Prelude.{[], ◌∷◌, Option, Some, None, length, replicate, slice_index}
 use Rattle.std.specs.Prelude.{slice_set}
 use Rattle.limits.specs.Limits.{greatest_position_count}
 use Rattle.kernel_code.specs.declared.syntax.Arr.TheVariants.{Coordinates, Width}

@@ -1,6 +1,7 @@
 -- The first faulty symbol of a text, and its fault. A symbol's faults are tried in this order: that no sentence begins
 -- with the symbols up to it; that it opens a level too many; that it is one too many; that it is too large a number.
-use Rattle.std.specs.Prelude.{◌≡◌, ℕ, ◌+◌, ◌-◌, ◌*◌, nat_lt, if◌then◌else◌, Option, Some, None, List, [], ◌∷◌, ◌++◌, length}
+use Rattle.std.specs.Prelude.{◌≡◌, ℕ, ◌+◌, ◌-◌, ◌*◌, nat_lt, if◌then◌else◌}
+use Rattle.std.specs.Prelude.{Option, Some, None, List, [], ◌∷◌, ◌++◌, length}
 use Rattle.limits.specs.Limits.{greatest_nesting, greatest_order, greatest_variables, greatest_accesses, greatest_operands}
 use Rattle.limits.specs.Limits.{greatest_literal}
 use Rattle.index_notation.specs.Numbering.{distinct}

@@ -1,5 +1,6 @@
 //! Runs of kernels that stand ready.
-ghost use Rattle.std.specs.Prelude.{◌≡◌, ◌∷◌, [], ◌<◌, ◌≤◌, ℕ, IfOk, IsOk, MatchResult, length, replicate, slice_get, Some, true};
+ghost use Rattle.std.specs.Prelude.{◌≡◌, ◌∷◌, [], ◌<◌, ◌≤◌, ℕ, IfOk, IsOk};
+ghost use Rattle.std.specs.Prelude.{MatchResult, length, replicate, slice_get, Some, true};
 ghost use Rattle.kernel_code.specs.declared.syntax.Arr.{Arr};
 ghost use Rattle.kernel_code.specs.Kernels.{place_of};
 ghost use Rattle.level_core.specs.Meaning.{Arrays};

@@ -1,6 +1,7 @@
 //! The machine: variables, arrays that are lent and arrays of its own, and the turns that loops have made.
 ghost use Rattle.std.specs.Prelude.{◌≡◌, ℕ, ◌+◌, ◌^◌, ◌<◌, ◌≤◌, List, length, MatchOption, IfOk, IsOkAnd, OnOk, OnErr};
-ghost use Rattle.std.specs.Prelude.{◌++◌, ◌∷◌, [], Some, None, take, true, replicate, slice_get, option_map, unwrap_or, map, IsTrue, ◌↔◌};
+ghost use Rattle.std.specs.Prelude.{◌++◌, ◌∷◌, [], Some, None, take, true, replicate};
+ghost use Rattle.std.specs.Prelude.{slice_get, option_map, unwrap_or, map, IsTrue, ◌↔◌};
 ghost use Rattle.kernel_code.specs.Arrays.{sum_in, may_write};
 ghost use Rattle.kernel_code.specs.declared.syntax.Arr.{Arr};
 ghost use Rattle.kernel_code.specs.declared.syntax.Arr.TheVariants.{ListCoordinates, ListPositions, Key, Sums};

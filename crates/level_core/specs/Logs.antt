@@ -1,6 +1,7 @@
 -- What is appended to a level before it is finished: coordinates in the order of positions, and how many of them stand
 -- below each parent.
-use Rattle.std.specs.Prelude.{◌≡◌, ◌≢◌, ℕ, zero, suc, ◌+◌, ◌-◌, ◌≤◌, ◌<◌, ◌^◌, ◌==◌, Bool, true, false, if◌then◌else◌, List, [], ◌∷◌}
+use Rattle.std.specs.Prelude.{◌≡◌, ◌≢◌, ℕ, zero, suc, ◌+◌, ◌-◌, ◌≤◌, ◌<◌, ◌^◌}
+use Rattle.std.specs.Prelude.{◌==◌, Bool, true, false, if◌then◌else◌, List, [], ◌∷◌}
 use Rattle.std.specs.Prelude.{◌++◌, length, take, drop, replicate, slice_set}
 use Rattle.limits.specs.Limits.{greatest_position_count}
 pub use Rattle.level_core.specs.declared.stage.Stage.{Stage}

@@ -1,6 +1,7 @@
 -- Levels of a kernel's result that are filled from the rows of a workspace, one below another: what arrays hold after each, and what the
 -- code of one level does.
-use Rattle.std.specs.Prelude.{◌≡◌, ◌⊎◌, ℕ, zero, suc, ◌+◌, ◌*◌, ◌≤◌, ◌<◌, List, [], ◌∷◌, length, drop, if◌then◌else◌, All}
+use Rattle.std.specs.Prelude.{◌≡◌, ◌⊎◌, ℕ, zero, suc, ◌+◌, ◌*◌, ◌≤◌, ◌<◌}
+use Rattle.std.specs.Prelude.{List, [], ◌∷◌, length, drop, if◌then◌else◌, All}
 use Rattle.std.specs.Prelude.{Option, Some, None, slice_index}
 use Rattle.limits.specs.Limits.{greatest_position_count, greatest_workspace_pairs}
 use Rattle.kernel_code.specs.Does.{Does, Refusal}

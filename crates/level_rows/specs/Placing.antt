@@ -1,5 +1,6 @@
 -- The code that inserts the rows of a workspace into a level of the result, one drain turn for each row.
-use Rattle.std.specs.Prelude.{◌≡◌, ℕ, zero, suc, ◌+◌, ◌≤◌, ◌<◌, ◌^◌, false, List, [], ◌∷◌, ◌++◌, length, slice_index, Some}
+use Rattle.std.specs.Prelude.{◌≡◌, ℕ, zero, suc, ◌+◌, ◌≤◌, ◌<◌, ◌^◌, false}
+use Rattle.std.specs.Prelude.{List, [], ◌∷◌, ◌++◌, length, slice_index, Some}
 use Rattle.kernel_code.specs.Widths.{slot_width}
 use Rattle.kernel_code.specs.Meaning.{Setting, State, value}
 use Rattle.kernel_code.specs.Does.{Does}

@@ -1,5 +1,6 @@
 -- The entry lines of a Matrix Market file: what each tells, what is wrong with it, and the entries that it gives the matrix.
-use Rattle.std.specs.Prelude.{ℕ, zero, suc, ℤ, ◌&&◌, ◌==◌, nat_lt, List, [], ◌∷◌, Option, Some, None, Result, Ok, Err, if◌then◌else◌}
+use Rattle.std.specs.Prelude.{ℕ, zero, suc, ℤ, ◌&&◌, ◌==◌, nat_lt, List, [], ◌∷◌}
+use Rattle.std.specs.Prelude.{Option, Some, None, Result, Ok, Err, if◌then◌else◌}
 use Rattle.limits.specs.Limits.{greatest_file_coordinate}
 use Rattle.numbers.specs.Arithmetic.{Arithmetic}
 use Rattle.numbers.specs.Signed.{word_of_signed}

@@ -1,5 +1,6 @@
 //! What follows from the definitions, as calls whose contract is the law. They do nothing.
-ghost use Rattle.std.specs.Prelude.{◌≡◌, ℕ, ◌≤◌, Bool, List, All, length, filter, ◌-◌, ◌^◌, ◌++◌, ◌∷◌, [], codes, true, false};
+ghost use Rattle.std.specs.Prelude.{◌≡◌, ℕ, ◌≤◌, Bool, List, All, length, filter, ◌-◌};
+ghost use Rattle.std.specs.Prelude.{◌^◌, ◌++◌, ◌∷◌, [], codes, true, false};
 ghost use Rattle.std.specs.Prelude.{Ok, Err, IfOk};
 ghost use Rattle.mtx_io.specs.Matrix.{matrix_of_text};
 ghost use Rattle.limits.specs.Limits.{greatest_matrix_size, greatest_file_coordinate, greatest_matrix_entries};

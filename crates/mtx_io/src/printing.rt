@@ -1,5 +1,6 @@
 //! Tensors written as Matrix Market text.
-ghost use Rattle.std.specs.Prelude.{◌≡◌, ◌≤◌, ◌<◌, ◌+◌, ◌++◌, ◌∷◌, [], All, slice_index_or, length, filter, codes, OnOk, IfErr};
+ghost use Rattle.std.specs.Prelude.{◌≡◌, ◌≤◌, ◌<◌, ◌+◌, ◌++◌, ◌∷◌, []};
+ghost use Rattle.std.specs.Prelude.{All, slice_index_or, length, filter, codes, OnOk, IfErr};
 ghost use Rattle.std.specs.Fmt.{decimal, signed_decimal};
 ghost use Rattle.numbers.specs.Signed.{signed_of};
 ghost use Rattle.outside.specs.Sink.{Appends};

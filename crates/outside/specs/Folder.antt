@@ -1,5 +1,6 @@
 -- What contracts see of a folder, and what each of its calls does.
-use Rattle.std.specs.Prelude.{Option, None, Some, ◌≡◌, ◌≢◌, ℕ, ◌+◌, ◌<◌, ◌≤◌, Bool, true, false, List, [], ◌++◌, length, take, ⊤}
+use Rattle.std.specs.Prelude.{Option, None, Some, ◌≡◌, ◌≢◌, ℕ, ◌+◌, ◌<◌, ◌≤◌}
+use Rattle.std.specs.Prelude.{Bool, true, false, List, [], ◌++◌, length, take, ⊤}
 use Rattle.outside.specs.Told.{Told, NoFile, told_bytes, emptied, grown}
 use Rattle.outside.specs.Count.{Rises}
 use Rattle.outside.specs.Refusal.{IsCounted}

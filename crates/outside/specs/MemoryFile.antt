@@ -1,5 +1,6 @@
 -- What a list of files in memory tells of a name.
-use Rattle.std.specs.Prelude.{Option, None, Some, List, [], ◌∷◌, ℕ, ◌≡◌, ◌≢◌, ◌<◌, ◌≤◌, length, if◌then◌else◌, slice_get, string_bytes}
+use Rattle.std.specs.Prelude.{Option, None, Some, List, [], ◌∷◌, ℕ, ◌≡◌, ◌≢◌, ◌<◌}
+use Rattle.std.specs.Prelude.{◌≤◌, length, if◌then◌else◌, slice_get, string_bytes}
 use Rattle.std.specs.Option.{option_map, option_and_then}
 use Rattle.std.specs.Str.{bytes_eq}
 use Rattle.outside.specs.Told.{Told, NoFile, Bytes}

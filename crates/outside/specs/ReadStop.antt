@@ -1,5 +1,6 @@
 -- What `read_through` feeds, and why it stops.
-use Rattle.std.specs.Prelude.{Option, List, [], ◌∷◌, ◌++◌, ◌≡◌, ◌≢◌, ◌⊎◌, ℕ, ◌+◌, ◌<◌, ◌≤◌, length, take, ⊤, None, Some}
+use Rattle.std.specs.Prelude.{Option, List, [], ◌∷◌, ◌++◌, ◌≡◌, ◌≢◌, ◌⊎◌}
+use Rattle.std.specs.Prelude.{ℕ, ◌+◌, ◌<◌, ◌≤◌, length, take, ⊤, None, Some}
 use Rattle.outside.specs.Told.{NoFile, told_bytes}
 use Rattle.outside.specs.Count.{Rose, Rises}
 use Rattle.outside.specs.Given.{extended}

@@ -38,7 +38,8 @@ pub record SinkLaws {K : Type 0} (sink : Sink K) : Type 0 where
 
 -- the code adds rows to those that the sink holds, and leaves all else below free, within so many turns of each kind; or it is
 -- refused a growth, as the sink may be
-abbrev pub Adds : {K : Type 0} → Sink K → K → Setting → List ℕ → List KStmt → ℕ → (LoopKind → ℕ) → List Entry → List Entry → State → Type 0
+abbrev pub Adds : {K : Type 0} → Sink K → K → Setting → List ℕ → List KStmt → ℕ → (LoopKind → ℕ) → List Entry → List Entry
+    → State → Type 0
 Adds sink k c ranges code free most before rows s =
     Does c code s (λ t. Leaves (sink.mine k) (sink.kept k) free most s t × sink.holds k c.arithmetic ranges (before ++ rows) t)
     (RefusedWithin most s (sink.refused k (before ++ rows)))

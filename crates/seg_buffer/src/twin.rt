@@ -1,5 +1,6 @@
 //! `Twin`: two lists of equal length, which grow together.
-ghost use Rattle.std.specs.Prelude.{◌≡◌, ◌+◌, ◌-◌, ◌*◌, ◌^◌, ◌<◌, ◌≤◌, max, [], ◌∷◌, ◌++◌, length, take, OnOk, OnErr, IsOk};
+ghost use Rattle.std.specs.Prelude.{◌≡◌, ◌+◌, ◌-◌, ◌*◌, ◌^◌, ◌<◌, ◌≤◌};
+ghost use Rattle.std.specs.Prelude.{max, [], ◌∷◌, ◌++◌, length, take, OnOk, OnErr, IsOk};
 
 use crate::segment::{Segment, grown};
 use std::alloc::{AllocError, Global};

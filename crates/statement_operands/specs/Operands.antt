@@ -1,5 +1,6 @@
 -- When the operands of a statement, tensor 1 and on, fit it and the ranges of its variables.
-use Rattle.std.specs.Prelude.{◌≡◌, ℕ, zero, suc, ◌+◌, ◌<◌, ◌≤◌, List, Option, None, Some, length, map, All, slice_get, slice_index}
+use Rattle.std.specs.Prelude.{◌≡◌, ℕ, zero, suc, ◌+◌, ◌<◌, ◌≤◌, List, Option}
+use Rattle.std.specs.Prelude.{None, Some, length, map, All, slice_get, slice_index}
 use Rattle.limits.specs.Limits.{greatest_position_count}
 use Rattle.tensor_map.specs.Entries.{Entries}
 use Rattle.lists.specs.Each.{Each}

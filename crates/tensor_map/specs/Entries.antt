@@ -1,7 +1,8 @@
 -- Entries of a tensor in a row, and the tensor that they stand for: at a coordinate list the sum of the values
 -- of all entries that have it, and beside that the coordinate lists that some entry has. This is how the FROSTT
 -- page and NISTIR 5935 (section 'Coordinate Format') read a list of entries.
-use Rattle.std.specs.Prelude.{◌≡◌, ◌≢◌, ℕ, ◌^◌, ◌<◌, ◌≤◌, Bool, nat_eq, not, List, [], ◌∷◌, length, map, filter, All, ◌⊎◌, ◌↔◌, slice_index}
+use Rattle.std.specs.Prelude.{◌≡◌, ◌≢◌, ℕ, ◌^◌, ◌<◌, ◌≤◌, Bool, nat_eq, not, List}
+use Rattle.std.specs.Prelude.{[], ◌∷◌, length, map, filter, All, ◌⊎◌, ◌↔◌, slice_index}
 use Rattle.std.specs.Prelude.{slice_index_or}
 use Rattle.std.specs.Cmp.Lexicographic.{pointwise}
 use Rattle.limits.specs.Limits.{greatest_order}

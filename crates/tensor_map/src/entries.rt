@@ -1,4 +1,5 @@
-ghost use Rattle.std.specs.Prelude.{◌≡◌, ℕ, ◌≤◌, ◌<◌, ◌↔◌, [], ◌∷◌, ◌++◌, length, IsTrue, IsOk, IfOk, OnOk, OnErr, MatchOption};
+ghost use Rattle.std.specs.Prelude.{◌≡◌, ℕ, ◌≤◌, ◌<◌, ◌↔◌, [], ◌∷◌, ◌++◌};
+ghost use Rattle.std.specs.Prelude.{length, IsTrue, IsOk, IfOk, OnOk, OnErr, MatchOption};
 ghost use Rattle.std.specs.Prelude.{slice_index_or, slice_set, nat_eq, max, List, take, filter};
 ghost use Rattle.limits.specs.Limits.{greatest_order};
 ghost use Rattle.tensor_map.specs.Summed.{joined, summed};

@@ -1,6 +1,7 @@
 //! What follows from the definition of the tensor that a row of entries stands for, as calls whose contract is
 //! the law. They do nothing.
-ghost use Rattle.std.specs.Prelude.{◌≡◌, ◌≢◌, ℕ, ◌↔◌, ◌++◌, ◌<◌, ◌⊎◌, List, All, IsPermutation, length, slice_index_or};
+ghost use Rattle.std.specs.Prelude.{◌≡◌, ◌≢◌, ℕ, ◌↔◌, ◌++◌, ◌<◌, ◌⊎◌};
+ghost use Rattle.std.specs.Prelude.{List, All, IsPermutation, length, slice_index_or};
 ghost use Rattle.numbers.specs.Arithmetic.{Arithmetic, Laws};
 ghost use Rattle.tensor_map.specs.Entries.{Entry, IsEntry, value_at, Listed, SameValues, SameListed, StrictlyIncreasing, NoneIsZero};
 

@@ -1,5 +1,6 @@
 -- How many positions the levels of a format have for the rows of a table, told by the rows' coordinates alone.
-use Rattle.std.specs.Prelude.{ℕ, zero, suc, ◌+◌, ◌≤◌, ◌&&◌, ◌||◌, not, max, Bool, false, if◌then◌else◌, List, [], ◌∷◌, All}
+use Rattle.std.specs.Prelude.{ℕ, zero, suc, ◌+◌, ◌≤◌, ◌&&◌, ◌||◌, not, max}
+use Rattle.std.specs.Prelude.{Bool, false, if◌then◌else◌, List, [], ◌∷◌, All}
 use Rattle.limits.specs.Limits.{greatest_position_count}
 use Rattle.level_core.specs.declared.letter.Letter.{Letter}
 use Rattle.level_core.specs.Kinds.{capabilities, positions_for}

@@ -1,5 +1,6 @@
 -- The values of a dense result as the place where rows go.
-use Rattle.std.specs.Prelude.{◌≡◌, ℕ, ◌+◌, ◌^◌, ◌≤◌, ◌<◌, true, false, List, [], ◌∷◌, length, map, Option, Some, All, slice_index}
+use Rattle.std.specs.Prelude.{◌≡◌, ℕ, ◌+◌, ◌^◌, ◌≤◌, ◌<◌, true, false, List}
+use Rattle.std.specs.Prelude.{[], ◌∷◌, length, map, Option, Some, All, slice_index}
 use Rattle.limits.specs.Limits.{greatest_position_count}
 use Rattle.numbers.specs.Arithmetic.{Arithmetic}
 use Rattle.kernel_code.specs.declared.syntax.Arr.{Arr}

@@ -1,5 +1,6 @@
 -- What a reader of lines keeps of the text.
-use Rattle.std.specs.Prelude.{◌≡◌, ℕ, ◌+◌, ◌<◌, ◌≤◌, min, Bool, false, List, [], length, vec_len, vec_capacity, if◌then◌else◌}
+use Rattle.std.specs.Prelude.{◌≡◌, ℕ, ◌+◌, ◌<◌, ◌≤◌, min, Bool, false, List}
+use Rattle.std.specs.Prelude.{[], length, vec_len, vec_capacity, if◌then◌else◌}
 use Rattle.limits.specs.Limits.{greatest_line_bytes}
 use Rattle.text_lines.specs.Cutting.{begun_line, has_long_line, told_lines}
 use Rattle.text_lines.specs.declared.line_reader.LineReader.TheInside.{Inside}

@@ -1,5 +1,6 @@
 -- The tokens of a line, from the left.
-use Rattle.std.specs.Prelude.{◌≡◌, ℕ, ◌+◌, ◌<◌, ◌==◌, List, ◌++◌, length, Option, Some, None, Result, Ok, Err, if◌then◌else◌}
+use Rattle.std.specs.Prelude.{◌≡◌, ℕ, ◌+◌, ◌<◌, ◌==◌, List, ◌++◌, length}
+use Rattle.std.specs.Prelude.{Option, Some, None, Result, Ok, Err, if◌then◌else◌}
 use Rattle.tensor_map.specs.declared.entries.Entry.{Entry}
 use Rattle.tns_io.specs.Reading.{Reading, entry_of}
 use Rattle.tns_io.specs.Reading.Reading.{Skipped, Read, Bad}

@@ -128,13 +128,16 @@ fn put_again(alloc: Global, out: &mut String, case: &Case, text: &str) -> Result
     put_streams(alloc, out, &again, status)
 }
 
-// The further command lines of a case.
+// The further command lines of a case, and its refusals.
 fn put_further(alloc: Global, out: &mut String, case: &Case) -> Result<(), AllocError> {
     for words in &case.beside {
         put_beside(alloc, out, case, words.as_slice())?;
     }
     for text in &case.again {
         put_again(alloc, out, case, text.as_str())?;
+    }
+    for text in &case.refused {
+        out.push_str(text.as_str())?;
     }
     Ok(())
 }
