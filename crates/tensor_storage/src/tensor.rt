@@ -1,17 +1,11 @@
-ghost use Rattle.std.specs.Prelude.{◌≡◌, ◌≤◌, ℕ, All, length, slice_index, IfOk, MatchResult};
-ghost use Rattle.limits.specs.Limits.{greatest_position_count};
-ghost use Rattle.level_rows.specs.Tables.{Increase};
-ghost use Rattle.tensor_storage.specs.Counts.{positions_of};
-ghost use Rattle.tensor_storage.specs.Packed.{IsRefusal};
+ghost use Rattle.std.specs.Prelude.{◌≡◌, ℕ, length, slice_index, IfOk, MatchResult};
 ghost use Rattle.tensor_map.specs.Entries.{StrictlyIncreasing};
-ghost use Rattle.tensor_storage.specs.Tables.{AreBelow};
 
 use crate::entries::{EntryRows, arrange};
 use crate::finding::value_at;
 use crate::level::StorageLevel;
 use crate::listing::{append_paths, levels_of_modes, sort_entries};
 use crate::packing::{PackRefusal, PackedTable, pack_table};
-use crate::table::RowTable;
 use format_spec::{Format, FormatLevel};
 use level_core::Span;
 use numbers::Semiring;
@@ -41,8 +35,7 @@ impl Model for Tensor {
 impl Tensor {
     ghost use Rattle.tensor_storage.specs.Arranged.{AreInside, IsPackedFrom, IsRefusalOf};
     ghost use Rattle.tensor_storage.specs.Routes.{ListsPaths};
-    ghost use Rattle.tensor_storage.specs.Stands.{IsPacked};
-    ghost use Rattle.tensor_storage.specs.Storages.{IsStorage, EndsAt, in_level_order, storage_of};
+    ghost use Rattle.tensor_storage.specs.Storages.{IsStorage, EndsAt, storage_of};
 
     /// Packs the entries of a tensor, which increase in the order of the modes: each is stored, those of value zero too. Every other
     /// value is the zero of `S`. Refused for want of memory, or exactly where a level would have more positions than may be: the first
@@ -75,34 +68,6 @@ impl Tensor {
             shape.ranges(),
             &rows,
         ) {
-            Ok(packed) => packed,
-            Err(refusal) => return Err(refusal),
-        };
-        let PackedTable { levels, values } = packed;
-        Ok(Tensor {
-            format,
-            levels,
-            values,
-        })
-    }
-
-    /// Packs the rows of a table, which increase in the order of the format's levels: each is stored, those of value zero too.
-    /// Every other value is the zero of `S`. `ranges` has the range of each mode. Refused for want of memory, or exactly where a
-    /// level would have more positions than may be: the first such level is told, and nothing is stored of it.
-    pub fn pack_rows<S: Semiring, T: RowTable>(
-        alloc: Global,
-        format: Format,
-        ranges: &[u64],
-        table: &T,
-    ) -> Result<Tensor, PackRefusal>
-        requires ranges { length ranges.now ≡ length format }
-        requires small { All (λ range. range ≤ greatest_position_count) ranges.now }
-        requires order { Increase (T.table table.now).coords (length format) (T.table table.now).count }
-        requires below { AreBelow (T.table table.now) (in_level_order format ranges.now) }
-        ensures { MatchResult result (IsPacked S.arithmetic.zero format ranges.now (T.table table.now))
-            (IsRefusal (positions_of format ranges.now (T.table table.now))) }
-    {
-        let packed = match pack_table::<S, T>(alloc, format.levels(), ranges, table) {
             Ok(packed) => packed,
             Err(refusal) => return Err(refusal),
         };
@@ -188,18 +153,6 @@ impl Tensor {
         ensures { result.now ≡ self.now.format }
     {
         &self.format
-    }
-
-    /// The values at the positions of the last level, moved out. It takes no memory.
-    pub fn into_values(self) -> Vec<u64>
-        ensures { result.items ≡ self.values }
-    {
-        let Tensor {
-            format: _format,
-            levels: _levels,
-            values,
-        } = self;
-        values.into_vec()
     }
 
     /// The tensor of these levels and values. It takes no memory.
