@@ -53,7 +53,8 @@ module _ (a : Arithmetic) (laws : Laws a) (ranges : List ℕ) (value : List ℕ 
       agree coords (inl below) =
           one.text_is.values coords ∙ one.inside coords below ∙ sym (two.inside coords below) ∙ sym (two.text_is.values coords)
       agree coords (inr above) =
-          value_unlisted a laws coords one.text_is.entries (λ listed. above (listed_below ranges one.text_is.entries coords one.text_is.below listed))
+          value_unlisted a laws coords one.text_is.entries
+          (λ listed. above (listed_below ranges one.text_is.entries coords one.text_is.below listed))
           ∙ sym (value_unlisted a laws coords two.text_is.entries
           (λ listed. above (listed_below ranges two.text_is.entries coords two.text_is.below listed)))
 

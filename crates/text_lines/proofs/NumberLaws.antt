@@ -1,5 +1,6 @@
 -- What follows from the definitions of the numbers that tokens stand for.
-use Rattle.std.specs.Prelude.{◌≡◌, ℕ, zero, suc, ℤ, pos, negsuc, ◌+◌, ◌-◌, ◌^◌, ◌<◌, ◌≤◌, true, false, not, cond, ◌==◌, nat_lt, nat_le, List, [], ◌∷◌, length, drop, Some, None, Ok, Err, refl, slice_index}
+use Rattle.std.specs.Prelude.{◌≡◌, ℕ, zero, suc, ℤ, pos, negsuc, ◌+◌, ◌-◌, ◌^◌, ◌<◌, ◌≤◌, true, false, not, cond, ◌==◌, nat_lt, nat_le}
+use Rattle.std.specs.Prelude.{List, [], ◌∷◌, length, drop, Some, None, Ok, Err, refl, slice_index}
 use Rattle.std.specs.Char.{is_ascii_digit, digit_value}
 use Rattle.std.specs.Fmt.{decimal, signed_decimal}
 use Rattle.std.specs.List.{list_all, before_first, position_or_len}
@@ -12,7 +13,8 @@ use Rattle.std.proofs.lemmas.Fmt.{decimal_is_IsNumeral}
 use Rattle.std.proofs.lemmas.List.{take_all, drop_all}
 use Rattle.std.proofs.lemmas.Str.{digit_value_digit}
 use Rattle.std.proofs.lemmas.Str.Parse.{IsNumeralModel, numerals_by_value, tells_all_ascii_digits}
-use Rattle.text_lines.specs.Numbers.{is_number, number_of, is_point, whole_part_of, with_sign, whole_of, fits_word, is_decimal, whole_within, read_whole_of}
+use Rattle.text_lines.specs.Numbers.{is_number, number_of, is_point, whole_part_of, with_sign, whole_of, fits_word, is_decimal}
+use Rattle.text_lines.specs.Numbers.{whole_within, read_whole_of}
 use Rattle.text_lines.specs.declared.num_fault.NumFault.TheVariants.{NumRange}
 
 -- std's two words for digits
@@ -40,7 +42,10 @@ number_of_decimal n h = number_of_digits (decimal n) (decimal_is_number n h) ∙
 
 -- a digit is no point and no sign
 pub digit_is_not : (byte other : ℕ) → other < 48 → is_ascii_digit byte ≡ true → (byte == other) ≡ false
-digit_is_not byte other low e = let ends = and_parts (nat_le 48 byte) (nat_le byte 57) e in let above : 48 ≤ byte = leb-true 48 byte ends.0 in ne_eqb byte other (λ is. omega arith)
+digit_is_not byte other low e =
+    let ends = and_parts (nat_le 48 byte) (nat_le byte 57) e in
+    let above : 48 ≤ byte = leb-true 48 byte ends.0 in
+    ne_eqb byte other (λ is. omega arith)
 
 points_none : (text : List ℕ) → all_ascii_digits text ≡ true → position_or_len is_point text ≡ length text
 points_none [] all = refl
@@ -54,7 +59,8 @@ points_none (c ∷ text) all =
 pub whole_part_of_digits : (text : List ℕ) → all_ascii_digits text ≡ true → whole_part_of text ≡ number_of text
 whole_part_of_digits text all =
     let none : position_or_len is_point text ≡ length text = points_none text all in
-    ap (λ (rest : List ℕ). cond (list_all (λ byte. byte == 48) rest) (number_of (before_first is_point text)) None) (drop_all (position_or_len is_point text + 1) text (omega arith))
+    ap (λ (rest : List ℕ). cond (list_all (λ byte. byte == 48) rest) (number_of (before_first is_point text)) None)
+    (drop_all (position_or_len is_point text + 1) text (omega arith))
     ∙ ap number_of (take_all (position_or_len is_point text) text (omega arith))
 
 -- a minus before digits, and no sign before them
@@ -73,14 +79,17 @@ whole_of_plain (c ∷ text) all =
 
 -- the text of a number with its sign is read back
 pub whole_of_decimal : (n : ℕ) → n < 2 ^ 64 → whole_of (decimal n) ≡ Some (pos n)
-whole_of_decimal n h = whole_of_plain (decimal n) (and_parts (nat_lt 0 (length (decimal n))) (all_ascii_digits (decimal n)) (decimal_is_number n h)).1 ∙ ap (option_map (with_sign false)) (number_of_decimal n h)
+whole_of_decimal n h =
+    whole_of_plain (decimal n) (and_parts (nat_lt 0 (length (decimal n))) (all_ascii_digits (decimal n)) (decimal_is_number n h)).1
+    ∙ ap (option_map (with_sign false)) (number_of_decimal n h)
 
 pub whole_of_signed_decimal : (z : ℤ) → fits_word z ≡ true → whole_of (signed_decimal z) ≡ Some z
 whole_of_signed_decimal (pos n) e = let h : n < 2 ^ 63 = ltb-true n (2 ^ 63) e in whole_of_decimal n (omega arith)
 whole_of_signed_decimal (negsuc n) e =
     let h : n < 2 ^ 63 = ltb-true n (2 ^ 63) e in
     let fits : suc n < 2 ^ 64 = omega arith in
-    whole_of_minus (decimal (suc n)) (and_parts (nat_lt 0 (length (decimal (suc n)))) (all_ascii_digits (decimal (suc n))) (decimal_is_number (suc n) fits)).1
+    whole_of_minus (decimal (suc n))
+    (and_parts (nat_lt 0 (length (decimal (suc n)))) (all_ascii_digits (decimal (suc n))) (decimal_is_number (suc n) fits)).1
     ∙ ap (option_map (with_sign true)) (number_of_decimal (suc n) fits)
 
 pub read_whole_of_signed_decimal : (z : ℤ) → fits_word z ≡ true → read_whole_of (signed_decimal z) ≡ Ok z

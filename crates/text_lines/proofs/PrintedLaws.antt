@@ -1,5 +1,6 @@
 -- Lemmas about what specs/PrintedLaws.antt defines.
-use Rattle.std.specs.Prelude.{◌≡◌, ℕ, suc, ℤ, pos, negsuc, ◌-◌, ◌^◌, ◌<◌, ◌≤◌, true, false, nat_lt, nat_le, List, [], ◌∷◌, length, All, slice_index, slice_index_or}
+use Rattle.std.specs.Prelude.{◌≡◌, ℕ, suc, ℤ, pos, negsuc, ◌-◌, ◌^◌, ◌<◌, ◌≤◌, true, false, nat_lt, nat_le, List, [], ◌∷◌, length, All}
+use Rattle.std.specs.Prelude.{slice_index, slice_index_or}
 use Rattle.std.specs.Char.{is_ascii_digit}
 use Rattle.std.specs.Fmt.{decimal, signed_decimal}
 use Rattle.std.specs.Str.{all_ascii_digits}
@@ -30,7 +31,8 @@ digits_filled (c ∷ text) all =
     All-cons IsFilled c text (omega arith) (digits_filled text parts.1)
 
 pub decimal_filled : (n : ℕ) → n < 2 ^ 64 → All IsFilled (decimal n)
-decimal_filled n h = digits_filled (decimal n) (and_parts (nat_lt 0 (length (decimal n))) (all_ascii_digits (decimal n)) (decimal_is_number n h)).1
+decimal_filled n h =
+    digits_filled (decimal n) (and_parts (nat_lt 0 (length (decimal n))) (all_ascii_digits (decimal n)) (decimal_is_number n h)).1
 
 pub decimal_is_token : (n : ℕ) → n < 2 ^ 64 → IsToken (decimal n)
 decimal_is_token n h = filled_token (decimal n) (decimal_nonempty n h) (decimal_filled n h)
@@ -41,7 +43,9 @@ decimal_short n h = length-decimal-le 20 n (omega arith) (let far : 2 ^ 64 ≤ 1
 -- with a sign
 pub signed_filled : (z : ℤ) → fits_word z ≡ true → All IsFilled (signed_decimal z)
 signed_filled (pos n) e = let h : n < 2 ^ 63 = ltb-true n (2 ^ 63) e in decimal_filled n (omega arith)
-signed_filled (negsuc n) e = let h : n < 2 ^ 63 = ltb-true n (2 ^ 63) e in All-cons IsFilled 45 (decimal (suc n)) (omega arith) (decimal_filled (suc n) (omega arith))
+signed_filled (negsuc n) e =
+    let h : n < 2 ^ 63 = ltb-true n (2 ^ 63) e in
+    All-cons IsFilled 45 (decimal (suc n)) (omega arith) (decimal_filled (suc n) (omega arith))
 
 pub signed_some : (z : ℤ) → fits_word z ≡ true → 0 < length (signed_decimal z)
 signed_some (pos n) e = let h : n < 2 ^ 63 = ltb-true n (2 ^ 63) e in decimal_nonempty n (omega arith)

@@ -32,9 +32,16 @@ less_of_second old mid new a b first less = record {
 }
 
 -- a refusal behind what was appended so far
-pub part_so_far : (old mid new : SinkState) (text rest : List ℕ) (why : Refusal) → AppendsSoFar old mid text rest → 0 < length rest → Refuses mid new why → AppendsPart old new text why
+pub part_so_far : (old mid new : SinkState) (text rest : List ℕ) (why : Refusal) → AppendsSoFar old mid text rest
+    → 0 < length rest → Refuses mid new why → AppendsPart old new text why
 part_so_far old mid new text rest why so_far some refuses = record {
-  less = record { front = so_far.front; rest = rest; text_is = so_far.text_is; short = some; written_is = refuses.written_is ∙ so_far.written_is };
+  less = record {
+    front = so_far.front;
+    rest = rest;
+    text_is = so_far.text_is;
+    short = some;
+    written_is = refuses.written_is ∙ so_far.written_is;
+  };
   counted = counted_from why _ _ _ _ _ _ so_far.faults_are so_far.wants_are refuses.counted;
   beside_is = refuses.beside_is ∙ so_far.beside_is;
 }
@@ -43,7 +50,8 @@ pub part_of_first : (old new : SinkState) (a b : List ℕ) (why : Refusal) → A
 part_of_first old new a b why part =
     record { less = less_of_first old.written new.written a b part.less; counted = part.counted; beside_is = part.beside_is }
 
-pub part_of_second : (old mid new : SinkState) (a b : List ℕ) (why : Refusal) → Appends old mid a → AppendsPart mid new b why → AppendsPart old new (a ++ b) why
+pub part_of_second : (old mid new : SinkState) (a b : List ℕ) (why : Refusal) → Appends old mid a → AppendsPart mid new b why
+    → AppendsPart old new (a ++ b) why
 part_of_second old mid new a b why first part = record {
   less = less_of_second old.written mid.written new.written a b first.written_is part.less;
   counted = counted_from why _ _ _ _ _ _ first.faults_are first.wants_are part.counted;

@@ -9,7 +9,8 @@ use Rattle.tensor_map.specs.Entries.{is_at, Listed}
 use Rattle.tensor_map.specs.Laws.{same, other}
 use Rattle.tensor_map.proofs.Lemmas.{tested}
 use Rattle.index_notation.specs.declared.syntax.Access.{Access}
-use Rattle.index_notation.specs.declared.syntax.Expr.{Expr, Num, Access as AccessOf, Add', Sub', Mul', Neg', Row_of-Expr, end_of-Expr, more_of-Expr}
+use Rattle.index_notation.specs.declared.syntax.Expr.{Expr, Num, Access as AccessOf, Add', Sub', Mul', Neg', Row_of-Expr, end_of-Expr}
+use Rattle.index_notation.specs.declared.syntax.Expr.{more_of-Expr}
 use Rattle.expr_terms.specs.Value.{access_value_or_zero, value_of, value_of_in, minus}
 use Rattle.workspaces.specs.Presence.{access_is_present, is_listed, is_present, is_present_in}
 use Rattle.workspaces.specs.PresenceLaws.{AreZeroElsewhere}
@@ -33,9 +34,11 @@ listed_tells (entry ∷ entries) coords h = elim (tested entry.coords coords) [
 pub tells_listed : (entries : List Entry) (coords : List ℕ) → Listed entries coords → is_listed entries coords ≡ true
 tells_listed [] coords listed = absurd listed
 tells_listed (entry ∷ entries) coords (inl here) = ap (λ b. b || is_listed entries coords) ((bytes_decides entry.coords coords).1 here)
-tells_listed (entry ∷ entries) coords (inr there) = ap (λ b. is_at coords entry || b) (tells_listed entries coords there) ∙ or-true (is_at coords entry)
+tells_listed (entry ∷ entries) coords (inr there) = ap (λ b. is_at coords entry || b) (tells_listed entries coords there)
+    ∙ or-true (is_at coords entry)
 
-module _ (a : Arithmetic) (laws : Laws a) (paths : ℕ → List ℕ → Bool) (values : ℕ → List ℕ → ℕ) (zero_elsewhere : AreZeroElsewhere a paths values) (accesses : List Access) (point : ℕ → ℕ) where
+module _ (a : Arithmetic) (laws : Laws a) (paths : ℕ → List ℕ → Bool) (values : ℕ → List ℕ → ℕ)
+    (zero_elsewhere : AreZeroElsewhere a paths values) (accesses : List Access) (point : ℕ → ℕ) where
   access_absent : (o : Option Access) → access_is_present paths point o ≡ false → access_value_or_zero a values point o ≡ a.zero
   access_absent None h = refl
   access_absent (Some access) h = zero_elsewhere access.tensor (map point access.vars) h
@@ -58,10 +61,12 @@ module _ (a : Arithmetic) (laws : Laws a) (paths : ℕ → List ℕ → Bool) (v
     absent_is_zero (AccessOf k) h = access_absent (slice_get accesses k) h
     absent_is_zero (Add' p e q f) h =
         let none = neither (is_present_in paths accesses point e) (is_present_in paths accesses point f) h in
-        zeros_add (value_of_in a values accesses point e) (value_of_in a values accesses point f) (absent_inside e none.0) (absent_inside f none.1)
+        zeros_add (value_of_in a values accesses point e) (value_of_in a values accesses point f)
+        (absent_inside e none.0) (absent_inside f none.1)
     absent_is_zero (Sub' p e q f) h =
         let none = neither (is_present_in paths accesses point e) (is_present_in paths accesses point f) h in
-        zeros_add (value_of_in a values accesses point e) (minus a (value_of_in a values accesses point f)) (absent_inside e none.0) (minus_zero (value_of_in a values accesses point f) (absent_inside f none.1))
+        zeros_add (value_of_in a values accesses point e) (minus a (value_of_in a values accesses point f))
+        (absent_inside e none.0) (minus_zero (value_of_in a values accesses point f) (absent_inside f none.1))
     absent_is_zero (Mul' p e q f) h =
         elim (not_both (is_present_in paths accesses point e) (is_present_in paths accesses point f) h) [
           | inl first ↦ zero_times (value_of_in a values accesses point e) (value_of_in a values accesses point f) (absent_inside e first)
@@ -69,6 +74,7 @@ module _ (a : Arithmetic) (laws : Laws a) (paths : ℕ → List ℕ → Bool) (v
         ]
     absent_is_zero (Neg' p e) h = minus_zero (value_of_in a values accesses point e) (absent_inside e h)
 
-    absent_inside : {m : _} (e : Row_of-Expr m) → is_present_in paths accesses point e ≡ false → value_of_in a values accesses point e ≡ a.zero
+    absent_inside : {m : _} (e : Row_of-Expr m) → is_present_in paths accesses point e ≡ false
+        → value_of_in a values accesses point e ≡ a.zero
     absent_inside end_of-Expr h = refl
     absent_inside (more_of-Expr e rest) h = absent_is_zero e h

@@ -9,4 +9,5 @@ returns-in-None c = tokens_none c.args.line.now (place_missed is_filled c.args.l
 
 pub returns-in-Some : goal.returns-in-Some
 returns-in-Some c =
-    token_cut c.args.line.now _ _ _ c.in-Some.start _ _ c.in-Some.ensures (take_rest c.args.line.now c.in-Some.start) c.first_blank.ensures c.unwrap_or-end.ensures c.split_at.ensures.front c.split_at.ensures.back
+    token_cut c.args.line.now _ _ _ c.in-Some.start _ _ c.in-Some.ensures (take_rest c.args.line.now c.in-Some.start)
+    c.first_blank.ensures c.unwrap_or-end.ensures c.split_at.ensures.front c.split_at.ensures.back

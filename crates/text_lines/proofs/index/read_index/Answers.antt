@@ -10,7 +10,8 @@ use Rattle.text_lines.proofs.index.read_index.Goals as goal
 
 pub returns-then-not-is_ascii_digit : goal.returns-then-not-is_ascii_digit
 returns-then-not-is_ascii_digit c =
-    sym (ap (index_within c.args.greatest) (no_number_at c.args.token.now c.loop-byte.byte-index c.loop-byte-test.true (sym c.if-not-is_ascii_digit.ensures.value)))
+    sym (ap (index_within c.args.greatest)
+    (no_number_at c.args.token.now c.loop-byte.byte-index c.loop-byte-test.true (sym c.if-not-is_ascii_digit.ensures.value)))
 
 pub loop-byte-preserved : goal.loop-byte-preserved
 loop-byte-preserved c =
@@ -18,7 +19,8 @@ loop-byte-preserved c =
     let byte : ℕ = get_or c.args.token.now i 0 in
     let is = value_of_digit byte (sym c.if-not-is_ascii_digit.ensures.value) in
     let before : ℕ = digits_value 10 (take i c.args.token.now) in
-    let more : before * 10 + (byte - 48) ≡ digits_value 10 (take (i + 1) c.args.token.now) = ap (λ n. before * 10 + n) (sym is.0) ∙ sym (digits_value_more 10 c.args.token.now i c.loop-byte-test.true) in
+    let more : before * 10 + (byte - 48) ≡ digits_value 10 (take (i + 1) c.args.token.now) =
+    ap (λ n. before * 10 + n) (sym is.0) ∙ sym (digits_value_more 10 c.args.token.now i c.loop-byte-test.true) in
     record {
       digits = digits_more 10 c.args.token.now i c.loop-byte-test.true c.loop-byte.invariant.digits is.1;
       kept = subst (λ (n : ℕ). IsKept c.with_digit-number.result n) more (c.with_digit-number.ensures before c.loop-byte.invariant.kept);
@@ -31,5 +33,6 @@ returns c =
     let some : 0 < length c.args.token.now = omega (arith, isnt) in
     let whole = take_all c.loop-byte.byte-index c.args.token.now c.loop-byte-test.false in
     let digits : AllDigits 10 c.args.token.now = subst (AllDigits 10) whole c.loop-byte.invariant.digits in
-    c.at_most.ensures (digits_value 10 c.args.token.now) (subst (λ xs. IsKept c.loop-byte.number (digits_value 10 xs)) whole c.loop-byte.invariant.kept)
+    c.at_most.ensures (digits_value 10 c.args.token.now)
+    (subst (λ xs. IsKept c.loop-byte.number (digits_value 10 xs)) whole c.loop-byte.invariant.kept)
     ∙ sym (ap (index_within c.args.greatest) (number_of_numeral c.args.token.now some digits))

@@ -6,4 +6,6 @@ use Rattle.text_lines.proofs.DecimalLaws.{digits_told}
 use Rattle.text_lines.proofs.whole.are_digits.Goals as goal
 
 pub returns : goal.returns
-returns c = digits_told c.args.text.now c.all.result (cases_from_all _ _ _ IsDigit IsNoDigit c.all.ensures.ran (YieldsList-from_slice c.args.text.now cc) (λ x q k. search (rules, tests)) (λ x q k. search (rules, tests)))
+returns c = digits_told c.args.text.now c.all.result
+    (cases_from_all _ _ _ IsDigit IsNoDigit c.all.ensures.ran (YieldsList-from_slice c.args.text.now cc)
+    (λ x q k. search (rules, tests)) (λ x q k. search (rules, tests)))
