@@ -15,14 +15,13 @@ fn refusal(text: &str) -> Result<Fault<'_>> {
 }
 
 // Its status and its line.
-pub(crate) fn told(alloc: Global, text: &str) -> Result<String> {
+pub(crate) fn put_refused(alloc: Global, out: &mut String, text: &str) -> Result<()> {
     let fault = refusal(text)?;
     let mut err = MemSink::new(alloc);
     if put_line(&mut err, &fault).is_err() {
         bail!("the line is refused");
     }
-    let mut out = String::new(alloc);
     write!(out, "refused {text}\nstatus {}\n", fault.status())?;
     write!(out, "err \"{}\"\n", err.written().escape_ascii())?;
-    Ok(out)
+    Ok(())
 }

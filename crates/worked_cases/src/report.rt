@@ -136,10 +136,7 @@ fn put_further(alloc: Global, out: &mut String, case: &Case) -> Result<(), Alloc
     for text in &case.again {
         put_again(alloc, out, case, text.as_str())?;
     }
-    for text in &case.refused {
-        out.push_str(text.as_str())?;
-    }
-    Ok(())
+    out.push_str(case.refused.as_str())
 }
 
 // Runs the case, and tells how it ended, and its further command lines.
