@@ -1,6 +1,7 @@
 -- The levels that a sound kernel leaves may be handed over, and make a tensor that the arrays hold.
-use Rattle.std.specs.Prelude.{◌≡◌, ℕ, suc, ◌+◌, Bool, true, false, List, [], ◌∷◌, length, map, Some, slice_get, refl}
+use Rattle.std.specs.Prelude.{◌≡◌, ℕ, suc, ◌+◌, Bool, true, false, List, [], ◌∷◌, length, map, All, Some, slice_get, refl}
 use Rattle.std.proofs.Common.{◌∙◌, sym, ap, subst, arith}
+use Rattle.std.proofs.lemmas.List.Elements.{All-cons}
 use Rattle.kernel_code.specs.declared.syntax.Arr.TheVariants.{Dimension}
 use Rattle.level_core.specs.declared.letter.Letter.{Letter}
 use Rattle.level_core.specs.declared.letter.Letter.TheVariants.{Dense, Compressed, CompressedGroups, Singleton, SingletonGroups, Hashed}
@@ -20,7 +21,7 @@ use Rattle.storage_builder.specs.Building.{building, MayFinish}
 use Rattle.storage_builder.specs.Handed.{AreAlike}
 use Rattle.storage_builder.specs.declared.part.Part.{Part}
 use Rattle.storage_builder.specs.declared.part.Part.TheVariants.{Missing, Lists, Slots}
-use Rattle.storage_builder.specs.Made.{level_of, IsReady, AreReady, AreMade, levels_of, positions_of, values_for}
+use Rattle.storage_builder.specs.Made.{level_of, IsMade, IsReady, AreReady, AreMade, levels_of, positions_of, values_for}
 use Rattle.storage_builder.proofs.Left.{finished_may_be_handed_over}
 use Rattle.kernel_stores.specs.Results.{LeavesStorage, positions_below, summed}
 use Rattle.kernel_stores.specs.Stores.{Store, AreHeld, result_sizes}
@@ -53,7 +54,7 @@ collected (l ∷ ls) (part ∷ parts) level a long h = (
 -- what is answered of each level
 record Handed (l : StorageLevel) (parents : ℕ) (part : Part) : Type 0 where
   ready : IsReady (meaning.kind l) (meaning.size l) parents part
-  alike : AreAlike l (level_of 0 (meaning.kind l) (meaning.size l) parents part)
+  alike : (m : StorageLevel) → IsMade (meaning.kind l) (meaning.size l) parents part m → AreAlike l m
   positions : positions_of (meaning.kind l) (meaning.size l) parents part ≡ positions_in parents l
 
 handed : (l : StorageLevel) (level parents : ℕ) (part : Part) (a : Arrays) → meaning.holds l 0 level (summed a)
@@ -61,7 +62,7 @@ handed : (l : StorageLevel) (level parents : ℕ) (part : Part) (a : Arrays) →
 handed l level parents part a held has left =
     let words = words_left l level parents part a held has left in
     let again = finished_may_be_handed_over l parents part has words in
-    record { ready = again.0; alike = again.1 _ (0, refl); positions = positions_left l parents part words }
+    record { ready = again.0; alike = again.1; positions = positions_left l parents part words }
 
 pub ready : (ls : List StorageLevel) (parts : List Part) (parents level : ℕ) (a : Arrays) → AreHeld ls 0 level (summed a)
     → AreDone parents ls → HoldParts ls parts level a → AreReady (map meaning.kind ls) (map meaning.size ls) parts parents
@@ -102,12 +103,13 @@ pub opened : (ls : List StorageLevel) (parts : List Part) (parents level : ℕ) 
 opened [] parts parents level a positions span held done left o = o
 opened (l ∷ ls) [] parents level a positions span held done left o = absurd left
 opened (l ∷ ls) (part ∷ parts) parents level a positions span held done left o =
-    let k = handed l level parents part a held.0 done.0.has_parents left.0 in (
-      k.alike.allowed span o.0,
+    let k = handed l level parents part a held.0 done.0.has_parents left.0 in
+    let alike = k.alike _ (0, refl) in (
+      alike.allowed span o.0,
       λ e at.
           subst (λ n. IsOpen meaning (levels_of (map meaning.kind ls) (map meaning.size ls) parts n) positions e.child) (sym k.positions)
           (opened ls parts (positions_in parents l) (suc level) a positions e.child held.1 done.1 left.1
-          (o.1 e (subst (StandsAt e.child.lo e) (k.alike.entries span) at))),
+          (o.1 e (subst (StandsAt e.child.lo e) (alike.entries span) at))),
     )
 
 not_dense_lists : (unique : Bool) → compressed.letter_of unique ≡ Dense → ⊥
@@ -166,14 +168,22 @@ may_finish nothing store a parts values left parts_left is =
       };
     }
 
+-- levels that are made of the store's format and ranges are made as those that are left
+made_as_left : (nothing : ℕ) (store : Store) (a : Arrays) (parts : List Part) (ts : List StorageLevel)
+    (left : LeavesStorage nothing store a)
+    → AreMade (letters_of store.format) (result_sizes store) parts 1 ts
+    → AreMade (map meaning.kind left.levels) (map meaning.size left.levels) parts 1 ts
+made_as_left nothing store a parts ts left made =
+    subst (λ ls. AreMade ls (map meaning.size left.levels) parts 1 ts) (sym left.storage.letters)
+    (subst (λ ns. AreMade (letters_of store.format) ns parts 1 ts) (sym left.sizes) made)
+
 -- and the arrays hold the levels that are made
 pub made_left : (nothing : ℕ) (store : Store) (a : Arrays) (parts : List Part) (ts : List StorageLevel)
     (left : LeavesStorage nothing store a)
     → HoldParts left.levels parts 1 a → AreMade (letters_of store.format) (result_sizes store) parts 1 ts → AreHeld ts 0 1 (summed a)
 made_left nothing store a parts ts left parts_left made =
     made_are_held left.levels ts parts 1 1 a left.is_left.held left.done parts_left
-    (subst (λ ls. AreMade ls (map meaning.size left.levels) parts 1 ts) (sym left.storage.letters)
-    (subst (λ ns. AreMade (letters_of store.format) ns parts 1 ts) (sym left.sizes) made))
+    (made_as_left nothing store a parts ts left made)
 
 -- the levels that are made are finished
 spare_free : (spare : ℕ) (letter : Letter) (size parents : ℕ) (part : Part)
@@ -201,18 +211,17 @@ made_are_done [] (t ∷ ts) parts parents level a held done left made = absurd m
 made_are_done (l ∷ ls) [] parts parents level a held done left made = tt
 made_are_done (l ∷ ls) (t ∷ ts) [] parents level a held done left made = absurd left
 made_are_done (l ∷ ls) (t ∷ ts) (part ∷ parts) parents level a held done left made =
-    let words = words_left l level parents part a held.0 done.0.has_parents left.0 in
-    let alike : AreAlike l t = (finished_may_be_handed_over l parents part done.0.has_parents words).1 t made.0 in
-    let positions = positions_left l parents part words in
+    let k = handed l level parents part a held.0 done.0.has_parents left.0 in
+    let alike = k.alike t made.0 in
     let same : positions_in parents t ≡ positions_in parents l =
-    ap (positions_in parents) made.0.1 ∙ spare_free made.0.0 (meaning.kind l) (meaning.size l) parents part ∙ positions in (
+    ap (positions_in parents) made.0.1 ∙ spare_free made.0.0 (meaning.kind l) (meaning.size l) parents part ∙ k.positions in (
       record {
         has_parents = alike.has_parents parents done.0.has_parents;
         width = λ none w h. done.0.width none w (sym alike.width ∙ h);
       },
       subst (λ n. AreDone n ts) (sym same)
           (made_are_done ls ts parts (positions_in parents l) (suc level) a held.1 done.1 left.1
-          (subst (λ n. AreMade (map meaning.kind ls) (map meaning.size ls) parts n ts) positions made.1)),
+          (subst (λ n. AreMade (map meaning.kind ls) (map meaning.size ls) parts n ts) k.positions made.1)),
     )
 
 pub made_done : (nothing : ℕ) (store : Store) (a : Arrays) (parts : List Part) (ts : List StorageLevel)
@@ -220,5 +229,29 @@ pub made_done : (nothing : ℕ) (store : Store) (a : Arrays) (parts : List Part)
     → HoldParts left.levels parts 1 a → AreMade (letters_of store.format) (result_sizes store) parts 1 ts → AreDone 1 ts
 made_done nothing store a parts ts left parts_left made =
     made_are_done left.levels ts parts 1 1 a left.is_left.held left.done parts_left
-    (subst (λ ls. AreMade ls (map meaning.size left.levels) parts 1 ts) (sym left.storage.letters)
-    (subst (λ ns. AreMade (letters_of store.format) ns parts 1 ts) (sym left.sizes) made))
+    (made_as_left nothing store a parts ts left made)
+
+-- they keep the rules of their kinds, and have the same ranges as those that are left
+made_keep : (ls ts : List StorageLevel) (parts : List Part) (parents level : ℕ) (a : Arrays) → AreHeld ls 0 level (summed a)
+    → AreDone parents ls → HoldParts ls parts level a → AreMade (map meaning.kind ls) (map meaning.size ls) parts parents ts
+    → All meaning.keeps ts × (map meaning.size ts ≡ map meaning.size ls)
+made_keep [] [] parts parents level a held done left made = (λ k l below. absurd (omega (arith, below)), refl)
+made_keep [] (t ∷ ts) parts parents level a held done left made = absurd made
+made_keep (l ∷ ls) [] parts parents level a held done left made = absurd made
+made_keep (l ∷ ls) (t ∷ ts) [] parents level a held done left made = absurd left
+made_keep (l ∷ ls) (t ∷ ts) (part ∷ parts) parents level a held done left made =
+    let k = handed l level parents part a held.0 done.0.has_parents left.0 in
+    let alike = k.alike t made.0 in
+    let others = made_keep ls ts parts (positions_in parents l) (suc level) a held.1 done.1 left.1
+    (subst (λ n. AreMade (map meaning.kind ls) (map meaning.size ls) parts n ts) k.positions made.1) in (
+      All-cons meaning.keeps t ts alike.keeps others.0,
+      λ i. alike.size i ∷ others.1 i,
+    )
+
+pub made_keeps : (nothing : ℕ) (store : Store) (a : Arrays) (parts : List Part) (ts : List StorageLevel)
+    (left : LeavesStorage nothing store a)
+    → HoldParts left.levels parts 1 a → AreMade (letters_of store.format) (result_sizes store) parts 1 ts
+    → All meaning.keeps ts × (map meaning.size ts ≡ result_sizes store)
+made_keeps nothing store a parts ts left parts_left made =
+    let kept = made_keep left.levels ts parts 1 1 a left.is_left.held left.done parts_left
+    (made_as_left nothing store a parts ts left made) in (kept.0, kept.1 ∙ left.sizes)

@@ -8,15 +8,16 @@ use Rattle.level_core.specs.Meaning.{Arrays}
 use Rattle.format_spec.specs.declared.format.FormatLevel.{FormatLevel}
 use Rattle.format_spec.specs.Formats.{letters_of}
 use Rattle.tensor_storage.specs.Levels.{meaning}
-use Rattle.tensor_storage.specs.Storages.{Storage}
+use Rattle.tensor_storage.specs.Storages.{Storage, IsStorage, storage_of}
 use Rattle.storage_builder.specs.Building.{Building, building, MayFinish}
 use Rattle.storage_builder.specs.declared.part.Part.{Part}
 use Rattle.storage_builder.specs.declared.part.Part.TheVariants.{Missing}
 use Rattle.storage_builder.specs.Made.{AreMade}
+use Rattle.storage_builder.proofs.Whole.{levels_are_storage}
 use Rattle.kernel_stores.specs.Results.{LeavesStorage}
 use Rattle.kernel_stores.specs.Stores.{Store, result_sizes}
 use Rattle.kernel_machine.specs.Runs.{LeftPart, WasHanded, IsUntouched, IsMadeFrom}
-use Rattle.kernel_machine.proofs.Finishes.{HoldParts, collected, may_finish, made_left, made_done}
+use Rattle.kernel_machine.proofs.Finishes.{HoldParts, collected, may_finish, made_left, made_done, made_keeps}
 use Rattle.kernel_machine.proofs.HandedParts.{all_missing}
 
 some_is : {X : Type 0} (x y : X) → Some x ≡ Some y → x ≡ y
@@ -90,15 +91,30 @@ module _ (nothing : ℕ) (store : Store) (before after : Arrays) (old new : Buil
   pub may : MayFinish new values
   may = subst (λ b. MayFinish b values) (sym new_is) (may_finish nothing store before new.parts values left handed_parts values_are)
 
+  as_store : (t : Storage) → AreMade (letters_of new.format) new.sizes new.parts 1 t.levels
+      → AreMade (letters_of store.format) (result_sizes store) new.parts 1 t.levels
+  as_store t levels =
+      subst (λ ns. AreMade (letters_of store.format) ns new.parts 1 t.levels) sizes_is
+      (subst (λ (f : List FormatLevel). AreMade (letters_of f) new.sizes new.parts 1 t.levels) format_is levels)
+
+  whole : (t : Storage) → AreMade (letters_of new.format) new.sizes new.parts 1 t.levels → t.format ≡ new.format → t.values ≡ values
+      → IsStorage t
+  whole t levels format same =
+      subst (λ f. IsStorage (storage_of f t.levels t.values)) (sym format)
+      (subst (λ vs. IsStorage (storage_of new.format t.levels vs)) (sym same)
+      (levels_are_storage new.format new.sizes new.parts values t.levels may.ready may.whole levels))
+
   pub made : (t : Storage) → AreMade (letters_of new.format) new.sizes new.parts 1 t.levels → t.format ≡ new.format → t.values ≡ values
-      → IsMadeFrom old.format before t
-  made t levels format same = record {
-    format_is = format ∙ handed.format;
-    held = made_left nothing store before new.parts t.levels left handed_parts
-        (subst (λ ns. AreMade (letters_of store.format) ns new.parts 1 t.levels) sizes_is
-        (subst (λ (f : List FormatLevel). AreMade (letters_of f) new.sizes new.parts 1 t.levels) format_is levels));
-    values = left.is_left.values_held ∙ ap Some (sym values_are ∙ sym same);
-    done = made_done nothing store before new.parts t.levels left handed_parts
-        (subst (λ ns. AreMade (letters_of store.format) ns new.parts 1 t.levels) sizes_is
-        (subst (λ (f : List FormatLevel). AreMade (letters_of f) new.sizes new.parts 1 t.levels) format_is levels));
-  }
+      → IsMadeFrom old.format old.sizes before t
+  made t levels format same =
+      let own = as_store t levels in
+      let kept = made_keeps nothing store before new.parts t.levels left handed_parts own in
+      record {
+        format_is = format ∙ handed.format;
+        held = made_left nothing store before new.parts t.levels left handed_parts own;
+        values = left.is_left.values_held ∙ ap Some (sym values_are ∙ sym same);
+        storage = whole t levels format same;
+        done = made_done nothing store before new.parts t.levels left handed_parts own;
+        keeps = kept.0;
+        sizes_are = kept.1 ∙ sym sizes_is ∙ handed.sizes;
+      }

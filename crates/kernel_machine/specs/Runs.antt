@@ -1,5 +1,5 @@
 -- How the run of a prepared kernel ends.
-use Rattle.std.specs.Prelude.{◌≡◌, ℕ, suc, ◌-◌, ◌^◌, ◌<◌, List, length, Some, slice_get}
+use Rattle.std.specs.Prelude.{◌≡◌, ℕ, suc, ◌-◌, ◌^◌, ◌<◌, List, length, map, All, Some, slice_get}
 use Rattle.numbers.specs.Arithmetic.{Arithmetic}
 use Rattle.kernel_code.specs.declared.syntax.Arr.{Arr}
 use Rattle.kernel_code.specs.declared.syntax.Arr.TheVariants.{Values}
@@ -12,7 +12,8 @@ use Rattle.level_core.specs.Fragments.{IsOf}
 use Rattle.level_core.specs.Meaning.{Arrays}
 use Rattle.format_spec.specs.declared.format.FormatLevel.{FormatLevel}
 use Rattle.format_spec.specs.Formats.{letters_of}
-use Rattle.tensor_storage.specs.Storages.{Storage}
+use Rattle.tensor_storage.specs.Levels.{meaning}
+use Rattle.tensor_storage.specs.Storages.{Storage, IsStorage}
 use Rattle.storage_arrays.specs.Arrays.{AreDone}
 use Rattle.storage_builder.specs.Building.{Building, AreDense}
 use Rattle.storage_builder.specs.declared.part.Part.{Part}
@@ -21,7 +22,7 @@ use Rattle.storage_builder.specs.Handed.{HoldsPart}
 use Rattle.kernel_steps.specs.Memory.{IsInPlace, Through}
 use Rattle.kernel_steps.specs.Store.{count_of}
 use Rattle.kernel_stores.specs.Results.{IsLeft, summed}
-use Rattle.kernel_stores.specs.Stores.{Store, AreHeld}
+use Rattle.kernel_stores.specs.Stores.{Store, AreHeld, result_sizes}
 use Rattle.kernel_machine.specs.declared.refusal.RunRefusal.{RunRefusal}
 use Rattle.kernel_machine.specs.declared.refusal.RunRefusal.TheVariants.{SizeLimit, Memory}
 
@@ -34,13 +35,17 @@ abbrev pub LeftPart : Letter → ℕ → Part → Arrays → Type 0
 LeftPart Dense level part a = Unit {0}
 LeftPart letter level part a = HoldsPart letter 0 0 level part a
 
--- the kernel finishes on the given arrays after these turns, and the tensor has what it leaves of the result, in finished levels
+-- the kernel finishes on the given arrays after these turns, and the tensor has what it leaves of the result: a storage of the store's
+-- format and ranges, whose levels are finished and keep the rules of their kinds
 pub record HasRun (a : Arithmetic) (kernel : Kernel) (store : Store) (given : Arrays) (tensor : Storage) (turns : Turns) : Type 0 where
   pub arrays : Arrays
   pub ends : go a (length store.format) kernel given most_turns ≡ Finished arrays (count_of turns)
   pub format_is : tensor.format ≡ store.format
   pub is_left : IsLeft store arrays tensor.levels tensor.values
+  pub storage : IsStorage tensor
   pub done : AreDone 1 tensor.levels
+  pub keeps : All meaning.keeps tensor.levels
+  pub sizes : map meaning.size tensor.levels ≡ result_sizes store
 
 -- the kernel appends no words, and sorts neither a scratch list nor a workspace
 abbrev pub WorksInPlace : Kernel → Type 0
@@ -66,9 +71,13 @@ pub record WasHanded (old : Building) (before : Arrays) (new : Building) (after 
       → slice_get new.parts i ≡ Some part → LeftPart letter (suc i) part before
   pub others : (x : Arr) → ((k : ℕ) → IsOf 0 k x → ⊥) → after x ≡ before x
 
--- a tensor has the levels and the values that arrays have of the result, and its levels are finished
-pub record IsMadeFrom (format : List FormatLevel) (arrays : Arrays) (t : Storage) : Type 0 where
+-- a tensor has the levels and the values that arrays have of the result: a storage of this format and of levels of these ranges, which
+-- are finished and keep the rules of their kinds
+pub record IsMadeFrom (format : List FormatLevel) (sizes : List ℕ) (arrays : Arrays) (t : Storage) : Type 0 where
   pub format_is : t.format ≡ format
   pub held : AreHeld t.levels 0 1 (summed arrays)
   pub values : arrays (Values 0) ≡ Some t.values
+  pub storage : IsStorage t
   pub done : AreDone 1 t.levels
+  pub keeps : All meaning.keeps t.levels
+  pub sizes_are : map meaning.size t.levels ≡ sizes

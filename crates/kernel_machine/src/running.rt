@@ -75,7 +75,7 @@ fn made_tensor(
     requires order { order ≡ length builder.format }
     requires left { (nothing : ℕ) × (store : Store) × LeavesStorage nothing store (state_of machine).arrays
         × (builder ≡ building store.format (result_sizes store) (replicate (length store.format) Missing)) }
-    ensures made { IfOk result (λ t. IsMadeFrom builder.format (state_of machine.entry).arrays t) }
+    ensures made { IfOk result (λ t. IsMadeFrom builder.format builder.sizes (state_of machine.entry).arrays t) }
     ensures dense { AreDense builder.format → IsOk result }
 {
     if !hand_over(&mut machine, &mut builder, alloc, order) {

@@ -137,7 +137,7 @@ module _ (a : Arithmetic) (laws : Laws a) (s : Statement) (formats : List (List 
       is_store = store_for ends.few;
       runs = record { given = ends.given; is_given = ends.is_given; has_run = ends.has_run; leaves = leaves };
       tensor_of = tensor_of a laws s formats ranges operands (store_of ranges storages format) runnable.operands_are
-          (store_for ends.few) ends.has_run.arrays leaves tensor ends.whole ends.has_run.format_is ends.has_run.is_left entries lists
+          (store_for ends.few) ends.has_run.arrays leaves tensor ends.has_run.storage ends.has_run.format_is ends.has_run.is_left entries lists
           shape shape_is each;
     }
       where

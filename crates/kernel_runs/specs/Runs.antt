@@ -49,8 +49,8 @@ pub record IsStoreFor (a : Arithmetic) (s : Statement) (formats : List (List For
   pub ranges_are : store.ranges ≡ ranges
   pub packed : ArePackedOperands a s formats (slice_index ranges) operands store.operands
 
--- the kernel finishes on the store within these turns, and the tensor has the arrays of a storage that stands for the statement's
--- values, named by its support
+-- the kernel finishes on the store within these turns, and the tensor, whose levels keep the rules of their kinds, has the arrays of a
+-- storage that stands for the statement's values, named by its support
 pub record RunsKernel (a : Arithmetic) (s : Statement) (kernel : Kernel) (store : Store) (tensor : Storage) (turns : Turns) : Type 0 where
   pub given : Arrays
   pub is_given : IsGiven a.zero store given

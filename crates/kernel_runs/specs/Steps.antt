@@ -10,7 +10,7 @@ use Rattle.kernel_code.specs.Kernels.{TooLong, go}
 use Rattle.level_core.specs.Meaning.{Arrays}
 use Rattle.format_spec.specs.Formats.{letters_of}
 use Rattle.tensor_storage.specs.Routes.{ListsPaths}
-use Rattle.tensor_storage.specs.Storages.{Storage, IsStorage}
+use Rattle.tensor_storage.specs.Storages.{Storage}
 use Rattle.kernel_stores.specs.Stores.{Store, IsGiven, StartsFew, result_sizes}
 use Rattle.kernel_machine.specs.Begins as begins
 use Rattle.kernel_machine.specs.Runs.{HasRun, most_turns}
@@ -21,13 +21,12 @@ use Rattle.kernel_runs.specs.declared.fault.RunFault.TheVariants.{Range, SizeLim
 abbrev pub CanBegin : Store → Type 0
 CanBegin store = StartsFew (letters_of store.format) (result_sizes store) 1
 
--- the kernel finishes on arrays of the store, and the tensor has what it leaves
+-- the kernel finishes on arrays of the store, and the tensor is the storage that it leaves
 pub record EndsOn (a : Arithmetic) (kernel : Kernel) (store : Store) (tensor : Storage) (turns : Turns) : Type 0 where
   pub few : CanBegin store
   pub given : Arrays
   pub is_given : IsGiven a.zero store given
   pub has_run : HasRun a kernel store given tensor turns
-  pub whole : IsStorage tensor
 
 -- it is refused a growth
 pub record StopsOn (a : Arithmetic) (kernel : Kernel) (store : Store) (at : Place) (count : ℕ) : Type 0 where

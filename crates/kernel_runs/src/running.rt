@@ -59,10 +59,7 @@ pub(crate) fn run_on<S: Semiring>(
         Err(refusal) => return Err(fault_of(refusal)),
     };
     match run::<S>(prepared) {
-        Ok(pair) => {
-            let _levels = pair.0.format();
-            Ok(pair)
-        }
+        Ok(pair) => Ok(pair),
         Err(refusal) => Err(fault_of(refusal)),
     }
 }

@@ -27,7 +27,8 @@ returns-clause-made c =
     let new = c.hand_over.new.builder in
     both_ok c.finish.result (λ (t : Storage). AreMade (letters_of new.format) new.sizes new.parts 1 t.levels)
     (λ (t : Storage). (t.format ≡ new.format) × (t.values ≡ c.in-Some.values.items))
-    (λ (t : Storage). IsMadeFrom c.args.builder.format (state_of c.args.machine).arrays t) c.finish.ensures.levels c.finish.ensures.others
+    (λ (t : Storage). IsMadeFrom c.args.builder.format c.args.builder.sizes (state_of c.args.machine).arrays t)
+    c.finish.ensures.levels c.finish.ensures.others
     (λ t levels others.
     made c.requires.left.0 c.requires.left.1 (state_of c.args.machine).arrays (state_of c.hand_over.new.machine).arrays c.args.builder new
     c.in-Some.values.items c.requires.left.2 c.requires.left.3 (c.hand_over.ensures.handed yes) c.in-Some.ensures.words t levels

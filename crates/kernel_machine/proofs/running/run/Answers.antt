@@ -55,7 +55,10 @@ returns-in-Ok-made_tensor g c =
       ends = ends;
       format_is = c.in-Ok-made_tensor.ensures.made.format_is ∙ ap (λ (b : Building). b.format) ready.building;
       is_left = record { held = c.in-Ok-made_tensor.ensures.made.held; values_held = c.in-Ok-made_tensor.ensures.made.values };
+      storage = c.in-Ok-made_tensor.ensures.made.storage;
       done = c.in-Ok-made_tensor.ensures.made.done;
+      keeps = c.in-Ok-made_tensor.ensures.made.keeps;
+      sizes = c.in-Ok-made_tensor.ensures.made.sizes_are ∙ ap (λ (b : Building). b.sizes) ready.building;
     }
 
 pub returns-in-Over : goal.returns-in-Over

@@ -28,7 +28,6 @@ returns-in-Ok-run g c =
       is_given = own.starts.is_given;
       has_run = subst (λ k. HasRun g.S.Semiring.arithmetic k store own.starts.given c.in-Ok-run.pair.0 c.in-Ok-run.pair.1) ready.kernel_is
           (c.in-Ok-run.ensures store own);
-      whole = c.format-levels.ensures.storage;
     }
 
 pub returns-in-Err-run : goal.returns-in-Err-run
