@@ -25,7 +25,7 @@ use Rattle.storage_builder.specs.Made.{level_of, IsMade, IsReady, AreReady, AreM
 use Rattle.storage_builder.proofs.Left.{finished_may_be_handed_over}
 use Rattle.kernel_stores.specs.Results.{LeavesStorage, positions_below, summed}
 use Rattle.kernel_stores.specs.Stores.{Store, AreHeld, result_sizes}
-use Rattle.kernel_machine.specs.Runs.{LeftPart}
+use Rattle.kernel_machine.specs.Runs.{LeftPart, AllAlike}
 use Rattle.kernel_machine.proofs.Parts.{words_left, positions_left, made_held}
 
 -- the parts are what is left of the levels, from this number on
@@ -231,27 +231,30 @@ made_done nothing store a parts ts left parts_left made =
     made_are_done left.levels ts parts 1 1 a left.is_left.held left.done parts_left
     (made_as_left nothing store a parts ts left made)
 
--- they keep the rules of their kinds, and have the same ranges as those that are left
-made_keep : (ls ts : List StorageLevel) (parts : List Part) (parents level : ℕ) (a : Arrays) → AreHeld ls 0 level (summed a)
+-- they are the same, but for their room
+pub made_are_alike : (ls ts : List StorageLevel) (parts : List Part) (parents level : ℕ) (a : Arrays) → AreHeld ls 0 level (summed a)
     → AreDone parents ls → HoldParts ls parts level a → AreMade (map meaning.kind ls) (map meaning.size ls) parts parents ts
-    → All meaning.keeps ts × (map meaning.size ts ≡ map meaning.size ls)
-made_keep [] [] parts parents level a held done left made = (λ k l below. absurd (omega (arith, below)), refl)
-made_keep [] (t ∷ ts) parts parents level a held done left made = absurd made
-made_keep (l ∷ ls) [] parts parents level a held done left made = absurd made
-made_keep (l ∷ ls) (t ∷ ts) [] parents level a held done left made = absurd left
-made_keep (l ∷ ls) (t ∷ ts) (part ∷ parts) parents level a held done left made =
-    let k = handed l level parents part a held.0 done.0.has_parents left.0 in
-    let alike = k.alike t made.0 in
-    let others = made_keep ls ts parts (positions_in parents l) (suc level) a held.1 done.1 left.1
-    (subst (λ n. AreMade (map meaning.kind ls) (map meaning.size ls) parts n ts) k.positions made.1) in (
-      All-cons meaning.keeps t ts alike.keeps others.0,
-      λ i. alike.size i ∷ others.1 i,
+    → AllAlike ls ts
+made_are_alike [] [] parts parents level a held done left made = tt
+made_are_alike [] (t ∷ ts) parts parents level a held done left made = absurd made
+made_are_alike (l ∷ ls) [] parts parents level a held done left made = absurd made
+made_are_alike (l ∷ ls) (t ∷ ts) [] parents level a held done left made = absurd left
+made_are_alike (l ∷ ls) (t ∷ ts) (part ∷ parts) parents level a held done left made =
+    let k = handed l level parents part a held.0 done.0.has_parents left.0 in (
+      k.alike t made.0,
+      made_are_alike ls ts parts (positions_in parents l) (suc level) a held.1 done.1 left.1
+          (subst (λ n. AreMade (map meaning.kind ls) (map meaning.size ls) parts n ts) k.positions made.1),
     )
 
-pub made_keeps : (nothing : ℕ) (store : Store) (a : Arrays) (parts : List Part) (ts : List StorageLevel)
-    (left : LeavesStorage nothing store a)
-    → HoldParts left.levels parts 1 a → AreMade (letters_of store.format) (result_sizes store) parts 1 ts
-    → All meaning.keeps ts × (map meaning.size ts ≡ result_sizes store)
-made_keeps nothing store a parts ts left parts_left made =
-    let kept = made_keep left.levels ts parts 1 1 a left.is_left.held left.done parts_left
-    (made_as_left nothing store a parts ts left made) in (kept.0, kept.1 ∙ left.sizes)
+-- so they keep the rules of their kinds, and have the same ranges
+pub alike_keep : (ls ts : List StorageLevel) → AllAlike ls ts → All meaning.keeps ts
+alike_keep [] [] same = λ k l below. absurd (omega (arith, below))
+alike_keep [] (t ∷ ts) same = absurd same
+alike_keep (l ∷ ls) [] same = absurd same
+alike_keep (l ∷ ls) (t ∷ ts) same = All-cons meaning.keeps t ts same.0.keeps (alike_keep ls ts same.1)
+
+pub alike_sizes : (ls ts : List StorageLevel) → AllAlike ls ts → map meaning.size ts ≡ map meaning.size ls
+alike_sizes [] [] same = refl
+alike_sizes [] (t ∷ ts) same = absurd same
+alike_sizes (l ∷ ls) [] same = absurd same
+alike_sizes (l ∷ ls) (t ∷ ts) same = λ i. same.0.size i ∷ alike_sizes ls ts same.1 i

@@ -7,6 +7,7 @@ use Rattle.level_core.specs.declared.letter.Letter.{Letter}
 use Rattle.level_core.specs.Meaning.{Arrays}
 use Rattle.format_spec.specs.declared.format.FormatLevel.{FormatLevel}
 use Rattle.format_spec.specs.Formats.{letters_of}
+use Rattle.tensor_storage.specs.declared.level.StorageLevel.{StorageLevel}
 use Rattle.tensor_storage.specs.Levels.{meaning}
 use Rattle.tensor_storage.specs.Storages.{Storage, IsStorage, storage_of}
 use Rattle.storage_builder.specs.Building.{Building, building, MayFinish}
@@ -14,10 +15,11 @@ use Rattle.storage_builder.specs.declared.part.Part.{Part}
 use Rattle.storage_builder.specs.declared.part.Part.TheVariants.{Missing}
 use Rattle.storage_builder.specs.Made.{AreMade}
 use Rattle.storage_builder.proofs.Whole.{levels_are_storage}
-use Rattle.kernel_stores.specs.Results.{LeavesStorage}
+use Rattle.kernel_stores.specs.Results.{LeavesStorage, summed}
 use Rattle.kernel_stores.specs.Stores.{Store, result_sizes}
-use Rattle.kernel_machine.specs.Runs.{LeftPart, WasHanded, IsUntouched, IsMadeFrom}
-use Rattle.kernel_machine.proofs.Finishes.{HoldParts, collected, may_finish, made_left, made_done, made_keeps}
+use Rattle.kernel_machine.specs.Runs.{LeftPart, WasHanded, IsUntouched, AreThese, IsMadeFrom}
+use Rattle.kernel_machine.proofs.Finishes.{HoldParts, collected, may_finish, made_left, made_done}
+use Rattle.kernel_machine.proofs.Finishes.{made_are_alike, alike_keep, alike_sizes}
 use Rattle.kernel_machine.proofs.HandedParts.{all_missing}
 
 some_is : {X : Type 0} (x y : X) → Some x ≡ Some y → x ≡ y
@@ -64,29 +66,34 @@ module _ (nothing : ℕ) (store : Store) (before after : Arrays) (old new : Buil
   new_is : new ≡ building store.format (result_sizes store) new.parts
   new_is = λ i. record { format = format_is i; sizes = sizes_is i; parts = new.parts }
 
-  parts_long : length new.parts ≡ length left.levels
-  parts_long = handed.long ∙ ap (λ (b : Building). length b.parts) is ∙ copies_long (length store.format) Missing
-      ∙ sym (letters_long store.format) ∙ sym (ap length left.storage.letters) ∙ map_long meaning.kind left.levels
-
-  letters_same : letters_of old.format ≡ map meaning.kind left.levels
-  letters_same = ap (λ (b : Building). letters_of b.format) is ∙ sym left.storage.letters
-
-  values_are : values ≡ left.values
-  values_are = some_is values left.values (words ∙ handed.others (Values 0) (λ k h. h) ∙ left.is_left.values_held)
-
   one_more : (i : ℕ) → suc i ≡ 1 + i
   one_more i = omega arith
 
-  handed_at : (i : ℕ) (letter : Letter) (part : Part) → slice_get (map meaning.kind left.levels) i ≡ Some letter
-      → slice_get new.parts i ≡ Some part → LeftPart letter (1 + i) part before
-  handed_at i letter part at there =
-      let here : slice_get (letters_of old.format) i ≡ Some letter = ap (λ (ls : List Letter). slice_get ls i) letters_same ∙ at in
-      let inside : i < length old.format = subst (λ n. i < n) (letters_long old.format)
-      (get_inside (letters_of old.format) i letter here) in
-      subst (λ k. LeftPart letter k part before) (one_more i) (handed.handed i letter part inside here there)
+  -- what was handed over is what is left of levels of these kinds
+  module _ (ls : List StorageLevel) (kinds : map meaning.kind ls ≡ letters_of store.format) where
+    parts_long : length new.parts ≡ length ls
+    parts_long = handed.long ∙ ap (λ (b : Building). length b.parts) is ∙ copies_long (length store.format) Missing
+        ∙ sym (letters_long store.format) ∙ sym (ap length kinds) ∙ map_long meaning.kind ls
+
+    letters_same : letters_of old.format ≡ map meaning.kind ls
+    letters_same = ap (λ (b : Building). letters_of b.format) is ∙ sym kinds
+
+    handed_at : (i : ℕ) (letter : Letter) (part : Part) → slice_get (map meaning.kind ls) i ≡ Some letter
+        → slice_get new.parts i ≡ Some part → LeftPart letter (1 + i) part before
+    handed_at i letter part at there =
+        let here : slice_get (letters_of old.format) i ≡ Some letter = ap (λ (js : List Letter). slice_get js i) letters_same ∙ at in
+        let inside : i < length old.format = subst (λ n. i < n) (letters_long old.format)
+        (get_inside (letters_of old.format) i letter here) in
+        subst (λ k. LeftPart letter k part before) (one_more i) (handed.handed i letter part inside here there)
+
+    parts_of : HoldParts ls new.parts 1 before
+    parts_of = collected ls new.parts 1 before parts_long handed_at
 
   handed_parts : HoldParts left.levels new.parts 1 before
-  handed_parts = collected left.levels new.parts 1 before parts_long handed_at
+  handed_parts = parts_of left.levels left.storage.letters
+
+  values_are : values ≡ left.values
+  values_are = some_is values left.values (words ∙ handed.others (Values 0) (λ k h. h) ∙ left.is_left.values_held)
 
   pub may : MayFinish new values
   may = subst (λ b. MayFinish b values) (sym new_is) (may_finish nothing store before new.parts values left handed_parts values_are)
@@ -104,17 +111,28 @@ module _ (nothing : ℕ) (store : Store) (before after : Arrays) (old new : Buil
       (subst (λ vs. IsStorage (storage_of new.format t.levels vs)) (sym same)
       (levels_are_storage new.format new.sizes new.parts values t.levels may.ready may.whole levels))
 
+  alike : (t : Storage) → AreMade (letters_of store.format) (result_sizes store) new.parts 1 t.levels
+      → AreThese (letters_of store.format) (result_sizes store) (summed before) t.levels
+  alike t own levels kinds sizes held done =
+      made_are_alike levels t.levels new.parts 1 1 before held done (parts_of levels kinds)
+      (subst (λ js. AreMade js (map meaning.size levels) new.parts 1 t.levels) (sym kinds)
+      (subst (λ ns. AreMade (letters_of store.format) ns new.parts 1 t.levels) (sym sizes) own))
+
   pub made : (t : Storage) → AreMade (letters_of new.format) new.sizes new.parts 1 t.levels → t.format ≡ new.format → t.values ≡ values
       → IsMadeFrom old.format old.sizes before t
   made t levels format same =
       let own = as_store t levels in
-      let kept = made_keeps nothing store before new.parts t.levels left handed_parts own in
+      let those = alike t own in
+      let left_alike = those left.levels left.storage.letters left.sizes left.is_left.held left.done in
       record {
         format_is = format ∙ handed.format;
         held = made_left nothing store before new.parts t.levels left handed_parts own;
         values = left.is_left.values_held ∙ ap Some (sym values_are ∙ sym same);
         storage = whole t levels format same;
         done = made_done nothing store before new.parts t.levels left handed_parts own;
-        keeps = kept.0;
-        sizes_are = kept.1 ∙ sym sizes_is ∙ handed.sizes;
+        keeps = alike_keep left.levels t.levels left_alike;
+        sizes_are = alike_sizes left.levels t.levels left_alike ∙ left.sizes ∙ sym (ap (λ (b : Building). b.sizes) is);
+        alike = subst (λ ns. AreThese (letters_of old.format) ns (summed before) t.levels) (sym (ap (λ (b : Building). b.sizes) is))
+            (subst (λ (f : List FormatLevel). AreThese (letters_of f) (result_sizes store) (summed before) t.levels)
+            (sym (ap (λ (b : Building). b.format) is)) those);
       }

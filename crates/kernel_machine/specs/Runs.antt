@@ -1,5 +1,5 @@
 -- How the run of a prepared kernel ends.
-use Rattle.std.specs.Prelude.{◌≡◌, ℕ, suc, ◌-◌, ◌^◌, ◌<◌, List, length, map, All, Some, slice_get}
+use Rattle.std.specs.Prelude.{◌≡◌, ℕ, suc, ◌-◌, ◌^◌, ◌<◌, List, [], ◌∷◌, length, map, All, Some, slice_get}
 use Rattle.numbers.specs.Arithmetic.{Arithmetic}
 use Rattle.kernel_code.specs.declared.syntax.Arr.{Arr}
 use Rattle.kernel_code.specs.declared.syntax.Arr.TheVariants.{Values}
@@ -12,13 +12,14 @@ use Rattle.level_core.specs.Fragments.{IsOf}
 use Rattle.level_core.specs.Meaning.{Arrays}
 use Rattle.format_spec.specs.declared.format.FormatLevel.{FormatLevel}
 use Rattle.format_spec.specs.Formats.{letters_of}
+use Rattle.tensor_storage.specs.declared.level.StorageLevel.{StorageLevel}
 use Rattle.tensor_storage.specs.Levels.{meaning}
 use Rattle.tensor_storage.specs.Storages.{Storage, IsStorage}
 use Rattle.storage_arrays.specs.Arrays.{AreDone}
 use Rattle.storage_builder.specs.Building.{Building, AreDense}
 use Rattle.storage_builder.specs.declared.part.Part.{Part}
 use Rattle.storage_builder.specs.declared.part.Part.TheVariants.{Missing}
-use Rattle.storage_builder.specs.Handed.{HoldsPart}
+use Rattle.storage_builder.specs.Handed.{HoldsPart, AreAlike}
 use Rattle.kernel_steps.specs.Memory.{IsInPlace, Through}
 use Rattle.kernel_steps.specs.Store.{count_of}
 use Rattle.kernel_stores.specs.Results.{IsLeft, summed}
@@ -35,6 +36,18 @@ abbrev pub LeftPart : Letter → ℕ → Part → Arrays → Type 0
 LeftPart Dense level part a = Unit {0}
 LeftPart letter level part a = HoldsPart letter 0 0 level part a
 
+-- levels that are the same but for their room, one by one
+abbrev pub AllAlike : List StorageLevel → List StorageLevel → Type 0
+AllAlike [] [] = Unit {0}
+AllAlike [] (m ∷ ms) = ⊥
+AllAlike (l ∷ ls) [] = ⊥
+AllAlike (l ∷ ls) (m ∷ ms) = AreAlike l m × AllAlike ls ms
+
+-- finished levels of these kinds and ranges that the arrays hold, as the first of a result, are these, but for their room
+abbrev pub AreThese : List Letter → List ℕ → Arrays → List StorageLevel → Type 0
+AreThese letters sizes arrays these = (levels : List StorageLevel) → map meaning.kind levels ≡ letters → map meaning.size levels ≡ sizes
+    → AreHeld levels 0 1 arrays → AreDone 1 levels → AllAlike levels these
+
 -- the kernel finishes on the given arrays after these turns, and the tensor has what it leaves of the result: a storage of the store's
 -- format and ranges, whose levels are finished and keep the rules of their kinds
 pub record HasRun (a : Arithmetic) (kernel : Kernel) (store : Store) (given : Arrays) (tensor : Storage) (turns : Turns) : Type 0 where
@@ -46,6 +59,7 @@ pub record HasRun (a : Arithmetic) (kernel : Kernel) (store : Store) (given : Ar
   pub done : AreDone 1 tensor.levels
   pub keeps : All meaning.keeps tensor.levels
   pub sizes : map meaning.size tensor.levels ≡ result_sizes store
+  pub alike : AreThese (letters_of store.format) (result_sizes store) (summed arrays) tensor.levels
 
 -- the kernel appends no words, and sorts neither a scratch list nor a workspace
 abbrev pub WorksInPlace : Kernel → Type 0
@@ -81,3 +95,4 @@ pub record IsMadeFrom (format : List FormatLevel) (sizes : List ℕ) (arrays : A
   pub done : AreDone 1 t.levels
   pub keeps : All meaning.keeps t.levels
   pub sizes_are : map meaning.size t.levels ≡ sizes
+  pub alike : AreThese (letters_of format) sizes (summed arrays) t.levels

@@ -5,7 +5,9 @@ use Rattle.storage_builder.specs.Building.{Building}
 use Rattle.kernel_steps.specs.declared.ending.Ending.{Ending}
 use Rattle.kernel_steps.specs.Memory.{variable_room}
 use Rattle.kernel_steps.specs.Store.{count_of, outcome_of, state_of}
-use Rattle.kernel_machine.specs.Runs.{most_turns}
+use Rattle.kernel_machine.specs.Runs.{most_turns, AreThese}
+use Rattle.kernel_stores.specs.Results.{summed}
+use Rattle.format_spec.specs.Formats.{letters_of}
 use Rattle.kernel_machine.proofs.Ends.{none_made, ends_told, sound_leaves, never_stuck}
 use Rattle.kernel_machine.proofs.InPlace.{spared}
 use Rattle.kernel_machine.proofs.running.run.Goals as goal
@@ -59,6 +61,8 @@ returns-in-Ok-made_tensor g c =
       done = c.in-Ok-made_tensor.ensures.made.done;
       keeps = c.in-Ok-made_tensor.ensures.made.keeps;
       sizes = c.in-Ok-made_tensor.ensures.made.sizes_are ∙ ap (λ (b : Building). b.sizes) ready.building;
+      alike = subst (λ (b : Building). AreThese (letters_of b.format) b.sizes (summed new.arrays) c.in-Ok-made_tensor.tensor.levels)
+          ready.building c.in-Ok-made_tensor.ensures.made.alike;
     }
 
 pub returns-in-Over : goal.returns-in-Over
