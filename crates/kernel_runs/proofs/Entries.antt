@@ -1,5 +1,5 @@
 -- The entries of the tensor that a right kernel leaves are the statement's values that aren't zero.
-use Rattle.std.specs.Prelude.{◌≡◌, ◌⊎◌, ℕ, zero, suc, ◌+◌, ◌<◌, List, [], ◌∷◌, length, map, Some, slice_index, slice_index_or, refl}
+use Rattle.std.specs.Prelude.{◌≡◌, ◌⊎◌, ℕ, zero, suc, ◌+◌, ◌<◌, List, [], ◌∷◌, length, map, slice_index, slice_index_or, refl}
 use Rattle.std.proofs.Common.{◌∙◌, sym, ap, subst, arith, inl, inr, get_or}
 use Rattle.std.proofs.lemmas.List.{length-map}
 use Rattle.numbers.specs.Arithmetic.{Arithmetic, Laws}
@@ -17,26 +17,24 @@ use Rattle.expr_terms.proofs.TermLaws.{statement_value_same}
 use Rattle.tns_io.specs.Positions.{IsBelow}
 use Rattle.level_core.specs.declared.letter.Letter.{Letter}
 use Rattle.level_core.specs.Entries.{one}
-use Rattle.level_core.specs.Meaning.{Arrays}
 use Rattle.level_rows.specs.Stacks.{Path}
 use Rattle.format_spec.specs.declared.format.FormatLevel.{FormatLevel}
 use Rattle.level_core.specs.declared.letter.Letter.TheVariants.{Dense}
 use Rattle.format_spec.specs.Formats.{letters_of, IsFormat}
 use Rattle.concrete_notation.specs.Right.{IsInSupport}
 use Rattle.tensor_storage.specs.Levels.{meaning}
-use Rattle.tensor_storage.specs.Stands.{row_from, MakesPath, Stands}
-use Rattle.tensor_storage.specs.Storages.{Storage, IsStorage, EndsAt, in_level_order}
+use Rattle.tensor_storage.specs.Stands.{row_from, MakesPath, Stands, IsPacked}
+use Rattle.tensor_storage.specs.Storages.{Storage, EndsAt, in_level_order}
 use Rattle.tensor_storage.specs.Tables.{Table}
 use Rattle.tensor_storage.proofs.Arranging.{coords_back, level_coord}
 use Rattle.tensor_storage.proofs.Paths.{mode_below}
 use Rattle.lowering.proofs.Walked.{storages_zero}
-use Rattle.kernel_stores.specs.Results.{IsLeft, LeavesResult, summed}
+use Rattle.kernel_stores.specs.Results.{IsNamedResult}
 use Rattle.kernel_stores.specs.Stores.{Store, operand_of, told_by}
 use Rattle.statement_operands.specs.Operands.{AreOperands}
 use Rattle.statement_operands.proofs.Below.{below_each, below_length}
 use Rattle.kernel_runs.specs.Runs.{IsStoreFor, IsTensorOf}
 use Rattle.kernel_runs.specs.Steps.{ListsNonzero}
-use Rattle.kernel_runs.proofs.SameLevels.{same_path}
 use Rattle.kernel_runs.proofs.Support.{zero_outside}
 use Rattle.kernel_runs.proofs.Told.{values_told}
 
@@ -121,12 +119,14 @@ find_row coords letters xs (suc n) = by (find_row coords letters xs n)
 
 module _ (a : Arithmetic) (laws : Laws a) (s : Statement) (formats : List (List FormatLevel)) (ranges : List ℕ)
     (operands : List Entries) (store : Store) (are : AreOperands s formats operands)
-    (for : IsStoreFor a s formats ranges operands store) (arrays : Arrays) (leaves : LeavesResult a s (told_by a store) store arrays)
-    (tensor : Storage) (whole : IsStorage tensor) (format_is : tensor.format ≡ store.format)
-    (left : IsLeft store arrays tensor.levels tensor.values) (entries : Entries) (lists : ListsNonzero a tensor entries) where
-  stands : Stands meaning a.zero (letters_of store.format) (in_level_order store.format store.ranges) leaves.table leaves.levels
-      leaves.values
-  stands = leaves.packed.stands
+    (for : IsStoreFor a s formats ranges operands store) (tensor : Storage) (table : Table)
+    (named : IsNamedResult a s (told_by a store) store.format table) (packed : IsPacked a.zero store.format store.ranges table tensor)
+    (entries : Entries) (lists : ListsNonzero a tensor entries) where
+  format_is : tensor.format ≡ store.format
+  format_is = packed.format_is
+
+  stands : Stands meaning a.zero (letters_of store.format) (in_level_order store.format store.ranges) table tensor.levels tensor.values
+  stands = packed.stands
 
   is_format : IsFormat store.format
   is_format = for.is_store.format
@@ -142,29 +142,14 @@ module _ (a : Arithmetic) (laws : Laws a) (s : Statement) (formats : List (List 
   order_is =
       ap length for.is_store.format_is ∙ ap (λ t. length (format_of formats t)) (sym are.named.result) ∙ are.result_format.order
 
-  values_same : tensor.values ≡ leaves.values
-  values_same = same_list tensor.values leaves.values (sym left.values_held ∙ leaves.is_left.values_held)
-    where
-      same_list : (xs ys : List ℕ) → Some xs ≡ Some ys → xs ≡ ys
-      same_list xs ys e = cc
-
-  kinds : map meaning.kind tensor.levels ≡ map meaning.kind leaves.levels
-  kinds = whole.letters ∙ ap letters_of format_is ∙ sym leaves.letters
-
-  -- ---- paths of the tensor are those of the levels that stand for the result
+  -- ---- paths of the tensor are those of the store's format
   to_path : (coords : List ℕ) (pos : ℕ) → EndsAt tensor coords pos
-      → Path meaning leaves.levels (one 0) (in_level_order store.format coords) pos
-  to_path coords pos path =
-      same_path tensor.levels leaves.levels 1 (summed arrays) (length tensor.values) (length leaves.values) (one 0) kinds left.held
-      leaves.is_left.held whole.opened stands.opened (in_level_order store.format coords) pos
-      (subst (λ f. Path meaning tensor.levels (one 0) (in_level_order f coords) pos) format_is path)
+      → Path meaning tensor.levels (one 0) (in_level_order store.format coords) pos
+  to_path coords pos path = subst (λ f. Path meaning tensor.levels (one 0) (in_level_order f coords) pos) format_is path
 
-  from_path : (coords : List ℕ) (pos : ℕ) → Path meaning leaves.levels (one 0) (in_level_order store.format coords) pos
+  from_path : (coords : List ℕ) (pos : ℕ) → Path meaning tensor.levels (one 0) (in_level_order store.format coords) pos
       → EndsAt tensor coords pos
-  from_path coords pos path =
-      subst (λ f. Path meaning tensor.levels (one 0) (in_level_order f coords) pos) (sym format_is)
-      (same_path leaves.levels tensor.levels 1 (summed arrays) (length leaves.values) (length tensor.values) (one 0) (sym kinds)
-      leaves.is_left.held left.held stands.opened whole.opened (in_level_order store.format coords) pos path)
+  from_path coords pos path = subst (λ f. Path meaning tensor.levels (one 0) (in_level_order f coords) pos) (sym format_is) path
 
   -- ---- coordinates below the left ranges
   long_below : (coords : List ℕ) → AreBelow coords (map (slice_index store.ranges) s.left.vars) → length coords ≡ length store.format
@@ -183,31 +168,31 @@ module _ (a : Arithmetic) (laws : Laws a) (s : Statement) (formats : List (List 
       subst (λ v. slice_index coords mode < slice_index store.ranges v) var less
 
   -- ---- rows and points of the support
-  support_of : (i : ℕ) (coords : List ℕ) → i < leaves.table.count → length coords ≡ length store.format
-      → row_from leaves.table.coords i 0 (letters_of store.format) ≡ in_level_order store.format coords
+  support_of : (i : ℕ) (coords : List ℕ) → i < table.count → length coords ≡ length store.format
+      → row_from table.coords i 0 (letters_of store.format) ≡ in_level_order store.format coords
       → IsInSupport s (told_by a store) coords
   support_of i coords h long is =
-      let c = leaves.named.none_else i h in
+      let c = named.none_else i h in
       let back : c.0 ≡ coords = coords_back store.format c.0 coords is_format (long_below c.0 c.1.0) long (sym c.2.1 ∙ is) in
       subst (IsInSupport s (told_by a store)) back c.1
 
-  row_path : (i : ℕ) (coords : List ℕ) → i < leaves.table.count
-      → row_from leaves.table.coords i 0 (letters_of store.format) ≡ in_level_order store.format coords
+  row_path : (i : ℕ) (coords : List ℕ) → i < table.count
+      → row_from table.coords i 0 (letters_of store.format) ≡ in_level_order store.format coords
       → AreBelow coords (map (slice_index store.ranges) s.left.vars) → (pos : ℕ) × EndsAt tensor coords pos
   row_path i coords h is below =
-      let made = own_made leaves.table i h (letters_of store.format) (in_level_order store.format store.ranges) 0
-      (letters_long ∙ sym sizes_long) at (λ j. j < leaves.table.count) h in
-      let p = stands.there (row_from leaves.table.coords i 0 (letters_of store.format)) made in
-      (p.0, from_path coords p.0 (subst (λ xs. Path meaning leaves.levels (one 0) xs p.0) is p.1))
+      let made = own_made table i h (letters_of store.format) (in_level_order store.format store.ranges) 0
+      (letters_long ∙ sym sizes_long) at (λ j. j < table.count) h in
+      let p = stands.there (row_from table.coords i 0 (letters_of store.format)) made in
+      (p.0, from_path coords p.0 (subst (λ xs. Path meaning tensor.levels (one 0) xs p.0) is p.1))
     where
       at : (e : ℕ) → e < length (in_level_order store.format store.ranges)
-          → leaves.table.coords (0 + e) i < slice_index (in_level_order store.format store.ranges) e
+          → table.coords (0 + e) i < slice_index (in_level_order store.format store.ranges) e
       at e less =
           let within : e < length store.format = omega (arith, less, sizes_long) in
           let mode : ℕ = (get_or store.format e some_level).mode in
           let inside : mode < length store.format = mode_below store.format is_format e some_level within in
-          let coord : leaves.table.coords (0 + e) i ≡ slice_index coords mode =
-          sym (row_coord leaves.table.coords i 0 (letters_of store.format) e (omega (arith, within, letters_long)))
+          let coord : table.coords (0 + e) i ≡ slice_index coords mode =
+          sym (row_coord table.coords i 0 (letters_of store.format) e (omega (arith, within, letters_long)))
           ∙ ap (λ (xs : List ℕ). slice_index xs e) is ∙ level_coord store.format coords e some_level within in
           let size : slice_index (in_level_order store.format store.ranges) e ≡ slice_index store.ranges mode =
           level_coord store.format store.ranges e some_level within in
@@ -216,22 +201,21 @@ module _ (a : Arithmetic) (laws : Laws a) (s : Statement) (formats : List (List 
 
   -- ---- values
   listed_value : (coords : List ℕ) (pos : ℕ) → length coords ≡ length store.format → EndsAt tensor coords pos
-      → value_at a lists.all.list coords ≡ slice_index leaves.values pos
-  listed_value coords pos long path =
-      lists.lists.values coords pos (long ∙ sym (ap length format_is)) path ∙ ap (λ (vs : List ℕ). slice_index vs pos) values_same
+      → value_at a lists.all.list coords ≡ slice_index tensor.values pos
+  listed_value coords pos long path = lists.lists.values coords pos (long ∙ sym (ap length format_is)) path
 
-  row_value : (i : ℕ) (coords : List ℕ) → i < leaves.table.count → length coords ≡ length store.format
-      → row_from leaves.table.coords i 0 (letters_of store.format) ≡ in_level_order store.format coords
+  row_value : (i : ℕ) (coords : List ℕ) → i < table.count → length coords ≡ length store.format
+      → row_from table.coords i 0 (letters_of store.format) ≡ in_level_order store.format coords
       → value_at a lists.all.list coords ≡ statement_value a s (told_by a store).values (slice_index store.ranges) coords
   row_value i coords h long is =
       let support = support_of i coords h long is in
       let path = row_path i coords h is support.0 in
       listed_value coords path.0 long path.1
-      ∙ stands.stored i path.0 h (subst (λ xs. Path meaning leaves.levels (one 0) xs path.0) (sym is) (to_path coords path.0 path.1))
-      ∙ leaves.named.values i coords support (h, is)
+      ∙ stands.stored i path.0 h (subst (λ xs. Path meaning tensor.levels (one 0) xs path.0) (sym is) (to_path coords path.0 path.1))
+      ∙ named.values i coords support (h, is)
 
   no_row_value : (coords : List ℕ) → length coords ≡ length store.format
-      → ((i : ℕ) → i < leaves.table.count → row_from leaves.table.coords i 0 (letters_of store.format)
+      → ((i : ℕ) → i < table.count → row_from table.coords i 0 (letters_of store.format)
       ≡ in_level_order store.format coords → ⊥)
       → value_at a lists.all.list coords ≡ a.zero
   no_row_value coords long none = by (listed_or_not lists.all.list coords)
@@ -246,28 +230,28 @@ module _ (a : Arithmetic) (laws : Laws a) (s : Statement) (formats : List (List 
   value_is : (coords : List ℕ) → AreBelow coords (map (slice_index store.ranges) s.left.vars)
       → value_at a lists.all.list coords ≡ statement_value a s (told_by a store).values (slice_index store.ranges) coords
   value_is coords below =
-      by (find_row leaves.table.coords (letters_of store.format) (in_level_order store.format coords) leaves.table.count)
+      by (find_row table.coords (letters_of store.format) (in_level_order store.format coords) table.count)
     where
       long : length coords ≡ length store.format
       long = long_below coords below
 
-      by : ((i : ℕ) × (i < leaves.table.count)
-          × (row_from leaves.table.coords i 0 (letters_of store.format) ≡ in_level_order store.format coords))
-          ⊎ ((i : ℕ) → i < leaves.table.count → row_from leaves.table.coords i 0 (letters_of store.format)
+      by : ((i : ℕ) × (i < table.count)
+          × (row_from table.coords i 0 (letters_of store.format) ≡ in_level_order store.format coords))
+          ⊎ ((i : ℕ) → i < table.count → row_from table.coords i 0 (letters_of store.format)
           ≡ in_level_order store.format coords → ⊥)
           → value_at a lists.all.list coords ≡ statement_value a s (told_by a store).values (slice_index store.ranges) coords
       by (inl found) = row_value found.0 coords found.1 long found.2
       by (inr none) =
           no_row_value coords long none
           ∙ sym (zero_outside a laws s (told_by a store) (storages_zero a (operand_of store) (slice_index store.ranges)) coords below
-          (λ support. let r = leaves.named.named coords support in none r.0 r.1.0 r.1.1))
+          (λ support. let r = named.named coords support in none r.0 r.1.0 r.1.1))
 
   -- ---- each entry
   entry_below : (whole_entries : AreEntries entries) (k : ℕ) (d : Entry) → k < length entries.list
       → AreBelow (slice_index_or entries.list k d).coords (map (slice_index store.ranges) s.left.vars)
   entry_below each k d h =
-      by (find_row leaves.table.coords (letters_of store.format) (in_level_order store.format (slice_index_or entries.list k d).coords)
-      leaves.table.count)
+      by (find_row table.coords (letters_of store.format) (in_level_order store.format (slice_index_or entries.list k d).coords)
+      table.count)
     where
       order : entries.order ≡ length store.format
       order = lists.order ∙ lists.lists.order ∙ ap length format_is
@@ -279,10 +263,10 @@ module _ (a : Arithmetic) (laws : Laws a) (s : Statement) (formats : List (List 
       value = sym (lists.values (slice_index_or entries.list k d).coords)
           ∙ value_of_entry a laws entries.list k d lists.increasing h (each.each k d h).word
 
-      by : ((i : ℕ) × (i < leaves.table.count)
-          × (row_from leaves.table.coords i 0 (letters_of store.format)
+      by : ((i : ℕ) × (i < table.count)
+          × (row_from table.coords i 0 (letters_of store.format)
           ≡ in_level_order store.format (slice_index_or entries.list k d).coords))
-          ⊎ ((i : ℕ) → i < leaves.table.count → row_from leaves.table.coords i 0 (letters_of store.format)
+          ⊎ ((i : ℕ) → i < table.count → row_from table.coords i 0 (letters_of store.format)
           ≡ in_level_order store.format (slice_index_or entries.list k d).coords → ⊥)
           → AreBelow (slice_index_or entries.list k d).coords (map (slice_index store.ranges) s.left.vars)
       by (inl found) = (support_of found.0 (slice_index_or entries.list k d).coords found.1 long found.2).0

@@ -1,10 +1,10 @@
+pub mod Alike
 pub mod Calls
 pub mod Entries
 pub mod Firsts
 pub mod Fits
 pub mod Outcomes
 pub mod Refusals
-pub mod SameLevels
 pub mod Shapes
 pub mod Stores
 pub mod Support

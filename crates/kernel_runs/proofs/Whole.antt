@@ -1,5 +1,5 @@
 -- A whole run: a right kernel on the store that packed operands are, and why it has no result.
-use Rattle.std.specs.Prelude.{◌≡◌, ◌⊎◌, ℕ, zero, suc, ◌+◌, ◌<◌, ◌≤◌, Bool, true, List, length, map, Option, Ok, Vec, slice_index}
+use Rattle.std.specs.Prelude.{◌≡◌, ◌⊎◌, ℕ, zero, suc, ◌+◌, ◌<◌, ◌≤◌, Bool, true, List, length, map, Option, Ok, Some, Vec, slice_index}
 use Rattle.std.specs.declared.alloc.Global.{Global}
 use Rattle.std.proofs.Common.{◌∙◌, sym, ap, subst, arith, inl, inr}
 use Rattle.std.proofs.lemmas.List.{length-map}
@@ -20,7 +20,9 @@ use Rattle.index_notation.specs.declared.syntax.Statement.{Statement}
 use Rattle.iteration_graph.specs.Edges.{format_of}
 use Rattle.expr_terms.specs.declared.bound.Bound.{Bound}
 use Rattle.concrete_notation.specs.Workspaces.{AreAllDense}
-use Rattle.tensor_storage.specs.Storages.{Storage, in_level_order}
+use Rattle.tensor_storage.specs.Stands.{IsPacked}
+use Rattle.tensor_storage.specs.Storages.{Storage, in_level_order, storage_of}
+use Rattle.storage_arrays.proofs.Packed.{packed_are_done}
 use Rattle.kernel_steps.specs.Store.{count_of}
 use Rattle.kernel_stores.specs.Kernels.{IsRightKernel, IsRightOutcome, IsSoundOn}
 use Rattle.kernel_stores.specs.Results.{LeavesResult}
@@ -28,12 +30,14 @@ use Rattle.kernel_stores.specs.Stores.{told_by}
 use Rattle.kernel_stores.proofs.Sound.{right_is_sound}
 use Rattle.kernel_machine.specs.Begins as begins
 use Rattle.kernel_machine.specs.Begins.{store_of}
+use Rattle.kernel_machine.specs.Runs.{AllAlike}
 use Rattle.statement_operands.specs.Runnable.{IsRunnable, told_ranges}
 use Rattle.operand_packing.specs.Packed.{ArePackedOperands}
 use Rattle.kernel_runs.specs.declared.fault.RunFault.{RunFault}
 use Rattle.kernel_runs.specs.declared.fault.RunFault.TheVariants.{Range, SizeLimit, Workspace, Memory}
 use Rattle.kernel_runs.specs.Runs.{IsRun, IsStoreFor, IsTensorOf, IsTooLargeBy, MayRefuse}
 use Rattle.kernel_runs.specs.Steps.{CanBegin, EndsOn, ListsNonzero, RefusedOn, StopsOn}
+use Rattle.kernel_runs.proofs.Alike.{packed_alike}
 use Rattle.kernel_runs.proofs.Entries.{tensor_of}
 use Rattle.kernel_runs.proofs.Outcomes.{outcome_is}
 use Rattle.kernel_runs.proofs.Stores.{store_is}
@@ -135,10 +139,16 @@ module _ (a : Arithmetic) (laws : Laws a) (s : Statement) (formats : List (List 
       ranges_are = told;
       store = store_of ranges storages format;
       is_store = store_for ends.few;
-      runs = record { given = ends.given; is_given = ends.is_given; has_run = ends.has_run; leaves = leaves };
+      runs = record {
+        given = ends.given;
+        is_given = ends.is_given;
+        has_run = ends.has_run;
+        table = leaves.table;
+        named = leaves.named;
+        packed = packed_tensor;
+      };
       tensor_of = tensor_of a laws s formats ranges operands (store_of ranges storages format) runnable.operands_are
-          (store_for ends.few) ends.has_run.arrays leaves tensor ends.has_run.storage ends.has_run.format_is ends.has_run.is_left entries lists
-          shape shape_is each;
+          (store_for ends.few) tensor leaves.table leaves.named packed_tensor entries lists shape shape_is each;
     }
       where
         leaves : LeavesResult a s (told_by a (store_of ranges storages format)) (store_of ranges storages format) ends.has_run.arrays
@@ -150,3 +160,17 @@ module _ (a : Arithmetic) (laws : Laws a) (s : Statement) (formats : List (List 
           where
             apart : Finished ends.has_run.arrays (count_of turns) ≡ NotFinished → ⊥
             apart e = cc
+
+        values_are : leaves.values ≡ tensor.values
+        values_are = same_list leaves.values tensor.values (sym leaves.is_left.values_held ∙ ends.has_run.is_left.values_held)
+          where
+            same_list : (xs ys : List ℕ) → Some xs ≡ Some ys → xs ≡ ys
+            same_list xs ys e = cc
+
+        alike : AllAlike leaves.levels tensor.levels
+        alike = ends.has_run.alike leaves.levels leaves.letters leaves.packed.sizes leaves.is_left.held
+            (packed_are_done a.zero format ranges leaves.table (storage_of format leaves.levels leaves.values) leaves.packed)
+
+        packed_tensor : IsPacked a.zero format ranges leaves.table tensor
+        packed_tensor = packed_alike a.zero format ranges leaves.table leaves.levels leaves.values tensor alike ends.has_run.format_is
+            values_are ends.has_run.sizes leaves.packed

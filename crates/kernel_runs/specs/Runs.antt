@@ -18,10 +18,11 @@ use Rattle.tns_io.specs.Positions.{IsBelow}
 use Rattle.concrete_notation.specs.Workspaces.{AreAllDense}
 use Rattle.lowering.specs.Right.{pairs}
 use Rattle.tensor_storage.specs.Counts.{AreFew, positions_of}
+use Rattle.tensor_storage.specs.Stands.{IsPacked}
 use Rattle.tensor_storage.specs.Storages.{Storage, in_level_order}
 use Rattle.tensor_storage.specs.Tables.{Table}
 use Rattle.kernel_stores.specs.Kernels.{standing_order}
-use Rattle.kernel_stores.specs.Results.{LeavesResult, IsNamedResult, MayPass}
+use Rattle.kernel_stores.specs.Results.{IsNamedResult, MayPass}
 use Rattle.kernel_stores.specs.Stores.{Store, IsGiven, StartsFew, IsStoreOf, told_by}
 use Rattle.kernel_machine.specs.Begins as begins
 use Rattle.kernel_machine.specs.Runs.{HasRun}
@@ -49,13 +50,15 @@ pub record IsStoreFor (a : Arithmetic) (s : Statement) (formats : List (List For
   pub ranges_are : store.ranges ≡ ranges
   pub packed : ArePackedOperands a s formats (slice_index ranges) operands store.operands
 
--- the kernel finishes on the store within these turns, and the tensor, whose levels keep the rules of their kinds, has the arrays of a
--- storage that stands for the statement's values, named by its support
+-- the kernel finishes on the store within these turns, and the tensor that it leaves stands for the statement's values, named by its
+-- support
 pub record RunsKernel (a : Arithmetic) (s : Statement) (kernel : Kernel) (store : Store) (tensor : Storage) (turns : Turns) : Type 0 where
   pub given : Arrays
   pub is_given : IsGiven a.zero store given
   pub has_run : HasRun a kernel store given tensor turns
-  pub leaves : LeavesResult a s (told_by a store) store has_run.arrays
+  pub table : Table
+  pub named : IsNamedResult a s (told_by a store) store.format table
+  pub packed : IsPacked a.zero store.format store.ranges table tensor
 
 -- the ranges agree, the kernel runs on a store of the operands, and these are the result's entries
 pub record IsRun (a : Arithmetic) (s : Statement) (formats : List (List FormatLevel)) (kernel : Kernel) (given : List (Option ℕ))
