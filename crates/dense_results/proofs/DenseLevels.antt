@@ -9,7 +9,7 @@ use Rattle.level_core.specs.declared.letter.Letter.TheVariants.{Dense, Hashed}
 use Rattle.level_core.specs.declared.span.Span.{Span}
 use Rattle.level_core.specs.declared.span.Entry.{Entry}
 use Rattle.level_core.specs.Entries.{StandsAt, one}
-use Rattle.level_core.specs.Kinds.{properties}
+use Rattle.level_core.specs.Kinds.{properties, parents_below}
 use Rattle.level_core.specs.Meaning.{Arrays}
 use Rattle.level_rows.specs.Stacks.{Path}
 use Rattle.format_spec.specs.declared.format.FormatLevel.{FormatLevel}
@@ -28,7 +28,7 @@ use Rattle.tensor_storage.specs.Storages.{in_level_order}
 use Rattle.tensor_storage.specs.Tables.{Table}
 use Rattle.tns_io.specs.Positions.{product, IsBelow, position}
 use Rattle.term_code.specs.DenseSinks.{HasSizes}
-use Rattle.kernel_stores.specs.Stores.{AreHeld, StartsFew, parents_below}
+use Rattle.kernel_stores.specs.Stores.{AreHeld, StartsFew}
 use Rattle.kernel_stores.specs.Results.{summed}
 
 -- dense levels of these sizes, one below another

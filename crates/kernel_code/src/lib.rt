@@ -8,6 +8,7 @@
 mod builders;
 mod copies;
 mod laws;
+mod operators;
 mod syntax;
 
 pub use builders::{binary, one_statement, position_and_next, word_at};
@@ -16,4 +17,5 @@ pub use laws::{
     code_is_made_of_parts, expressions_depend_on_what_they_mention, kernels_start_on_what_is_given,
     more_turns_do_the_same, turns_are_only_added,
 };
+pub use operators::{apply_to_words, least_operand, width_of_operand};
 pub use syntax::{Arr, KExpr, KStmt, Kernel, LoopKind, Op, Place, Turns, ValueOp};

@@ -10,7 +10,10 @@ use Rattle.format_spec.specs.Formats.{IsFormat, letters_of}
 use Rattle.storage_builder.proofs.Room.{mode_within}
 use Rattle.tensor_storage.specs.Storages.{in_level_order}
 use Rattle.machine_starts.proofs.Steps.{drop_here}
-use Rattle.kernel_stores.specs.Stores.{StartsFew, parents_below}
+use Rattle.kernel_stores.specs.Stores.{StartsFew}
+use Rattle.level_core.specs.declared.letter.Letter.{Letter}
+use Rattle.level_core.specs.declared.letter.Letter.TheVariants.{Dense, Compressed, CompressedGroups, Singleton, SingletonGroups, Hashed}
+use Rattle.level_core.specs.Kinds.{parents_below}
 use Rattle.kernel_machine.specs.Begins.{IsTooLarge}
 
 index_taken : (ranges : List ℕ) (n i : ℕ) → i < n → slice_index (take n ranges) i ≡ slice_index ranges i
@@ -40,6 +43,16 @@ pub product_small : (n m : ℕ) → n ≤ greatest_position_count → m ≤ grea
 product_small n m h k =
     let less = mul-lt n m (2 ^ 32) (2 ^ 32) (omega (arith, h, positions_fit_32_bits)) (omega (arith, k, positions_fit_32_bits)) in
     omega (arith, less)
+
+-- as many positions as a level has when a run starts are a word
+pub start_small : (letter : Letter) (size parents : ℕ) → parents ≤ greatest_position_count → size ≤ greatest_position_count
+    → parents_below letter size parents < 2 ^ 64
+start_small Dense size parents p s = product_small parents size p s
+start_small Compressed size parents p s = omega arith
+start_small CompressedGroups size parents p s = omega arith
+start_small Singleton size parents p s = omega arith
+start_small SingletonGroups size parents p s = omega arith
+start_small Hashed size parents p s = omega arith
 
 drop_letters : (format : List FormatLevel) (i : ℕ) (d : FormatLevel) → i < length format
     → drop i (letters_of format) ≡ (slice_index_or format i d).letter ∷ drop (suc i) (letters_of format)

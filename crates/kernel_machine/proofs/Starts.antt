@@ -28,7 +28,8 @@ use Rattle.lent_arrays.specs.declared.lent.Operand.{Operand}
 use Rattle.lent_arrays.specs.Lent.{numbered, words_of_level, words_of_operand, values_of_operand, one_word, lent_array}
 use Rattle.kernel_steps.specs.declared.machine.Machine.{Machine}
 use Rattle.kernel_steps.specs.Store.{own_array, by_right, state_of}
-use Rattle.machine_starts.specs.Begun.{begun, begun_result, with_keys, with_workspaces, with_lists, parents_below, HasSizes, AreBegun}
+use Rattle.machine_starts.specs.Begun.{begun, begun_result, with_keys, with_workspaces, with_lists, HasSizes, AreBegun}
+use Rattle.level_core.specs.Kinds.{parents_below}
 use Rattle.machine_starts.specs.Begun.{IsFew}
 use Rattle.machine_starts.specs.Lending.{Parts, lent_of, parts_of}
 use Rattle.machine_starts.proofs.Begun.{result_apart, result_begun, IsFrom}

@@ -15,7 +15,8 @@ use Rattle.storage_builder.specs.declared.part.Part.TheVariants.{Missing}
 use Rattle.kernel_steps.specs.declared.machine.Machine.{Machine}
 use Rattle.kernel_steps.specs.Memory.{SetsBelow, Through, variable_room}
 use Rattle.kernel_steps.specs.Store.{state_of}
-use Rattle.kernel_stores.specs.Stores.{Store, IsGiven, StartsFew, parents_below, result_sizes}
+use Rattle.kernel_stores.specs.Stores.{Store, IsGiven, StartsFew, result_sizes}
+use Rattle.level_core.specs.Kinds.{parents_below}
 use Rattle.kernel_machine.specs.declared.prepared.Prepared.{Prepared}
 use Rattle.kernel_machine.specs.declared.refusal.RunRefusal.{RunRefusal}
 use Rattle.kernel_machine.specs.declared.refusal.RunRefusal.TheVariants.{SizeLimit, Memory}

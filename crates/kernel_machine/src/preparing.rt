@@ -12,7 +12,7 @@ ghost use Rattle.kernel_machine.specs.Begins.{store_of, StartsOn, IsReadyFor, Is
 
 use crate::prepared::Prepared;
 use crate::refusal::RunRefusal;
-use crate::sizes::{TooLarge, first_too_large, sizes_of_levels};
+use crate::sizes::{TooLarge, first_too_large};
 use format_spec::{Format, FormatLevel};
 use kernel_code::{Kernel, Place};
 use kernel_steps::{Machine, make_room};
@@ -20,7 +20,7 @@ use lent_arrays::LentArrays;
 use machine_starts::{begin_result, begin_scratch, lent_operands};
 use numbers::Semiring;
 use std::alloc::{AllocError, Global};
-use storage_builder::Builder;
+use storage_builder::{Builder, level_sizes};
 use tensor_map::Shape;
 use tensor_storage::Tensor;
 
@@ -111,7 +111,7 @@ pub fn prepare<'a, S: Semiring>(
     ensures { MatchResult result (IsReadyFor S.arithmetic kernel.now (store_of ranges.now operands.now format))
         (IsBeginRefusal (store_of ranges.now operands.now format)) }
 {
-    let Ok(sizes) = sizes_of_levels(alloc, format.levels(), ranges) else {
+    let Ok(sizes) = level_sizes(alloc, format.levels(), ranges) else {
         return Err(RunRefusal::Memory);
     };
     if let Some(TooLarge { level, count }) = first_too_large(format.levels(), &sizes) {

@@ -6,7 +6,8 @@ use Rattle.limits.specs.Limits.{greatest_position_count}
 use Rattle.expr_terms.specs.declared.range_fault.RangeFault.{RangeFault}
 use Rattle.level_core.specs.declared.letter.Letter.{Letter}
 use Rattle.tensor_storage.specs.Counts.{AreFew, positions_of}
-use Rattle.kernel_stores.specs.Stores.{StartsFew, parents_below}
+use Rattle.kernel_stores.specs.Stores.{StartsFew}
+use Rattle.level_core.specs.Kinds.{parents_below}
 use Rattle.kernel_machine.specs.Begins as begins
 use Rattle.statement_operands.proofs.SizeLaws.{index_small}
 use Rattle.kernel_runs.specs.declared.fault.RunFault.TheVariants.{Range, SizeLimit, Workspace, Memory}

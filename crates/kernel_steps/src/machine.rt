@@ -15,13 +15,12 @@ ghost use Rattle.kernel_steps.specs.Memory.{variable_room};
 ghost use Rattle.kernel_steps.specs.Store.{count_of, state_of, own_array, outcome_of, made, IsPlaceOf, IsWritable};
 
 use crate::ending::Ending;
-use kernel_code::{Arr, KExpr, LoopKind, Turns};
+use kernel_code::{Arr, KExpr, LoopKind, Turns, apply_to_words, least_operand, width_of_operand};
 use lent_arrays::LentArrays;
 use machine_parts::{
-    OwnArray, PlacedRow, Places, Table, append_copies, append_word, apply_to_words, coordinates_of,
-    count_told, decided_by_first, is_same, least_operand, may_be_written, may_grow, number_of_keys,
-    positions_of, rows_of_list, sort_rows, sum_of_words, sum_rows, values_of, width_of_operand,
-    words_at,
+    OwnArray, PlacedRow, Places, Table, append_copies, append_word, coordinates_of, count_told,
+    decided_by_first, is_same, may_be_written, may_grow, number_of_keys, positions_of,
+    rows_of_list, sort_rows, sum_of_words, sum_rows, values_of, words_at,
 };
 use numbers::Semiring;
 use seg_buffer::Segment;

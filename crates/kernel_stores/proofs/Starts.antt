@@ -14,7 +14,8 @@ use Rattle.tensor_storage.specs.Laws.{laws}
 use Rattle.tensor_storage.specs.declared.level.StorageLevel.{StorageLevel}
 use Rattle.tensor_storage.specs.Storages.{Storage}
 use Rattle.kernel_stores.specs.Laws.{StartsOnStore}
-use Rattle.kernel_stores.specs.Stores.{AreHeld, OperandsHeld, StartsBelow, parents_below}
+use Rattle.kernel_stores.specs.Stores.{AreHeld, OperandsHeld, StartsBelow}
+use Rattle.level_core.specs.Kinds.{parents_below}
 
 -- the arrays of a level of a tensor are the given ones
 given_of : (kernel : Kernel) (arrays : Arrays) (tensor level : ℕ) (x : Arr) → IsOf tensor level x → start_arrays kernel arrays x ≡ arrays x

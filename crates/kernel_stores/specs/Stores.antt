@@ -6,7 +6,7 @@ use Rattle.limits.specs.Limits.{greatest_position_count}
 use Rattle.numbers.specs.Arithmetic.{Arithmetic}
 use Rattle.kernel_code.specs.declared.syntax.Arr.TheVariants.{Range, Values}
 use Rattle.level_core.specs.declared.letter.Letter.{Letter}
-use Rattle.level_core.specs.Kinds.{properties}
+use Rattle.level_core.specs.Kinds.{parents_below}
 use Rattle.level_core.specs.Laws.{AreAtStart}
 use Rattle.level_core.specs.Meaning.{Arrays}
 use Rattle.format_spec.specs.declared.format.FormatLevel.{FormatLevel}
@@ -44,10 +44,6 @@ pub record IsHeld (storage : Storage) (tensor : ℕ) (arrays : Arrays) : Type 0 
 abbrev pub OperandsHeld : List Storage → ℕ → Arrays → Type 0
 OperandsHeld [] tensor arrays = Unit {0}
 OperandsHeld (operand ∷ operands) tensor arrays = IsHeld operand tensor arrays × OperandsHeld operands (suc tensor) arrays
-
--- the parents of the next level as a run starts: the positions of a dense level, and none below any other
-abbrev pub parents_below : Letter → ℕ → ℕ → ℕ
-parents_below letter size parents = if (properties letter).full then parents * size else 0
 
 -- the result's arrays as a run starts, from the level of this number on: each level has the parents that dense levels alone make
 -- above it, and none below another level; the values are a zero for each parent behind the last level

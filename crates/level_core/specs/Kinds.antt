@@ -1,5 +1,5 @@
 -- The kinds of levels: their properties and capabilities, and what the properties say of entries.
-use Rattle.std.specs.Prelude.{◌≡◌, ℕ, ◌+◌, ◌-◌, ◌*◌, ◌≤◌, ◌<◌, true, false, List, length, Option, Some, None}
+use Rattle.std.specs.Prelude.{◌≡◌, ℕ, ◌+◌, ◌-◌, ◌*◌, ◌≤◌, ◌<◌, true, false, if◌then◌else◌, List, length, Option, Some, None}
 use Rattle.limits.specs.Limits.{greatest_position_count}
 pub use Rattle.level_core.specs.declared.letter.Letter.{Letter}
 pub use Rattle.level_core.specs.declared.letter.Letter.TheVariants.{Dense, Compressed, CompressedGroups, Singleton, SingletonGroups, Hashed}
@@ -52,6 +52,10 @@ positions_for Compressed n parents most = 0
 positions_for CompressedGroups n parents most = 0
 positions_for Singleton n parents most = 0
 positions_for SingletonGroups n parents most = 0
+
+-- how many positions a level of a kernel's result has as the run starts, below so many parents: a dense one all of them, any other none
+abbrev pub parents_below : Letter → ℕ → ℕ → ℕ
+parents_below letter size parents = if (properties letter).full then parents * size else 0
 
 -- a level that coordinates can be inserted into may be prepared, once where that settles its width, for coordinates within the
 -- limit below each parent

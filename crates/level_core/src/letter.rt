@@ -1,5 +1,5 @@
-ghost use Rattle.std.specs.Prelude.{◌≡◌};
-ghost use Rattle.level_core.specs.Kinds.{properties, capabilities};
+ghost use Rattle.std.specs.Prelude.{◌≡◌, ◌<◌, ◌^◌};
+ghost use Rattle.level_core.specs.Kinds.{properties, capabilities, parents_below};
 
 /// A kind of level. Formats name it by a letter.
 #[derive(Clone, Copy, Debug, PartialEq, Eq, Drop)]
@@ -77,5 +77,17 @@ pub fn caps_of(letter: Letter) -> Capabilities
         locate: located,
         insert: located,
         append: !located,
+    }
+}
+
+/// How many positions a level of a kernel's result has as the run starts, below so many parents: a dense one, whose range is `size`,
+/// has them all, and any other none.
+pub fn positions_at_start(letter: Letter, size: u64, parents: u64) -> u64
+    requires { parents_below letter size parents < 2 ^ 64 }
+    ensures { result ≡ parents_below letter size parents }
+{
+    match letter {
+        Letter::Dense => parents * size,
+        _ => 0,
     }
 }

@@ -18,7 +18,7 @@ mod writing;
 
 pub use fragments::{argument, leave_one, leave_two};
 pub use laws::{edges_tell_segments, increasing_inserts_keep_order};
-pub use letter::{Capabilities, Letter, Properties, caps_of, props_of};
+pub use letter::{Capabilities, Letter, Properties, caps_of, positions_at_start, props_of};
 pub use level::{Level, LevelKind};
 pub use positions::positions_below;
 pub use span::{Entry, Span};

@@ -11,7 +11,7 @@ use Rattle.kernel_code.specs.declared.syntax.Arr.TheVariants.{ListCoordinates, L
 use Rattle.level_core.specs.declared.letter.Letter.{Letter}
 use Rattle.level_core.specs.declared.letter.Letter.TheVariants.{Dense, Compressed, CompressedGroups, Singleton, SingletonGroups, Hashed}
 use Rattle.level_core.specs.Fragments.{IsOf}
-use Rattle.level_core.specs.Kinds.{capabilities}
+use Rattle.level_core.specs.Kinds.{capabilities, parents_below}
 use Rattle.level_core.specs.Laws.{AreAtStart, SumsUp, HoldsStart, HoldsFinished}
 use Rattle.level_core.specs.Logs.{MayFinish, running}
 use Rattle.level_core.specs.Meaning.{Arrays}
@@ -27,7 +27,7 @@ use Rattle.tensor_storage.specs.Laws.{laws}
 use Rattle.tensor_storage.specs.New.{IsNew}
 use Rattle.tensor_storage.proofs.Tables.{apart}
 use Rattle.kernel_stores.specs.Results.{summed}
-use Rattle.kernel_stores.specs.Stores.{AreHeld, StartsBelow, parents_below}
+use Rattle.kernel_stores.specs.Stores.{AreHeld, StartsBelow}
 
 -- an array is one of one level alone
 of_one : (x : Arr) (tensor k m : ℕ) → IsOf tensor k x → IsOf tensor m x → k ≡ m

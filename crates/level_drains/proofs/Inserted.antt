@@ -17,7 +17,7 @@ use Rattle.level_core.specs.declared.letter.Letter.{Letter}
 use Rattle.level_core.specs.declared.letter.Letter.TheVariants.{Dense, Compressed, CompressedGroups, Singleton, SingletonGroups, Hashed}
 use Rattle.level_core.specs.Entries.{one}
 use Rattle.level_core.specs.Fragments.{PassesLimitWithin, RefusedWithin}
-use Rattle.level_core.specs.Kinds.{properties, capabilities, positions_for}
+use Rattle.level_core.specs.Kinds.{properties, capabilities, positions_for, parents_below}
 use Rattle.level_core.specs.Laws.{HoldsStart}
 use Rattle.level_rows.specs.Rows.{Rows, begun_below, IsGreatestBelow, MayInsertRows}
 use Rattle.level_rows.specs.Draining.{Stays}
@@ -29,7 +29,6 @@ use Rattle.tensor_storage.specs.Laws.{laws}
 use Rattle.tensor_storage.specs.Levels.{meaning}
 use Rattle.tensor_storage.specs.Tables.{Table}
 use Rattle.tensor_storage.proofs.Tables.{apart}
-use Rattle.kernel_stores.specs.Stores.{parents_below}
 use Rattle.level_drains.specs.Drained.{MayDrain, AreDrained, PassesAt}
 use Rattle.level_drains.specs.Tests.{begins_test}
 use Rattle.level_drains.proofs.Holding.{inserted_summed, is_new}

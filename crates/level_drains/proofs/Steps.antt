@@ -26,7 +26,8 @@ use Rattle.tensor_storage.specs.Tables.{Table, keys_of}
 use Rattle.tensor_storage.proofs.PackSteps.{may_fill, left_from, packed_next}
 use Rattle.format_spec.specs.Formats.{Chained}
 use Rattle.kernel_stores.specs.Results.{summed}
-use Rattle.kernel_stores.specs.Stores.{AreHeld, StartsBelow, parents_below}
+use Rattle.kernel_stores.specs.Stores.{AreHeld, StartsBelow}
+use Rattle.level_core.specs.Kinds.{parents_below}
 use Rattle.level_drains.specs.Drained.{HasWords, HoldsTable, MayDrain, AreDrained}
 use Rattle.level_drains.specs.Tests.{begins_test}
 use Rattle.level_drains.proofs.Holding.{stays_other, held_along, held_push, starts_kept, begun_level, new_of, is_new}

@@ -1,31 +1,14 @@
-ghost use Rattle.std.specs.Prelude.{◌≡◌, ◌≤◌, ◌<◌, ◌+◌, ◌^◌, length, drop, IfOk};
+ghost use Rattle.std.specs.Prelude.{◌≡◌, ◌≤◌, ◌<◌, ◌+◌, ◌^◌, length, IfOk};
 ghost use Rattle.format_spec.specs.Formats.{letters_of, IsFormat};
-ghost use Rattle.tensor_storage.specs.Chains.{chain_length};
 ghost use Rattle.level_drains.specs.Levels.{DrainsFirst};
 
 use crate::levels::drain_level;
 use format_spec::FormatLevel;
 use kernel_code::{KExpr, KStmt, one_statement};
-use level_core::props_of;
 use level_rows::DrainSite;
 use std::alloc::{AllocError, Global};
+use tensor_storage::chain_end;
 use trees::Items;
-
-/// Where the chain of levels with groups ends that a level stands in: the number of levels through the first unique one from
-/// there on.
-fn chain_end(format: &[FormatLevel], level: usize) -> usize
-    requires { level < length format.now }
-    ensures { result ≡ level + chain_length (drop level (letters_of format.now)) }
-{
-    let mut end = level;
-    while end < format.len() {
-        if props_of(format[end].letter).unique {
-            return end + 1;
-        }
-        end += 1;
-    }
-    end + 1
-}
 
 /// Code that fills the first `levels` levels of a kernel's result, of this format, from the rows of a workspace, which increase:
 /// scratch list `list` has a zero for each row, and then its position at the last of them. The number of positions of the level that

@@ -11,34 +11,13 @@ ghost use Rattle.level_drains.specs.Drained.{DrainsOf};
 ghost use Rattle.level_drains.specs.Tests.{guard_code};
 
 use crate::tests_of_rows::begins_by_keys;
-use compressed_level::CompressedLevel;
-use dense_level::DenseLevel;
-use hashed_level::HashedLevel;
 use kernel_code::{Arr, KExpr, KStmt, Op, binary, copy_expr, one_statement, word_at};
 use level_core::Letter;
 use level_rows::{DrainSite, emit_append_rows, emit_greatest_below, emit_insert_rows};
 use limits::greatest_positions;
-use singleton_level::SingletonLevel;
 use std::alloc::{AllocError, Global};
-use tensor_storage::StorageLevel;
+use tensor_storage::{StorageLevel, kind_of};
 use trees::{Boxed, Items};
-
-/// A level of this kind, whose code is asked for. Refused for want of memory alone.
-pub(crate) fn level_of(alloc: Global, letter: Letter) -> Result<StorageLevel, AllocError>
-    ensures { IfOk result (λ level. meaning.kind level ≡ letter) }
-{
-    let level = match letter {
-        Letter::Dense => StorageLevel::Dense(DenseLevel::new(alloc, 0)?),
-        Letter::Compressed => StorageLevel::Compressed(CompressedLevel::new(alloc, 0, true)?),
-        Letter::CompressedGroups => {
-            StorageLevel::Compressed(CompressedLevel::new(alloc, 0, false)?)
-        }
-        Letter::Singleton => StorageLevel::Singleton(SingletonLevel::new(alloc, 0, true)?),
-        Letter::SingletonGroups => StorageLevel::Singleton(SingletonLevel::new(alloc, 0, false)?),
-        Letter::Hashed => StorageLevel::Hashed(HashedLevel::new(alloc, 0)?),
-    };
-    Ok(level)
-}
 
 /// Where the rows of a level are gone over whose number of positions stands in the variable `at.base`: their variables stand above it.
 pub(crate) fn rows_site(at: DrainSite) -> DrainSite
@@ -189,7 +168,7 @@ pub fn drain_level(
     requires parents { Below at.base parents }
     ensures { IfOk result (DrainsOf letter at.level through at.workspace at.list at.base parents) }
 {
-    let level = level_of(alloc, letter)?;
+    let level = kind_of(alloc, letter)?;
     match letter {
         Letter::Dense => drain_dense(alloc, &level, at, through, parents),
         Letter::Hashed => drain_hashed(alloc, &level, at, through, parents),

@@ -6,12 +6,12 @@ ghost use Rattle.level_drains.specs.Stored.{value_row_code, values_code, DrainsR
 
 use crate::drains::drain_levels;
 use crate::last::fill_last;
-use crate::levels::level_of;
 use format_spec::FormatLevel;
 use kernel_code::{Arr, KExpr, KStmt, LoopKind, Op, binary, one_statement, word_at};
 use level_core::{Letter, props_of};
 use level_rows::DrainSite;
 use std::alloc::{AllocError, Global};
+use tensor_storage::kind_of;
 use trees::Items;
 
 /// The code that stores the value of one row. Refused for want of memory alone.
@@ -90,7 +90,7 @@ fn fill_hashed(
         workspace,
         list,
     };
-    let level = level_of(alloc, Letter::Hashed)?;
+    let level = kind_of(alloc, Letter::Hashed)?;
     let count = KExpr::Var(base + above as u64);
     let last = fill_last(alloc, &level, at, count, zero)?;
     code.append(last)?;

@@ -7,7 +7,6 @@ mod cursor;
 mod cursors;
 mod finding;
 mod hashed;
-mod kinds;
 mod laws;
 mod reading;
 
@@ -15,7 +14,6 @@ pub use cursor::SeekCursor;
 pub use cursors::{SeekCursors, cursors_of};
 pub use finding::{Found, find_rest};
 pub use hashed::has_hashed;
-pub use kinds::kind_of;
 pub use laws::{
     children_are_left, finding_is_probing, found_levels_are_open, sought_levels_are_there,
     turns_are_told,

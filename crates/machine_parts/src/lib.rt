@@ -1,5 +1,5 @@
 //! What the machine that runs kernels is made of: tables that are looked up in constant time, places of arrays by name, arrays that
-//! grow, the operators of expressions, and the sorting of rows. `specs/Places.antt` says what a table holds, `specs/Rows.antt` which
+//! grow, operators whose first operand decides or whose operands are values, and the sorting of rows. `specs/Places.antt` says what a table holds, `specs/Rows.antt` which
 //! rows are sorted.
 #![tactic(auto)]
 
@@ -10,9 +10,7 @@ mod sums;
 mod tables;
 mod words;
 
-pub use operators::{
-    apply_to_words, combine_operands, decided_by_first, least_operand, width_of_operand,
-};
+pub use operators::{combine_operands, decided_by_first};
 pub use places::Places;
 pub use rows::{ScratchRow, coordinates_of, positions_of, rows_of_list, sort_rows};
 pub use sums::{PlacedRow, number_of_keys, sum_rows, values_of, words_at};

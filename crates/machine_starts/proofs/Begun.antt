@@ -12,7 +12,8 @@ use Rattle.level_core.specs.declared.letter.Letter.TheVariants.{Dense, Compresse
 use Rattle.level_core.specs.Fragments.{IsOf}
 use Rattle.level_core.specs.Laws.{AreAtStart}
 use Rattle.level_core.specs.Meaning.{Arrays}
-use Rattle.machine_starts.specs.Begun.{begun, begun_result, parents_below, HasSizes, AreBegun}
+use Rattle.machine_starts.specs.Begun.{begun, begun_result, HasSizes, AreBegun}
+use Rattle.level_core.specs.Kinds.{parents_below}
 
 -- an array that was set has these words, and others stay
 pub set_here : (s : State) (a : Arr) (xs : List ℕ) → (set_array s a xs).arrays a ≡ Some xs

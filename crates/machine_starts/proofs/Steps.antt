@@ -5,7 +5,8 @@ use Rattle.kernel_code.specs.declared.syntax.Arr.TheVariants.{Values}
 use Rattle.kernel_code.specs.Meaning.{State, set_array}
 use Rattle.format_spec.specs.declared.format.FormatLevel.{FormatLevel}
 use Rattle.format_spec.specs.Formats.{letters_of}
-use Rattle.machine_starts.specs.Begun.{begun, begun_result, parents_below, IsFew}
+use Rattle.machine_starts.specs.Begun.{begun, begun_result, IsFew}
+use Rattle.level_core.specs.Kinds.{parents_below}
 
 pub one_more_zero : (n x : ℕ) → replicate (n + 1) x ≡ x ∷ replicate n x
 one_more_zero n x = let e : n + 1 ≡ suc n = omega arith in ap (λ k. replicate k x) e

@@ -6,7 +6,7 @@ use Rattle.kernel_code.specs.declared.syntax.Arr.TheVariants.{ListPositions}
 use Rattle.kernel_code.specs.Meaning.{State, set_array}
 use Rattle.level_core.specs.declared.letter.Letter.{Letter}
 use Rattle.level_core.specs.declared.letter.Letter.TheVariants.{Dense, Compressed, CompressedGroups, Singleton, SingletonGroups, Hashed}
-use Rattle.level_core.specs.Kinds.{properties}
+use Rattle.level_core.specs.Kinds.{parents_below}
 use Rattle.level_core.specs.Laws.{AreAtStart}
 use Rattle.level_core.specs.Meaning.{Arrays}
 
@@ -18,10 +18,6 @@ begun CompressedGroups parents level s = set_array (set_array s (Ends 0 level) (
 begun Singleton parents level s = set_array s (Coordinates 0 level) []
 begun SingletonGroups parents level s = set_array s (Coordinates 0 level) []
 begun Hashed parents level s = set_array (set_array s (Width 0 level) []) (Coordinates 0 level) []
-
--- the parents of the next level as a run starts: the positions of a dense level, and none below any other
-abbrev pub parents_below : Letter → ℕ → ℕ → ℕ
-parents_below letter size parents = if (properties letter).full then parents * size else 0
 
 -- no dense level that has dense levels alone above it has more positions than may be
 abbrev pub IsFew : List Letter → List ℕ → ℕ → Type 0

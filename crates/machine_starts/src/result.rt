@@ -4,13 +4,13 @@ ghost use Rattle.limits.specs.Limits.{greatest_position_count};
 ghost use Rattle.level_core.specs.declared.letter.Letter.{Letter};
 ghost use Rattle.format_spec.specs.Formats.{letters_of};
 ghost use Rattle.kernel_steps.specs.Store.{state_of};
-ghost use Rattle.machine_starts.specs.Begun.{begun, begun_result, parents_below, IsFew};
+ghost use Rattle.machine_starts.specs.Begun.{begun, begun_result, IsFew};
 
 use crate::empty::add_empty;
 use format_spec::FormatLevel;
 use kernel_code::Arr;
 use kernel_steps::Machine;
-use level_core::Letter;
+use level_core::{Letter, positions_at_start};
 use seg_buffer::Segment;
 use std::alloc::{AllocError, Global};
 
@@ -64,17 +64,6 @@ fn begin_level(
     }
 }
 
-/// How many parents the next level has as a run starts.
-fn parents_of_next(letter: Letter, size: u64, parents: u64) -> u64
-    requires { parents_below letter size parents ≤ greatest_position_count }
-    ensures { result ≡ parents_below letter size parents }
-{
-    match letter {
-        Letter::Dense => parents * size,
-        _ => 0,
-    }
-}
-
 /// The arrays of a result of these levels and their ranges, and its values, each of which is nothing. Refused for want of memory alone.
 pub fn begin_result(
     machine: &mut Machine,
@@ -91,7 +80,7 @@ pub fn begin_result(
     for number in 0..format.len() {
         let letter = format[number].letter;
         begin_level(machine, alloc, letter, number as u64 + 1, parents)?;
-        parents = parents_of_next(letter, sizes[number], parents);
+        parents = positions_at_start(letter, sizes[number], parents);
     }
     let values = Segment::filled(alloc, parents as usize, nothing)?;
     machine.add_array(Arr::Values(0), values)?;

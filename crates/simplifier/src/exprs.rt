@@ -3,8 +3,8 @@ ghost use Rattle.std.specs.Prelude.{◌≡◌, IfOk};
 ghost use Rattle.simplifier.specs.Folded.{SimpleExpr, is_zero, number_of};
 ghost use Rattle.simplifier.specs.Same.{SameValue};
 
-use crate::words::{least, of_operands, width_of_operand};
-use kernel_code::{KExpr, Op, binary, word_at};
+use crate::words::of_operands;
+use kernel_code::{KExpr, Op, binary, least_operand, width_of_operand, word_at};
 use std::alloc::{AllocError, Global};
 use trees::Boxed;
 
@@ -44,7 +44,7 @@ fn fold_least(alloc: Global, a: KExpr, b: KExpr) -> Result<KExpr, AllocError>
     ensures same { IfOk result (λ r. SameValue r (KExpr.Min a b)) }
     ensures folded { SimpleExpr a → SimpleExpr b → IfOk result (λ r. SimpleExpr r) }
 {
-    match least(number(&a), number(&b)) {
+    match least_operand(number(&a), number(&b)) {
         Some(n) => Ok(KExpr::Num(n)),
         None => {
             let a = Boxed::new(alloc, a)?;

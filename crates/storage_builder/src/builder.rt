@@ -10,6 +10,7 @@ ghost use Rattle.storage_builder.specs.declared.part.Part.TheVariants.{Missing, 
 
 use crate::levels::made_level;
 use crate::part::Part;
+use crate::sizes::level_sizes;
 use format_spec::{Format, FormatLevel};
 use level_core::Letter;
 use limits::greatest_positions;
@@ -36,20 +37,6 @@ fn room_for(sizes: &[u64]) -> u64
         count = more;
     }
     count
-}
-
-/// The ranges of the levels of a format.
-fn level_sizes(alloc: Global, format: &[FormatLevel], shape: &Shape) -> Result<Vec<u64>, AllocError>
-    requires format { IsFormat format.now }
-    requires shape { length shape.now ≡ length format.now }
-    ensures sizes { IfOk result (λ sizes. sizes.items ≡ in_level_order format.now shape.now) }
-    ensures small { IfOk result (λ sizes. All (λ size. size ≤ greatest_position_count) sizes.items) }
-{
-    let mut sizes = Vec::new(alloc);
-    for level in 0..format.len() {
-        sizes.push(shape.range(format[level].mode))?;
-    }
-    Ok(sizes)
 }
 
 /// So many levels of which nothing was handed over.
@@ -141,7 +128,7 @@ impl Builder {
         ensures { IfOk result
             (λ b. b ≡ building format (in_level_order format shape.now) (replicate (length format) Missing)) }
     {
-        let sizes = level_sizes(alloc, format.levels(), shape)?;
+        let sizes = level_sizes(alloc, format.levels(), shape.ranges())?;
         let parts = missing_parts(alloc, format.order())?;
         let room = if format.is_all_dense() {
             room_for(&sizes)

@@ -7,6 +7,7 @@ mod builder;
 mod laws;
 mod levels;
 mod part;
+mod sizes;
 
 pub use builder::Builder;
 pub use laws::{
@@ -14,3 +15,4 @@ pub use laws::{
     left_levels_may_be_handed_over, levels_are_storage, made_levels_are_held, starts_are_empty,
 };
 pub use part::Part;
+pub use sizes::level_sizes;

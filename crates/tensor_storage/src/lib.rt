@@ -8,6 +8,7 @@ mod entries;
 mod finding;
 mod inserting;
 mod kind;
+mod kinds;
 mod laws;
 mod level;
 mod listing;
@@ -16,6 +17,7 @@ mod reading;
 mod table;
 mod tensor;
 
+pub use kinds::{chain_end, kind_of};
 pub use laws::{one_storage_stands, packed_tensors_tell_their_entries};
 pub use level::StorageLevel;
 pub use packing::PackRefusal;

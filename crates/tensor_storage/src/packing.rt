@@ -7,20 +7,13 @@ ghost use Rattle.tensor_storage.specs.Packed.{ArePacked, IsRefusal};
 ghost use Rattle.tensor_storage.specs.Stands.{IsPacked};
 ghost use Rattle.tensor_storage.specs.Storages.{IsStorage, storage_of, in_level_order};
 ghost use Rattle.tensor_storage.specs.Tables.{AreBelow};
-ghost use Rattle.tensor_storage.specs.Chains.{chain_length};
-ghost use Rattle.tensor_storage.specs.Levels.{meaning};
-ghost use Rattle.tensor_storage.specs.New.{IsNew};
 
+use crate::kinds::{chain_end, new_level};
 use crate::level::StorageLevel;
 use crate::table::{LevelRows, RowTable};
-use compressed_level::CompressedLevel;
-use dense_level::DenseLevel;
 use format_spec::FormatLevel;
-use hashed_level::HashedLevel;
-use level_core::{Letter, props_of};
 use level_rows::{FillRefusal, fill_level, store_values};
 use numbers::Semiring;
-use singleton_level::SingletonLevel;
 use std::alloc::{AllocError, Global};
 use trees::Items;
 
@@ -31,42 +24,6 @@ pub enum PackRefusal {
     Memory,
     /// The level, of which the top one is number 1, is the first that would have more positions than may be. It would have so many.
     SizeLimit { level: usize, count: u128 },
-}
-
-/// A level of this kind, for coordinates below `size`. Refused for want of memory alone.
-fn new_level(alloc: Global, letter: Letter, size: u64) -> Result<StorageLevel, AllocError>
-    requires { size ≤ greatest_position_count }
-    ensures { IfOk result (IsNew meaning letter size) }
-{
-    let level = match letter {
-        Letter::Dense => StorageLevel::Dense(DenseLevel::new(alloc, size)?),
-        Letter::Compressed => { StorageLevel::Compressed(CompressedLevel::new(alloc, size, true)?) }
-        Letter::CompressedGroups => {
-            StorageLevel::Compressed(CompressedLevel::new(alloc, size, false)?)
-        }
-        Letter::Singleton => StorageLevel::Singleton(SingletonLevel::new(alloc, size, true)?),
-        Letter::SingletonGroups => {
-            StorageLevel::Singleton(SingletonLevel::new(alloc, size, false)?)
-        }
-        Letter::Hashed => StorageLevel::Hashed(HashedLevel::new(alloc, size)?),
-    };
-    Ok(level)
-}
-
-/// Where the chain of levels with groups ends that a level stands in: the number of levels through the first unique one from
-/// there on.
-fn chain_end(format: &[FormatLevel], level: usize) -> usize
-    requires { level < length format.now }
-    ensures { result ≡ level + chain_length (drop level (letters_of format.now)) }
-{
-    let mut end = level;
-    while end < format.len() {
-        if props_of(format[end].letter).unique {
-            return end + 1;
-        }
-        end += 1;
-    }
-    end + 1
 }
 
 /// The levels of a format with the rows of a table, and how many positions the last one has.

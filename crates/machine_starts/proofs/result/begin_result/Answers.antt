@@ -1,6 +1,6 @@
 use Rattle.std.proofs.Common.{◌∙◌, ◌+◌, ◌≤◌, sym, ap, subst, arith, refl, drop}
 use Rattle.limits.specs.Limits.{greatest_position_count}
-use Rattle.limits.proofs.Limits.{some_positions}
+use Rattle.limits.proofs.Limits.{some_positions, positions_are_small}
 use Rattle.level_core.specs.declared.letter.Letter.TheVariants.{Dense}
 use Rattle.format_spec.specs.declared.format.FormatLevel.{FormatLevel}
 use Rattle.kernel_steps.specs.Store.{state_of}
@@ -15,11 +15,13 @@ none = record { letter = Dense; mode = 0 }
 pub loop-number-init : goal.loop-number-init
 loop-number-init c = (omega (arith, some_positions), c.requires.few, refl)
 
-pub parents_of_next-parents-requires : goal.parents_of_next-parents-requires
-parents_of_next-parents-requires c =
+pub positions_at_start-parents-requires : goal.positions_at_start-parents-requires
+positions_at_start-parents-requires c =
     let l = c.loop-number in
     let long = c.requires.same in
-    (few_here c.args.format.now c.args.sizes.now l.number l.parents none c.loop-number-test.true (omega (arith, long)) l.invariant.1).0
+    let few = few_here c.args.format.now c.args.sizes.now l.number l.parents none c.loop-number-test.true (omega (arith, long)) l.invariant.1 in
+    let within = few.0 in
+    omega (arith, within, positions_are_small)
 
 pub loop-number-preserved : goal.loop-number-preserved
 loop-number-preserved c =
@@ -27,11 +29,11 @@ loop-number-preserved c =
     let long = c.requires.same in
     let below = c.loop-number-test.true in
     let few = few_here c.args.format.now c.args.sizes.now l.number l.parents none below (omega (arith, long)) l.invariant.1 in (
-      subst (λ p. p ≤ greatest_position_count) (sym c.parents_of_next-parents.ensures) few.0,
-      few_next c.args.format.now c.args.sizes.now l.number l.parents c.parents_of_next-parents.result none below (omega (arith, long))
-          l.invariant.1 c.parents_of_next-parents.ensures,
-      result_next c.args.nothing c.args.format.now c.args.sizes.now l.number l.parents c.parents_of_next-parents.result none
-          (state_of l.machine) (state_of c.begin_level.new.machine) below (omega (arith, long)) c.parents_of_next-parents.ensures
+      subst (λ p. p ≤ greatest_position_count) (sym c.positions_at_start-parents.ensures) few.0,
+      few_next c.args.format.now c.args.sizes.now l.number l.parents c.positions_at_start-parents.result none below (omega (arith, long))
+          l.invariant.1 c.positions_at_start-parents.ensures,
+      result_next c.args.nothing c.args.format.now c.args.sizes.now l.number l.parents c.positions_at_start-parents.result none
+          (state_of l.machine) (state_of c.begin_level.new.machine) below (omega (arith, long)) c.positions_at_start-parents.ensures
           c.in_ok-begin_level.ensures ∙ l.invariant.2,
     )
 

@@ -1,6 +1,6 @@
 use Rattle.std.proofs.Common.{arith}
 use Rattle.kernel_code.proofs.Widths.{width_is, width_none}
-use Rattle.machine_parts.proofs.operators.width_of_word.Goals as goal
+use Rattle.kernel_code.proofs.operators.width_of_word.Goals as goal
 
 pub returns-then-x : goal.returns-then-x
 returns-then-x c = width_none c.args.x (omega arith)

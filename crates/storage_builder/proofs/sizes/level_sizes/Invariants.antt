@@ -1,7 +1,7 @@
 use Rattle.std.specs.Prelude.{◌≡◌, ◌≤◌, take, All}
 use Rattle.limits.specs.Limits.{greatest_position_count}
 use Rattle.tensor_storage.specs.Storages.{in_level_order}
-use Rattle.kernel_machine.proofs.sizes.sizes_of_levels.Given as goal
+use Rattle.storage_builder.proofs.sizes.level_sizes.Given as goal
 
 abbrev pub invariant-loop-level : goal.invariant-loop-level
 invariant-loop-level l =

@@ -5,7 +5,7 @@ use Rattle.level_core.specs.declared.letter.Letter.TheVariants.{Dense}
 use Rattle.format_spec.specs.Formats.{letters_of}
 use Rattle.tensor_storage.specs.Chains.{chain_length}
 use Rattle.tensor_storage.proofs.Chains.{chain_here, chain_more, chain_past}
-use Rattle.level_drains.proofs.drains.chain_end.Goals as goal
+use Rattle.tensor_storage.proofs.kinds.chain_end.Goals as goal
 
 none : FormatLevel
 none = record { letter = Dense; mode = 0 }

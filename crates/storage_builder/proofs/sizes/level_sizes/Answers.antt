@@ -6,7 +6,7 @@ use Rattle.level_core.specs.declared.letter.Letter.TheVariants.{Dense}
 use Rattle.format_spec.specs.declared.format.FormatLevel.{FormatLevel}
 use Rattle.tensor_storage.specs.Storages.{in_level_order}
 use Rattle.storage_builder.proofs.Room.{mode_within, size_more}
-use Rattle.kernel_machine.proofs.sizes.sizes_of_levels.Goals as goal
+use Rattle.storage_builder.proofs.sizes.level_sizes.Goals as goal
 
 abbrev none : FormatLevel
 none = record { letter = Dense; mode = 0 }

@@ -1,7 +1,7 @@
 use Rattle.std.specs.Prelude.{◌≡◌, ◌≤◌, ◌+◌, ◌-◌, length, drop}
 use Rattle.format_spec.specs.Formats.{letters_of}
 use Rattle.tensor_storage.specs.Chains.{chain_length}
-use Rattle.tensor_storage.proofs.packing.chain_end.Given as goal
+use Rattle.tensor_storage.proofs.kinds.chain_end.Given as goal
 
 abbrev pub invariant-loop-end : goal.invariant-loop-end
 invariant-loop-end l = (l.end ≤ length l.format)
