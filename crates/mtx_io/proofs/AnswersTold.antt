@@ -9,8 +9,8 @@ use Rattle.mtx_io.specs.Progress.{told}
 use Rattle.mtx_io.specs.Reader.{Tells}
 use Rattle.mtx_io.specs.declared.file_fault.FileFault.{FileFault}
 use Rattle.mtx_io.specs.declared.file_fault.FileFault.TheVariants.{Line, Memory}
-use Rattle.mtx_io.specs.declared.line_kind.LineKind.{LineKind}
-use Rattle.mtx_io.specs.declared.line_kind.LineKind.TheVariants.{Truncated}
+use Rattle.text_lines.specs.declared.line_kind.LineKind.{LineKind}
+use Rattle.text_lines.specs.declared.line_kind.LineKind.TheVariants.{Truncated}
 
 number_of_fault : Result Matrix BadLine → ℕ
 number_of_fault (Ok matrix) = 0

@@ -39,8 +39,8 @@ use Rattle.mtx_io.specs.declared.banner.Layout.TheVariants.{Coordinate, Array}
 use Rattle.mtx_io.specs.declared.banner.Symmetry.{Symmetry}
 use Rattle.mtx_io.specs.declared.banner.Symmetry.TheVariants.{General, Symmetric, SkewSymmetric}
 use Rattle.mtx_io.specs.declared.header.Header.{Header}
-use Rattle.mtx_io.specs.declared.line_kind.LineKind.{LineKind}
-use Rattle.mtx_io.specs.declared.line_kind.LineKind.TheVariants.{LongLine, BadSize, SkewDiagonal, NumRange, CoordRange}
+use Rattle.text_lines.specs.declared.line_kind.LineKind.{LineKind}
+use Rattle.text_lines.specs.declared.line_kind.LineKind.TheVariants.{LongLine, BadSize, SkewDiagonal, NumRange, CoordRange}
 use Rattle.mtx_io.specs.declared.place.Place.{Place}
 
 -- the sizes go with the symmetry and the order

@@ -13,8 +13,8 @@ use Rattle.mtx_io.specs.Progress.{counted, told, behind_entries, Follows}
 use Rattle.mtx_io.specs.Size.{Sized, size_of}
 use Rattle.mtx_io.specs.declared.banner.Banner.{Banner}
 use Rattle.mtx_io.specs.declared.header.Header.{Header}
-use Rattle.mtx_io.specs.declared.line_kind.LineKind.{LineKind}
-use Rattle.mtx_io.specs.declared.line_kind.LineKind.TheVariants.{LongLine, BadSize}
+use Rattle.text_lines.specs.declared.line_kind.LineKind.{LineKind}
+use Rattle.text_lines.specs.declared.line_kind.LineKind.TheVariants.{LongLine, BadSize}
 use Rattle.mtx_io.specs.declared.stage.Stage.TheVariants.{First, Begun, Sized as SizedStage, Bad}
 
 -- the line that follows has the next number

@@ -14,8 +14,8 @@ use Rattle.mtx_io.specs.Matrix.{matrix_from, matrix_of_text, behind_banner, behi
 use Rattle.mtx_io.specs.Matrix.{before_others, kept, numbered, unless_long}
 use Rattle.mtx_io.specs.Progress.{counted, told, rest_of, behind_entries, Follows}
 use Rattle.mtx_io.specs.Reader.{IsKnown, Leaves, ReadsOn, IsReadSoFar, is_bad}
-use Rattle.mtx_io.specs.declared.line_kind.LineKind.{LineKind}
-use Rattle.mtx_io.specs.declared.line_kind.LineKind.TheVariants.{LongLine}
+use Rattle.text_lines.specs.declared.line_kind.LineKind.{LineKind}
+use Rattle.text_lines.specs.declared.line_kind.LineKind.TheVariants.{LongLine}
 use Rattle.mtx_io.specs.declared.stage.Stage.{Stage}
 use Rattle.mtx_io.specs.declared.stage.Stage.TheVariants.{First, Begun, Sized, Bad}
 

@@ -41,7 +41,7 @@ use Rattle.mtx_io.specs.declared.banner.Banner.{Banner}
 use Rattle.mtx_io.specs.declared.banner.Layout.TheVariants.{Coordinate}
 use Rattle.mtx_io.specs.declared.banner.Symmetry.TheVariants.{General}
 use Rattle.mtx_io.specs.declared.header.Header.{Header}
-use Rattle.mtx_io.specs.declared.line_kind.LineKind.TheVariants.{LongLine, BadSize, CoordRange, NumRange}
+use Rattle.text_lines.specs.declared.line_kind.LineKind.TheVariants.{LongLine, BadSize, CoordRange, NumRange}
 
 -- a word is the word of its signed number, which is one of 64 bits
 signed_by : (v : ℕ) (b : Bool) → nat_lt v (2 ^ 63) ≡ b → v < 2 ^ 64 → word_of_signed (cond b (pos v) (negsuc (2 ^ 64 - 1 - v))) ≡ v

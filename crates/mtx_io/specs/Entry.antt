@@ -14,9 +14,9 @@ use Rattle.mtx_io.specs.Size.{Slot, Anywhere, At}
 use Rattle.mtx_io.specs.declared.banner.Symmetry.{Symmetry}
 use Rattle.mtx_io.specs.declared.banner.Symmetry.TheVariants.{General, Symmetric, SkewSymmetric}
 use Rattle.mtx_io.specs.declared.header.Header.{Header}
-use Rattle.mtx_io.specs.declared.line_kind.LineKind.{LineKind}
-use Rattle.mtx_io.specs.declared.line_kind.LineKind.TheVariants.{Fields, NotNumber, NotWhole, NumRange, ZeroCoordinate, CoordRange}
-use Rattle.mtx_io.specs.declared.line_kind.LineKind.TheVariants.{SkewDiagonal}
+use Rattle.text_lines.specs.declared.line_kind.LineKind.{LineKind}
+use Rattle.text_lines.specs.declared.line_kind.LineKind.TheVariants.{Fields, NotNumber, NotWhole, NumRange, ZeroCoordinate, CoordRange}
+use Rattle.text_lines.specs.declared.line_kind.LineKind.TheVariants.{SkewDiagonal}
 use Rattle.mtx_io.specs.declared.place.Place.{Place}
 pub use Rattle.mtx_io.specs.declared.place.PlacedValue.{PlacedValue}
 

@@ -13,8 +13,8 @@ use Rattle.mtx_io.specs.Entry.{PlacedValue, entry_of, entries_of}
 use Rattle.mtx_io.specs.Size.{Slot, Sized, size_of}
 use Rattle.mtx_io.specs.declared.banner.Banner.{Banner}
 use Rattle.mtx_io.specs.declared.header.Header.{Header}
-use Rattle.mtx_io.specs.declared.line_kind.LineKind.{LineKind}
-use Rattle.mtx_io.specs.declared.line_kind.LineKind.TheVariants.{LongLine, BadBanner, NoMinus, BadSize, Extra, Truncated}
+use Rattle.text_lines.specs.declared.line_kind.LineKind.{LineKind}
+use Rattle.text_lines.specs.declared.line_kind.LineKind.TheVariants.{LongLine, BadBanner, NoMinus, BadSize, Extra, Truncated}
 
 -- a line with its number in the file, counted from 1
 pub record NumberedLine : Type 0 where

@@ -8,8 +8,8 @@ use Rattle.mtx_io.specs.Matrix.{BadLine, Matrix, is_skipped, matrix_from, matrix
 use Rattle.mtx_io.specs.Progress.{counted}
 use Rattle.mtx_io.specs.declared.file_fault.FileFault.{FileFault}
 use Rattle.mtx_io.specs.declared.file_fault.FileFault.TheVariants.{Line, Memory}
-use Rattle.mtx_io.specs.declared.line_kind.LineKind.{LineKind}
-use Rattle.mtx_io.specs.declared.line_kind.LineKind.TheVariants.{Truncated}
+use Rattle.text_lines.specs.declared.line_kind.LineKind.{LineKind}
+use Rattle.text_lines.specs.declared.line_kind.LineKind.TheVariants.{Truncated}
 
 pub record MtxReader : Type 0 where
   -- the order of the tensor that the matrix is read as

@@ -6,8 +6,8 @@ ghost use Rattle.text_lines.specs.Cutting.{is_long};
 ghost use Rattle.text_lines.specs.Tokens.{tokens};
 
 use crate::fields::five_tokens;
-use crate::line_kind::LineKind;
 use numbers::Semiring;
+use text_lines::LineKind;
 
 /// How the entries of a matrix are told.
 #[derive(Clone, Copy, Debug, PartialEq, Eq)]

@@ -11,11 +11,10 @@ use crate::banner::{Banner, Layout, Symmetry};
 use crate::entry::{read_entry, read_value_at};
 use crate::fields::{three_tokens, two_tokens};
 use crate::header::Header;
-use crate::line_kind::LineKind;
 use crate::place::{Place, PlacedValue};
 use limits::{greatest_entries_of_matrix, greatest_size_of_matrix};
 use std::marker::Model;
-use text_lines::read_index;
+use text_lines::{LineKind, read_index};
 
 /// What is still due.
 #[derive(Clone, Copy, Debug)]

@@ -9,13 +9,12 @@ ghost use Rattle.text_lines.specs.Tokens.{tokens};
 use crate::banner::Symmetry;
 use crate::fields::{one_token, three_tokens};
 use crate::header::Header;
-use crate::line_kind::LineKind;
 use crate::place::{Place, PlacedValue};
 use limits::greatest_coordinate_in_file;
 use numbers::Semiring;
 use std::alloc::AllocError;
 use tensor_map::Entries;
-use text_lines::{NumFault, read_index, read_whole};
+use text_lines::{LineKind, NumFault, read_index, read_whole};
 
 /// A row or a column of so many, counted from 0: the token counts from 1.
 fn read_index_in(token: &[u8], size: u64) -> Result<u64, LineKind>

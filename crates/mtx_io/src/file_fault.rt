@@ -1,5 +1,5 @@
-use crate::line_kind::LineKind;
 use std::alloc::AllocError;
+use text_lines::LineKind;
 
 /// Why a file isn't read.
 #[derive(Clone, Copy, Debug, PartialEq, Eq)]

@@ -5,9 +5,9 @@ ghost use Rattle.mtx_io.specs.Progress.{counted, told, rest_of};
 ghost use Rattle.mtx_io.specs.Reader.{Tells};
 
 use crate::file_fault::FileFault;
-use crate::line_kind::LineKind;
 use crate::stage::Stage;
 use tensor_map::Entries;
+use text_lines::LineKind;
 
 /// The entries of a file and its numbers of rows and columns.
 pub(crate) type Read = Result<(Entries, u64, u64), FileFault>;

@@ -12,8 +12,8 @@ ghost use Rattle.mtx_io.specs.Progress.{IsMatrixOrder};
 ghost use Rattle.mtx_io.specs.SizeLaws.{IsOfSizes};
 ghost use Rattle.mtx_io.specs.Text.{IsBelow, IsMatrixText, matrix_text};
 ghost use Rattle.mtx_io.specs.WrittenLaws.{StandsFor};
-ghost use Rattle.mtx_io.specs.declared.line_kind.LineKind.TheVariants.{BadBanner, NoMinus, BadSize, Extra, Truncated, CoordRange};
-ghost use Rattle.mtx_io.specs.declared.line_kind.LineKind.TheVariants.{SkewDiagonal};
+ghost use Rattle.text_lines.specs.declared.line_kind.LineKind.TheVariants.{BadBanner, NoMinus, BadSize, Extra, Truncated, CoordRange};
+ghost use Rattle.text_lines.specs.declared.line_kind.LineKind.TheVariants.{SkewDiagonal};
 
 /// What small texts stand for: an entry and its mirror image, the places of an array, and the first bad line.
 pub fn texts_are_matrices_or_bad()

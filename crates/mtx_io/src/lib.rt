@@ -12,7 +12,6 @@ mod file_fault;
 mod finish;
 mod header;
 mod laws;
-mod line_kind;
 mod mtx_reader;
 mod pieces;
 mod place;
@@ -25,6 +24,5 @@ pub use laws::{
     entries_are_below_the_sizes, tensors_have_one_text, texts_are_matrices_or_bad,
     written_entries_are_texts_of_their_tensor, written_texts_stand_for_their_tensor,
 };
-pub use line_kind::LineKind;
 pub use mtx_reader::MtxReader;
 pub use printing::put_mtx;

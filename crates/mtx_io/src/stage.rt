@@ -1,12 +1,12 @@
 ghost use Rattle.std.specs.Prelude.{◌≡◌, ◌+◌};
 ghost use Rattle.mtx_io.specs.Progress.{counted};
 ghost use Rattle.mtx_io.specs.Reader.{is_bad};
-ghost use Rattle.mtx_io.specs.declared.line_kind.LineKind.TheVariants.{LongLine};
+ghost use Rattle.text_lines.specs.declared.line_kind.LineKind.TheVariants.{LongLine};
 ghost use Rattle.mtx_io.specs.declared.stage.Stage.TheVariants.{Bad};
 
 use crate::banner::Banner;
 use crate::due::EntryLines;
-use crate::line_kind::LineKind;
+use text_lines::LineKind;
 
 /// How far a file was read.
 #[derive(Drop)]

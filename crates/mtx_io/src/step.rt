@@ -10,12 +10,11 @@ ghost use Rattle.mtx_io.specs.declared.stage.Stage.TheVariants.{First, Begun, Si
 use crate::banner::{Banner, read_first_line};
 use crate::due::EntryLines;
 use crate::entry::push_entries;
-use crate::line_kind::LineKind;
 use crate::stage::Stage;
 use numbers::Semiring;
 use std::alloc::AllocError;
 use tensor_map::Entries;
-use text_lines::cut_token;
+use text_lines::{LineKind, cut_token};
 
 /// Whether a line behind the banner is a comment or has no token.
 fn is_passed_over(line: &[u8]) -> bool

@@ -12,7 +12,7 @@ use Rattle.bindings.specs.Words.{is_mtx}
 use Rattle.tns_io.specs.Reading.{entries_of_text}
 use Rattle.mtx_io.specs.Matrix.{BadLine, Matrix, matrix_of_text}
 use Rattle.mtx_io.specs.Progress.{counted}
-use Rattle.mtx_io.specs.declared.line_kind.LineKind.{LineKind}
+use Rattle.text_lines.specs.declared.line_kind.LineKind.{LineKind}
 use Rattle.operand_files.specs.Decoded.{Operand, of_entries, of_matrix, operand_of}
 use Rattle.operand_files.specs.Reads.{Meaning, IsToldText, IsFront, IsWholeFile, CountsNothing, HasBadLine, ReadsOperand, FeedsFile}
 use Rattle.operand_files.specs.Reads.{FileRefused, DecodesTo, MayOpen}

@@ -17,7 +17,7 @@ use Rattle.bindings.specs.Words.{is_mtx}
 use Rattle.tns_io.specs.Reading.{BadLine as BadEntry, entries_of_text}
 use Rattle.mtx_io.specs.Matrix.{BadLine, Matrix, matrix_of_text}
 use Rattle.mtx_io.specs.Progress.{IsMatrixOrder}
-use Rattle.mtx_io.specs.declared.line_kind.LineKind.{LineKind}
+use Rattle.text_lines.specs.declared.line_kind.LineKind.{LineKind}
 use Rattle.operand_files.specs.Decoded.{Operand, IsReadable, reached, sizes, of_entries, of_matrix, operand_of}
 use Rattle.operand_files.specs.Laws.{IsTold, AreTold, bytes_in, before_others, told_operands, IsBadFileOrWant}
 use Rattle.operand_files.specs.Reads.{Meaning, Given, IsToldText, IsTooLong, IsOperand, AreOperands, paths_of, HaveRead, IsReadFault}

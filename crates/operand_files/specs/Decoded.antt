@@ -11,12 +11,8 @@ use Rattle.expr_terms.specs.declared.bound.Bound.{Bound}
 use Rattle.expr_terms.specs.declared.bound.Bound.TheVariants.{Exact, AtLeast}
 use Rattle.bindings.specs.Words.{is_mtx}
 use Rattle.tns_io.specs.Reading.{BadLine as BadEntry, entries_of_text}
-use Rattle.tns_io.specs.declared.line_kind.LineKind.{LineKind as EntryKind}
-use Rattle.tns_io.specs.declared.line_kind.LineKind.TheVariants as entry
 use Rattle.mtx_io.specs.Matrix.{BadLine, Matrix, matrix_of_text}
 use Rattle.mtx_io.specs.Progress.{IsMatrixOrder}
-use Rattle.mtx_io.specs.declared.line_kind.LineKind.{LineKind}
-use Rattle.mtx_io.specs.declared.line_kind.LineKind.TheVariants as line
 
 -- an operand: its order and its entries, and what each of its modes gives
 pub record Operand : Type 0 where
@@ -43,18 +39,9 @@ reached order entries = map (λ mode. AtLeast (reach entries mode)) (range_with_
 abbrev pub sizes : ℕ → ℕ → ℕ → List Bound
 sizes order rows columns = take order (Exact rows ∷ Exact columns ∷ [])
 
--- what may be wrong with a `.tns` line may be wrong with a `.mtx` line
-abbrev pub kind_of : EntryKind → LineKind
-kind_of entry.LongLine = line.LongLine
-kind_of entry.Fields = line.Fields
-kind_of entry.NotNumber = line.NotNumber
-kind_of entry.NotWhole = line.NotWhole
-kind_of entry.NumRange = line.NumRange
-kind_of entry.ZeroCoordinate = line.ZeroCoordinate
-
 abbrev pub of_entries : ℕ → Result (List Entry) BadEntry → Result Operand BadLine
 of_entries order (Ok list) = Ok (record { entries = record { order = order; list = list }; bounds = reached order list })
-of_entries order (Err bad) = Err (record { number = bad.number; kind = kind_of bad.kind })
+of_entries order (Err bad) = Err (record { number = bad.number; kind = bad.kind })
 
 abbrev pub of_matrix : ℕ → Result Matrix BadLine → Result Operand BadLine
 of_matrix order (Ok matrix) =

@@ -3,7 +3,7 @@ use Rattle.std.specs.Prelude.{ℕ, ◌≤◌, List, [], ◌∷◌, length, Resul
 use Rattle.limits.specs.Limits.{greatest_file_bytes}
 use Rattle.outside.specs.Told.{Told, Untold, NoFile, Bytes}
 use Rattle.mtx_io.specs.Matrix.{BadLine}
-use Rattle.mtx_io.specs.declared.line_kind.LineKind.{LineKind}
+use Rattle.text_lines.specs.declared.line_kind.LineKind.{LineKind}
 use Rattle.operand_files.specs.Decoded.{Operand}
 use Rattle.operand_files.specs.Reads.{Meaning}
 use Rattle.operand_files.specs.declared.fault.OperandFault.{OperandFault}

@@ -10,7 +10,7 @@ use Rattle.tensor_map.specs.Entries.{Entries}
 use Rattle.expr_terms.specs.declared.bound.Bound.{Bound}
 use Rattle.mtx_io.specs.Matrix.{BadLine}
 use Rattle.mtx_io.specs.Progress.{counted}
-use Rattle.mtx_io.specs.declared.line_kind.LineKind.{LineKind}
+use Rattle.text_lines.specs.declared.line_kind.LineKind.{LineKind}
 use Rattle.operand_files.specs.Decoded.{Operand}
 use Rattle.operand_files.specs.declared.fault.OperandFault.{OperandFault}
 use Rattle.operand_files.specs.declared.fault.OperandFault.TheVariants.{ReadFault, FileBytes, BadFile, Memory}

@@ -1,7 +1,7 @@
 // What a file that was fed to its reader stands for.
 ghost use Rattle.std.specs.Prelude.{◌≡◌};
 ghost use Rattle.mtx_io.specs.Matrix.{matrix_of_text};
-ghost use Rattle.operand_files.specs.Decoded.{kind_of, of_entries, of_matrix};
+ghost use Rattle.operand_files.specs.Decoded.{of_entries, of_matrix};
 ghost use Rattle.operand_files.specs.Reads.{DecodesTo};
 ghost use Rattle.tns_io.specs.Reading.{entries_of_text};
 
@@ -9,25 +9,11 @@ use crate::bounds::{reached_by, sizes_of};
 use crate::fault::OperandFault;
 use crate::matrix_file::MatrixFile;
 use expr_terms::Bound;
-use mtx_io::{FileFault as MtxFault, LineKind};
+use mtx_io::FileFault as MtxFault;
 use numbers::Semiring;
 use std::alloc::Global;
 use tensor_map::Entries;
-use tns_io::{FileFault as TnsFault, LineKind as TnsKind, TnsReader};
-
-/// The kind of a bad `.tns` line among those of a `.mtx` line.
-fn kind_of(kind: TnsKind) -> LineKind
-    ensures { result ≡ kind_of kind }
-{
-    match kind {
-        TnsKind::LongLine => LineKind::LongLine,
-        TnsKind::Fields => LineKind::Fields,
-        TnsKind::NotNumber => LineKind::NotNumber,
-        TnsKind::NotWhole => LineKind::NotWhole,
-        TnsKind::NumRange => LineKind::NumRange,
-        TnsKind::ZeroCoordinate => LineKind::ZeroCoordinate,
-    }
-}
+use tns_io::{FileFault as TnsFault, TnsReader};
 
 /// What a `.tns` file stands for that was fed to its end.
 pub(crate) fn decode_entries<'a>(
@@ -42,11 +28,7 @@ pub(crate) fn decode_entries<'a>(
             let bounds = reached_by(alloc, &entries)?;
             Ok((entries, bounds))
         }
-        Err(TnsFault::Line { line, kind }) => Err(OperandFault::BadFile {
-            path,
-            line,
-            kind: kind_of(kind),
-        }),
+        Err(TnsFault::Line { line, kind }) => Err(OperandFault::BadFile { path, line, kind }),
         Err(TnsFault::Memory(_)) => Err(OperandFault::Memory),
     }
 }

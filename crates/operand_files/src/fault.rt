@@ -1,7 +1,7 @@
 ghost use Rattle.std.specs.Prelude.{◌≡◌};
 ghost use Rattle.operand_files.specs.declared.fault.OperandFault.TheVariants.{Memory};
 
-use mtx_io::LineKind;
+use text_lines::LineKind;
 use std::alloc::{AllocError, AllocFailed};
 
 /// Why the operands of a statement aren't read.

@@ -5,7 +5,7 @@ ghost use Rattle.outside.specs.Count.{Rose};
 ghost use Rattle.outside.specs.Folder.{FolderState};
 ghost use Rattle.tensor_map.specs.Entries.{Entries};
 ghost use Rattle.expr_terms.specs.declared.bound.Bound.{Bound};
-ghost use Rattle.mtx_io.specs.declared.line_kind.LineKind.{LineKind};
+ghost use Rattle.text_lines.specs.declared.line_kind.LineKind.{LineKind};
 ghost use Rattle.operand_files.specs.Decoded.{Operand, IsReadable, operand_of};
 ghost use Rattle.operand_files.specs.Laws.{AreTold, IsBadFileOrWant, told_operands};
 ghost use Rattle.operand_files.specs.Reads.{Meaning, HaveRead, IsRefused, RefusedAtLine};

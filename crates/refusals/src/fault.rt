@@ -6,8 +6,8 @@ ghost use Rattle.refusals.specs.declared.fault.Fault.TheVariants.{Memory};
 use bindings::{BindingFault, WordFault};
 use expr_terms::{NameFault, RangeFault};
 use index_notation::{NotationFault, Statement};
-use mtx_io::LineKind;
 use std::alloc::AllocError;
+use text_lines::LineKind;
 use thiserror::Error;
 use trees::Items;
 

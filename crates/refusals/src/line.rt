@@ -13,9 +13,8 @@ use bindings::{BindingFault, WordFault};
 use expr_terms::{NameFault, RangeFault};
 use format_spec::FormatFault;
 use index_notation::{Counted, Name, NotationFault, Statement};
-use mtx_io::LineKind;
 use outside::{Refusal, Sink};
-use text_lines::put_all;
+use text_lines::{LineKind, put_all};
 
 const MEMORY: &[u8] = b"taco: out of memory\n";
 

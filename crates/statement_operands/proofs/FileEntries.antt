@@ -24,8 +24,8 @@ use Rattle.tns_io.specs.Reading.{Reading, coordinate_of, value_of, value_alone, 
 use Rattle.tns_io.specs.Reading.{read_or_bad, reading_of_tokens, reading, BadLine, before_others, entries_from, entries_of_text}
 use Rattle.tns_io.specs.Reading.Reading.{Skipped, Read, Bad}
 use Rattle.tns_io.specs.WrittenLaws.{AreInFile}
-use Rattle.tns_io.specs.declared.line_kind.LineKind.{LineKind}
-use Rattle.tns_io.specs.declared.line_kind.LineKind.TheVariants.{LongLine, Fields}
+use Rattle.text_lines.specs.declared.line_kind.LineKind.{LineKind}
+use Rattle.text_lines.specs.declared.line_kind.LineKind.TheVariants.{LongLine, Fields}
 use Rattle.tns_io.proofs.ReadLaws.{entries_in_file}
 use Rattle.mtx_io.specs.Entry.{coords_of}
 use Rattle.mtx_io.specs.Matrix.{Matrix, matrix_of_text}

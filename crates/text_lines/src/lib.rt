@@ -7,6 +7,7 @@ mod cuts;
 mod fed;
 mod index;
 mod laws;
+mod line_kind;
 mod line_reader;
 mod num_fault;
 mod puts;
@@ -20,6 +21,7 @@ pub use laws::{
     joined_lines_are_cut_back, joined_tokens_are_cut_back, printed_numbers_are_read_back,
     printed_numbers_are_tokens, tokens_are_whole_numbers_or_not, told_lines_stay,
 };
+pub use line_kind::LineKind;
 pub use line_reader::LineReader;
 pub use num_fault::NumFault;
 pub use puts::{put_all, put_i64, put_u64};

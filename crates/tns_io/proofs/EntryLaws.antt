@@ -16,8 +16,8 @@ use Rattle.tns_io.specs.Reading.Reading.{Skipped, Read, Bad}
 use Rattle.tns_io.specs.ReadSoFar.{IsReadSoFar, StaysBad, Takes, Fails, ReadsPiece, FailsPiece, is_want}
 use Rattle.tns_io.specs.ReaderState.{IsKnown}
 use Rattle.tns_io.specs.TnsReader.{IsBadText, Refuses, read_to}
-use Rattle.tns_io.specs.declared.line_kind.LineKind.{LineKind}
-use Rattle.tns_io.specs.declared.line_kind.LineKind.TheVariants.{LongLine}
+use Rattle.text_lines.specs.declared.line_kind.LineKind.{LineKind}
+use Rattle.text_lines.specs.declared.line_kind.LineKind.TheVariants.{LongLine}
 use Rattle.tns_io.specs.declared.file_fault.FileFault.{FileFault}
 use Rattle.tns_io.specs.declared.file_fault.FileFault.TheVariants.{Line, Memory}
 

@@ -5,7 +5,7 @@ use Rattle.std.proofs.lemmas.List.{take_more_set}
 use Rattle.tensor_map.specs.declared.entries.Entry.{Entry}
 use Rattle.tns_io.specs.Fields.{AreCoordinates, behind_coords}
 use Rattle.tns_io.specs.Reading.{coordinate_of, with_first, entry_of}
-use Rattle.tns_io.specs.declared.line_kind.LineKind.{LineKind}
+use Rattle.text_lines.specs.declared.line_kind.LineKind.{LineKind}
 use Rattle.tns_io.proofs.WrittenLaws.{entry_of_more}
 
 one_behind : (coords : List ℕ) (c : ℕ) (entry : Result Entry LineKind)

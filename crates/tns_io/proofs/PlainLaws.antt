@@ -27,7 +27,7 @@ use Rattle.tns_io.specs.Plain.{BeginsWith, FirstIs, IsNumber}
 use Rattle.tns_io.specs.Reading.{coordinate_from, coordinate_of, entry_of, is_comment, read_or_bad, reading, reading_of_tokens}
 use Rattle.tns_io.specs.Reading.{value_alone, value_from, value_of, with_first}
 use Rattle.tns_io.specs.Reading.Reading.{Skipped, Read, Bad}
-use Rattle.tns_io.specs.declared.line_kind.LineKind.TheVariants.{LongLine, Fields, NumRange}
+use Rattle.text_lines.specs.declared.line_kind.LineKind.TheVariants.{LongLine, Fields, NumRange}
 
 -- a token that stands for a number is digits
 are_digits : (token : List ℕ) (n : ℕ) → number_of token ≡ Some n → is_number token ≡ true

@@ -17,8 +17,8 @@ use Rattle.tns_io.specs.Reading.{read_or_bad, reading_of_tokens, reading, BadLin
 use Rattle.tns_io.specs.Reading.Reading.{Skipped, Read, Bad}
 use Rattle.tns_io.specs.Text.{AreInRange}
 use Rattle.tns_io.specs.WrittenLaws.{AreInFile}
-use Rattle.tns_io.specs.declared.line_kind.LineKind.{LineKind}
-use Rattle.tns_io.specs.declared.line_kind.LineKind.TheVariants.{NumRange, LongLine, Fields}
+use Rattle.text_lines.specs.declared.line_kind.LineKind.{LineKind}
+use Rattle.text_lines.specs.declared.line_kind.LineKind.TheVariants.{NumRange, LongLine, Fields}
 
 coordinate_in_file : (number : Option ℕ) (c : ℕ) → coordinate_from number ≡ Ok c → c < greatest_file_coordinate
 coordinate_in_file None c e = absurd (cc)

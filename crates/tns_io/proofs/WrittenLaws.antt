@@ -35,7 +35,7 @@ use Rattle.tns_io.specs.Reading.{reading_of_tokens, reading, before_others, entr
 use Rattle.tns_io.specs.Reading.Reading.{Read, Bad}
 use Rattle.tns_io.specs.Text.{coords_text, line_text, IsAmong, IsTnsText}
 use Rattle.tns_io.proofs.TextLaws.{before_among}
-use Rattle.tns_io.specs.declared.line_kind.LineKind.TheVariants.{LongLine, NumRange}
+use Rattle.text_lines.specs.declared.line_kind.LineKind.TheVariants.{LongLine, NumRange}
 use Rattle.tns_io.specs.WrittenLaws.{coordinate_texts, bare_text, AreInFile, entries_at, IsPlace, StandsFor}
 
 -- a word is the word of its signed number, which is one of 64 bits

@@ -4,8 +4,8 @@ use Rattle.std.specs.Prelude.{Option, Some, None, Result, Ok, Err, if◌then◌e
 use Rattle.tensor_map.specs.declared.entries.Entry.{Entry}
 use Rattle.tns_io.specs.Reading.{Reading, entry_of}
 use Rattle.tns_io.specs.Reading.Reading.{Skipped, Read, Bad}
-use Rattle.tns_io.specs.declared.line_kind.LineKind.{LineKind}
-use Rattle.tns_io.specs.declared.line_kind.LineKind.TheVariants.{Fields}
+use Rattle.text_lines.specs.declared.line_kind.LineKind.{LineKind}
+use Rattle.text_lines.specs.declared.line_kind.LineKind.TheVariants.{Fields}
 
 -- what an answer says of a line, whose coordinates were put aside
 abbrev pub IsReading : Reading → List ℕ → Result (Option ℕ) LineKind → Type 0

@@ -6,7 +6,7 @@ use Rattle.text_lines.specs.LineReader.{LineReader}
 use Rattle.tns_io.specs.Reading.{Reading, entries_from}
 use Rattle.tns_io.specs.Reading.Reading.{Skipped, Read, Bad}
 use Rattle.tns_io.specs.TnsReader.{IsBadText, EndsEntry}
-use Rattle.tns_io.specs.declared.line_kind.LineKind.{LineKind}
+use Rattle.text_lines.specs.declared.line_kind.LineKind.{LineKind}
 use Rattle.tns_io.specs.declared.file_fault.FileFault.{FileFault}
 use Rattle.tns_io.specs.declared.file_fault.FileFault.TheVariants.{Line, Memory}
 

@@ -1,6 +1,6 @@
 -- What a `.tns` file says, as the FROSTT page describes it: a line an entry, the coordinates from 1 and then the
 -- value. Comments, lines without a token, and what is taken as a number are told here.
-use Rattle.std.specs.Prelude.{ℕ, zero, suc, ◌+◌, ℤ, Bool, ◌==◌, nat_lt, List, [], ◌∷◌, length, Option, Some, None, Result, Ok}
+use Rattle.std.specs.Prelude.{ℕ, zero, suc, ◌+◌, ℤ, Bool, true, false, ◌==◌, nat_lt, List, [], ◌∷◌, length, Option, Some, None, Result, Ok}
 use Rattle.std.specs.Prelude.{Err, if◌then◌else◌, slice_index}
 use Rattle.limits.specs.Limits.{greatest_file_coordinate, greatest_line_bytes}
 use Rattle.numbers.specs.Signed.{word_of_signed}
@@ -10,8 +10,18 @@ use Rattle.text_lines.specs.Numbers.{number_of, read_whole_of}
 use Rattle.text_lines.specs.Tokens.{tokens}
 use Rattle.text_lines.specs.declared.num_fault.NumFault.{NumFault}
 use Rattle.text_lines.specs.declared.num_fault.NumFault.TheVariants.{NotNumber as NoNumber, NotWhole as NoWhole, NumRange as NoRange}
-use Rattle.tns_io.specs.declared.line_kind.LineKind.{LineKind}
-use Rattle.tns_io.specs.declared.line_kind.LineKind.TheVariants.{LongLine, Fields, NotNumber, NotWhole, NumRange, ZeroCoordinate}
+use Rattle.text_lines.specs.declared.line_kind.LineKind.{LineKind}
+use Rattle.text_lines.specs.declared.line_kind.LineKind.TheVariants.{LongLine, Fields, NotNumber, NotWhole, NumRange, ZeroCoordinate}
+
+-- what may be wrong with a line of a `.tns` file
+abbrev pub is_entry_kind : LineKind → Bool
+is_entry_kind LongLine = true
+is_entry_kind Fields = true
+is_entry_kind NotNumber = true
+is_entry_kind NotWhole = true
+is_entry_kind NumRange = true
+is_entry_kind ZeroCoordinate = true
+is_entry_kind _ = false
 
 -- a coordinate, counted from 0, where the token is a number from 1 to the greatest that a file may have
 abbrev pub coordinate_from : Option ℕ → Result ℕ LineKind

@@ -3,9 +3,9 @@ use Rattle.std.specs.Prelude.{◌≡◌, ℕ, min, Bool, true, false, List, [], 
 use Rattle.tensor_map.specs.Entries.{Entries}
 use Rattle.tensor_map.specs.declared.entries.Entry.{Entry}
 use Rattle.text_lines.specs.Cutting.{ended_lines}
-use Rattle.tns_io.specs.Reading.{reading, entries_from, entries_of_text}
+use Rattle.tns_io.specs.Reading.{is_entry_kind, reading, entries_from, entries_of_text}
 use Rattle.tns_io.specs.Reading.Reading.{Read}
-use Rattle.tns_io.specs.declared.line_kind.LineKind.{LineKind}
+use Rattle.text_lines.specs.declared.line_kind.LineKind.{LineKind}
 use Rattle.tns_io.specs.declared.file_fault.FileFault.{FileFault}
 use Rattle.tns_io.specs.declared.file_fault.FileFault.TheVariants.{Line, Memory}
 
@@ -44,6 +44,11 @@ pub record IsBadText (order : ℕ) (text : List ℕ) (line : ℕ) (kind : LineKi
   pub number : ℕ
   pub line_is : line ≡ min number 18446744073709551615
   pub bad : entries_of_text order text ≡ Err (record { number = number; kind = kind })
+
+-- a refusal for a line is of a kind that a line of a `.tns` file may have
+abbrev pub IsOfEntries : FileFault → Type 0
+IsOfEntries (Line line kind) = is_entry_kind kind ≡ true
+IsOfEntries (Memory e) = Unit {0}
 
 -- why a text is refused at its end
 abbrev pub Refuses : TnsReader → FileFault → Type 0

@@ -7,10 +7,9 @@ ghost use Rattle.tns_io.specs.Reading.{coordinate_of, entry_of, is_comment as is
 ghost use Rattle.tns_io.specs.ReadSoFar.{Fails, Takes};
 
 use crate::file_fault::FileFault;
-use crate::line_kind::LineKind;
 use crate::plain_lines::read_plain;
 use tensor_map::Entries;
-use text_lines::{NumFault, cut_token, read_index, read_whole};
+use text_lines::{LineKind, NumFault, cut_token, read_index, read_whole};
 
 /// The greatest order of a tensor.
 const GREATEST_ORDER: usize = 6;

@@ -1,5 +1,5 @@
-use crate::LineKind;
 use std::alloc::AllocError;
+use text_lines::LineKind;
 
 /// Why a `.tns` file isn't read.
 #[derive(Clone, Copy, Debug, PartialEq, Eq)]

@@ -9,7 +9,7 @@ ghost use Rattle.tensor_map.specs.Order.{IsBefore};
 ghost use Rattle.tns_io.specs.Positions.{product, IsBelow, position, coords_at};
 ghost use Rattle.tns_io.specs.Reading.{entries_of_text, reading};
 ghost use Rattle.tns_io.specs.Reading.Reading.{Skipped, Read, Bad};
-ghost use Rattle.tns_io.specs.declared.line_kind.LineKind.TheVariants.{Fields, NotNumber, NotWhole, NumRange, ZeroCoordinate};
+ghost use Rattle.text_lines.specs.declared.line_kind.LineKind.TheVariants.{Fields, NotNumber, NotWhole, NumRange, ZeroCoordinate};
 ghost use Rattle.tns_io.specs.Text.{AreInRange, IsTnsText, entries_text};
 ghost use Rattle.tns_io.specs.WrittenLaws.{StandsFor};
 

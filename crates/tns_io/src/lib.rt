@@ -6,7 +6,6 @@
 mod entry_lines;
 mod file_fault;
 mod laws;
-mod line_kind;
 mod plain_lines;
 mod printing;
 mod tns_reader;
@@ -17,6 +16,5 @@ pub use laws::{
     tensors_have_one_text, texts_of_entries_are_their_tensors,
     written_texts_stand_for_their_tensor,
 };
-pub use line_kind::LineKind;
 pub use printing::put_tns;
 pub use tns_reader::TnsReader;

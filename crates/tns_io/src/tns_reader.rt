@@ -6,12 +6,11 @@ ghost use Rattle.tns_io.specs.TnsReader.{IsRead, Refuses, read_to};
 
 use crate::entry_lines::take_line;
 use crate::file_fault::FileFault;
-use crate::line_kind::LineKind;
 use outside::Eater;
 use std::alloc::{AllocError, Global};
 use std::marker::Model;
 use tensor_map::Entries;
-use text_lines::{Fed, LineReader, Step};
+use text_lines::{Fed, LineKind, LineReader, Step};
 
 /// Reads the entries of a `.tns` file that is fed to it piece by piece, for a tensor of an order. It keeps the entries,
 /// and one line at most: no more of the text. Behind the first bad line it passes over what it is fed.
@@ -37,7 +36,7 @@ impl Model for TnsReader {
 }
 
 impl TnsReader {
-    ghost use Rattle.tns_io.specs.TnsReader.{IsRead, Refuses};
+    ghost use Rattle.tns_io.specs.TnsReader.{IsRead, IsOfEntries, Refuses};
 
     /// A reader that was fed nothing yet, for a tensor of this order.
     pub fn new(alloc: Global, order: usize) -> Result<TnsReader, AllocError>
@@ -57,7 +56,8 @@ impl TnsReader {
     /// The text has ended: its entries, as they stand in it, or its first bad line. Memory is wanted for an entry on a
     /// last line without an end, or was wanted before.
     pub fn finish(self) -> Result<Entries, FileFault>
-        ensures { MatchResult result (IsRead self) (Refuses self) }
+        ensures told { MatchResult result (IsRead self) (Refuses self) }
+        ensures kinds { IfErr result IsOfEntries }
     {
         let TnsReader {
             lines,

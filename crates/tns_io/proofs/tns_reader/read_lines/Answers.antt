@@ -9,7 +9,7 @@ use Rattle.text_lines.proofs.CuttingLaws.{told_line_short}
 use Rattle.tns_io.specs.Reading.{reading}
 use Rattle.tns_io.specs.ReadSoFar.{Fails, FailsPiece, ReadsPiece, Takes}
 use Rattle.tns_io.specs.declared.file_fault.FileFault.TheVariants.{Line}
-use Rattle.tns_io.specs.declared.line_kind.LineKind.TheVariants.{LongLine}
+use Rattle.text_lines.specs.declared.line_kind.LineKind.TheVariants.{LongLine}
 use Rattle.tns_io.proofs.EntryLaws.{piece_more, piece_fails, piece_too_long}
 use Rattle.tns_io.proofs.tns_reader.read_lines.Goals as goal
 

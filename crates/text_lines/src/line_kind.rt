@@ -1,4 +1,4 @@
-/// What is wrong with a line of a Matrix Market file.
+/// What is wrong with a line of a file. The reader of each format says which of these it tells.
 #[derive(Clone, Copy, Debug, PartialEq, Eq)]
 pub enum LineKind {
     /// It is too long.
@@ -13,13 +13,13 @@ pub enum LineKind {
     Extra,
     /// It has another number of tokens than an entry.
     Fields,
-    /// A token is no number, or a row or column isn't one or more digits.
+    /// A token is no number, or a coordinate isn't one or more digits.
     NotNumber,
     /// The value is a decimal number, but not written as a whole one.
     NotWhole,
     /// A number is out of range.
     NumRange,
-    /// A row or a column is 0: they are counted from 1.
+    /// A coordinate is 0: coordinates are counted from 1.
     ZeroCoordinate,
     /// A row or a column is above the size.
     CoordRange,
