@@ -2,6 +2,10 @@
 //! each mode. `specs/Packed.antt` says for what the storages stand, and why there are none.
 #![tactic(auto)]
 
+mod laws;
 mod packing;
+mod sizes;
 
+pub use laws::{bound_files_are_readable, bound_formats_fit, read_statements_are_runnable};
 pub use packing::{PackFault, pack_operands};
+pub use sizes::sizes_of;

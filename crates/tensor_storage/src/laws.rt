@@ -1,4 +1,6 @@
 //! What follows for packed tensors, as calls whose contracts are the laws. They do nothing.
+ghost use Rattle.tensor_storage.specs.Standing.{StandsWhereFew, StandingAreFew, EntriesPackWhereFew};
+ghost use Rattle.tensor_storage.specs.Taking.{LevelsTakeRows};
 ghost use Rattle.tensor_storage.specs.Told.{PackedTellEntries};
 ghost use Rattle.tensor_storage.specs.Unique.{OneStands};
 
@@ -13,4 +15,24 @@ pub fn packed_tensors_tell_their_entries<S: Semiring>()
 /// At most one storage stands for a table in a format with these ranges: any two have the same arrays and values.
 pub fn one_storage_stands()
     ensures { OneStands }
+{}
+
+/// For rows that a kind of level may be given there is a level of this kind that stores them, as long as its positions are few.
+pub fn levels_take_rows()
+    ensures { LevelsTakeRows }
+{}
+
+/// A storage stands for a table wherever no level would have more positions than may be.
+pub fn storage_stands_where_few()
+    ensures { StandsWhereFew }
+{}
+
+/// Where a storage stands for a table, no level has more positions than may be.
+pub fn standing_levels_are_few()
+    ensures { StandingAreFew }
+{}
+
+/// Entries are packed by some storage wherever no level would have more positions than may be.
+pub fn entries_are_packed_where_few()
+    ensures { EntriesPackWhereFew }
 {}

@@ -1,6 +1,7 @@
 //! The storage of tensors: a level of any kind, and packed tensors, whose levels stand one below another with a value for
 //! each position of the last. `specs/Storages.antt` says what is stored of a tensor, and
-//! `specs/Stands.antt` for which table of named coordinates and values it stands.
+//! `specs/Stands.antt` for which table of named coordinates and values it stands. `specs/Standing.antt` says where there is such a storage:
+//! calls that pack may always be refused for want of memory, so that no contract of theirs tells it.
 #![tactic(auto)]
 
 mod appending;
@@ -16,7 +17,10 @@ mod reading;
 mod table;
 mod tensor;
 
-pub use laws::{one_storage_stands, packed_tensors_tell_their_entries};
+pub use laws::{
+    entries_are_packed_where_few, levels_take_rows, one_storage_stands,
+    packed_tensors_tell_their_entries, standing_levels_are_few, storage_stands_where_few,
+};
 pub use level::StorageLevel;
 pub use packing::PackRefusal;
 pub use table::RowTable;

@@ -2,6 +2,7 @@ pub mod Buffering
 pub mod CuttingLaws
 pub mod DecimalLaws
 pub mod LineLaws
+pub mod ListTexts
 pub mod NumberLaws
 pub mod Parts
 pub mod PrintedLaws

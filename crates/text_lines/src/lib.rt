@@ -9,6 +9,7 @@ mod index;
 mod laws;
 mod line_reader;
 mod num_fault;
+mod pieces;
 mod puts;
 mod step;
 mod whole;
@@ -22,6 +23,7 @@ pub use laws::{
 };
 pub use line_reader::LineReader;
 pub use num_fault::NumFault;
+pub use pieces::{Piece, put_pieces};
 pub use puts::{put_all, put_i64, put_u64};
 pub use step::Step;
 pub use whole::read_whole;

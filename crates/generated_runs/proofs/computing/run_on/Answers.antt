@@ -3,7 +3,7 @@ use Rattle.std.proofs.Common.{sym, subst, arith}
 use Rattle.limits.specs.Limits.{greatest_position_count}
 use Rattle.limits.proofs.Limits.{workloads_are_ranges}
 use Rattle.numbers.specs.Ring.{ring}
-use Rattle.statement_operands.specs.Runnable.{IsRunnable}
+use Rattle.operand_packing.specs.Runnable.{IsRunnable}
 use Rattle.kernel_runs.specs.Runs.{MayRefuse}
 use Rattle.generated_runs.specs.Workloads.{workload_statement, workload_formats}
 use Rattle.generated_runs.proofs.Fits.{refused_for_memory}
