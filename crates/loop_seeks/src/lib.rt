@@ -8,7 +8,6 @@ mod cursors;
 mod finding;
 mod hashed;
 mod kinds;
-mod laws;
 mod reading;
 
 pub use cursor::SeekCursor;
@@ -16,7 +15,3 @@ pub use cursors::{SeekCursors, cursors_of};
 pub use finding::{Found, find_rest};
 pub use hashed::has_hashed;
 pub use kinds::kind_of;
-pub use laws::{
-    children_are_left, finding_is_probing, found_levels_are_open, sought_levels_are_there,
-    turns_are_told,
-};

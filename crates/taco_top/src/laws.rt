@@ -18,7 +18,7 @@ ghost use Rattle.taco_top.specs.Ends.{Ends};
 ghost use Rattle.taco_top.specs.Run.{Request};
 ghost use Rattle.taco_top.specs.Whole.{IsWhole};
 
-/// A command line asks for one task of one statement, with one list of formats, of files and of ranges; or it asks for a workload,
+/// Claim: a command line asks for one task of one statement, with one list of formats, of files and of ranges; or it asks for a workload,
 /// and then for no statement. One that asks for something is refused for want of memory alone.
 pub fn one_request_a_command_line()
     ensures task { (words : List (List ℕ)) (task other : Task) (s t : Statement) (formats layouts : List (List FormatLevel))
@@ -46,7 +46,7 @@ pub fn one_request_a_command_line()
         → command_line_of words ≡ Some (Workload size) → IsRefusedByWords words fault → IsWant fault }
 {}
 
-/// Where all input of `run` or `report` is whole and no count of faults rose, a call ends with status 0, and so with its file or its
+/// Claim: where all input of `run` or `report` is whole and no count of faults rose, a call ends with status 0, and so with its file or its
 /// text, or with want of memory. A result's file is one, whatever else the folder and the streams have seen.
 pub fn whole_input_is_computed()
     ensures ends { (words : List (String Global)) (files files' : FolderState) (out out' err err' : SinkState) (status : ℕ)
@@ -59,7 +59,7 @@ pub fn whole_input_is_computed()
         → first.writes.text ≡ second.writes.text }
 {}
 
-/// Where the words ask for a kernel and pass, and where they ask for a generated workload, a call ends with status 0, and so with its
+/// Claim: where the words ask for a kernel and pass, and where they ask for a generated workload, a call ends with status 0, and so with its
 /// text, unless the output failed, or with want of memory.
 pub fn texts_are_printed()
     ensures kernels { (words : List (String Global)) (request : Request) (files files' : FolderState) (out out' err err' : SinkState)
@@ -70,7 +70,7 @@ pub fn texts_are_printed()
         → Ends words files files' out out' err err' status → (status ≡ 0) ⊎ (status ≡ 5) }
 {}
 
-/// Status 2 is that of words that are no command line, and they have no other but that of want of memory.
+/// Claim: status 2 is that of words that are no command line, and they have no other but that of want of memory.
 pub fn usage_is_of_words_alone()
     ensures told { (words : List (String Global)) (files files' : FolderState) (out out' err err' : SinkState)
         → Ends words files files' out out' err err' 2 → command_line_of (map string_bytes words) ≡ None }

@@ -9,7 +9,6 @@ mod entries;
 mod finding;
 mod inserting;
 mod kind;
-mod laws;
 mod level;
 mod listing;
 mod packing;
@@ -17,10 +16,6 @@ mod reading;
 mod table;
 mod tensor;
 
-pub use laws::{
-    entries_are_packed_where_few, levels_take_rows, one_storage_stands,
-    packed_tensors_tell_their_entries, standing_levels_are_few, storage_stands_where_few,
-};
 pub use level::StorageLevel;
 pub use packing::PackRefusal;
 pub use table::RowTable;

@@ -9,3 +9,4 @@ pub mod PrintedLaws
 pub mod PutPieces
 pub mod PutsLemmas
 pub mod TokenLaws
+pub mod Worked
