@@ -5,10 +5,8 @@
 mod binding;
 mod bound;
 mod fault;
-mod laws;
 mod word;
 
 pub use binding::{Bindings, bind};
 pub use bound::order_of;
 pub use fault::{BindingFault, WordFault};
-pub use laws::one_answer_of_words;

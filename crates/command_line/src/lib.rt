@@ -1,8 +1,6 @@
 //! What a command line says, read by `clap`. `specs/CommandLine.antt` says it in words that name nothing of `clap`.
 #![tactic(auto)]
 
-mod laws;
-
 ghost use Rattle.std.specs.Prelude.{◌≡◌, IfOk, IfErr, true, false, Some, None, map, string_bytes, [], codes, option_map, option_and_then};
 ghost use Rattle.std.specs.Prelude.{unwrap_or};
 ghost use Rattle.clap.specs.Words.{app_of, subcommand_of, subcommand_rows_of, takes, fault_of, all_of, first_of, one_of, rows_of, found_of};
@@ -17,7 +15,6 @@ ghost use Rattle.command_line.specs.Told.{told, IsUsage};
 use clap::builder::ValueParser;
 use clap::error::ErrorKind;
 use clap::{Arg, ArgMatches, Command, value_parser};
-pub use laws::{clap_reads_lines, workload_sizes_are_limited};
 use limits::greatest_size_of_workload;
 use std::alloc::{AllocError, Global};
 

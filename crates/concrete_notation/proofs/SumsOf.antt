@@ -16,6 +16,7 @@ use Rattle.tensor_map.proofs.OrderLaws.{compared_as, before_all_trans}
 use Rattle.tensor_map.proofs.Lemmas.{tested, value_here, value_elsewhere, value_cons}
 use Rattle.numbers.proofs.Sums.{plus_swap}
 use Rattle.workspaces.specs.Workspaces.{AreSums}
+use Rattle.workspaces.proofs.SumsOfPairs.{one_row_of_sums}
 use Rattle.concrete_notation.specs.Contributions.{put_by, put_pair, sums_of}
 
 -- what is true of the coordinates of each pair is true of those of each sum
@@ -216,3 +217,9 @@ pub all_entries : (a : Arithmetic) → Laws a → (keys : ℕ) (pairs : List Ent
     → All (IsEntry keys) (sums_of a pairs)
 all_entries a laws keys pairs all =
     all_of_each (IsEntry keys) (sums_of a pairs) (sums_entries a laws keys pairs (each_of_all (IsEntry keys) pairs all))
+
+-- the sums that a workspace of code is drained into are these
+pub drained_sums : (a : Arithmetic) → Laws a → (keys : ℕ) (pairs sums : List Entry) → All (IsEntry keys) pairs
+    → All (IsEntry keys) sums → AreSums a pairs sums → sums ≡ sums_of a pairs
+drained_sums a laws keys pairs sums all all' are =
+    one_row_of_sums a laws keys pairs sums (sums_of a pairs) all' (all_entries a laws keys pairs all) are (are_sums a laws pairs)

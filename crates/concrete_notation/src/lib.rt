@@ -3,10 +3,8 @@
 #![tactic(auto)]
 
 mod concrete;
-mod laws;
 mod nesting;
 mod statement_loops;
 
 pub use concrete::{Concrete, terms_below};
-pub use laws::{loop_orders_are_orders, workspaces_hold_sums};
 pub use statement_loops::concretize;

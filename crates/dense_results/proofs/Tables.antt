@@ -16,8 +16,8 @@ use Rattle.tensor_storage.specs.Storages.{storage_of, in_level_order}
 use Rattle.tensor_storage.specs.Tables.{Table, AreBelow}
 use Rattle.tns_io.specs.Positions.{product, position, coords_at}
 use Rattle.tns_io.proofs.PositionLaws.{coords_below, position_of_coords}
-use Rattle.storage_laws.specs.Standing.{IsThere}
-use Rattle.storage_laws.proofs.Packing.{stands_where_few}
+use Rattle.tensor_storage.specs.Standing.{IsThere}
+use Rattle.tensor_storage.proofs.WhereFew.{stands_where_few}
 use Rattle.kernel_stores.specs.Stores.{StartsFew}
 use Rattle.dense_results.proofs.DenseLevels.{dense_levels, levels_dense, dense_path, all_make, last_dense, few_dense}
 use Rattle.dense_results.proofs.Positions.{passing, all_pass, passing_increase, passing_found, StandsIn, table_at}

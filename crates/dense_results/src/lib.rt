@@ -1,14 +1,6 @@
-//! What is needed above the code of loops so that a kernel for a result whose levels are all dense is right: laws alone, as calls
-//! that do nothing. `specs/Results.antt` says what the result's arrays hold as a run starts, and that they leave the statement's
+//! What is needed above the code of loops so that a kernel for a result whose levels are all dense is right: lemmas alone, and no
+//! code. `specs/Results.antt` says what the result's arrays hold as a run starts, and that they leave the statement's
 //! result once all rows are added; `specs/Operands.antt` what the arrays hold of the operands, and what these tell;
 //! `specs/Loops.antt` what is so of the loops that a statement is lowered to, of the rows that they add, and how many there are;
 //! `specs/Kernels.antt` when a kernel is right whose code adds these rows.
 #![tactic(auto)]
-
-mod laws;
-
-pub use laws::{
-    arrays_stand_for_operands, dense_kernels_are_right, lowered_loops_go_through,
-    operands_are_told, pairs_in_any_order, results_have_modes, rows_are_taken, starts_are_tops,
-    starts_without_rows, sums_are_results,
-};

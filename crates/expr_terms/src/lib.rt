@@ -5,7 +5,6 @@
 mod bound;
 mod group;
 mod grouping;
-mod laws;
 mod lookups;
 mod minus;
 mod names;
@@ -17,10 +16,6 @@ mod value;
 pub use bound::{Bound, Place, places_in};
 pub use group::{Group, Groups};
 pub use grouping::groups;
-pub use laws::{
-    each_term_is_in_one_group, groups_add_up, ranges_without_words, results_have_the_left_ranges,
-    sums_change_places, terms_add_up, values_are_words, values_depend_on_little,
-};
 pub use lookups::coords_at;
 pub use minus::has_meaning;
 pub use names::{NameFault, check_names, checked_statements_are_well_named, one_fault_of_names};

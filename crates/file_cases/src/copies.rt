@@ -8,15 +8,7 @@ use std::alloc::Global;
 use std::fmt::Debug;
 use std::rt::Files;
 use std::{fs, io};
-use text_lines::{
-    joined_lines_are_cut_back, joined_tokens_are_cut_back, printed_numbers_are_read_back,
-    printed_numbers_are_tokens, tokens_are_whole_numbers_or_not, told_lines_stay,
-};
-use tns_io::{
-    entries_of_files_may_be_written, lines_are_entries_or_bad, positions_number_coordinates,
-    tensors_have_one_text, texts_of_entries_are_their_tensors,
-    written_texts_stand_for_their_tensor,
-};
+use tns_io::{tensors_have_one_text, written_texts_stand_for_their_tensor};
 
 const NAME: &str = "file-cases.txt";
 
@@ -97,16 +89,6 @@ fn copy_real_file<R: Files + Print + AllocGlobal>(rt: &R, text: &[u8]) -> Result
 
 // Each law is the contract of a call that does nothing.
 fn call_laws() {
-    joined_lines_are_cut_back();
-    joined_tokens_are_cut_back();
-    printed_numbers_are_read_back();
-    printed_numbers_are_tokens();
-    tokens_are_whole_numbers_or_not();
-    told_lines_stay();
-    entries_of_files_may_be_written();
-    texts_of_entries_are_their_tensors();
-    lines_are_entries_or_bad();
-    positions_number_coordinates();
     tensors_have_one_text();
     written_texts_stand_for_their_tensor();
 }

@@ -4,7 +4,6 @@
 
 mod fault;
 mod format;
-mod laws;
 mod modes;
 mod reading;
 mod rules;
@@ -12,5 +11,4 @@ mod text;
 
 pub use fault::FormatFault;
 pub use format::{Format, FormatLevel};
-pub use laws::{each_mode_is_stored, formats_are_read_back, one_answer_a_word};
 pub use reading::parse_format;

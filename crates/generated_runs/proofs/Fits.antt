@@ -25,7 +25,7 @@ use Rattle.tensor_storage.specs.Tables.{Table}
 use Rattle.kernel_stores.specs.Kernels.{standing_order}
 use Rattle.kernel_stores.specs.Results.{IsNamedResult}
 use Rattle.kernel_stores.specs.Stores.{Store, StartsFew, told_by}
-use Rattle.statement_operands.specs.Operands.{mode_sizes}
+use Rattle.operand_packing.specs.Operands.{mode_sizes}
 use Rattle.operand_packing.specs.Packed.{FitsLevels, OperandsFit, operand_sizes}
 use Rattle.kernel_runs.specs.declared.fault.RunFault.{RunFault}
 use Rattle.kernel_runs.specs.declared.fault.RunFault.TheVariants.{Range, SizeLimit, Workspace, Memory}

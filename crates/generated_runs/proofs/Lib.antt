@@ -1,6 +1,7 @@
 pub mod Costs
 pub mod Counting
 pub mod Cycles
+pub mod Drawn
 pub mod Facts
 pub mod Fits
 pub mod Formats

@@ -6,7 +6,7 @@ use Rattle.limits.proofs.Limits.{positions_are_small, workloads_are_ranges}
 use Rattle.tensor_map.specs.declared.entries.Entry.{Entry}
 use Rattle.tensor_map.specs.Entries.{AreEntries, Entries}
 use Rattle.tns_io.specs.Positions.{IsBelow}
-use Rattle.generated_tensors.specs.Generated.{AreSummed}
+use Rattle.generated_runs.specs.Generated.{AreSummed}
 use Rattle.generated_runs.specs.Matrices.{IsMatrix}
 
 below_two : (n : ℕ) (coords : List ℕ) → length coords ≡ 2 → All (λ c. c < n) coords → IsBelow (n ∷ n ∷ []) coords

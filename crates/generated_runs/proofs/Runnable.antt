@@ -5,8 +5,8 @@ use Rattle.std.proofs.lemmas.Bool.Decides.{nat_tests}
 use Rattle.std.proofs.lemmas.List.Elements.{All-nil, All-cons}
 use Rattle.limits.specs.Limits.{greatest_position_count}
 use Rattle.tensor_map.specs.Entries.{Entries}
-use Rattle.statement_operands.specs.Operands.{AreRanges, IsRead}
-use Rattle.statement_operands.specs.Runnable.{IsRunnable, told_ranges}
+use Rattle.operand_packing.specs.Operands.{AreRanges, IsRead}
+use Rattle.operand_packing.specs.Runnable.{IsRunnable, told_ranges}
 use Rattle.generated_runs.specs.Matrices.{AreMatrices}
 use Rattle.generated_runs.specs.Workloads.{matrix_at, workload_statement, workload_formats}
 use Rattle.generated_runs.proofs.Facts.{numbered, named, left_format, right_formats}

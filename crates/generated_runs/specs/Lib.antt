@@ -1,3 +1,5 @@
+pub mod Draws
+pub mod Generated
 pub mod Matrices
 pub mod Refused
 pub mod Workloads

@@ -12,11 +12,11 @@ use Rattle.index_notation.specs.declared.syntax.Name.{Name}
 use Rattle.index_notation.specs.declared.syntax.Access.{Access}
 use Rattle.index_notation.specs.declared.syntax.Expr.{Access as AccessOf, Add, Mul}
 use Rattle.index_notation.specs.declared.syntax.Statement.{Statement}
-use Rattle.generated_tensors.specs.Generated.{IsGenerated}
+use Rattle.generated_runs.specs.Generated.{IsGenerated}
 use Rattle.tensor_storage.specs.Storages.{Storage}
 use Rattle.taco_compiler.specs.Compiled.{IsCompiled, IsOrder}
 use Rattle.kernel_runs.specs.Runs.{IsRun}
-use Rattle.report_text.specs.declared.workload.Workload.{Workload}
+use Rattle.reports.specs.declared.workload.Workload.{Workload}
 
 -- a name of one letter
 abbrev pub letter_name : ℕ → Name

@@ -12,7 +12,7 @@ use crate::statement::{workload_formats, workload_statement};
 use format_spec::Format;
 use index_notation::Statement;
 use kernel_code::Kernel;
-use kernel_runs::{KernelRun, RunFault, none_that_fit_are_refused, run_kernel};
+use kernel_runs::{KernelRun, RunFault, run_kernel};
 use numbers::Ring;
 use operand_files::Operands;
 use std::alloc::{AllocError, Global};
@@ -87,7 +87,6 @@ fn run_on(
     ensures { IfOk result (λ run. IsRun ring workload_statement workload_formats kernel.now (Some size ∷ Some size ∷ [])
         operands.entries.items [] run.shape run.entries run.tensor run.turns) }
 {
-    none_that_fit_are_refused();
     match run_kernel::<Ring>(
         alloc,
         statement,

@@ -3,7 +3,7 @@ ghost use Rattle.std.specs.Prelude.{◌≡◌, ◌∷◌, [], IfOk, map};
 ghost use Rattle.index_notation.specs.declared.syntax.Expr.{Access as AccessOf, Add, Mul};
 ghost use Rattle.generated_runs.specs.Workloads.{letter_name, matrix_at, workload_statement, by_rows, workload_formats};
 
-use format_spec::{Format, one_answer_a_word, parse_format};
+use format_spec::{Format, parse_format};
 use index_notation::{Access, Expr, Name, Statement};
 use std::alloc::{AllocError, Global};
 use trees::{Boxed, Items};
@@ -74,7 +74,6 @@ pub(crate) fn workload_statement(alloc: Global) -> Result<Statement, AllocError>
 fn by_rows(alloc: Global) -> Format
     ensures { result ≡ by_rows }
 {
-    one_answer_a_word();
     match parse_format(alloc, "ds", None, 2) {
         Ok(format) => format,
         Err(_) => unreachable!(),

@@ -6,9 +6,9 @@ ghost use Rattle.numbers.specs.Sums.{total_of};
 ghost use Rattle.generated_runs.specs.Workloads.{IsWorkload};
 
 use crate::computing::compute;
-use generated_tensors::generate;
+use crate::tensors::generate;
 use numbers::{add, ring_keeps_laws, zero};
-use report_text::Workload;
+use reports::Workload;
 use std::alloc::{AllocError, Global};
 use tensor_map::Entries;
 

@@ -1,8 +1,8 @@
-//! What follows from the definitions, as calls whose contract is the law. They do nothing.
+//! Claims about loop orders and cycles, as calls whose contract is the claim. They do nothing.
 ghost use Rattle.std.specs.Prelude.{◌≡◌, ◌≢◌, ◌<◌, ◌+◌, ◌-◌, ℕ, true, List, length, take, slice_index_or};
 ghost use Rattle.iteration_graph.specs.Graphs.{IsLoopOrder, NamesCycle, has_edge, is_among};
 
-/// A loop order has each variable once, and one that an edge leads from before the one that it leads to. There is one.
+/// Claim: a loop order has each variable once, and one that an edge leads from before the one that it leads to. There is one.
 pub fn edges_lead_forward()
     ensures below { (n : ℕ) (edges : List (ℕ × ℕ)) (loops : List ℕ) (k d : ℕ) → IsLoopOrder n edges loops → k < n →
         slice_index_or loops k d < n }
@@ -14,7 +14,7 @@ pub fn edges_lead_forward()
         loops ≡ other }
 {}
 
-/// In the cycle that is named an edge leads from each variable to the next, and from the last to the first. There is one,
+/// Claim: in the cycle that is named an edge leads from each variable to the next, and from the last to the first. There is one,
 /// and a graph that has it has no loop order.
 pub fn edges_lead_round_a_cycle()
     ensures next { (n : ℕ) (edges : List (ℕ × ℕ)) (cycle : List ℕ) (i d : ℕ) → NamesCycle n edges cycle → i + 1 < length cycle →

@@ -1,21 +1,15 @@
 //! The kernel language: the code that a statement is compiled to, and what it means.
 //! `syntax` has the expressions, statements and kernels; `specs/Meaning.antt` says what a run of them
 //! does, `specs/Kernels.antt` what a kernel does within so many turns. `specs/Does.antt` and
-//! `specs/Keeps.antt` have the rules by which crates above reason about code, and `laws` the main ones as
-//! contracts.
+//! `specs/Keeps.antt` have the rules by which crates above reason about code; `proofs/Lemmas.antt` proves the main ones.
 #![tactic(auto)]
 
 mod builders;
 mod copies;
-mod laws;
 mod operators;
 mod syntax;
 
 pub use builders::{binary, one_statement, position_and_next, word_at};
 pub use copies::{copy_expr, copy_statement, copy_statements};
-pub use laws::{
-    code_is_made_of_parts, expressions_depend_on_what_they_mention, kernels_start_on_what_is_given,
-    more_turns_do_the_same, turns_are_only_added,
-};
 pub use operators::{apply_to_words, least_operand, width_of_operand};
 pub use syntax::{Arr, KExpr, KStmt, Kernel, LoopKind, Op, Place, Turns, ValueOp};

@@ -8,14 +8,12 @@
 #![tactic(auto)]
 
 mod handing;
-mod laws;
 mod prepared;
 mod preparing;
 mod refusal;
 mod running;
 mod sizes;
 
-pub use laws::kernels_in_place_are_refused_nothing;
 pub use prepared::Prepared;
 pub use preparing::prepare;
 pub use refusal::RunRefusal;

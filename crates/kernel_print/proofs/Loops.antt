@@ -8,9 +8,9 @@ use Rattle.outside.specs.declared.refusal.Refusal.{Refusal}
 use Rattle.outside.proofs.Sinks.{appended-nil}
 use Rattle.kernel_code.specs.declared.syntax.KStmt.{KStmt}
 use Rattle.text_lines.proofs.PutsLemmas.{both_whole}
-use Rattle.kernel_print.specs.Prints.{Prints}
+use Rattle.text_lines.specs.Puts.{Prints}
 use Rattle.kernel_print.specs.Text.{indentation, statement_text, statements_text, workspaces_text, lists_text}
-use Rattle.kernel_print.proofs.Pieces.{then_printed}
+use Rattle.text_lines.proofs.PutPieces.{then_printed}
 
 pub none_so_far : (s : SinkState) (text : List ℕ) → AppendsSoFar s s text text
 none_so_far s text = record {

@@ -1,5 +1,4 @@
 pub mod ArrayNames
 pub mod ExprTexts
 pub mod KernelTexts
-pub mod Prints
 pub mod Text

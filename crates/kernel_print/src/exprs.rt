@@ -1,6 +1,6 @@
 // Expressions.
 ghost use Rattle.std.specs.Prelude.{◌≡◌, ◌++◌, codes};
-ghost use Rattle.kernel_print.specs.Prints.{Prints};
+ghost use Rattle.text_lines.specs.Puts.{Prints};
 ghost use Rattle.kernel_print.specs.Text.{array_text, expr_text, operator_text};
 
 use crate::names::{put_array, put_numbered};

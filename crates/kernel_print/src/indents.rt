@@ -1,5 +1,5 @@
 // How far lines are indented.
-ghost use Rattle.kernel_print.specs.Prints.{Prints};
+ghost use Rattle.text_lines.specs.Puts.{Prints};
 ghost use Rattle.kernel_print.specs.Text.{depth_of, indentation};
 
 use outside::{Refusal, Sink};

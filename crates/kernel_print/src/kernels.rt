@@ -2,8 +2,7 @@
 ghost use Rattle.std.specs.Prelude.{OnOk, IfErr, ◌++◌, codes};
 ghost use Rattle.std.specs.Fmt.{decimal};
 ghost use Rattle.outside.specs.Sink.{Appends};
-ghost use Rattle.text_lines.specs.Puts.{AppendsPart};
-ghost use Rattle.kernel_print.specs.Prints.{Prints};
+ghost use Rattle.text_lines.specs.Puts.{AppendsPart, Prints};
 ghost use Rattle.kernel_print.specs.Text.{kernel_text, lists_text, statements_text, workspaces_text};
 
 use crate::indents::Indent;

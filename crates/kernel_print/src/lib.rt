@@ -9,4 +9,4 @@ mod names;
 mod statements;
 
 pub use kernels::put_kernel;
-pub use laws::{names_tell_arrays, texts_tell_exprs, texts_tell_kernels};
+pub use laws::texts_tell_kernels;

@@ -1,7 +1,7 @@
 // The names of arrays and variables.
 ghost use Rattle.std.specs.Prelude.{◌++◌, codes};
 ghost use Rattle.std.specs.Fmt.{decimal};
-ghost use Rattle.kernel_print.specs.Prints.{Prints};
+ghost use Rattle.text_lines.specs.Puts.{Prints};
 ghost use Rattle.kernel_print.specs.Text.{array_text};
 
 use kernel_code::Arr;

@@ -1,7 +1,7 @@
 // Statements.
 ghost use Rattle.std.specs.Prelude.{◌≡◌, ◌++◌, codes, suc};
 ghost use Rattle.std.specs.Fmt.{decimal};
-ghost use Rattle.kernel_print.specs.Prints.{Prints};
+ghost use Rattle.text_lines.specs.Puts.{Prints};
 ghost use Rattle.kernel_print.specs.Text.{array_text, combining_text, depth_of, expr_text};
 ghost use Rattle.kernel_print.specs.Text.{indentation, kind_text, statement_text, statements_text};
 

@@ -15,7 +15,7 @@ use Rattle.tensor_storage.specs.Storages.{Storage}
 use Rattle.storage_arrays.specs.Arrays.{AreDone}
 use Rattle.kernel_stores.specs.Kernels.{IsRightKernel, IsSoundOn}
 use Rattle.kernel_machine.specs.Begins.{store_of}
-use Rattle.statement_operands.specs.Runnable.{IsRunnable, told_ranges}
+use Rattle.operand_packing.specs.Runnable.{IsRunnable, told_ranges}
 use Rattle.operand_packing.specs.Packed.{ArePackedOperands, MayAllBePacked, MayNotPack}
 use Rattle.operand_packing.specs.declared.packing.PackFault.{PackFault}
 use Rattle.operand_packing.proofs.Ready.{may_all}

@@ -31,8 +31,8 @@ use Rattle.tensor_storage.proofs.Paths.{mode_below}
 use Rattle.lowering.proofs.Walked.{storages_zero}
 use Rattle.kernel_stores.specs.Results.{IsNamedResult}
 use Rattle.kernel_stores.specs.Stores.{Store, operand_of, told_by}
-use Rattle.statement_operands.specs.Operands.{AreOperands}
-use Rattle.statement_operands.proofs.Below.{below_each, below_length}
+use Rattle.operand_packing.specs.Operands.{AreOperands}
+use Rattle.operand_packing.proofs.Below.{below_each, below_length}
 use Rattle.kernel_runs.specs.Runs.{IsStoreFor, IsTensorOf}
 use Rattle.kernel_runs.specs.Steps.{ListsNonzero}
 use Rattle.kernel_runs.proofs.Support.{zero_outside}

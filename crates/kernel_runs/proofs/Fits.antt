@@ -9,7 +9,7 @@ use Rattle.tensor_storage.specs.Counts.{AreFew, positions_of}
 use Rattle.kernel_stores.specs.Stores.{StartsFew}
 use Rattle.level_core.specs.Kinds.{parents_below}
 use Rattle.kernel_machine.specs.Begins as begins
-use Rattle.statement_operands.proofs.SizeLaws.{index_small}
+use Rattle.operand_packing.proofs.SizeLaws.{index_small}
 use Rattle.kernel_runs.specs.declared.fault.RunFault.TheVariants.{Range, SizeLimit, Workspace, Memory}
 use Rattle.kernel_runs.specs.Runs.{RefusesNoneThatFit, AllFit, CantBegin, CantFinish, result_level_sizes}
 

@@ -10,7 +10,7 @@ use Rattle.expr_terms.specs.Told as told
 use Rattle.expr_terms.specs.declared.bound.Bound.{Bound}
 use Rattle.expr_terms.specs.declared.range_fault.RangeFault.{RangeFault}
 use Rattle.expr_terms.specs.declared.range_fault.RangeFault.TheVariants.{NoRange, RangeConflict, OutOfRange, Memory}
-use Rattle.statement_operands.specs.Runnable.{told_ranges}
+use Rattle.operand_packing.specs.Runnable.{told_ranges}
 use Rattle.operand_packing.specs.Packed.{MayNotPack}
 use Rattle.operand_packing.specs.declared.packing.PackFault.{PackFault}
 use Rattle.operand_packing.specs.declared.packing.PackFault.TheVariants as pack

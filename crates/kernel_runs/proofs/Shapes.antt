@@ -5,7 +5,7 @@ use Rattle.std.proofs.lemmas.List.{length-map}
 use Rattle.std.proofs.lemmas.List.Elements.{All-nil, All-cons}
 use Rattle.limits.specs.Limits.{greatest_order, greatest_position_count}
 use Rattle.tensor_map.specs.Coords.{IsShape}
-use Rattle.statement_operands.proofs.SizeLaws.{index_small}
+use Rattle.operand_packing.proofs.SizeLaws.{index_small}
 
 small_of : (ranges vars : List ℕ) → All (λ range. range ≤ greatest_position_count) ranges
     → All (λ range. range ≤ greatest_position_count) (map (slice_index ranges) vars)

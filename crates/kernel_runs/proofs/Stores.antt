@@ -22,7 +22,7 @@ use Rattle.storage_arrays.proofs.Packed.{packed_are_done}
 use Rattle.kernel_stores.specs.Stores.{Store, IsOperand, IsStoreOf, level_sizes}
 use Rattle.kernel_stores.specs.Stores as stores
 use Rattle.kernel_machine.specs.Begins.{store_of}
-use Rattle.statement_operands.specs.Operands.{AreOperands, AreRanges}
+use Rattle.operand_packing.specs.Operands.{AreOperands, AreRanges}
 use Rattle.operand_packing.specs.Packed.{ArePackedOperands, IsPackedAt}
 use Rattle.kernel_runs.specs.Runs.{IsStoreFor}
 use Rattle.kernel_runs.specs.Steps.{CanBegin}

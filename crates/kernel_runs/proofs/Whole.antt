@@ -31,7 +31,7 @@ use Rattle.kernel_stores.proofs.Sound.{right_is_sound}
 use Rattle.kernel_machine.specs.Begins as begins
 use Rattle.kernel_machine.specs.Begins.{store_of}
 use Rattle.kernel_machine.specs.Runs.{AllAlike}
-use Rattle.statement_operands.specs.Runnable.{IsRunnable, told_ranges}
+use Rattle.operand_packing.specs.Runnable.{IsRunnable, told_ranges}
 use Rattle.operand_packing.specs.Packed.{ArePackedOperands}
 use Rattle.kernel_runs.specs.declared.fault.RunFault.{RunFault}
 use Rattle.kernel_runs.specs.declared.fault.RunFault.TheVariants.{Range, SizeLimit, Workspace, Memory}

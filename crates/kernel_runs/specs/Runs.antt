@@ -26,7 +26,7 @@ use Rattle.kernel_stores.specs.Results.{IsNamedResult, MayPass}
 use Rattle.kernel_stores.specs.Stores.{Store, IsGiven, StartsFew, IsStoreOf, told_by}
 use Rattle.kernel_machine.specs.Begins as begins
 use Rattle.kernel_machine.specs.Runs.{HasRun}
-use Rattle.statement_operands.specs.Runnable.{told_ranges}
+use Rattle.operand_packing.specs.Runnable.{told_ranges}
 use Rattle.operand_packing.specs.Packed.{ArePackedOperands, OperandsFit, IsFirstLargeOperand}
 use Rattle.kernel_runs.specs.declared.fault.RunFault.{RunFault}
 use Rattle.kernel_runs.specs.declared.fault.RunFault.TheVariants.{Range, SizeLimit, Workspace, Memory}

@@ -3,11 +3,9 @@
 #![tactic(auto)]
 
 mod fault;
-mod laws;
 mod results;
 mod running;
 mod runs;
 
 pub use fault::RunFault;
-pub use laws::none_that_fit_are_refused;
 pub use runs::{KernelRun, run_kernel};

@@ -7,7 +7,7 @@ ghost use Rattle.kernel_runs.specs.Steps.{ListsNonzero};
 
 use index_notation::Statement;
 use numbers::Semiring;
-use statement_operands::sizes_of;
+use operand_packing::sizes_of;
 use std::alloc::{AllocError, Global};
 use tensor_map::{Entries, Shape};
 use tensor_storage::Tensor;

@@ -4,7 +4,7 @@ ghost use Rattle.mtx_io.specs.Progress.{IsMatrixOrder};
 ghost use Rattle.format_spec.specs.Formats.{IsFormat};
 ghost use Rattle.kernel_stores.specs.Kernels.{IsRightKernel};
 ghost use Rattle.result_files.specs.EntriesText.{MayBeWritten};
-ghost use Rattle.statement_operands.specs.Runnable.{IsRunnable};
+ghost use Rattle.operand_packing.specs.Runnable.{IsRunnable};
 ghost use Rattle.kernel_runs.specs.Runs.{IsRun, MayRefuse};
 
 use crate::fault::RunFault;

@@ -7,7 +7,6 @@
 #![tactic(auto)]
 
 mod fragments;
-mod laws;
 mod letter;
 mod level;
 mod positions;
@@ -17,7 +16,6 @@ mod walking;
 mod writing;
 
 pub use fragments::{argument, leave_one, leave_two};
-pub use laws::{edges_tell_segments, increasing_inserts_keep_order};
 pub use letter::{Capabilities, Letter, Properties, caps_of, positions_at_start, props_of};
 pub use level::{Level, LevelKind};
 pub use positions::positions_below;

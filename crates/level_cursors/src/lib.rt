@@ -7,12 +7,10 @@
 
 mod codes;
 mod cursor;
-mod laws;
 mod located;
 mod ranges;
 
 pub use codes::no_coordinate;
 pub use cursor::{CursorSite, find_at, start_cursor, step_past};
-pub use laws::children_fill_segments;
 pub use located::locate_at;
 pub use ranges::{start_range, step_range};

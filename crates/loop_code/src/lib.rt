@@ -3,8 +3,6 @@
 //! coordinate, and `specs/Turns.antt` how many turns merged loops make.
 #![tactic(auto)]
 
-mod laws;
 mod loops;
 
-pub use laws::{absent_coordinates_add_nothing, parts_suffice, turns_are_within_cost};
 pub use loops::{LoopCode, Seek};

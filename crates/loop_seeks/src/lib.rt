@@ -7,14 +7,9 @@ mod cursor;
 mod cursors;
 mod finding;
 mod hashed;
-mod laws;
 mod reading;
 
 pub use cursor::SeekCursor;
 pub use cursors::{SeekCursors, cursors_of};
 pub use finding::{Found, find_rest};
 pub use hashed::has_hashed;
-pub use laws::{
-    children_are_left, finding_is_probing, found_levels_are_open, sought_levels_are_there,
-    turns_are_told,
-};

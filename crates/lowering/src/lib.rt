@@ -3,9 +3,7 @@
 //! the loops of a concrete statement are, and `lower` makes them.
 #![tactic(auto)]
 
-mod laws;
 mod lowering;
 mod seeking;
 
-pub use laws::{bodies_have_the_terms, loops_are_right, packed_tensors_stand, rows_are_pairs};
 pub use lowering::lower;

@@ -7,13 +7,11 @@
 
 mod cursor;
 mod either;
-mod laws;
 mod merging;
 mod pieces;
 mod sides;
 
 pub use cursor::Cursor;
-pub use laws::{cursors_in_row_are_apart, turns_are_few};
 pub use merging::merged_loop;
 pub use pieces::{LevelCursor, RangeCursor};
 pub use sides::EitherCursor;

@@ -1,10 +1,11 @@
+pub mod AnswersTold
+pub mod BelowSizes
+pub mod EndedEntries
 pub mod FieldLaws
 pub mod PlaceLaws
-pub mod SlotLaws
 pub mod ProgressLaws
 pub mod ReaderLaws
+pub mod SlotLaws
+pub mod Worked
 pub mod WrittenEntries
 pub mod WrittenLaws
-pub mod EndedEntries
-pub mod BelowSizes
-pub mod AnswersTold

@@ -1,7 +1,7 @@
 //! What Matrix Market files (`.mtx`) say and what is written into them: `specs/Matrix.antt` defines what a text stands
 //! for, by the banner (`specs/Banner.antt`), the size line (`specs/Size.antt`) and the entry lines (`specs/Entry.antt`),
 //! `specs/Text.antt` the text of a tensor. `MtxReader` reads a file in pieces (`specs/MtxReader.antt`), `put_mtx` writes one,
-//! and the functions of `laws` state what follows.
+//! and `laws` claims that what is written stands for its tensor.
 #![tactic(auto)]
 
 mod banner;
@@ -20,9 +20,6 @@ mod stage;
 mod step;
 
 pub use file_fault::FileFault;
-pub use laws::{
-    entries_are_below_the_sizes, tensors_have_one_text, texts_are_matrices_or_bad,
-    written_entries_are_texts_of_their_tensor, written_texts_stand_for_their_tensor,
-};
+pub use laws::{tensors_have_one_text, written_texts_stand_for_their_tensor};
 pub use mtx_reader::MtxReader;
 pub use printing::put_mtx;

@@ -2,7 +2,7 @@
 //! within the limits, and the text's fault everywhere else. The text is cut into symbols; a reader with a stack of its
 //! own goes over them once, and keeps four views of what it has read: its position in the grammar, the counts that are
 //! limited, the accesses, and the expression. Each is tied to the place in the grammar that the symbols lead to, which
-//! gives both directions. The laws say that a text has one answer.
+//! gives both directions. `laws` claims that a text has one answer.
 #![tactic(auto)]
 
 mod accesses;
@@ -17,7 +17,5 @@ mod position;
 mod reader;
 mod scanner;
 
-pub use laws::{
-    one_answer_a_text, one_reading_a_beginning, one_symbol_list_a_text, one_tree_a_symbol_list,
-};
+pub use laws::one_answer_a_text;
 pub use notation::parse;

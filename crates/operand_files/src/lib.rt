@@ -6,10 +6,8 @@ mod bounds;
 mod decoding;
 mod fault;
 mod feeding;
-mod laws;
 mod matrix_file;
 mod operands;
 
 pub use fault::OperandFault;
-pub use laws::{operands_have_their_order, told_files_have_one_answer};
 pub use operands::{Operands, read_operands};

@@ -1,4 +1,14 @@
+pub mod Below
+pub mod FileEntries
+pub mod FilesReadable
+pub mod FormatsBound
 pub mod Inside
 pub mod Lists
+pub mod NamesRead
+pub mod RangesAbove
+pub mod RangesSmall
 pub mod Ready
+pub mod Runnable
+pub mod SizeLaws
+pub mod SizeLemmas
 pub mod Steps

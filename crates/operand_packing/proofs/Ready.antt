@@ -13,8 +13,8 @@ use Rattle.iteration_graph.specs.Edges.{HasFormat, format_of}
 use Rattle.expr_terms.specs.Operands.{entries_of, list_or_none}
 use Rattle.expr_terms.specs.Ranges.{mode_size}
 use Rattle.tns_io.specs.Positions.{IsBelow}
-use Rattle.statement_operands.specs.Operands.{AreOperands, AreRanges, HasOrder, ReadsBelow, ReadsOperand, mode_sizes, operand_of}
-use Rattle.statement_operands.proofs.SizeLaws.{entries_below_sizes, index_small, mode_sizes_small}
+use Rattle.operand_packing.specs.Operands.{AreOperands, AreRanges, HasOrder, ReadsBelow, ReadsOperand, mode_sizes, operand_of}
+use Rattle.operand_packing.proofs.SizeLaws.{entries_below_sizes, index_small, mode_sizes_small}
 use Rattle.operand_packing.specs.Packed.{MayAllBePacked, operand_sizes}
 
 sizes_long : (size : ℕ → ℕ) (from count : ℕ) → length (map size (numbers_from from count)) ≡ count

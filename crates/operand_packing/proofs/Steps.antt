@@ -8,7 +8,7 @@ use Rattle.tensor_map.specs.Entries.{Entries}
 use Rattle.format_spec.specs.declared.format.FormatLevel.{FormatLevel}
 use Rattle.index_notation.specs.declared.syntax.Statement.{Statement}
 use Rattle.tensor_storage.specs.Storages.{Storage}
-use Rattle.statement_operands.specs.Operands.{mode_sizes}
+use Rattle.operand_packing.specs.Operands.{mode_sizes}
 use Rattle.operand_packing.specs.Packed.{ArePackedOperands, IsPackedAt, IsPackedOperand, IsFirstLargeOperand, IsLargeOperand, MayBePacked}
 use Rattle.operand_packing.specs.Packed.{IsPackRefusal, MayAllBePacked, MayNotPack}
 use Rattle.operand_packing.specs.declared.packing.PackFault.{PackFault}

@@ -1,1 +1,4 @@
+pub mod Operands
+pub mod Orders
 pub mod Packed
+pub mod Runnable

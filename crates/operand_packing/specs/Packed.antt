@@ -12,7 +12,7 @@ use Rattle.tensor_storage.specs.Arranged.{AreArranged, AreInside, IsPackedFrom, 
 use Rattle.tensor_storage.specs.Counts.{AreFew, positions_of}
 use Rattle.tensor_storage.specs.Packed.{IsFirstAbove}
 use Rattle.tensor_storage.specs.Storages.{Storage, IsStorage}
-use Rattle.statement_operands.specs.Operands.{mode_sizes}
+use Rattle.operand_packing.specs.Operands.{mode_sizes}
 use Rattle.operand_packing.specs.declared.packing.PackFault.{PackFault}
 use Rattle.operand_packing.specs.declared.packing.PackFault.TheVariants.{SizeLimit, Memory}
 

@@ -9,10 +9,10 @@ ghost use Rattle.tensor_storage.specs.Storages.{IsStorage};
 ghost use Rattle.operand_packing.specs.Packed.{AreSummed, ArePackedOperands, IsPackedOperand, IsPackRefusal};
 ghost use Rattle.operand_packing.specs.Packed.{MayBePacked, MayAllBePacked, MayNotPack};
 
+use crate::sizes::sizes_of;
 use format_spec::Format;
 use index_notation::Statement;
 use numbers::Semiring;
-use statement_operands::sizes_of;
 use std::alloc::{AllocError, Global};
 use tensor_map::{Entries, Shape};
 use tensor_storage::{PackRefusal, Tensor};

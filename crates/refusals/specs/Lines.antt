@@ -23,7 +23,7 @@ use Rattle.refusals.specs.declared.fault.NamedFault.{NamedFault}
 use Rattle.refusals.specs.declared.fault.NamedFault.TheVariants as named
 use Rattle.refusals.specs.declared.fault.Fault.{Fault}
 use Rattle.refusals.specs.declared.fault.Fault.TheVariants as fault
-use Rattle.refusals.specs.Pieces.{joined}
+use Rattle.text_lines.specs.Pieces.{joined}
 
 -- ---- statuses: 1 refused input, 2 usage, 3 read fault, 4 write fault, 5 want of memory, 6 a limit
 abbrev pub notation_status : NotationFault → ℕ

@@ -3,7 +3,6 @@
 
 mod fault;
 mod line;
-mod pieces;
 
 pub use fault::{Fault, NamedFault};
 pub use line::put_line;

@@ -5,16 +5,15 @@ ghost use Rattle.outside.specs.Sink.{Appends};
 ghost use Rattle.text_lines.specs.Puts.{AppendsPart};
 ghost use Rattle.refusals.specs.Lines.{name_at, at_byte, counted_text, notation_line, name_line, word_text, format_text, binding_line};
 ghost use Rattle.refusals.specs.Lines.{range_line, size_text, workspace_text, names_behind, cycle_text, named_line, kind_text, line_of};
-ghost use Rattle.refusals.specs.Pieces.{joined};
+ghost use Rattle.text_lines.specs.Pieces.{joined};
 
 use crate::fault::{Fault, NamedFault};
-use crate::pieces::{Piece, put_pieces};
 use bindings::{BindingFault, WordFault};
 use expr_terms::{NameFault, RangeFault};
 use format_spec::FormatFault;
 use index_notation::{Counted, Name, NotationFault, Statement};
 use outside::{Refusal, Sink};
-use text_lines::{LineKind, put_all};
+use text_lines::{LineKind, Piece, put_all, put_pieces};
 
 const MEMORY: &[u8] = b"taco: out of memory\n";
 

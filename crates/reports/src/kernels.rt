@@ -8,7 +8,7 @@ use index_notation::Statement;
 use kernel_code::Kernel;
 use kernel_print::put_kernel;
 use outside::{Refusal, Sink};
-use report_text::put_heading;
+use crate::heading::put_heading;
 use result_files::{Text, WriteRefusal, print_text};
 
 /// A kernel with its statement, the order of the loops and the formats of the tensors.

@@ -1,10 +1,14 @@
-//! What is printed of a kernel, of its run, and of a generated workload, text by text to an output. `specs/Reports.antt` has these texts.
+//! What is printed of a kernel, of its run, and of a generated workload, text by text to an output. `specs/Reports.antt` has these texts
+//! and their lines.
 #![tactic(auto)]
 
+mod heading;
 mod kernels;
 mod runs;
-mod workloads;
+mod turns;
+mod workload;
 
 pub use kernels::print_kernel_report;
 pub use runs::print_run_report;
-pub use workloads::print_workload;
+pub use turns::put_turns;
+pub use workload::{Workload, print_workload};

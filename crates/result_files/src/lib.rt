@@ -5,7 +5,6 @@
 
 mod dense;
 mod handed;
-mod laws;
 mod printing;
 mod refusal;
 mod tally;
@@ -13,9 +12,6 @@ mod tensor_text;
 mod writing;
 
 pub use dense::entries_of_dense;
-pub use laws::{
-    dense_entries_may_be_written, results_have_one_text, texts_tell_values_below_the_ranges,
-};
 pub use printing::{Text, print_text};
 pub use refusal::WriteRefusal;
 pub use writing::write_result;

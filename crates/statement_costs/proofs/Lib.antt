@@ -1,5 +1,6 @@
 pub mod Groups
 pub mod Lengths
+pub mod NoMore
 pub mod Packed
 pub mod Parts
 pub mod SharedLoops
@@ -8,3 +9,4 @@ pub mod Trees
 pub mod Walks
 pub mod Whole
 pub mod Within
+pub mod Worked

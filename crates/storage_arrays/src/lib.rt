@@ -2,10 +2,8 @@
 //! the words of each array, and `specs/Arrays.antt` when levels one below another are finished, as those of packed tensors are.
 #![tactic(auto)]
 
-mod laws;
 mod view;
 mod words;
 
-pub use laws::{packed_levels_are_done, words_hold_levels};
 pub use view::{LevelArray, LevelArrays};
 pub use words::{end_at, place_at, positions_of, size_of, width_of};

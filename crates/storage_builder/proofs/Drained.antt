@@ -16,7 +16,7 @@ use Rattle.level_rows.specs.Placing.{LeavesPlaced}
 use Rattle.level_rows.proofs.Finishing.{stands_along}
 use Rattle.tensor_storage.specs.declared.level.StorageLevel.{StorageLevel}
 use Rattle.tensor_storage.specs.Levels.{meaning}
-use Rattle.storage_laws.proofs.Steps.{apart, finish}
+use Rattle.tensor_storage.proofs.Steps.{apart, finish}
 use Rattle.storage_builder.specs.Handed.{HoldsPart, IsDoneOf, AreAlike}
 use Rattle.storage_builder.specs.Laws.{HasDrained, DrainedMayBeHandedOver}
 use Rattle.storage_builder.specs.Made.{Part, IsMade, IsReady}

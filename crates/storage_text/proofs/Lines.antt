@@ -18,7 +18,7 @@ use Rattle.storage_arrays.specs.Arrays.{positions_in, IsDone, AreDone}
 use Rattle.storage_arrays.specs.Kinds.{IsCompressed}
 use Rattle.storage_text.specs.StoreText.{number_text, value_text, head_text, ends_line, places_line, level_lines, lines_from, text_of}
 use Rattle.storage_text.specs.StoreText.{first_line, values_line, store_text}
-use Rattle.text_pieces.proofs.ListTexts.{get_drop}
+use Rattle.text_lines.proofs.ListTexts.{get_drop}
 use Rattle.storage_arrays.proofs.Finished.{dense_not_compressed, dense_not_singleton, hashed_not_compressed, hashed_not_singleton}
 use Rattle.storage_arrays.proofs.Finished.{not_singleton}
 

@@ -26,12 +26,10 @@ use Rattle.kernel_stores.specs.Stores.{Store, operand_of, told_by}
 use Rattle.dense_results.specs.Operands.{IsReadStore, operands_in}
 use Rattle.dense_results.proofs.Operands.{has_storages, operands_told}
 use Rattle.kernel_emit.specs.Emitted as emitted
-use Rattle.statement_costs.specs.Costs.{group_length, group_repeats, statement_cost, statement_repeats}
+use Rattle.statement_costs.specs.Costs.{statement_cost, statement_repeats}
+use Rattle.statement_costs.proofs.NoMore.{loops_cost_no_more, loops_repeat_no_more}
 use Rattle.statement_costs.proofs.Packed.{packed_groups}
 use Rattle.statement_costs.proofs.SharedLoops.{shared_plain}
-use Rattle.statement_costs.proofs.Steps.{length_most, repeats_most}
-use Rattle.statement_costs.proofs.Trees.{cost_counts, dups_count, loop_length, loop_repeats}
-use Rattle.statement_costs.proofs.Whole.{length_same, repeats_same, whole}
 use Rattle.taco_compiler.specs.Compiled.{AreWithinCost, NoneHashed}
 use Rattle.taco_compiler.specs.Loops.{AreLoopsOf}
 
@@ -88,11 +86,7 @@ module _ (a : Arithmetic) (laws : Laws a) (s : Statement) (formats : List (List 
       let ranges = slice_index store.ranges in
       let groups = packed_groups a s formats (operand_of store) (told_by a store) (has_storages s formats store read_store a) in
       let turns = turns_within (layout_of s formats) stored ranges loops start in
-      let costs = whole s formats stored ranges c in_order shared loops l.shape l.placed l.found l.needed
-      (loop_length (layout_of s formats) stored ranges) (cost (layout_of s formats) stored ranges)
-      (cost_counts (layout_of s formats) stored ranges) (group_length s formats stored ranges)
-      (λ bound depth v seeks body env step. length_most s formats stored bound depth v seeks body env step groups ranges)
-      (length_same s formats stored ranges) in
+      let costs = loops_cost_no_more s formats c in_order shared loops l.shape l.placed l.found l.needed stored ranges groups in
       subst (λ held. merge_turns (layout_of s formats) held ranges loops start ≤ statement_cost s formats order stored ranges)
       (sym same_stored) (through (merge_turns (layout_of s formats) stored ranges loops start)
       (cost (layout_of s formats) stored ranges loops start)
@@ -104,11 +98,7 @@ module _ (a : Arithmetic) (laws : Laws a) (s : Statement) (formats : List (List 
       let stored = stored_of s (operand_of store) in
       let ranges = slice_index store.ranges in
       let turns = skips_within (layout_of s formats) stored ranges loops start in
-      let costs = whole s formats stored ranges c in_order shared loops l.shape l.placed l.found l.needed
-      (loop_repeats (layout_of s formats) stored ranges) (dups (layout_of s formats) stored ranges)
-      (dups_count (layout_of s formats) stored ranges) (group_repeats s formats stored ranges)
-      (λ bound depth v seeks body env step. repeats_most s formats stored bound depth v seeks body env step ranges)
-      (repeats_same s formats stored ranges) in
+      let costs = loops_repeat_no_more s formats c in_order shared loops l.shape l.placed l.found l.needed stored ranges in
       subst (λ held. skip_turns (layout_of s formats) held ranges loops start ≤ statement_repeats s formats order stored ranges)
       (sym same_stored) (through (skip_turns (layout_of s formats) stored ranges loops start)
       (dups (layout_of s formats) stored ranges loops start)

@@ -6,9 +6,9 @@ use Rattle.format_spec.specs.declared.format.FormatLevel.{FormatLevel}
 use Rattle.index_notation.specs.Statement.{IsNumbered, IsWellNamed}
 use Rattle.iteration_graph.specs.Edges.{HasFormat}
 use Rattle.expr_terms.proofs.WellNamed.{notation_well_named}
-use Rattle.statement_operands.proofs.FormatsBound.{formats_fit}
-use Rattle.run_request.specs.Asked.{needs_files}
-use Rattle.run_answers.specs.Run.{Request, AsksFor}
+use Rattle.operand_packing.proofs.FormatsBound.{formats_fit}
+use Rattle.taco_top.specs.Asked.{needs_files}
+use Rattle.taco_top.specs.Run.{Request, AsksFor}
 
 module _ (words : List (List ℕ)) (r : Request) (asks : AsksFor words r) where
   pub well_named : IsWellNamed r.statement

@@ -1,8 +1,9 @@
 pub mod Accepted
+pub mod OneRequest
 pub mod Paths
-pub mod Reading
 pub mod Prepares
+pub mod Reading
 pub mod Stopped
+pub mod TextLaws
 pub mod UsageLaws
 pub mod WholeLaws
-pub mod TextLaws

@@ -18,11 +18,11 @@ use Rattle.bindings.specs.Outcome.{files_in, with_file, Binds}
 use Rattle.bindings.specs.Tables.{file_in}
 use Rattle.bindings.proofs.Tables.{eq_turned}
 use Rattle.operand_files.specs.Decoded.{AreReadable}
-use Rattle.statement_operands.specs.Orders.{operand_orders}
-use Rattle.statement_operands.proofs.FilesReadable.{files_readable, file_readable}
-use Rattle.statement_operands.proofs.RangesSmall.{first_found}
+use Rattle.operand_packing.specs.Orders.{operand_orders}
+use Rattle.operand_packing.proofs.FilesReadable.{files_readable, file_readable}
+use Rattle.operand_packing.proofs.RangesSmall.{first_found}
 use Rattle.result_files.specs.ResultText.{asks_matrix}
-use Rattle.run_answers.specs.Run.{path_of, paths_of}
+use Rattle.taco_top.specs.Run.{path_of, paths_of}
 
 -- a path that is looked up among lent ones
 pub path_in_view : (n : ℕ) (files : List (ℕ × Bor (List ℕ)))

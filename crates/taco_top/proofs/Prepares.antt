@@ -12,9 +12,9 @@ use Rattle.mtx_io.specs.Progress.{IsMatrixOrder}
 use Rattle.kernel_runs.specs.Runs.{IsRun}
 use Rattle.result_files.specs.EntriesText.{MayBeWritten}
 use Rattle.result_files.specs.ResultText.{asks_matrix}
-use Rattle.run_request.specs.Asked.{needs_files}
-use Rattle.run_answers.specs.Run.{Request, path_of}
-use Rattle.run_answers.specs.Causes.{HasOperands, IsKernelOf}
+use Rattle.taco_top.specs.Asked.{needs_files}
+use Rattle.taco_top.specs.Run.{Request, path_of}
+use Rattle.taco_top.specs.Causes.{HasOperands, IsKernelOf}
 use Rattle.taco_top.specs.declared.computing.Computed.{Computed}
 use Rattle.taco_top.specs.Prepared.{IsPrepared}
 use Rattle.taco_top.proofs.Paths.{result_is_matrix}

@@ -14,14 +14,14 @@ use Rattle.operand_files.specs.declared.fault.OperandFault.TheVariants as operan
 use Rattle.kernel_code.specs.declared.syntax.Kernel.{Kernel}
 use Rattle.kernel_code.specs.declared.syntax.Turns.{Turns}
 use Rattle.tensor_storage.specs.Storages.{Storage}
-use Rattle.statement_operands.specs.Runnable.{IsRunnable}
+use Rattle.operand_packing.specs.Runnable.{IsRunnable}
 use Rattle.kernel_runs.specs.Runs.{IsRun}
-use Rattle.statement_operands.proofs.Runnable.{read_is_runnable}
+use Rattle.operand_packing.proofs.Runnable.{read_is_runnable}
 use Rattle.refusals.specs.declared.fault.Fault.{Fault}
 use Rattle.refusals.specs.declared.fault.Fault.TheVariants as fault
-use Rattle.run_request.specs.Asked.{needs_files}
-use Rattle.run_answers.specs.Run.{Request}
-use Rattle.run_answers.specs.Causes.{means, IsAccepted, HasOperands, asked_orders, asked_paths, Stops}
+use Rattle.taco_top.specs.Asked.{needs_files}
+use Rattle.taco_top.specs.Run.{Request}
+use Rattle.taco_top.specs.Causes.{means, IsAccepted, HasOperands, asked_orders, asked_paths, Stops}
 use Rattle.taco_top.specs.Prepared.{IsUncomputed}
 use Rattle.taco_top.proofs.Paths.{paths_readable}
 

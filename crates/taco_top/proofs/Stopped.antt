@@ -26,19 +26,18 @@ use Rattle.result_files.proofs.ResultTexts.{same_text}
 use Rattle.refusals.specs.declared.fault.NamedFault.TheVariants as named
 use Rattle.refusals.specs.declared.fault.Fault.{Fault}
 use Rattle.refusals.specs.declared.fault.Fault.TheVariants as fault
-use Rattle.run_request.specs.Asked.{IsRefusedByWords}
-use Rattle.run_answers.specs.Causes.{HasOperands, result_ranges, result_value, OpensOperands, Stops, IsWritten, IsUnwritten}
-use Rattle.run_answers.specs.Causes.{IsAccepted, IsKernelOf, Tells, IsPrinted, IsUnprinted, Refuses}
-use Rattle.statement_operands.specs.Runnable.{told_ranges}
+use Rattle.taco_top.specs.Asked.{IsRefusedByWords}
+use Rattle.taco_top.specs.Causes.{HasOperands, result_ranges, result_value, OpensOperands, Stops, IsWritten, IsUnwritten}
+use Rattle.taco_top.specs.Causes.{IsAccepted, IsKernelOf, Tells, IsPrinted, IsUnprinted, Refuses}
+use Rattle.operand_packing.specs.Runnable.{told_ranges}
 use Rattle.kernel_runs.specs.Runs.{IsTooLarge}
 use Rattle.command_line.specs.CommandLine.{Workload as WorkloadLine, command_line_of}
 use Rattle.command_line.specs.declared.Task.TheVariants as task
-use Rattle.report_text.specs.Report.{workload_line}
-use Rattle.report_text.specs.declared.workload.Workload.{Workload}
+use Rattle.reports.specs.declared.workload.Workload.{Workload}
 use Rattle.generated_runs.specs.Workloads.{IsWorkload}
-use Rattle.reports.specs.Reports.{kernel_report, run_report}
-use Rattle.run_answers.specs.Ends.{Cause, PutsLine}
-use Rattle.run_answers.specs.Run.{Request}
+use Rattle.reports.specs.Reports.{workload_line, kernel_report, run_report}
+use Rattle.taco_top.specs.Ends.{Cause, PutsLine}
+use Rattle.taco_top.specs.Run.{Request}
 use Rattle.taco_top.specs.declared.computing.Computed.{Computed}
 use Rattle.taco_top.specs.declared.ending.Done.{Done}
 use Rattle.taco_top.specs.Prepared.{IsPrepared, IsUncomputed, end_of, end_of_printing}

@@ -20,11 +20,11 @@ use Rattle.refusals.specs.Lines.{status_of}
 use Rattle.refusals.specs.declared.fault.NamedFault.TheVariants as named
 use Rattle.refusals.specs.declared.fault.Fault.{Fault}
 use Rattle.refusals.specs.declared.fault.Fault.TheVariants as fault
-use Rattle.run_request.specs.Asked.{IsRefusedByWords, IsWant, needs_files}
-use Rattle.run_request.proofs.OneRequest as request
-use Rattle.run_answers.specs.Run.{Request, AsksFor}
-use Rattle.run_answers.specs.Causes.{IsAccepted, HasCycleFault, FailsToWrite, Refuses}
-use Rattle.run_answers.specs.Ends.{Ends, Ending, Written, Printed, Refused, Cause, status_of_end}
+use Rattle.taco_top.specs.Asked.{IsRefusedByWords, IsWant, needs_files}
+use Rattle.taco_top.proofs.OneRequest as request
+use Rattle.taco_top.specs.Run.{Request, AsksFor}
+use Rattle.taco_top.specs.Causes.{IsAccepted, HasCycleFault, FailsToWrite, Refuses}
+use Rattle.taco_top.specs.Ends.{Ends, Ending, Written, Printed, Refused, Cause, status_of_end}
 use Rattle.taco_top.proofs.WholeLaws.{one_request}
 
 -- ---- a kernel

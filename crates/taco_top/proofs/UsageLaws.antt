@@ -17,9 +17,9 @@ use Rattle.refusals.specs.declared.fault.NamedFault.TheVariants as named
 use Rattle.refusals.specs.declared.fault.Fault.{Fault}
 use Rattle.refusals.specs.declared.fault.Fault.TheVariants as fault
 use Rattle.command_line.specs.CommandLine.{CommandLine, command_line_of}
-use Rattle.run_request.specs.Asked.{IsRefusedByWords}
-use Rattle.run_answers.specs.Causes.{FailsToWrite, Tells}
-use Rattle.run_answers.specs.Ends.{Ends, Ending, Written, Printed, Refused, Cause, status_of_end}
+use Rattle.taco_top.specs.Asked.{IsRefusedByWords}
+use Rattle.taco_top.specs.Causes.{FailsToWrite, Tells}
+use Rattle.taco_top.specs.Ends.{Ends, Ending, Written, Printed, Refused, Cause, status_of_end}
 
 apart : {A : Type 0} {x : A} → None ≡ Some x → ⊥
 apart h = cc

@@ -24,7 +24,7 @@ use Rattle.operand_files.proofs.ToldLaws.{told_answer, told_bad_line, told_other
 use Rattle.iteration_graph.specs.Edges.{statement_edges}
 use Rattle.iteration_graph.proofs.OrderLaws.{no_order}
 use Rattle.taco_compiler.specs.Compiled.{HasCycle}
-use Rattle.statement_operands.specs.Runnable.{told_ranges}
+use Rattle.operand_packing.specs.Runnable.{told_ranges}
 use Rattle.kernel_runs.specs.Runs.{MayRefuse, IsTooLarge, NeedsPairs, AllFit, IsOfSizes}
 use Rattle.kernel_runs.specs.declared.fault.RunFault.{RunFault}
 use Rattle.kernel_runs.specs.declared.fault.RunFault.TheVariants.{SizeLimit, Workspace}
@@ -38,13 +38,13 @@ use Rattle.refusals.specs.declared.fault.NamedFault.TheVariants as named
 use Rattle.refusals.specs.declared.fault.Fault.{Fault}
 use Rattle.refusals.specs.declared.fault.Fault.TheVariants as fault
 use Rattle.refusals.specs.Lines.{status_of}
-use Rattle.run_request.specs.Asked.{IsRefusedByWords, IsWant}
-use Rattle.run_request.proofs.OneRequest as request
-use Rattle.run_answers.specs.Run.{Request, AsksFor, path_of}
-use Rattle.run_answers.specs.Causes.{means, asked_orders, asked_paths, HasOperands, IsComputed, result_ranges, result_value}
-use Rattle.run_answers.specs.Causes.{StopsReading, HasCycleFault, HasRangeFault, HasLargeLevel, HasManyPairs, Stops}
-use Rattle.run_answers.specs.Causes.{IsWritten, IsUnwritten, IsUnprinted, FailsToWrite}
-use Rattle.run_answers.specs.Ends.{Ends, Ending, Written, Printed, Refused, Cause, status_of_end}
+use Rattle.taco_top.specs.Asked.{IsRefusedByWords, IsWant}
+use Rattle.taco_top.proofs.OneRequest as request
+use Rattle.taco_top.specs.Run.{Request, AsksFor, path_of}
+use Rattle.taco_top.specs.Causes.{means, asked_orders, asked_paths, HasOperands, IsComputed, result_ranges, result_value}
+use Rattle.taco_top.specs.Causes.{StopsReading, HasCycleFault, HasRangeFault, HasLargeLevel, HasManyPairs, Stops}
+use Rattle.taco_top.specs.Causes.{IsWritten, IsUnwritten, IsUnprinted, FailsToWrite}
+use Rattle.taco_top.specs.Ends.{Ends, Ending, Written, Printed, Refused, Cause, status_of_end}
 use Rattle.taco_top.specs.Whole.{IsWhole, modes_told, bound_told}
 
 -- ---- bounds that are lent say what they hold

@@ -1,14 +1,98 @@
--- What the words ask for, as it is kept.
-use Rattle.std.specs.Prelude.{map}
+-- What the words of a command line ask for, and why they are refused before any file is opened: the first of the refusals in
+-- order.
+use Rattle.std.specs.Prelude.{◌≡◌, ◌≤◌, ℕ, Bool, List, Option, Some, None, map, true, false}
+use denote.Ref.{Bor}
+use Rattle.limits.specs.Limits.{greatest_workload}
+use Rattle.format_spec.specs.declared.format.FormatLevel.{FormatLevel}
+use Rattle.index_notation.specs.declared.syntax.Statement.{Statement}
+use Rattle.index_notation.specs.Notation.{IsNotationOf, IsFaultOf}
+use Rattle.index_notation.specs.Statement.{IsNumbered}
+use Rattle.expr_terms.specs.Names.{HasNoNameFault, IsFirstNameFault}
+use Rattle.command_line.specs.CommandLine.{command_line_of}
+use Rattle.command_line.specs.CommandLine as command_line
+use Rattle.command_line.specs.declared.Task.{Task}
+use Rattle.command_line.specs.declared.Task.TheVariants as task
+use Rattle.bindings.specs.Outcome.{Binds, IsRefused}
 use Rattle.bindings.specs.Tables.{file_in}
-use Rattle.run_request.specs.declared.asked.Asked.{Asked}
-use Rattle.run_answers.specs.Run.{Request}
+use Rattle.bindings.specs.declared.fault.BindingFault.{BindingFault}
+use Rattle.bindings.specs.declared.fault.BindingFault.TheVariants as binding
+use Rattle.refusals.specs.declared.fault.NamedFault.TheVariants.{Name, Binding}
+use Rattle.refusals.specs.declared.fault.Fault.{Fault}
+use Rattle.refusals.specs.declared.fault.Fault.TheVariants.{Usage, Notation, Named, Memory}
+use Rattle.taco_top.specs.declared.asked.Work.{Work}
+use Rattle.taco_top.specs.declared.asked.Work.TheVariants as work
 
-abbrev pub request_of : Asked → Request
-request_of asked = record {
-  task = asked.task;
-  statement = asked.statement;
-  formats = asked.bindings.formats.items;
-  files = map file_in asked.bindings.files.entries;
-  given = asked.bindings.ranges.items;
-}
+abbrev pub texts_in : List (Bor (List ℕ)) → List (List ℕ)
+texts_in words = map (λ word. word.now) words
+
+-- a kernel is printed without a look at files
+abbrev pub needs_files : Task → Bool
+needs_files task.Run = true
+needs_files task.Kernel = false
+needs_files task.Report = true
+
+-- the command line asks this task for a statement of this text
+abbrev pub AsksOf : List (List ℕ) → Task → List ℕ → List (List ℕ) → Type 0
+AsksOf words task text rest = command_line_of words ≡ Some (command_line.Statement task text rest)
+
+-- the command line asks this task for a statement, whose names are in order
+pub record Names (words : List (List ℕ)) (task : Task) (s : Statement) (rest : List (List ℕ)) : Type 0 where
+  pub text : List ℕ
+  pub line : AsksOf words task text rest
+  pub notation : IsNotationOf text s
+  pub names : HasNoNameFault s
+
+-- what the words ask for
+pub record Asks (words : List (List ℕ)) (task : Task) (s : Statement) (formats : List (List FormatLevel))
+    (files : List (ℕ × List ℕ)) (ranges : List (Option ℕ)) : Type 0 where
+  pub rest : List (List ℕ)
+  pub names : Names words task s rest
+  pub binds : Binds s rest (needs_files task) formats files ranges
+
+-- what is asked for: this task of a statement, or the generated workload of this size
+abbrev pub IsAsked : List (List ℕ) → Work → Type 0
+IsAsked words (work.Statement asked) =
+    Asks words asked.task asked.statement asked.bindings.formats.items (map file_in asked.bindings.files.entries)
+    asked.bindings.ranges.items
+    × IsNumbered asked.statement
+IsAsked words (work.Workload size) =
+    (command_line_of words ≡ Some (command_line.Workload size)) × (size ≤ greatest_workload)
+
+-- ---- the refusals, stage by stage
+abbrev pub IsLineRefused : List (List ℕ) → Fault → Type 0
+IsLineRefused words Usage = command_line_of words ≡ None
+IsLineRefused words Memory = Unit {0}
+IsLineRefused words _ = ⊥
+
+abbrev pub IsTextRefused : List ℕ → Fault → Type 0
+IsTextRefused text (Notation fault) = IsFaultOf text fault
+IsTextRefused text Memory = Unit {0}
+IsTextRefused text _ = ⊥
+
+-- why words bind nothing to the names of a statement, with files needed or not
+abbrev pub IsBindingFault : Statement → List (List ℕ) → Bool → BindingFault → Type 0
+IsBindingFault s words need (binding.Memory error) = ⊥
+IsBindingFault s words need fault = IsRefused s words need fault
+
+abbrev pub IsBindingRefused : Statement → List (List ℕ) → Bool → Fault → Type 0
+IsBindingRefused s words need (Named t (Binding fault)) = (t ≡ s) × IsBindingFault s words need fault
+IsBindingRefused s words need Memory = Unit {0}
+IsBindingRefused s words need _ = ⊥
+
+-- ---- all of them: the first refusal of the words
+abbrev pub IsRefusedByWords : List (List ℕ) → Fault → Type 0
+IsRefusedByWords words Usage = command_line_of words ≡ None
+IsRefusedByWords words (Notation fault) =
+    (task : Task) × (text : List ℕ) × (rest : List (List ℕ)) × AsksOf words task text rest × IsFaultOf text fault
+IsRefusedByWords words (Named s (Name fault)) =
+    (task : Task) × (text : List ℕ) × (rest : List (List ℕ)) × AsksOf words task text rest
+    × IsNotationOf text s × IsFirstNameFault s fault
+IsRefusedByWords words (Named s (Binding fault)) =
+    (task : Task) × (rest : List (List ℕ)) × Names words task s rest × IsBindingFault s rest (needs_files task) fault
+IsRefusedByWords words Memory = Unit {0}
+IsRefusedByWords words _ = ⊥
+
+-- a refusal for want of memory
+abbrev pub IsWant : Fault → Type 0
+IsWant Memory = Unit {0}
+IsWant _ = ⊥

@@ -8,7 +8,7 @@ use Rattle.tensor_map.specs.Entries.{Entries}
 use Rattle.format_spec.specs.declared.format.FormatLevel.{FormatLevel}
 use Rattle.index_notation.specs.declared.syntax.Statement.{Statement}
 use Rattle.expr_terms.specs.declared.bound.Bound.{Bound}
-use Rattle.statement_operands.specs.Runnable.{told_ranges}
+use Rattle.operand_packing.specs.Runnable.{told_ranges}
 use Rattle.kernel_runs.specs.Runs.{IsTensorOf, IsTooLarge, NeedsPairs}
 use Rattle.result_files.specs.EntriesText.{MayBeWritten}
 use Rattle.result_files.specs.ResultText.{asks_matrix}
@@ -19,9 +19,9 @@ use Rattle.command_line.specs.declared.Task.{Task}
 use Rattle.refusals.specs.declared.fault.NamedFault.TheVariants as named
 use Rattle.refusals.specs.declared.fault.Fault.{Fault}
 use Rattle.refusals.specs.declared.fault.Fault.TheVariants as fault
-use Rattle.run_answers.specs.Causes.{IsComputed}
-use Rattle.run_answers.specs.Ends.{Ending, Written, Printed, Refused}
-use Rattle.run_answers.specs.Run.{path_of}
+use Rattle.taco_top.specs.Causes.{IsComputed}
+use Rattle.taco_top.specs.Ends.{Ending, Written, Printed, Refused}
+use Rattle.taco_top.specs.Run.{path_of}
 use Rattle.taco_top.specs.declared.computing.Computed.{Computed}
 use Rattle.taco_top.specs.declared.ending.Done.{Done}
 use Rattle.taco_top.specs.declared.ending.Done.TheVariants as done

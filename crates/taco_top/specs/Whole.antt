@@ -10,9 +10,9 @@ use Rattle.expr_terms.specs.declared.range_fault.RangeFault.{RangeFault}
 use Rattle.operand_files.specs.Decoded.{Operand}
 use Rattle.operand_files.specs.Laws.{AreTold, told_operands}
 use Rattle.kernel_runs.specs.Runs.{AllFit}
-use Rattle.run_request.specs.Asked.{needs_files}
-use Rattle.run_answers.specs.Causes.{IsAccepted, asked_orders, asked_paths, means}
-use Rattle.run_answers.specs.Run.{Request}
+use Rattle.taco_top.specs.Asked.{needs_files}
+use Rattle.taco_top.specs.Causes.{IsAccepted, asked_orders, asked_paths, means}
+use Rattle.taco_top.specs.Run.{Request}
 
 -- what the modes of a tensor tell, where tensor 1, tensor 2 and so on stand in a row; tensor 0, the result, tells nothing
 abbrev pub modes_told : List (List Bound) → ℕ → List Bound

@@ -2,13 +2,12 @@
 ghost use Rattle.std.specs.Prelude.{◌≡◌, ℕ, List, IfOk, IfErr};
 ghost use Rattle.index_notation.specs.Statement.{IsNumbered};
 ghost use Rattle.outside.specs.Folder.{FolderState};
-ghost use Rattle.run_answers.specs.Causes.{IsAccepted, IsKernelOf, Stops};
-ghost use Rattle.run_answers.specs.Run.{AsksFor};
-ghost use Rattle.taco_top.specs.Asked.{request_of};
+ghost use Rattle.taco_top.specs.Causes.{IsAccepted, IsKernelOf, Stops};
+ghost use Rattle.taco_top.specs.Run.{AsksFor, request_of};
 
 use numbers::Ring;
 use refusals::{Fault, NamedFault};
-use run_request::Asked;
+use crate::asked::Asked;
 use std::alloc::Global;
 use taco_compiler::{CompileFault, Compiled, compile};
 

@@ -7,10 +7,10 @@ ghost use Rattle.format_spec.specs.declared.format.FormatLevel.{FormatLevel};
 ghost use Rattle.index_notation.specs.Statement.{IsNumbered};
 ghost use Rattle.expr_terms.specs.declared.bound.Bound.{Bound};
 ghost use Rattle.operand_files.specs.Reads.{OnlyReads};
-ghost use Rattle.run_request.specs.Asked.{needs_files};
+ghost use Rattle.taco_top.specs.Asked.{needs_files};
 ghost use Rattle.kernel_runs.specs.Runs.{MayRefuse};
-ghost use Rattle.run_answers.specs.Causes.{IsAccepted, IsKernelOf, Stops};
-ghost use Rattle.taco_top.specs.Asked.{request_of};
+ghost use Rattle.taco_top.specs.Causes.{IsAccepted, IsKernelOf, Stops};
+ghost use Rattle.taco_top.specs.Run.{request_of};
 ghost use Rattle.taco_top.specs.Prepared.{IsPrepared, IsUncomputed};
 
 use crate::asking::Accepted;
@@ -22,7 +22,7 @@ use kernel_runs::{KernelRun, RunFault, run_kernel};
 use numbers::Ring;
 use outside::Folder;
 use refusals::{Fault, NamedFault};
-use run_request::Asked;
+use crate::asked::Asked;
 use std::alloc::{AllocError, Global};
 use taco_compiler::Compiled;
 

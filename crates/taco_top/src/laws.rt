@@ -1,18 +1,52 @@
-//! What follows from the contract of `taco`, as calls whose contract is the law. They do nothing.
-ghost use Rattle.std.specs.Prelude.{◌≡◌, ℕ, ◌⊎◌, List, None, Some, String, map, string_bytes};
+//! Claims about what the program does, as calls whose contract is the claim: what follows from what words ask for, and from the
+//! contract of `taco`. They do nothing.
+ghost use Rattle.std.specs.Prelude.{◌≡◌, ℕ, ◌⊎◌, List, Option, None, Some, String, map, string_bytes};
 ghost use Rattle.std.specs.declared.alloc.Global.{Global};
 ghost use Rattle.outside.specs.Count.{Rose};
 ghost use Rattle.outside.specs.Folder.{FolderState};
 ghost use Rattle.outside.specs.Sink.{SinkState};
 ghost use Rattle.command_line.specs.CommandLine.{Workload, command_line_of};
+ghost use Rattle.format_spec.specs.declared.format.FormatLevel.{FormatLevel};
+ghost use Rattle.index_notation.specs.declared.syntax.Statement.{Statement};
+ghost use Rattle.command_line.specs.declared.Task.{Task};
+ghost use Rattle.refusals.specs.declared.fault.Fault.{Fault};
 ghost use Rattle.kernel_code.specs.declared.syntax.Turns.{Turns};
 ghost use Rattle.command_line.specs.declared.Task.TheVariants as task;
-ghost use Rattle.run_answers.specs.Causes.{IsAccepted, IsWritten};
-ghost use Rattle.run_answers.specs.Ends.{Ends};
-ghost use Rattle.run_answers.specs.Run.{Request};
+ghost use Rattle.taco_top.specs.Asked.{Asks, IsRefusedByWords, IsWant};
+ghost use Rattle.taco_top.specs.Causes.{IsAccepted, IsWritten};
+ghost use Rattle.taco_top.specs.Ends.{Ends};
+ghost use Rattle.taco_top.specs.Run.{Request};
 ghost use Rattle.taco_top.specs.Whole.{IsWhole};
 
-/// Where all input of `run` or `report` is whole and no count of faults rose, a call ends with status 0, and so with its file or its
+/// Claim: a command line asks for one task of one statement, with one list of formats, of files and of ranges; or it asks for a workload,
+/// and then for no statement. One that asks for something is refused for want of memory alone.
+pub fn one_request_a_command_line()
+    ensures task { (words : List (List ℕ)) (task other : Task) (s t : Statement) (formats layouts : List (List FormatLevel))
+        (files others : List (ℕ × List ℕ)) (ranges given : List (Option ℕ))
+        → Asks words task s formats files ranges → Asks words other t layouts others given → task ≡ other }
+    ensures statement { (words : List (List ℕ)) (task other : Task) (s t : Statement) (formats layouts : List (List FormatLevel))
+        (files others : List (ℕ × List ℕ)) (ranges given : List (Option ℕ))
+        → Asks words task s formats files ranges → Asks words other t layouts others given → s ≡ t }
+    ensures formats { (words : List (List ℕ)) (task other : Task) (s t : Statement) (formats layouts : List (List FormatLevel))
+        (files others : List (ℕ × List ℕ)) (ranges given : List (Option ℕ))
+        → Asks words task s formats files ranges → Asks words other t layouts others given → formats ≡ layouts }
+    ensures files { (words : List (List ℕ)) (task other : Task) (s t : Statement) (formats layouts : List (List FormatLevel))
+        (files others : List (ℕ × List ℕ)) (ranges given : List (Option ℕ))
+        → Asks words task s formats files ranges → Asks words other t layouts others given → files ≡ others }
+    ensures ranges { (words : List (List ℕ)) (task other : Task) (s t : Statement) (formats layouts : List (List FormatLevel))
+        (files others : List (ℕ × List ℕ)) (ranges given : List (Option ℕ))
+        → Asks words task s formats files ranges → Asks words other t layouts others given → ranges ≡ given }
+    ensures never_both { (words : List (List ℕ)) (task : Task) (s : Statement) (formats : List (List FormatLevel))
+        (files : List (ℕ × List ℕ)) (ranges : List (Option ℕ)) (fault : Fault)
+        → Asks words task s formats files ranges → IsRefusedByWords words fault → IsWant fault }
+    ensures workload_alone { (words : List (List ℕ)) (size : ℕ) (task : Task) (s : Statement) (formats : List (List FormatLevel))
+        (files : List (ℕ × List ℕ)) (ranges : List (Option ℕ))
+        → command_line_of words ≡ Some (Workload size) → Asks words task s formats files ranges → ⊥ }
+    ensures workload_taken { (words : List (List ℕ)) (size : ℕ) (fault : Fault)
+        → command_line_of words ≡ Some (Workload size) → IsRefusedByWords words fault → IsWant fault }
+{}
+
+/// Claim: where all input of `run` or `report` is whole and no count of faults rose, a call ends with status 0, and so with its file or its
 /// text, or with want of memory. A result's file is one, whatever else the folder and the streams have seen.
 pub fn whole_input_is_computed()
     ensures ends { (words : List (String Global)) (files files' : FolderState) (out out' err err' : SinkState) (status : ℕ)
@@ -25,7 +59,7 @@ pub fn whole_input_is_computed()
         → first.writes.text ≡ second.writes.text }
 {}
 
-/// Where the words ask for a kernel and pass, and where they ask for a generated workload, a call ends with status 0, and so with its
+/// Claim: where the words ask for a kernel and pass, and where they ask for a generated workload, a call ends with status 0, and so with its
 /// text, unless the output failed, or with want of memory.
 pub fn texts_are_printed()
     ensures kernels { (words : List (String Global)) (request : Request) (files files' : FolderState) (out out' err err' : SinkState)
@@ -36,7 +70,7 @@ pub fn texts_are_printed()
         → Ends words files files' out out' err err' status → (status ≡ 0) ⊎ (status ≡ 5) }
 {}
 
-/// Status 2 is that of words that are no command line, and they have no other but that of want of memory.
+/// Claim: status 2 is that of words that are no command line, and they have no other but that of want of memory.
 pub fn usage_is_of_words_alone()
     ensures told { (words : List (String Global)) (files files' : FolderState) (out out' err err' : SinkState)
         → Ends words files files' out out' err err' 2 → command_line_of (map string_bytes words) ≡ None }

@@ -1,8 +1,10 @@
 //! The program: what a command line does, from its words to the bytes of the result. `taco` is generic over the folder with
-//! the files and over the streams, so that its contract speaks of any of them; the crate above makes the real ones. What a
-//! call answers, and why, is said in `run_answers`.
+//! the files and over the streams, so that its contract speaks of any of them; the crate above makes the real ones. `specs/Asked.antt`
+//! says what the words ask for, before any file is opened, or the first refusal of the words; `specs/Run.antt` what a statement's command is
+//! about, `specs/Causes.antt` why a command ends as it does, and `specs/Ends.antt` what it shows.
 #![tactic(auto)]
 
+mod asked;
 mod asking;
 mod computing;
 mod ending;
@@ -12,5 +14,5 @@ mod printing;
 mod top;
 mod writing;
 
-pub use laws::{texts_are_printed, usage_is_of_words_alone, whole_input_is_computed};
+pub use laws::{one_request_a_command_line, texts_are_printed, usage_is_of_words_alone, whole_input_is_computed};
 pub use top::taco;

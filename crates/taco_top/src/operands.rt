@@ -4,10 +4,9 @@ ghost use Rattle.std.specs.Option.{option_map};
 ghost use Rattle.index_notation.specs.Statement.{IsNumbered};
 ghost use Rattle.bindings.specs.Tables.{file_in};
 ghost use Rattle.operand_files.specs.Reads.{OnlyReads};
-ghost use Rattle.run_request.specs.Asked.{needs_files};
-ghost use Rattle.run_answers.specs.Causes.{IsAccepted, HasOperands, Stops};
-ghost use Rattle.run_answers.specs.Run.{orders_of as orders_of_operands, path_of as path_of_tensor, paths_of as paths_of_operands};
-ghost use Rattle.taco_top.specs.Asked.{request_of};
+ghost use Rattle.taco_top.specs.Asked.{needs_files};
+ghost use Rattle.taco_top.specs.Causes.{IsAccepted, HasOperands, Stops};
+ghost use Rattle.taco_top.specs.Run.{orders_of as orders_of_operands, path_of as path_of_tensor, paths_of as paths_of_operands, request_of};
 
 use bindings::{Bindings, order_of};
 use index_notation::Statement;
@@ -15,7 +14,7 @@ use numbers::Ring;
 use operand_files::{OperandFault, Operands, read_operands};
 use outside::Folder;
 use refusals::Fault;
-use run_request::Asked;
+use crate::asked::Asked;
 use std::alloc::{AllocError, Global};
 
 /// The path of a tensor's file, if it has one.

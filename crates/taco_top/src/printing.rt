@@ -5,9 +5,9 @@ ghost use Rattle.outside.specs.Folder.{FolderState};
 ghost use Rattle.command_line.specs.CommandLine.{Workload as WorkloadLine, command_line_of};
 ghost use Rattle.command_line.specs.declared.Task.TheVariants as task;
 ghost use Rattle.operand_files.specs.Reads.{OnlyReads};
-ghost use Rattle.run_answers.specs.Causes.{IsAccepted, IsKernelOf};
-ghost use Rattle.run_answers.specs.Ends.{Cause};
-ghost use Rattle.taco_top.specs.Asked.{request_of};
+ghost use Rattle.taco_top.specs.Causes.{IsAccepted, IsKernelOf};
+ghost use Rattle.taco_top.specs.Ends.{Cause};
+ghost use Rattle.taco_top.specs.Run.{request_of};
 ghost use Rattle.taco_top.specs.Prepared.{IsPrepared, end_of};
 
 use crate::asking::Accepted;

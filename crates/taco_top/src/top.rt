@@ -2,10 +2,9 @@
 ghost use Rattle.std.specs.Prelude.{◌≡◌, ℕ, List, map, string_bytes};
 ghost use Rattle.command_line.specs.declared.Task.TheVariants as task;
 ghost use Rattle.index_notation.specs.Statement.{IsNumbered};
-ghost use Rattle.run_answers.specs.Causes.{IsAccepted, IsKernelOf};
-ghost use Rattle.run_answers.specs.Ends.{Cause, Ends};
-ghost use Rattle.run_answers.specs.Run.{AsksFor};
-ghost use Rattle.taco_top.specs.Asked.{request_of};
+ghost use Rattle.taco_top.specs.Causes.{IsAccepted, IsKernelOf};
+ghost use Rattle.taco_top.specs.Ends.{Cause, Ends};
+ghost use Rattle.taco_top.specs.Run.{AsksFor, request_of};
 ghost use Rattle.taco_top.specs.Prepared.{end_of};
 
 use crate::asking::{Accepted, accept};
@@ -16,8 +15,8 @@ use crate::writing::write;
 use command_line::Task;
 use outside::{Folder, Sink};
 use refusals::{Fault, put_line};
-use report_text::put_turns;
-use run_request::{Asked, Work, ask};
+use reports::put_turns;
+use crate::asked::{Asked, Work, ask};
 use std::alloc::Global;
 
 /// Writes the result of what the words ask for.

@@ -3,7 +3,7 @@ ghost use Rattle.std.specs.Prelude.{ℕ, List};
 ghost use Rattle.outside.specs.Folder.{FolderState};
 ghost use Rattle.command_line.specs.declared.Task.TheVariants as task;
 ghost use Rattle.operand_files.specs.Reads.{OnlyReads};
-ghost use Rattle.run_answers.specs.Ends.{Cause};
+ghost use Rattle.taco_top.specs.Ends.{Cause};
 ghost use Rattle.taco_top.specs.Prepared.{IsPrepared, end_of};
 
 use crate::computing::Computed;

@@ -1,17 +1,15 @@
 //! Lists of a tensor's entries: coordinates, counted from 0, and a value. The tensor that a list stands for
 //! adds the values of equal coordinates, and does not depend on the order of the list: `specs/Entries.antt`
-//! defines it, and the functions of `laws` state what follows. Values are added as a
+//! defines it, and `proofs/Lemmas.antt` has what follows. Values are added as a
 //! `Semiring` says; the calls of `numbers` stand here too.
 #![tactic(auto)]
 
 mod coords;
 mod entries;
-mod laws;
 mod shape;
 
 pub use coords::Coords;
 pub use entries::Entries;
-pub use laws::{increasing_rows_do_not_repeat, one_row_a_tensor, order_is_free, rows_add};
 pub use numbers::{
     Ring, Semiring, add, keeps_laws, machine_words_are_the_ring, mul, ring_keeps_laws, signed, sub,
 };

@@ -1,8 +1,8 @@
 pub mod Arranged
 pub mod Built
 pub mod Chains
-pub mod Columns
 pub mod Children
+pub mod Columns
 pub mod Counts
 pub mod EntryOrders
 pub mod Laws
@@ -10,9 +10,11 @@ pub mod Levels
 pub mod New
 pub mod Packed
 pub mod Routes
+pub mod Standing
 pub mod Stands
 pub mod Storages
 pub mod Tables
+pub mod Taking
 pub mod Told
 pub mod Unique
 pub mod Walks

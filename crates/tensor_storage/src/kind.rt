@@ -6,11 +6,11 @@ use trees::Items;
 
 impl LevelKind for StorageLevel {
     ghost use Rattle.tensor_storage.specs.Levels as levels;
-    ghost use Rattle.tensor_storage.specs.Laws.{laws as storage_laws};
+    ghost use Rattle.tensor_storage.specs.Laws.{laws as level_laws};
 
     ghost meaning = { levels.meaning };
 
-    ghost laws = { storage_laws };
+    ghost laws = { level_laws };
 
     fn letter(&self) -> Letter {
         match self {

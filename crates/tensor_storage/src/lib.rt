@@ -1,6 +1,7 @@
 //! The storage of tensors: a level of any kind, and packed tensors, whose levels stand one below another with a value for
 //! each position of the last. `specs/Storages.antt` says what is stored of a tensor, and
-//! `specs/Stands.antt` for which table of named coordinates and values it stands.
+//! `specs/Stands.antt` for which table of named coordinates and values it stands. `specs/Standing.antt` says where there is such a storage:
+//! calls that pack may always be refused for want of memory, so that no contract of theirs tells it.
 #![tactic(auto)]
 
 mod appending;
@@ -9,7 +10,6 @@ mod finding;
 mod inserting;
 mod kind;
 mod kinds;
-mod laws;
 mod level;
 mod listing;
 mod packing;
@@ -18,7 +18,6 @@ mod table;
 mod tensor;
 
 pub use kinds::{chain_end, kind_of};
-pub use laws::{one_storage_stands, packed_tensors_tell_their_entries};
 pub use level::StorageLevel;
 pub use packing::PackRefusal;
 pub use table::RowTable;

@@ -2,9 +2,11 @@ pub mod Buffering
 pub mod CuttingLaws
 pub mod DecimalLaws
 pub mod LineLaws
+pub mod ListTexts
 pub mod NumberLaws
 pub mod Parts
 pub mod PrintedLaws
 pub mod PutPieces
 pub mod PutsLemmas
 pub mod TokenLaws
+pub mod Worked

@@ -7,6 +7,7 @@ pub mod LineReader
 pub mod Lines
 pub mod Numbers
 pub mod Parts
+pub mod Pieces
 pub mod PrintedLaws
 pub mod Puts
 pub mod TokenLaws

@@ -7,4 +7,5 @@ pub mod PositionLaws
 pub mod PrintLaws
 pub mod ReadLaws
 pub mod TextLaws
+pub mod Worked
 pub mod WrittenLaws

@@ -1,6 +1,6 @@
 //! What `.tns` files say and what is written into them: `specs/Reading.antt` defines the reading of a line and of a
 //! text, `specs/Text.antt` the text of a tensor, `specs/Positions.antt` where coordinates stand in a dense tensor,
-//! and the functions of `laws` state what follows.
+//! and `laws` claims that what is written stands for its tensor.
 #![tactic(auto)]
 
 mod entry_lines;
@@ -11,10 +11,6 @@ mod printing;
 mod tns_reader;
 
 pub use file_fault::FileFault;
-pub use laws::{
-    entries_of_files_may_be_written, lines_are_entries_or_bad, positions_number_coordinates,
-    tensors_have_one_text, texts_of_entries_are_their_tensors,
-    written_texts_stand_for_their_tensor,
-};
+pub use laws::{tensors_have_one_text, written_texts_stand_for_their_tensor};
 pub use printing::put_tns;
 pub use tns_reader::TnsReader;

@@ -3,8 +3,9 @@ use Rattle.std.proofs.Common.{sym, subst, arith}
 use Rattle.limits.specs.Limits.{greatest_position_count}
 use Rattle.limits.proofs.Limits.{workloads_are_ranges}
 use Rattle.numbers.specs.Ring.{ring}
-use Rattle.statement_operands.specs.Runnable.{IsRunnable}
+use Rattle.operand_packing.specs.Runnable.{IsRunnable}
 use Rattle.kernel_runs.specs.Runs.{MayRefuse}
+use Rattle.kernel_runs.proofs.Fits.{none_refused}
 use Rattle.generated_runs.specs.Workloads.{workload_statement, workload_formats}
 use Rattle.generated_runs.proofs.Fits.{refused_for_memory}
 use Rattle.generated_runs.proofs.Runnable.{runnable}
@@ -25,7 +26,7 @@ pub memory_of-requires : goal.memory_of-requires
 memory_of-requires c =
     let given = Some c.args.size ∷ Some c.args.size ∷ [] in
     let operands = c.args.operands.entries.items in
-    refused_for_memory ring c.args.size operands c.requires.small c.requires.matrices c.none_that_fit_are_refused.ensures c.in-Err.fault
+    refused_for_memory ring c.args.size operands c.requires.small c.requires.matrices none_refused c.in-Err.fault
     (subst (λ bounds. MayRefuse ring workload_statement workload_formats given operands bounds c.in-Err.fault) c.requires.untold
     (subst (λ formats. MayRefuse ring workload_statement formats given operands c.args.operands.bounds.items c.in-Err.fault)
     c.requires.formats

@@ -2,7 +2,7 @@ use Rattle.std.specs.Prelude.{◌≡◌, ℕ, List, ◌++◌, codes}
 use Rattle.std.proofs.Common.{◌∙◌, ap, sym}
 use Rattle.kernel_print.specs.Text.{array_text, expr_text, operator_text}
 use Rattle.kernel_print.proofs.Equations.{at_text, bin_text, min_text, width_text}
-use Rattle.kernel_print.proofs.Pieces.{printed, then_printed, refused, retold}
+use Rattle.text_lines.proofs.PutPieces.{printed, then_printed, refused, retold}
 use Rattle.kernel_print.proofs.exprs.+exprs.Goals as goal
 
 pub put_expr-returns-in-At : goal.put_expr-returns-in-At

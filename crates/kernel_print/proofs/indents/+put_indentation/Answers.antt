@@ -1,6 +1,6 @@
 use Rattle.std.specs.Prelude.{codes}
 use Rattle.kernel_print.specs.Text.{depth_of, indentation}
-use Rattle.kernel_print.proofs.Pieces.{then_printed, refused}
+use Rattle.text_lines.proofs.PutPieces.{then_printed, refused}
 use Rattle.kernel_print.proofs.indents.+put_indentation.Goals as goal
 
 pub returns-in_err-put_all-in-Within : goal.returns-in_err-put_all-in-Within

@@ -1,7 +1,7 @@
 use Rattle.std.specs.Prelude.{◌++◌, codes}
 use Rattle.std.proofs.Common.{ap}
 use Rattle.kernel_print.specs.Text.{statements_text}
-use Rattle.kernel_print.proofs.Pieces.{refused, retold}
+use Rattle.text_lines.proofs.PutPieces.{refused, retold}
 use Rattle.kernel_print.proofs.kernels.put_body.Goals as goal
 
 pub returns-in_err-put_statements : goal.returns-in_err-put_statements

@@ -1,7 +1,7 @@
 use Rattle.std.specs.Prelude.{ℕ, List, ◌++◌, codes}
 use Rattle.std.proofs.Common.{ap}
 use Rattle.kernel_print.specs.Text.{kernel_text, workspaces_text, lists_text, statements_text}
-use Rattle.kernel_print.proofs.Pieces.{then_printed, refused, retold, part_printed}
+use Rattle.text_lines.proofs.PutPieces.{then_printed, refused, retold, part_printed}
 use Rattle.kernel_print.proofs.kernels.put_kernel.Goals as goal
 
 pub returns-in_err-put_all-clause-part : goal.returns-in_err-put_all-clause-part

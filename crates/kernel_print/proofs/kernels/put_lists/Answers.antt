@@ -2,7 +2,7 @@ use Rattle.std.specs.Prelude.{◌≡◌, ◌+◌, ◌-◌}
 use Rattle.std.proofs.Common.{ap, arith}
 use Rattle.kernel_print.specs.Text.{lists_text}
 use Rattle.kernel_print.proofs.Loops.{none_so_far, more_so_far, all_so_far, rest_told, then_rest, lists_step}
-use Rattle.kernel_print.proofs.Pieces.{refused}
+use Rattle.text_lines.proofs.PutPieces.{refused}
 use Rattle.kernel_print.proofs.kernels.put_lists.Goals as goal
 
 pub loop-list-init : goal.loop-list-init

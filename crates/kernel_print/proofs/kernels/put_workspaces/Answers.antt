@@ -3,7 +3,7 @@ use Rattle.std.proofs.Common.{ap}
 use Rattle.std.proofs.lemmas.List.{drop_all}
 use Rattle.kernel_print.specs.Text.{workspaces_text}
 use Rattle.kernel_print.proofs.Loops.{none_so_far, more_so_far, all_so_far, rest_told, then_rest, workspaces_step}
-use Rattle.kernel_print.proofs.Pieces.{refused}
+use Rattle.text_lines.proofs.PutPieces.{refused}
 use Rattle.kernel_print.proofs.kernels.put_workspaces.Goals as goal
 
 pub loop-number-init : goal.loop-number-init

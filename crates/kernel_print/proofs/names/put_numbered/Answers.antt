@@ -1,4 +1,4 @@
-use Rattle.kernel_print.proofs.Pieces.{printed, then_printed, refused}
+use Rattle.text_lines.proofs.PutPieces.{printed, then_printed, refused}
 use Rattle.kernel_print.proofs.names.put_numbered.Goals as goal
 
 pub returns-in_err-put_all : goal.returns-in_err-put_all

@@ -5,7 +5,7 @@ use Rattle.kernel_code.specs.declared.syntax.KStmt.{KStmt}
 use Rattle.kernel_print.specs.Text.{depth_of, expr_text, indentation, kind_text, statement_text, statements_text}
 use Rattle.kernel_print.proofs.Equations.{block, if_text, while_text}
 use Rattle.kernel_print.proofs.Loops.{none_so_far, more_so_far, all_so_far, rest_told, then_rest, statements_step}
-use Rattle.kernel_print.proofs.Pieces.{printed, then_printed, refused, retold}
+use Rattle.text_lines.proofs.PutPieces.{printed, then_printed, refused, retold}
 use Rattle.kernel_print.proofs.statements.+statements.Goals as goal
 
 pub put_block-returns-in_err-put_statements : goal.put_block-returns-in_err-put_statements

@@ -2,7 +2,7 @@ use Rattle.std.specs.Prelude.{ℕ, List, ◌++◌, codes}
 use Rattle.std.specs.Fmt.{decimal}
 use Rattle.std.proofs.Common.{ap}
 use Rattle.kernel_print.specs.Text.{expr_text}
-use Rattle.kernel_print.proofs.Pieces.{then_printed, refused, retold}
+use Rattle.text_lines.proofs.PutPieces.{then_printed, refused, retold}
 use Rattle.kernel_print.proofs.statements.put_combine.Goals as goal
 
 pub returns-in_err-put_numbered : goal.returns-in_err-put_numbered

@@ -1,4 +1,4 @@
-use Rattle.kernel_print.proofs.Pieces.{then_printed, refused}
+use Rattle.text_lines.proofs.PutPieces.{then_printed, refused}
 use Rattle.kernel_print.proofs.statements.put_write.Goals as goal
 
 pub returns-in_err-put_array : goal.returns-in_err-put_array

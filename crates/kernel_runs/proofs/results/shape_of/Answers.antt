@@ -1,8 +1,8 @@
 use Rattle.std.specs.Prelude.{◌≡◌, map, slice_index}
 use Rattle.std.proofs.Common.{◌∙◌, sym, ap, subst, rules}
 use Rattle.tensor_map.specs.Coords.{IsShape}
-use Rattle.statement_operands.specs.Operands.{mode_sizes}
-use Rattle.statement_operands.proofs.SizeLaws.{sizes_of_result}
+use Rattle.operand_packing.specs.Operands.{mode_sizes}
+use Rattle.operand_packing.proofs.SizeLaws.{sizes_of_result}
 use Rattle.kernel_runs.proofs.Shapes.{ranges_shape}
 use Rattle.kernel_runs.proofs.results.shape_of.Goals as goal
 

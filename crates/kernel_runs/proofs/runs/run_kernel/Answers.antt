@@ -1,6 +1,6 @@
 use Rattle.std.specs.Prelude.{◌≡◌, Ok}
 use Rattle.std.proofs.Common.{◌∙◌, sym, ap, rules}
-use Rattle.statement_operands.specs.Runnable.{told_ranges}
+use Rattle.operand_packing.specs.Runnable.{told_ranges}
 use Rattle.kernel_runs.proofs.Calls.{may_pack_lent, unpacked_lent, enough_lent, done_lent, sound_lent, refused_lent, run_lent}
 use Rattle.kernel_runs.proofs.Refusals.{range_refusal, pack_refusal}
 use Rattle.kernel_runs.proofs.Whole.{written}

@@ -1,7 +1,7 @@
 use Rattle.std.specs.Prelude.{◌≡◌, ◌+◌, ◌<◌, [], length, slice_index, refl}
 use Rattle.std.proofs.Common.{◌∙◌, sym, ap, subst, arith}
 use Rattle.tensor_map.specs.Entries.{Entries}
-use Rattle.statement_operands.specs.Operands.{mode_sizes}
+use Rattle.operand_packing.specs.Operands.{mode_sizes}
 use Rattle.operand_packing.specs.Packed.{IsPackedOperand, IsPackRefusal, MayBePacked}
 use Rattle.operand_packing.proofs.Steps.{may_next, more_packed, not_packed, all_packed}
 use Rattle.operand_packing.proofs.packing.pack_operands.Goals as goal

@@ -3,7 +3,7 @@ use Rattle.std.specs.Prelude.{codes}
 use Rattle.std.proofs.lemmas.Result.{IfErr-weaker}
 use Rattle.text_lines.specs.Puts.{AppendsPart}
 use Rattle.text_lines.proofs.PutsLemmas.{part_of_first, part_of_second}
-use Rattle.refusals.specs.Pieces.{joined}
+use Rattle.text_lines.specs.Pieces.{joined}
 use Rattle.refusals.specs.Lines.{names_behind}
 use Rattle.refusals.proofs.line.+put_names.Goals as goal
 

@@ -4,7 +4,7 @@ use Rattle.std.proofs.lemmas.Result.{on_ok_weaker}
 use Rattle.outside.specs.Sink.{Appends}
 use Rattle.text_lines.proofs.PutPieces.{part_printed, printed, refused, retold, then_printed}
 use Rattle.text_lines.proofs.PutsLemmas.{both_whole}
-use Rattle.report_text.specs.Report.{turns_line}
+use Rattle.reports.specs.Reports.{turns_line}
 use Rattle.storage_text.specs.StoreText.{store_text}
 use Rattle.reports.proofs.runs.put_result.Goals as goal
 

@@ -6,7 +6,7 @@ use Rattle.text_lines.proofs.PutPieces.{none_so_far, more_so_far, all_so_far, re
 use Rattle.storage_arrays.specs.Arrays.{ends_in}
 use Rattle.storage_text.specs.StoreText.{number_text}
 use Rattle.storage_arrays.proofs.Finished.{ends_long, few_ends}
-use Rattle.text_pieces.proofs.ListTexts.{text_step}
+use Rattle.text_lines.proofs.ListTexts.{text_step}
 use Rattle.storage_text.proofs.sequences.put_ends.Goals as goal
 
 pub overflow_add-number-end : goal.overflow_add-number-end

@@ -6,7 +6,7 @@ use Rattle.text_lines.proofs.PutPieces.{none_so_far, more_so_far, all_so_far, re
 use Rattle.storage_arrays.specs.Arrays.{places_in}
 use Rattle.storage_text.specs.StoreText.{place_text}
 use Rattle.storage_arrays.proofs.Finished.{places_long}
-use Rattle.text_pieces.proofs.ListTexts.{text_step}
+use Rattle.text_lines.proofs.ListTexts.{text_step}
 use Rattle.storage_text.proofs.sequences.put_places.Goals as goal
 
 pub place_at-requires-clause-parents : goal.place_at-requires-clause-parents

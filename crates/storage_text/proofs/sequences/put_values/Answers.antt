@@ -3,7 +3,7 @@ use Rattle.std.specs.List.{flat_map}
 use Rattle.std.proofs.lemmas.Option.{slice_get-get_or}
 use Rattle.text_lines.proofs.PutPieces.{more_so_far, refused, rest_told, then_rest}
 use Rattle.storage_text.specs.StoreText.{value_text}
-use Rattle.text_pieces.proofs.ListTexts.{text_step}
+use Rattle.text_lines.proofs.ListTexts.{text_step}
 use Rattle.storage_text.proofs.sequences.put_values.Goals as goal
 
 pub loop-value-preserved : goal.loop-value-preserved

@@ -3,7 +3,7 @@ use Rattle.std.specs.Prelude.{Err}
 use Rattle.numbers.specs.Ring.{ring}
 use Rattle.taco_compiler.specs.Compiled.{Answers}
 use Rattle.taco_compiler.specs.declared.compiled.CompileFault.TheVariants as compile
-use Rattle.taco_top.specs.Asked.{request_of}
+use Rattle.taco_top.specs.Run.{request_of}
 use Rattle.taco_top.proofs.Accepted.{well_named, left_has_format, right_have_formats}
 use Rattle.taco_top.proofs.asking.accept.Goals as goal
 

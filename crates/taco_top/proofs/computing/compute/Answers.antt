@@ -1,5 +1,5 @@
 use Rattle.std.proofs.Common.{◌∙◌, refl}
-use Rattle.taco_top.specs.Asked.{request_of}
+use Rattle.taco_top.specs.Run.{request_of}
 use Rattle.taco_top.proofs.Reading.{runnable, run_of_request, uncomputed_of_request}
 use Rattle.taco_top.proofs.Prepares.{prepared}
 use Rattle.taco_top.proofs.Stopped.{stops_uncomputed}

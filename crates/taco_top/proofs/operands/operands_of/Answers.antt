@@ -1,6 +1,6 @@
 use Rattle.std.proofs.Common.{◌≡◌, ℕ, List, ap, map, ◌∙◌, Bor}
 use Rattle.operand_files.specs.declared.fault.OperandFault.TheVariants as operand
-use Rattle.taco_top.specs.Asked.{request_of}
+use Rattle.taco_top.specs.Run.{request_of}
 use Rattle.taco_top.proofs.Reading.{readable, stops_reading}
 use Rattle.taco_top.proofs.operands.operands_of.Goals as goal
 

@@ -4,7 +4,7 @@ use Rattle.std.specs.List.{range_with_len}
 use Rattle.std.proofs.lemmas.List.{map-append}
 use Rattle.std.proofs.lemmas.List.FromFn.{map-range_with_len_more}
 use Rattle.bindings.specs.Tables.{file_in}
-use Rattle.run_answers.specs.Run.{path_of}
+use Rattle.taco_top.specs.Run.{path_of}
 use Rattle.taco_top.proofs.operands.paths_of.Goals as goal
 
 pub loop-n-preserved : goal.loop-n-preserved

@@ -2,7 +2,7 @@ use Rattle.std.proofs.Common.{◌≡◌, [], map}
 use Rattle.std.specs.Prelude.{unwrap_or}
 use Rattle.std.specs.List.{range_with_len}
 use Rattle.bindings.specs.Tables.{file_in}
-use Rattle.run_answers.specs.Run.{path_of}
+use Rattle.taco_top.specs.Run.{path_of}
 use Rattle.taco_top.proofs.operands.paths_of.Given as goal
 
 -- the paths of the operands so far

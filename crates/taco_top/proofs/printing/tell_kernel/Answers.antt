@@ -1,4 +1,4 @@
-use Rattle.taco_top.specs.Asked.{request_of}
+use Rattle.taco_top.specs.Run.{request_of}
 use Rattle.reports.specs.Reports.{kernel_report}
 use Rattle.taco_top.proofs.Stopped.{cause_of_printing, reads_nothing, tells_kernel}
 use Rattle.taco_top.proofs.printing.tell_kernel.Goals as goal

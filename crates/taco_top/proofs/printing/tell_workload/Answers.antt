@@ -1,4 +1,4 @@
-use Rattle.report_text.specs.Report.{workload_line}
+use Rattle.reports.specs.Reports.{workload_line}
 use Rattle.taco_top.proofs.Stopped.{cause_of_printing, reads_nothing, tells_workload}
 use Rattle.taco_top.proofs.printing.tell_workload.Goals as goal
 

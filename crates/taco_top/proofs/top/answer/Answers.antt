@@ -1,6 +1,6 @@
 use Rattle.std.proofs.Common.{ℕ, List, map, string_bytes, subst}
 use Rattle.std.specs.declared.alloc.Global.{Global}
-use Rattle.run_request.specs.Asked.{IsAsked}
+use Rattle.taco_top.specs.Asked.{IsAsked}
 use Rattle.taco_top.proofs.top.answer.Goals as goal
 
 pub returns-in-Ok-Statement : goal.returns-in-Ok-Statement

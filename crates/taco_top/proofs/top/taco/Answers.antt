@@ -2,8 +2,8 @@ use Rattle.std.specs.Prelude.{Ok}
 use Rattle.std.proofs.Common.{ℕ, List, map, string_bytes, refl, subst}
 use Rattle.std.specs.declared.alloc.Global.{Global}
 use Rattle.refusals.specs.Lines.{line_of}
-use Rattle.report_text.specs.Report.{turns_line}
-use Rattle.run_answers.specs.Ends.{Written, Refused, Cause}
+use Rattle.reports.specs.Reports.{turns_line}
+use Rattle.taco_top.specs.Ends.{Written, Refused, Cause}
 use Rattle.taco_top.specs.Prepared.{end_of}
 use Rattle.taco_top.proofs.Stopped.{line_put}
 use Rattle.taco_top.proofs.top.taco.Goals as goal

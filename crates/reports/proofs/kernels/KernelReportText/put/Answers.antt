@@ -3,7 +3,7 @@ use Rattle.std.proofs.lemmas.Result.{IfErr-weaker}
 use Rattle.text_lines.proofs.PutPieces.{part_printed, refused}
 use Rattle.text_lines.proofs.PutsLemmas.{part_of_second}
 use Rattle.kernel_print.specs.Text.{kernel_text}
-use Rattle.report_text.specs.Report.{heading_text}
+use Rattle.reports.specs.Reports.{heading_text}
 use Rattle.reports.proofs.kernels.KernelReportText.put.Goals as goal
 
 pub returns-in_err-put_heading-clause-part : goal.returns-in_err-put_heading-clause-part

@@ -1,0 +1,38 @@
+-- What the cost comes to where it was worked out by hand.
+use Rattle.std.specs.Prelude.{◌≡◌, [], ◌∷◌, refl}
+use denote.Hole.Carrier.{hidden}
+use Rattle.index_notation.specs.declared.syntax.Expr.TheBlock.{hidden-the_row-Expr-0}
+use Rattle.level_core.specs.declared.letter.Letter.TheVariants.{Compressed, Dense}
+use Rattle.statement_costs.specs.Costs.{statement_cost, statement_repeats}
+use Rattle.statement_costs.specs.Worked.{alike, list_formats, list_stored, product, rows_formats, rows_stored, sum, sum_formats}
+use Rattle.statement_costs.specs.Worked.{sum_stored}
+
+-- a matrix compressed in two rows with one stored coordinate each, times a dense vector: a turn for each row, and one for each
+-- coordinate
+pub cost_of_rows : statement_cost product rows_formats (0 ∷ 1 ∷ []) rows_stored (alike 2) ≡ 4
+unfolding hidden-the_row-Expr-0 hidden
+cost_of_rows = refl
+
+pub no_repeats_of_rows : statement_repeats product rows_formats (0 ∷ 1 ∷ []) rows_stored (alike 2) ≡ 0
+unfolding hidden-the_row-Expr-0 hidden
+no_repeats_of_rows = refl
+
+-- a list of four coordinates in two rows, times a hashed vector of two coordinates: 4 where rows are gone through, with all 4 in groups,
+-- and then 3 + 2 and 1 + 2
+pub cost_of_a_list : statement_cost product list_formats (0 ∷ 1 ∷ []) list_stored (alike 8) ≡ 12
+unfolding hidden-the_row-Expr-0 hidden
+cost_of_a_list = refl
+
+pub repeats_of_a_list : statement_repeats product list_formats (0 ∷ 1 ∷ []) list_stored (alike 8) ≡ 4
+unfolding hidden-the_row-Expr-0 hidden
+repeats_of_a_list = refl
+
+-- a sum of two compressed vectors: the coordinates of both
+pub cost_of_a_sum : statement_cost sum (sum_formats Compressed) (0 ∷ []) sum_stored (alike 9) ≡ 3
+unfolding hidden-the_row-Expr-0 hidden
+cost_of_a_sum = refl
+
+-- and where one is dense, the range
+pub cost_of_a_dense_sum : statement_cost sum (sum_formats Dense) (0 ∷ []) sum_stored (alike 9) ≡ 9
+unfolding hidden-the_row-Expr-0 hidden
+cost_of_a_dense_sum = refl

@@ -1,5 +1,0 @@
-use Rattle.storage_laws.proofs.Sorting.{entries_pack_where_few}
-use Rattle.storage_laws.proofs.laws.entries_are_packed_where_few.Goals as goal
-
-pub returns : goal.returns
-returns c = entries_pack_where_few

@@ -1,5 +1,0 @@
-use Rattle.storage_laws.proofs.Few.{standing_are_few}
-use Rattle.storage_laws.proofs.laws.standing_levels_are_few.Goals as goal
-
-pub returns : goal.returns
-returns c = standing_are_few

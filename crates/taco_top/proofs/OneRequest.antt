@@ -1,0 +1,175 @@
+-- A command line asks for one thing, or is refused.
+use Rattle.std.specs.Prelude.{◌≡◌, ℕ, Bool, List, [], Option, Some, None}
+use Rattle.std.proofs.Common.{◌∙◌, sym, ap, subst}
+use Rattle.format_spec.specs.declared.format.FormatLevel.{FormatLevel}
+use Rattle.index_notation.specs.declared.syntax.Statement.{Statement}
+use Rattle.index_notation.specs.Notation.{IsNotationOf}
+use Rattle.notation_reader.proofs.NotationLaws as notations
+use Rattle.expr_terms.proofs.NameOnce.{names_never_both}
+use Rattle.expr_terms.specs.Names.{HasNoNameFault}
+use Rattle.command_line.specs.declared.Task.{Task}
+use Rattle.command_line.specs.declared.Task.TheVariants.{Run}
+use Rattle.command_line.specs.CommandLine.{CommandLine, Workload, command_line_of}
+use Rattle.command_line.specs.CommandLine as command_line
+use Rattle.bindings.proofs.OneAnswer as bindings
+use Rattle.bindings.specs.Outcome.{Binds}
+use Rattle.bindings.specs.declared.fault.BindingFault.{BindingFault}
+use Rattle.bindings.specs.declared.fault.BindingFault.TheVariants as binding
+use Rattle.refusals.specs.declared.fault.NamedFault.TheVariants as named
+use Rattle.refusals.specs.declared.fault.Fault.{Fault}
+use Rattle.refusals.specs.declared.fault.Fault.TheVariants as fault
+use Rattle.taco_top.specs.Asked.{Asks, AsksOf, Names, IsRefusedByWords, IsBindingFault, IsWant, needs_files}
+
+abbrev task_of : Option CommandLine → Task
+task_of None = Run
+task_of (Some (command_line.Statement task expr words)) = task
+task_of (Some (Workload size)) = Run
+
+abbrev expr_of : Option CommandLine → List ℕ
+expr_of None = []
+expr_of (Some (command_line.Statement task expr words)) = expr
+expr_of (Some (Workload size)) = []
+
+abbrev words_of : Option CommandLine → List (List ℕ)
+words_of None = []
+words_of (Some (command_line.Statement task expr words)) = words
+words_of (Some (Workload size)) = []
+
+-- two readings of a command line
+one_task : (words : List (List ℕ)) (task other : Task) (text texts : List ℕ) (rest others : List (List ℕ))
+    → AsksOf words task text rest → AsksOf words other texts others → task ≡ other
+one_task words task other text texts rest others is be = ap task_of (sym is ∙ be)
+
+one_text : (words : List (List ℕ)) (task other : Task) (text texts : List ℕ) (rest others : List (List ℕ))
+    → AsksOf words task text rest → AsksOf words other texts others → text ≡ texts
+one_text words task other text texts rest others is be = ap expr_of (sym is ∙ be)
+
+one_rest : (words : List (List ℕ)) (task other : Task) (text texts : List ℕ) (rest others : List (List ℕ))
+    → AsksOf words task text rest → AsksOf words other texts others → rest ≡ others
+one_rest words task other text texts rest others is be = ap words_of (sym is ∙ be)
+
+one_statement : (words : List (List ℕ)) (task other : Task) (s t : Statement) (rest others : List (List ℕ))
+    → Names words task s rest → Names words other t others → s ≡ t
+one_statement words task other s t rest others is be =
+    notations.statement_once be.text s t
+    (subst (λ text. IsNotationOf text s) (one_text words task other is.text be.text rest others is.line be.line) is.notation) be.notation
+
+module _ (words : List (List ℕ)) (task other : Task) (s t : Statement) (formats layouts : List (List FormatLevel))
+    (files others : List (ℕ × List ℕ)) (ranges given : List (Option ℕ))
+    (asks : Asks words task s formats files ranges) (ask : Asks words other t layouts others given) where
+  pub same_task : task ≡ other
+  same_task = one_task words task other asks.names.text ask.names.text asks.rest ask.rest asks.names.line ask.names.line
+
+  pub same_statement : s ≡ t
+  same_statement = one_statement words task other s t asks.rest ask.rest asks.names ask.names
+
+  same_rest : asks.rest ≡ ask.rest
+  same_rest = one_rest words task other asks.names.text ask.names.text asks.rest ask.rest asks.names.line ask.names.line
+
+  -- what the other reading binds, for the same task, statement and words
+  same_binds : Binds s asks.rest (needs_files task) layouts others given
+  same_binds =
+      subst (λ u. Binds u asks.rest (needs_files task) layouts others given) (sym same_statement)
+      (subst (λ rest. Binds t rest (needs_files task) layouts others given) (sym same_rest)
+      (subst (λ for. Binds t ask.rest (needs_files for) layouts others given) (sym same_task) ask.binds))
+
+  pub same_formats : formats ≡ layouts
+  same_formats = bindings.same_formats s asks.rest (needs_files task) formats layouts files others ranges given asks.binds same_binds
+
+  pub same_files : files ≡ others
+  same_files = bindings.same_files s asks.rest (needs_files task) formats layouts files others ranges given asks.binds same_binds
+
+  pub same_ranges : ranges ≡ given
+  same_ranges = bindings.same_ranges s asks.rest (needs_files task) formats layouts files others ranges given asks.binds same_binds
+
+apart : {A : Type 0} {x : A} → None ≡ Some x → ⊥
+apart h = cc
+
+-- what is bound isn't refused
+binding_apart : (s : Statement) (words : List (List ℕ)) (need : Bool) (formats : List (List FormatLevel)) (files : List (ℕ × List ℕ))
+    (ranges : List (Option ℕ)) (why : BindingFault) → Binds s words need formats files ranges
+    → IsBindingFault s words need why → ⊥
+binding_apart s words need formats files ranges (binding.Word word why) binds is =
+    bindings.never_both s words need formats files ranges (binding.Word word why) binds is
+binding_apart s words need formats files ranges (binding.NoFile tensor) binds is =
+    bindings.never_both s words need formats files ranges (binding.NoFile tensor) binds is
+binding_apart s words need formats files ranges (binding.BadFormat tensor why) binds is =
+    bindings.never_both s words need formats files ranges (binding.BadFormat tensor why) binds is
+binding_apart s words need formats files ranges (binding.Memory error) binds is = is
+
+module _ (words : List (List ℕ)) (task : Task) (s : Statement) (formats : List (List FormatLevel)) (files : List (ℕ × List ℕ))
+    (ranges : List (Option ℕ)) (asks : Asks words task s formats files ranges) where
+  -- the text of another reading is that of this one
+  notation_of : (other : Task) (text : List ℕ) (rest : List (List ℕ)) → AsksOf words other text rest → IsNotationOf text s
+  notation_of other text rest line =
+      subst (λ t. IsNotationOf t s)
+      (one_text words task other asks.names.text text asks.rest rest asks.names.line line) asks.names.notation
+
+  -- what is bound is so for the task and the words of another reading
+  binds_of : (other : Task) (t : Statement) (rest : List (List ℕ)) → Names words other t rest
+      → Binds t rest (needs_files other) formats files ranges
+  binds_of other t rest names =
+      subst (λ u. Binds u rest (needs_files other) formats files ranges)
+      (one_statement words task other s t asks.rest rest asks.names names)
+      (subst (λ r. Binds s r (needs_files other) formats files ranges)
+      (one_rest words task other asks.names.text names.text asks.rest rest asks.names.line names.line)
+      (subst (λ for. Binds s asks.rest (needs_files for) formats files ranges)
+      (one_task words task other asks.names.text names.text asks.rest rest asks.names.line names.line) asks.binds))
+
+  only_want : (why : Fault) → IsRefusedByWords words why → IsWant why
+  only_want fault.Usage is = apart (sym is ∙ asks.names.line)
+  only_want (fault.Notation why) (other, text, rest, line, is) =
+      notations.never_both text s why (notation_of other text rest line) is
+  only_want (fault.Named t (named.Name why)) (other, text, rest, line, notation, is) =
+      names_never_both t why
+      (subst HasNoNameFault (notations.statement_once text s t (notation_of other text rest line) notation) asks.names.names) is
+  only_want (fault.Named t (named.Binding why)) (other, rest, names, is) =
+      binding_apart t rest (needs_files other) formats files ranges why (binds_of other t rest names) is
+  only_want (fault.Named t (named.Cycle cycle)) is = is
+  only_want (fault.Named t (named.Range why)) is = is
+  only_want (fault.Named t (named.SizeLimit tensor level count)) is = is
+  only_want (fault.WorkspaceLimit count) is = is
+  only_want (fault.ReadFault path) is = is
+  only_want (fault.FileBytes path) is = is
+  only_want (fault.BadFile path line kind) is = is
+  only_want (fault.WriteFault path) is = is
+  only_want fault.Memory is = is
+
+pub never_both : (words : List (List ℕ)) (task : Task) (s : Statement) (formats : List (List FormatLevel)) (files : List (ℕ × List ℕ))
+    (ranges : List (Option ℕ)) (why : Fault)
+    → Asks words task s formats files ranges → IsRefusedByWords words why → IsWant why
+never_both words task s formats files ranges why asks is = only_want words task s formats files ranges asks why is
+
+-- a command line is no statement's and a workload's both
+abbrev IsStatement : Option CommandLine → Type 0
+IsStatement None = ⊥
+IsStatement (Some (command_line.Statement task expr words)) = Unit {0}
+IsStatement (Some (Workload size)) = ⊥
+
+no_statement : (words : List (List ℕ)) (size : ℕ) (task : Task) (text : List ℕ) (rest : List (List ℕ))
+    → command_line_of words ≡ Some (Workload size) → AsksOf words task text rest → ⊥
+no_statement words size task text rest is be = subst IsStatement (sym be ∙ is) tt
+
+pub workload_alone : (words : List (List ℕ)) (size : ℕ) (task : Task) (s : Statement) (formats : List (List FormatLevel))
+    (files : List (ℕ × List ℕ)) (ranges : List (Option ℕ))
+    → command_line_of words ≡ Some (Workload size) → Asks words task s formats files ranges → ⊥
+workload_alone words size task s formats files ranges is asks =
+    no_statement words size task asks.names.text asks.rest is asks.names.line
+
+pub workload_taken : (words : List (List ℕ)) (size : ℕ) (why : Fault)
+    → command_line_of words ≡ Some (Workload size) → IsRefusedByWords words why → IsWant why
+workload_taken words size fault.Usage is refused = apart (sym refused ∙ is)
+workload_taken words size (fault.Notation why) is (task, text, rest, line, h) = absurd (no_statement words size task text rest is line)
+workload_taken words size (fault.Named t (named.Name why)) is (task, text, rest, line, notation, h) =
+    absurd (no_statement words size task text rest is line)
+workload_taken words size (fault.Named t (named.Binding why)) is (task, rest, names, h) =
+    absurd (no_statement words size task names.text rest is names.line)
+workload_taken words size (fault.Named t (named.Cycle cycle)) is h = h
+workload_taken words size (fault.Named t (named.Range why)) is h = h
+workload_taken words size (fault.Named t (named.SizeLimit tensor level count)) is h = h
+workload_taken words size (fault.WorkspaceLimit count) is h = h
+workload_taken words size (fault.ReadFault path) is h = h
+workload_taken words size (fault.FileBytes path) is h = h
+workload_taken words size (fault.BadFile path line kind) is h = h
+workload_taken words size (fault.WriteFault path) is h = h
+workload_taken words size fault.Memory is h = h

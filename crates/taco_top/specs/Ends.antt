@@ -1,0 +1,48 @@
+-- What a call of the program shows: its status, its line on standard error, and why it ends so.
+use Rattle.std.specs.Prelude.{◌≡◌, ℕ, ◌⊎◌, List, [], String, map, string_bytes}
+use Rattle.std.specs.declared.alloc.Global.{Global}
+use Rattle.outside.specs.Count.{Rose}
+use Rattle.outside.specs.Folder.{FolderState, appended}
+use Rattle.outside.specs.Sink.{SinkState}
+use Rattle.text_lines.specs.Puts.{PutsLess}
+use Rattle.kernel_code.specs.declared.syntax.Turns.{Turns}
+use Rattle.reports.specs.Reports.{turns_line}
+use Rattle.refusals.specs.Lines.{status_of, line_of}
+use Rattle.refusals.specs.declared.fault.Fault.{Fault}
+use Rattle.taco_top.specs.Causes.{IsWritten, IsPrinted, Refuses}
+
+-- a result was written, of a run of so many turns; a text was printed; or a fault is told
+pub data Ending : Type 0 where
+  Written : (turns : Turns) → Ending
+  Printed : Ending
+  Refused : (why : Fault) → Ending
+
+abbrev pub status_of_end : Ending → ℕ
+status_of_end (Written turns) = 0
+status_of_end Printed = 0
+status_of_end (Refused why) = status_of why
+
+-- what a command tells beside its output: the turns of a run whose result it writes, or its fault
+abbrev pub line_of_end : Ending → List ℕ
+line_of_end (Written turns) = turns_line turns
+line_of_end Printed = []
+line_of_end (Refused why) = line_of why
+
+-- why a command ends so
+abbrev pub Cause : List (List ℕ) → FolderState → FolderState → SinkState → SinkState → Ending → Type 0
+Cause words files files' out out' (Written turns) = IsWritten words files files' out out' turns
+Cause words files files' out out' Printed = IsPrinted words files files' out out'
+Cause words files files' out out' (Refused why) = Refuses words files files' out out' why
+
+-- the line was appended whole; or not the whole of it, where the sink failed or wanted memory
+abbrev pub PutsLine : SinkState → SinkState → List ℕ → Type 0
+PutsLine old new line =
+    (new.written ≡ appended old.written line)
+    ⊎ (PutsLess old.written new.written line × (Rose old.faults new.faults ⊎ Rose old.wants new.wants))
+
+-- a call with this status ended so: it has its cause, and standard error grew by its line
+pub record Ends (words : List (String Global)) (files files' : FolderState) (out out' err err' : SinkState) (status : ℕ) : Type 0 where
+  pub ended : Ending
+  pub status_is : status ≡ status_of_end ended
+  pub cause : Cause (map string_bytes words) files files' out out' ended
+  pub line : PutsLine err err' (line_of_end ended)

@@ -1,0 +1,134 @@
+ghost use Rattle.std.specs.Prelude.{◌≡◌, ℕ, Bool, List, Some, None, map, string_bytes, IfOk, IfErr, MatchResult};
+ghost use Rattle.index_notation.specs.Notation.{IsNotationOf};
+ghost use Rattle.index_notation.specs.Statement.{IsNumbered};
+ghost use Rattle.command_line.specs.CommandLine.{command_line_of};
+ghost use Rattle.command_line.specs.Told.{told};
+ghost use Rattle.bindings.specs.Tables.{file_in};
+ghost use Rattle.bindings.specs.Outcome.{Binds};
+ghost use Rattle.taco_top.specs.Asked.{Asks, AsksOf, IsAsked, IsRefusedByWords, IsLineRefused, IsTextRefused, IsBindingRefused};
+ghost use Rattle.taco_top.specs.Asked.{needs_files, texts_in};
+ghost use Rattle.refusals.specs.declared.fault.Fault.TheVariants.{Named};
+
+use bindings::{BindingFault, Bindings, bind};
+use command_line::{Request, RequestFault, Task, read_request};
+use expr_terms::check_names;
+use index_notation::{NotationFault, Statement};
+use notation_reader::parse;
+use refusals::{Fault, NamedFault};
+use std::alloc::Global;
+
+/// A statement, what is asked for it, and what the words bind to its names.
+#[derive(Drop)]
+pub struct Asked<'a> {
+    pub task: Task,
+    pub statement: Statement,
+    pub bindings: Bindings<'a>,
+}
+
+/// What the command line asks for.
+#[derive(Drop)]
+pub enum Work<'a> {
+    /// A task of a statement.
+    Statement(Asked<'a>),
+    /// The generated workload of this size.
+    Workload(u64),
+}
+
+/// What the command line says, as the program's faults tell where it says nothing.
+fn read_words<'a>(alloc: Global, words: &'a [String]) -> Result<Request<'a>, Fault<'a>>
+    ensures { MatchResult result
+        (λ request. command_line_of (map string_bytes words.now) ≡ Some (told request))
+        (IsLineRefused (map string_bytes words.now)) }
+{
+    match read_request(alloc, words) {
+        Ok(request) => Ok(request),
+        Err(RequestFault::Usage) => Err(Fault::Usage),
+        Err(RequestFault::Memory) => Err(Fault::Memory),
+    }
+}
+
+/// Whether a task reads the operands' files. A kernel is printed without a look at them.
+fn reads_files(task: Task) -> bool
+    ensures { result ≡ needs_files task }
+{
+    match task {
+        Task::Run | Task::Report => true,
+        Task::Kernel => false,
+    }
+}
+
+/// The statement of a text, as the program's faults tell what it isn't.
+fn read_statement<'a>(alloc: Global, text: &str) -> Result<Statement, Fault<'a>>
+    ensures statement { IfOk result (λ s. IsNotationOf text.now s × IsNumbered s) }
+    ensures refused { IfErr result (IsTextRefused text.now) }
+{
+    match parse(alloc, text) {
+        Ok(statement) => Ok(statement),
+        Err(NotationFault::Memory(_)) => Err(Fault::Memory),
+        Err(fault) => Err(Fault::Notation(fault)),
+    }
+}
+
+/// What the words bind to the names of a statement, as the program's faults tell where they bind nothing.
+fn bind_names<'a>(
+    alloc: Global,
+    task: Task,
+    statement: Statement,
+    words: &[&'a str],
+) -> Result<Asked<'a>, Fault<'a>>
+    requires { IsNumbered statement }
+    ensures { MatchResult result
+        (λ asked. (asked.task ≡ task) × (asked.statement ≡ statement) × Binds statement (texts_in words.now) (needs_files task)
+        asked.bindings.formats.items (map file_in asked.bindings.files.entries) asked.bindings.ranges.items)
+        (IsBindingRefused statement (texts_in words.now) (needs_files task)) }
+{
+    match bind(alloc, &statement, words, reads_files(task)) {
+        Ok(bindings) => Ok(Asked {
+            task,
+            statement,
+            bindings,
+        }),
+        Err(BindingFault::Memory(_)) => Err(Fault::Memory),
+        Err(fault) => Err(named(statement, NamedFault::Binding(fault))),
+    }
+}
+
+/// A fault that is told by names of a statement.
+fn named<'a>(statement: Statement, fault: NamedFault) -> Fault<'a>
+    ensures { result ≡ Named statement fault }
+{
+    Fault::Named { statement, fault }
+}
+
+/// What a command line asks for that asks this task of a statement of this text.
+fn ask_statement<'a>(
+    alloc: Global,
+    task: Task,
+    text: &str,
+    words: &[&'a str],
+) -> Result<Asked<'a>, Fault<'a>>
+    ensures { (all : List (List ℕ)) → AsksOf all task text.now (texts_in words.now)
+        → MatchResult result (λ asked. Asks all asked.task asked.statement asked.bindings.formats.items
+        (map file_in asked.bindings.files.entries) asked.bindings.ranges.items × IsNumbered asked.statement) (IsRefusedByWords all) }
+{
+    let statement = read_statement(alloc, text)?;
+    match check_names(&statement) {
+        Ok(()) => bind_names(alloc, task, statement, words),
+        Err(fault) => Err(named(statement, NamedFault::Name(fault))),
+    }
+}
+
+/// What the words of the command line ask for, or the first refusal in order: of the command line, the statement's text, its
+/// names, the words behind it, missing files where the task reads them, formats. Refused for want of memory besides.
+pub fn ask<'a>(alloc: Global, words: &'a [String]) -> Result<Work<'a>, Fault<'a>>
+    ensures asked { IfOk result (IsAsked (map string_bytes words.now)) }
+    ensures refused { IfErr result (IsRefusedByWords (map string_bytes words.now)) }
+{
+    match read_words(alloc, words)? {
+        Request::Statement { task, expr, words } => {
+            let asked = ask_statement(alloc, task, expr, words.as_slice())?;
+            Ok(Work::Statement(asked))
+        }
+        Request::Workload { size } => Ok(Work::Workload(size)),
+    }
+}
