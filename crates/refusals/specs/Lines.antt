@@ -1,6 +1,8 @@
 -- The status of a fault, and its line.
 use Rattle.std.specs.Prelude.{ℕ, List, [], ◌∷◌, ◌++◌, codes, Option, Some, None, slice_get}
 use Rattle.std.specs.Fmt.{decimal}
+use Rattle.limits.specs.Limits.{greatest_order, greatest_variables, greatest_accesses, greatest_operands, greatest_nesting}
+use Rattle.limits.specs.Limits.{greatest_literal, greatest_text_bytes, greatest_range_word, greatest_file_bytes}
 use Rattle.index_notation.specs.declared.syntax.Name.{Name}
 use Rattle.index_notation.specs.declared.syntax.Statement.{Statement}
 use Rattle.index_notation.specs.declared.fault.Counted.{Counted}
@@ -77,23 +79,24 @@ name_at names number = bytes_of (slice_get names number)
 abbrev pub memory_line : List ℕ
 memory_line = codes "taco: out of memory\n"
 
--- what a text has too many of
-abbrev pub counted_text : Counted → List ℕ
-counted_text Order = codes "order above 6"
-counted_text Variables = codes "more than 6 variables"
-counted_text Accesses = codes "more than 6 accesses"
-counted_text Operands = codes "more than 16 operands"
+-- a limit that a text passes, between the words around it, and the byte at which it does
+abbrev pub limit_at : List ℕ → ℕ → List ℕ → ℕ → List ℕ
+limit_at before limit behind at =
+    joined (codes "taco: " ∷ before ∷ decimal limit ∷ behind ∷ codes " at byte " ∷ decimal at ∷ codes "\n" ∷ [])
 
--- a text, and the byte at which it is so
-abbrev pub at_byte : List ℕ → ℕ → List ℕ
-at_byte text at = joined (codes "taco: " ∷ text ∷ codes " at byte " ∷ decimal at ∷ codes "\n" ∷ [])
+-- what a text has too many of
+abbrev pub too_many_at : Counted → ℕ → List ℕ
+too_many_at Order at = limit_at (codes "order above ") greatest_order [] at
+too_many_at Variables at = limit_at (codes "more than ") greatest_variables (codes " variables") at
+too_many_at Accesses at = limit_at (codes "more than ") greatest_accesses (codes " accesses") at
+too_many_at Operands at = limit_at (codes "more than ") greatest_operands (codes " operands") at
 
 abbrev pub notation_line : NotationFault → List ℕ
-notation_line notation.TextLength = codes "taco: expression longer than 4096 bytes\n"
-notation_line (notation.BadNotation at) = at_byte (codes "bad notation") at
-notation_line (notation.TooDeep at) = at_byte (codes "nesting deeper than 32") at
-notation_line (notation.TooMany what at) = at_byte (counted_text what) at
-notation_line (notation.LiteralRange at) = at_byte (codes "literal above 9223372036854775807") at
+notation_line notation.TextLength = joined (codes "taco: expression longer than " ∷ decimal greatest_text_bytes ∷ codes " bytes\n" ∷ [])
+notation_line (notation.BadNotation at) = joined (codes "taco: bad notation at byte " ∷ decimal at ∷ codes "\n" ∷ [])
+notation_line (notation.TooDeep at) = limit_at (codes "nesting deeper than ") greatest_nesting [] at
+notation_line (notation.TooMany what at) = too_many_at what at
+notation_line (notation.LiteralRange at) = limit_at (codes "literal above ") greatest_literal [] at
 notation_line (notation.Memory error) = memory_line
 
 abbrev pub name_line : Statement → NameFault → List ℕ
@@ -102,13 +105,14 @@ name_line s (Arity tensor) = joined (codes "taco: " ∷ name_at s.tensors tensor
 name_line s (RepeatedVariable tensor var) = joined (codes "taco: " ∷ name_at s.tensors tensor ∷ codes ": variable "
     ∷ name_at s.vars var ∷ codes " stands twice\n" ∷ [])
 
--- why a word is refused
-abbrev pub word_text : WordFault → List ℕ
-word_text BadBinding = codes ": not a binding\n"
-word_text UnknownName = codes ": no such name\n"
-word_text Twice = codes ": bound twice\n"
-word_text NotMatrix = codes ": .mtx needs order 1 or 2\n"
-word_text RangeLimit = codes ": range above 2147483647\n"
+-- the line of a word that is refused
+abbrev pub word_line : ℕ → WordFault → List ℕ
+word_line word BadBinding = joined (codes "taco: word " ∷ decimal word ∷ codes ": not a binding\n" ∷ [])
+word_line word UnknownName = joined (codes "taco: word " ∷ decimal word ∷ codes ": no such name\n" ∷ [])
+word_line word Twice = joined (codes "taco: word " ∷ decimal word ∷ codes ": bound twice\n" ∷ [])
+word_line word NotMatrix = joined (codes "taco: word " ∷ decimal word ∷ codes ": .mtx needs order 1 or 2\n" ∷ [])
+word_line word RangeLimit =
+    joined (codes "taco: word " ∷ decimal word ∷ codes ": range above " ∷ decimal greatest_range_word ∷ codes "\n" ∷ [])
 
 -- what is wrong with a format
 abbrev pub format_text : FormatFault → List ℕ
@@ -119,7 +123,7 @@ format_text BadChain = codes ": bad format: chain\n"
 format_text BelowHashed = codes ": bad format: below h\n"
 
 abbrev pub binding_line : Statement → BindingFault → List ℕ
-binding_line s (binding.Word word why) = joined (codes "taco: word " ∷ decimal word ∷ word_text why ∷ [])
+binding_line s (binding.Word word why) = word_line word why
 binding_line s (binding.NoFile tensor) = joined (codes "taco: " ∷ name_at s.tensors tensor ∷ codes ": no file\n" ∷ [])
 binding_line s (binding.BadFormat tensor why) = joined (codes "taco: " ∷ name_at s.tensors tensor ∷ format_text why ∷ [])
 binding_line s (binding.Memory error) = memory_line
@@ -175,7 +179,8 @@ line_of (fault.Notation why) = notation_line why
 line_of (fault.Named s why) = named_line s why
 line_of (fault.WorkspaceLimit count) = workspace_text count
 line_of (fault.ReadFault path) = joined (codes "taco: " ∷ path.now ∷ codes ": read fault\n" ∷ [])
-line_of (fault.FileBytes path) = joined (codes "taco: " ∷ path.now ∷ codes ": more than 1099511627776 bytes\n" ∷ [])
+line_of (fault.FileBytes path) =
+    joined (codes "taco: " ∷ path.now ∷ codes ": more than " ∷ decimal greatest_file_bytes ∷ codes " bytes\n" ∷ [])
 line_of (fault.BadFile path number kind) = joined (codes "taco: " ∷ path.now ∷ codes ": line " ∷ decimal number ∷ kind_text kind ∷ [])
 line_of (fault.WriteFault None) = codes "taco: standard output: write fault\n"
 line_of (fault.WriteFault (Some path)) = joined (codes "taco: " ∷ path.now ∷ codes ": write fault\n" ∷ [])

@@ -3,7 +3,10 @@ ghost use Rattle.std.specs.Prelude.{◌≡◌, ℕ, List, OnOk, IfErr, [], ◌�
 ghost use Rattle.std.specs.Fmt.{decimal};
 ghost use Rattle.outside.specs.Sink.{Appends};
 ghost use Rattle.text_lines.specs.Puts.{AppendsPart};
-ghost use Rattle.refusals.specs.Lines.{name_at, at_byte, counted_text, notation_line, name_line, word_text, format_text, binding_line};
+ghost use Rattle.limits.specs.Limits.{greatest_file_bytes};
+ghost use Rattle.bindings.specs.declared.fault.WordFault.TheVariants.{RangeLimit};
+ghost use Rattle.index_notation.specs.declared.fault.NotationFault.TheVariants as notation;
+ghost use Rattle.refusals.specs.Lines.{name_at, limit_at, too_many_at, notation_line, name_line, word_line, format_text, binding_line};
 ghost use Rattle.refusals.specs.Lines.{range_line, size_text, workspace_text, names_behind, cycle_text, named_line, kind_text, line_of};
 ghost use Rattle.text_lines.specs.Pieces.{joined};
 
@@ -12,6 +15,11 @@ use bindings::{BindingFault, WordFault};
 use expr_terms::{NameFault, RangeFault};
 use format_spec::FormatFault;
 use index_notation::{Counted, Name, NotationFault, Statement};
+use limits::{
+    greatest_accesses_of_statement, greatest_bytes_of_file, greatest_bytes_of_text,
+    greatest_literal_of_expression, greatest_nesting_of_expression, greatest_operands_of_statement,
+    greatest_order_of_tensor, greatest_range_in_word, greatest_variables_of_statement,
+};
 use outside::{Refusal, Sink};
 use text_lines::{LineKind, Piece, put_all, put_pieces};
 
@@ -27,31 +35,6 @@ fn bytes_of(names: &[Name], number: usize) -> &[u8]
     match names.get(number) {
         Some(name) => name.bytes.as_slice(),
         None => b"",
-    }
-}
-
-/// What a text has too many of.
-fn text_of_counted(what: Counted) -> &'static [u8]
-    ensures { result.now ≡ counted_text what }
-{
-    match what {
-        Counted::Order => b"order above 6",
-        Counted::Variables => b"more than 6 variables",
-        Counted::Accesses => b"more than 6 accesses",
-        Counted::Operands => b"more than 16 operands",
-    }
-}
-
-/// Why a word is refused.
-fn text_of_word(fault: WordFault) -> &'static [u8]
-    ensures { result.now ≡ word_text fault }
-{
-    match fault {
-        WordFault::BadBinding => b": not a binding\n",
-        WordFault::UnknownName => b": no such name\n",
-        WordFault::Twice => b": bound twice\n",
-        WordFault::NotMatrix => b": .mtx needs order 1 or 2\n",
-        WordFault::RangeLimit => b": range above 2147483647\n",
     }
 }
 
@@ -89,15 +72,71 @@ fn text_of_kind(kind: LineKind) -> &'static [u8]
     }
 }
 
-/// Appends the line of a text that is so at this byte.
-fn put_at_byte<S: Sink>(sink: &mut S, text: &[u8], at: usize) -> Result<(), Refusal>
-    ensures whole { OnOk result (Appends (S.state sink.old) (S.state sink.new) (at_byte text.now at)) }
-    ensures part { IfErr result (AppendsPart (S.state sink.old) (S.state sink.new) (at_byte text.now at)) }
+/// Appends the line of a text that passes a limit at this byte, which stands between these words.
+fn put_limit_at<S: Sink>(
+    sink: &mut S,
+    before: &[u8],
+    limit: u64,
+    behind: &[u8],
+    at: usize,
+) -> Result<(), Refusal>
+    ensures whole { OnOk result (Appends (S.state sink.old) (S.state sink.new) (limit_at before.now limit behind.now at)) }
+    ensures part { IfErr result (AppendsPart (S.state sink.old) (S.state sink.new) (limit_at before.now limit behind.now at)) }
 {
     let pieces = [
         Piece::Text(b"taco: "),
-        Piece::Text(text),
+        Piece::Text(before),
+        Piece::Number(limit),
+        Piece::Text(behind),
         Piece::Text(b" at byte "),
+        Piece::Number(at as u64),
+        Piece::Text(b"\n"),
+    ];
+    put_pieces(sink, &pieces)
+}
+
+/// Appends the line of a text that has too many of something at this byte.
+fn put_too_many<S: Sink>(sink: &mut S, what: Counted, at: usize) -> Result<(), Refusal>
+    ensures whole { OnOk result (Appends (S.state sink.old) (S.state sink.new) (too_many_at what at)) }
+    ensures part { IfErr result (AppendsPart (S.state sink.old) (S.state sink.new) (too_many_at what at)) }
+{
+    match what {
+        Counted::Order => put_limit_at(sink, b"order above ", greatest_order_of_tensor(), b"", at),
+        Counted::Variables => {
+            let limit = greatest_variables_of_statement();
+            put_limit_at(sink, b"more than ", limit, b" variables", at)
+        }
+        Counted::Accesses => {
+            let limit = greatest_accesses_of_statement();
+            put_limit_at(sink, b"more than ", limit, b" accesses", at)
+        }
+        Counted::Operands => {
+            let limit = greatest_operands_of_statement();
+            put_limit_at(sink, b"more than ", limit, b" operands", at)
+        }
+    }
+}
+
+/// Appends the line of a text that is too long.
+fn put_too_long<S: Sink>(sink: &mut S) -> Result<(), Refusal>
+    ensures whole { OnOk result (Appends (S.state sink.old) (S.state sink.new) (notation_line notation.TextLength)) }
+    ensures part { IfErr result (AppendsPart (S.state sink.old) (S.state sink.new) (notation_line notation.TextLength)) }
+{
+    let pieces = [
+        Piece::Text(b"taco: expression longer than "),
+        Piece::Number(greatest_bytes_of_text()),
+        Piece::Text(b" bytes\n"),
+    ];
+    put_pieces(sink, &pieces)
+}
+
+/// Appends the line of a text that no sentence begins with up to this byte.
+fn put_bad_notation<S: Sink>(sink: &mut S, at: usize) -> Result<(), Refusal>
+    ensures whole { OnOk result (Appends (S.state sink.old) (S.state sink.new) (notation_line (notation.BadNotation at))) }
+    ensures part { IfErr result (AppendsPart (S.state sink.old) (S.state sink.new) (notation_line (notation.BadNotation at))) }
+{
+    let pieces = [
+        Piece::Text(b"taco: bad notation at byte "),
         Piece::Number(at as u64),
         Piece::Text(b"\n"),
     ];
@@ -110,16 +149,61 @@ fn put_notation_line<S: Sink>(sink: &mut S, fault: &NotationFault) -> Result<(),
     ensures part { IfErr result (AppendsPart (S.state sink.old) (S.state sink.new) (notation_line fault.now)) }
 {
     match fault {
-        NotationFault::TextLength => put_all(sink, b"taco: expression longer than 4096 bytes\n"),
-        NotationFault::BadNotation { at } => put_at_byte(sink, b"bad notation", *at),
-        NotationFault::TooDeep { at } => put_at_byte(sink, b"nesting deeper than 32", *at),
-        NotationFault::TooMany { what, at } => put_at_byte(sink, text_of_counted(*what), *at),
-        NotationFault::LiteralRange { at } => put_at_byte(
-            sink,
-            b"literal above 9223372036854775807",
-            *at,
-        ),
+        NotationFault::TextLength => put_too_long(sink),
+        NotationFault::BadNotation { at } => put_bad_notation(sink, *at),
+        NotationFault::TooDeep { at } => {
+            let limit = greatest_nesting_of_expression();
+            put_limit_at(sink, b"nesting deeper than ", limit, b"", *at)
+        }
+        NotationFault::TooMany { what, at } => put_too_many(sink, *what, *at),
+        NotationFault::LiteralRange { at } => {
+            let limit = greatest_literal_of_expression();
+            put_limit_at(sink, b"literal above ", limit, b"", *at)
+        }
         NotationFault::Memory(_) => put_all(sink, MEMORY),
+    }
+}
+
+/// Appends the line that says this of a word.
+fn put_of_word<S: Sink>(sink: &mut S, word: usize, text: &[u8]) -> Result<(), Refusal>
+    ensures whole { OnOk result (Appends (S.state sink.old) (S.state sink.new) (joined (codes "taco: word " ∷ decimal word ∷ text.now ∷ []))) }
+    ensures part { IfErr result (AppendsPart (S.state sink.old) (S.state sink.new)
+        (joined (codes "taco: word " ∷ decimal word ∷ text.now ∷ []))) }
+{
+    let pieces = [
+        Piece::Text(b"taco: word "),
+        Piece::Number(word as u64),
+        Piece::Text(text),
+    ];
+    put_pieces(sink, &pieces)
+}
+
+/// Appends the line of a word whose range is above the limit.
+fn put_above_range<S: Sink>(sink: &mut S, word: usize) -> Result<(), Refusal>
+    ensures whole { OnOk result (Appends (S.state sink.old) (S.state sink.new) (word_line word RangeLimit)) }
+    ensures part { IfErr result (AppendsPart (S.state sink.old) (S.state sink.new) (word_line word RangeLimit)) }
+{
+    let pieces = [
+        Piece::Text(b"taco: word "),
+        Piece::Number(word as u64),
+        Piece::Text(b": range above "),
+        Piece::Number(greatest_range_in_word()),
+        Piece::Text(b"\n"),
+    ];
+    put_pieces(sink, &pieces)
+}
+
+/// Appends the line of a word that binds nothing.
+fn put_word_line<S: Sink>(sink: &mut S, word: usize, fault: WordFault) -> Result<(), Refusal>
+    ensures whole { OnOk result (Appends (S.state sink.old) (S.state sink.new) (word_line word fault)) }
+    ensures part { IfErr result (AppendsPart (S.state sink.old) (S.state sink.new) (word_line word fault)) }
+{
+    match fault {
+        WordFault::BadBinding => put_of_word(sink, word, b": not a binding\n"),
+        WordFault::UnknownName => put_of_word(sink, word, b": no such name\n"),
+        WordFault::Twice => put_of_word(sink, word, b": bound twice\n"),
+        WordFault::NotMatrix => put_of_word(sink, word, b": .mtx needs order 1 or 2\n"),
+        WordFault::RangeLimit => put_above_range(sink, word),
     }
 }
 
@@ -136,6 +220,23 @@ fn put_of_path<'x, S: Sink>(sink: &mut S, path: &'x str, text: &'x [u8]) -> Resu
             Piece::Text(text),
         ],
     )
+}
+
+/// Appends the line of a file with more bytes than may be.
+fn put_file_bytes<S: Sink>(sink: &mut S, path: &str) -> Result<(), Refusal>
+    ensures whole { OnOk result (Appends (S.state sink.old) (S.state sink.new)
+        (joined (codes "taco: " ∷ path.now ∷ codes ": more than " ∷ decimal greatest_file_bytes ∷ codes " bytes\n" ∷ []))) }
+    ensures part { IfErr result (AppendsPart (S.state sink.old) (S.state sink.new)
+        (joined (codes "taco: " ∷ path.now ∷ codes ": more than " ∷ decimal greatest_file_bytes ∷ codes " bytes\n" ∷ []))) }
+{
+    let pieces = [
+        Piece::Text(b"taco: "),
+        Piece::Text(path.as_bytes()),
+        Piece::Text(b": more than "),
+        Piece::Number(greatest_bytes_of_file()),
+        Piece::Text(b" bytes\n"),
+    ];
+    put_pieces(sink, &pieces)
 }
 
 /// Appends the line that says this of a tensor.
@@ -202,14 +303,7 @@ fn put_binding_line<S: Sink>(
     ensures part { IfErr result (AppendsPart (S.state sink.old) (S.state sink.new) (binding_line statement.now fault.now)) }
 {
     match fault {
-        BindingFault::Word { word, fault } => {
-            let pieces = [
-                Piece::Text(b"taco: word "),
-                Piece::Number(*word as u64),
-                Piece::Text(text_of_word(*fault)),
-            ];
-            put_pieces(sink, &pieces)
-        }
+        BindingFault::Word { word, fault } => put_word_line(sink, *word, *fault),
         BindingFault::NoFile { tensor } => put_of_tensor(sink, statement, *tensor, b": no file\n"),
         BindingFault::BadFormat { tensor, fault } => put_of_tensor(
             sink,
@@ -437,7 +531,7 @@ pub fn put_line<S: Sink>(sink: &mut S, fault: &Fault<'_>) -> Result<(), Refusal>
         Fault::Named { statement, fault } => put_named_line(sink, statement, fault),
         Fault::WorkspaceLimit(count) => put_workspace(sink, *count),
         Fault::ReadFault(path) => put_of_path(sink, path, b": read fault\n"),
-        Fault::FileBytes(path) => put_of_path(sink, path, b": more than 1099511627776 bytes\n"),
+        Fault::FileBytes(path) => put_file_bytes(sink, path),
         Fault::BadFile { path, line, kind } => put_bad_line(sink, path, *line, *kind),
         Fault::WriteFault(None) => put_all(sink, b"taco: standard output: write fault\n"),
         Fault::WriteFault(Some(path)) => put_of_path(sink, path, b": write fault\n"),
