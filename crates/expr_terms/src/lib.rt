@@ -18,7 +18,7 @@ pub use group::{Group, Groups};
 pub use grouping::groups;
 pub use lookups::coords_at;
 pub use minus::has_meaning;
-pub use names::{NameFault, check_names, checked_statements_are_well_named, one_fault_of_names};
+pub use names::{NameFault, check_names};
 pub use range::ranges;
 pub use range_fault::RangeFault;
 pub use term::{Term, own_variables, stands_in, terms};

@@ -1,8 +1,7 @@
-ghost use Rattle.std.specs.Prelude.{◌≡◌, ◌↔◌, ℕ, List, ◌∷◌, IsTrue, Contains, MatchOption, MatchResult};
+ghost use Rattle.std.specs.Prelude.{◌↔◌, ◌∷◌, IsTrue, Contains, MatchOption, MatchResult};
 ghost use Rattle.lists.specs.Each.{Each};
 ghost use Rattle.index_notation.specs.declared.syntax.Statement.{Statement};
-ghost use Rattle.index_notation.specs.Statement.{HaveOneOrder, IsDistinct, IsWellNamed};
-ghost use Rattle.index_notation.specs.Notation.{IsNotationOf};
+ghost use Rattle.index_notation.specs.Statement.{HaveOneOrder, IsDistinct};
 ghost use Rattle.expr_terms.specs.Names.{RepeatsFirst, IsFaultless, HasFault, HasNoNameFault, IsFirstNameFault};
 
 use index_notation::{Access, Statement};
@@ -93,14 +92,3 @@ pub fn check_names(statement: &Statement) -> Result<(), NameFault>
     }
     Ok(())
 }
-
-/// The statement of a text whose names have no fault is well named.
-pub fn checked_statements_are_well_named()
-    ensures { (text : List ℕ) (s : Statement) → IsNotationOf text s → HasNoNameFault s → IsWellNamed s }
-{}
-
-/// A statement has one fault of its names at most, and none beside the fact that it has none.
-pub fn one_fault_of_names()
-    ensures one { (s : Statement) (f g : NameFault) → IsFirstNameFault s f → IsFirstNameFault s g → f ≡ g }
-    ensures never_both { (s : Statement) (f : NameFault) → HasNoNameFault s → IsFirstNameFault s f → ⊥ }
-{}

@@ -87,7 +87,7 @@ fn copy_real_file<R: Files + Print + AllocGlobal>(rt: &R, text: &[u8]) -> Result
     Ok(answer)
 }
 
-// Each law is the contract of a call that does nothing.
+// Each claim is the contract of a call that does nothing.
 fn call_laws() {
     tensors_have_one_text();
     written_texts_stand_for_their_tensor();

@@ -7,7 +7,7 @@ ghost use Rattle.generated_runs.specs.Workloads.{IsWorkload};
 
 use crate::computing::compute;
 use crate::tensors::generate;
-use numbers::{add, ring_keeps_laws, zero};
+use numbers::{add, zero};
 use reports::Workload;
 use std::alloc::{AllocError, Global};
 use tensor_map::Entries;
@@ -16,7 +16,6 @@ use tensor_map::Entries;
 fn sum_of(entries: &Entries) -> u64
     ensures { result ≡ total_of ring (map (λ entry. entry.value) entries.now.list) }
 {
-    ring_keeps_laws();
     let mut sum = zero();
     for i in 0..entries.len() {
         sum = add(sum, entries.value(i));

@@ -52,9 +52,11 @@ numbers_fit from (suc count) most each h =
 
 -- the entries of such a tensor may be written
 pub written : (a : Arithmetic) (s : Statement) (operands : List Entries) (ranges : ℕ → ℕ) (shape : List ℕ) (entries : Entries)
-    → IsTensorOf a s operands ranges shape entries → (is_matrix : Bool) → (is_matrix ≡ true → IsMatrixOrder (length s.left.vars))
+    → AreEntries entries → IsTensorOf a s operands ranges shape entries → (is_matrix : Bool)
+    → (is_matrix ≡ true → IsMatrixOrder (length s.left.vars))
     → MayBeWritten is_matrix shape entries
-written a s operands ranges shape entries t is_matrix order = record {
+written a s operands ranges shape entries are t is_matrix order = record {
+  are = are;
   order_is = t.order_is;
   below = t.below;
   increasing = t.increasing;

@@ -19,7 +19,6 @@ pub(crate) fn entries_of<S: Semiring>(alloc: Global, tensor: &Tensor) -> Result<
 {
     let mut entries = tensor.to_entries::<S>(alloc)?;
     entries.nonzero::<S>();
-    let _count = entries.len();
     Ok(entries)
 }
 

@@ -20,6 +20,5 @@ pub mod FillLaws
 pub mod DrainSteps
 pub mod DrainLaws
 pub mod EmitLaws
-pub mod FirstTests
 pub mod PlaceSteps
 pub mod CountSteps

@@ -7,6 +7,5 @@ pub mod Values
 pub mod Growing
 pub mod Filling
 pub mod Draining
-pub mod FirstTest
 pub mod Placing
 pub mod Counting

@@ -1,7 +1,6 @@
 ghost use Rattle.std.specs.Prelude.{◌≡◌, ◌≤◌, ◌+◌, ◌^◌, IfOk};
 ghost use Rattle.kernel_code.specs.Keeps.{Below};
 ghost use Rattle.kernel_code.specs.declared.syntax.KExpr.{KExpr};
-ghost use Rattle.level_rows.specs.FirstTest.{TellsFirsts};
 ghost use Rattle.level_rows.specs.Draining.{row_code, drain_code, DrainsRows};
 
 use kernel_code::{
@@ -84,30 +83,6 @@ fn drain(
     code.push(KStmt::While(LoopKind::Drain, more, body))?;
     code.push(KStmt::If(KExpr::Var(base + 1), edges, Items::new(alloc)))?;
     Ok(code)
-}
-
-/// The expression that tells of a row of the workspace whether it begins a position of a unique level: it is the first, or has
-/// another parent than the row before, or another coordinate, which stands in the key `key`.
-pub fn first_of_rows(alloc: Global, at: DrainSite, key: u64) -> Result<KExpr, AllocError>
-    requires { at.base ≤ 2 ^ 62 }
-    ensures { IfOk result (TellsFirsts at.base at.list at.workspace key) }
-{
-    let base = at.base;
-    let keys = Arr::Key(at.workspace, key);
-    let start = binary(alloc, Op::Equal, KExpr::Var(base), KExpr::Num(0))?;
-    let turns = binary(
-        alloc,
-        Op::NotEqual,
-        KExpr::Var(base + 3),
-        KExpr::Var(base + 4),
-    )?;
-    let here = word_at(alloc, keys, KExpr::Var(base))?;
-    let earlier = binary(alloc, Op::Sub, KExpr::Var(base), KExpr::Num(1))?;
-    let before = word_at(alloc, keys, earlier)?;
-    let differs = binary(alloc, Op::NotEqual, here, before)?;
-    let either = binary(alloc, Op::Or, turns, differs)?;
-    let test = binary(alloc, Op::Or, start, either)?;
-    Ok(test)
 }
 
 /// Code that appends the rows of a workspace to a level of the result, whose kind is this one's, below so many `parents`: `first`

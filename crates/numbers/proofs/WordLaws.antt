@@ -94,6 +94,3 @@ word_sum_is x y h = mod-eq_of_lt h
 pub word_product_is : (x y : ℕ) → x * y < 2 ^ 64 → word_product x y ≡ x * y
 unfolding word_product
 word_product_is x y h = mod-eq_of_lt h
-
--- machine words compute in the ring
-pub ruleset word_laws = (sum_is_plus, difference_is_plus, product_is_times)

@@ -3,14 +3,13 @@
 //! alone, never by a remainder or the number 2^64. `Ring` is the instance that the program runs at.
 #![tactic(auto)]
 
-ghost use Rattle.std.specs.Prelude.{◌≡◌, ℕ, ◌<◌, ◌^◌};
-ghost use Rattle.numbers.specs.Arithmetic.{Laws, MinusLaws};
-ghost use Rattle.numbers.specs.Ring.{ring, word_sum, word_difference, word_product};
+ghost use Rattle.std.specs.Prelude.{◌≡◌};
+ghost use Rattle.numbers.specs.Ring.{ring};
 ghost use Rattle.numbers.specs.Signed.{signed_of, word_of_signed};
 
 mod semiring;
 
-pub use semiring::{Ring, Semiring, keeps_laws};
+pub use semiring::{Ring, Semiring};
 
 /// The word that a sum of values starts from.
 #[tactic(auto, unfolding(crate::specs::Ring::ring))]
@@ -65,17 +64,3 @@ pub fn unsigned(v: i64) -> u64
 {
     v.cast_unsigned()
 }
-
-/// Whole numbers modulo 2^64 keep the laws of sums and products, and one and minus one cancel.
-pub fn ring_keeps_laws()
-    ensures laws { Laws ring }
-    ensures minus { MinusLaws ring }
-{}
-
-/// What a machine computes of two words is what the ring says.
-#[tactic(auto, using(crate::proofs::WordLaws::word_laws))]
-pub fn machine_words_are_the_ring()
-    ensures sums { (x y : ℕ) → word_sum x y ≡ ring.plus x y }
-    ensures differences { (x y : ℕ) → y < 2 ^ 64 → word_difference x y ≡ ring.plus x (ring.times ring.minus_one y) }
-    ensures products { (x y : ℕ) → word_product x y ≡ ring.times x y }
-{}

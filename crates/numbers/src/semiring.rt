@@ -79,9 +79,3 @@ impl Semiring for Ring {
 
     ghost minus_laws = { λ _. ring_minus_laws };
 }
-
-/// The laws hold of every semiring.
-pub fn keeps_laws<S: Semiring>()
-    ensures laws { Laws S.arithmetic }
-    ensures minus { S.has_minus ≡ true → MinusLaws S.arithmetic }
-{}

@@ -67,7 +67,6 @@ fn sum_up<S: Semiring>(entries: &mut Entries) -> Result<(), AllocError>
     ensures summed { OnOk result (AreSummed S.arithmetic entries.old.order entries.old.list entries.new.list) }
 {
     entries.sort_sum::<S>()?;
-    let _count = entries.len();
     Ok(())
 }
 

@@ -1,5 +1,4 @@
-pub mod CoordinateSteps
-pub mod DenseEntries
+pub mod SmallCoordinates
 pub mod FileTexts
 pub mod FilledFiles
 pub mod ResultTexts

@@ -1,14 +1,10 @@
--- What a result's text depends on, and which entries may be written.
-use Rattle.std.specs.Prelude.{◌≡◌, ℕ, Bool, true, false, List, [], ◌∷◌, ◌++◌, length, Option, refl}
+-- What a result's text depends on.
+use Rattle.std.specs.Prelude.{◌≡◌, ℕ, Bool, true, false, List, [], ◌∷◌, ◌++◌, Option, refl}
 use Rattle.std.specs.List.{flat_map}
-use Rattle.std.proofs.Common.{sym, subst, ◌∙◌, inl, inr}
+use Rattle.std.proofs.Common.{sym, ◌∙◌, inl, inr}
 use Rattle.numbers.specs.Arithmetic.{Arithmetic}
-use Rattle.tensor_map.specs.Entries.{Entries}
 use Rattle.tns_io.specs.Positions.{IsBelow}
 use Rattle.tns_io.specs.Text.{IsAmong, line_text}
-use Rattle.mtx_io.specs.Progress.{IsMatrixOrder}
-use Rattle.result_files.specs.Dense.{AreDense}
-use Rattle.result_files.specs.EntriesText.{MayBeWritten}
 use Rattle.result_files.specs.ResultText.{IsResultText, IsTextIn, asks_matrix}
 
 same_lines : (value other : List ℕ → ℕ) (places : List (List ℕ))
@@ -42,13 +38,3 @@ pub same_text : (a : Arithmetic) (path : Option (List ℕ)) (ranges : List ℕ) 
     → ((coords : List ℕ) → IsBelow ranges coords → value coords ≡ other coords)
     → IsResultText a path ranges value text → IsResultText a path ranges other text
 same_text a path ranges value other text same is = same_in a ranges value other text same (asks_matrix path) is
-
-pub dense_may_be_written : (a : Arithmetic) (is_matrix : Bool) (sizes values : List ℕ) (entries : Entries)
-    → AreDense a sizes values entries
-    → (is_matrix ≡ true → IsMatrixOrder (length sizes)) → MayBeWritten is_matrix sizes entries
-dense_may_be_written a is_matrix sizes values entries are order = record {
-  order_is = are.order_is;
-  below = are.below;
-  increasing = are.increasing;
-  matrix = λ asks. subst IsMatrixOrder (sym are.order_is) (order asks);
-}

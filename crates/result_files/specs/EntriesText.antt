@@ -1,7 +1,7 @@
 -- The text of a result's entries.
 use Rattle.std.specs.Prelude.{◌≡◌, ℕ, Bool, true, List, length, filter, All, if◌then◌else◌}
 use Rattle.numbers.specs.Arithmetic.{Arithmetic}
-use Rattle.tensor_map.specs.Entries.{Entries, StrictlyIncreasing, is_nonzero}
+use Rattle.tensor_map.specs.Entries.{AreEntries, Entries, StrictlyIncreasing, is_nonzero}
 use Rattle.tensor_map.specs.declared.entries.Entry.{Entry}
 use Rattle.tns_io.specs.Positions.{IsBelow}
 use Rattle.tns_io.specs.Text.{entries_text}
@@ -13,8 +13,9 @@ abbrev pub result_text : Bool → Arithmetic → List ℕ → List Entry → Lis
 result_text is_matrix a ranges entries =
     if is_matrix then matrix_text ranges (filter (is_nonzero a) entries) else entries_text a entries
 
--- the entries are below the ranges and increase, and a matrix has order 1 or 2
+-- what is true of all entries, and they are below the ranges and increase, and a matrix has order 1 or 2
 pub record MayBeWritten (is_matrix : Bool) (ranges : List ℕ) (entries : Entries) : Type 0 where
+  pub are : AreEntries entries
   pub order_is : entries.order ≡ length ranges
   pub below : All (λ entry. IsBelow ranges entry.coords) entries.list
   pub increasing : StrictlyIncreasing entries.list

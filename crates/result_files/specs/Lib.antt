@@ -1,6 +1,4 @@
-pub mod Dense
 pub mod Refused
-pub mod Rows
 pub mod EntriesText
 pub mod Fills
 pub mod ResultText

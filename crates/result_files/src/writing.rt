@@ -64,8 +64,6 @@ pub fn write_result<S: Semiring, F: Folder, O: Sink>(
         (value_at S.arithmetic entries.now.list)
         (F.state files.old) (F.state files.new) (O.state out.old) (O.state out.new)) }
 {
-    // What is true of all entries is known where they are asked.
-    let _count = entries.len();
     let text = TensorText::<S> {
         is_matrix: is_matrix(path),
         shape,

@@ -114,6 +114,7 @@ impl Entries {
         ensures values { OnOk result (SameValues S.arithmetic self.old.list self.new.list) }
         ensures listed { OnOk result (SameListed self.old.list self.new.list) }
         ensures increasing { OnOk result (StrictlyIncreasing self.new.list) }
+        ensures entries { AreEntries self.new }
         ensures shorter { length self.new.list ≤ length self.old.list }
         ensures succeeds { IsOk result }
     {
@@ -133,6 +134,7 @@ impl Entries {
         ensures none { NoneIsZero S.arithmetic self.new.list }
         ensures values { SameValues S.arithmetic self.old.list self.new.list }
         ensures increasing { StrictlyIncreasing self.old.list → StrictlyIncreasing self.new.list }
+        ensures entries { AreEntries self.new }
     {
         self.list.retain(|entry| entry.value != S::zero());
     }

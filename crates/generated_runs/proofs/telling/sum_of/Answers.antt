@@ -1,6 +1,7 @@
 use Rattle.std.specs.Prelude.{◌<◌, ◌^◌, [], take}
 use Rattle.std.proofs.Common.{◌∙◌, ap, subst, arith}
 use Rattle.numbers.specs.Ring.{ring}
+use Rattle.numbers.specs.RingLaws.{ring_laws}
 use Rattle.numbers.specs.Sums.{total_of}
 use Rattle.tensor_map.specs.declared.entries.Entry.{Entry}
 use Rattle.generated_runs.proofs.Totals.{values_of, total_more}
@@ -16,4 +17,4 @@ loop-i-preserved c =
     let fits = subst (λ v. v < 2 ^ 64) (c.value.ensures nothing) c.value.type_inv in
     c.add-sum.ensures ∙ ap (λ sum. ring.plus sum c.value.result) c.loop-i.invariant
     ∙ ap (ring.plus (total_of ring (values_of (take c.loop-i.i entries)))) (c.value.ensures nothing)
-    ∙ total_more ring c.ring_keeps_laws.ensures.laws entries c.loop-i.i nothing (omega arith) fits
+    ∙ total_more ring ring_laws entries c.loop-i.i nothing (omega arith) fits

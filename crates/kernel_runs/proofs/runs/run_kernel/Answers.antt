@@ -152,4 +152,4 @@ returns-clause-written g c =
     c.keeps_rules.ensures c.in_ok-tensors.tensors.items c.in_ok-tensors.ensures c.deref-2.result.now c.deref-2.ensures.value
     c.in-Ok.pair.0 c.in-Ok.pair.1 c.in_ok-entries.entries c.in_ok-shape.shape c.deref-4.result.now c.in-Ok.ensures
     c.in_ok-entries.ensures.lists c.in_ok-entries.ensures.entries c.deref-4.ensures.value c.in_ok-shape.ensures in
-    written a s operands _ c.in_ok-shape.shape c.in_ok-entries.entries run.tensor_of
+    written a s operands _ c.in_ok-shape.shape c.in_ok-entries.entries c.in_ok-entries.ensures.entries run.tensor_of

@@ -13,7 +13,7 @@ returns-in-Some-clause-written g c =
     let text : List ℕ = result_text c.is_matrix.result a c.args.shape.now entries.list in
     let path = ap (option_map (λ path. path.now)) c.in-Some.is in
     on_ok_weaker c.write_file.result
-    (λ whole. result_written a g.met.S.Semiring.laws c.args.shape.now entries c.len-count.ensures.entries _ c.is_matrix.result
+    (λ whole. result_written a g.met.S.Semiring.laws c.args.shape.now entries c.requires.are _ c.is_matrix.result
     c.is_matrix.ensures c.requires _ _ (g.O.Sink.state c.args.out.now) _
     (put_in_file _ text _ _ (g.O.Sink.state c.args.out.now) (g.O.Sink.state c.args.out.now) c.in-Some.path.now path whole))
     c.write_file.ensures.whole
@@ -25,7 +25,7 @@ returns-in-Some-clause-refused g c =
     let text : List ℕ = result_text c.is_matrix.result a c.args.shape.now entries.list in
     let path = ap (option_map (λ path. path.now)) c.in-Some.is in
     IfErr-weaker c.write_file.result _ _
-    (λ why part. result_refused a g.met.S.Semiring.laws c.args.shape.now entries c.len-count.ensures.entries _ c.is_matrix.result
+    (λ why part. result_refused a g.met.S.Semiring.laws c.args.shape.now entries c.requires.are _ c.is_matrix.result
     c.is_matrix.ensures c.requires _ _ (g.O.Sink.state c.args.out.now) _ why
     (part_in_file _ text _ _ (g.O.Sink.state c.args.out.now) (g.O.Sink.state c.args.out.now) c.in-Some.path.now why path part))
     c.write_file.ensures.part
@@ -37,7 +37,7 @@ returns-in-None-clause-written g c =
     let text : List ℕ = result_text c.is_matrix.result a c.args.shape.now entries.list in
     let path = ap (option_map (λ path. path.now)) c.in-None.is in
     on_ok_weaker c.print_text.result
-    (λ whole. result_written a g.met.S.Semiring.laws c.args.shape.now entries c.len-count.ensures.entries _ c.is_matrix.result
+    (λ whole. result_written a g.met.S.Semiring.laws c.args.shape.now entries c.requires.are _ c.is_matrix.result
     c.is_matrix.ensures c.requires (g.F.Folder.state c.args.files.now) _ _ _
     (put_out _ text (g.F.Folder.state c.args.files.now) (g.F.Folder.state c.args.files.now) _ _ path whole))
     c.print_text.ensures.whole
@@ -49,7 +49,7 @@ returns-in-None-clause-refused g c =
     let text : List ℕ = result_text c.is_matrix.result a c.args.shape.now entries.list in
     let path = ap (option_map (λ path. path.now)) c.in-None.is in
     IfErr-weaker c.print_text.result _ _
-    (λ why part. result_refused a g.met.S.Semiring.laws c.args.shape.now entries c.len-count.ensures.entries _ c.is_matrix.result
+    (λ why part. result_refused a g.met.S.Semiring.laws c.args.shape.now entries c.requires.are _ c.is_matrix.result
     c.is_matrix.ensures c.requires (g.F.Folder.state c.args.files.now) _ _ _ why
     (part_put_out _ text (g.F.Folder.state c.args.files.now) (g.F.Folder.state c.args.files.now) _ _ why path part))
     c.print_text.ensures.part

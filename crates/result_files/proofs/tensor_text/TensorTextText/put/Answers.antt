@@ -1,4 +1,4 @@
-use Rattle.result_files.proofs.CoordinateSteps.{below_small}
+use Rattle.result_files.proofs.SmallCoordinates.{below_small}
 use Rattle.result_files.proofs.tensor_text.TensorTextText.put.Goals as goal
 
 pub put_tns-requires : goal.put_tns-requires

@@ -25,3 +25,6 @@ returns-clause-listed g c = rw (← c.self.view_is) (all_of g c).listed
 
 pub returns-clause-increasing : goal.returns-clause-increasing
 returns-clause-increasing g c = (all_of g c).increasing
+
+pub returns-clause-entries : goal.returns-clause-entries
+returns-clause-entries g c = record { short = c.self.invariant.short; each = (all_of g c).each _ c.self.invariant.each }
