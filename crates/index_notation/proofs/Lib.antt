@@ -1,3 +1,4 @@
 pub mod NumberingLaws
+pub mod OperatorLaws
 pub mod StatementLaws
 pub mod TokenLaws
