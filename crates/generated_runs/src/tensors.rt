@@ -57,7 +57,7 @@ fn draw_tensor(alloc: Global, draws: &mut Draws, n: u64) -> Result<Entries, Allo
 
 /// The operands B, C and D of the workload of this size, in this order: each of as many rows, columns and drawn entries, of which those
 /// with equal coordinates are added. Refused only for want of memory.
-pub fn generate(alloc: Global, n: u64) -> Result<(Entries, Entries, Entries), AllocError>
+pub(crate) fn generate(alloc: Global, n: u64) -> Result<(Entries, Entries, Entries), AllocError>
     requires { n ≤ greatest_workload }
     ensures { IfOk result (λ operands. IsGenerated n 0 operands.0 × IsGenerated n 1 operands.1 × IsGenerated n 2 operands.2) }
 {

@@ -11,7 +11,7 @@ use outside::{Refusal, Sink};
 use text_lines::{Piece, put_all, put_pieces};
 
 /// The bytes of a name, by its number: none where there is no such name.
-pub fn name_of(names: &[Name], number: usize) -> &[u8]
+pub(crate) fn name_of(names: &[Name], number: usize) -> &[u8]
     ensures { result.now ≡ bytes_of (slice_get names.now number) }
 {
     match names.get(number) {
@@ -93,7 +93,7 @@ fn put_tensors<S: Sink>(sink: &mut S, names: &[Name], formats: &[Format]) -> Res
 /// Appends what stands before the kernel of a statement: a line of its variables in the order of their loops, and one for each tensor
 /// with its number, name and format. After a refusal a part of it at its front was appended. It takes no memory but what the sink
 /// takes.
-pub fn put_heading<S: Sink>(
+pub(crate) fn put_heading<S: Sink>(
     sink: &mut S,
     statement: &Statement,
     order: &[usize],

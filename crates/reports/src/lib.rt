@@ -7,8 +7,10 @@ mod kernels;
 mod runs;
 mod turns;
 mod workload;
+mod workloads;
 
 pub use kernels::print_kernel_report;
 pub use runs::print_run_report;
 pub use turns::put_turns;
-pub use workload::{Workload, print_workload};
+pub use workload::Workload;
+pub use workloads::print_workload;

@@ -1,14 +1,12 @@
-// What the run of a generated workload tells, and how it is printed.
+// What the run of a generated workload tells.
 ghost use Rattle.std.specs.Prelude.{OnOk, IfErr};
 ghost use Rattle.outside.specs.Sink.{Appends};
 ghost use Rattle.text_lines.specs.Puts.{AppendsPart};
-ghost use Rattle.result_files.specs.Writes.{PutsAll, PutsFront};
 ghost use Rattle.reports.specs.Reports.{workload_line};
 
 use kernel_code::Turns;
 use numbers::signed;
 use outside::{Refusal, Sink};
-use result_files::{Text, WriteRefusal, print_text};
 use text_lines::{Piece, put_pieces};
 
 /// What the run of a generated workload tells: its size, how many entries each operand has, the turns that loops made and what they
@@ -27,7 +25,7 @@ pub struct Workload {
 
 /// Appends the line of a generated workload. After a refusal a part of it at its front was appended. It takes no memory but what the
 /// sink takes.
-fn put_workload<S: Sink>(sink: &mut S, workload: &Workload) -> Result<(), Refusal>
+pub(crate) fn put_workload<S: Sink>(sink: &mut S, workload: &Workload) -> Result<(), Refusal>
     ensures whole { OnOk result (Appends (S.state sink.old) (S.state sink.new) (workload_line workload.now)) }
     ensures part { IfErr result (AppendsPart (S.state sink.old) (S.state sink.new) (workload_line workload.now)) }
 {
@@ -62,29 +60,4 @@ fn put_workload<S: Sink>(sink: &mut S, workload: &Workload) -> Result<(), Refusa
             Piece::Text(b"\n"),
         ],
     )
-}
-
-/// The line of a generated workload.
-#[derive(Drop)]
-struct WorkloadLine<'a> {
-    workload: &'a Workload,
-}
-
-impl<'a> Text for WorkloadLine<'a> {
-    ghost text = { λ line. workload_line line.workload.now };
-
-    fn put<K: Sink>(&self, sink: &mut K) -> Result<(), Refusal> {
-        put_workload(sink, self.workload)
-    }
-}
-
-/// Prints the line of a generated workload, and finishes the output. It takes no memory but what the output takes.
-///
-/// A fault comes only where the output counted one, and want of memory only where it counted one. A front of the line stands
-/// there after a refusal.
-pub fn print_workload<O: Sink>(out: &mut O, workload: &Workload) -> Result<(), WriteRefusal>
-    ensures whole { OnOk result (PutsAll (O.state out.old) (O.state out.new) (workload_line workload.now)) }
-    ensures part { IfErr result (PutsFront (O.state out.old) (O.state out.new) (workload_line workload.now)) }
-{
-    print_text(out, &WorkloadLine { workload })
 }

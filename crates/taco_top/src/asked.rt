@@ -120,7 +120,7 @@ fn ask_statement<'a>(
 
 /// What the words of the command line ask for, or the first refusal in order: of the command line, the statement's text, its
 /// names, the words behind it, missing files where the task reads them, formats. Refused for want of memory besides.
-pub fn ask<'a>(alloc: Global, words: &'a [String]) -> Result<Work<'a>, Fault<'a>>
+pub(crate) fn ask<'a>(alloc: Global, words: &'a [String]) -> Result<Work<'a>, Fault<'a>>
     ensures asked { IfOk result (IsAsked (map string_bytes words.now)) }
     ensures refused { IfErr result (IsRefusedByWords (map string_bytes words.now)) }
 {
