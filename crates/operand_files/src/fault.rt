@@ -1,8 +1,8 @@
 ghost use Rattle.std.specs.Prelude.{◌≡◌};
 ghost use Rattle.operand_files.specs.declared.fault.OperandFault.TheVariants.{Memory};
 
-use text_lines::LineKind;
 use std::alloc::{AllocError, AllocFailed};
+use text_lines::LineKind;
 
 /// Why the operands of a statement aren't read.
 #[derive(Debug, Drop)]

@@ -3,12 +3,12 @@ ghost use Rattle.std.specs.Prelude.{◌≡◌, OnOk, IfErr, length};
 ghost use Rattle.result_files.specs.Writes.{PutsAll, PutsFront};
 ghost use Rattle.reports.specs.Reports.{kernel_report};
 
+use crate::heading::put_heading;
 use format_spec::Format;
 use index_notation::Statement;
 use kernel_code::Kernel;
 use kernel_print::put_kernel;
 use outside::{Refusal, Sink};
-use crate::heading::put_heading;
 use result_files::{Text, WriteRefusal, print_text};
 
 /// A kernel with its statement, the order of the loops and the formats of the tensors.

@@ -5,9 +5,9 @@ ghost use Rattle.outside.specs.Folder.{FolderState};
 ghost use Rattle.taco_top.specs.Causes.{IsAccepted, IsKernelOf, Stops};
 ghost use Rattle.taco_top.specs.Run.{AsksFor, request_of};
 
+use crate::asked::Asked;
 use numbers::Ring;
 use refusals::{Fault, NamedFault};
-use crate::asked::Asked;
 use std::alloc::Global;
 use taco_compiler::{CompileFault, Compiled, compile};
 

@@ -13,6 +13,7 @@ ghost use Rattle.taco_top.specs.Causes.{IsAccepted, IsKernelOf, Stops};
 ghost use Rattle.taco_top.specs.Run.{request_of};
 ghost use Rattle.taco_top.specs.Prepared.{IsPrepared, IsUncomputed};
 
+use crate::asked::Asked;
 use crate::asking::Accepted;
 use crate::operands::{operands_of, path_of};
 use bindings::Bindings;
@@ -22,7 +23,6 @@ use kernel_runs::{KernelRun, RunFault, run_kernel};
 use numbers::Ring;
 use outside::Folder;
 use refusals::{Fault, NamedFault};
-use crate::asked::Asked;
 use std::alloc::{AllocError, Global};
 use taco_compiler::Compiled;
 

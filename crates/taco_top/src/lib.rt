@@ -14,5 +14,7 @@ mod printing;
 mod top;
 mod writing;
 
-pub use laws::{one_request_a_command_line, texts_are_printed, usage_is_of_words_alone, whole_input_is_computed};
+pub use laws::{
+    one_request_a_command_line, texts_are_printed, usage_is_of_words_alone, whole_input_is_computed,
+};
 pub use top::taco;

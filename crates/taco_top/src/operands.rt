@@ -8,13 +8,13 @@ ghost use Rattle.taco_top.specs.Asked.{needs_files};
 ghost use Rattle.taco_top.specs.Causes.{IsAccepted, HasOperands, Stops};
 ghost use Rattle.taco_top.specs.Run.{orders_of as orders_of_operands, path_of as path_of_tensor, paths_of as paths_of_operands, request_of};
 
+use crate::asked::Asked;
 use bindings::{Bindings, order_of};
 use index_notation::Statement;
 use numbers::Ring;
 use operand_files::{OperandFault, Operands, read_operands};
 use outside::Folder;
 use refusals::Fault;
-use crate::asked::Asked;
 use std::alloc::{AllocError, Global};
 
 /// The path of a tensor's file, if it has one.

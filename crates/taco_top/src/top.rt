@@ -7,6 +7,7 @@ ghost use Rattle.taco_top.specs.Ends.{Cause, Ends};
 ghost use Rattle.taco_top.specs.Run.{AsksFor, request_of};
 ghost use Rattle.taco_top.specs.Prepared.{end_of};
 
+use crate::asked::{Asked, Work, ask};
 use crate::asking::{Accepted, accept};
 use crate::computing::compute;
 use crate::ending::Done;
@@ -16,7 +17,6 @@ use command_line::Task;
 use outside::{Folder, Sink};
 use refusals::{Fault, put_line};
 use reports::put_turns;
-use crate::asked::{Asked, Work, ask};
 use std::alloc::Global;
 
 /// Writes the result of what the words ask for.

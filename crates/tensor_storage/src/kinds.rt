@@ -16,7 +16,11 @@ use singleton_level::SingletonLevel;
 use std::alloc::{AllocError, Global};
 
 /// A level of this kind, for coordinates below `size`. Refused for want of memory alone.
-pub(crate) fn new_level(alloc: Global, letter: Letter, size: u64) -> Result<StorageLevel, AllocError>
+pub(crate) fn new_level(
+    alloc: Global,
+    letter: Letter,
+    size: u64,
+) -> Result<StorageLevel, AllocError>
     requires { size ≤ greatest_position_count }
     ensures { IfOk result (IsNew meaning letter size) }
 {
