@@ -32,7 +32,7 @@ fn put_piece<S: Sink>(sink: &mut S, piece: &Piece<'_>) -> Result<(), Refusal>
 
 /// Appends pieces one after another. After a refusal a part of their text at its front was appended. It takes no memory but what
 /// the sink takes, and calls itself for each piece.
-#[tactic(auto, using(text_lines::proofs::PutsLemmas::part_of_first, text_lines::proofs::PutsLemmas::part_of_second))]
+#[tactic(auto, using(crate::proofs::PutsLemmas::part_of_first, crate::proofs::PutsLemmas::part_of_second))]
 pub fn put_pieces<S: Sink>(sink: &mut S, pieces: &[Piece<'_>]) -> Result<(), Refusal>
     ensures whole { OnOk result (Appends (S.state sink.old) (S.state sink.new) (joined (map piece_text pieces.now))) }
     ensures part { IfErr result (AppendsPart (S.state sink.old) (S.state sink.new) (joined (map piece_text pieces.now))) }
