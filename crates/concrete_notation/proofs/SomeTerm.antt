@@ -2,14 +2,12 @@
 use Rattle.std.specs.Prelude.{map}
 use Rattle.std.proofs.Common.{sym, subst, inl}
 use denote.Hole.Carrier.{hidden}
-use Rattle.index_notation.specs.declared.syntax.Expr.{Expr, map-Expr, Num, Access as AccessOf, Binary, Neg}
-use Rattle.index_notation.specs.declared.syntax.Expr.TheVariants.{rolls-Num, rolls-Access, rolls-Binary, rolls-Neg}
+use Rattle.index_notation.specs.declared.syntax.Expr.{Expr, map-Expr, Num, Access as AccessOf, Add, Sub, Mul, Neg}
+use Rattle.index_notation.specs.declared.syntax.Expr.TheVariants.{rolls-Num, rolls-Access, rolls-Add, rolls-Sub, rolls-Mul, rolls-Neg}
 use Rattle.index_notation.specs.declared.syntax.Expr.TheBlock.{hidden-the_row-Expr-0}
 use Rattle.index_notation.specs.declared.syntax.Expr.TheFolds.{ind-Expr}
 use Rattle.index_notation.specs.declared.syntax.Expr.TheViews.{roll-Expr}
 use Rattle.index_notation.specs.declared.syntax.Expr.TheOpen as view
-use Rattle.index_notation.specs.declared.syntax.Operator.{Operator}
-use Rattle.index_notation.specs.declared.syntax.Operator.TheVariants.{Add, Sub, Mul}
 use Rattle.expr_terms.specs.Terms.{terms, negated_term}
 use Rattle.expr_terms.specs.declared.term.Term.{Term}
 use Rattle.expr_terms.proofs.TermSums.{signed_add, signed_sub, signed_neg}
@@ -32,21 +30,16 @@ access_has : (k : _) → HasTerm (AccessOf k)
 unfolding hidden-the_row-Expr-0 hidden
 access_has k = inl tt
 
-product_has : (e f : Expr) → HasTerm (Binary Mul e f)
+product_has : (e f : Expr) → HasTerm (Mul e f)
 unfolding hidden-the_row-Expr-0 hidden
 product_has e f = inl tt
 
-sum_has : (e f : Expr) → HasTerm e → HasTerm (Binary Add e f)
+sum_has : (e f : Expr) → HasTerm e → HasTerm (Add e f)
 sum_has e f h = subst (IsSome AnyTerm) (sym (signed_add false e f)) (some_first AnyTerm (terms e) (terms f) h)
 
-difference_has : (e f : Expr) → HasTerm e → HasTerm (Binary Sub e f)
+difference_has : (e f : Expr) → HasTerm e → HasTerm (Sub e f)
 difference_has e f h =
     subst (IsSome AnyTerm) (sym (signed_sub false e f)) (some_first AnyTerm (terms e) (map negated_term (terms f)) h)
-
-operator_has : (o : Operator) (e f : Expr) → HasTerm e → HasTerm (Binary o e f)
-operator_has Add e f h = sum_has e f h
-operator_has Sub e f h = difference_has e f h
-operator_has Mul e f h = product_has e f
 
 negation_has : (e : Expr) → HasTerm e → HasTerm (Neg e)
 negation_has e h = subst (IsSome AnyTerm) (sym (signed_neg false e)) (mapped_some AnyTerm negated_term (terms e) h)
@@ -54,7 +47,9 @@ negation_has e h = subst (IsSome AnyTerm) (sym (signed_neg false e)) (mapped_som
 layer_has : (y : view.Expr-F ((e : Expr) × HasTerm e)) → HasTerm (roll-Expr (map-Expr ((e : Expr) × HasTerm e) Expr (λ e. e.0) y))
 layer_has (view.Num n) = subst HasTerm (sym (rolls-Num n)) (number_has n)
 layer_has (view.Access k) = subst HasTerm (sym (rolls-Access k)) (access_has k)
-layer_has (view.Binary o e f) = subst HasTerm (sym (rolls-Binary o e.0 f.0)) (operator_has o e.0 f.0 e.1)
+layer_has (view.Add e f) = subst HasTerm (sym (rolls-Add e.0 f.0)) (sum_has e.0 f.0 e.1)
+layer_has (view.Sub e f) = subst HasTerm (sym (rolls-Sub e.0 f.0)) (difference_has e.0 f.0 e.1)
+layer_has (view.Mul e f) = subst HasTerm (sym (rolls-Mul e.0 f.0)) (product_has e.0 f.0)
 layer_has (view.Neg e) = subst HasTerm (sym (rolls-Neg e.0)) (negation_has e.0 e.1)
 
 pub has_term : (e : Expr) → HasTerm e

@@ -9,9 +9,8 @@ use Rattle.lists.specs.Each.{Each}
 use Rattle.lists.proofs.Each.{each_append}
 use Rattle.format_spec.specs.declared.format.FormatLevel.{FormatLevel}
 use Rattle.index_notation.specs.Statement.{IsNumbered}
-use Rattle.index_notation.specs.declared.syntax.Expr.{Expr, Num, Access as AccessOf, Binary', Neg', Row_of-Expr, end_of-Expr}
+use Rattle.index_notation.specs.declared.syntax.Expr.{Expr, Num, Access as AccessOf, Add', Sub', Mul', Neg', Row_of-Expr, end_of-Expr}
 use Rattle.index_notation.specs.declared.syntax.Expr.{more_of-Expr}
-use Rattle.index_notation.specs.declared.syntax.Operator.TheVariants as operator
 use Rattle.index_notation.specs.declared.syntax.Statement.{Statement}
 use Rattle.iteration_graph.specs.Edges.{statement_edges}
 use Rattle.expr_terms.specs.Minus.{HasMeaning, has_minus, has_minus_in}
@@ -184,11 +183,11 @@ mutual
   plain_terms : (e : Expr) → has_minus e ≡ false → Each IsPlain (terms e)
   plain_terms (Num n) h = (record { expr = refl; sign = refl }, tt)
   plain_terms (AccessOf k) h = (record { expr = refl; sign = refl }, tt)
-  plain_terms (Binary' operator.Add p e q f) h =
+  plain_terms (Add' p e q f) h =
       let parts = neither (has_minus_in e) (has_minus_in f) h in
       each_append IsPlain (terms_in e) (terms_in f) (plain_terms_in e parts.0) (plain_terms_in f parts.1)
-  plain_terms (Binary' operator.Sub p e q f) h = cc
-  plain_terms (Binary' operator.Mul p e q f) h = (record { expr = h; sign = refl }, tt)
+  plain_terms (Sub' p e q f) h = cc
+  plain_terms (Mul' p e q f) h = (record { expr = h; sign = refl }, tt)
   plain_terms (Neg' p e) h = cc
 
   plain_terms_in : {m : _} (row : Row_of-Expr m) → has_minus_in row ≡ false → Each IsPlain (terms_in row)

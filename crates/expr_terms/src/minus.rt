@@ -2,7 +2,7 @@
 ghost use Rattle.std.specs.Prelude.{◌≡◌, IsTrue};
 ghost use Rattle.expr_terms.specs.Minus.{has_minus, HasMeaning};
 
-use index_notation::{Expr, Operator};
+use index_notation::Expr;
 use numbers::Semiring;
 
 /// Whether a minus stands in an expression.
@@ -11,11 +11,9 @@ fn has_minus(expr: &Expr) -> bool
 {
     match expr {
         Expr::Num(_) | Expr::Access(_) => false,
-        Expr::Binary(operator, first, second) => match operator {
-            Operator::Sub => true,
-            Operator::Add | Operator::Mul => has_minus(first.get()) || has_minus(second.get()),
-        },
-        Expr::Neg(_) => true,
+        Expr::Add(first, second) => has_minus(first.get()) || has_minus(second.get()),
+        Expr::Mul(first, second) => has_minus(first.get()) || has_minus(second.get()),
+        Expr::Sub(_, _) | Expr::Neg(_) => true,
     }
 }
 

@@ -1,4 +1,3 @@
 pub mod NumberingLaws
-pub mod OperatorLaws
 pub mod StatementLaws
 pub mod TokenLaws

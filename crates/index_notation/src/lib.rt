@@ -12,7 +12,5 @@ mod token;
 
 pub use fault::{Counted, NotationFault, SymbolFault};
 pub use symbol::{PlacedSymbol, Symbol};
-pub use syntax::{
-    Access, Expr, Name, Operator, Statement, binary, copy_access, copy_expr, copy_name,
-};
+pub use syntax::{Access, Expr, Name, Statement, copy_access, copy_expr, copy_name};
 pub use token::{Mark, Token, WrittenAccess};

@@ -3,14 +3,11 @@ use Rattle.std.specs.Prelude.{◌≡◌, ℕ, nat_eq, Bool, true, false, ◌||�
 use Rattle.std.proofs.Common.{◌∙◌, sym, ap, arith}
 use Rattle.std.proofs.lemmas.Bool.Decides.{nat_tests}
 use Rattle.numbers.specs.Arithmetic.{Arithmetic}
-use Rattle.index_notation.specs.declared.syntax.Expr.{Expr, Num, Access as AccessOf, Binary', Neg', Row_of-Expr, end_of-Expr}
+use Rattle.index_notation.specs.declared.syntax.Expr.{Expr, Num, Access as AccessOf, Add', Sub', Mul', Neg', Row_of-Expr, end_of-Expr}
 use Rattle.index_notation.specs.declared.syntax.Expr.{more_of-Expr}
-use Rattle.index_notation.specs.declared.syntax.Operator.{Operator}
-use Rattle.index_notation.specs.declared.syntax.Operator.TheVariants.{Add, Sub, Mul}
-use Rattle.index_notation.specs.Operators.{either_or_both}
 use Rattle.expr_terms.specs.Value.{minus}
 use Rattle.loop_code.specs.PresentValues.{both, either, each, present_value, present_value_in}
-use Rattle.loop_code.specs.Parts.{remains, remains_in, is_live_by, is_live, is_live_in, is_full, is_full_in}
+use Rattle.loop_code.specs.Parts.{remains, remains_in, is_live, is_live_in, is_full, is_full_in}
 
 pub neither : (a b : Bool) → (a || b) ≡ false → (a ≡ false) × (b ≡ false)
 neither true b h = cc
@@ -23,13 +20,6 @@ or_left false b h = absurd (cc h)
 pub or_right : (a b : Bool) → b ≡ true → (a || b) ≡ true
 or_right true b h = refl
 or_right false b h = h
-
--- an access in what remains of a whole stands in what remains of a side
-pub stands_live : (o : Operator) (both_remain stands : Bool) → is_live_by o both_remain stands ≡ true → stands ≡ true
-stands_live Add both_remain stands h = h
-stands_live Sub both_remain stands h = h
-stands_live Mul true stands h = h
-stands_live Mul false stands h = absurd (cc h)
 
 -- an access that isn't present has no value
 abbrev pub Within : (ℕ → Bool) → (ℕ → Option ℕ) → Type 0
@@ -59,15 +49,15 @@ module _ (a : Arithmetic) (P : ℕ → Bool) where
     pub none_remains : (values : ℕ → Option ℕ) → Within P values → (e : Expr) → remains P e ≡ false → present_value a values e ≡ None
     none_remains values s (Num n) h = absurd (cc h)
     none_remains values s (AccessOf k) h = s k h
-    none_remains values s (Binary' Add p e q f) h =
+    none_remains values s (Add' p e q f) h =
         let t = neither (remains_in P e) (remains_in P f) h in
         either_none (present_value_in a values e) (present_value_in a values f) (none_remains_in values s e t.0)
         (none_remains_in values s f t.1)
-    none_remains values s (Binary' Sub p e q f) h =
+    none_remains values s (Sub' p e q f) h =
         let t = neither (remains_in P e) (remains_in P f) h in
         either_none (present_value_in a values e) (each (minus a) (present_value_in a values f)) (none_remains_in values s e t.0)
         (each_none (present_value_in a values f) (none_remains_in values s f t.1))
-    none_remains values s (Binary' Mul p e q f) h =
+    none_remains values s (Mul' p e q f) h =
         both_not (remains_in P e) (remains_in P f) h (present_value_in a values e) (present_value_in a values f)
         (none_remains_in values s e)
         (none_remains_in values s f)
@@ -103,25 +93,25 @@ module _ (a : Arithmetic) (P : ℕ → Bool) where
         by_present : (b : Bool) → P k ≡ b → masked M values k ≡ values k
         by_present true is = ap (λ b. if b then values k else None) (c k (ap (λ b. b && P k) (same k) ∙ is))
         by_present false is = masked_within M values s k is ∙ sym (s k is)
-    masked_same M values s (Binary' Add p e q f) c =
+    masked_same M values s (Add' p e q f) c =
         ap (λ o. either a.plus o (present_value_in a (masked M values) f))
         (masked_same_in M values s e (λ k h. c k (or_left (is_live_in P e k) (is_live_in P f k) h)))
         ∙ ap (either a.plus (present_value_in a values e))
         (masked_same_in M values s f (λ k h. c k (or_right (is_live_in P e k) (is_live_in P f k) h)))
-    masked_same M values s (Binary' Sub p e q f) c =
+    masked_same M values s (Sub' p e q f) c =
         ap (λ o. either a.plus o (each (minus a) (present_value_in a (masked M values) f)))
         (masked_same_in M values s e (λ k h. c k (or_left (is_live_in P e k) (is_live_in P f k) h)))
         ∙ ap (λ o. either a.plus (present_value_in a values e) (each (minus a) o))
         (masked_same_in M values s f (λ k h. c k (or_right (is_live_in P e k) (is_live_in P f k) h)))
-    masked_same M values s (Binary' Mul p e q f) c =
+    masked_same M values s (Mul' p e q f) c =
         times_same (remains_in P e && remains_in P f) (present_value_in a (masked M values) e) (present_value_in a values e)
         (present_value_in a (masked M values) f) (present_value_in a values f)
         (λ is. masked_same_in M values s e (λ k h. c k
         (ap (λ b. b && (is_live_in P e k || is_live_in P f k)) is ∙ or_left (is_live_in P e k) (is_live_in P f k) h)))
         (λ is. masked_same_in M values s f (λ k h. c k
         (ap (λ b. b && (is_live_in P e k || is_live_in P f k)) is ∙ or_right (is_live_in P e k) (is_live_in P f k) h)))
-        (λ is. none_remains (masked M values) (masked_within M values s) (Binary' Mul p e q f) is
-        ∙ sym (none_remains values s (Binary' Mul p e q f) is))
+        (λ is. none_remains (masked M values) (masked_within M values s) (Mul' p e q f) is
+        ∙ sym (none_remains values s (Mul' p e q f) is))
     masked_same M values s (Neg' p e) c = ap (each (minus a)) (masked_same_in M values s e c)
 
     masked_same_in : {m : _} (M : ℕ → Bool) (values : ℕ → Option ℕ) → Within P values → (row : Row_of-Expr m)
@@ -131,15 +121,22 @@ module _ (a : Arithmetic) (P : ℕ → Bool) where
 
 -- where Q has of the accesses that are present those that are full alone, what is left is there exactly where the part is full
 module _ (F P Q : ℕ → Bool) (only_full : (k : ℕ) → Q k ≡ (F k && P k)) where
-  sides_same : (o : Operator) (a b c d : Bool) → a ≡ c → b ≡ d → either_or_both o a b ≡ either_or_both o c d
-  sides_same o a b c d h g = ap (λ x. either_or_both o x b) h ∙ ap (λ x. either_or_both o c x) g
+  or_same : (a b c d : Bool) → a ≡ c → b ≡ d → (a || b) ≡ (c || d)
+  or_same a b c d h g = ap (λ x. x || b) h ∙ ap (λ x. c || x) g
+
+  and_same : (a b c d : Bool) → a ≡ c → b ≡ d → (a && b) ≡ (c && d)
+  and_same a b c d h g = ap (λ x. x && b) h ∙ ap (λ x. c && x) g
 
   mutual
     pub full_remains : (e : Expr) → remains Q e ≡ is_full F P e
     full_remains (Num n) = refl
     full_remains (AccessOf k) = only_full k
-    full_remains (Binary' o p e q f) =
-        sides_same o (remains_in Q e) (remains_in Q f) (is_full_in F P e) (is_full_in F P f) (full_remains_in e) (full_remains_in f)
+    full_remains (Add' p e q f) =
+        or_same (remains_in Q e) (remains_in Q f) (is_full_in F P e) (is_full_in F P f) (full_remains_in e) (full_remains_in f)
+    full_remains (Sub' p e q f) =
+        or_same (remains_in Q e) (remains_in Q f) (is_full_in F P e) (is_full_in F P f) (full_remains_in e) (full_remains_in f)
+    full_remains (Mul' p e q f) =
+        and_same (remains_in Q e) (remains_in Q f) (is_full_in F P e) (is_full_in F P f) (full_remains_in e) (full_remains_in f)
     full_remains (Neg' p e) = full_remains_in e
 
     full_remains_in : {m : _} → (row : Row_of-Expr m) → remains_in Q row ≡ is_full_in F P row

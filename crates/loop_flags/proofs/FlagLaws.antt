@@ -1,21 +1,17 @@
 -- Flags tell of what is made of parts, where numbers among the parts settle it.
 use Rattle.std.specs.Prelude.{◌≡◌, ℕ, Bool, true, false, ◌||◌, ◌&&◌, List, Option, Some, Result, Ok, Err, IfOk, refl}
-use Rattle.std.proofs.Common.{◌∙◌, sym, ap, subst, inl, inr, arith}
+use Rattle.std.proofs.Common.{◌∙◌, sym, ap, subst, arith}
 use Rattle.kernel_code.specs.declared.syntax.Op.TheVariants.{And, Or}
 use Rattle.kernel_code.specs.declared.syntax.KExpr.{KExpr, Num, Bin}
 use Rattle.kernel_code.specs.Meaning.{State, word_of}
 use Rattle.index_notation.specs.declared.syntax.Expr.{Expr}
-use Rattle.index_notation.specs.declared.syntax.Operator.{Operator}
-use Rattle.index_notation.specs.declared.syntax.Operator.TheVariants.{Mul}
-use Rattle.index_notation.specs.Operators.{either_or_both}
-use Rattle.index_notation.proofs.OperatorLaws.{Joins}
 use Rattle.loop_code.specs.Loops.{Env}
 use Rattle.loop_code.specs.Parts.{here, remains}
 use Rattle.term_code.specs.declared.places.Places.{Places}
 use Rattle.term_code.specs.Places.{Keeps}
 use Rattle.term_code.specs.Presence.{Tells}
 use Rattle.term_code.proofs.PresenceLaws.{tells_either, tells_both}
-use Rattle.loop_flags.specs.Flags.{TellsEither, TellsBoth, TellsWhole, TellsFactor, TellsProduct}
+use Rattle.loop_flags.specs.Flags.{TellsEither, TellsBoth, TellsFactor, TellsProduct}
 
 pub if_flag : {E A : Type 0} (r : Result A E) (P Q : A → Type 0) → ((x : A) → P x → Q x) → IfOk r P → IfOk r Q
 if_flag (Ok x) P Q f h = f x h
@@ -120,13 +116,6 @@ module _ (x y : KExpr) where
   pub both_of_two : (flag : KExpr) → flag ≡ Bin And x y → TellsBoth x y flag
   both_of_two flag is places f g h k = subst (Tells places (λ env. f env && g env)) (sym is) (tells_both places f g x y h k)
 
-  pub whole_by_either : (o : Operator) → Joins o → (flag : KExpr) → TellsEither x y flag → TellsWhole o x y flag
-  whole_by_either o (inl is) flag told = subst (λ p. TellsWhole p x y flag) (sym is) told
-  whole_by_either o (inr is) flag told = subst (λ p. TellsWhole p x y flag) (sym is) told
-
-  pub whole_by_both : (o : Operator) → o ≡ Mul → (flag : KExpr) → TellsBoth x y flag → TellsWhole o x y flag
-  whole_by_both o is flag told = subst (λ p. TellsWhole p x y flag) (sym is) told
-
 first_is : (r q a b : Bool) → (a ≡ true → r ≡ true) → b ≡ false → (a && q) ≡ ((r && q) && (a || b))
 first_is true true true b is n = refl
 first_is true true false b is n = sym n
@@ -196,10 +185,10 @@ module _ {X : Type 0} (places : Places) (V : X → Env → Bool) where
       (tells_kept places (λ env. V e env || V f env) (V made) flag (λ bound env s at. sym (same env))
       (told places (V e) (V f) (subst (λ w. Tells places (V w) x) first one) (subst (λ w. Tells places (V w) y) second two)))
 
-  pub tells_sides : (o : Operator) (whole made e f e' f' : X) (x y flag : KExpr) → whole ≡ made → e' ≡ e → f' ≡ f
-      → ((env : Env) → V made env ≡ either_or_both o (V e env) (V f env)) → Tells places (V e') x → Tells places (V f') y
-      → TellsWhole o x y flag → Tells places (V whole) flag
-  tells_sides o whole made e f e' f' x y flag is first second same one two told =
+  pub tells_parts_both : (whole made e f e' f' : X) (x y flag : KExpr) → whole ≡ made → e' ≡ e → f' ≡ f
+      → ((env : Env) → V made env ≡ (V e env && V f env)) → Tells places (V e') x → Tells places (V f') y → TellsBoth x y flag
+      → Tells places (V whole) flag
+  tells_parts_both whole made e f e' f' x y flag is first second same one two told =
       subst (λ w. Tells places (V w) flag) (sym is)
-      (tells_kept places (λ env. either_or_both o (V e env) (V f env)) (V made) flag (λ bound env s at. sym (same env))
+      (tells_kept places (λ env. V e env && V f env) (V made) flag (λ bound env s at. sym (same env))
       (told places (V e) (V f) (subst (λ w. Tells places (V w) x) first one) (subst (λ w. Tells places (V w) y) second two)))

@@ -2,8 +2,6 @@
 use Rattle.std.specs.Prelude.{◌≡◌, Bool, true, ◌||◌, ◌&&◌}
 use Rattle.kernel_code.specs.declared.syntax.KExpr.{KExpr}
 use Rattle.index_notation.specs.declared.syntax.Expr.{Expr}
-use Rattle.index_notation.specs.declared.syntax.Operator.{Operator}
-use Rattle.index_notation.specs.Operators.{either_or_both}
 use Rattle.loop_code.specs.Loops.{Env}
 use Rattle.loop_code.specs.Parts.{here, remains}
 use Rattle.term_code.specs.declared.places.Places.{Places}
@@ -18,11 +16,6 @@ TellsEither x y flag =
 abbrev pub TellsBoth : KExpr → KExpr → KExpr → Type 0
 TellsBoth x y flag =
     (places : Places) (f g : Env → Bool) → Tells places f x → Tells places g y → Tells places (λ env. f env && g env) flag
-
--- that one of the sides of a sum or a difference is so, or both factors are
-abbrev pub TellsWhole : Operator → KExpr → KExpr → KExpr → Type 0
-TellsWhole o x y flag =
-    (places : Places) (f g : Env → Bool) → Tells places f x → Tells places g y → Tells places (λ env. either_or_both o (f env) (g env)) flag
 
 -- that what the one tells is so, and a part of another factor remains
 abbrev pub TellsFactor : Places → KExpr → Expr → KExpr → Type 0

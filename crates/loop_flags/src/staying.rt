@@ -3,7 +3,7 @@
 ghost use Rattle.std.specs.Prelude.{◌≡◌, true};
 ghost use Rattle.loop_flags.specs.Liveness.{StandsAlone, StaysIn, StandsAloneBelow, StaysBelow};
 
-use index_notation::{Expr, Operator};
+use index_notation::Expr;
 use loop_code::LoopCode;
 
 /// Whether the access stands outside of all products: it is then in the part that remains wherever it is present.
@@ -13,12 +13,13 @@ fn stands_alone(expr: &Expr, access: usize) -> bool
     match expr {
         Expr::Num(_) => false,
         Expr::Access(found) => *found == access,
-        Expr::Binary(operator, first, second) => match operator {
-            Operator::Mul => false,
-            Operator::Add | Operator::Sub => {
-                stands_alone(first.get(), access) || stands_alone(second.get(), access)
-            }
-        },
+        Expr::Add(first, second) => {
+            stands_alone(first.get(), access) || stands_alone(second.get(), access)
+        }
+        Expr::Sub(first, second) => {
+            stands_alone(first.get(), access) || stands_alone(second.get(), access)
+        }
+        Expr::Mul(_, _) => false,
         Expr::Neg(inner) => stands_alone(inner.get(), access),
     }
 }
@@ -34,12 +35,15 @@ fn stays_in(expr: &Expr, access: usize) -> bool
     match expr {
         Expr::Num(_) => false,
         Expr::Access(_) => false,
-        Expr::Binary(operator, first, second) => match operator {
-            Operator::Mul => stays_in(first.get(), access) || stays_in(second.get(), access),
-            Operator::Add | Operator::Sub => {
-                stays_in(first.get(), access) && stays_in(second.get(), access)
-            }
-        },
+        Expr::Add(first, second) => {
+            stays_in(first.get(), access) && stays_in(second.get(), access)
+        }
+        Expr::Sub(first, second) => {
+            stays_in(first.get(), access) && stays_in(second.get(), access)
+        }
+        Expr::Mul(first, second) => {
+            stays_in(first.get(), access) || stays_in(second.get(), access)
+        }
         Expr::Neg(inner) => stays_in(inner.get(), access),
     }
 }

@@ -1,8 +1,8 @@
 // Statements by their numbers, and whether they are well formed.
 use anyhow::{Result, bail};
-use index_notation::{Access, Expr, Name, Operator, Statement, binary};
+use index_notation::{Access, Expr, Name, Statement};
 use std::alloc::{AllocError, Global};
-use trees::Items;
+use trees::{Boxed, Items};
 
 fn names_of(alloc: Global, count: usize) -> Result<Items<Name>, AllocError> {
     let mut names = Items::new(alloc);
@@ -33,7 +33,10 @@ fn access_of(alloc: Global, word: &str) -> Result<Access> {
 fn product_of(alloc: Global, factors: usize) -> Result<Expr, AllocError> {
     let mut expr = Expr::Access(0);
     for n in 1..factors {
-        expr = binary(alloc, Operator::Mul, expr, Expr::Access(n))?;
+        expr = Expr::Mul(
+            Boxed::new(alloc, expr)?,
+            Boxed::new(alloc, Expr::Access(n))?,
+        );
     }
     Ok(expr)
 }
@@ -52,11 +55,13 @@ fn statement_of(alloc: Global, rest: &str) -> Result<Statement> {
             None => accesses.push(access_of(alloc, word)?)?,
         }
     }
-    let tensors = names_of(alloc, tensors.parse::<usize>()?)?;
-    let vars = names_of(alloc, vars.parse::<usize>()?)?;
-    let left = access_of(alloc, left)?;
-    let expr = product_of(alloc, factors)?;
-    Ok(Statement::new(tensors, vars, left, accesses, expr))
+    Ok(Statement {
+        tensors: names_of(alloc, tensors.parse::<usize>()?)?,
+        vars: names_of(alloc, vars.parse::<usize>()?)?,
+        left: access_of(alloc, left)?,
+        accesses,
+        expr: product_of(alloc, factors)?,
+    })
 }
 
 // What the checks say of a statement.

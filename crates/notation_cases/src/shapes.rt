@@ -1,8 +1,7 @@
 // Statements and faults as they are printed.
 use expr_terms::{NameFault, check_names};
 use index_notation::{
-    Access, Counted, Expr, Name, NotationFault, Operator, Statement, copy_access, copy_expr,
-    copy_name,
+    Access, Counted, Expr, Name, NotationFault, Statement, copy_access, copy_expr, copy_name,
 };
 use std::alloc::{AllocError, Global};
 use std::fmt::Write;
@@ -39,14 +38,24 @@ pub(crate) fn put_expr(out: &mut String, expr: &Expr) -> Result<(), AllocError> 
     match expr {
         Expr::Num(n) => write!(out, "{}", *n),
         Expr::Access(n) => write!(out, "#{}", *n),
-        Expr::Binary(operator, first, second) => {
+        Expr::Add(first, second) => {
             out.push('(')?;
             put_expr(out, first.get())?;
-            out.push(match operator {
-                Operator::Add => '+',
-                Operator::Sub => '-',
-                Operator::Mul => '*',
-            })?;
+            out.push('+')?;
+            put_expr(out, second.get())?;
+            out.push(')')
+        }
+        Expr::Sub(first, second) => {
+            out.push('(')?;
+            put_expr(out, first.get())?;
+            out.push('-')?;
+            put_expr(out, second.get())?;
+            out.push(')')
+        }
+        Expr::Mul(first, second) => {
+            out.push('(')?;
+            put_expr(out, first.get())?;
+            out.push('*')?;
             put_expr(out, second.get())?;
             out.push(')')
         }

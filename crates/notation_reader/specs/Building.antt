@@ -1,9 +1,7 @@
 -- What is built of the right side's expression at a place.
-use Rattle.std.specs.Prelude.{◌≡◌, ℕ, zero, suc, ◌+◌, ◌-◌, Bool, true, false}
+use Rattle.std.specs.Prelude.{◌≡◌, ℕ, zero, suc, ◌+◌, ◌-◌, Bool, true, false, if◌then◌else◌}
 use Rattle.std.specs.Prelude.{Option, Some, None, List, [], ◌∷◌, ◌++◌}
-use Rattle.index_notation.specs.declared.syntax.Expr.{Expr, Num, Access as AccessOf, Binary, Neg}
-use Rattle.index_notation.specs.declared.syntax.Operator.{Operator}
-use Rattle.index_notation.specs.declared.syntax.Operator.TheVariants.{Add, Sub, Mul}
+use Rattle.index_notation.specs.declared.syntax.Expr.{Expr, Num, Access as AccessOf, Add, Sub, Mul, Neg}
 use Rattle.index_notation.specs.declared.token.Mark.TheVariants.{Plus, Minus}
 use Rattle.index_notation.specs.declared.token.Token.TheVariants.{Mark as MarkToken}
 use Rattle.index_notation.specs.declared.symbol.Symbol.{Symbol}
@@ -104,16 +102,11 @@ negated (suc n) expr = negated n (Neg expr)
 
 abbrev pub times : Option Expr → Expr → Expr
 times None expr = expr
-times (Some product) expr = Binary Mul product expr
-
--- the operator of a sum's sign
-abbrev pub sign : Bool → Operator
-sign true = Sub
-sign false = Add
+times (Some product) expr = Mul product expr
 
 abbrev pub with_sum : Option Joined → Expr → Expr
 with_sum None expr = expr
-with_sum (Some joined) expr = Binary (sign joined.is_minus) joined.before expr
+with_sum (Some joined) expr = if joined.is_minus then Sub joined.before expr else Add joined.before expr
 
 abbrev pub last_product : Option Expr → Expr
 last_product None = Num 0

@@ -1,14 +1,14 @@
 // The expression that has been read, built as its symbols come.
 ghost use Rattle.std.specs.Prelude.{◌≡◌, ◌<◌, ◌≤◌, ◌^◌, None, IfOk};
 ghost use Rattle.limits.specs.Limits.{greatest_literal};
-ghost use Rattle.notation_reader.specs.Building.{negated as negated_by, times as times_by, sign as sign_of};
+ghost use Rattle.notation_reader.specs.Building.{negated as negated_by, times as times_by};
 ghost use Rattle.notation_reader.specs.Building.{with_sum as sum_by, with_factor as factor_by, whole_sum as sum_of};
 ghost use Rattle.notation_reader.specs.Building.{no_frame as an_empty_frame};
 ghost use Rattle.index_notation.specs.Faults.{number_of};
 
 use crate::literals::number;
 use crate::position::{Lead, Stand};
-use index_notation::{Expr, Mark, Operator, Symbol, Token, binary};
+use index_notation::{Expr, Mark, Symbol, Token};
 use std::alloc::{AllocError, Global};
 use trees::{Boxed, Items};
 
@@ -54,19 +54,12 @@ fn times(alloc: Global, product: Option<Expr>, expr: Expr) -> Result<Expr, Alloc
     ensures { IfOk result (λ e. e ≡ times_by product expr) }
 {
     match product {
-        Some(product) => binary(alloc, Operator::Mul, product, expr),
+        Some(product) => {
+            let first = Boxed::new(alloc, product)?;
+            let second = Boxed::new(alloc, expr)?;
+            Ok(Expr::Mul(first, second))
+        }
         None => Ok(expr),
-    }
-}
-
-/// The operator of a sum's sign.
-fn sign(is_minus: bool) -> Operator
-    ensures { result ≡ sign_of is_minus }
-{
-    if is_minus {
-        Operator::Sub
-    } else {
-        Operator::Add
     }
 }
 
@@ -77,7 +70,13 @@ fn with_sum(alloc: Global, sum: Option<Joined>, expr: Expr) -> Result<Expr, Allo
     match sum {
         Some(joined) => {
             let Joined { before, is_minus } = joined;
-            binary(alloc, sign(is_minus), before, expr)
+            let first = Boxed::new(alloc, before)?;
+            let second = Boxed::new(alloc, expr)?;
+            if is_minus {
+                Ok(Expr::Sub(first, second))
+            } else {
+                Ok(Expr::Add(first, second))
+            }
         }
         None => Ok(expr),
     }

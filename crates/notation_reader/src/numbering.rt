@@ -83,5 +83,11 @@ pub fn number_statement(
     };
     let left = number_access(alloc, tensors.as_slice(), vars.as_slice(), left)?;
     let accesses = number_accesses(alloc, tensors.as_slice(), vars.as_slice(), right)?;
-    Ok(Statement::new(tensors, vars, left, accesses, expr))
+    Ok(Statement {
+        tensors,
+        vars,
+        left,
+        accesses,
+        expr,
+    })
 }

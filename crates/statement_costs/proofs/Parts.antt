@@ -4,14 +4,10 @@ use Rattle.std.specs.Prelude.{◌≡◌, ℕ, nat_eq, not, Bool, true, false, �
 use Rattle.std.specs.List.{list_any}
 use Rattle.std.proofs.Common.{◌∙◌, sym, ap, arith}
 use Rattle.std.proofs.lemmas.Bool.Decides.{nat_tests}
-use Rattle.index_notation.specs.declared.syntax.Expr.{Expr, Num, Access as AccessOf, Binary', Neg', Row_of-Expr, end_of-Expr}
+use Rattle.index_notation.specs.declared.syntax.Expr.{Expr, Num, Access as AccessOf, Add', Sub', Mul', Neg', Row_of-Expr, end_of-Expr}
 use Rattle.index_notation.specs.declared.syntax.Expr.{more_of-Expr}
-use Rattle.index_notation.specs.declared.syntax.Operator.{Operator}
-use Rattle.index_notation.specs.declared.syntax.Operator.TheVariants.{Add, Sub, Mul}
-use Rattle.index_notation.specs.Operators.{either_or_both}
 use Rattle.concrete_notation.specs.Nests.{Nest, inside}
-use Rattle.loop_code.specs.Parts.{remains, remains_in, is_live_by, is_live, is_live_in, is_full, is_full_in}
-use Rattle.loop_code.proofs.PresentParts.{stands_live}
+use Rattle.loop_code.specs.Parts.{remains, remains_in, is_live, is_live_in, is_full, is_full_in}
 use Rattle.lowering.specs.Seeking.{has_access, has_access_in}
 use Rattle.statement_costs.specs.Costs.{some_term}
 
@@ -39,19 +35,6 @@ pub and_second : (a b : Bool) → (a && b) ≡ true → b ≡ true
 and_second true b h = h
 and_second false b h = absurd (cc h)
 
--- what holds of the sides of a whole, and where an access stands in what remains of it
-sides_more : (o : Operator) (a b c d : Bool) → (a ≡ true → c ≡ true) → (b ≡ true → d ≡ true) → either_or_both o a b ≡ true
-    → either_or_both o c d ≡ true
-sides_more Add a b c d f g h = or_more a b c d f g h
-sides_more Sub a b c d f g h = or_more a b c d f g h
-sides_more Mul a b c d f g h = and_more a b c d f g h
-
-live_more : (o : Operator) (a b c d : Bool) → (a ≡ true → c ≡ true) → (b ≡ true → d ≡ true) → is_live_by o a b ≡ true
-    → is_live_by o c d ≡ true
-live_more Add a b c d f g h = g h
-live_more Sub a b c d f g h = g h
-live_more Mul a b c d f g h = and_more a b c d f g h
-
 -- two tests that hold of the same are one
 pub same_if : (a b : Bool) → (a ≡ true → b ≡ true) → (b ≡ true → a ≡ true) → a ≡ b
 same_if true b f g = sym (f refl)
@@ -77,8 +60,12 @@ module _ (Q P : ℕ → Bool) (less : (k : ℕ) → Q k ≡ true → P k ≡ tru
     pub less_remains : (e : Expr) → remains Q e ≡ true → remains P e ≡ true
     less_remains (Num n) h = refl
     less_remains (AccessOf k) h = less k h
-    less_remains (Binary' o p e q f) h =
-        sides_more o (remains_in Q e) (remains_in Q f) (remains_in P e) (remains_in P f) (less_remains_in e) (less_remains_in f) h
+    less_remains (Add' p e q f) h =
+        or_more (remains_in Q e) (remains_in Q f) (remains_in P e) (remains_in P f) (less_remains_in e) (less_remains_in f) h
+    less_remains (Sub' p e q f) h =
+        or_more (remains_in Q e) (remains_in Q f) (remains_in P e) (remains_in P f) (less_remains_in e) (less_remains_in f) h
+    less_remains (Mul' p e q f) h =
+        and_more (remains_in Q e) (remains_in Q f) (remains_in P e) (remains_in P f) (less_remains_in e) (less_remains_in f) h
     less_remains (Neg' p e) h = less_remains_in e h
 
     less_remains_in : {m : _} (row : Row_of-Expr m) → remains_in Q row ≡ true → remains_in P row ≡ true
@@ -89,8 +76,12 @@ module _ (Q P : ℕ → Bool) (less : (k : ℕ) → Q k ≡ true → P k ≡ tru
     pub less_live : (j : ℕ) (e : Expr) → is_live Q e j ≡ true → is_live P e j ≡ true
     less_live j (Num n) h = h
     less_live j (AccessOf k) h = and_more (nat_eq k j) (Q k) (nat_eq k j) (P k) (λ is. is) (less k) h
-    less_live j (Binary' o p e q f) h =
-        live_more o (remains_in Q e && remains_in Q f) (is_live_in Q e j || is_live_in Q f j) (remains_in P e && remains_in P f)
+    less_live j (Add' p e q f) h =
+        or_more (is_live_in Q e j) (is_live_in Q f j) (is_live_in P e j) (is_live_in P f j) (less_live_in j e) (less_live_in j f) h
+    less_live j (Sub' p e q f) h =
+        or_more (is_live_in Q e j) (is_live_in Q f j) (is_live_in P e j) (is_live_in P f j) (less_live_in j e) (less_live_in j f) h
+    less_live j (Mul' p e q f) h =
+        and_more (remains_in Q e && remains_in Q f) (is_live_in Q e j || is_live_in Q f j) (remains_in P e && remains_in P f)
         (is_live_in P e j || is_live_in P f j)
         (and_more (remains_in Q e) (remains_in Q f) (remains_in P e) (remains_in P f) (less_remains_in e) (less_remains_in f))
         (or_more (is_live_in Q e j) (is_live_in Q f j) (is_live_in P e j) (is_live_in P f j) (less_live_in j e) (less_live_in j f)) h
@@ -104,8 +95,12 @@ module _ (Q P : ℕ → Bool) (less : (k : ℕ) → Q k ≡ true → P k ≡ tru
     pub less_full : (F : ℕ → Bool) (e : Expr) → is_full F Q e ≡ true → is_full F P e ≡ true
     less_full F (Num n) h = refl
     less_full F (AccessOf k) h = and_more (F k) (Q k) (F k) (P k) (λ is. is) (less k) h
-    less_full F (Binary' o p e q f) h =
-        sides_more o (is_full_in F Q e) (is_full_in F Q f) (is_full_in F P e) (is_full_in F P f) (less_full_in F e) (less_full_in F f) h
+    less_full F (Add' p e q f) h =
+        or_more (is_full_in F Q e) (is_full_in F Q f) (is_full_in F P e) (is_full_in F P f) (less_full_in F e) (less_full_in F f) h
+    less_full F (Sub' p e q f) h =
+        or_more (is_full_in F Q e) (is_full_in F Q f) (is_full_in F P e) (is_full_in F P f) (less_full_in F e) (less_full_in F f) h
+    less_full F (Mul' p e q f) h =
+        and_more (is_full_in F Q e) (is_full_in F Q f) (is_full_in F P e) (is_full_in F P f) (less_full_in F e) (less_full_in F f) h
     less_full F (Neg' p e) h = less_full_in F e h
 
     less_full_in : {m : _} (F : ℕ → Bool) (row : Row_of-Expr m) → is_full_in F Q row ≡ true → is_full_in F P row ≡ true
@@ -117,8 +112,12 @@ mutual
   pub full_remains : (F P : ℕ → Bool) (e : Expr) → is_full F P e ≡ true → remains P e ≡ true
   full_remains F P (Num n) h = refl
   full_remains F P (AccessOf k) h = and_second (F k) (P k) h
-  full_remains F P (Binary' o p e q f) h =
-      sides_more o (is_full_in F P e) (is_full_in F P f) (remains_in P e) (remains_in P f) (full_remains_in F P e) (full_remains_in F P f) h
+  full_remains F P (Add' p e q f) h =
+      or_more (is_full_in F P e) (is_full_in F P f) (remains_in P e) (remains_in P f) (full_remains_in F P e) (full_remains_in F P f) h
+  full_remains F P (Sub' p e q f) h =
+      or_more (is_full_in F P e) (is_full_in F P f) (remains_in P e) (remains_in P f) (full_remains_in F P e) (full_remains_in F P f) h
+  full_remains F P (Mul' p e q f) h =
+      and_more (is_full_in F P e) (is_full_in F P f) (remains_in P e) (remains_in P f) (full_remains_in F P e) (full_remains_in F P f) h
   full_remains F P (Neg' p e) h = full_remains_in F P e h
 
   full_remains_in : {m : _} (F P : ℕ → Bool) (row : Row_of-Expr m) → is_full_in F P row ≡ true → remains_in P row ≡ true
@@ -131,8 +130,16 @@ mutual
       → is_full F P e ≡ true → is_full G P e ≡ true
   other_full F G P (Num n) c h = refl
   other_full F G P (AccessOf k) c h = and_more (F k) (P k) (G k) (P k) (c k (self k)) (λ is. is) h
-  other_full F G P (Binary' o p e q f) c h =
-      sides_more o (is_full_in F P e) (is_full_in F P f) (is_full_in G P e) (is_full_in G P f)
+  other_full F G P (Add' p e q f) c h =
+      or_more (is_full_in F P e) (is_full_in F P f) (is_full_in G P e) (is_full_in G P f)
+      (other_full_in F G P e (λ k is. c k (or_left (has_access_in e k) (has_access_in f k) is)))
+      (other_full_in F G P f (λ k is. c k (or_right (has_access_in e k) (has_access_in f k) is))) h
+  other_full F G P (Sub' p e q f) c h =
+      or_more (is_full_in F P e) (is_full_in F P f) (is_full_in G P e) (is_full_in G P f)
+      (other_full_in F G P e (λ k is. c k (or_left (has_access_in e k) (has_access_in f k) is)))
+      (other_full_in F G P f (λ k is. c k (or_right (has_access_in e k) (has_access_in f k) is))) h
+  other_full F G P (Mul' p e q f) c h =
+      and_more (is_full_in F P e) (is_full_in F P f) (is_full_in G P e) (is_full_in G P f)
       (other_full_in F G P e (λ k is. c k (or_left (has_access_in e k) (has_access_in f k) is)))
       (other_full_in F G P f (λ k is. c k (or_right (has_access_in e k) (has_access_in f k) is))) h
   other_full F G P (Neg' p e) c h = other_full_in F G P e c h
@@ -147,9 +154,13 @@ mutual
   pub live_stands : (P : ℕ → Bool) (e : Expr) (j : ℕ) → is_live P e j ≡ true → has_access e j ≡ true
   live_stands P (Num n) j h = h
   live_stands P (AccessOf k) j h = and_first (nat_eq k j) (P k) h
-  live_stands P (Binary' o p e q f) j h =
+  live_stands P (Add' p e q f) j h =
+      or_more (is_live_in P e j) (is_live_in P f j) (has_access_in e j) (has_access_in f j) (live_stands_in P e j) (live_stands_in P f j) h
+  live_stands P (Sub' p e q f) j h =
+      or_more (is_live_in P e j) (is_live_in P f j) (has_access_in e j) (has_access_in f j) (live_stands_in P e j) (live_stands_in P f j) h
+  live_stands P (Mul' p e q f) j h =
       or_more (is_live_in P e j) (is_live_in P f j) (has_access_in e j) (has_access_in f j) (live_stands_in P e j) (live_stands_in P f j)
-      (stands_live o (remains_in P e && remains_in P f) (is_live_in P e j || is_live_in P f j) h)
+      (and_second (remains_in P e && remains_in P f) (is_live_in P e j || is_live_in P f j) h)
   live_stands P (Neg' p e) j h = live_stands_in P e j h
 
   live_stands_in : {m : _} (P : ℕ → Bool) (row : Row_of-Expr m) (j : ℕ) → is_live_in P row j ≡ true → has_access_in row j ≡ true
@@ -161,9 +172,13 @@ mutual
   pub live_present : (P : ℕ → Bool) (e : Expr) (j : ℕ) → is_live P e j ≡ true → P j ≡ true
   live_present P (Num n) j h = never h
   live_present P (AccessOf k) j h = ap P (sym (same_number k j (and_first (nat_eq k j) (P k) h))) ∙ and_second (nat_eq k j) (P k) h
-  live_present P (Binary' o p e q f) j h =
+  live_present P (Add' p e q f) j h =
+      either (is_live_in P e j) (is_live_in P f j) (P j) (live_present_in P e j) (live_present_in P f j) h
+  live_present P (Sub' p e q f) j h =
+      either (is_live_in P e j) (is_live_in P f j) (P j) (live_present_in P e j) (live_present_in P f j) h
+  live_present P (Mul' p e q f) j h =
       either (is_live_in P e j) (is_live_in P f j) (P j) (live_present_in P e j) (live_present_in P f j)
-      (stands_live o (remains_in P e && remains_in P f) (is_live_in P e j || is_live_in P f j) h)
+      (and_second (remains_in P e && remains_in P f) (is_live_in P e j || is_live_in P f j) h)
   live_present P (Neg' p e) j h = live_present_in P e j h
 
   live_present_in : {m : _} (P : ℕ → Bool) (row : Row_of-Expr m) (j : ℕ) → is_live_in P row j ≡ true → P j ≡ true
@@ -192,33 +207,20 @@ module _ (P Q : ℕ → Bool) where
       → (k : ℕ) → (is_live_in P e k || is_live_in P f k) ≡ true → Q k ≡ true
   both_live e f is c k h = c k (ap (λ b. b && (is_live_in P e k || is_live_in P f k)) is ∙ h)
 
-  abbrev HasLive_by : {m n : _} → Operator → Row_of-Expr m → Row_of-Expr n → Type 0
-  HasLive_by o e f =
-      (k : ℕ) → is_live_by o (remains_in P e && remains_in P f) (is_live_in P e k || is_live_in P f k) ≡ true → Q k ≡ true
-
-  -- and of a whole that remains, or in whose part some access stands
-  remaining_live : {m n : _} (o : Operator) (e : Row_of-Expr m) (f : Row_of-Expr n)
-      → either_or_both o (remains_in P e) (remains_in P f) ≡ true → HasLive_by o e f
-      → (k : ℕ) → (is_live_in P e k || is_live_in P f k) ≡ true → Q k ≡ true
-  remaining_live Add e f is c = c
-  remaining_live Sub e f is c = c
-  remaining_live Mul e f is c = both_live e f is c
-
-  some_live : {m n : _} (o : Operator) (e : Row_of-Expr m) (f : Row_of-Expr n) (stands : Bool)
-      → is_live_by o (remains_in P e && remains_in P f) stands ≡ true → HasLive_by o e f
-      → (k : ℕ) → (is_live_in P e k || is_live_in P f k) ≡ true → Q k ≡ true
-  some_live Add e f stands is c = c
-  some_live Sub e f stands is c = c
-  some_live Mul e f stands is c = both_live e f (and_first (remains_in P e && remains_in P f) stands is) c
-
   mutual
     pub more_remains : (e : Expr) → HasLive e → remains P e ≡ true → remains Q e ≡ true
     more_remains (Num n) c h = refl
     more_remains (AccessOf k) c h = c k (ap (λ b. b && P k) (self k) ∙ h)
-    more_remains (Binary' o p e q f) c h =
-        sides_more o (remains_in P e) (remains_in P f) (remains_in Q e) (remains_in Q f)
-        (more_remains_in e (left_live e f (remaining_live o e f h c)))
-        (more_remains_in f (right_live e f (remaining_live o e f h c))) h
+    more_remains (Add' p e q f) c h =
+        or_more (remains_in P e) (remains_in P f) (remains_in Q e) (remains_in Q f) (more_remains_in e (left_live e f c))
+        (more_remains_in f (right_live e f c)) h
+    more_remains (Sub' p e q f) c h =
+        or_more (remains_in P e) (remains_in P f) (remains_in Q e) (remains_in Q f) (more_remains_in e (left_live e f c))
+        (more_remains_in f (right_live e f c)) h
+    more_remains (Mul' p e q f) c h =
+        and_more (remains_in P e) (remains_in P f) (remains_in Q e) (remains_in Q f)
+        (more_remains_in e (left_live e f (both_live e f h c)))
+        (more_remains_in f (right_live e f (both_live e f h c))) h
     more_remains (Neg' p e) c h = more_remains_in e c h
 
     more_remains_in : {m : _} (row : Row_of-Expr m) → HasLive_in row → remains_in P row ≡ true → remains_in Q row ≡ true
@@ -230,17 +232,22 @@ module _ (P Q : ℕ → Bool) where
     more_live j (Num n) c h = h
     more_live j (AccessOf k) c h =
         and_more (nat_eq k j) (P k) (nat_eq k j) (Q k) (λ is. is) (λ is. c k (ap (λ b. b && P k) (self k) ∙ is)) h
-    more_live j (Binary' o p e q f) c h =
-        let all : (k : ℕ) → (is_live_in P e k || is_live_in P f k) ≡ true → Q k ≡ true =
-        some_live o e f (is_live_in P e j || is_live_in P f j) h c in
-        live_more o (remains_in P e && remains_in P f) (is_live_in P e j || is_live_in P f j) (remains_in Q e && remains_in Q f)
+    more_live j (Add' p e q f) c h =
+        or_more (is_live_in P e j) (is_live_in P f j) (is_live_in Q e j) (is_live_in Q f j) (more_live_in j e (left_live e f c))
+        (more_live_in j f (right_live e f c)) h
+    more_live j (Sub' p e q f) c h =
+        or_more (is_live_in P e j) (is_live_in P f j) (is_live_in Q e j) (is_live_in Q f j) (more_live_in j e (left_live e f c))
+        (more_live_in j f (right_live e f c)) h
+    more_live j (Mul' p e q f) c h =
+        let is = and_first (remains_in P e && remains_in P f) (is_live_in P e j || is_live_in P f j) h in
+        and_more (remains_in P e && remains_in P f) (is_live_in P e j || is_live_in P f j) (remains_in Q e && remains_in Q f)
         (is_live_in Q e j || is_live_in Q f j)
         (and_more (remains_in P e) (remains_in P f) (remains_in Q e) (remains_in Q f)
-        (more_remains_in e (left_live e f all))
-        (more_remains_in f (right_live e f all)))
+        (more_remains_in e (left_live e f (both_live e f is c)))
+        (more_remains_in f (right_live e f (both_live e f is c))))
         (or_more (is_live_in P e j) (is_live_in P f j) (is_live_in Q e j) (is_live_in Q f j)
-        (more_live_in j e (left_live e f all))
-        (more_live_in j f (right_live e f all))) h
+        (more_live_in j e (left_live e f (both_live e f is c)))
+        (more_live_in j f (right_live e f (both_live e f is c)))) h
     more_live j (Neg' p e) c h = more_live_in j e c h
 
     more_live_in : {m : _} (j : ℕ) (row : Row_of-Expr m) → HasLive_in row → is_live_in P row j ≡ true → is_live_in Q row j ≡ true
@@ -252,13 +259,18 @@ module _ (P Q : ℕ → Bool) where
     more_full F (Num n) c h = refl
     more_full F (AccessOf k) c h =
         and_more (F k) (P k) (F k) (Q k) (λ is. is) (λ is. c k (ap (λ b. b && P k) (self k) ∙ is)) h
-    more_full F (Binary' o p e q f) c h =
-        let is : either_or_both o (remains_in P e) (remains_in P f) ≡ true =
-        sides_more o (is_full_in F P e) (is_full_in F P f) (remains_in P e) (remains_in P f) (full_remains_in F P e)
+    more_full F (Add' p e q f) c h =
+        or_more (is_full_in F P e) (is_full_in F P f) (is_full_in F Q e) (is_full_in F Q f) (more_full_in F e (left_live e f c))
+        (more_full_in F f (right_live e f c)) h
+    more_full F (Sub' p e q f) c h =
+        or_more (is_full_in F P e) (is_full_in F P f) (is_full_in F Q e) (is_full_in F Q f) (more_full_in F e (left_live e f c))
+        (more_full_in F f (right_live e f c)) h
+    more_full F (Mul' p e q f) c h =
+        let is = and_more (is_full_in F P e) (is_full_in F P f) (remains_in P e) (remains_in P f) (full_remains_in F P e)
         (full_remains_in F P f) h in
-        sides_more o (is_full_in F P e) (is_full_in F P f) (is_full_in F Q e) (is_full_in F Q f)
-        (more_full_in F e (left_live e f (remaining_live o e f is c)))
-        (more_full_in F f (right_live e f (remaining_live o e f is c))) h
+        and_more (is_full_in F P e) (is_full_in F P f) (is_full_in F Q e) (is_full_in F Q f)
+        (more_full_in F e (left_live e f (both_live e f is c)))
+        (more_full_in F f (right_live e f (both_live e f is c))) h
     more_full F (Neg' p e) c h = more_full_in F e c h
 
     more_full_in : {m : _} (F : ℕ → Bool) (row : Row_of-Expr m) → HasLive_in row → is_full_in F P row ≡ true → is_full_in F Q row ≡ true

@@ -7,8 +7,7 @@ use Rattle.level_core.specs.declared.letter.Letter.{Letter}
 use Rattle.level_core.specs.declared.letter.Letter.TheVariants.{Dense, Compressed, CompressedGroups, Singleton, Hashed}
 use Rattle.format_spec.specs.declared.format.FormatLevel.{FormatLevel}
 use Rattle.index_notation.specs.declared.syntax.Access.{Access}
-use Rattle.index_notation.specs.declared.syntax.Expr.{Access as AccessOf, Binary}
-use Rattle.index_notation.specs.declared.syntax.Operator.TheVariants.{Add, Mul}
+use Rattle.index_notation.specs.declared.syntax.Expr.{Access as AccessOf, Add, Mul}
 use Rattle.index_notation.specs.declared.syntax.Name.{Name}
 use Rattle.index_notation.specs.declared.syntax.Statement.{Statement}
 use Rattle.loop_code.specs.Loops.{Stored}
@@ -32,7 +31,7 @@ product = record {
   vars = no_name ∷ no_name ∷ [];
   left = access 0 (0 ∷ []);
   accesses = access 1 (0 ∷ 1 ∷ []) ∷ access 2 (1 ∷ []) ∷ [];
-  expr = Binary Mul (AccessOf 0) (AccessOf 1);
+  expr = Mul (AccessOf 0) (AccessOf 1);
 }
 
 -- all ranges are n
@@ -74,7 +73,7 @@ sum = record {
   vars = no_name ∷ [];
   left = access 0 (0 ∷ []);
   accesses = access 1 (0 ∷ []) ∷ access 2 (0 ∷ []) ∷ [];
-  expr = Binary Add (AccessOf 0) (AccessOf 1);
+  expr = Add (AccessOf 0) (AccessOf 1);
 }
 
 -- vectors of the kinds of levels, of which the first has two coordinates stored, and the second one of them

@@ -9,13 +9,10 @@ use Rattle.kernel_code.proofs.Keeps.{mentions_bin}
 use Rattle.kernel_code.proofs.Words.{binary_is}
 use Rattle.level_core.specs.declared.span.Span.{Span}
 use Rattle.level_cursors.specs.Children.{ChildLeft}
-use Rattle.index_notation.specs.declared.syntax.Operator.{Operator}
-use Rattle.index_notation.specs.declared.syntax.Operator.TheVariants.{Add, Sub, Mul}
-use Rattle.index_notation.specs.Operators.{either_or_both}
 use Rattle.loop_code.specs.Loops.{Env}
 use Rattle.loop_code.specs.Parts.{is_some}
 use Rattle.term_code.specs.Places.{Places, AccessPlace}
-use Rattle.term_code.specs.Presence.{Tells, flag_operator}
+use Rattle.term_code.specs.Presence.{Tells}
 
 pub tells_number : (places : Places) (b : Bool) → Tells places (λ env. b) (Num (word_of b))
 tells_number places b = record { told = λ bound env s h. refl; below = λ free h. tt }
@@ -45,13 +42,6 @@ tells_both places f g x y h k = record {
       binary_is And x y (word_of (f env)) (word_of (g env)) s (h.told bound env s at) (k.told bound env s at) ∙ and_words (f env) (g env);
   below = λ free are. mentions_bin (λ v. v < free) EveryArray And x y (h.below free are) (k.below free are);
 }
-
--- what an operator makes of two
-pub tells_sides : (places : Places) (o : Operator) (f g : Env → Bool) (x y : KExpr) → Tells places f x → Tells places g y
-    → Tells places (λ env. either_or_both o (f env) (g env)) (Bin (flag_operator o) x y)
-tells_sides places Add f g x y h k = tells_either places f g x y h k
-tells_sides places Sub f g x y h k = tells_either places f g x y h k
-tells_sides places Mul f g x y h k = tells_both places f g x y h k
 
 flag_is : (base : ℕ) (o : Option Span) (s : State) → ChildLeft base o s → s.vars base ≡ Some (word_of (is_some o))
 flag_is base None s h = h

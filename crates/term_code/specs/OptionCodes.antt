@@ -1,11 +1,9 @@
 -- The code of values that may be absent: 1 and the value, or 0.
-use Rattle.std.specs.Prelude.{ℕ, ◌+◌, List, [], ◌∷◌, ◌++◌}
+use Rattle.std.specs.Prelude.{ℕ, ◌+◌, List, [], ◌∷◌}
 use Rattle.kernel_code.specs.declared.syntax.Arr.TheVariants.{Values}
 use Rattle.kernel_code.specs.declared.syntax.ValueOp.TheVariants.{Plus, Times}
 use Rattle.kernel_code.specs.declared.syntax.KExpr.{Num, Var, At}
 use Rattle.kernel_code.specs.declared.syntax.KStmt.{KStmt, Set, Combine, If}
-use Rattle.index_notation.specs.declared.syntax.Operator.{Operator}
-use Rattle.index_notation.specs.declared.syntax.Operator.TheVariants.{Add, Sub, Mul}
 use Rattle.term_code.specs.Places.{AccessPlace}
 
 abbrev pub number_code : ℕ → ℕ → List KStmt
@@ -35,9 +33,3 @@ both_code free =
 -- a value by a number, where it is there
 abbrev pub each_code : ℕ → ℕ → List KStmt
 each_code n free = If (Var free) (Combine (free + 1) Times (Num n) (Var (free + 1)) ∷ []) [] ∷ []
-
--- what an operator makes of two values, one from free on and the other from free + 2 on, behind the code of both
-abbrev pub combine_code : ℕ → Operator → List KStmt → List KStmt → ℕ → List KStmt
-combine_code minus_one Add first second free = (first ++ second) ++ either_code free
-combine_code minus_one Sub first second free = (first ++ (second ++ each_code minus_one (free + 2))) ++ either_code free
-combine_code minus_one Mul first second free = (first ++ second) ++ both_code free

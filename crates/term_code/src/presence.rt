@@ -2,10 +2,10 @@
 ghost use Rattle.std.specs.Prelude.{◌≡◌, ◌<◌, length, IfOk};
 ghost use Rattle.loop_code.specs.Parts.{here, remains, is_full, is_iterator, is_other};
 ghost use Rattle.loop_code.specs.Places.{EachAccess};
-ghost use Rattle.term_code.specs.Presence.{Tells, flag_operator};
+ghost use Rattle.term_code.specs.Presence.{Tells};
 
 use crate::places::Places;
-use index_notation::{Expr, Operator};
+use index_notation::Expr;
 use kernel_code::{KExpr, Op, binary};
 use loop_code::Seek;
 use std::alloc::{AllocError, Global};
@@ -32,16 +32,6 @@ fn full_flag(places: &Places, seeks: &[Seek], access: usize) -> KExpr
     KExpr::Var(place.cursor)
 }
 
-/// By what flags of two sides are joined: a product wants both, a sum or a difference one.
-fn flag_operator(operator: Operator) -> Op
-    ensures { result ≡ flag_operator operator }
-{
-    match operator {
-        Operator::Add | Operator::Sub => Op::Or,
-        Operator::Mul => Op::And,
-    }
-}
-
 /// An expression that is 1 where the part of `expr` that remains is full at a loop with these seeks, and else 0. Refused only
 /// for want of memory.
 pub fn fullness_of(
@@ -56,11 +46,23 @@ pub fn fullness_of(
     match expr {
         Expr::Num(_) => Ok(KExpr::Num(1)),
         Expr::Access(access) => Ok(full_flag(places, seeks, *access)),
-        Expr::Binary(operator, first, second) => {
+        Expr::Add(first, second) => {
             let x = fullness_of(alloc, places, seeks, first.get())?;
             let y = fullness_of(alloc, places, seeks, second.get())?;
-            let flag = binary(alloc, flag_operator(*operator), x, y)?;
-            Ok(flag)
+            let either = binary(alloc, Op::Or, x, y)?;
+            Ok(either)
+        }
+        Expr::Sub(first, second) => {
+            let x = fullness_of(alloc, places, seeks, first.get())?;
+            let y = fullness_of(alloc, places, seeks, second.get())?;
+            let either = binary(alloc, Op::Or, x, y)?;
+            Ok(either)
+        }
+        Expr::Mul(first, second) => {
+            let x = fullness_of(alloc, places, seeks, first.get())?;
+            let y = fullness_of(alloc, places, seeks, second.get())?;
+            let both = binary(alloc, Op::And, x, y)?;
+            Ok(both)
         }
         Expr::Neg(inner) => fullness_of(alloc, places, seeks, inner.get()),
     }

@@ -6,10 +6,10 @@ ghost use Rattle.loop_code.specs.Places.{EachAccess};
 ghost use Rattle.loop_code.specs.PresentValues.{present_value};
 ghost use Rattle.term_code.specs.Places.{AreBelow};
 ghost use Rattle.term_code.specs.Options.{LeavesOption};
-ghost use Rattle.term_code.specs.OptionCodes.{number_code, access_code, either_code, both_code, each_code, combine_code};
+ghost use Rattle.term_code.specs.OptionCodes.{number_code, access_code, either_code, both_code, each_code};
 
 use crate::places::{AccessPlace, Places};
-use index_notation::{Expr, Operator};
+use index_notation::Expr;
 use kernel_code::{Arr, KExpr, KStmt, ValueOp, one_statement, word_at};
 use numbers::Semiring;
 use std::alloc::{AllocError, Global};
@@ -118,28 +118,6 @@ pub(crate) fn negated<S: Semiring>(
     Ok(code)
 }
 
-/// What an operator makes of two values.
-fn combine<S: Semiring>(
-    alloc: Global,
-    operator: Operator,
-    first: Items<KStmt>,
-    second: Items<KStmt>,
-    free: u64,
-) -> Result<Items<KStmt>, AllocError>
-    requires minus { operator ≡ Operator.Sub → S.has_minus ≡ true }
-    requires room { free ≤ 2 ^ 62 }
-    ensures { IfOk result (λ code. code ≡ combine_code S.arithmetic.minus_one operator first second free) }
-{
-    match operator {
-        Operator::Add => sum(alloc, first, second, free),
-        Operator::Sub => {
-            let less = negated::<S>(alloc, second, free + 2)?;
-            sum(alloc, first, less, free)
-        }
-        Operator::Mul => product(alloc, first, second, free),
-    }
-}
-
 /// Code that leaves, in two variables from `free` on, 1 and the value of an expression, or 0 where it is absent. Variables
 /// from `free` on are its own. Refused only for want of memory.
 pub fn emit_value<S: Semiring>(
@@ -170,10 +148,23 @@ pub fn emit_value<S: Semiring>(
             let code = access(alloc, place, free)?;
             Ok(code)
         }
-        Expr::Binary(operator, first, second) => {
+        Expr::Add(first, second) => {
             let x = emit_value::<S>(alloc, places, first.get(), free)?;
             let y = emit_value::<S>(alloc, places, second.get(), free + 2)?;
-            let code = combine::<S>(alloc, *operator, x, y, free)?;
+            let code = sum(alloc, x, y, free)?;
+            Ok(code)
+        }
+        Expr::Sub(first, second) => {
+            let x = emit_value::<S>(alloc, places, first.get(), free)?;
+            let y = emit_value::<S>(alloc, places, second.get(), free + 2)?;
+            let less = negated::<S>(alloc, y, free + 2)?;
+            let code = sum(alloc, x, less, free)?;
+            Ok(code)
+        }
+        Expr::Mul(first, second) => {
+            let x = emit_value::<S>(alloc, places, first.get(), free)?;
+            let y = emit_value::<S>(alloc, places, second.get(), free + 2)?;
+            let code = product(alloc, x, y, free)?;
             Ok(code)
         }
         Expr::Neg(inner) => {

@@ -9,9 +9,8 @@ use Rattle.tensor_map.specs.Entries.{is_at, Listed}
 use Rattle.tensor_map.specs.Laws.{same, other}
 use Rattle.tensor_map.proofs.Lemmas.{tested}
 use Rattle.index_notation.specs.declared.syntax.Access.{Access}
-use Rattle.index_notation.specs.declared.syntax.Expr.{Expr, Num, Access as AccessOf, Binary', Neg', Row_of-Expr, end_of-Expr}
+use Rattle.index_notation.specs.declared.syntax.Expr.{Expr, Num, Access as AccessOf, Add', Sub', Mul', Neg', Row_of-Expr, end_of-Expr}
 use Rattle.index_notation.specs.declared.syntax.Expr.{more_of-Expr}
-use Rattle.index_notation.specs.declared.syntax.Operator.TheVariants.{Add, Sub, Mul}
 use Rattle.expr_terms.specs.Value.{access_value_or_zero, value_of, value_of_in, minus}
 use Rattle.workspaces.specs.Presence.{access_is_present, is_listed, is_present, is_present_in}
 use Rattle.workspaces.specs.PresenceLaws.{AreZeroElsewhere}
@@ -60,15 +59,15 @@ module _ (a : Arithmetic) (laws : Laws a) (paths : ℕ → List ℕ → Bool) (v
     pub absent_is_zero : (e : Expr) → is_present paths accesses point e ≡ false → value_of a values accesses point e ≡ a.zero
     absent_is_zero (Num n) h = cc
     absent_is_zero (AccessOf k) h = access_absent (slice_get accesses k) h
-    absent_is_zero (Binary' Add p e q f) h =
+    absent_is_zero (Add' p e q f) h =
         let none = neither (is_present_in paths accesses point e) (is_present_in paths accesses point f) h in
         zeros_add (value_of_in a values accesses point e) (value_of_in a values accesses point f)
         (absent_inside e none.0) (absent_inside f none.1)
-    absent_is_zero (Binary' Sub p e q f) h =
+    absent_is_zero (Sub' p e q f) h =
         let none = neither (is_present_in paths accesses point e) (is_present_in paths accesses point f) h in
         zeros_add (value_of_in a values accesses point e) (minus a (value_of_in a values accesses point f))
         (absent_inside e none.0) (minus_zero (value_of_in a values accesses point f) (absent_inside f none.1))
-    absent_is_zero (Binary' Mul p e q f) h =
+    absent_is_zero (Mul' p e q f) h =
         elim (not_both (is_present_in paths accesses point e) (is_present_in paths accesses point f) h) [
           | inl first ↦ zero_times (value_of_in a values accesses point e) (value_of_in a values accesses point f) (absent_inside e first)
           | inr second ↦ times_none (value_of_in a values accesses point e) (value_of_in a values accesses point f) (absent_inside f second)
