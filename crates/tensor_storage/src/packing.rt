@@ -7,6 +7,7 @@ ghost use Rattle.tensor_storage.specs.Packed.{ArePacked, IsRefusal};
 ghost use Rattle.tensor_storage.specs.Stands.{IsPacked};
 ghost use Rattle.tensor_storage.specs.Storages.{IsStorage, storage_of, in_level_order};
 ghost use Rattle.tensor_storage.specs.Tables.{AreBelow};
+ghost use Rattle.tensor_storage.specs.Levels.{meaning};
 
 use crate::kinds::{chain_end, new_level};
 use crate::level::StorageLevel;

@@ -1,8 +1,9 @@
 -- What may be wrong with a line of a `.tns` file.
 use Rattle.std.specs.Prelude.{◌≡◌, ℕ, zero, suc, ◌+◌, ℤ, Bool, true, false, cond, ◌==◌, nat_lt, List, [], ◌∷◌, length, Option, Some, None}
-use Rattle.std.specs.Prelude.{Result, Ok, Err, refl}
-use Rattle.std.proofs.Common.{ap, subst}
+use Rattle.std.specs.Prelude.{Result, Ok, Err, IfErr, MatchResult, refl}
+use Rattle.std.proofs.Common.{subst}
 use Rattle.limits.specs.Limits.{greatest_file_coordinate, greatest_line_bytes}
+use Rattle.tensor_map.specs.Entries.{Entries}
 use Rattle.tensor_map.specs.declared.entries.Entry.{Entry}
 use Rattle.text_lines.specs.Lines.{lines}
 use Rattle.text_lines.specs.Numbers.{number_of, read_whole_of}
@@ -15,6 +16,9 @@ use Rattle.tns_io.specs.Reading.{is_entry_kind, coordinate_from, coordinate_of, 
 use Rattle.tns_io.specs.Reading.{is_comment, Reading, read_or_bad, reading_of_tokens, reading, BadLine, before_others, entries_from}
 use Rattle.tns_io.specs.Reading.{entries_of_text}
 use Rattle.tns_io.specs.Reading.Reading.{Skipped, Read, Bad}
+use Rattle.tns_io.specs.TnsReader.{IsOfEntries, IsRead, Refuses, TnsReader}
+use Rattle.tns_io.specs.declared.file_fault.FileFault.{FileFault}
+use Rattle.tns_io.specs.declared.file_fault.FileFault.TheVariants.{Line, Memory}
 
 -- a result's kind, if it is refused, is one of a `.tns` line
 abbrev kinds : {X : Type 0} → Result X LineKind → Bool
@@ -98,3 +102,13 @@ lines_kinds order number (line ∷ more) =
 pub bad_kinds : (order : ℕ) (text : List ℕ) (number : ℕ) (kind : LineKind)
     → entries_of_text order text ≡ Err (record { number = number; kind = kind }) → is_entry_kind kind ≡ true
 bad_kinds order text number kind is = subst (λ r. list_kinds r ≡ true) is (lines_kinds order 1 (lines text))
+
+-- so is that of a refusal
+pub refused_kinds : (reader : TnsReader) (fault : FileFault) → Refuses reader fault → IsOfEntries fault
+refused_kinds reader (Line line kind) h = bad_kinds reader.order reader.text h.1.number kind h.1.bad
+refused_kinds reader (Memory e) h = tt
+
+pub answered_kinds : (reader : TnsReader) (answer : Result Entries FileFault) → MatchResult answer (IsRead reader) (Refuses reader)
+    → IfErr answer IsOfEntries
+answered_kinds reader (Ok entries) h = tt
+answered_kinds reader (Err fault) h = refused_kinds reader fault h
