@@ -3,7 +3,7 @@ ghost use Rattle.std.specs.Prelude.{◌≡◌, ℕ, List, OnOk, IfErr, [], ◌�
 ghost use Rattle.std.specs.Fmt.{decimal};
 ghost use Rattle.outside.specs.Sink.{Appends};
 ghost use Rattle.text_lines.specs.Puts.{AppendsPart};
-ghost use Rattle.limits.specs.Limits.{greatest_file_bytes};
+ghost use Rattle.limits.specs.Limits.{greatest_nesting, greatest_literal};
 ghost use Rattle.bindings.specs.declared.fault.WordFault.TheVariants.{RangeLimit};
 ghost use Rattle.index_notation.specs.declared.fault.NotationFault.TheVariants as notation;
 ghost use Rattle.refusals.specs.Lines.{name_at, limit_at, too_many_at, notation_line, name_line, word_line, format_text, binding_line};
@@ -73,11 +73,11 @@ fn text_of_kind(kind: LineKind) -> &'static [u8]
 }
 
 /// Appends the line of a text that passes a limit at this byte, which stands between these words.
-fn put_limit_at<S: Sink>(
+fn put_limit_at<'x, S: Sink>(
     sink: &mut S,
-    before: &[u8],
+    before: &'x [u8],
     limit: u64,
-    behind: &[u8],
+    behind: &'x [u8],
     at: usize,
 ) -> Result<(), Refusal>
     ensures whole { OnOk result (Appends (S.state sink.old) (S.state sink.new) (limit_at before.now limit behind.now at)) }
@@ -143,6 +143,34 @@ fn put_bad_notation<S: Sink>(sink: &mut S, at: usize) -> Result<(), Refusal>
     put_pieces(sink, &pieces)
 }
 
+/// Appends the line of a text that opens too many levels at this byte.
+fn put_too_deep<S: Sink>(sink: &mut S, at: usize) -> Result<(), Refusal>
+    ensures whole { OnOk result (Appends (S.state sink.old) (S.state sink.new) (limit_at (codes "nesting deeper than ") greatest_nesting [] at)) }
+    ensures part { IfErr result (AppendsPart (S.state sink.old) (S.state sink.new) (limit_at (codes "nesting deeper than ") greatest_nesting [] at)) }
+{
+    put_limit_at(
+        sink,
+        b"nesting deeper than ",
+        greatest_nesting_of_expression(),
+        b"",
+        at,
+    )
+}
+
+/// Appends the line of a text with a number at this byte that is too great.
+fn put_above_literal<S: Sink>(sink: &mut S, at: usize) -> Result<(), Refusal>
+    ensures whole { OnOk result (Appends (S.state sink.old) (S.state sink.new) (limit_at (codes "literal above ") greatest_literal [] at)) }
+    ensures part { IfErr result (AppendsPart (S.state sink.old) (S.state sink.new) (limit_at (codes "literal above ") greatest_literal [] at)) }
+{
+    put_limit_at(
+        sink,
+        b"literal above ",
+        greatest_literal_of_expression(),
+        b"",
+        at,
+    )
+}
+
 /// Appends the line of a text that is no statement.
 fn put_notation_line<S: Sink>(sink: &mut S, fault: &NotationFault) -> Result<(), Refusal>
     ensures whole { OnOk result (Appends (S.state sink.old) (S.state sink.new) (notation_line fault.now)) }
@@ -151,15 +179,9 @@ fn put_notation_line<S: Sink>(sink: &mut S, fault: &NotationFault) -> Result<(),
     match fault {
         NotationFault::TextLength => put_too_long(sink),
         NotationFault::BadNotation { at } => put_bad_notation(sink, *at),
-        NotationFault::TooDeep { at } => {
-            let limit = greatest_nesting_of_expression();
-            put_limit_at(sink, b"nesting deeper than ", limit, b"", *at)
-        }
+        NotationFault::TooDeep { at } => put_too_deep(sink, *at),
         NotationFault::TooMany { what, at } => put_too_many(sink, *what, *at),
-        NotationFault::LiteralRange { at } => {
-            let limit = greatest_literal_of_expression();
-            put_limit_at(sink, b"literal above ", limit, b"", *at)
-        }
+        NotationFault::LiteralRange { at } => put_above_literal(sink, *at),
         NotationFault::Memory(_) => put_all(sink, MEMORY),
     }
 }
@@ -222,18 +244,18 @@ fn put_of_path<'x, S: Sink>(sink: &mut S, path: &'x str, text: &'x [u8]) -> Resu
     )
 }
 
-/// Appends the line of a file with more bytes than may be.
-fn put_file_bytes<S: Sink>(sink: &mut S, path: &str) -> Result<(), Refusal>
+/// Appends the line of a file with more bytes than this.
+fn put_file_bytes<S: Sink>(sink: &mut S, path: &str, limit: u64) -> Result<(), Refusal>
     ensures whole { OnOk result (Appends (S.state sink.old) (S.state sink.new)
-        (joined (codes "taco: " ∷ path.now ∷ codes ": more than " ∷ decimal greatest_file_bytes ∷ codes " bytes\n" ∷ []))) }
+        (joined (codes "taco: " ∷ path.now ∷ codes ": more than " ∷ decimal limit ∷ codes " bytes\n" ∷ []))) }
     ensures part { IfErr result (AppendsPart (S.state sink.old) (S.state sink.new)
-        (joined (codes "taco: " ∷ path.now ∷ codes ": more than " ∷ decimal greatest_file_bytes ∷ codes " bytes\n" ∷ []))) }
+        (joined (codes "taco: " ∷ path.now ∷ codes ": more than " ∷ decimal limit ∷ codes " bytes\n" ∷ []))) }
 {
     let pieces = [
         Piece::Text(b"taco: "),
         Piece::Text(path.as_bytes()),
         Piece::Text(b": more than "),
-        Piece::Number(greatest_bytes_of_file()),
+        Piece::Number(limit),
         Piece::Text(b" bytes\n"),
     ];
     put_pieces(sink, &pieces)
@@ -531,7 +553,7 @@ pub fn put_line<S: Sink>(sink: &mut S, fault: &Fault<'_>) -> Result<(), Refusal>
         Fault::Named { statement, fault } => put_named_line(sink, statement, fault),
         Fault::WorkspaceLimit(count) => put_workspace(sink, *count),
         Fault::ReadFault(path) => put_of_path(sink, path, b": read fault\n"),
-        Fault::FileBytes(path) => put_file_bytes(sink, path),
+        Fault::FileBytes(path) => put_file_bytes(sink, path, greatest_bytes_of_file()),
         Fault::BadFile { path, line, kind } => put_bad_line(sink, path, *line, *kind),
         Fault::WriteFault(None) => put_all(sink, b"taco: standard output: write fault\n"),
         Fault::WriteFault(Some(path)) => put_of_path(sink, path, b": write fault\n"),

@@ -13,4 +13,4 @@ may_be_written reader (Ok entries) is = λ others same. read_in_range reader.ord
 may_be_written reader (Err fault) is = tt
 
 pub returns : goal.returns
-returns c = may_be_written _ c.finish.result c.finish.ensures
+returns c = may_be_written _ c.finish.result c.finish.ensures.told
