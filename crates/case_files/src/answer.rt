@@ -39,6 +39,12 @@ impl Answer {
         self.note(added);
     }
 
+    /// Adds bytes between double quotes, with escapes.
+    pub fn quote(&mut self, bytes: &[u8]) {
+        let added = write!(self.text, "\"{}\"", bytes.escape_ascii());
+        self.note(added);
+    }
+
     fn note(&mut self, added: Result<(), AllocError>) {
         if added.is_err() {
             self.wants_memory = true;
@@ -78,7 +84,8 @@ impl Answer {
         self.wants_memory
     }
 
-    pub(crate) fn as_str(&self) -> &str {
+    /// What was told.
+    pub fn as_str(&self) -> &str {
         self.text.as_str()
     }
 }
