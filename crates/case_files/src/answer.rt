@@ -39,6 +39,14 @@ impl Answer {
         self.note(added);
     }
 
+    /// Adds values, each behind a blank.
+    pub fn show_all<T: Debug>(&mut self, values: &[T]) {
+        for value in values {
+            self.tell(" ");
+            self.show(value);
+        }
+    }
+
     /// Adds bytes between double quotes, with escapes.
     pub fn quote(&mut self, bytes: &[u8]) {
         let added = write!(self.text, "\"{}\"", bytes.escape_ascii());
