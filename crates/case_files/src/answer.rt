@@ -1,6 +1,6 @@
 //! What is told of a case.
 ghost use Rattle.std.specs.Prelude.{◌≡◌};
-ghost use Rattle.core.specs.Result.{result_ok};
+ghost use Rattle.std.specs.Result.{result_ok};
 
 use bstr::ByteVec;
 use std::alloc::{AllocError, Global};
@@ -34,7 +34,7 @@ impl Answer {
     }
 
     /// Adds a value, as `{:?}` prints it.
-    pub fn show<T: Debug>(&mut self, value: T) {
+    pub fn show<T: Debug + Drop>(&mut self, value: T) {
         let added = write!(self.text, "{value:?}");
         self.note(added);
     }
