@@ -5,6 +5,7 @@
 
 mod answer;
 mod running;
+mod texts;
 
 pub use answer::Answer;
 pub use running::{Cases, keyword_of, run_answers, run_lines};
