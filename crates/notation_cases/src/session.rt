@@ -1,14 +1,13 @@
-// The lines of a case file, one after another.
-use crate::checks::checked_numbers;
-use crate::formats::{dense_shape, format_shape};
-use crate::forms::form_shape;
-use crate::graphs::{edge_shape, graph_shape};
-use crate::grouped::group_shape;
-use crate::ranged::range_shape;
-use crate::shapes::{fault_shape, name_shape, statement_shape};
-use crate::texts::spelled;
-use anyhow::{Result, bail};
-use index_notation::{NotationFault, Statement};
+//! The lines of a case file, one after another.
+use crate::formats::tell_format;
+use crate::forms::tell_form;
+use crate::graphs::{tell_edges, tell_graph};
+use crate::numbered::tell_numbered;
+use crate::ranged::tell_ranges;
+use crate::statements::{tell_groups, tell_statement};
+use case_files::{Answer, Cases, keyword_of};
+use expr_terms::check_names;
+use index_notation::Statement;
 use notation_reader::parse;
 use std::alloc::Global;
 
@@ -27,60 +26,39 @@ impl Session {
         }
     }
 
-    // What comes of a line.
-    pub(crate) fn answer(&mut self, line: &str) -> Result<String> {
-        let (keyword, rest) = line.split_once(' ').unwrap_or((line, ""));
-        match keyword {
-            "text" => self.read_text(rest),
-            "names" => self.check_names(rest),
-            "groups" => self.read_groups(rest),
-            "ranges" => match &self.statement {
-                Some(statement) => range_shape(self.alloc, statement, rest),
-                None => bail!("no statement"),
-            },
-            "edges" => match &self.statement {
-                Some(statement) => edge_shape(self.alloc, statement, rest),
-                None => bail!("no statement"),
-            },
-            "form" => match &self.statement {
-                Some(statement) => form_shape(self.alloc, statement, rest),
-                None => bail!("no statement"),
-            },
-            "graph" => graph_shape(self.alloc, rest),
-            "format" => format_shape(self.alloc, rest),
-            "dense" => dense_shape(self.alloc, rest),
-            "numbers" => checked_numbers(self.alloc, rest),
-            _ => bail!("no such line"),
-        }
-    }
-
-    // The statement of a text, which is kept, or its fault.
-    fn read_text(&mut self, text: &str) -> Result<String> {
-        let text = spelled(self.alloc, text)?;
-        match parse(self.alloc, text.as_str()) {
+    /// Tells the statement of a text, which is kept, or its fault.
+    fn read_text(&mut self, answer: &mut Answer, text: &str) -> Option<()> {
+        let text = answer.repeated(text)?;
+        let bytes = answer.bytes(text.as_str())?;
+        match parse(self.alloc, str::from_utf8(bytes.as_slice()).ok()?) {
             Ok(statement) => {
-                let shape = statement_shape(self.alloc, &statement)?;
+                tell_statement(answer, &statement)?;
                 self.statement = Some(statement);
-                Ok(shape)
             }
-            Err(NotationFault::Memory(error)) => Err(error.into()),
-            Err(fault) => Ok(fault_shape(self.alloc, &fault)?),
+            Err(fault) => answer.show(&fault),
         }
+        Some(())
     }
+}
 
-    // Whether the names of a text's statement pass, or their fault.
-    fn check_names(&mut self, text: &str) -> Result<String> {
-        match parse(self.alloc, text) {
-            Ok(statement) => Ok(name_shape(self.alloc, &statement)?),
-            Err(_) => bail!("no statement"),
-        }
-    }
-
-    // The groups of a text's statement.
-    fn read_groups(&mut self, text: &str) -> Result<String> {
-        match parse(self.alloc, text) {
-            Ok(statement) => Ok(group_shape(self.alloc, &statement)?),
-            Err(_) => bail!("no statement"),
+impl Cases for Session {
+    fn read_line(&mut self, line: &str, answer: &mut Answer) -> Option<()> {
+        let (keyword, rest) = keyword_of(line);
+        match keyword {
+            "text" => self.read_text(answer, rest),
+            "names" => {
+                let statement = parse(self.alloc, rest).ok()?;
+                answer.show(&check_names(&statement));
+                Some(())
+            }
+            "groups" => tell_groups(answer, &parse(self.alloc, rest).ok()?),
+            "ranges" => tell_ranges(answer, self.statement.as_ref()?, rest),
+            "edges" => tell_edges(answer, self.statement.as_ref()?, rest),
+            "form" => tell_form(answer, self.statement.as_ref()?, rest),
+            "graph" => tell_graph(answer, rest),
+            "format" | "dense" => tell_format(answer, keyword, rest),
+            "numbers" => tell_numbered(answer, rest),
+            _ => None,
         }
     }
 }

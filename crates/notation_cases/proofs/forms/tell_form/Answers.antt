@@ -2,7 +2,7 @@ use Rattle.std.specs.Prelude.{length}
 use Rattle.std.proofs.Common.{sym, subst}
 use Rattle.concrete_notation.specs.Nests.{IsOrderOf}
 use Rattle.concrete_notation.proofs.Orders.{is_order_of}
-use Rattle.notation_cases.proofs.forms.form_shape.Goals as goal
+use Rattle.notation_cases.proofs.forms.tell_form.Goals as goal
 
 pub concretize-requires-clause-order : goal.concretize-requires-clause-order
 concretize-requires-clause-order c =

@@ -1,0 +1,64 @@
+//! Statements by their numbers, and whether they are well formed.
+use case_files::{Answer, keyword_of};
+use index_notation::{Access, Expr, Name, Statement};
+use trees::{Boxed, Items};
+
+fn names_of(answer: &mut Answer, count: u64) -> Option<Items<Name>> {
+    let mut names = Items::new(answer.alloc());
+    for _ in 0..count {
+        let bytes = Items::from_slice(answer.alloc(), b"n").ok()?;
+        let added = names.push(Name { bytes });
+        answer.made(added)?;
+    }
+    Some(names)
+}
+
+/// An access `TENSOR VARIABLE ..`.
+fn access_of(answer: &mut Answer, text: &str) -> Option<Access> {
+    let (tensor, words) = keyword_of(text.trim());
+    let mut vars = Items::new(answer.alloc());
+    for word in words.split_whitespace() {
+        let added = vars.push(word.parse::<usize>().ok()?);
+        answer.made(added)?;
+    }
+    let tensor = tensor.parse::<usize>().ok()?;
+    Some(Access { tensor, vars })
+}
+
+/// The product of the first so many accesses.
+fn product_of(answer: &mut Answer, factors: u64) -> Option<Expr> {
+    let mut expr = Expr::Access(0);
+    for n in 1..factors {
+        let product = Boxed::new(answer.alloc(), expr).ok()?;
+        let factor = Boxed::new(answer.alloc(), Expr::Access(n as usize)).ok()?;
+        expr = Expr::Mul(product, factor);
+    }
+    Some(expr)
+}
+
+/// What the checks say of a statement of so many tensors, variables and factors, and of its accesses, the left one first.
+pub(crate) fn tell_numbered(answer: &mut Answer, text: &str) -> Option<()> {
+    let mut parts = text.split('|');
+    let counts = answer.numbers(parts.next()?)?;
+    let [tensors, vars, factors] = counts.as_slice() else {
+        return None;
+    };
+    let left = access_of(answer, parts.next()?)?;
+    let mut accesses = Items::new(answer.alloc());
+    for part in parts {
+        let added = accesses.push(access_of(answer, part)?);
+        answer.made(added)?;
+    }
+    let statement = Statement {
+        tensors: names_of(answer, *tensors)?,
+        vars: names_of(answer, *vars)?,
+        left,
+        accesses,
+        expr: product_of(answer, *factors)?,
+    };
+    answer.tell("numbered ");
+    answer.show(&statement.is_numbered());
+    answer.tell(", well named ");
+    answer.show(&statement.is_well_named());
+    Some(())
+}

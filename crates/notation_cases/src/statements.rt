@@ -1,0 +1,100 @@
+//! Statements and their groups, as they are told.
+use case_files::Answer;
+use expr_terms::{Term, groups};
+use index_notation::{Expr, Name, Statement, copy_access, copy_expr, copy_name};
+
+/// Each name, by way of a copy.
+fn tell_names(answer: &mut Answer, names: &[Name]) -> Option<()> {
+    for name in names {
+        let name = copy_name(answer.alloc(), name);
+        let name = answer.made(name)?;
+        answer.tell(str::from_utf8(name.bytes.as_slice()).ok()?);
+        answer.tell(" ");
+    }
+    answer.tell("| ");
+    Some(())
+}
+
+/// Each operation in brackets, and accesses by their numbers behind `#`.
+pub(crate) fn tell_expr(answer: &mut Answer, expr: &Expr) {
+    match expr {
+        Expr::Num(n) => answer.show(n),
+        Expr::Access(n) => {
+            answer.tell("#");
+            answer.show(n);
+        }
+        Expr::Add(first, second) => {
+            answer.tell("(");
+            tell_expr(answer, first.get());
+            answer.tell("+");
+            tell_expr(answer, second.get());
+            answer.tell(")");
+        }
+        Expr::Sub(first, second) => {
+            answer.tell("(");
+            tell_expr(answer, first.get());
+            answer.tell("-");
+            tell_expr(answer, second.get());
+            answer.tell(")");
+        }
+        Expr::Mul(first, second) => {
+            answer.tell("(");
+            tell_expr(answer, first.get());
+            answer.tell("*");
+            tell_expr(answer, second.get());
+            answer.tell(")");
+        }
+        Expr::Neg(inner) => {
+            answer.tell("-");
+            tell_expr(answer, inner.get());
+        }
+    }
+}
+
+/// The tensors, the variables, the left access, those of the right side, and the expression, all by way of copies.
+pub(crate) fn tell_statement(answer: &mut Answer, statement: &Statement) -> Option<()> {
+    tell_names(answer, statement.tensors.as_slice())?;
+    tell_names(answer, statement.vars.as_slice())?;
+    let left = copy_access(answer.alloc(), &statement.left);
+    let left = answer.made(left)?;
+    answer.show(&left.tensor);
+    answer.show(left.vars.as_slice());
+    answer.tell(" =");
+    for access in statement.accesses.as_slice() {
+        let access = copy_access(answer.alloc(), access);
+        let access = answer.made(access)?;
+        answer.tell(" ");
+        answer.show(&access.tensor);
+        answer.show(access.vars.as_slice());
+    }
+    answer.tell(" | ");
+    let expr = copy_expr(answer.alloc(), &statement.expr);
+    let expr = answer.made(expr)?;
+    tell_expr(answer, &expr);
+    Some(())
+}
+
+/// Whether it is taken away or added, and the term.
+pub(crate) fn tell_term(answer: &mut Answer, term: &Term) {
+    answer.tell(if term.negated { "-" } else { "+" });
+    tell_expr(answer, &term.expr);
+}
+
+fn tell_terms(answer: &mut Answer, terms: &[Term]) {
+    for term in terms {
+        answer.tell(" ");
+        tell_term(answer, term);
+    }
+    answer.tell("\n");
+}
+
+/// The groups of a statement, in order.
+pub(crate) fn tell_groups(answer: &mut Answer, statement: &Statement) -> Option<()> {
+    let groups = groups(answer.alloc(), statement);
+    let groups = answer.made(groups)?;
+    for group in groups.list.as_slice() {
+        answer.show(group.vars.as_slice());
+        tell_terms(answer, group.terms.as_slice());
+    }
+    Some(())
+}
