@@ -18,8 +18,8 @@ use Rattle.text_lines.specs.Tokens.{tokens}
 use Rattle.text_lines.specs.declared.num_fault.NumFault.TheVariants.{NumRange as OutOfRange}
 use Rattle.mtx_io.specs.Banner.{needs_minus}
 use Rattle.mtx_io.specs.Due.{IsWithin}
-use Rattle.mtx_io.specs.Entry.{PlacedValue, index_from, index_of, value_of, place_from, placed, entry_of_three, entry_of_one}
-use Rattle.mtx_io.specs.Entry.{entry_of, coords_of}
+use Rattle.mtx_io.specs.Entry.{PlacedValue, index_from, index_of, value_of, place_from, placed, entry_of_two, entry_of_three}
+use Rattle.mtx_io.specs.Entry.{entry_of, entry_of_one, coords_of}
 use Rattle.mtx_io.specs.Entry.{own_entry, mirror_image, entries_by, entries_of}
 use Rattle.mtx_io.specs.Fields.{one_token, two_tokens, three_tokens}
 use Rattle.mtx_io.specs.Matrix.{NumberedLine, BadLine, numbered, kept, or_fault, banner_line, size_line, entry_due}
@@ -28,14 +28,14 @@ use Rattle.mtx_io.specs.Matrix.{before_others, entries_from, matrix_with, behind
 use Rattle.mtx_io.specs.Matrix.{matrix_from, matrix_of_text}
 use Rattle.mtx_io.specs.Places.{first_row, column_from, columns_from, places}
 use Rattle.mtx_io.specs.Progress.{IsMatrixOrder}
-use Rattle.mtx_io.specs.Size.{Slot, Anywhere, At, Sized, agree, suits, number_to, header_from, header_of, entries_due, values_due}
+use Rattle.mtx_io.specs.Size.{Slot, Anywhere, Valued, At, Sized, agree, suits, number_to, header_from, header_of, entries_due, values_due}
 use Rattle.mtx_io.specs.Size.{coordinate_size}
 use Rattle.mtx_io.specs.Size.{array_size, size_by, size_of}
 use Rattle.mtx_io.specs.SizeLaws.{IsOfSizes}
 use Rattle.mtx_io.specs.Text.{IsBelow}
 use Rattle.mtx_io.specs.declared.banner.Banner.{Banner}
 use Rattle.mtx_io.specs.declared.banner.Layout.{Layout}
-use Rattle.mtx_io.specs.declared.banner.Layout.TheVariants.{Coordinate, Array}
+use Rattle.mtx_io.specs.declared.banner.Layout.TheVariants.{Coordinate, Pattern, Array}
 use Rattle.mtx_io.specs.declared.banner.Symmetry.{Symmetry}
 use Rattle.mtx_io.specs.declared.banner.Symmetry.TheVariants.{General, Symmetric, SkewSymmetric}
 use Rattle.mtx_io.specs.declared.header.Header.{Header}
@@ -53,6 +53,7 @@ record AreSizes (order : ℕ) (header : Header) : Type 0 where
 
 abbrev IsSlot : Header → Slot → Type 0
 IsSlot header Anywhere = Unit {0}
+IsSlot header (Valued value) = Unit {0}
 IsSlot header (At place) = IsWithin header place
 
 record IsSizedWell (order : ℕ) (sized : Sized) : Type 0 where
@@ -91,9 +92,10 @@ header_of_well order which rows columns =
     header_well order which (number_to greatest_matrix_size rows) (number_to greatest_matrix_size columns)
     (number_small greatest_matrix_size rows) (number_small greatest_matrix_size columns)
 
-anywhere_well : (header : Header) (count : ℕ) → All (IsSlot header) (replicate count Anywhere)
-anywhere_well header zero = All-nil (IsSlot header)
-anywhere_well header (suc count) = All-cons (IsSlot header) Anywhere (replicate count Anywhere) tt (anywhere_well header count)
+entries_well : (header : Header) (slot : Slot) → IsSlot header slot → (count : ℕ) → All (IsSlot header) (replicate count slot)
+entries_well header slot well zero = All-nil (IsSlot header)
+entries_well header slot well (suc count) =
+    All-cons (IsSlot header) slot (replicate count slot) well (entries_well header slot well count)
 
 -- places of an array
 column_within : (header : Header) (row column count : ℕ) → count ≤ header.rows - row → column < header.columns
@@ -120,14 +122,15 @@ slots_at header (place ∷ all) each =
     All-cons (IsSlot header) (At place) (map At all) (each 0 place (omega arith))
     (slots_at header all (All-tail (IsWithin header) place all each))
 
-size_well : (order : ℕ) (banner : Banner) (words : List (List ℕ)) → IfSome (size_of order banner words) (IsSizedWell order)
-size_well order banner words = by banner.layout
+size_well : (one order : ℕ) (banner : Banner) (words : List (List ℕ)) → IfSome (size_of one order banner words) (IsSizedWell order)
+size_well one order banner words = by banner.layout
   where
-    entries : (header : Option Header) (count : Option ℕ) → IfSome header (AreSizes order)
-        → IfSome (entries_due header count) (IsSizedWell order)
-    entries None count good = tt
-    entries (Some header) None good = tt
-    entries (Some header) (Some count) good = record { sizes = good; slots_in = anywhere_well header count }
+    entries : (slot : Slot) → ((header : Header) → IsSlot header slot) → (header : Option Header) (count : Option ℕ)
+        → IfSome header (AreSizes order) → IfSome (entries_due slot header count) (IsSizedWell order)
+    entries slot well None count good = tt
+    entries slot well (Some header) None good = tt
+    entries slot well (Some header) (Some count) good =
+        record { sizes = good; slots_in = entries_well header slot (well header) count }
 
     values : (header : Option Header) → IfSome header (AreSizes order) → IfSome (option_map values_due header) (IsSizedWell order)
     values None good = tt
@@ -136,17 +139,19 @@ size_well order banner words = by banner.layout
       slots_in = slots_at header (places header.symmetry header.rows header.columns) (columns_within header 0 header.columns (omega arith));
     }
 
-    three : (t : Option (List ℕ × List ℕ × List ℕ)) → IfSome (coordinate_size order banner.symmetry t) (IsSizedWell order)
-    three None = tt
-    three (Some t) = entries (header_of order banner.symmetry t.0 t.1) (number_to greatest_matrix_entries t.2)
+    three : (slot : Slot) → ((header : Header) → IsSlot header slot) → (t : Option (List ℕ × List ℕ × List ℕ))
+        → IfSome (coordinate_size slot order banner.symmetry t) (IsSizedWell order)
+    three slot well None = tt
+    three slot well (Some t) = entries slot well (header_of order banner.symmetry t.0 t.1) (number_to greatest_matrix_entries t.2)
         (header_of_well order banner.symmetry t.0 t.1)
 
     two : (t : Option (List ℕ × List ℕ)) → IfSome (array_size order banner.symmetry t) (IsSizedWell order)
     two None = tt
     two (Some t) = values (header_of order banner.symmetry t.0 t.1) (header_of_well order banner.symmetry t.0 t.1)
 
-    by : (layout : Layout) → IfSome (size_by order banner.symmetry layout words) (IsSizedWell order)
-    by Coordinate = three (three_tokens words)
+    by : (layout : Layout) → IfSome (size_by one order banner.symmetry layout words) (IsSizedWell order)
+    by Coordinate = three Anywhere (λ header. tt) (three_tokens words)
+    by Pattern = three (Valued one) (λ header. tt) (three_tokens words)
     by Array = two (two_tokens words)
 
 -- what an entry line tells
@@ -187,6 +192,14 @@ module _ (header : Header) where
       by None = tt
       by (Some t) =
           placed_within (place_from header.symmetry (index_of header.rows t.0) (index_of header.columns t.1)) (value_of t.2)
+          (place_within header.symmetry (index_of header.rows t.0) (index_of header.columns t.1)
+          (index_below header.rows (number_of t.0)) (index_below header.columns (number_of t.1)))
+  entry_within (Valued value) words inside = by (two_tokens words)
+    where
+      by : (t : Option (List ℕ × List ℕ)) → IfOk (entry_of_two header value t) (λ told. IsWithin header told.place)
+      by None = tt
+      by (Some t) =
+          placed_within (place_from header.symmetry (index_of header.rows t.0) (index_of header.columns t.1)) (Ok value)
           (place_within header.symmetry (index_of header.rows t.0) (index_of header.columns t.1)
           (index_below header.rows (number_of t.0)) (index_below header.columns (number_of t.1)))
   entry_within (At place) words inside = by (one_token words)
@@ -300,8 +313,8 @@ module _ (a : Arithmetic) (order : ℕ) (is : IsMatrixOrder order) where
       with_below sized.header well.sizes (entries_from a sized.header end sized.slots more)
       (lines_below a order is sized.header well.sizes end sized.slots more well.slots_in)
 
-  size_line_well : (banner : Banner) (line : List ℕ) → IfOk (size_line order banner line) (IsSizedWell order)
-  size_line_well banner line = by (is_long line) (size_of order banner (tokens line)) (size_well order banner (tokens line))
+  size_line_well : (banner : Banner) (line : List ℕ) → IfOk (size_line a.one order banner line) (IsSizedWell order)
+  size_line_well banner line = by (is_long line) (size_of a.one order banner (tokens line)) (size_well a.one order banner (tokens line))
     where
       by : (b : Bool) (size : Option Sized) → IfSome size (IsSizedWell order)
           → IfOk (cond b (Err LongLine) (or_fault BadSize size)) (IsSizedWell order)
@@ -312,7 +325,7 @@ module _ (a : Arithmetic) (order : ℕ) (is : IsMatrixOrder order) where
   sized_below : (end : ℕ) (banner : Banner) (taken : List NumberedLine) → IfOk (sized_from a order end banner taken) (IsOfSizes order)
   sized_below end banner [] = tt
   sized_below end banner (line ∷ more) =
-      behind_size_below end line.number (size_line order banner line.bytes) more (size_line_well banner line.bytes)
+      behind_size_below end line.number (size_line a.one order banner line.bytes) more (size_line_well banner line.bytes)
 
   banner_below : (end number : ℕ) (banner : Result Banner LineKind) (more : List NumberedLine)
       → IfOk (behind_banner a order end number banner more) (IsOfSizes order)

@@ -87,24 +87,25 @@ module _ (a : Arithmetic) (has_minus : Bool) (order : ℕ) where
 
   -- the size line
   pub size_good : (count : ℕ) (line : List ℕ) (banner : Banner) (sized : Sized) → is_long line ≡ false → is_skipped line ≡ false
-      → Some sized ≡ size_of order banner (tokens line) → Follows a has_minus order count line [] (Begun banner) [] (SizedStage sized)
+      → Some sized ≡ size_of a.one order banner (tokens line) → Follows a has_minus order count line [] (Begun banner) [] (SizedStage sized)
   size_good count line banner sized short here e number more counts =
       ap told (
       (λ i. matrix_with sized.header
       (behind_none (entries_from a sized.header (next_end number line more i) sized.slots (kept (numbered (number + 1) more))) i))
       ∙ (λ i. behind_size a (number + length (line ∷ more)) number (or_fault BadSize (e i)) (kept (numbered (number + 1) more)))
       ∙ (λ i. behind_size a (number + length (line ∷ more)) number
-      (sym (short_line line (or_fault BadSize (size_of order banner (tokens line))) short) i) (kept (numbered (number + 1) more)))
+      (sym (short_line line (or_fault BadSize (size_of a.one order banner (tokens line))) short) i) (kept (numbered (number + 1) more)))
       ∙ (λ i. sized_from a order (number + length (line ∷ more)) banner (sym (kept_more number line more here) i)))
 
   pub size_bad : (count : ℕ) (line : List ℕ) (entries : List Entry) (banner : Banner) → is_long line ≡ false → is_skipped line ≡ false
-      → None ≡ size_of order banner (tokens line) → Follows a has_minus order count line entries (Begun banner) entries (Bad count BadSize)
+      → None ≡ size_of a.one order banner (tokens line)
+      → Follows a has_minus order count line entries (Begun banner) entries (Bad count BadSize)
   size_bad count line entries banner short here e number more counts =
       bad_told number count BadSize counts
       ∙ ap told (
       (λ i. behind_size a (number + length (line ∷ more)) number (or_fault BadSize (e i)) (kept (numbered (number + 1) more)))
       ∙ (λ i. behind_size a (number + length (line ∷ more)) number
-      (sym (short_line line (or_fault BadSize (size_of order banner (tokens line))) short) i) (kept (numbered (number + 1) more)))
+      (sym (short_line line (or_fault BadSize (size_of a.one order banner (tokens line))) short) i) (kept (numbered (number + 1) more)))
       ∙ (λ i. sized_from a order (number + length (line ∷ more)) banner (sym (kept_more number line more here) i)))
 
   -- an entry line

@@ -1,9 +1,10 @@
--- What small texts stand for: an entry and its mirror image, the places of an array, and the first bad line.
+-- What small texts stand for: an entry and its mirror image, the places of a pattern and of an array, and the first bad line.
 use Rattle.std.specs.Prelude.{◌≡◌, ◌-◌, ◌^◌, ◌∷◌, [], codes, true, false, Ok, Err, refl}
 use Rattle.limits.specs.Limits.{greatest_file_coordinate, greatest_line_bytes, greatest_matrix_entries, greatest_matrix_size}
 use Rattle.numbers.specs.Ring.{ring, word_product}
 use Rattle.mtx_io.specs.Matrix.{matrix_of_text}
-use Rattle.text_lines.specs.declared.line_kind.LineKind.TheVariants.{BadBanner, NoMinus, BadSize, Extra, Truncated, CoordRange, SkewDiagonal}
+use Rattle.text_lines.specs.declared.line_kind.LineKind.TheVariants.{BadBanner, NoMinus, BadSize, Fields, Extra, Truncated, CoordRange}
+use Rattle.text_lines.specs.declared.line_kind.LineKind.TheVariants.{SkewDiagonal}
 
 -- an entry and its mirror image
 pub mirrored_entry : matrix_of_text ring true 2
@@ -16,6 +17,18 @@ pub mirrored_entry : matrix_of_text ring true 2
     })
 unfolding greatest_file_coordinate greatest_line_bytes greatest_matrix_entries greatest_matrix_size ring word_product
 mirrored_entry = refl
+
+-- a pattern, whose entries are ones
+pub mirrored_pattern : matrix_of_text ring true 2
+    (codes "%%MatrixMarket matrix coordinate pattern symmetric\n2 2 2\n1 1\n2 1\n")
+    ≡ Ok (record {
+      rows = 2;
+      columns = 2;
+      entries = record { coords = 0 ∷ 0 ∷ []; value = 1 } ∷ record { coords = 1 ∷ 0 ∷ []; value = 1 }
+          ∷ record { coords = 0 ∷ 1 ∷ []; value = 1 } ∷ [];
+    })
+unfolding greatest_file_coordinate greatest_line_bytes greatest_matrix_entries greatest_matrix_size ring word_product
+mirrored_pattern = refl
 
 -- the places of arrays
 pub skew_places : matrix_of_text ring true 2 (codes "%%MatrixMarket matrix array integer skew-symmetric\n3 3\n1\n2\n0\n")
@@ -40,6 +53,16 @@ unfolding greatest_file_coordinate greatest_line_bytes greatest_matrix_entries g
 general_places = refl
 
 -- first bad lines
+pub skew_pattern : matrix_of_text ring true 2 (codes "%%MatrixMarket matrix coordinate pattern skew-symmetric\n2 2 0\n")
+    ≡ Err (record { number = 1; kind = BadBanner })
+unfolding greatest_file_coordinate greatest_line_bytes greatest_matrix_entries greatest_matrix_size ring word_product
+skew_pattern = refl
+
+pub pattern_with_value : matrix_of_text ring true 2 (codes "%%MatrixMarket matrix coordinate pattern general\n2 2 1\n1 1 1\n")
+    ≡ Err (record { number = 3; kind = Fields })
+unfolding greatest_file_coordinate greatest_line_bytes greatest_matrix_entries greatest_matrix_size ring word_product
+pattern_with_value = refl
+
 pub empty_text : matrix_of_text ring true 2 [] ≡ Err (record { number = 1; kind = BadBanner })
 unfolding greatest_file_coordinate greatest_line_bytes greatest_matrix_entries greatest_matrix_size ring word_product
 empty_text = refl

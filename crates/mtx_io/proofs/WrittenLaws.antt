@@ -211,24 +211,24 @@ module _ (ranges : List ℕ) (are : AreRanges ranges) where
   count_fits : (count : ℕ) → count ≤ greatest_matrix_entries → count < 2 ^ 64
   count_fits count h = let wide : 2 ^ 62 ≤ 2 ^ 64 = lit≤ tt in omega (arith, matrix_entries_are_small)
 
-  size_read : (count : ℕ) → count ≤ greatest_matrix_entries
-      → size_line (length ranges) general (bare_size ranges count) ≡ Ok
+  size_read : (one count : ℕ) → count ≤ greatest_matrix_entries
+      → size_line one (length ranges) general (bare_size ranges count) ≡ Ok
       (record { header = written_header ranges; slots = replicate count Anywhere })
   unfolding bare_size general
-  size_read count few =
+  size_read one count few =
       let printed = decimal_printed count (count_fits count few) in
       let a : List ℕ = decimal (rows_of ranges) in
       let b : List ℕ = decimal (columns_of ranges) in
       let c : List ℕ = decimal count in
-      ap (λ long. cond long (Err LongLine) (or_fault BadSize (size_of (length ranges) general (tokens (bare_line a b c)))))
+      ap (λ long. cond long (Err LongLine) (or_fault BadSize (size_of one (length ranges) general (tokens (bare_line a b c)))))
       (bare_short a b c rows_printed columns_printed printed)
-      ∙ ap (λ ts. or_fault BadSize (size_of (length ranges) general ts)) (bare_tokens a b c rows_printed columns_printed printed)
-      ∙ (λ i. or_fault BadSize (entries_due (header_from (length ranges) General
+      ∙ ap (λ ts. or_fault BadSize (size_of one (length ranges) general ts)) (bare_tokens a b c rows_printed columns_printed printed)
+      ∙ (λ i. or_fault BadSize (entries_due Anywhere (header_from (length ranges) General
       (number_read greatest_matrix_size (rows_of ranges) (rows_small ranges are) (size_fits (rows_of ranges) (rows_small ranges are)) i)
       (number_read greatest_matrix_size (columns_of ranges) (columns_small ranges are)
       (size_fits (columns_of ranges) (columns_small ranges are)) i))
       (number_read greatest_matrix_entries count few (count_fits count few) i)))
-      ∙ ap (λ header. or_fault BadSize (entries_due header (Some count))) (header_read ranges are)
+      ∙ ap (λ header. or_fault BadSize (entries_due Anywhere header (Some count))) (header_read ranges are)
 
 -- a place below the ranges
 place_below : (ranges coords : List ℕ) → IsMatrixOrder (length ranges) → IsBelow ranges coords
@@ -405,7 +405,7 @@ module _ (ranges : List ℕ) (are : AreRanges ranges) where
       ∙ ap (λ banner. behind_banner a order end 1 banner (numbered 2 (size ∷ rest))) (banner_read has_minus)
       ∙ ap (λ b. sized_from a order end general (cond (not b) (record { number = 2; bytes = size } ∷ others) others))
       (size_kept (length entries) few)
-      ∙ ap (λ sized. behind_size a end 2 sized others) (size_read ranges are (length entries) few)
+      ∙ ap (λ sized. behind_size a end 2 sized others) (size_read ranges are a.one (length entries) few)
       ∙ ap (matrix_with (written_header ranges)) (entries_read a end 3 entries written)
 
 -- what entries are written as is the text of their tensor

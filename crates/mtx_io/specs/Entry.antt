@@ -9,8 +9,8 @@ use Rattle.text_lines.specs.Numbers.{number_of, read_whole_of}
 use Rattle.text_lines.specs.declared.num_fault.NumFault.{NumFault}
 use Rattle.text_lines.specs.declared.num_fault.NumFault.TheVariants.{NotNumber as NoNumber, NotWhole as NoWhole, NumRange as NoRange}
 use Rattle.mtx_io.specs.Banner.{needs_minus}
-use Rattle.mtx_io.specs.Fields.{one_token, three_tokens}
-use Rattle.mtx_io.specs.Size.{Slot, Anywhere, At}
+use Rattle.mtx_io.specs.Fields.{one_token, two_tokens, three_tokens}
+use Rattle.mtx_io.specs.Size.{Slot, Anywhere, Valued, At}
 use Rattle.mtx_io.specs.declared.banner.Symmetry.{Symmetry}
 use Rattle.mtx_io.specs.declared.banner.Symmetry.TheVariants.{General, Symmetric, SkewSymmetric}
 use Rattle.mtx_io.specs.declared.header.Header.{Header}
@@ -61,6 +61,12 @@ entry_of_three header None = Err Fields
 entry_of_three header (Some words) =
     placed (place_from header.symmetry (index_of header.rows words.0) (index_of header.columns words.1)) (value_of words.2)
 
+-- a line that tells where an entry of this value stands
+abbrev pub entry_of_two : Header → ℕ → Option (List ℕ × List ℕ) → Result PlacedValue LineKind
+entry_of_two header value None = Err Fields
+entry_of_two header value (Some words) =
+    placed (place_from header.symmetry (index_of header.rows words.0) (index_of header.columns words.1)) (Ok value)
+
 abbrev pub entry_of_one : Place → Option (List ℕ) → Result PlacedValue LineKind
 entry_of_one place None = Err Fields
 entry_of_one place (Some token) = placed (Ok place) (value_of token)
@@ -68,6 +74,7 @@ entry_of_one place (Some token) = placed (Ok place) (value_of token)
 -- what the tokens of an entry line tell
 abbrev pub entry_of : Header → Slot → List (List ℕ) → Result PlacedValue LineKind
 entry_of header Anywhere tokens = entry_of_three header (three_tokens tokens)
+entry_of header (Valued value) tokens = entry_of_two header value (two_tokens tokens)
 entry_of header (At place) tokens = entry_of_one place (one_token tokens)
 
 -- the coordinates of a place: in a tensor of order 1 the row alone

@@ -67,8 +67,8 @@ banner_within has_minus (Ok banner) = with_minus has_minus banner
 abbrev pub banner_line : Bool → List ℕ → Result Banner LineKind
 banner_line has_minus line = unless_long line (banner_within has_minus (or_fault BadBanner (banner_of (tokens line))))
 
-abbrev pub size_line : ℕ → Banner → List ℕ → Result Sized LineKind
-size_line order banner line = unless_long line (or_fault BadSize (size_of order banner (tokens line)))
+abbrev pub size_line : ℕ → ℕ → Banner → List ℕ → Result Sized LineKind
+size_line one order banner line = unless_long line (or_fault BadSize (size_of one order banner (tokens line)))
 
 -- what is due on an entry line, or that none is
 abbrev pub entry_due : Header → List Slot → List (List ℕ) → Result PlacedValue LineKind
@@ -107,7 +107,7 @@ behind_size a end number (Ok sized) more = matrix_with sized.header (entries_fro
 -- of the lines that are kept behind the banner the first is the size line
 abbrev pub sized_from : Arithmetic → ℕ → ℕ → Banner → List NumberedLine → Result Matrix BadLine
 sized_from a order end banner [] = Err (record { number = end; kind = Truncated })
-sized_from a order end banner (line ∷ more) = behind_size a end line.number (size_line order banner line.bytes) more
+sized_from a order end banner (line ∷ more) = behind_size a end line.number (size_line a.one order banner line.bytes) more
 
 abbrev pub behind_banner : Arithmetic → ℕ → ℕ → ℕ → Result Banner LineKind → List NumberedLine → Result Matrix BadLine
 behind_banner a order end number (Err kind) more = Err (record { number = number; kind = kind })

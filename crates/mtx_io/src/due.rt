@@ -1,6 +1,6 @@
 //! The entry lines that are still due.
 ghost use Rattle.std.specs.Prelude.{◌≡◌, ◌<◌, ◌-◌, ◌^◌, [], ◌∷◌, drop, IfSome, MatchOption};
-ghost use Rattle.mtx_io.specs.Due.{IsWithin, places_left, is_nothing};
+ghost use Rattle.mtx_io.specs.Due.{IsWithin, places_left, is_nothing, slot_with};
 ghost use Rattle.mtx_io.specs.Matrix.{entry_due};
 ghost use Rattle.mtx_io.specs.Places.{first_row, columns_from};
 ghost use Rattle.mtx_io.specs.Fields.{two_tokens as two, three_tokens as three};
@@ -19,8 +19,8 @@ use text_lines::{LineKind, read_index};
 /// What is still due.
 #[derive(Clone, Copy, Debug)]
 pub(crate) enum Due {
-    /// So many entries, each on a line that tells its place.
-    Entries(u64),
+    /// So many entries, each on a line that tells its place, and its value where this isn't it.
+    Entries { count: u64, value: Option<u64> },
     /// The values of an array, of which the next stands at this place, if any is left.
     Values(Option<Place>),
 }
@@ -119,14 +119,15 @@ fn number_up_to(token: &[u8], greatest: u64) -> Option<u64>
 }
 
 impl EntryLines {
-    /// What a size line says is due. None where the line is none.
-    pub(crate) fn read(order: usize, banner: Banner, line: &[u8]) -> Option<EntryLines>
-        ensures size { result ≡ size_of order banner (tokens line.now) }
+    /// What a size line says is due, where each entry of a pattern has the value `one`. None where the line is none.
+    pub(crate) fn read(order: usize, banner: Banner, one: u64, line: &[u8]) -> Option<EntryLines>
+        ensures size { result ≡ size_of one order banner (tokens line.now) }
         ensures order { IfSome result (λ sized. sized.header.order ≡ order) }
         ensures symmetry { IfSome result (λ sized. sized.header.symmetry ≡ banner.symmetry) }
     {
         match banner.layout {
-            Layout::Coordinate => entries_due(order, banner.symmetry, line),
+            Layout::Coordinate => entries_due(order, banner.symmetry, None, line),
+            Layout::Pattern => entries_due(order, banner.symmetry, Some(one), line),
             Layout::Array => values_due(order, banner.symmetry, line),
         }
     }
@@ -142,7 +143,7 @@ impl EntryLines {
     pub(crate) fn are_complete(&self) -> bool
         ensures { result ≡ is_nothing self.now.slots }
     {
-        matches!(self.due, Due::Entries(0) | Due::Values(None))
+        matches!(self.due, Due::Entries { count: 0, .. } | Due::Values(None))
     }
 
     /// What an entry line tells, or what is wrong with it: it is then no longer due.
@@ -152,12 +153,13 @@ impl EntryLines {
         ensures left { self.new.slots ≡ drop 1 self.old.slots }
     {
         match self.due {
-            Due::Entries(count) => {
+            Due::Entries { count, value } => {
                 if count == 0 {
                     return Err(LineKind::Extra);
                 }
-                self.due = Due::Entries(count - 1);
-                read_entry(&self.header, line)
+                let count = count - 1;
+                self.due = Due::Entries { count, value };
+                read_entry(&self.header, value, line)
             }
             Due::Values(None) => Err(LineKind::Extra),
             Due::Values(Some(place)) => {
@@ -168,9 +170,14 @@ impl EntryLines {
     }
 }
 
-/// The entries that the size line of a coordinate file says are due.
-fn entries_due(order: usize, symmetry: Symmetry, line: &[u8]) -> Option<EntryLines>
-    ensures size { result ≡ coordinate_size order symmetry (three (tokens line.now)) }
+/// The entries that the size line of a coordinate file says are due, each of this value if it is known.
+fn entries_due(
+    order: usize,
+    symmetry: Symmetry,
+    value: Option<u64>,
+    line: &[u8],
+) -> Option<EntryLines>
+    ensures size { result ≡ coordinate_size (slot_with value) order symmetry (three (tokens line.now)) }
     ensures order { IfSome result (λ sized. sized.header.order ≡ order) }
     ensures symmetry { IfSome result (λ sized. sized.header.symmetry ≡ symmetry) }
 {
@@ -179,7 +186,7 @@ fn entries_due(order: usize, symmetry: Symmetry, line: &[u8]) -> Option<EntryLin
     let count = number_up_to(count, greatest_entries_of_matrix())?;
     Some(EntryLines {
         header,
-        due: Due::Entries(count),
+        due: Due::Entries { count, value },
     })
 }
 

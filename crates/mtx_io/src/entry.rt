@@ -1,13 +1,15 @@
 //! The entry lines of a file.
 ghost use Rattle.std.specs.Prelude.{◌≡◌, ◌++◌, ◌∷◌, [], true, OnOk};
 ghost use Rattle.mtx_io.specs.Banner.{needs_minus};
-ghost use Rattle.mtx_io.specs.Entry.{index_of, value_of, place_at, place_from, entry_of_three, entry_of_one, entries_by, coords_of};
-ghost use Rattle.mtx_io.specs.Fields.{one_token as one, three_tokens as three};
+ghost use Rattle.mtx_io.specs.Due.{slot_with};
+ghost use Rattle.mtx_io.specs.Entry.{index_of, value_of, place_at, place_from, entry_of, entry_of_one, entry_of_two, entry_of_three};
+ghost use Rattle.mtx_io.specs.Entry.{entries_by, coords_of};
+ghost use Rattle.mtx_io.specs.Fields.{one_token as one, two_tokens as two, three_tokens as three};
 ghost use Rattle.mtx_io.specs.Progress.{IsMatrixOrder};
 ghost use Rattle.text_lines.specs.Tokens.{tokens};
 
 use crate::banner::Symmetry;
-use crate::fields::{one_token, three_tokens};
+use crate::fields::{one_token, three_tokens, two_tokens};
 use crate::header::Header;
 use crate::place::{Place, PlacedValue};
 use limits::greatest_coordinate_in_file;
@@ -52,18 +54,50 @@ fn place_in(symmetry: Symmetry, row: u64, column: u64) -> Result<Place, LineKind
     }
 }
 
+/// The place of the row and the column that these tokens tell.
+fn read_place(header: &Header, row: &[u8], column: &[u8]) -> Result<Place, LineKind>
+    ensures { result ≡ place_from header.now.symmetry (index_of header.now.rows row.now) (index_of header.now.columns column.now) }
+{
+    let row = read_index_in(row, header.rows)?;
+    let column = read_index_in(column, header.columns)?;
+    place_in(header.symmetry, row, column)
+}
+
 /// What a line that has a row, a column and a value tells.
-pub(crate) fn read_entry(header: &Header, line: &[u8]) -> Result<PlacedValue, LineKind>
+fn read_whole_entry(header: &Header, line: &[u8]) -> Result<PlacedValue, LineKind>
     ensures { result ≡ entry_of_three header.now (three (tokens line.now)) }
 {
     let Some((row, column, value)) = three_tokens(line) else {
         return Err(LineKind::Fields);
     };
-    let row = read_index_in(row, header.rows)?;
-    let column = read_index_in(column, header.columns)?;
-    let place = place_in(header.symmetry, row, column)?;
+    let place = read_place(header, row, column)?;
     let value = read_value(value)?;
     Ok(PlacedValue { place, value })
+}
+
+/// What a line that has the row and the column of an entry of this value tells.
+fn read_entry_of(header: &Header, value: u64, line: &[u8]) -> Result<PlacedValue, LineKind>
+    ensures { result ≡ entry_of_two header.now value (two (tokens line.now)) }
+{
+    let Some((row, column)) = two_tokens(line) else {
+        return Err(LineKind::Fields);
+    };
+    let place = read_place(header, row, column)?;
+    Ok(PlacedValue { place, value })
+}
+
+/// What the line of an entry tells, whose value is known or stands there too.
+pub(crate) fn read_entry(
+    header: &Header,
+    value: Option<u64>,
+    line: &[u8],
+) -> Result<PlacedValue, LineKind>
+    ensures { result ≡ entry_of header.now (slot_with value) (tokens line.now) }
+{
+    match value {
+        None => read_whole_entry(header, line),
+        Some(value) => read_entry_of(header, value, line),
+    }
 }
 
 /// What a line that has the value at this place tells.

@@ -1,6 +1,5 @@
 //! A file, line by line. No line that comes here is too long.
 ghost use Rattle.std.specs.Prelude.{◌≡◌, ◌<◌, ◌++◌, ◌∷◌, ℕ, Bool, List, length, [], true, false, IfOk, OnErr};
-ghost use Rattle.numbers.specs.Arithmetic.{Arithmetic};
 ghost use Rattle.mtx_io.specs.Matrix.{is_skipped};
 ghost use Rattle.text_lines.specs.Cutting.{is_long};
 ghost use Rattle.mtx_io.specs.Progress.{Follows, IsStage, IsMatrixOrder};
@@ -41,14 +40,14 @@ fn after_first<S: Semiring>(line: &[u8], number: u64) -> Stage
 }
 
 /// How far the file is read with its size line.
-fn after_size(order: usize, banner: Banner, line: &[u8], number: u64) -> Stage
+fn after_size<S: Semiring>(order: usize, banner: Banner, line: &[u8], number: u64) -> Stage
     requires short { is_long line.now ≡ false }
     requires kept { is_skipped line.now ≡ false }
     ensures stage { (has_minus : Bool) → IsStage has_minus order [] (Begun banner) → IsStage has_minus order [] result }
-    ensures follows { (a : Arithmetic) (has_minus : Bool) → Follows a has_minus order number line.now [] (Begun banner) [] result }
+    ensures follows { (has_minus : Bool) → Follows S.arithmetic has_minus order number line.now [] (Begun banner) [] result }
     ensures known { (taken : List (List ℕ)) → 0 < length taken → IsKnown result (taken ++ line.now ∷ []) }
 {
-    match EntryLines::read(order, banner, line) {
+    match EntryLines::read(order, banner, S::one(), line) {
         Some(lines) => Stage::Sized(lines),
         None => Stage::Bad {
             line: number,
@@ -107,7 +106,7 @@ pub(crate) fn after_line<S: Semiring>(
     match stage {
         Stage::First => Ok(after_first::<S>(line, number)),
         Stage::Begun(banner) if is_passed_over(line) => Ok(Stage::Begun(banner)),
-        Stage::Begun(banner) => Ok(after_size(entries.order(), banner, line, number)),
+        Stage::Begun(banner) => Ok(after_size::<S>(entries.order(), banner, line, number)),
         Stage::Sized(lines) if is_passed_over(line) => Ok(Stage::Sized(lines)),
         Stage::Sized(lines) => after_entry::<S>(lines, entries, line, number),
         Stage::Bad { line, kind } => Ok(Stage::Bad { line, kind }),

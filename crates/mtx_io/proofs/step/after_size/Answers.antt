@@ -3,9 +3,9 @@ use Rattle.mtx_io.proofs.ProgressLaws.{size_good}
 use Rattle.mtx_io.proofs.step.after_size.Goals as goal
 
 pub returns-in-Some-clause-follows : goal.returns-in-Some-clause-follows
-returns-in-Some-clause-follows c =
-    λ a has_minus. size_good a has_minus c.args.order c.args.number c.args.line.now c.args.banner c.in-Some.lines c.requires.short
-    c.requires.kept c.in-Some.ensures.size
+returns-in-Some-clause-follows g c =
+    λ has_minus. size_good g.S.Semiring.arithmetic has_minus c.args.order c.args.number c.args.line.now c.args.banner c.in-Some.lines
+    c.requires.short c.requires.kept c.in-Some.ensures.size
 
 pub returns-in-Some-clause-known : goal.returns-in-Some-clause-known
-returns-in-Some-clause-known c = λ taken some. known_sized taken c.args.line.now some c.requires.kept
+returns-in-Some-clause-known g c = λ taken some. known_sized taken c.args.line.now some c.requires.kept
