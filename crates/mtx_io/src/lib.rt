@@ -1,5 +1,5 @@
-//! What Matrix Market files (`.mtx`) of integers and of patterns say and what is written into them: `specs/Matrix.antt` defines what a text stands
-//! for, by the banner (`specs/Banner.antt`), the size line (`specs/Size.antt`) and the entry lines (`specs/Entry.antt`),
+//! What Matrix Market files (`.mtx`) of integers and of patterns say and what is written into them: `specs/Matrix.antt` defines what
+//! a text stands for, by the banner (`specs/Banner.antt`), the size line (`specs/Size.antt`) and the entry lines (`specs/Entry.antt`),
 //! `specs/Text.antt` the text of a tensor. `MtxReader` reads a file in pieces (`specs/MtxReader.antt`), `put_mtx` writes one,
 //! and `laws` claims that what is written stands for its tensor.
 #![tactic(auto)]
