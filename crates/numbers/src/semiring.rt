@@ -1,5 +1,5 @@
 // How values are added and multiplied: the trait that all computing with values goes through.
-ghost use Rattle.std.specs.Prelude.{◌≡◌, ℕ, Option, Some, None, Bool, true};
+ghost use Rattle.std.specs.Prelude.{◌≡◌, ℕ, Option, Some, None, Bool, true, refl};
 ghost use Rattle.numbers.specs.Arithmetic.{Arithmetic, Laws, MinusLaws, IfMinus};
 ghost use Rattle.numbers.specs.Ring.{ring};
 ghost use Rattle.numbers.specs.RingLaws.{ring_laws, ring_minus_laws};
@@ -13,8 +13,15 @@ pub trait Semiring {
     /// Whether there is a minus: a number that makes zero with one.
     ghost has_minus: { Bool };
 
+    /// Whether these are the whole numbers modulo 2^64.
+    ghost is_ring: { Bool };
+
     /// The semiring's name, as a kernel's text and a command line have it.
     const NAME: &'static str;
+
+    /// Whether these are the whole numbers modulo 2^64: code adds and multiplies them as it does words.
+    fn is_ring() -> bool
+        ensures { result ≡ is_ring };
 
     /// The word that a sum starts from.
     fn zero() -> u64
@@ -36,6 +43,9 @@ pub trait Semiring {
     fn times(a: u64, b: u64) -> u64
         ensures { result ≡ arithmetic.times a b };
 
+    /// What is told to be the ring is the ring.
+    ghost ring_is: { is_ring ≡ true → arithmetic ≡ ring };
+
     /// Sums and products keep the laws.
     ghost laws: { Laws arithmetic };
 
@@ -52,7 +62,13 @@ impl Semiring for Ring {
 
     ghost has_minus = { true };
 
+    ghost is_ring = { true };
+
     const NAME: &'static str = "ring";
+
+    fn is_ring() -> bool {
+        true
+    }
 
     fn zero() -> u64 {
         crate::zero()
@@ -74,6 +90,8 @@ impl Semiring for Ring {
     fn times(a: u64, b: u64) -> u64 {
         crate::mul(a, b)
     }
+
+    ghost ring_is = { λ _. refl };
 
     ghost laws = { ring_laws };
 
