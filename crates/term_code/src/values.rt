@@ -6,11 +6,11 @@ ghost use Rattle.loop_code.specs.Places.{EachAccess};
 ghost use Rattle.loop_code.specs.PresentValues.{present_value};
 ghost use Rattle.term_code.specs.Places.{AreBelow};
 ghost use Rattle.term_code.specs.Options.{LeavesOption};
-ghost use Rattle.term_code.specs.OptionCodes.{number_code, access_code, either_code, both_code, each_code};
+ghost use Rattle.term_code.specs.OptionCodes.{number_code, access_code, operator_for, combine_code, either_code, both_code, each_code};
 
 use crate::places::{AccessPlace, Places};
 use index_notation::Expr;
-use kernel_code::{Arr, KExpr, KStmt, ValueOp, one_statement, word_at};
+use kernel_code::{Arr, KExpr, KStmt, Op, ValueOp, binary, one_statement, word_at};
 use numbers::Semiring;
 use std::alloc::{AllocError, Global};
 use trees::Items;
@@ -43,28 +43,60 @@ fn access(alloc: Global, place: AccessPlace, free: u64) -> Result<Items<KStmt>, 
     Ok(code)
 }
 
-/// The sum or the product of two values that are there.
-fn combined(alloc: Global, op: ValueOp, free: u64) -> Result<Items<KStmt>, AllocError>
-    requires { free ≤ 2 ^ 62 }
-    ensures { IfOk result (λ code. code ≡ KStmt.Combine (free + 1) op (KExpr.Var (free + 1)) (KExpr.Var (free + 2 + 1)) ∷ []) }
+/// The operator of words that the ring's sum or product is.
+fn operator_for(op: ValueOp) -> Op
+    ensures { result ≡ operator_for op }
 {
-    one_statement(
-        alloc,
-        KStmt::Combine(free + 1, op, KExpr::Var(free + 1), KExpr::Var(free + 2 + 1)),
-    )
+    match op {
+        ValueOp::Plus => Op::Add,
+        ValueOp::Times => Op::Mul,
+    }
+}
+
+/// Leaves the sum or the product of two values in a variable.
+fn combined<S: Semiring>(
+    alloc: Global,
+    x: u64,
+    op: ValueOp,
+    first: KExpr,
+    second: KExpr,
+) -> Result<Items<KStmt>, AllocError>
+    ensures { IfOk result (λ code. code ≡ combine_code S.is_ring x op first second ∷ []) }
+{
+    if S::is_ring() {
+        let words = binary(alloc, operator_for(op), first, second)?;
+        one_statement(alloc, KStmt::Set(x, words))
+    } else {
+        one_statement(alloc, KStmt::Combine(x, op, first, second))
+    }
+}
+
+/// Leaves the sum or the product of two values that are there in place of the first.
+fn combined_pair<S: Semiring>(
+    alloc: Global,
+    op: ValueOp,
+    free: u64,
+) -> Result<Items<KStmt>, AllocError>
+    requires { free ≤ 2 ^ 62 }
+    ensures { IfOk result
+        (λ code. code ≡ combine_code S.is_ring (free + 1) op (KExpr.Var (free + 1)) (KExpr.Var (free + 2 + 1)) ∷ []) }
+{
+    let first = KExpr::Var(free + 1);
+    let second = KExpr::Var(free + 2 + 1);
+    combined::<S>(alloc, free + 1, op, first, second)
 }
 
 /// The sum of two values, of which an absent one counts nothing.
-fn sum(
+fn sum<S: Semiring>(
     alloc: Global,
     first: Items<KStmt>,
     second: Items<KStmt>,
     free: u64,
 ) -> Result<Items<KStmt>, AllocError>
     requires { free ≤ 2 ^ 62 }
-    ensures { IfOk result (λ code. code ≡ (first ++ second) ++ either_code free) }
+    ensures { IfOk result (λ code. code ≡ (first ++ second) ++ either_code S.is_ring free) }
 {
-    let two = combined(alloc, ValueOp::Plus, free)?;
+    let two = combined_pair::<S>(alloc, ValueOp::Plus, free)?;
     let mut other = one_statement(alloc, KStmt::Set(free, KExpr::Num(1)))?;
     other.push(KStmt::Set(free + 1, KExpr::Var(free + 2 + 1)))?;
     let there = one_statement(alloc, KStmt::If(KExpr::Var(free), two, other))?;
@@ -75,16 +107,16 @@ fn sum(
 }
 
 /// The product of two values, absent where one is.
-fn product(
+fn product<S: Semiring>(
     alloc: Global,
     first: Items<KStmt>,
     second: Items<KStmt>,
     free: u64,
 ) -> Result<Items<KStmt>, AllocError>
     requires { free ≤ 2 ^ 62 }
-    ensures { IfOk result (λ code. code ≡ (first ++ second) ++ both_code free) }
+    ensures { IfOk result (λ code. code ≡ (first ++ second) ++ both_code S.is_ring free) }
 {
-    let two = combined(alloc, ValueOp::Times, free)?;
+    let two = combined_pair::<S>(alloc, ValueOp::Times, free)?;
     let none = one_statement(alloc, KStmt::Set(free, KExpr::Num(0)))?;
     let there = one_statement(alloc, KStmt::If(KExpr::Var(free + 2), two, none))?;
     let mut code = first;
@@ -101,18 +133,12 @@ pub(crate) fn negated<S: Semiring>(
 ) -> Result<Items<KStmt>, AllocError>
     requires minus { S.has_minus ≡ true }
     requires room { free ≤ 2 ^ 63 }
-    ensures { IfOk result (λ code. code ≡ value ++ each_code S.arithmetic.minus_one free) }
+    ensures { IfOk result (λ code. code ≡ value ++ each_code S.is_ring S.arithmetic.minus_one free) }
 {
     let minus_one = S::minus_one().unwrap();
-    let there = one_statement(
-        alloc,
-        KStmt::Combine(
-            free + 1,
-            ValueOp::Times,
-            KExpr::Num(minus_one),
-            KExpr::Var(free + 1),
-        ),
-    )?;
+    let number = KExpr::Num(minus_one);
+    let there =
+        combined::<S>(alloc, free + 1, ValueOp::Times, number, KExpr::Var(free + 1))?;
     let mut code = value;
     code.push(KStmt::If(KExpr::Var(free), there, Items::new(alloc)))?;
     Ok(code)
@@ -151,20 +177,20 @@ pub fn emit_value<S: Semiring>(
         Expr::Add(first, second) => {
             let x = emit_value::<S>(alloc, places, first.get(), free)?;
             let y = emit_value::<S>(alloc, places, second.get(), free + 2)?;
-            let code = sum(alloc, x, y, free)?;
+            let code = sum::<S>(alloc, x, y, free)?;
             Ok(code)
         }
         Expr::Sub(first, second) => {
             let x = emit_value::<S>(alloc, places, first.get(), free)?;
             let y = emit_value::<S>(alloc, places, second.get(), free + 2)?;
             let less = negated::<S>(alloc, y, free + 2)?;
-            let code = sum(alloc, x, less, free)?;
+            let code = sum::<S>(alloc, x, less, free)?;
             Ok(code)
         }
         Expr::Mul(first, second) => {
             let x = emit_value::<S>(alloc, places, first.get(), free)?;
             let y = emit_value::<S>(alloc, places, second.get(), free + 2)?;
-            let code = product(alloc, x, y, free)?;
+            let code = product::<S>(alloc, x, y, free)?;
             Ok(code)
         }
         Expr::Neg(inner) => {

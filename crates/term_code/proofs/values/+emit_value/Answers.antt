@@ -177,7 +177,8 @@ returns-in_ok-code-in-Add g t c = λ these stand.
     (leaves_same a places these free (λ stored env. either a.plus (present_value a (access_values stored env) e)
     (present_value a (access_values stored env) f)) (λ stored env. present_value a (access_values stored env) (Add e f)) _
     (λ stored env. sym (value_add a (access_values stored env) e f))
-    (sum_leaves a places these free c.requires.below (λ stored env. present_value a (access_values stored env) e)
+    (sum_leaves a places these free c.requires.below g.S.Semiring.is_ring g.S.Semiring.ring_is
+    (λ stored env. present_value a (access_values stored env) e)
     (λ stored env. present_value a (access_values stored env) f) c.in_ok-x-in-Add.x c.in_ok-y-in-Add.y one two)))
 
 pub returns-in_ok-code-in-Sub : goal.returns-in_ok-code-in-Sub
@@ -202,10 +203,11 @@ returns-in_ok-code-in-Sub g t c = λ these stand.
     (each (minus a) (present_value a (access_values stored env) f)))
     (λ stored env. present_value a (access_values stored env) (Sub e f)) _
     (λ stored env. sym (value_sub a (access_values stored env) e f))
-    (sum_leaves a places these free c.requires.below (λ stored env. present_value a (access_values stored env) e)
+    (sum_leaves a places these free c.requires.below g.S.Semiring.is_ring g.S.Semiring.ring_is
+    (λ stored env. present_value a (access_values stored env) e)
     (λ stored env. each (minus a) (present_value a (access_values stored env) f)) c.in_ok-x-in-Sub.x c.in_ok-less-in-Sub.less one
     (subst (LeavesOption a places these (λ stored env. each (minus a) (present_value a (access_values stored env) f)) (free + 2))
-    (sym c.in_ok-less-in-Sub.ensures) (negated_leaves a places these (free + 2)
+    (sym c.in_ok-less-in-Sub.ensures) (negated_leaves a g.S.Semiring.is_ring g.S.Semiring.ring_is places these (free + 2)
     (λ stored env. present_value a (access_values stored env) f) c.in_ok-y-in-Sub.y two)))))
 
 pub returns-in_ok-code-in-Mul : goal.returns-in_ok-code-in-Mul
@@ -229,7 +231,8 @@ returns-in_ok-code-in-Mul g t c = λ these stand.
     (leaves_same a places these free (λ stored env. both a.times (present_value a (access_values stored env) e)
     (present_value a (access_values stored env) f)) (λ stored env. present_value a (access_values stored env) (Mul e f)) _
     (λ stored env. sym (value_mul a (access_values stored env) e f))
-    (product_leaves a places these free c.requires.below (λ stored env. present_value a (access_values stored env) e)
+    (product_leaves a places these free c.requires.below g.S.Semiring.is_ring g.S.Semiring.ring_is
+    (λ stored env. present_value a (access_values stored env) e)
     (λ stored env. present_value a (access_values stored env) f) c.in_ok-x-in-Mul.x c.in_ok-y-in-Mul.y one two)))
 
 pub returns-in_ok-code-in-Neg : goal.returns-in_ok-code-in-Neg
@@ -248,7 +251,7 @@ returns-in_ok-code-in-Neg g t c = λ these stand.
     (sym c.in_ok-code-in-Neg.ensures)
     (leaves_same a places these free (λ stored env. each (minus a) (present_value a (access_values stored env) e))
     (λ stored env. present_value a (access_values stored env) (Neg e)) _ (λ stored env. sym (value_neg a (access_values stored env) e))
-    (negated_leaves a places these free (λ stored env. present_value a (access_values stored env) e) c.in_ok-x-in-Neg.x one)))
+    (negated_leaves a g.S.Semiring.is_ring g.S.Semiring.ring_is places these free (λ stored env. present_value a (access_values stored env) e) c.in_ok-x-in-Neg.x one)))
 
 pub returns-in_ok-code-in-Num : goal.returns-in_ok-code-in-Num
 returns-in_ok-code-in-Num g t c = λ these stand.
