@@ -2,6 +2,7 @@
 use Rattle.std.specs.Prelude.{◌≡◌, ℕ, ◌+◌, ◌-◌, ◌^◌, ◌<◌, min, true, false}
 use Rattle.std.proofs.Common.{arith, lit<}
 use Rattle.numbers.specs.Arithmetic.{Arithmetic, Laws, MinusLaws}
+use Rattle.numbers.specs.Ring.{ring}
 
 -- the lesser of two costs, below a cap
 abbrev pub lesser : ℕ → ℕ → ℕ → ℕ
@@ -67,3 +68,6 @@ least_laws = record {
 -- there is no minus
 pub least_minus_laws : false ≡ true → MinusLaws least
 least_minus_laws e = cc
+
+pub least_is_no_ring : false ≡ true → least ≡ ring
+least_is_no_ring e = cc

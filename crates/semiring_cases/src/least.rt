@@ -1,6 +1,6 @@
 //! A second semiring: costs, of which the sum is the lesser one and the product both together.
 ghost use Rattle.std.specs.Prelude.{false};
-ghost use Rattle.semiring_cases.specs.Least.{least, least_laws, least_minus_laws};
+ghost use Rattle.semiring_cases.specs.Least.{least, least_is_no_ring, least_laws, least_minus_laws};
 
 use numbers::Semiring;
 
@@ -13,7 +13,13 @@ impl Semiring for Least {
 
     ghost has_minus = { false };
 
+    ghost is_ring = { false };
+
     const NAME: &'static str = "least";
+
+    fn is_ring() -> bool {
+        false
+    }
 
     #[tactic(auto, unfolding(crate::specs::Least::least))]
     fn zero() -> u64 {
@@ -38,6 +44,8 @@ impl Semiring for Least {
     fn times(a: u64, b: u64) -> u64 {
         a.saturating_add(b)
     }
+
+    ghost ring_is = { least_is_no_ring };
 
     ghost laws = { least_laws };
 
