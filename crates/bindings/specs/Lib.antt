@@ -1,4 +1,5 @@
 pub mod Words
+pub mod Files
 pub mod Bindings
 pub mod Outcome
 pub mod Views

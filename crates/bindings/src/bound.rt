@@ -10,6 +10,7 @@ ghost use Rattle.bindings.specs.Views.{said_in, HasNumber};
 ghost use Rattle.bindings.specs.Tables.{IsBound, HasPlaces};
 
 use crate::fault::WordFault;
+use crate::tensor_file::TensorFile;
 use crate::word::{FormatText, Word, read_word};
 use index_notation::{Access, Name, Statement};
 use indexmap::IndexMap;
@@ -19,7 +20,7 @@ use std::alloc::{AllocError, Global};
 #[derive(Drop)]
 pub(crate) struct Bound<'a> {
     pub(crate) texts: Vec<Option<FormatText<'a>>>,
-    pub(crate) files: IndexMap<usize, &'a str>,
+    pub(crate) files: IndexMap<usize, TensorFile<'a>>,
     pub(crate) ranges: Vec<Option<u64>>,
 }
 
@@ -87,7 +88,7 @@ fn needs_a_matrix(statement: &Statement, word: &Word<'_>, number: usize) -> bool
     ensures { result ≡ is_no_matrix statement.now (said_in word.now) }
 {
     match word {
-        Word::File { path, .. } if path.as_bytes().ends_with(b".mtx") => {
+        Word::File { file, .. } if file.is_matrix() => {
             let order = order_of(statement, number);
             !(order == 1 || order == 2)
         }
@@ -184,8 +185,8 @@ impl<'a> Bound<'a> {
     {
         match word {
             Word::Format { text, .. } => self.texts[number] = Some(text),
-            Word::File { path, .. } => {
-                self.files.insert(number, path)?;
+            Word::File { file, .. } => {
+                self.files.insert(number, file)?;
             }
             Word::Range { range, .. } => self.ranges[number] = range,
         }

@@ -2,10 +2,7 @@
 use Rattle.std.specs.Prelude.{◌≡◌, ◌⊎◌, ℕ, zero, suc, ◌+◌, ◌<◌, ◌≤◌, Bool, true, List, length, map, Option, Ok, Some, Vec, slice_index}
 use Rattle.std.specs.declared.alloc.Global.{Global}
 use Rattle.std.proofs.Common.{◌∙◌, sym, ap, subst, arith, inl, inr}
-use Rattle.std.proofs.lemmas.List.{length-map}
 use Rattle.lists.specs.Each.{Each}
-use Rattle.mtx_io.specs.Progress.{IsMatrixOrder}
-use Rattle.result_files.specs.EntriesText.{MayBeWritten}
 use Rattle.numbers.specs.Arithmetic.{Arithmetic, Laws}
 use Rattle.tensor_map.specs.Entries.{AreEntries, Entries}
 use Rattle.kernel_code.specs.declared.syntax.Kernel.{Kernel}
@@ -49,19 +46,6 @@ numbers_fit from (suc count) most each h =
     let first = each.0 in
     let rest = numbers_fit (from + 1) count most each.1 (omega (arith, first)) in
     omega (arith, rest)
-
--- the entries of such a tensor may be written
-pub written : (a : Arithmetic) (s : Statement) (operands : List Entries) (ranges : ℕ → ℕ) (shape : List ℕ) (entries : Entries)
-    → AreEntries entries → IsTensorOf a s operands ranges shape entries → (is_matrix : Bool)
-    → (is_matrix ≡ true → IsMatrixOrder (length s.left.vars))
-    → MayBeWritten is_matrix shape entries
-written a s operands ranges shape entries are t is_matrix order = record {
-  are = are;
-  order_is = t.order_is;
-  below = t.below;
-  increasing = t.increasing;
-  matrix = λ is. subst IsMatrixOrder (sym (t.order_is ∙ ap length t.shape_is ∙ length-map s.left.vars ranges)) (order is);
-}
 
 module _ (a : Arithmetic) (laws : Laws a) (s : Statement) (formats : List (List FormatLevel)) (kernel : Kernel)
     (right : IsRightKernel a s formats kernel) (given : List (Option ℕ)) (operands : List Entries) (bounds : List (Vec Bound Global))

@@ -1,9 +1,8 @@
 //! A statement computed by its kernel.
-ghost use Rattle.std.specs.Prelude.{◌≡◌, Bool, true, length, IfOk, IfErr};
-ghost use Rattle.mtx_io.specs.Progress.{IsMatrixOrder};
+ghost use Rattle.std.specs.Prelude.{IfOk, IfErr};
+ghost use Rattle.tensor_map.specs.Entries.{AreEntries};
 ghost use Rattle.format_spec.specs.Formats.{IsFormat};
 ghost use Rattle.kernel_stores.specs.Kernels.{IsRightKernel};
-ghost use Rattle.result_files.specs.EntriesText.{MayBeWritten};
 ghost use Rattle.operand_packing.specs.Runnable.{IsRunnable};
 ghost use Rattle.kernel_runs.specs.Runs.{IsRun, MayRefuse};
 
@@ -62,9 +61,8 @@ pub fn run_kernel<S: Semiring>(
     ensures run { IfOk result (λ run. IsRun S.arithmetic statement.now formats.items kernel.now given.now operands.entries.items
         operands.bounds.items run.shape run.entries run.tensor run.turns) }
 
-    // A result may be written, as a matrix where its order is that of one.
-    ensures written { IfOk result (λ run. (is_matrix : Bool) → (is_matrix ≡ true → IsMatrixOrder (length statement.now.left.vars))
-        → MayBeWritten is_matrix run.shape run.entries) }
+    // What is true of all entries is so of the result's.
+    ensures entries { IfOk result (λ run. AreEntries run.entries) }
 
     // The first fault, or what a level or the workspace would need, or want of memory.
     ensures refused { IfErr result (MayRefuse S.arithmetic statement.now formats.items given.now operands.entries.items

@@ -1,6 +1,6 @@
 -- The operands that are read one after another, and the files that were opened for them.
 use Rattle.std.proofs.Common.{◌≡◌, ℕ, zero, suc, ◌+◌, ◌<◌, List, [], ◌∷◌, ◌++◌, length, map, take, Some, refl, sym, ap, ◌∙◌, subst}
-use Rattle.std.proofs.Common.{arith, inl, inr, append_assoc, append-nil, length-append, Bor}
+use Rattle.std.proofs.Common.{arith, inl, inr, append_assoc, append-nil, length-append}
 use Rattle.std.proofs.lemmas.List.{length-map}
 use Rattle.std.proofs.lemmas.Option.{slice_get-get_or}
 use Rattle.std.specs.Prelude.{slice_get, slice_index_or}
@@ -9,6 +9,8 @@ use Rattle.outside.specs.Told.{Told}
 use Rattle.outside.proofs.Feeding.{writing_stays, writing_kept}
 use Rattle.tensor_map.specs.Entries.{Entries}
 use Rattle.expr_terms.specs.declared.bound.Bound.{Bound}
+use Rattle.bindings.specs.Tables.{paths_in}
+use Rattle.bindings.specs.declared.tensor_file.TensorFile.{TensorFile}
 use Rattle.operand_files.specs.Decoded.{Operand, IsReadable, AreReadable}
 use Rattle.operand_files.specs.Reads.{Meaning, Given, OnlyReads, CountsNothing, NoReadFails, IsOperand, AreOperands, paths_of, AreRead}
 use Rattle.operand_files.specs.Reads.{HaveRead, IsNext, IsReadFault, IsOpening, MayOpen, OpensFirst}
@@ -72,19 +74,15 @@ pub record IsRow (orders : List ℕ) (paths : List (List ℕ)) (n order : ℕ) (
   pub path_at : slice_get paths n ≡ Some path
   pub readable : IsReadable order path
 
-pub row_at : (orders : List ℕ) (paths : List (Bor (List ℕ))) (n : ℕ) (d : Bor (List ℕ))
-    → AreReadable orders (map (λ path. path.now) paths) → n < length paths
-    → IsRow orders (map (λ path. path.now) paths) n (slice_index_or orders n 0) (slice_index_or paths n d).now
-row_at orders paths n d are h =
-    let below : n < length (map (λ (path : Bor (List ℕ)). path.now) paths) = omega (
-      arith,
-      h,
-      length-map paths (λ (path : Bor
-          (List ℕ)). path.now),
-    ) in
-    let o = slice_get-get_or orders n 0 (order_there orders (map (λ path. path.now) paths) n are below) in
-    let p = mapped_at (λ (path : Bor (List ℕ)). path.now) paths n (slice_index_or paths n d) (slice_get-get_or paths n d h) in
-    record { order_at = o; path_at = p; readable = readable_at orders (map (λ path. path.now) paths) n _ _ are o p }
+pub row_at : (orders : List ℕ) (files : List TensorFile) (n : ℕ) (file : TensorFile) → AreReadable orders (paths_in files)
+    → n < length files → file ≡ slice_index_or files n file
+    → IsRow orders (paths_in files) n (slice_index_or orders n 0) file.path.now
+row_at orders files n file are h is =
+    let path : TensorFile → List ℕ = λ f. f.path.now in
+    let below : n < length (paths_in files) = omega (arith, h, length-map files path) in
+    let o = slice_get-get_or orders n 0 (order_there orders (paths_in files) n are below) in
+    let p = mapped_at path files n file (slice_get-get_or files n file h ∙ ap Some (sym is)) in
+    record { order_at = o; path_at = p; readable = readable_at orders (paths_in files) n _ _ are o p }
 
 paths-append : (files more : List Given) → paths_of (files ++ more) ≡ paths_of files ++ paths_of more
 paths-append [] more = refl

@@ -1,6 +1,5 @@
 -- How a command ends, from how its parts do.
 use Rattle.std.specs.Prelude.{◌≡◌, ℕ, ◌≤◌, ◌⊎◌, List, ◌++◌, Option, Some, Vec, Result, Ok, Err, OnOk, IfErr, refl}
-use Rattle.std.specs.Option.{option_map}
 use Rattle.std.proofs.Common.{◌∙◌, sym, ap, subst, inl, inr, arith}
 use Rattle.std.proofs.lemmas.List.{append-nil}
 use Rattle.std.specs.declared.alloc.Global.{Global}
@@ -17,6 +16,7 @@ use Rattle.tensor_map.specs.Entries.{Entries, value_at}
 use Rattle.format_spec.specs.declared.format.FormatLevel.{FormatLevel}
 use Rattle.kernel_code.specs.declared.syntax.Kernel.{Kernel}
 use Rattle.expr_terms.specs.declared.bound.Bound.{Bound}
+use Rattle.bindings.specs.Tables.{path_to}
 use Rattle.operand_files.specs.Reads.{OnlyReads}
 use Rattle.result_files.specs.Writes.{Puts, PutsAll, PutsFront, WritesResult, RefusesResult}
 use Rattle.result_files.specs.ResultText.{IsResultText}
@@ -138,7 +138,7 @@ reads_nothing files = record {
 module _ (words : List (List ℕ)) (files between files' : FolderState) (out out' : SinkState) (kept : Computed)
     (reads : OnlyReads files between) (is : IsPrepared words task.Run files between kept) where
   path : Option (List ℕ)
-  path = option_map (λ p. p.now) kept.path
+  path = path_to kept.file
 
   -- the text of the result's entries is that of the statement's values
   text_of_values : (text : List ℕ) → IsResultText ring path kept.result.shape (value_at ring kept.result.entries.list) text
@@ -152,7 +152,7 @@ module _ (words : List (List ℕ)) (files between files' : FolderState) (out out
       (result_value is.computed.request.statement is.computed.entries is.computed.ranges) text
       is.tensor.values_are text_is)
 
-  pub written : WritesResult ring (option_map (λ p. p.now) kept.path) kept.result.shape (value_at ring kept.result.entries.list)
+  pub written : WritesResult ring (path_to kept.file) kept.result.shape (value_at ring kept.result.entries.list)
       between files' out out' → IsWritten words files files' out out' kept.result.turns
   unfolding path
   written writes = record {
@@ -170,9 +170,9 @@ module _ (words : List (List ℕ)) (files between files' : FolderState) (out out
     };
   }
 
-  pub unwritten : (why : WriteRefusal) → RefusesResult ring (option_map (λ p. p.now) kept.path) kept.result.shape
+  pub unwritten : (why : WriteRefusal) → RefusesResult ring (path_to kept.file) kept.result.shape
       (value_at ring kept.result.entries.list) between files' out out' why
-      → IsUnwritten words files files' out out' (option_map (λ p. p.now) kept.path) why
+      → IsUnwritten words files files' out out' (path_to kept.file) why
   unfolding path
   unwritten why refuses = record {
     between = between;

@@ -1,6 +1,5 @@
 -- What is told between the parts of a command: how it ends, why a statement isn't computed, and what was computed.
 use Rattle.std.specs.Prelude.{◌≡◌, ℕ, List, Option, None, Result, Ok, Err, Vec, length, slice_index}
-use Rattle.std.specs.Option.{option_map}
 use Rattle.std.specs.declared.alloc.Global.{Global}
 use Rattle.numbers.specs.Ring.{ring}
 use Rattle.outside.specs.Folder.{FolderState}
@@ -10,6 +9,7 @@ use Rattle.index_notation.specs.declared.syntax.Statement.{Statement}
 use Rattle.expr_terms.specs.declared.bound.Bound.{Bound}
 use Rattle.operand_packing.specs.Runnable.{told_ranges}
 use Rattle.kernel_runs.specs.Runs.{IsTensorOf, IsTooLarge, NeedsPairs}
+use Rattle.bindings.specs.Tables.{path_to}
 use Rattle.result_files.specs.EntriesText.{MayBeWritten}
 use Rattle.result_files.specs.ResultText.{asks_matrix}
 use Rattle.storage_arrays.specs.Arrays.{AreDone}
@@ -51,7 +51,7 @@ IsUncomputed s formats given entries bounds _ = ⊥
 pub record IsPrepared (words : List (List ℕ)) (task : Task) (old new : FolderState) (kept : Computed) : Type 0 where
   pub computed : IsComputed words old new
   pub task_is : computed.request.task ≡ task
-  pub path_is : path_of computed.request.files 0 ≡ option_map (λ path. path.now) kept.path
+  pub path_is : path_of computed.request.files 0 ≡ path_to kept.file
   pub statement_is : computed.request.statement ≡ kept.statement
   pub formats_are : computed.request.formats ≡ kept.formats.items
   pub each_format : length kept.formats.items ≡ length kept.statement.tensors
@@ -61,5 +61,5 @@ pub record IsPrepared (words : List (List ℕ)) (task : Task) (old new : FolderS
   pub turns_are : computed.turns ≡ kept.result.turns
   pub tensor : IsTensorOf ring computed.request.statement computed.entries (slice_index computed.ranges) kept.result.shape
       kept.result.entries
-  pub written : MayBeWritten (asks_matrix (option_map (λ path. path.now) kept.path)) kept.result.shape kept.result.entries
+  pub written : MayBeWritten (asks_matrix (path_to kept.file)) kept.result.shape kept.result.entries
   pub finished : AreDone 1 kept.result.tensor.levels

@@ -15,8 +15,8 @@ ghost use Rattle.taco_top.specs.Prepared.{IsPrepared, IsUncomputed};
 
 use crate::asked::Asked;
 use crate::asking::Accepted;
-use crate::operands::{operands_of, path_of};
-use bindings::Bindings;
+use crate::operands::{file_of, operands_of};
+use bindings::{Bindings, TensorFile};
 use format_spec::Format;
 use index_notation::Statement;
 use kernel_runs::{KernelRun, RunFault, run_kernel};
@@ -26,10 +26,10 @@ use refusals::{Fault, NamedFault};
 use std::alloc::{AllocError, Global};
 use taco_compiler::Compiled;
 
-/// A statement that its kernel computed, with what a report tells of it, and the path that the result goes to, if one is given.
+/// A statement that its kernel computed, with what a report tells of it, and the file that the result goes to, if one is given.
 #[derive(Drop)]
 pub(crate) struct Computed<'a> {
-    pub path: Option<&'a str>,
+    pub file: Option<TensorFile<'a>>,
     pub statement: Statement,
     pub formats: Vec<Format>,
     pub compiled: Compiled,
@@ -92,7 +92,7 @@ pub(crate) fn compute<'a, F: Folder>(
         → Stops words (F.state files.old) (F.state files.new) fault) }
 {
     let Accepted { asked, compiled } = accepted;
-    let path = path_of(&asked.bindings, 0);
+    let file = file_of(&asked.bindings, 0);
     let copy = match copied(alloc, asked.bindings.formats.as_slice()) {
         Ok(copy) => copy,
         Err(_) => return Err(Fault::Memory),
@@ -120,7 +120,7 @@ pub(crate) fn compute<'a, F: Folder>(
         operands,
     ) {
         Ok(result) => Ok(Computed {
-            path,
+            file,
             statement,
             formats: copy,
             compiled,

@@ -3,7 +3,6 @@ use Rattle.std.proofs.Common.{◌∙◌, sym, ap, rules}
 use Rattle.operand_packing.specs.Runnable.{told_ranges}
 use Rattle.kernel_runs.proofs.Calls.{may_pack_lent, unpacked_lent, enough_lent, done_lent, sound_lent, refused_lent, run_lent}
 use Rattle.kernel_runs.proofs.Refusals.{range_refusal, pack_refusal}
-use Rattle.kernel_runs.proofs.Whole.{written}
 use Rattle.kernel_runs.proofs.runs.run_kernel.Goals as goal
 
 pub returns-in_err-ranges-clause-refused : goal.returns-in_err-ranges-clause-refused
@@ -132,24 +131,3 @@ returns-clause-run g c =
     c.keeps_rules.ensures c.in_ok-tensors.tensors.items c.in_ok-tensors.ensures c.deref-2.result.now c.deref-2.ensures.value
     c.in-Ok.pair.0 c.in-Ok.pair.1 c.in_ok-entries.entries c.in_ok-shape.shape c.deref-4.result.now c.in-Ok.ensures
     c.in_ok-entries.ensures.lists c.in_ok-entries.ensures.entries c.deref-4.ensures.value c.in_ok-shape.ensures
-
-pub returns-clause-written : goal.returns-clause-written
-returns-clause-written g c =
-    let a = g.S.Semiring.arithmetic in
-    let s = c.args.statement.now in
-    let formats = c.args.formats.items in
-    let given = c.args.given.now in
-    let operands = c.args.operands.entries.items in
-    let bounds = c.args.operands.bounds.items in
-    let ranges = c.in_ok-ranges.ranges.items in
-    let told : told_ranges s given bounds ≡ Ok ranges = ap (told_ranges s given) (sym c.as_slice.ensures.value)
-    ∙ c.in_ok-ranges.ensures.ranges in
-    let run =
-    run_lent a s formats given operands bounds c.requires.runnable ranges told c.remove-format.result c.remove-format.new.self.items
-    c.remove-format.ensures.value c.remove-format.ensures.items c.deref.result.now c.deref.ensures.value
-    c.as_mut_slice-entries.result.now c.as_mut_slice-entries.ensures.value
-    g.met.S.Semiring.laws c.args.kernel.now c.requires.right c.deref-3.result.now c.deref-3.ensures.value
-    c.keeps_rules.ensures c.in_ok-tensors.tensors.items c.in_ok-tensors.ensures c.deref-2.result.now c.deref-2.ensures.value
-    c.in-Ok.pair.0 c.in-Ok.pair.1 c.in_ok-entries.entries c.in_ok-shape.shape c.deref-4.result.now c.in-Ok.ensures
-    c.in_ok-entries.ensures.lists c.in_ok-entries.ensures.entries c.deref-4.ensures.value c.in_ok-shape.ensures in
-    written a s operands _ c.in_ok-shape.shape c.in_ok-entries.entries c.in_ok-entries.ensures.entries run.tensor_of

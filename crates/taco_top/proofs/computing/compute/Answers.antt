@@ -16,13 +16,13 @@ pub returns-in-Ok-run_kernel-clause-computed : goal.returns-in-Ok-run_kernel-cla
 returns-in-Ok-run_kernel-clause-computed g c = λ words accepted.
     prepared words (g.F.Folder.state c.args.files.now) (g.F.Folder.state c.operands_of.new.files)
     (request_of c.args.accepted.asked) _ c.in-Ok-operands_of.operands.entries.items c.in-Ok-operands_of.operands.bounds.items
-    c.path_of-path.ensures refl (c.in-Ok.ensures ∙ c.as_slice.ensures.value) (c.in-Ok-operands_of.ensures.read words accepted)
+    c.file_of-file.ensures refl (c.in-Ok.ensures ∙ c.as_slice.ensures.value) (c.in-Ok-operands_of.ensures.read words accepted)
     c.requires.kernel
     (run_of_request (request_of c.args.accepted.asked) c.as_slice-2.result.now c.as_slice-2.ensures.value
     c.in-Ok-operands_of.operands.entries.items c.in-Ok-operands_of.operands.bounds.items c.args.accepted.compiled.kernel
     c.in-Ok-run_kernel.result.shape c.in-Ok-run_kernel.result.entries c.in-Ok-run_kernel.result.tensor
     c.in-Ok-run_kernel.result.turns c.in-Ok-run_kernel.ensures.run)
-    c.in-Ok-run_kernel.ensures.written
+    c.in-Ok-run_kernel.ensures.entries
 
 pub returns-clause-stops : goal.returns-clause-stops
 returns-clause-stops g c = λ words accepted.
