@@ -49,30 +49,30 @@ fn keeps_rules(format: &Format)
 pub fn run_kernel<S: Semiring>(
     alloc: Global,
     statement: &Statement,
-    mut formats: Vec<Format>,
+    formats: &[Format],
     kernel: &Kernel,
     given: &[Option<u64>],
     mut operands: Operands,
 ) -> Result<KernelRun, RunFault>
-    requires runnable { IsRunnable statement.now formats.items given.now operands.entries.items operands.bounds.items }
-    requires right { IsRightKernel S.arithmetic statement.now formats.items kernel.now }
+    requires runnable { IsRunnable statement.now formats.now given.now operands.entries.items operands.bounds.items }
+    requires right { IsRightKernel S.arithmetic statement.now formats.now kernel.now }
 
     // The values are those of the statement by the ranges that words and operands give.
-    ensures run { IfOk result (λ run. IsRun S.arithmetic statement.now formats.items kernel.now given.now operands.entries.items
+    ensures run { IfOk result (λ run. IsRun S.arithmetic statement.now formats.now kernel.now given.now operands.entries.items
         operands.bounds.items run.shape run.entries run.tensor run.turns) }
 
     // What is true of all entries is so of the result's.
     ensures entries { IfOk result (λ run. AreEntries run.entries) }
 
     // The first fault, or what a level or the workspace would need, or want of memory.
-    ensures refused { IfErr result (MayRefuse S.arithmetic statement.now formats.items given.now operands.entries.items
+    ensures refused { IfErr result (MayRefuse S.arithmetic statement.now formats.now given.now operands.entries.items
         operands.bounds.items) }
 {
     let ranges = ranges(alloc, statement, given, operands.bounds.as_slice())?;
-    let format = formats.remove(0);
-    keeps_rules(&format);
     let entries = operands.entries.as_mut_slice();
     let tensors = pack_operands::<S>(alloc, statement, formats, &ranges, entries)?;
+    let format = &formats[0];
+    keeps_rules(format);
     let (tensor, turns) = match run_on::<S>(alloc, kernel, format, &tensors, &ranges) {
         Ok(pair) => pair,
         Err(fault) => return Err(fault),

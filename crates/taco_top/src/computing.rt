@@ -23,7 +23,7 @@ use kernel_runs::{KernelRun, RunFault, run_kernel};
 use numbers::Ring;
 use outside::Folder;
 use refusals::{Fault, NamedFault};
-use std::alloc::{AllocError, Global};
+use std::alloc::Global;
 use taco_compiler::Compiled;
 
 /// A statement that its kernel computed, with what a report tells of it, and the file that the result goes to, if one is given.
@@ -63,17 +63,6 @@ fn fault_of<'a>(statement: Statement, why: RunFault) -> Fault<'a>
     }
 }
 
-/// The same formats once more. Refused for want of memory alone.
-fn copied(alloc: Global, formats: &[Format]) -> Result<Vec<Format>, AllocError>
-    ensures { IfOk result (λ copy. copy.items ≡ formats.now) }
-{
-    let mut copy = Vec::new(alloc);
-    for format in formats {
-        copy.push(format.copied())?;
-    }
-    Ok(copy)
-}
-
 /// Does all that comes before the first write: reads the operands, and runs the kernel. All memory of the program's own is taken
 /// here.
 pub(crate) fn compute<'a, F: Folder>(
@@ -93,10 +82,6 @@ pub(crate) fn compute<'a, F: Folder>(
 {
     let Accepted { asked, compiled } = accepted;
     let file = file_of(&asked.bindings, 0);
-    let copy = match copied(alloc, asked.bindings.formats.as_slice()) {
-        Ok(copy) => copy,
-        Err(_) => return Err(Fault::Memory),
-    };
     let operands = match operands_of(alloc, &asked, files) {
         Ok(operands) => operands,
         Err(fault) => return Err(fault),
@@ -114,7 +99,7 @@ pub(crate) fn compute<'a, F: Folder>(
     match run_kernel::<Ring>(
         alloc,
         &statement,
-        formats,
+        formats.as_slice(),
         &compiled.kernel,
         ranges.as_slice(),
         operands,
@@ -122,7 +107,7 @@ pub(crate) fn compute<'a, F: Folder>(
         Ok(result) => Ok(Computed {
             file,
             statement,
-            formats: copy,
+            formats,
             compiled,
             result,
         }),

@@ -17,7 +17,7 @@ run_kernel-requires-clause-runnable c =
     let operands = c.args.operands.entries.items in
     let small : c.args.size ≤ greatest_position_count =
     (let few = c.requires.small in let ranges = workloads_are_ranges in omega (arith, few, ranges)) in
-    subst (λ s. IsRunnable s c.args.formats.items given operands c.args.operands.bounds.items) (sym c.requires.statement)
+    subst (λ s. IsRunnable s c.args.formats.now given operands c.args.operands.bounds.items) (sym c.requires.statement)
     (subst (λ formats. IsRunnable workload_statement formats given operands c.args.operands.bounds.items) (sym c.requires.formats)
     (subst (IsRunnable workload_statement workload_formats given operands) (sym c.requires.untold)
     (runnable c.args.size operands small c.requires.matrices)))
@@ -30,5 +30,5 @@ memory_of-requires c =
     (subst (λ bounds. MayRefuse ring workload_statement workload_formats given operands bounds c.in-Err.fault) c.requires.untold
     (subst (λ formats. MayRefuse ring workload_statement formats given operands c.args.operands.bounds.items c.in-Err.fault)
     c.requires.formats
-    (subst (λ s. MayRefuse ring s c.args.formats.items given operands c.args.operands.bounds.items c.in-Err.fault)
+    (subst (λ s. MayRefuse ring s c.args.formats.now given operands c.args.operands.bounds.items c.in-Err.fault)
     c.requires.statement c.in-Err.ensures.refused)))
