@@ -209,8 +209,8 @@ pub refused_for_memory : (a : Arithmetic) (n : ℕ) (operands : List Entries) �
 refused_for_memory a n operands few are none (Memory error) why = tt
 refused_for_memory a n operands few are none (Range fault) why =
     let both : Ok (n ∷ n ∷ []) ≡ Err fault = sym (told n) ∙ why in absurd cc
-refused_for_memory a n operands few are none (SizeLimit tensor level count) why =
-    none a workload_statement workload_formats (Some n ∷ Some n ∷ []) operands [] (n ∷ n ∷ []) (SizeLimit tensor level count) (told n)
+refused_for_memory a n operands few are none (SizeLimit large) why =
+    none a workload_statement workload_formats (Some n ∷ Some n ∷ []) operands [] (n ∷ n ∷ []) (SizeLimit large) (told n)
     (all_fit a n operands few are) why tt
 refused_for_memory a n operands few are none (Workspace count) why =
     none a workload_statement workload_formats (Some n ∷ Some n ∷ []) operands [] (n ∷ n ∷ []) (Workspace count) (told n)

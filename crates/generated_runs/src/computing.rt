@@ -64,7 +64,7 @@ fn memory_of(fault: RunFault) -> AllocError
     match fault {
         RunFault::Memory(error) => error,
         RunFault::Range(_) => unreachable!(),
-        RunFault::SizeLimit { .. } => unreachable!(),
+        RunFault::SizeLimit(_) => unreachable!(),
         RunFault::Workspace { .. } => unreachable!(),
     }
 }

@@ -15,7 +15,7 @@ use Rattle.operand_packing.specs.Packed.{MayNotPack}
 use Rattle.operand_packing.specs.declared.packing.PackFault.{PackFault}
 use Rattle.operand_packing.specs.declared.packing.PackFault.TheVariants as pack
 use Rattle.kernel_runs.specs.Refused.{of_ranges, of_packing}
-use Rattle.kernel_runs.specs.Runs.{IsTooLargeBy, MayRefuse}
+use Rattle.kernel_runs.specs.Runs.{IsLargeLevelBy, MayRefuse}
 
 -- a refusal of the ranges, by the bounds as they are lent, is one of the run
 pub range_refusal : (a : Arithmetic) (s : Statement) (formats : List (List FormatLevel)) (given : List (Option ℕ)) (operands : List Entries)
@@ -36,10 +36,10 @@ pub pack_refusal : (a : Arithmetic) (s : Statement) (formats : List (List Format
     (bounds : List (Vec Bound Global)) (ranges : List ℕ) (refusal : PackFault) → told_ranges s given bounds ≡ Ok ranges
     → MayNotPack a s formats (slice_index ranges) operands refusal → MayRefuse a s formats given operands bounds (of_packing refusal)
 pack_refusal a s formats given operands bounds ranges (pack.Memory error) told may = tt
-pack_refusal a s formats given operands bounds ranges (pack.SizeLimit tensor level count) told may = record {
+pack_refusal a s formats given operands bounds ranges (pack.SizeLimit large) told may = record {
   ranges = ranges;
   ranges_are = told;
-  large = subst (λ t. IsTooLargeBy a s formats ranges operands t level count) (sym may.tensor_is) (record {
+  by = subst (λ t. IsLargeLevelBy a s formats ranges operands t large.level large.count) (sym may.tensor_is) (record {
     n = may.n;
     tensor_is = refl;
     entries = may.entries;

@@ -32,7 +32,7 @@ use Rattle.operand_packing.specs.Runnable.{IsRunnable, told_ranges}
 use Rattle.operand_packing.specs.Packed.{ArePackedOperands}
 use Rattle.kernel_runs.specs.declared.fault.RunFault.{RunFault}
 use Rattle.kernel_runs.specs.declared.fault.RunFault.TheVariants.{Range, SizeLimit, Workspace, Memory}
-use Rattle.kernel_runs.specs.Runs.{IsRun, IsStoreFor, IsTensorOf, IsTooLargeBy, MayRefuse}
+use Rattle.kernel_runs.specs.Runs.{IsRun, IsStoreFor, IsTensorOf, IsLargeLevelBy, MayRefuse}
 use Rattle.kernel_runs.specs.Steps.{CanBegin, EndsOn, ListsNonzero, RefusedOn, StopsOn}
 use Rattle.kernel_runs.proofs.Alike.{packed_alike}
 use Rattle.kernel_runs.proofs.Entries.{tensor_of}
@@ -96,24 +96,24 @@ module _ (a : Arithmetic) (laws : Laws a) (s : Statement) (formats : List (List 
           most = outcome.1;
           sparse = λ dense. outcome.2 (subst AreAllDense (sym format_is) dense);
         }
-    refused (SizeLimit tensor level count) why = record {
+    refused (SizeLimit large) why = record {
       ranges = ranges;
       ranges_are = told;
-      large = subst (λ t. IsTooLargeBy a s formats ranges operands t level count) (sym why.0) (by why.1);
+      by = subst (λ t. IsLargeLevelBy a s formats ranges operands t large.level large.count) (sym why.0) (of_result why.1);
     }
       where
-        by : begins.IsTooLarge (letters_of format) (in_level_order format ranges) 1 1 level count
-            ⊎ StopsOn a kernel (store_of ranges storages format) (place.Level level) count
-            → IsTooLargeBy a s formats ranges operands 0 level count
-        by (inl first) = inl (record {
+        of_result : begins.IsTooLarge (letters_of format) (in_level_order format ranges) 1 1 large.level large.count
+            ⊎ StopsOn a kernel (store_of ranges storages format) (place.Level large.level) large.count
+            → IsLargeLevelBy a s formats ranges operands 0 large.level large.count
+        of_result (inl first) = inl (record {
           storages = storages;
           packed = packed;
-          first = subst (λ f. begins.IsTooLarge (letters_of f) (in_level_order f ranges) 1 1 level count) format_is first;
+          first = subst (λ f. begins.IsTooLarge (letters_of f) (in_level_order f ranges) 1 1 large.level large.count) format_is first;
         })
-        by (inr stops) = inr (record {
+        of_result (inr stops) = inr (record {
           store = store_of ranges storages format;
           is_store = store_for stops.few;
-          passes = stopped (place.Level level) count stops;
+          passes = stopped (place.Level large.level) large.count stops;
         })
 
     pub is_run : (tensor : Storage) (turns : Turns) (entries : Entries) (shape : List ℕ)

@@ -16,6 +16,7 @@ use format_spec::Format;
 use kernel_code::{Kernel, Place, Turns};
 use kernel_machine::{RunRefusal, prepare, run};
 use numbers::Semiring;
+use operand_packing::LargeLevel;
 use std::alloc::{AllocError, Global};
 use tensor_storage::Tensor;
 
@@ -28,11 +29,11 @@ fn fault_of(refusal: RunRefusal) -> RunFault
     match refusal {
         RunRefusal::Memory => RunFault::Memory(AllocError),
         RunRefusal::SizeLimit { place, count } => match place {
-            Place::Level(level) => RunFault::SizeLimit {
+            Place::Level(level) => RunFault::SizeLimit(LargeLevel {
                 tensor: 0,
                 level,
                 count,
-            },
+            }),
             Place::Workspace => RunFault::Workspace { count },
         },
     }

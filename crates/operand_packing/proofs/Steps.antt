@@ -118,9 +118,9 @@ module _ (a : Arithmetic) (s : Statement) (formats : List (List FormatLevel)) (r
       → sizes ≡ mode_sizes s ranges (number + 1) e.order → IsPackRefusal a f sizes e.list (number + 1) fault
       → MayNotPack a s formats ranges operands fault
   not_packed e f sizes (Memory error) is format sized why = tt
-  not_packed e f sizes (SizeLimit tensor level count) is format sized why =
-      subst (λ t. IsFirstLargeOperand a s formats ranges operands t level count) (sym why.0)
-      (first_large e f sizes level count is format sized why.1)
+  not_packed e f sizes (SizeLimit large) is format sized why =
+      subst (λ t. IsFirstLargeOperand a s formats ranges operands t large.level large.count) (sym why.0)
+      (first_large e f sizes large.level large.count is format sized why.1)
 
 -- in the end all are packed
 pub all_packed : (a : Arithmetic) (s : Statement) (formats : List (List FormatLevel)) (ranges : ℕ → ℕ) (operands : List Entries)

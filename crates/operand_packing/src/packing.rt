@@ -9,6 +9,7 @@ ghost use Rattle.tensor_storage.specs.Storages.{IsStorage};
 ghost use Rattle.operand_packing.specs.Packed.{AreSummed, ArePackedOperands, IsPackedOperand, IsPackRefusal};
 ghost use Rattle.operand_packing.specs.Packed.{MayBePacked, MayAllBePacked, MayNotPack};
 
+use crate::large_level::LargeLevel;
 use crate::sizes::sizes_of;
 use format_spec::Format;
 use index_notation::Statement;
@@ -20,13 +21,8 @@ use tensor_storage::{PackRefusal, Tensor};
 /// Why operands aren't packed.
 #[derive(Debug, Drop)]
 pub enum PackFault {
-    /// The level of the tensor, the top one being number 1, is the first of the first operand that would have more positions than
-    /// may be. It would have so many.
-    SizeLimit {
-        tensor: usize,
-        level: usize,
-        count: u64,
-    },
+    /// This level is the first of the first operand that would have more positions than may be.
+    SizeLimit(LargeLevel),
     /// Want of memory.
     Memory(AllocError),
 }
@@ -51,11 +47,11 @@ fn fault_of(tensor: usize, refusal: PackRefusal) -> PackFault
     match refusal {
         PackRefusal::Memory => PackFault::Memory(AllocError),
         PackRefusal::SizeLimit { level, count } => match u64::try_from(count) {
-            Ok(count) => PackFault::SizeLimit {
+            Ok(count) => PackFault::SizeLimit(LargeLevel {
                 tensor,
                 level,
                 count,
-            },
+            }),
             Err(_) => PackFault::Memory(AllocError),
         },
     }

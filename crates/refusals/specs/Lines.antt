@@ -54,7 +54,7 @@ named_status (named.Range (range.NoRange var)) = 1
 named_status (named.Range (range.RangeConflict var first other)) = 1
 named_status (named.Range (range.OutOfRange tensor coordinate exact)) = 1
 named_status (named.Range (range.Memory error)) = 5
-named_status (named.SizeLimit tensor level count) = 6
+named_status (named.SizeLimit large) = 6
 
 abbrev pub status_of : Fault → ℕ
 status_of fault.Usage = 2
@@ -156,7 +156,7 @@ named_line s (named.Name why) = name_line s why
 named_line s (named.Binding why) = binding_line s why
 named_line s (named.Cycle cycle) = cycle_text s cycle
 named_line s (named.Range why) = range_line s why
-named_line s (named.SizeLimit tensor level count) = size_text (name_at s.tensors tensor) level count
+named_line s (named.SizeLimit large) = size_text (name_at s.tensors large.tensor) large.level large.count
 
 abbrev pub kind_text : LineKind → List ℕ
 kind_text line.LongLine = codes ": LongLine\n"

@@ -6,6 +6,7 @@ ghost use Rattle.refusals.specs.declared.fault.Fault.TheVariants.{Memory};
 use bindings::{BindingFault, WordFault};
 use expr_terms::{NameFault, RangeFault};
 use index_notation::{NotationFault, Statement};
+use operand_packing::LargeLevel;
 use std::alloc::AllocError;
 use text_lines::LineKind;
 use thiserror::Error;
@@ -22,12 +23,8 @@ pub enum NamedFault {
     Cycle(Items<usize>),
     /// A variable has no range, or two.
     Range(RangeFault),
-    /// This level of this tensor, counted from 1, would have so many positions, which pass the limit.
-    SizeLimit {
-        tensor: usize,
-        level: usize,
-        count: u64,
-    },
+    /// This level would have more positions than may be.
+    SizeLimit(LargeLevel),
 }
 
 /// Why a command ends without its result.
@@ -125,6 +122,6 @@ fn status_of_named(fault: &NamedFault) -> u8
         NamedFault::Binding(BindingFault::Memory(_)) | NamedFault::Range(RangeFault::Memory(_)) =>
             5,
         NamedFault::Binding(_) | NamedFault::Range(_) => 1,
-        NamedFault::SizeLimit { .. } => 6,
+        NamedFault::SizeLimit(_) => 6,
     }
 }

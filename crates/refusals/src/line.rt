@@ -509,15 +509,11 @@ fn put_named_line<S: Sink>(
         NamedFault::Binding(fault) => put_binding_line(sink, statement, fault),
         NamedFault::Cycle(cycle) => put_cycle(sink, statement, cycle.as_slice()),
         NamedFault::Range(fault) => put_range_line(sink, statement, fault),
-        NamedFault::SizeLimit {
-            tensor,
-            level,
-            count,
-        } => put_size(
+        NamedFault::SizeLimit(large) => put_size(
             sink,
-            bytes_of(statement.tensors.as_slice(), *tensor),
-            *level,
-            *count,
+            bytes_of(statement.tensors.as_slice(), large.tensor),
+            large.level,
+            large.count,
         ),
     }
 }

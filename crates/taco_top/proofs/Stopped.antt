@@ -30,7 +30,7 @@ use Rattle.taco_top.specs.Asked.{IsRefusedByWords}
 use Rattle.taco_top.specs.Causes.{HasOperands, result_ranges, result_value, OpensOperands, Stops, IsWritten, IsUnwritten}
 use Rattle.taco_top.specs.Causes.{IsAccepted, IsKernelOf, Tells, IsPrinted, IsUnprinted, Refuses}
 use Rattle.operand_packing.specs.Runnable.{told_ranges}
-use Rattle.kernel_runs.specs.Runs.{IsTooLarge}
+use Rattle.kernel_runs.specs.Runs.{IsLargeLevel}
 use Rattle.command_line.specs.CommandLine.{Workload as WorkloadLine, command_line_of}
 use Rattle.command_line.specs.declared.Task.TheVariants as task
 use Rattle.reports.specs.declared.workload.Workload.{Workload}
@@ -50,7 +50,7 @@ stops_by_words words (fault.Named s (named.Name why)) files is = record { folder
 stops_by_words words (fault.Named s (named.Binding why)) files is = record { folder_is = refl; refused = is }
 stops_by_words words (fault.Named s (named.Cycle cycle)) files is = absurd is
 stops_by_words words (fault.Named s (named.Range why)) files is = absurd is
-stops_by_words words (fault.Named s (named.SizeLimit tensor level count)) files is = absurd is
+stops_by_words words (fault.Named s (named.SizeLimit large)) files is = absurd is
 stops_by_words words (fault.WorkspaceLimit count) files is = absurd is
 stops_by_words words (fault.ReadFault path) files is = absurd is
 stops_by_words words (fault.FileBytes path) files is = absurd is
@@ -86,14 +86,14 @@ module _ (words : List (List ℕ)) (old new : FolderState) (r : Request) (entrie
         operands = operands;
         is = subst (λ u. told_ranges u r.given bounds ≡ Err why) (sym same) is;
       }
-  stops_uncomputed (fault.Named t (named.SizeLimit tensor level count)) (same, is) =
+  stops_uncomputed (fault.Named t (named.SizeLimit large)) (same, is) =
       record {
         request = r;
         statement_is = sym same;
         entries = entries;
         bounds = bounds;
         operands = operands;
-        large = subst (λ u. IsTooLarge ring u r.formats r.given entries bounds tensor level count) (sym same) is;
+        is = subst (λ u. IsLargeLevel ring u r.formats r.given entries bounds large) (sym same) is;
       }
   stops_uncomputed (fault.WorkspaceLimit count) needs =
       record { request = r; entries = entries; bounds = bounds; operands = operands; needs = needs }

@@ -68,7 +68,7 @@ module _ (words : List (List ℕ)) (files files' : FolderState) (out out' : Sink
   kernel_refused (fault.Named s (named.Cycle cycle)) is = absurd (no_cycle s cycle is.stops.1)
   kernel_refused (fault.Named s (named.Range why)) is =
       absurd (no_files (same_task is.stops.request is.stops.operands.accepted.asks) is.stops.operands.reads)
-  kernel_refused (fault.Named s (named.SizeLimit tensor level count)) is =
+  kernel_refused (fault.Named s (named.SizeLimit large)) is =
       absurd (no_files (same_task is.stops.request is.stops.operands.accepted.asks) is.stops.operands.reads)
   kernel_refused (fault.WorkspaceLimit count) is =
       absurd (no_files (same_task is.stops.request is.stops.operands.accepted.asks) is.stops.operands.reads)
@@ -119,7 +119,7 @@ module _ (words : List (List ℕ)) (files files' : FolderState) (out out' : Sink
   workload_refused (fault.Named s (named.Binding why)) is = absurd (by_binding s why is.stops.refused)
   workload_refused (fault.Named s (named.Cycle cycle)) is = absurd (no_statement is.stops.1.asks.names.line)
   workload_refused (fault.Named s (named.Range why)) is = absurd (no_statement is.stops.operands.accepted.asks.names.line)
-  workload_refused (fault.Named s (named.SizeLimit tensor level count)) is =
+  workload_refused (fault.Named s (named.SizeLimit large)) is =
       absurd (no_statement is.stops.operands.accepted.asks.names.line)
   workload_refused (fault.WorkspaceLimit count) is = absurd (no_statement is.stops.operands.accepted.asks.names.line)
   workload_refused (fault.ReadFault path) is = absurd (no_statement is.stops.accepted.asks.names.line)

@@ -51,7 +51,7 @@ named_not_two (named.Range (range.NoRange var)) is = cc
 named_not_two (named.Range (range.RangeConflict var first other)) is = cc
 named_not_two (named.Range (range.OutOfRange tensor coordinate exact)) is = cc
 named_not_two (named.Range (range.Memory error)) is = cc
-named_not_two (named.SizeLimit tensor level count) is = cc
+named_not_two (named.SizeLimit large) is = cc
 
 module _ (words : List (List ℕ)) (files files' : FolderState) (out out' : SinkState) where
   told : (ended : Ending) → 2 ≡ status_of_end ended → Cause words files files' out out' ended → command_line_of words ≡ None
@@ -99,7 +99,7 @@ module _ (words : List (List ℕ)) (files files' : FolderState) (out out' : Sink
         by (task, rest, names, is) = absurd (never names.line)
     found (Refused (fault.Named s (named.Cycle cycle))) cause = absurd (never cause.stops.1.asks.names.line)
     found (Refused (fault.Named s (named.Range why))) cause = absurd (never cause.stops.operands.accepted.asks.names.line)
-    found (Refused (fault.Named s (named.SizeLimit tensor level count))) cause =
+    found (Refused (fault.Named s (named.SizeLimit large))) cause =
         absurd (never cause.stops.operands.accepted.asks.names.line)
     found (Refused (fault.WorkspaceLimit count)) cause = absurd (never cause.stops.operands.accepted.asks.names.line)
     found (Refused (fault.ReadFault path)) cause = absurd (never cause.stops.accepted.asks.names.line)

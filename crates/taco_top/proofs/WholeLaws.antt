@@ -25,7 +25,8 @@ use Rattle.iteration_graph.specs.Edges.{statement_edges}
 use Rattle.iteration_graph.proofs.OrderLaws.{no_order}
 use Rattle.taco_compiler.specs.Compiled.{HasCycle}
 use Rattle.operand_packing.specs.Runnable.{told_ranges}
-use Rattle.kernel_runs.specs.Runs.{MayRefuse, IsTooLarge, NeedsPairs, AllFit, IsOfSizes}
+use Rattle.kernel_runs.specs.Runs.{MayRefuse, IsLargeLevel, NeedsPairs, AllFit, IsOfSizes}
+use Rattle.operand_packing.specs.declared.large_level.LargeLevel.{LargeLevel}
 use Rattle.kernel_runs.specs.declared.fault.RunFault.{RunFault}
 use Rattle.kernel_runs.specs.declared.fault.RunFault.TheVariants.{SizeLimit, Workspace}
 use Rattle.kernel_runs.proofs.Fits.{none_refused}
@@ -147,14 +148,12 @@ module _ (words : List (List ℕ)) (files : FolderState) (whole : IsWhole words 
         subst (λ q. told_ranges q.statement q.given is.bounds ≡ Ok whole.ranges) (sym r) there in
         apart (sym here ∙ ap (λ u. told_ranges u is.request.given is.bounds) is.statement_is ∙ is.is)
 
-    no_level_fault : (s : Statement) (tensor level count : ℕ) → HasLargeLevel words files new s tensor level count → ⊥
-    no_level_fault s tensor level count is =
-        no_size_fault new is.entries is.bounds (operands_at new is.request is.entries is.bounds is.operands)
-        (SizeLimit tensor level count)
-        (subst (λ q. IsTooLarge ring q.statement q.formats q.given is.entries is.bounds tensor level count)
+    no_level_fault : (s : Statement) (large : LargeLevel) → HasLargeLevel words files new s large → ⊥
+    no_level_fault s large is =
+        no_size_fault new is.entries is.bounds (operands_at new is.request is.entries is.bounds is.operands) (SizeLimit large)
+        (subst (λ q. IsLargeLevel ring q.statement q.formats q.given is.entries is.bounds large)
         (request_is is.request is.operands.accepted.asks)
-        (subst (λ u. IsTooLarge ring u is.request.formats is.request.given is.entries is.bounds tensor level count)
-        (sym is.statement_is) is.large))
+        (subst (λ u. IsLargeLevel ring u is.request.formats is.request.given is.entries is.bounds large) (sym is.statement_is) is.is))
         tt
 
     no_pairs_fault : (count : ℕ) → HasManyPairs words files new count → ⊥
@@ -180,7 +179,7 @@ module _ (words : List (List ℕ)) (files : FolderState) (whole : IsWhole words 
     never_stops (fault.Named s (named.Binding why)) is = absurd (never_by_words (fault.Named s (named.Binding why)) is.refused)
     never_stops (fault.Named s (named.Cycle cycle)) (same, is) = absurd (no_cycle_fault s cycle is)
     never_stops (fault.Named s (named.Range why)) is = absurd (no_range_fault s why is)
-    never_stops (fault.Named s (named.SizeLimit tensor level count)) is = absurd (no_level_fault s tensor level count is)
+    never_stops (fault.Named s (named.SizeLimit large)) is = absurd (no_level_fault s large is)
     never_stops (fault.WorkspaceLimit count) is = absurd (no_pairs_fault count is)
     never_stops (fault.ReadFault path) is =
         absurd (told_others means files new (asked_orders whole.request) (asked_paths whole.request) (operand.ReadFault path) whole.told

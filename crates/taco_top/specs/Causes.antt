@@ -22,7 +22,8 @@ use Rattle.tensor_storage.specs.Storages.{Storage}
 use Rattle.kernel_stores.specs.Stores.{Store}
 use Rattle.taco_compiler.specs.Compiled.{IsOrder, HasCycle, IsCompiled}
 use Rattle.operand_packing.specs.Runnable.{told_ranges}
-use Rattle.kernel_runs.specs.Runs.{IsStoreFor, RunsKernel, IsTooLarge, NeedsPairs}
+use Rattle.operand_packing.specs.declared.large_level.LargeLevel.{LargeLevel}
+use Rattle.kernel_runs.specs.Runs.{IsStoreFor, RunsKernel, IsLargeLevel, NeedsPairs}
 use Rattle.result_files.specs.Writes.{PutsAll, PutsFront, WritesResult, RefusesResult}
 use Rattle.result_files.specs.declared.refusal.WriteRefusal.{WriteRefusal}
 use Rattle.result_files.specs.declared.refusal.WriteRefusal.TheVariants as write
@@ -122,14 +123,14 @@ pub record HasRangeFault (words : List (List ℕ)) (old new : FolderState) (s : 
   pub operands : HasOperands words old new request entries bounds
   pub is : told_ranges s request.given bounds ≡ Err why
 
--- a level of this tensor has too many positions
-pub record HasLargeLevel (words : List (List ℕ)) (old new : FolderState) (s : Statement) (tensor level count : ℕ) : Type 0 where
+-- this level has too many positions
+pub record HasLargeLevel (words : List (List ℕ)) (old new : FolderState) (s : Statement) (large : LargeLevel) : Type 0 where
   pub request : Request
   pub statement_is : request.statement ≡ s
   pub entries : List Entries
   pub bounds : List (Vec Bound Global)
   pub operands : HasOperands words old new request entries bounds
-  pub large : IsTooLarge ring s request.formats request.given entries bounds tensor level count
+  pub is : IsLargeLevel ring s request.formats request.given entries bounds large
 
 -- the result's workspace needs too many pairs
 pub record HasManyPairs (words : List (List ℕ)) (old new : FolderState) (count : ℕ) : Type 0 where
@@ -152,7 +153,7 @@ Stops words old new (fault.BadFile path line kind) =
     StopsReading words (λ orders paths. RefusedAtLine means old new orders paths path.now line kind)
 Stops words old new (fault.Named s (named.Cycle cycle)) = (new ≡ old) × HasCycleFault words s cycle
 Stops words old new (fault.Named s (named.Range why)) = HasRangeFault words old new s why
-Stops words old new (fault.Named s (named.SizeLimit tensor level count)) = HasLargeLevel words old new s tensor level count
+Stops words old new (fault.Named s (named.SizeLimit large)) = HasLargeLevel words old new s large
 Stops words old new (fault.WorkspaceLimit count) = HasManyPairs words old new count
 Stops words old new (fault.WriteFault path) = ⊥
 Stops words old new fault.Memory = (new ≡ old) ⊎ OpensOperands words old new

@@ -8,7 +8,7 @@ use Rattle.format_spec.specs.declared.format.FormatLevel.{FormatLevel}
 use Rattle.index_notation.specs.declared.syntax.Statement.{Statement}
 use Rattle.expr_terms.specs.declared.bound.Bound.{Bound}
 use Rattle.operand_packing.specs.Runnable.{told_ranges}
-use Rattle.kernel_runs.specs.Runs.{IsTensorOf, IsTooLarge, NeedsPairs}
+use Rattle.kernel_runs.specs.Runs.{IsTensorOf, IsLargeLevel, NeedsPairs}
 use Rattle.bindings.specs.Tables.{path_to}
 use Rattle.result_files.specs.EntriesText.{MayBeWritten}
 use Rattle.result_files.specs.ResultText.{asks_matrix}
@@ -41,8 +41,8 @@ end_of_printing (Err (write.Memory error)) = Refused fault.Memory
 -- why a statement isn't computed over these operands
 abbrev pub IsUncomputed : Statement → List (List FormatLevel) → List (Option ℕ) → List Entries → List (Vec Bound Global) → Fault → Type 0
 IsUncomputed s formats given entries bounds (fault.Named t (named.Range why)) = (t ≡ s) × (told_ranges s given bounds ≡ Err why)
-IsUncomputed s formats given entries bounds (fault.Named t (named.SizeLimit tensor level count)) =
-    (t ≡ s) × IsTooLarge ring s formats given entries bounds tensor level count
+IsUncomputed s formats given entries bounds (fault.Named t (named.SizeLimit large)) =
+    (t ≡ s) × IsLargeLevel ring s formats given entries bounds large
 IsUncomputed s formats given entries bounds (fault.WorkspaceLimit count) = NeedsPairs ring s formats given entries bounds count
 IsUncomputed s formats given entries bounds fault.Memory = Unit {0}
 IsUncomputed s formats given entries bounds _ = ⊥

@@ -46,17 +46,9 @@ fn fault_of<'a>(statement: Statement, why: RunFault) -> Fault<'a>
             statement,
             fault: NamedFault::Range(why),
         },
-        RunFault::SizeLimit {
-            tensor,
-            level,
-            count,
-        } => Fault::Named {
+        RunFault::SizeLimit(large) => Fault::Named {
             statement,
-            fault: NamedFault::SizeLimit {
-                tensor,
-                level,
-                count,
-            },
+            fault: NamedFault::SizeLimit(large),
         },
         RunFault::Workspace { count } => Fault::WorkspaceLimit(count),
         RunFault::Memory(_) => Fault::Memory,
