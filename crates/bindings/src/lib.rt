@@ -6,6 +6,7 @@ mod binding;
 mod bound;
 mod fault;
 mod file_format;
+mod names;
 mod tensor_file;
 mod word;
 
@@ -13,4 +14,5 @@ pub use binding::{Bindings, bind};
 pub use bound::order_of;
 pub use fault::{BindingFault, WordFault};
 pub use file_format::FileFormat;
+pub use names::name_at;
 pub use tensor_file::TensorFile;

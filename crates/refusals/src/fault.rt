@@ -9,7 +9,6 @@ use index_notation::{NotationFault, Statement};
 use operand_packing::LargeLevel;
 use std::alloc::AllocError;
 use text_lines::LineKind;
-use thiserror::Error;
 use trees::Items;
 
 /// A fault that is told by names of the statement.
@@ -28,41 +27,32 @@ pub enum NamedFault {
 }
 
 /// Why a command ends without its result.
-#[derive(Debug, Drop, Error)]
+#[derive(Debug, Drop)]
 pub enum Fault<'a> {
     /// The words are no command line.
-    #[error("usage")]
     Usage,
     /// The statement's text isn't one.
-    #[error("notation")]
     Notation(NotationFault),
     /// A fault that is told by names of this statement.
-    #[error("names of the statement")]
     Named {
         statement: Statement,
         fault: NamedFault,
     },
     /// The result's workspace would have so many pairs of coordinates and a value, which pass the limit.
-    #[error("too many pairs")]
     WorkspaceLimit(u64),
     /// Reading this file failed, or it isn't there.
-    #[error("{0}: read fault")]
     ReadFault(&'a str),
     /// This file has more bytes than may be.
-    #[error("{0}: too many bytes")]
     FileBytes(&'a str),
     /// This line of this file, counted from 1, is the first bad one.
-    #[error("{path}: bad line")]
     BadFile {
         path: &'a str,
         line: u64,
         kind: LineKind,
     },
     /// Writing the result failed: to this path, or to the output.
-    #[error("write fault")]
     WriteFault(Option<&'a str>),
     /// Memory was wanted.
-    #[error("out of memory")]
     Memory,
 }
 
