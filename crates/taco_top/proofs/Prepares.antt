@@ -17,7 +17,8 @@ use Rattle.result_files.specs.EntriesText.{MayBeWritten}
 use Rattle.result_files.specs.ResultText.{asks_matrix}
 use Rattle.taco_top.specs.Asked.{needs_files}
 use Rattle.taco_top.specs.Run.{Request, path_of}
-use Rattle.taco_top.specs.Causes.{HasOperands, IsKernelOf}
+use Rattle.taco_top.specs.Written.{HasOperands}
+use Rattle.taco_top.specs.Told.{IsKernelOf}
 use Rattle.taco_top.specs.declared.computing.Computed.{Computed}
 use Rattle.taco_top.specs.Prepared.{IsPrepared}
 use Rattle.taco_top.proofs.Paths.{result_is_matrix}
@@ -45,16 +46,18 @@ prepared words old new r kept entries bounds path_is statement_is formats_are op
     let names = operands.accepted.asks.names in
     let named = notation_well_named names.text r.statement names.notation names.names in
     record {
-      computed = record {
+      values = record {
         request = r;
         entries = entries;
         bounds = bounds;
         operands = operands;
+        ranges = run.ranges;
+        ranges_are = run.ranges_are;
+      };
+      computed = record {
         order = kept.compiled.order;
         kernel = kept.compiled.kernel;
         is_kernel = is_kernel;
-        ranges = run.ranges;
-        ranges_are = run.ranges_are;
         store = run.store;
         is_store = run.is_store;
         tensor = kept.result.tensor;

@@ -22,7 +22,8 @@ use Rattle.refusals.specs.declared.fault.Fault.{Fault}
 use Rattle.refusals.specs.declared.fault.Fault.TheVariants as fault
 use Rattle.taco_top.specs.Asked.{needs_files}
 use Rattle.taco_top.specs.Run.{Request}
-use Rattle.taco_top.specs.Causes.{means, IsAccepted, HasOperands, asked_orders, asked_paths, Stops}
+use Rattle.taco_top.specs.Written.{means, IsAccepted, HasOperands, asked_orders, asked_paths}
+use Rattle.taco_top.specs.Refused.{Stops}
 use Rattle.taco_top.specs.Prepared.{IsUncomputed}
 use Rattle.taco_top.proofs.Paths.{paths_readable}
 

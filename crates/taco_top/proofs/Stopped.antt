@@ -27,8 +27,9 @@ use Rattle.refusals.specs.declared.fault.NamedFault.TheVariants as named
 use Rattle.refusals.specs.declared.fault.Fault.{Fault}
 use Rattle.refusals.specs.declared.fault.Fault.TheVariants as fault
 use Rattle.taco_top.specs.Asked.{IsRefusedByWords}
-use Rattle.taco_top.specs.Causes.{HasOperands, result_ranges, result_value, OpensOperands, Stops, IsWritten, IsUnwritten}
-use Rattle.taco_top.specs.Causes.{IsAccepted, IsKernelOf, Tells, IsPrinted, IsUnprinted, Refuses}
+use Rattle.taco_top.specs.Written.{HasOperands, result_ranges, result_value, IsAccepted}
+use Rattle.taco_top.specs.Told.{IsKernelOf, IsWrittenIn, Tells, IsPrinted}
+use Rattle.taco_top.specs.Refused.{OpensOperands, Stops, IsUnwritten, IsUnprinted, Refuses}
 use Rattle.operand_packing.specs.Runnable.{told_ranges}
 use Rattle.kernel_runs.specs.Runs.{IsLargeLevel}
 use Rattle.command_line.specs.CommandLine.{Workload as WorkloadLine, command_line_of}
@@ -142,32 +143,35 @@ module _ (words : List (List ℕ)) (files between files' : FolderState) (out out
 
   -- the text of the result's entries is that of the statement's values
   text_of_values : (text : List ℕ) → IsResultText ring path kept.result.shape (value_at ring kept.result.entries.list) text
-      → IsResultText ring path (result_ranges is.computed.request.statement is.computed.ranges)
-      (result_value is.computed.request.statement is.computed.entries is.computed.ranges) text
+      → IsResultText ring path (result_ranges is.values.request.statement is.values.ranges)
+      (result_value is.values.request.statement is.values.entries is.values.ranges) text
   unfolding path
   text_of_values text text_is =
       subst (λ ranges. IsResultText ring path ranges
-      (result_value is.computed.request.statement is.computed.entries is.computed.ranges) text) is.tensor.shape_is
+      (result_value is.values.request.statement is.values.entries is.values.ranges) text) is.tensor.shape_is
       (same_text ring path kept.result.shape (value_at ring kept.result.entries.list)
-      (result_value is.computed.request.statement is.computed.entries is.computed.ranges) text
+      (result_value is.values.request.statement is.values.entries is.values.ranges) text
       is.tensor.values_are text_is)
 
   pub written : WritesResult ring (path_to kept.file) kept.result.shape (value_at ring kept.result.entries.list)
-      between files' out out' → IsWritten words files files' out out' kept.result.turns
+      between files' out out' → IsWrittenIn words files files' out out' kept.result.turns
   unfolding path
   written writes = record {
-    between = between;
-    only_reads = reads;
-    computed = is.computed;
-    task_is = is.task_is;
-    turns_are = is.turns_are;
-    writes = record {
-      text = writes.text;
-      text_is = subst (λ p. IsResultText ring p (result_ranges is.computed.request.statement is.computed.ranges)
-          (result_value is.computed.request.statement is.computed.entries is.computed.ranges) writes.text) (sym is.path_is)
-          (text_of_values writes.text writes.text_is);
-      puts = subst (λ p. Puts p writes.text between files' out out') (sym is.path_is) writes.puts;
+    written = record {
+      between = between;
+      only_reads = reads;
+      values = is.values;
+      task_is = is.task_is;
+      writes = record {
+        text = writes.text;
+        text_is = subst (λ p. IsResultText ring p (result_ranges is.values.request.statement is.values.ranges)
+            (result_value is.values.request.statement is.values.entries is.values.ranges) writes.text) (sym is.path_is)
+            (text_of_values writes.text writes.text_is);
+        puts = subst (λ p. Puts p writes.text between files' out out') (sym is.path_is) writes.puts;
+      };
     };
+    computed = is.computed;
+    turns_are = is.turns_are;
   }
 
   pub unwritten : (why : WriteRefusal) → RefusesResult ring (path_to kept.file) kept.result.shape
@@ -177,6 +181,7 @@ module _ (words : List (List ℕ)) (files between files' : FolderState) (out out
   unwritten why refuses = record {
     between = between;
     only_reads = reads;
+    values = is.values;
     computed = is.computed;
     task_is = is.task_is;
     path_is = is.path_is;
@@ -226,8 +231,9 @@ pub tells_run : (words : List (List ℕ)) (old new : FolderState) (kept : Comput
     → Tells words old new (run_report kept.statement told formats kept.compiled.kernel kept.result.turns kept.result.tensor)
 tells_run words old new kept is told formats told_is formats_are =
     let order : told ≡ is.computed.order = told_is ∙ sym is.order_is in
-    let layouts : formats ≡ is.computed.request.formats = formats_are ∙ sym is.formats_are in
+    let layouts : formats ≡ is.values.request.formats = formats_are ∙ sym is.formats_are in
     inr (inl (record {
+      values = is.values;
       computed = is.computed;
       task_is = is.task_is;
       text_is = λ i. run_report (sym is.statement_is i) (order i) (layouts i) (sym is.kernel_is i) (sym is.turns_are i)

@@ -31,7 +31,6 @@ use Rattle.kernel_runs.specs.declared.fault.RunFault.{RunFault}
 use Rattle.kernel_runs.specs.declared.fault.RunFault.TheVariants.{SizeLimit, Workspace}
 use Rattle.kernel_runs.proofs.Fits.{none_refused}
 use Rattle.result_files.specs.ResultText.{IsResultText}
-use Rattle.kernel_code.specs.declared.syntax.Turns.{Turns}
 use Rattle.result_files.specs.Writes.{PutsPart}
 use Rattle.result_files.specs.declared.refusal.WriteRefusal.TheVariants as write
 use Rattle.result_files.proofs.OneText.{one_text}
@@ -42,9 +41,9 @@ use Rattle.refusals.specs.Lines.{status_of}
 use Rattle.taco_top.specs.Asked.{IsRefusedByWords, IsWant}
 use Rattle.taco_top.proofs.OneRequest as request
 use Rattle.taco_top.specs.Run.{Request, AsksFor, path_of}
-use Rattle.taco_top.specs.Causes.{means, asked_orders, asked_paths, HasOperands, IsComputed, result_ranges, result_value}
-use Rattle.taco_top.specs.Causes.{StopsReading, HasCycleFault, HasRangeFault, HasLargeLevel, HasManyPairs, Stops}
-use Rattle.taco_top.specs.Causes.{IsWritten, IsUnwritten, IsUnprinted, FailsToWrite}
+use Rattle.taco_top.specs.Written.{means, asked_orders, asked_paths, HasOperands, HasValues, result_ranges, result_value, IsWritten}
+use Rattle.taco_top.specs.Refused.{StopsReading, HasCycleFault, HasRangeFault, HasLargeLevel}
+use Rattle.taco_top.specs.Refused.{HasManyPairs, Stops, IsUnwritten, IsUnprinted, FailsToWrite}
 use Rattle.taco_top.specs.Ends.{Ends, Ending, Written, Printed, Refused, Cause, status_of_end}
 use Rattle.taco_top.specs.Whole.{IsWhole, modes_told, bound_told}
 
@@ -234,7 +233,7 @@ module _ (words : List (List ℕ)) (files : FolderState) (whole : IsWhole words 
       inr (ap status_of (never_stops files' no_read (fault.BadFile path line kind) cause.stops))
 
   -- ---- the text is that of the values over the operands that the folder tells
-  text_at : (new : FolderState) (c : IsComputed words files new) (text : List ℕ)
+  text_at : (new : FolderState) (c : HasValues words files new) (text : List ℕ)
       → IsResultText ring (path_of c.request.files 0) (result_ranges c.request.statement c.ranges)
       (result_value c.request.statement c.entries c.ranges) text
       → IsResultText ring (path_of whole.request.files 0) (result_ranges whole.request.statement whole.ranges)
@@ -261,15 +260,15 @@ whole_ends words files files' out out' err err' status whole no_read no_write no
     (ends_well (map string_bytes words) files whole files' out out' ends.ended no_read no_write no_out ends.cause)
 
 pub whole_text : (words : List (List ℕ)) (files files' others others' : FolderState) (out out' away away' : SinkState)
-    (turns made : Turns) → IsWhole words files.holds → others.holds ≡ files.holds
-    → (first : IsWritten words files files' out out' turns) → (second : IsWritten words others others' away away' made)
+    → IsWhole words files.holds → others.holds ≡ files.holds
+    → (first : IsWritten words files files' out out') → (second : IsWritten words others others' away away')
     → first.writes.text ≡ second.writes.text
-whole_text words files files' others others' out out' away away' turns made whole holds first second =
+whole_text words files files' others others' out out' away away' whole holds first second =
     one_text ring ring_laws (path_of whole.request.files 0) (result_ranges whole.request.statement whole.ranges)
     (result_value whole.request.statement (map (λ operand. operand.entries) whole.operands) whole.ranges)
     first.writes.text second.writes.text
-    (text_at words files whole first.between first.computed first.writes.text first.writes.text_is)
-    (text_at words others there second.between second.computed second.writes.text second.writes.text_is)
+    (text_at words files whole first.between first.values first.writes.text first.writes.text_is)
+    (text_at words others there second.between second.values second.writes.text second.writes.text_is)
   where
     there : IsWhole words others.holds
     there = record {

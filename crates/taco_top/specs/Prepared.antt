@@ -19,7 +19,8 @@ use Rattle.command_line.specs.declared.Task.{Task}
 use Rattle.refusals.specs.declared.fault.NamedFault.TheVariants as named
 use Rattle.refusals.specs.declared.fault.Fault.{Fault}
 use Rattle.refusals.specs.declared.fault.Fault.TheVariants as fault
-use Rattle.taco_top.specs.Causes.{IsComputed}
+use Rattle.taco_top.specs.Written.{HasValues}
+use Rattle.taco_top.specs.Told.{IsComputed}
 use Rattle.taco_top.specs.Ends.{Ending, Written, Printed, Refused}
 use Rattle.taco_top.specs.Run.{path_of}
 use Rattle.taco_top.specs.declared.computing.Computed.{Computed}
@@ -49,17 +50,18 @@ IsUncomputed s formats given entries bounds _ = ⊥
 
 -- what the words ask for was computed, for this task, and this is kept of it
 pub record IsPrepared (words : List (List ℕ)) (task : Task) (old new : FolderState) (kept : Computed) : Type 0 where
-  pub computed : IsComputed words old new
-  pub task_is : computed.request.task ≡ task
-  pub path_is : path_of computed.request.files 0 ≡ path_to kept.file
-  pub statement_is : computed.request.statement ≡ kept.statement
-  pub formats_are : computed.request.formats ≡ kept.formats.items
+  pub values : HasValues words old new
+  pub computed : IsComputed words old new values
+  pub task_is : values.request.task ≡ task
+  pub path_is : path_of values.request.files 0 ≡ path_to kept.file
+  pub statement_is : values.request.statement ≡ kept.statement
+  pub formats_are : values.request.formats ≡ kept.formats.items
   pub each_format : length kept.formats.items ≡ length kept.statement.tensors
   pub order_is : computed.order ≡ kept.compiled.order
   pub kernel_is : computed.kernel ≡ kept.compiled.kernel
   pub storage_is : computed.tensor ≡ kept.result.tensor
   pub turns_are : computed.turns ≡ kept.result.turns
-  pub tensor : IsTensorOf ring computed.request.statement computed.entries (slice_index computed.ranges) kept.result.shape
+  pub tensor : IsTensorOf ring values.request.statement values.entries (slice_index values.ranges) kept.result.shape
       kept.result.entries
   pub written : MayBeWritten (asks_matrix (path_to kept.file)) kept.result.shape kept.result.entries
   pub finished : AreDone 1 kept.result.tensor.levels

@@ -9,7 +9,9 @@ ghost use Rattle.expr_terms.specs.declared.bound.Bound.{Bound};
 ghost use Rattle.operand_files.specs.Reads.{OnlyReads};
 ghost use Rattle.taco_top.specs.Asked.{needs_files};
 ghost use Rattle.kernel_runs.specs.Runs.{MayRefuse};
-ghost use Rattle.taco_top.specs.Causes.{IsAccepted, IsKernelOf, Stops};
+ghost use Rattle.taco_top.specs.Written.{IsAccepted};
+ghost use Rattle.taco_top.specs.Told.{IsKernelOf};
+ghost use Rattle.taco_top.specs.Refused.{Stops};
 ghost use Rattle.taco_top.specs.Run.{request_of};
 ghost use Rattle.taco_top.specs.Prepared.{IsPrepared, IsUncomputed};
 

@@ -4,7 +4,8 @@ ghost use Rattle.index_notation.specs.Statement.{IsNumbered};
 ghost use Rattle.bindings.specs.Tables.{file_in, path_to, paths_in};
 ghost use Rattle.operand_files.specs.Reads.{OnlyReads};
 ghost use Rattle.taco_top.specs.Asked.{needs_files};
-ghost use Rattle.taco_top.specs.Causes.{IsAccepted, HasOperands, Stops};
+ghost use Rattle.taco_top.specs.Written.{IsAccepted, HasOperands};
+ghost use Rattle.taco_top.specs.Refused.{Stops};
 ghost use Rattle.taco_top.specs.Run.{orders_of as orders_of_operands, path_of as path_of_tensor, paths_of as paths_of_operands, request_of};
 
 use crate::asked::Asked;
