@@ -21,7 +21,7 @@ use Rattle.operand_packing.specs.declared.packing.PackFault.{PackFault}
 use Rattle.operand_packing.proofs.Lists.{default_free}
 use Rattle.operand_packing.proofs.Ready.{may_all}
 use Rattle.kernel_runs.specs.declared.fault.RunFault.{RunFault}
-use Rattle.kernel_runs.specs.Runs.{IsRun, MayRefuse}
+use Rattle.kernel_runs.specs.Runs.{IsRun, MayRefuseRun}
 use Rattle.kernel_runs.specs.Steps.{CanBegin, EndsOn, ListsNonzero, RefusedOn}
 use Rattle.kernel_runs.proofs.Stores.{are_done}
 use Rattle.kernel_runs.proofs.Whole.{enough, is_run, refused, sound}
@@ -86,7 +86,7 @@ module _ (a : Arithmetic) (s : Statement) (formats : List (List FormatLevel)) (g
             is_format storages (packed_lent storages packed))
 
         pub refused_lent : (fault : RunFault) → RefusedOn a kernel (store_of rs ts first) fault
-            → MayRefuse a s formats given operands bounds fault
+            → MayRefuseRun a s formats given operands bounds fault
         refused_lent fault why =
             refused a laws s formats kernel right given operands bounds runnable ranges told first (first_is first front)
             is_format storages (packed_lent storages packed) fault

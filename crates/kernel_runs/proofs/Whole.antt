@@ -32,7 +32,7 @@ use Rattle.operand_packing.specs.Runnable.{IsRunnable, told_ranges}
 use Rattle.operand_packing.specs.Packed.{ArePackedOperands}
 use Rattle.kernel_runs.specs.declared.fault.RunFault.{RunFault}
 use Rattle.kernel_runs.specs.declared.fault.RunFault.TheVariants.{Range, SizeLimit, Workspace, Memory}
-use Rattle.kernel_runs.specs.Runs.{IsRun, IsStoreFor, IsTensorOf, IsLargeLevelBy, MayRefuse}
+use Rattle.kernel_runs.specs.Runs.{IsRun, IsStoreFor, IsTensorOf, IsLargeLevelBy, MayRefuseRun}
 use Rattle.kernel_runs.specs.Steps.{CanBegin, EndsOn, ListsNonzero, RefusedOn, StopsOn}
 use Rattle.kernel_runs.proofs.Alike.{packed_alike}
 use Rattle.kernel_runs.proofs.Entries.{tensor_of}
@@ -82,7 +82,7 @@ module _ (a : Arithmetic) (laws : Laws a) (s : Statement) (formats : List (List 
         apart e = cc
 
     pub refused : (fault : RunFault) → RefusedOn a kernel (store_of ranges storages format) fault
-        → MayRefuse a s formats given operands bounds fault
+        → MayRefuseRun a s formats given operands bounds fault
     refused (Range fault) why = absurd why
     refused (Memory error) why = tt
     refused (Workspace count) why =

@@ -118,12 +118,12 @@ pub record NeedsPairs (a : Arithmetic) (s : Statement) (formats : List (List For
   pub sparse : AreAllDense (format_of formats 0) → ⊥
 
 -- why a statement isn't computed: the first fault of the ranges; a level that is too large; a workspace; or want of memory
-abbrev pub MayRefuse : Arithmetic → Statement → List (List FormatLevel) → List (Option ℕ) → List Entries → List (Vec Bound Global)
+abbrev pub MayRefuseRun : Arithmetic → Statement → List (List FormatLevel) → List (Option ℕ) → List Entries → List (Vec Bound Global)
     → RunFault → Type 0
-MayRefuse a s formats given operands bounds (Range fault) = told_ranges s given bounds ≡ Err fault
-MayRefuse a s formats given operands bounds (SizeLimit large) = IsLargeLevel a s formats given operands bounds large
-MayRefuse a s formats given operands bounds (Workspace count) = NeedsPairs a s formats given operands bounds count
-MayRefuse a s formats given operands bounds (Memory error) = Unit {0}
+MayRefuseRun a s formats given operands bounds (Range fault) = told_ranges s given bounds ≡ Err fault
+MayRefuseRun a s formats given operands bounds (SizeLimit large) = IsLargeLevel a s formats given operands bounds large
+MayRefuseRun a s formats given operands bounds (Workspace count) = NeedsPairs a s formats given operands bounds count
+MayRefuseRun a s formats given operands bounds (Memory error) = Unit {0}
 
 -- no level of an operand or of the result's storage has more positions than may be, and no workspace needs more pairs
 pub record AllFit (a : Arithmetic) (s : Statement) (formats : List (List FormatLevel)) (ranges : List ℕ)
@@ -147,4 +147,4 @@ abbrev pub RefusesNoneThatFit : Type 0
 RefusesNoneThatFit = (a : Arithmetic) (s : Statement) (formats : List (List FormatLevel)) (given : List (Option ℕ))
     (operands : List Entries) (bounds : List (Vec Bound Global)) (ranges : List ℕ) (fault : RunFault)
     → told_ranges s given bounds ≡ Ok ranges → AllFit a s formats ranges operands
-    → MayRefuse a s formats given operands bounds fault → IsOfSizes fault → ⊥
+    → MayRefuseRun a s formats given operands bounds fault → IsOfSizes fault → ⊥

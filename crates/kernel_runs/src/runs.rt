@@ -4,7 +4,7 @@ ghost use Rattle.tensor_map.specs.Entries.{AreEntries};
 ghost use Rattle.format_spec.specs.Formats.{IsFormat};
 ghost use Rattle.kernel_stores.specs.Kernels.{IsRightKernel};
 ghost use Rattle.operand_packing.specs.Runnable.{IsRunnable};
-ghost use Rattle.kernel_runs.specs.Runs.{IsRun, MayRefuse};
+ghost use Rattle.kernel_runs.specs.Runs.{IsRun, MayRefuseRun};
 
 use crate::fault::RunFault;
 use crate::results::{entries_of, shape_of};
@@ -65,7 +65,7 @@ pub fn run_kernel<S: Semiring>(
     ensures entries { IfOk result (λ run. AreEntries run.entries) }
 
     // The first fault, or what a level or the workspace would need, or want of memory.
-    ensures refused { IfErr result (MayRefuse S.arithmetic statement.now formats.now given.now operands.entries.items
+    ensures refused { IfErr result (MayRefuseRun S.arithmetic statement.now formats.now given.now operands.entries.items
         operands.bounds.items) }
 {
     let ranges = ranges(alloc, statement, given, operands.bounds.as_slice())?;

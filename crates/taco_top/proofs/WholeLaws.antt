@@ -25,7 +25,7 @@ use Rattle.iteration_graph.specs.Edges.{statement_edges}
 use Rattle.iteration_graph.proofs.OrderLaws.{no_order}
 use Rattle.taco_compiler.specs.Compiled.{HasCycle}
 use Rattle.operand_packing.specs.Runnable.{told_ranges}
-use Rattle.kernel_runs.specs.Runs.{MayRefuse, IsLargeLevel, NeedsPairs, AllFit, IsOfSizes}
+use Rattle.kernel_runs.specs.Runs.{MayRefuseRun, IsLargeLevel, NeedsPairs, AllFit, IsOfSizes}
 use Rattle.operand_packing.specs.declared.large_level.LargeLevel.{LargeLevel}
 use Rattle.kernel_runs.specs.declared.fault.RunFault.{RunFault}
 use Rattle.kernel_runs.specs.declared.fault.RunFault.TheVariants.{SizeLimit, Workspace}
@@ -41,7 +41,7 @@ use Rattle.refusals.specs.Lines.{status_of}
 use Rattle.taco_top.specs.Asked.{IsRefusedByWords, IsWant}
 use Rattle.taco_top.proofs.OneRequest as request
 use Rattle.taco_top.specs.Run.{Request, AsksFor, path_of}
-use Rattle.taco_top.specs.Written.{means, asked_orders, asked_paths, HasOperands, HasValues, result_ranges, result_value, IsWritten}
+use Rattle.taco_top.specs.Written.{means, asked_orders, asked_paths, HasOperands, HasResult, result_ranges, result_value, IsWritten}
 use Rattle.taco_top.specs.Refused.{StopsReading, HasCycleFault, HasRangeFault, HasLargeLevel}
 use Rattle.taco_top.specs.Refused.{HasManyPairs, Stops, IsUnwritten, IsUnprinted, FailsToWrite}
 use Rattle.taco_top.specs.Ends.{Ends, Ending, Written, Printed, Refused, Cause, status_of_end}
@@ -120,7 +120,7 @@ module _ (words : List (List ℕ)) (files : FolderState) (whole : IsWhole words 
 
     -- no size passes a limit
     no_size_fault : (why : RunFault)
-        → MayRefuse ring whole.request.statement whole.request.formats whole.request.given entries bounds why → IsOfSizes why → ⊥
+        → MayRefuseRun ring whole.request.statement whole.request.formats whole.request.given entries bounds why → IsOfSizes why → ⊥
     no_size_fault why may of_sizes =
         none_refused ring whole.request.statement whole.request.formats whole.request.given entries bounds whole.ranges why
         told_there
@@ -233,7 +233,7 @@ module _ (words : List (List ℕ)) (files : FolderState) (whole : IsWhole words 
       inr (ap status_of (never_stops files' no_read (fault.BadFile path line kind) cause.stops))
 
   -- ---- the text is that of the values over the operands that the folder tells
-  text_at : (new : FolderState) (c : HasValues words files new) (text : List ℕ)
+  text_at : (new : FolderState) (c : HasResult words files new) (text : List ℕ)
       → IsResultText ring (path_of c.request.files 0) (result_ranges c.request.statement c.ranges)
       (result_value c.request.statement c.entries c.ranges) text
       → IsResultText ring (path_of whole.request.files 0) (result_ranges whole.request.statement whole.ranges)

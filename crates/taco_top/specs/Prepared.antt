@@ -19,7 +19,7 @@ use Rattle.command_line.specs.declared.Task.{Task}
 use Rattle.refusals.specs.declared.fault.NamedFault.TheVariants as named
 use Rattle.refusals.specs.declared.fault.Fault.{Fault}
 use Rattle.refusals.specs.declared.fault.Fault.TheVariants as fault
-use Rattle.taco_top.specs.Written.{HasValues}
+use Rattle.taco_top.specs.Written.{HasResult}
 use Rattle.taco_top.specs.Told.{IsComputed}
 use Rattle.taco_top.specs.Ends.{Ending, Written, Printed, Refused}
 use Rattle.taco_top.specs.Run.{path_of}
@@ -50,7 +50,7 @@ IsUncomputed s formats given entries bounds _ = ⊥
 
 -- what the words ask for was computed, for this task, and this is kept of it
 pub record IsPrepared (words : List (List ℕ)) (task : Task) (old new : FolderState) (kept : Computed) : Type 0 where
-  pub values : HasValues words old new
+  pub values : HasResult words old new
   pub computed : IsComputed words old new values
   pub task_is : values.request.task ≡ task
   pub path_is : path_of values.request.files 0 ≡ path_to kept.file

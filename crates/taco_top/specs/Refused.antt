@@ -25,7 +25,7 @@ use Rattle.refusals.specs.declared.fault.Fault.TheVariants as fault
 use Rattle.command_line.specs.declared.Task.TheVariants as task
 use Rattle.taco_top.specs.Asked.{IsRefusedByWords, needs_files}
 use Rattle.taco_top.specs.Run.{Request, AsksFor, path_of}
-use Rattle.taco_top.specs.Written.{means, IsAccepted, asked_orders, asked_paths, HasOperands, HasValues, result_ranges, result_value}
+use Rattle.taco_top.specs.Written.{means, IsAccepted, asked_orders, asked_paths, HasOperands, HasResult, result_ranges, result_value}
 use Rattle.taco_top.specs.Told.{IsComputed, Tells}
 
 -- a statement is accepted, and no more was opened of its operands' files than the first of them, in order
@@ -100,7 +100,7 @@ pub record IsUnwritten (words : List (List ℕ)) (files files' : FolderState) (o
     (why : WriteRefusal) : Type 0 where
   pub between : FolderState
   pub only_reads : OnlyReads files between
-  pub values : HasValues words files between
+  pub values : HasResult words files between
   pub computed : IsComputed words files between values
   pub task_is : values.request.task ≡ task.Run
   pub path_is : path_of values.request.files 0 ≡ path

@@ -18,7 +18,7 @@ use Rattle.reports.specs.declared.workload.Workload.{Workload}
 use Rattle.generated_runs.specs.Workloads.{IsWorkload}
 use Rattle.reports.specs.Reports.{workload_line, kernel_report, run_report}
 use Rattle.taco_top.specs.Run.{Request}
-use Rattle.taco_top.specs.Written.{IsAccepted, HasValues, IsWritten}
+use Rattle.taco_top.specs.Written.{IsAccepted, HasResult, IsWritten}
 
 -- a kernel that is right for the statement and its formats, in their loop order
 pub record IsKernelOf (r : Request) (order : List ℕ) (kernel : Kernel) : Type 0 where
@@ -27,7 +27,7 @@ pub record IsKernelOf (r : Request) (order : List ℕ) (kernel : Kernel) : Type 
 
 -- a kernel that is right for the statement runs on the operands, packed in their formats. It leaves the storage that stands for the
 -- statement's values, named by its support
-pub record IsComputed (words : List (List ℕ)) (old new : FolderState) (values : HasValues words old new) : Type 0 where
+pub record IsComputed (words : List (List ℕ)) (old new : FolderState) (values : HasResult words old new) : Type 0 where
   pub order : List ℕ
   pub kernel : Kernel
   pub is_kernel : IsKernelOf values.request order kernel
@@ -56,7 +56,7 @@ pub record TellsKernel (words : List (List ℕ)) (old new : FolderState) (text :
 
 -- `report`: that of a kernel, the turns of its run on the operands, and the storage that this run leaves
 pub record TellsRun (words : List (List ℕ)) (old new : FolderState) (text : List ℕ) : Type 0 where
-  pub values : HasValues words old new
+  pub values : HasResult words old new
   pub computed : IsComputed words old new values
   pub task_is : values.request.task ≡ task.Report
   pub text_is : text ≡ run_report values.request.statement computed.order values.request.formats computed.kernel computed.turns

@@ -11,7 +11,7 @@ use Rattle.expr_terms.specs.Operands.{operand_values}
 use Rattle.expr_terms.specs.Terms.{statement_value}
 use Rattle.expr_terms.specs.declared.bound.Bound.{Bound}
 use Rattle.operand_files.specs.Decoded.{operand_of}
-use Rattle.operand_files.specs.Reads.{OnlyReads, HaveRead, Meaning}
+use Rattle.operand_files.specs.Reads.{OnlyReads, HaveRead, Decoding}
 use Rattle.taco_compiler.specs.Compiled.{IsOrder}
 use Rattle.operand_packing.specs.Runnable.{told_ranges}
 use Rattle.result_files.specs.Writes.{WritesResult}
@@ -20,7 +20,7 @@ use Rattle.taco_top.specs.Asked.{needs_files}
 use Rattle.taco_top.specs.Run.{Request, AsksFor, path_of, orders_of, paths_of}
 
 -- what the bytes of an operand's file stand for, where values are added and multiplied modulo 2^64
-abbrev pub means : Meaning
+abbrev pub means : Decoding
 means = operand_of ring true
 
 -- the words ask for a statement, and it has a loop order by the formats of its tensors
@@ -43,8 +43,8 @@ pub record HasOperands (words : List (List ℕ)) (old new : FolderState) (r : Re
   pub reads : needs_files r.task ≡ true
   pub read : HaveRead means old new (asked_orders r) (asked_paths r) (length (asked_paths r)) entries (map (λ b. b.items) bounds)
 
--- and the ranges of its variables agree: so its result has values
-pub record HasValues (words : List (List ℕ)) (old new : FolderState) : Type 0 where
+-- and the ranges of its variables agree: so what the words ask for has a result
+pub record HasResult (words : List (List ℕ)) (old new : FolderState) : Type 0 where
   pub request : Request
   pub entries : List Entries
   pub bounds : List (Vec Bound Global)
@@ -63,7 +63,7 @@ result_value s entries ranges = statement_value ring s (operand_values ring entr
 pub record IsWritten (words : List (List ℕ)) (files files' : FolderState) (out out' : SinkState) : Type 0 where
   pub between : FolderState
   pub only_reads : OnlyReads files between
-  pub values : HasValues words files between
+  pub values : HasResult words files between
   pub task_is : values.request.task ≡ task.Run
   pub writes : WritesResult ring (path_of values.request.files 0) (result_ranges values.request.statement values.ranges)
       (result_value values.request.statement values.entries values.ranges) between files' out out'

@@ -8,7 +8,7 @@ ghost use Rattle.index_notation.specs.Statement.{IsNumbered};
 ghost use Rattle.expr_terms.specs.declared.bound.Bound.{Bound};
 ghost use Rattle.operand_files.specs.Reads.{OnlyReads};
 ghost use Rattle.taco_top.specs.Asked.{needs_files};
-ghost use Rattle.kernel_runs.specs.Runs.{MayRefuse};
+ghost use Rattle.kernel_runs.specs.Runs.{MayRefuseRun};
 ghost use Rattle.taco_top.specs.Written.{IsAccepted};
 ghost use Rattle.taco_top.specs.Told.{IsKernelOf};
 ghost use Rattle.taco_top.specs.Refused.{Stops};
@@ -41,7 +41,7 @@ pub(crate) struct Computed<'a> {
 /// The refusal of a run, told by the names of the statement.
 fn fault_of<'a>(statement: Statement, why: RunFault) -> Fault<'a>
     ensures { (formats : List (List FormatLevel)) (given : List (Option ℕ)) (entries : List Entries) (bounds : List (Vec Bound AGlobal))
-        → MayRefuse ring statement formats given entries bounds why → IsUncomputed statement formats given entries bounds result }
+        → MayRefuseRun ring statement formats given entries bounds why → IsUncomputed statement formats given entries bounds result }
 {
     match why {
         RunFault::Range(why) => Fault::Named {
