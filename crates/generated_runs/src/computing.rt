@@ -114,9 +114,15 @@ pub(crate) fn compute(
 {
     let statement = workload_statement(alloc)?;
     let formats = workload_formats(alloc)?;
-    let formats = formats.as_slice();
-    let compiled = workload_kernel(alloc, &statement, formats)?;
+    let compiled = workload_kernel(alloc, &statement, formats.as_slice())?;
     let operands = operands_of(alloc, first, second, third)?;
-    let run = run_on(alloc, &statement, formats, &compiled.kernel, size, operands)?;
+    let run = run_on(
+        alloc,
+        &statement,
+        formats.as_slice(),
+        &compiled.kernel,
+        size,
+        operands,
+    )?;
     Ok(run)
 }

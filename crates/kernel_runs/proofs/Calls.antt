@@ -31,7 +31,7 @@ module _ (a : Arithmetic) (s : Statement) (formats : List (List FormatLevel)) (g
     (told : told_ranges s given bounds ≡ Ok ranges) where
   -- there is a format for the result, and one for each operand
   pub formats_many : length formats ≡ length operands + 1
-  formats_many = let are = runnable.operands_are in let many = are.many in let formats = are.formats_many in omega (arith, many, formats)
+  formats_many = let are = runnable.operands_are in let many = are.many in let as_many = are.formats_many in omega (arith, many, as_many)
 
   -- the first format is the result's
   first_is : (first : List FormatLevel) → first ≡ slice_index_or formats 0 first → first ≡ format_of formats 0
