@@ -16,13 +16,13 @@ bounds-orders-n g c =
 
 pub read_file-requires : goal.read_file-requires
 read_file-requires g c =
-    let file = c.loop-n-item.result in
-    (row_at c.args.orders.now c.args.sources.now c.loop-n.n file c.requires c.loop-n-test.true c.loop-n-item.is).readable
+    let file = c.index-sources-n.result in
+    (row_at c.args.orders.now c.args.sources.now c.loop-n.n file c.requires c.loop-n-test.true c.index-sources-n.is).readable
 
 pub returns-in-Err-clause-refused : goal.returns-in-Err-clause-refused
 returns-in-Err-clause-refused g c =
-    let file = c.loop-n-item.result in
-    let row = row_at c.args.orders.now c.args.sources.now c.loop-n.n file c.requires c.loop-n-test.true c.loop-n-item.is in
+    let file = c.index-sources-n.result in
+    let row = row_at c.args.orders.now c.args.sources.now c.loop-n.n file c.requires c.loop-n-test.true c.index-sources-n.is in
     refused_next (operand_of g.S.Semiring.arithmetic g.S.Semiring.has_minus) (g.F.Folder.state c.args.files.now)
     (g.F.Folder.state c.loop-n.files) (g.F.Folder.state c.read_file.new.files)
     c.args.orders.now (paths_in c.args.sources.now) c.loop-n.n c.loop-n.operands.entries.items (map
@@ -32,8 +32,8 @@ returns-in-Err-clause-refused g c =
 
 pub loop-n-preserved : goal.loop-n-preserved
 loop-n-preserved g c =
-    let file = c.loop-n-item.result in
-    let row = row_at c.args.orders.now c.args.sources.now c.loop-n.n file c.requires c.loop-n-test.true c.loop-n-item.is in
+    let file = c.index-sources-n.result in
+    let row = row_at c.args.orders.now c.args.sources.now c.loop-n.n file c.requires c.loop-n-test.true c.index-sources-n.is in
     record {
       only = only_reads_trans (g.F.Folder.state c.args.files.now) (g.F.Folder.state c.loop-n.files)
           (g.F.Folder.state c.read_file.new.files) c.loop-n.invariant.only c.in-Ok.ensures.only_reads;
@@ -53,8 +53,8 @@ loop-n-preserved g c =
 
 pub returns-in_err-push-in-Ok-clause-refused : goal.returns-in_err-push-in-Ok-clause-refused
 returns-in_err-push-in-Ok-clause-refused g c =
-    let file = c.loop-n-item.result in
-    let row = row_at c.args.orders.now c.args.sources.now c.loop-n.n file c.requires c.loop-n-test.true c.loop-n-item.is in
+    let file = c.index-sources-n.result in
+    let row = row_at c.args.orders.now c.args.sources.now c.loop-n.n file c.requires c.loop-n-test.true c.index-sources-n.is in
     let more = read_more (operand_of g.S.Semiring.arithmetic g.S.Semiring.has_minus) (g.F.Folder.state c.args.files.now)
     (g.F.Folder.state c.loop-n.files) (g.F.Folder.state c.read_file.new.files)
     c.args.orders.now (paths_in c.args.sources.now) c.loop-n.n c.loop-n.operands.entries.items (map
