@@ -1,7 +1,7 @@
 -- Words have one answer.
-use Rattle.std.specs.Prelude.{◌≡◌, ℕ, suc, ◌<◌, Bool, true, false, List, [], ◌∷◌, length, Option, Some, None, is_some, Result, Ok, Err}
+use Rattle.std.specs.Prelude.{◌≡◌, ℕ, suc, ◌<◌, Bool, true, List, [], ◌∷◌, length, Option, Some, None, is_some, Result, Ok, Err}
 use Rattle.std.specs.Prelude.{slice_index_or, refl}
-use Rattle.std.proofs.Common.{◌∙◌, sym, ap, subst, arith, inl, inr}
+use Rattle.std.proofs.Common.{◌∙◌, sym, ap, subst, arith}
 use Rattle.format_spec.specs.declared.format.FormatLevel.{FormatLevel}
 use Rattle.format_spec.specs.declared.fault.FormatFault.{FormatFault}
 use Rattle.format_spec.specs.Formats.{letters_of, modes_of}
@@ -9,9 +9,9 @@ use Rattle.format_spec.specs.Words.{Answers}
 use Rattle.format_spec.proofs.WordLaws.{one_answer}
 use Rattle.index_notation.specs.declared.syntax.Statement.{Statement}
 use Rattle.bindings.specs.Words.{FormatText}
-use Rattle.bindings.specs.Bindings.{AreSound, IsFirstFault, first_in, format_in, path_in, range_in, order_of}
-use Rattle.bindings.specs.Outcome.{HasFormat, FormatIs, AreFormats, IsFirstBad, HaveFiles, LacksFile}
-use Rattle.bindings.specs.Outcome.{HasBadFormat, Binds, IsRefused, IsWant}
+use Rattle.bindings.specs.Bindings.{first_in, format_in, path_in, order_of}
+use Rattle.bindings.specs.Outcome.{HasFormat}
+use Rattle.bindings.specs.Outcome.{Binds, IsRefused, IsWant}
 use Rattle.bindings.specs.declared.fault.BindingFault.{BindingFault}
 use Rattle.bindings.specs.declared.fault.BindingFault.TheVariants.{Word, NoFile, BadFormat, Memory}
 

@@ -3,7 +3,6 @@ use Rattle.std.specs.Prelude.{◌≡◌, ◌≢◌, ℕ, ◌<◌, ◌==◌, Bool
 use Rattle.std.specs.Prelude.{Option, Some, None, is_some, if◌then◌else◌, slice_index_or, slice_set, refl}
 use Rattle.std.specs.Option.{option_map}
 use Rattle.std_collections.specs.Map.{lookup}
-use denote.Ref.{Bor}
 use Rattle.std.proofs.Common.{sym, ◌∙◌, ap, subst, arith, cond}
 use Rattle.std.proofs.lemmas.Grind.{common_steps}
 use Rattle.lists.proofs.Tests.{same_number, number_same, number_apart}
@@ -15,6 +14,7 @@ use Rattle.bindings.specs.Bindings.{number_in, names_for, fault_of_said}
 use Rattle.bindings.specs.declared.fault.WordFault.{WordFault}
 use Rattle.bindings.specs.declared.fault.WordFault.TheVariants.{UnknownName, Twice, NotMatrix, RangeLimit}
 use Rattle.bindings.specs.declared.bound.Bound.{Bound}
+use Rattle.bindings.specs.declared.tensor_file.TensorFile.{TensorFile}
 use Rattle.bindings.specs.declared.word.FormatText.{FormatText}
 use Rattle.limits.specs.Limits.{greatest_range_word}
 use Rattle.std.specs.Str.Parse.{digits_value}
@@ -92,17 +92,17 @@ found_in_words s n (word ∷ words) = by_said (said_of word) (found_in_words s n
         by_place true = refl
         by_place false = later
 
-found_in_view : (n : ℕ) (files : List (ℕ × Bor (List ℕ))) → found n files ≡ found n (map file_in files)
+found_in_view : (n : ℕ) (files : List (ℕ × TensorFile)) → found n files ≡ found n (map file_in files)
 found_in_view n [] = refl
 found_in_view n (file ∷ files) = by_key (n == file.0) (found_in_view n files)
   where
     by_key : (b : Bool) → found n files ≡ found n (map file_in files)
         → is_some (cond b (Some file.1) (lookup (λ k. n == k) files)) ≡ is_some
-        (cond b (Some file.1.now) (lookup (λ k. n == k) (map file_in files)))
+        (cond b (Some file.1.path.now) (lookup (λ k. n == k) (map file_in files)))
     by_key true later = refl
     by_key false later = later
 
-pub file_found : (s : Statement) (words : List (List ℕ)) (n : ℕ) (files : List (ℕ × Bor (List ℕ))) → map file_in files ≡ files_in s words
+pub file_found : (s : Statement) (words : List (List ℕ)) (n : ℕ) (files : List (ℕ × TensorFile)) → map file_in files ≡ files_in s words
     → is_some (lookup (λ k. n == k) files) ≡ is_some (first_in (path_in s n) words)
 file_found s words n files are = found_in_view n files ∙ ap (found n) are ∙ found_in_words s n words
 
@@ -236,16 +236,16 @@ module _ (s : Statement) (words : List (List ℕ)) (text : List ℕ) (bound : Bo
       }
 
   -- the file of a tensor is bound
-  pub file_bound : (path : Bor (List ℕ)) (files : List (ℕ × Bor (List ℕ))) (now : Bound)
+  pub file_bound : (file : TensorFile) (files : List (ℕ × TensorFile)) (now : Bound)
       → number ≡ place_of s.tensors (record { bytes = name })
-      → said_of text ≡ Some (SaysFile name path.now) → files ≡ bound.files.entries ++ (number, path) ∷ []
+      → said_of text ≡ Some (SaysFile name file.path.now) → files ≡ bound.files.entries ++ (number, file) ∷ []
       → now.files.entries ≡ files → now.texts ≡ bound.texts → now.ranges ≡ bound.ranges
       → IsBound s (words ++ text ∷ []) now
-  file_bound path files now place said more entries texts ranges =
-      let one : with_file s (said_of text) [] ≡ (number, path.now) ∷ [] = ap (λ o. with_file s o []) said
-      ∙ ap (λ n. (n, path.now) ∷ []) (sym place) in
+  file_bound file files now place said more entries texts ranges =
+      let one : with_file s (said_of text) [] ≡ (number, file.path.now) ∷ [] = ap (λ o. with_file s o []) said
+      ∙ ap (λ n. (n, file.path.now) ∷ []) (sym place) in
       let all : map file_in now.files.entries ≡ files_in s (words ++ text ∷ []) = ap (map file_in) (entries ∙ more)
-      ∙ map-append file_in bound.files.entries ((number, path) ∷ []) ∙ ap (λ l. l ++ (number, path.now) ∷ []) is.files
+      ∙ map-append file_in bound.files.entries ((number, file) ∷ []) ∙ ap (λ l. l ++ (number, file.path.now) ∷ []) is.files
       ∙ ap (λ l. files_in s words ++ l) (sym one) ∙ sym (files_in_more s words text) in
       record {
         places = record {

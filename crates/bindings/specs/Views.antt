@@ -13,12 +13,12 @@ text_in text = record { letters = text.letters.now; order = option_map (λ order
 
 abbrev pub said_in : Word → words.Said
 said_in (word.Format name text) = words.SaysFormat name.now (text_in text)
-said_in (word.File name path) = words.SaysFile name.now path.now
+said_in (word.File name file) = words.SaysFile name.now file.path.now
 said_in (word.Range name digits range) = words.SaysRange name.now digits.now
 
 -- a range is the number of its digits, or None where that is above the limit
 abbrev pub HasNumber : Word → Type 0
 HasNumber (word.Format name text) = Unit {0}
-HasNumber (word.File name path) = Unit {0}
+HasNumber (word.File name file) = Unit {0}
 HasNumber (word.Range name digits range) =
     range ≡ (if nat_lt greatest_range_word (digits_value 10 digits.now) then None else Some (digits_value 10 digits.now))

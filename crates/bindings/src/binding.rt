@@ -13,6 +13,7 @@ ghost use Rattle.bindings.specs.Views.{text_in};
 
 use crate::bound::{Bound, order_of};
 use crate::fault::BindingFault;
+use crate::tensor_file::TensorFile;
 use crate::word::FormatText;
 use format_spec::{Format, FormatFault, parse_format};
 use index_notation::Statement;
@@ -24,8 +25,8 @@ use std::alloc::{AllocError, Global};
 pub struct Bindings<'a> {
     /// The format of each tensor, by its number.
     pub formats: Vec<Format>,
-    /// The tensors that have files, by their numbers, with the paths, in the order of the words.
-    pub files: IndexMap<usize, &'a str>,
+    /// The files of the tensors that have some, by the tensors' numbers, in the order of the words.
+    pub files: IndexMap<usize, TensorFile<'a>>,
     /// The range of each variable that has a word, by its number.
     pub ranges: Vec<Option<u64>>,
 }

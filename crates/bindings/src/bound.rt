@@ -2,7 +2,6 @@
 ghost use Rattle.std.specs.Prelude.{◌≡◌, ◌<◌, ◌++◌, ◌∷◌, [], ℕ, List, Some};
 ghost use Rattle.std.specs.Prelude.{None, true, false, IfOk, OnOk, IsTrue, length, replicate};
 ghost use Rattle.std.specs.Prelude.{nat_lt};
-ghost use Rattle.index_notation.specs.Numbering.{place_of};
 ghost use Rattle.bindings.specs.Words.{said_of};
 ghost use Rattle.bindings.specs.Bindings.{number_in, names_for, is_bound, is_no_matrix, is_above_limit, fault_of_said, fault_of, order_in};
 ghost use Rattle.bindings.specs.Bindings.{order_of as order_of_tensor};
@@ -10,8 +9,10 @@ ghost use Rattle.bindings.specs.Views.{said_in, HasNumber};
 ghost use Rattle.bindings.specs.Tables.{IsBound, HasPlaces};
 
 use crate::fault::WordFault;
+use crate::names::place;
+use crate::tensor_file::TensorFile;
 use crate::word::{FormatText, Word, read_word};
-use index_notation::{Access, Name, Statement};
+use index_notation::{Access, Statement};
 use indexmap::IndexMap;
 use std::alloc::{AllocError, Global};
 
@@ -19,20 +20,8 @@ use std::alloc::{AllocError, Global};
 #[derive(Drop)]
 pub(crate) struct Bound<'a> {
     pub(crate) texts: Vec<Option<FormatText<'a>>>,
-    pub(crate) files: IndexMap<usize, &'a str>,
+    pub(crate) files: IndexMap<usize, TensorFile<'a>>,
     pub(crate) ranges: Vec<Option<u64>>,
-}
-
-/// The place of a name in a row, which is the row's length where it doesn't stand there.
-fn place(names: &[Name], name: &str) -> usize
-    ensures { result ≡ place_of names.now (record { bytes = name.now }) }
-{
-    for (i, other) in names.iter().enumerate() {
-        if other.bytes.as_slice() == name.as_bytes() {
-            return i;
-        }
-    }
-    names.len()
 }
 
 /// The number of variables of the first of these accesses to a tensor.
@@ -87,7 +76,7 @@ fn needs_a_matrix(statement: &Statement, word: &Word<'_>, number: usize) -> bool
     ensures { result ≡ is_no_matrix statement.now (said_in word.now) }
 {
     match word {
-        Word::File { path, .. } if path.as_bytes().ends_with(b".mtx") => {
+        Word::File { file, .. } if file.is_matrix() => {
             let order = order_of(statement, number);
             !(order == 1 || order == 2)
         }
@@ -184,8 +173,8 @@ impl<'a> Bound<'a> {
     {
         match word {
             Word::Format { text, .. } => self.texts[number] = Some(text),
-            Word::File { path, .. } => {
-                self.files.insert(number, path)?;
+            Word::File { file, .. } => {
+                self.files.insert(number, file)?;
             }
             Word::Range { range, .. } => self.ranges[number] = range,
         }

@@ -5,8 +5,14 @@
 mod binding;
 mod bound;
 mod fault;
+mod file_format;
+mod names;
+mod tensor_file;
 mod word;
 
 pub use binding::{Bindings, bind};
 pub use bound::order_of;
 pub use fault::{BindingFault, WordFault};
+pub use file_format::FileFormat;
+pub use names::name_at;
+pub use tensor_file::TensorFile;

@@ -5,8 +5,11 @@ ghost use Rattle.std.specs.Prelude.{length, get_or, ◌||◌, ◌&&◌, ◌<◌}
 ghost use Rattle.std.specs.List.{list_all};
 ghost use Rattle.index_notation.specs.Tokens.{goes_on};
 ghost use Rattle.bindings.specs.Words.{is_name as is_name_text, is_tns, is_mtx, format_text_of, said_of, said_behind};
+ghost use Rattle.bindings.specs.Files.{is_matrix};
 ghost use Rattle.bindings.specs.Views.{text_in, said_in, HasNumber};
 
+use crate::file_format::FileFormat;
+use crate::tensor_file::TensorFile;
 use limits::greatest_range_in_word;
 use text_lines::{NumFault, read_index};
 
@@ -28,7 +31,7 @@ pub(crate) enum Word<'a> {
     /// `NAME=PATH`.
     File {
         name: &'a str,
-        path: &'a str,
+        file: TensorFile<'a>,
     },
     /// `VAR#RANGE`, with the number of its digits unless it is above the limit.
     Range {
@@ -67,11 +70,19 @@ fn is_name(bytes: &[u8]) -> bool
     first.is_ascii_alphabetic() && go_on_in_name(others)
 }
 
-/// Whether a path ends in `.tns` or `.mtx`.
-fn is_path(path: &[u8]) -> bool
-    ensures { result ≡ is_tns path.now || is_mtx path.now }
+/// The format of the file of a path, by the path's ending, if it has one of the two.
+fn format_of_path(path: &str) -> Option<FileFormat>
+    ensures { MatchOption result ((is_tns path.now || is_mtx path.now) ≡ false)
+        (λ format. ((is_tns path.now || is_mtx path.now) ≡ true) × (is_matrix format ≡ is_mtx path.now)) }
 {
-    path.ends_with(b".tns") || path.ends_with(b".mtx")
+    let bytes = path.as_bytes();
+    if bytes.ends_with(b".mtx") {
+        Some(FileFormat::MatrixMarket)
+    } else if bytes.ends_with(b".tns") {
+        Some(FileFormat::Coordinates)
+    } else {
+        None
+    }
 }
 
 /// What stands before and behind the first of these marks.
@@ -122,10 +133,12 @@ fn file_word<'a>(name: &'a str, path: &'a str) -> Option<Word<'a>>
     ensures said { option_map said_in result ≡ said_behind name.entry.now (Some 61) path.entry.now }
     ensures range { IfSome result HasNumber }
 {
-    if is_path(path.as_bytes()) {
-        Some(Word::File { name, path })
-    } else {
-        None
+    match format_of_path(path) {
+        Some(format) => Some(Word::File {
+            name,
+            file: TensorFile { path, format },
+        }),
+        None => None,
     }
 }
 

@@ -29,7 +29,7 @@ use Rattle.operand_packing.specs.Operands.{mode_sizes}
 use Rattle.operand_packing.specs.Packed.{FitsLevels, OperandsFit, operand_sizes}
 use Rattle.kernel_runs.specs.declared.fault.RunFault.{RunFault}
 use Rattle.kernel_runs.specs.declared.fault.RunFault.TheVariants.{Range, SizeLimit, Workspace, Memory}
-use Rattle.kernel_runs.specs.Runs.{AllFit, IsStoreFor, MayRefuse, RefusesNoneThatFit, result_level_sizes}
+use Rattle.kernel_runs.specs.Runs.{AllFit, IsStoreFor, MayRefuseRun, RefusesNoneThatFit, result_level_sizes}
 use Rattle.generated_runs.specs.Matrices.{AreMatrices, IsMatrix}
 use Rattle.generated_runs.specs.Refused.{IsForMemory}
 use Rattle.generated_runs.specs.Workloads.{by_rows, workload_statement, workload_formats}
@@ -205,12 +205,12 @@ all_fit a n (first ∷ second ∷ third ∷ []) few are = fit a n first second t
 -- so a run of the workload is refused for want of memory alone
 pub refused_for_memory : (a : Arithmetic) (n : ℕ) (operands : List Entries) → n ≤ greatest_workload → AreMatrices n operands
     → RefusesNoneThatFit → (fault : RunFault)
-    → MayRefuse a workload_statement workload_formats (Some n ∷ Some n ∷ []) operands [] fault → IsForMemory fault
+    → MayRefuseRun a workload_statement workload_formats (Some n ∷ Some n ∷ []) operands [] fault → IsForMemory fault
 refused_for_memory a n operands few are none (Memory error) why = tt
 refused_for_memory a n operands few are none (Range fault) why =
     let both : Ok (n ∷ n ∷ []) ≡ Err fault = sym (told n) ∙ why in absurd cc
-refused_for_memory a n operands few are none (SizeLimit tensor level count) why =
-    none a workload_statement workload_formats (Some n ∷ Some n ∷ []) operands [] (n ∷ n ∷ []) (SizeLimit tensor level count) (told n)
+refused_for_memory a n operands few are none (SizeLimit large) why =
+    none a workload_statement workload_formats (Some n ∷ Some n ∷ []) operands [] (n ∷ n ∷ []) (SizeLimit large) (told n)
     (all_fit a n operands few are) why tt
 refused_for_memory a n operands few are none (Workspace count) why =
     none a workload_statement workload_formats (Some n ∷ Some n ∷ []) operands [] (n ∷ n ∷ []) (Workspace count) (told n)

@@ -64,7 +64,7 @@ fn memory_of(fault: RunFault) -> AllocError
     match fault {
         RunFault::Memory(error) => error,
         RunFault::Range(_) => unreachable!(),
-        RunFault::SizeLimit { .. } => unreachable!(),
+        RunFault::SizeLimit(_) => unreachable!(),
         RunFault::Workspace { .. } => unreachable!(),
     }
 }
@@ -73,13 +73,13 @@ fn memory_of(fault: RunFault) -> AllocError
 fn run_on(
     alloc: Global,
     statement: &Statement,
-    formats: Vec<Format>,
+    formats: &[Format],
     kernel: &Kernel,
     size: u64,
     operands: Operands,
 ) -> Result<KernelRun, AllocError>
     requires statement { statement.now ≡ workload_statement }
-    requires formats { formats.items ≡ workload_formats }
+    requires formats { formats.now ≡ workload_formats }
     requires kernel { (order : List ℕ) × IsCompiled ring workload_statement workload_formats order kernel.now }
     requires small { size ≤ greatest_workload }
     requires matrices { AreMatrices size operands.entries.items }
@@ -116,6 +116,13 @@ pub(crate) fn compute(
     let formats = workload_formats(alloc)?;
     let compiled = workload_kernel(alloc, &statement, formats.as_slice())?;
     let operands = operands_of(alloc, first, second, third)?;
-    let run = run_on(alloc, &statement, formats, &compiled.kernel, size, operands)?;
+    let run = run_on(
+        alloc,
+        &statement,
+        formats.as_slice(),
+        &compiled.kernel,
+        size,
+        operands,
+    )?;
     Ok(run)
 }

@@ -4,14 +4,18 @@ use Rattle.std.proofs.Common.{◌∙◌, sym, subst, arith, inl, inr}
 use Rattle.std.proofs.lemmas.List.Elements.{All-tail}
 use Rattle.limits.specs.Limits.{greatest_position_count}
 use Rattle.expr_terms.specs.declared.range_fault.RangeFault.{RangeFault}
+use Rattle.numbers.specs.Arithmetic.{Arithmetic}
+use Rattle.tensor_map.specs.Entries.{Entries}
 use Rattle.level_core.specs.declared.letter.Letter.{Letter}
+use Rattle.format_spec.specs.declared.format.FormatLevel.{FormatLevel}
+use Rattle.index_notation.specs.declared.syntax.Statement.{Statement}
 use Rattle.tensor_storage.specs.Counts.{AreFew, positions_of}
 use Rattle.kernel_stores.specs.Stores.{StartsFew}
 use Rattle.level_core.specs.Kinds.{parents_below}
 use Rattle.kernel_machine.specs.Begins as begins
 use Rattle.operand_packing.proofs.SizeLaws.{index_small}
 use Rattle.kernel_runs.specs.declared.fault.RunFault.TheVariants.{Range, SizeLimit, Workspace, Memory}
-use Rattle.kernel_runs.specs.Runs.{RefusesNoneThatFit, AllFit, CantBegin, CantFinish, result_level_sizes}
+use Rattle.kernel_runs.specs.Runs.{RefusesNoneThatFit, AllFit, IsLargeLevelBy, result_level_sizes}
 
 -- no number in the midst of few ones passes the limit
 few_within : (above below : List ℕ) (count : ℕ) → AreFew (above ++ (count ∷ below)) → count ≤ greatest_position_count
@@ -34,6 +38,24 @@ same_ranges (Ok zs) xs ys x y =
     let second : zs ≡ ys = cc in sym first ∙ second
 same_ranges (Err fault) xs ys x y = absurd cc
 
+-- no level is too large
+none_large : (a : Arithmetic) (s : Statement) (formats : List (List FormatLevel)) (ranges : List ℕ) (operands : List Entries)
+    (tensor level count : ℕ) → AllFit a s formats ranges operands → IsLargeLevelBy a s formats ranges operands tensor level count → ⊥
+none_large a s formats ranges operands zero level count all (inl c) =
+    begins_not _ (result_level_sizes formats ranges) 1 1 level count all.begins c.first
+none_large a s formats ranges operands zero level count all (inr c) =
+    let few = index_small greatest_position_count (positions_of c.store.format c.store.ranges c.passes.table)
+    (all.result_fits c.store c.is_store c.passes.table c.passes.named) c.passes.at in
+    let most = c.passes.most in
+    let passes = c.passes.passes in
+    omega (arith, few, most, passes)
+none_large a s formats ranges operands (suc n) level count all large =
+    let first = large.large.first in
+    let few = few_within first.above first.below count
+    (subst AreFew first.all (all.operands_fit large.n large.entries large.is large.large.counts large.large.have)) in
+    let passes = first.passes in
+    omega (arith, few, passes)
+
 pub none_refused : RefusesNoneThatFit
 none_refused a s formats given operands bounds ranges (Range fault) told fit may of = of
 none_refused a s formats given operands bounds ranges (Memory error) told fit may of = of
@@ -44,25 +66,7 @@ none_refused a s formats given operands bounds ranges (Workspace count) told fit
     let most = may.most in
     let passes = may.passes in
     omega (arith, few, most, passes)
-none_refused a s formats given operands bounds ranges (SizeLimit (suc n) level count) told fit may of =
+none_refused a s formats given operands bounds ranges (SizeLimit large) told fit may of =
     let same = same_ranges _ ranges may.ranges told may.ranges_are in
-    let all : AllFit a s formats may.ranges operands = subst (λ rs. AllFit a s formats rs operands) same fit in
-    let large = may.large in
-    let first = large.large.first in
-    let few = few_within first.above first.below count
-    (subst AreFew first.all (all.operands_fit large.n large.entries large.is large.large.counts large.large.have)) in
-    let passes = first.passes in
-    omega (arith, few, passes)
-none_refused a s formats given operands bounds ranges (SizeLimit zero level count) told fit may of = by may.large
-  where
-    all : AllFit a s formats may.ranges operands
-    all = subst (λ rs. AllFit a s formats rs operands) (same_ranges _ ranges may.ranges told may.ranges_are) fit
-
-    by : CantBegin a s formats may.ranges operands level count ⊎ CantFinish a s formats may.ranges operands level count → ⊥
-    by (inl c) = begins_not _ (result_level_sizes formats may.ranges) 1 1 level count all.begins c.first
-    by (inr c) =
-        let few = index_small greatest_position_count (positions_of c.store.format c.store.ranges c.passes.table)
-        (all.result_fits c.store c.is_store c.passes.table c.passes.named) c.passes.at in
-        let most = c.passes.most in
-        let passes = c.passes.passes in
-        omega (arith, few, most, passes)
+    none_large a s formats may.ranges operands large.tensor large.level large.count
+    (subst (λ rs. AllFit a s formats rs operands) same fit) may.by

@@ -1,7 +1,6 @@
 pub mod Alike
 pub mod Calls
 pub mod Entries
-pub mod Firsts
 pub mod Fits
 pub mod Outcomes
 pub mod Refusals

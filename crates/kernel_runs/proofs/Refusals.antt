@@ -15,17 +15,17 @@ use Rattle.operand_packing.specs.Packed.{MayNotPack}
 use Rattle.operand_packing.specs.declared.packing.PackFault.{PackFault}
 use Rattle.operand_packing.specs.declared.packing.PackFault.TheVariants as pack
 use Rattle.kernel_runs.specs.Refused.{of_ranges, of_packing}
-use Rattle.kernel_runs.specs.Runs.{IsTooLargeBy, MayRefuse}
+use Rattle.kernel_runs.specs.Runs.{IsLargeLevelBy, MayRefuseRun}
 
 -- a refusal of the ranges, by the bounds as they are lent, is one of the run
 pub range_refusal : (a : Arithmetic) (s : Statement) (formats : List (List FormatLevel)) (given : List (Option ℕ)) (operands : List Entries)
     (bounds lent : List (Vec Bound Global)) (refusal : RangeFault)
-    → lent ≡ bounds → told.MayRefuse (told_ranges s given lent) refusal → MayRefuse a s formats given operands bounds (of_ranges refusal)
+    → lent ≡ bounds → told.MayRefuse (told_ranges s given lent) refusal → MayRefuseRun a s formats given operands bounds (of_ranges refusal)
 range_refusal a s formats given operands bounds lent refusal same h =
     by refusal (subst (λ (bs : List (Vec Bound Global)). told.MayRefuse (told_ranges s given bs) refusal) same h)
   where
     by : (refusal : RangeFault) → told.MayRefuse (told_ranges s given bounds) refusal
-        → MayRefuse a s formats given operands bounds (of_ranges refusal)
+        → MayRefuseRun a s formats given operands bounds (of_ranges refusal)
     by (NoRange var) h = h
     by (RangeConflict var first other) h = h
     by (OutOfRange tensor coordinate range) h = h
@@ -34,12 +34,12 @@ range_refusal a s formats given operands bounds lent refusal same h =
 -- so is one of packing
 pub pack_refusal : (a : Arithmetic) (s : Statement) (formats : List (List FormatLevel)) (given : List (Option ℕ)) (operands : List Entries)
     (bounds : List (Vec Bound Global)) (ranges : List ℕ) (refusal : PackFault) → told_ranges s given bounds ≡ Ok ranges
-    → MayNotPack a s formats (slice_index ranges) operands refusal → MayRefuse a s formats given operands bounds (of_packing refusal)
+    → MayNotPack a s formats (slice_index ranges) operands refusal → MayRefuseRun a s formats given operands bounds (of_packing refusal)
 pack_refusal a s formats given operands bounds ranges (pack.Memory error) told may = tt
-pack_refusal a s formats given operands bounds ranges (pack.SizeLimit tensor level count) told may = record {
+pack_refusal a s formats given operands bounds ranges (pack.SizeLimit large) told may = record {
   ranges = ranges;
   ranges_are = told;
-  large = subst (λ t. IsTooLargeBy a s formats ranges operands t level count) (sym may.tensor_is) (record {
+  by = subst (λ t. IsLargeLevelBy a s formats ranges operands t large.level large.count) (sym may.tensor_is) (record {
     n = may.n;
     tensor_is = refl;
     entries = may.entries;

@@ -2,10 +2,7 @@
 use Rattle.std.specs.Prelude.{◌≡◌, ◌⊎◌, ℕ, zero, suc, ◌+◌, ◌<◌, ◌≤◌, Bool, true, List, length, map, Option, Ok, Some, Vec, slice_index}
 use Rattle.std.specs.declared.alloc.Global.{Global}
 use Rattle.std.proofs.Common.{◌∙◌, sym, ap, subst, arith, inl, inr}
-use Rattle.std.proofs.lemmas.List.{length-map}
 use Rattle.lists.specs.Each.{Each}
-use Rattle.mtx_io.specs.Progress.{IsMatrixOrder}
-use Rattle.result_files.specs.EntriesText.{MayBeWritten}
 use Rattle.numbers.specs.Arithmetic.{Arithmetic, Laws}
 use Rattle.tensor_map.specs.Entries.{AreEntries, Entries}
 use Rattle.kernel_code.specs.declared.syntax.Kernel.{Kernel}
@@ -35,7 +32,7 @@ use Rattle.operand_packing.specs.Runnable.{IsRunnable, told_ranges}
 use Rattle.operand_packing.specs.Packed.{ArePackedOperands}
 use Rattle.kernel_runs.specs.declared.fault.RunFault.{RunFault}
 use Rattle.kernel_runs.specs.declared.fault.RunFault.TheVariants.{Range, SizeLimit, Workspace, Memory}
-use Rattle.kernel_runs.specs.Runs.{IsRun, IsStoreFor, IsTensorOf, IsTooLargeBy, MayRefuse}
+use Rattle.kernel_runs.specs.Runs.{IsRun, IsStoreFor, IsTensorOf, IsLargeLevelBy, MayRefuseRun}
 use Rattle.kernel_runs.specs.Steps.{CanBegin, EndsOn, ListsNonzero, RefusedOn, StopsOn}
 use Rattle.kernel_runs.proofs.Alike.{packed_alike}
 use Rattle.kernel_runs.proofs.Entries.{tensor_of}
@@ -49,19 +46,6 @@ numbers_fit from (suc count) most each h =
     let first = each.0 in
     let rest = numbers_fit (from + 1) count most each.1 (omega (arith, first)) in
     omega (arith, rest)
-
--- the entries of such a tensor may be written
-pub written : (a : Arithmetic) (s : Statement) (operands : List Entries) (ranges : ℕ → ℕ) (shape : List ℕ) (entries : Entries)
-    → AreEntries entries → IsTensorOf a s operands ranges shape entries → (is_matrix : Bool)
-    → (is_matrix ≡ true → IsMatrixOrder (length s.left.vars))
-    → MayBeWritten is_matrix shape entries
-written a s operands ranges shape entries are t is_matrix order = record {
-  are = are;
-  order_is = t.order_is;
-  below = t.below;
-  increasing = t.increasing;
-  matrix = λ is. subst IsMatrixOrder (sym (t.order_is ∙ ap length t.shape_is ∙ length-map s.left.vars ranges)) (order is);
-}
 
 module _ (a : Arithmetic) (laws : Laws a) (s : Statement) (formats : List (List FormatLevel)) (kernel : Kernel)
     (right : IsRightKernel a s formats kernel) (given : List (Option ℕ)) (operands : List Entries) (bounds : List (Vec Bound Global))
@@ -98,7 +82,7 @@ module _ (a : Arithmetic) (laws : Laws a) (s : Statement) (formats : List (List 
         apart e = cc
 
     pub refused : (fault : RunFault) → RefusedOn a kernel (store_of ranges storages format) fault
-        → MayRefuse a s formats given operands bounds fault
+        → MayRefuseRun a s formats given operands bounds fault
     refused (Range fault) why = absurd why
     refused (Memory error) why = tt
     refused (Workspace count) why =
@@ -112,24 +96,24 @@ module _ (a : Arithmetic) (laws : Laws a) (s : Statement) (formats : List (List 
           most = outcome.1;
           sparse = λ dense. outcome.2 (subst AreAllDense (sym format_is) dense);
         }
-    refused (SizeLimit tensor level count) why = record {
+    refused (SizeLimit large) why = record {
       ranges = ranges;
       ranges_are = told;
-      large = subst (λ t. IsTooLargeBy a s formats ranges operands t level count) (sym why.0) (by why.1);
+      by = subst (λ t. IsLargeLevelBy a s formats ranges operands t large.level large.count) (sym why.0) (of_result why.1);
     }
       where
-        by : begins.IsTooLarge (letters_of format) (in_level_order format ranges) 1 1 level count
-            ⊎ StopsOn a kernel (store_of ranges storages format) (place.Level level) count
-            → IsTooLargeBy a s formats ranges operands 0 level count
-        by (inl first) = inl (record {
+        of_result : begins.IsTooLarge (letters_of format) (in_level_order format ranges) 1 1 large.level large.count
+            ⊎ StopsOn a kernel (store_of ranges storages format) (place.Level large.level) large.count
+            → IsLargeLevelBy a s formats ranges operands 0 large.level large.count
+        of_result (inl first) = inl (record {
           storages = storages;
           packed = packed;
-          first = subst (λ f. begins.IsTooLarge (letters_of f) (in_level_order f ranges) 1 1 level count) format_is first;
+          first = subst (λ f. begins.IsTooLarge (letters_of f) (in_level_order f ranges) 1 1 large.level large.count) format_is first;
         })
-        by (inr stops) = inr (record {
+        of_result (inr stops) = inr (record {
           store = store_of ranges storages format;
           is_store = store_for stops.few;
-          passes = stopped (place.Level level) count stops;
+          passes = stopped (place.Level large.level) large.count stops;
         })
 
     pub is_run : (tensor : Storage) (turns : Turns) (entries : Entries) (shape : List ℕ)

@@ -12,5 +12,5 @@ of_ranges (range.Memory error) = Memory error
 of_ranges fault = Range fault
 
 abbrev pub of_packing : PackFault → RunFault
-of_packing (pack.SizeLimit tensor level count) = SizeLimit tensor level count
+of_packing (pack.SizeLimit large) = SizeLimit large
 of_packing (pack.Memory error) = Memory error

@@ -27,6 +27,7 @@ use Rattle.kernel_stores.specs.Stores.{Store, IsGiven, StartsFew, IsStoreOf, tol
 use Rattle.kernel_machine.specs.Begins as begins
 use Rattle.kernel_machine.specs.Runs.{HasRun}
 use Rattle.operand_packing.specs.Runnable.{told_ranges}
+use Rattle.operand_packing.specs.declared.large_level.LargeLevel.{LargeLevel}
 use Rattle.operand_packing.specs.Packed.{ArePackedOperands, OperandsFit, IsFirstLargeOperand}
 use Rattle.kernel_runs.specs.declared.fault.RunFault.{RunFault}
 use Rattle.kernel_runs.specs.declared.fault.RunFault.TheVariants.{Range, SizeLimit, Workspace, Memory}
@@ -91,18 +92,18 @@ pub record CantFinish (a : Arithmetic) (s : Statement) (formats : List (List For
   pub passes : MayPass a s (told_by a store) store level count
 
 -- a level of a tensor is too large: the result is tensor 0
-abbrev pub IsTooLargeBy : Arithmetic → Statement → List (List FormatLevel) → List ℕ → List Entries → ℕ → ℕ → ℕ → Type 0
-IsTooLargeBy a s formats ranges operands zero level count =
+abbrev pub IsLargeLevelBy : Arithmetic → Statement → List (List FormatLevel) → List ℕ → List Entries → ℕ → ℕ → ℕ → Type 0
+IsLargeLevelBy a s formats ranges operands zero level count =
     CantBegin a s formats ranges operands level count ⊎ CantFinish a s formats ranges operands level count
-IsTooLargeBy a s formats ranges operands (suc n) level count =
+IsLargeLevelBy a s formats ranges operands (suc n) level count =
     IsFirstLargeOperand a s formats (slice_index ranges) operands (suc n) level count
 
 -- the ranges agree, and by them this level of this tensor has too many positions, so many
-pub record IsTooLarge (a : Arithmetic) (s : Statement) (formats : List (List FormatLevel)) (given : List (Option ℕ))
-    (operands : List Entries) (bounds : List (Vec Bound Global)) (tensor level count : ℕ) : Type 0 where
+pub record IsLargeLevel (a : Arithmetic) (s : Statement) (formats : List (List FormatLevel)) (given : List (Option ℕ))
+    (operands : List Entries) (bounds : List (Vec Bound Global)) (large : LargeLevel) : Type 0 where
   pub ranges : List ℕ
   pub ranges_are : told_ranges s given bounds ≡ Ok ranges
-  pub large : IsTooLargeBy a s formats ranges operands tensor level count
+  pub by : IsLargeLevelBy a s formats ranges operands large.tensor large.level large.count
 
 -- the ranges agree, and on a store of the operands the workspace, which there is only where some level of the result isn't dense,
 -- needs more pairs than may be: as many at most as there are of a term and a point where it is present
@@ -117,13 +118,12 @@ pub record NeedsPairs (a : Arithmetic) (s : Statement) (formats : List (List For
   pub sparse : AreAllDense (format_of formats 0) → ⊥
 
 -- why a statement isn't computed: the first fault of the ranges; a level that is too large; a workspace; or want of memory
-abbrev pub MayRefuse : Arithmetic → Statement → List (List FormatLevel) → List (Option ℕ) → List Entries → List (Vec Bound Global)
+abbrev pub MayRefuseRun : Arithmetic → Statement → List (List FormatLevel) → List (Option ℕ) → List Entries → List (Vec Bound Global)
     → RunFault → Type 0
-MayRefuse a s formats given operands bounds (Range fault) = told_ranges s given bounds ≡ Err fault
-MayRefuse a s formats given operands bounds (SizeLimit tensor level count) =
-    IsTooLarge a s formats given operands bounds tensor level count
-MayRefuse a s formats given operands bounds (Workspace count) = NeedsPairs a s formats given operands bounds count
-MayRefuse a s formats given operands bounds (Memory error) = Unit {0}
+MayRefuseRun a s formats given operands bounds (Range fault) = told_ranges s given bounds ≡ Err fault
+MayRefuseRun a s formats given operands bounds (SizeLimit large) = IsLargeLevel a s formats given operands bounds large
+MayRefuseRun a s formats given operands bounds (Workspace count) = NeedsPairs a s formats given operands bounds count
+MayRefuseRun a s formats given operands bounds (Memory error) = Unit {0}
 
 -- no level of an operand or of the result's storage has more positions than may be, and no workspace needs more pairs
 pub record AllFit (a : Arithmetic) (s : Statement) (formats : List (List FormatLevel)) (ranges : List ℕ)
@@ -138,7 +138,7 @@ pub record AllFit (a : Arithmetic) (s : Statement) (formats : List (List FormatL
 -- a fault of sizes
 abbrev pub IsOfSizes : RunFault → Type 0
 IsOfSizes (Range fault) = ⊥
-IsOfSizes (SizeLimit tensor level count) = Unit {0}
+IsOfSizes (SizeLimit large) = Unit {0}
 IsOfSizes (Workspace count) = Unit {0}
 IsOfSizes (Memory error) = ⊥
 
@@ -147,4 +147,4 @@ abbrev pub RefusesNoneThatFit : Type 0
 RefusesNoneThatFit = (a : Arithmetic) (s : Statement) (formats : List (List FormatLevel)) (given : List (Option ℕ))
     (operands : List Entries) (bounds : List (Vec Bound Global)) (ranges : List ℕ) (fault : RunFault)
     → told_ranges s given bounds ≡ Ok ranges → AllFit a s formats ranges operands
-    → MayRefuse a s formats given operands bounds fault → IsOfSizes fault → ⊥
+    → MayRefuseRun a s formats given operands bounds fault → IsOfSizes fault → ⊥

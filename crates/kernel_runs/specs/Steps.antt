@@ -38,9 +38,9 @@ pub record StopsOn (a : Arithmetic) (kernel : Kernel) (store : Store) (at : Plac
 -- why the run of a kernel on a store has no result
 abbrev pub RefusedOn : Arithmetic → Kernel → Store → RunFault → Type 0
 RefusedOn a kernel store (Range fault) = ⊥
-RefusedOn a kernel store (SizeLimit tensor level count) =
-    (tensor ≡ 0) × (begins.IsTooLarge (letters_of store.format) (result_sizes store) 1 1 level count
-    ⊎ StopsOn a kernel store (place.Level level) count)
+RefusedOn a kernel store (SizeLimit large) =
+    (large.tensor ≡ 0) × (begins.IsTooLarge (letters_of store.format) (result_sizes store) 1 1 large.level large.count
+    ⊎ StopsOn a kernel store (place.Level large.level) large.count)
 RefusedOn a kernel store (Workspace count) = StopsOn a kernel store place.Workspace count
 RefusedOn a kernel store (Memory error) = Unit {0}
 

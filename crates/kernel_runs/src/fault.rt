@@ -1,6 +1,6 @@
 //! Why a statement isn't computed by its kernel.
 use expr_terms::RangeFault;
-use operand_packing::PackFault;
+use operand_packing::{LargeLevel, PackFault};
 use std::alloc::AllocError;
 
 /// Why a statement isn't computed over its operands.
@@ -9,13 +9,9 @@ pub enum RunFault {
     /// A variable has no range, or two, or a coordinate is above it: the first fault in standing order of the variables. It
     /// is never the fault of memory.
     Range(RangeFault),
-    /// A level of a tensor, the top one being number 1, would have more positions than may be, so many. Of operands it is the
-    /// first such level of the first such operand; the result, which is tensor 0, comes behind them.
-    SizeLimit {
-        tensor: usize,
-        level: usize,
-        count: u64,
-    },
+    /// A level would have more positions than may be. Of operands it is the first such level of the first such operand; the result
+    /// comes behind them.
+    SizeLimit(LargeLevel),
     /// The workspace of a result that isn't dense would need more pairs than may be, so many.
     Workspace {
         count: u64,
@@ -57,15 +53,7 @@ impl From<PackFault> for RunFault {
 
     fn from(refusal: PackFault) -> RunFault {
         match refusal {
-            PackFault::SizeLimit {
-                tensor,
-                level,
-                count,
-            } => RunFault::SizeLimit {
-                tensor,
-                level,
-                count,
-            },
+            PackFault::SizeLimit(large) => RunFault::SizeLimit(large),
             PackFault::Memory(error) => RunFault::Memory(error),
         }
     }

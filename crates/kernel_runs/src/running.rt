@@ -16,6 +16,7 @@ use format_spec::Format;
 use kernel_code::{Kernel, Place, Turns};
 use kernel_machine::{RunRefusal, prepare, run};
 use numbers::Semiring;
+use operand_packing::LargeLevel;
 use std::alloc::{AllocError, Global};
 use tensor_storage::Tensor;
 
@@ -28,11 +29,11 @@ fn fault_of(refusal: RunRefusal) -> RunFault
     match refusal {
         RunRefusal::Memory => RunFault::Memory(AllocError),
         RunRefusal::SizeLimit { place, count } => match place {
-            Place::Level(level) => RunFault::SizeLimit {
+            Place::Level(level) => RunFault::SizeLimit(LargeLevel {
                 tensor: 0,
                 level,
                 count,
-            },
+            }),
             Place::Workspace => RunFault::Workspace { count },
         },
     }
@@ -42,19 +43,19 @@ fn fault_of(refusal: RunRefusal) -> RunFault
 pub(crate) fn run_on<S: Semiring>(
     alloc: Global,
     kernel: &Kernel,
-    format: Format,
+    format: &Format,
     operands: &[Tensor],
     ranges: &[u64],
 ) -> Result<(Tensor, Turns), RunFault>
-    requires enough { length format ≤ length ranges.now }
+    requires enough { length format.now ≤ length ranges.now }
     requires small { All (λ range. range ≤ greatest_position_count) ranges.now }
     requires done { All (λ t. AreDone 1 t.levels) operands.now }
-    requires sound { CanBegin (store_of ranges.now operands.now format)
-        → IsSoundOn S.arithmetic kernel.now (store_of ranges.now operands.now format) }
-    ensures { MatchResult result (λ r. EndsOn S.arithmetic kernel.now (store_of ranges.now operands.now format) r.0 r.1)
-        (RefusedOn S.arithmetic kernel.now (store_of ranges.now operands.now format)) }
+    requires sound { CanBegin (store_of ranges.now operands.now format.now)
+        → IsSoundOn S.arithmetic kernel.now (store_of ranges.now operands.now format.now) }
+    ensures { MatchResult result (λ r. EndsOn S.arithmetic kernel.now (store_of ranges.now operands.now format.now) r.0 r.1)
+        (RefusedOn S.arithmetic kernel.now (store_of ranges.now operands.now format.now)) }
 {
-    let prepared = match prepare::<S>(alloc, kernel, format, operands, ranges) {
+    let prepared = match prepare::<S>(alloc, kernel, format.copied(), operands, ranges) {
         Ok(prepared) => prepared,
         Err(refusal) => return Err(fault_of(refusal)),
     };

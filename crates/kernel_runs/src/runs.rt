@@ -1,11 +1,10 @@
 //! A statement computed by its kernel.
-ghost use Rattle.std.specs.Prelude.{◌≡◌, Bool, true, length, IfOk, IfErr};
-ghost use Rattle.mtx_io.specs.Progress.{IsMatrixOrder};
+ghost use Rattle.std.specs.Prelude.{IfOk, IfErr};
+ghost use Rattle.tensor_map.specs.Entries.{AreEntries};
 ghost use Rattle.format_spec.specs.Formats.{IsFormat};
 ghost use Rattle.kernel_stores.specs.Kernels.{IsRightKernel};
-ghost use Rattle.result_files.specs.EntriesText.{MayBeWritten};
 ghost use Rattle.operand_packing.specs.Runnable.{IsRunnable};
-ghost use Rattle.kernel_runs.specs.Runs.{IsRun, MayRefuse};
+ghost use Rattle.kernel_runs.specs.Runs.{IsRun, MayRefuseRun};
 
 use crate::fault::RunFault;
 use crate::results::{entries_of, shape_of};
@@ -50,31 +49,30 @@ fn keeps_rules(format: &Format)
 pub fn run_kernel<S: Semiring>(
     alloc: Global,
     statement: &Statement,
-    mut formats: Vec<Format>,
+    formats: &[Format],
     kernel: &Kernel,
     given: &[Option<u64>],
     mut operands: Operands,
 ) -> Result<KernelRun, RunFault>
-    requires runnable { IsRunnable statement.now formats.items given.now operands.entries.items operands.bounds.items }
-    requires right { IsRightKernel S.arithmetic statement.now formats.items kernel.now }
+    requires runnable { IsRunnable statement.now formats.now given.now operands.entries.items operands.bounds.items }
+    requires right { IsRightKernel S.arithmetic statement.now formats.now kernel.now }
 
     // The values are those of the statement by the ranges that words and operands give.
-    ensures run { IfOk result (λ run. IsRun S.arithmetic statement.now formats.items kernel.now given.now operands.entries.items
+    ensures run { IfOk result (λ run. IsRun S.arithmetic statement.now formats.now kernel.now given.now operands.entries.items
         operands.bounds.items run.shape run.entries run.tensor run.turns) }
 
-    // A result may be written, as a matrix where its order is that of one.
-    ensures written { IfOk result (λ run. (is_matrix : Bool) → (is_matrix ≡ true → IsMatrixOrder (length statement.now.left.vars))
-        → MayBeWritten is_matrix run.shape run.entries) }
+    // What is true of all entries is so of the result's.
+    ensures entries { IfOk result (λ run. AreEntries run.entries) }
 
     // The first fault, or what a level or the workspace would need, or want of memory.
-    ensures refused { IfErr result (MayRefuse S.arithmetic statement.now formats.items given.now operands.entries.items
+    ensures refused { IfErr result (MayRefuseRun S.arithmetic statement.now formats.now given.now operands.entries.items
         operands.bounds.items) }
 {
     let ranges = ranges(alloc, statement, given, operands.bounds.as_slice())?;
-    let format = formats.remove(0);
-    keeps_rules(&format);
     let entries = operands.entries.as_mut_slice();
     let tensors = pack_operands::<S>(alloc, statement, formats, &ranges, entries)?;
+    let format = &formats[0];
+    keeps_rules(format);
     let (tensor, turns) = match run_on::<S>(alloc, kernel, format, &tensors, &ranges) {
         Ok(pair) => pair,
         Err(fault) => return Err(fault),

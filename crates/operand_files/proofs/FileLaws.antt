@@ -14,7 +14,7 @@ use Rattle.mtx_io.specs.Matrix.{BadLine, Matrix, matrix_of_text}
 use Rattle.mtx_io.specs.Progress.{counted}
 use Rattle.text_lines.specs.declared.line_kind.LineKind.{LineKind}
 use Rattle.operand_files.specs.Decoded.{Operand, of_entries, of_matrix, operand_of}
-use Rattle.operand_files.specs.Reads.{Meaning, IsToldText, IsFront, IsWholeFile, CountsNothing, HasBadLine, ReadsOperand, FeedsFile}
+use Rattle.operand_files.specs.Reads.{Decoding, IsToldText, IsFront, IsWholeFile, CountsNothing, HasBadLine, ReadsOperand, FeedsFile}
 use Rattle.operand_files.specs.Reads.{FileRefused, DecodesTo, MayOpen}
 use Rattle.operand_files.specs.declared.fault.OperandFault.{OperandFault}
 use Rattle.operand_files.specs.declared.fault.OperandFault.TheVariants.{ReadFault, FileBytes, BadFile, Memory}
@@ -30,7 +30,7 @@ whole_is_front NoFile bytes is = tt
 whole_is_front (Bytes text) bytes is = ([], is ∙ sym (append-nil bytes))
 
 -- a file that was read whole is an operand, or is refused
-pub file_read : (means : Meaning) (order : ℕ) (path bytes : List ℕ) (old new : FolderState) (result : Result
+pub file_read : (means : Decoding) (order : ℕ) (path bytes : List ℕ) (old new : FolderState) (result : Result
     (Entries × Vec Bound Global) OperandFault)
     → new.given ≡ old.given ++ (path, bytes) ∷ [] → IsWholeFile (old.holds path) bytes → CountsNothing old new
     → DecodesTo (means order path bytes) path result
@@ -81,7 +81,7 @@ fed order first text bytes order' text' o t e =
     record { same_order = cc; same_text = cc }
 
 -- the answer for a reader that was fed a file
-answer_of_fed : (means : Meaning) (meaning : ℕ → List ℕ → Result Operand BadLine) (order : ℕ) (path : List ℕ) (old new : FolderState)
+answer_of_fed : (means : Decoding) (meaning : ℕ → List ℕ → Result Operand BadLine) (order : ℕ) (path : List ℕ) (old new : FolderState)
     (first : ℕ) (text : List ℕ) (order' : ℕ) (text' : List ℕ)
     (result : Result (Entries × Vec Bound Global) OperandFault) → ((bytes : List ℕ) → meaning order bytes ≡ means order path bytes)
     → first ≡ order → text ≡ [] → FeedsFile path old new (first ∷ text) (order' ∷ text') → DecodesTo (meaning order' text') path result

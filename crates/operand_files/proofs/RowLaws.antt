@@ -1,6 +1,6 @@
 -- The operands that are read one after another, and the files that were opened for them.
 use Rattle.std.proofs.Common.{◌≡◌, ℕ, zero, suc, ◌+◌, ◌<◌, List, [], ◌∷◌, ◌++◌, length, map, take, Some, refl, sym, ap, ◌∙◌, subst}
-use Rattle.std.proofs.Common.{arith, inl, inr, append_assoc, append-nil, length-append, Bor}
+use Rattle.std.proofs.Common.{arith, inl, inr, append_assoc, append-nil, length-append}
 use Rattle.std.proofs.lemmas.List.{length-map}
 use Rattle.std.proofs.lemmas.Option.{slice_get-get_or}
 use Rattle.std.specs.Prelude.{slice_get, slice_index_or}
@@ -9,8 +9,10 @@ use Rattle.outside.specs.Told.{Told}
 use Rattle.outside.proofs.Feeding.{writing_stays, writing_kept}
 use Rattle.tensor_map.specs.Entries.{Entries}
 use Rattle.expr_terms.specs.declared.bound.Bound.{Bound}
+use Rattle.bindings.specs.Tables.{paths_in}
+use Rattle.bindings.specs.declared.tensor_file.TensorFile.{TensorFile}
 use Rattle.operand_files.specs.Decoded.{Operand, IsReadable, AreReadable}
-use Rattle.operand_files.specs.Reads.{Meaning, Given, OnlyReads, CountsNothing, NoReadFails, IsOperand, AreOperands, paths_of, AreRead}
+use Rattle.operand_files.specs.Reads.{Decoding, Given, OnlyReads, CountsNothing, NoReadFails, IsOperand, AreOperands, paths_of, AreRead}
 use Rattle.operand_files.specs.Reads.{HaveRead, IsNext, IsReadFault, IsOpening, MayOpen, OpensFirst}
 use Rattle.operand_files.specs.Reads.{ReadsOperand, FileRefused, IsRefused, RefusedAtFault, RefusedAtLength, RefusedAtLine}
 use Rattle.operand_files.specs.declared.fault.OperandFault.{OperandFault}
@@ -72,19 +74,15 @@ pub record IsRow (orders : List ℕ) (paths : List (List ℕ)) (n order : ℕ) (
   pub path_at : slice_get paths n ≡ Some path
   pub readable : IsReadable order path
 
-pub row_at : (orders : List ℕ) (paths : List (Bor (List ℕ))) (n : ℕ) (d : Bor (List ℕ))
-    → AreReadable orders (map (λ path. path.now) paths) → n < length paths
-    → IsRow orders (map (λ path. path.now) paths) n (slice_index_or orders n 0) (slice_index_or paths n d).now
-row_at orders paths n d are h =
-    let below : n < length (map (λ (path : Bor (List ℕ)). path.now) paths) = omega (
-      arith,
-      h,
-      length-map paths (λ (path : Bor
-          (List ℕ)). path.now),
-    ) in
-    let o = slice_get-get_or orders n 0 (order_there orders (map (λ path. path.now) paths) n are below) in
-    let p = mapped_at (λ (path : Bor (List ℕ)). path.now) paths n (slice_index_or paths n d) (slice_get-get_or paths n d h) in
-    record { order_at = o; path_at = p; readable = readable_at orders (map (λ path. path.now) paths) n _ _ are o p }
+pub row_at : (orders : List ℕ) (files : List TensorFile) (n : ℕ) (file : TensorFile) → AreReadable orders (paths_in files)
+    → n < length files → file ≡ slice_index_or files n file
+    → IsRow orders (paths_in files) n (slice_index_or orders n 0) file.path.now
+row_at orders files n file are h is =
+    let path : TensorFile → List ℕ = λ f. f.path.now in
+    let below : n < length (paths_in files) = omega (arith, h, length-map files path) in
+    let o = slice_get-get_or orders n 0 (order_there orders (paths_in files) n are below) in
+    let p = mapped_at path files n file (slice_get-get_or files n file h ∙ ap Some (sym is)) in
+    record { order_at = o; path_at = p; readable = readable_at orders (paths_in files) n _ _ are o p }
 
 paths-append : (files more : List Given) → paths_of (files ++ more) ≡ paths_of files ++ paths_of more
 paths-append [] more = refl
@@ -100,7 +98,7 @@ take_next (first ∷ paths) zero path is = let same : first ≡ path = cc in ap 
 take_next (first ∷ paths) (suc n) path is = ap (λ w. first ∷ w) (take_next paths n path is)
 
 -- there are as many operands as files
-pub as_many : (means : Meaning) (holds : List ℕ → Told) (orders : List ℕ) (operands : List Operand) (files : List Given)
+pub as_many : (means : Decoding) (holds : List ℕ → Told) (orders : List ℕ) (operands : List Operand) (files : List Given)
     → AreOperands means holds orders operands files → length operands ≡ length files
 as_many means holds orders [] [] are = refl
 as_many means holds orders [] (file ∷ files) are = absurd are
@@ -109,7 +107,7 @@ as_many means holds [] (operand ∷ operands) (file ∷ files) are = absurd are
 as_many means holds (order ∷ orders) (operand ∷ operands) (file ∷ files) are = ap suc (as_many means holds orders operands files are.1)
 
 -- one operand more
-operands_more : (means : Meaning) (holds : List ℕ → Told) (orders : List ℕ) (operands : List Operand) (files : List Given) (order : ℕ)
+operands_more : (means : Decoding) (holds : List ℕ → Told) (orders : List ℕ) (operands : List Operand) (files : List Given) (order : ℕ)
     (operand : Operand) (path bytes : List ℕ)
     → AreOperands means holds orders operands files → slice_get orders (length operands) ≡ Some order
     → IsOperand means order (holds path) path bytes operand
@@ -129,7 +127,7 @@ given_then old mid new files last read e = e ∙ ap (λ g. g ++ last) read ∙ a
     (λ w. old.given ++ (w ++ last)) (append-nil files)
 
 -- what was opened behind the files that were read
-read_then : (means : Meaning) (old mid new : FolderState) (orders : List ℕ) (paths : List (List ℕ)) (operands : List Operand)
+read_then : (means : Decoding) (old mid new : FolderState) (orders : List ℕ) (paths : List (List ℕ)) (operands : List Operand)
     (last : List Given)
     → AreRead means old mid orders paths operands [] → new.given ≡ mid.given ++ last → AreRead means old new orders paths operands last
 read_then means old mid new orders paths operands last read e =
@@ -150,7 +148,7 @@ next_in_order files paths path bytes in_order next =
     (λ k. take k paths) long
 
 -- one file more is read
-files_more : (means : Meaning) (old mid new : FolderState) (orders : List ℕ) (paths : List (List ℕ)) (operands : List Operand)
+files_more : (means : Decoding) (old mid new : FolderState) (orders : List ℕ) (paths : List (List ℕ)) (operands : List Operand)
     (order : ℕ) (path : List ℕ) (operand : Operand)
     → mid.holds ≡ old.holds → AreRead means old mid orders paths operands [] → slice_get orders (length operands) ≡ Some order
     → slice_get paths (length operands) ≡ Some path
@@ -168,7 +166,7 @@ files_more means old mid new orders paths operands order path operand same read 
     }
 
 -- no operand was read yet
-pub read_none : (means : Meaning) (files : FolderState) (orders : List ℕ) (paths : List (List ℕ))
+pub read_none : (means : Decoding) (files : FolderState) (orders : List ℕ) (paths : List (List ℕ))
     → HaveRead means files files orders paths 0 [] []
 read_none means files orders paths = record {
   operands = [];
@@ -180,7 +178,7 @@ read_none means files orders paths = record {
 }
 
 -- one operand more is read
-pub read_more : (means : Meaning) (old mid new : FolderState) (orders : List ℕ) (paths : List (List ℕ)) (n : ℕ) (entries : List Entries)
+pub read_more : (means : Decoding) (old mid new : FolderState) (orders : List ℕ) (paths : List (List ℕ)) (n : ℕ) (entries : List Entries)
     (bounds : List (List Bound)) (order : ℕ) (path : List ℕ) (operand : Operand)
     (entries' : List Entries) (bounds' : List (List Bound)) → OnlyReads old mid → HaveRead means old mid orders paths n entries bounds
     → slice_get orders n ≡ Some order → slice_get paths n ≡ Some path
@@ -200,7 +198,7 @@ read_more means old mid new orders paths n entries bounds order path operand ent
     }
 
 -- the files that were opened for these operands
-pub opened_for : (means : Meaning) (old new : FolderState) (orders : List ℕ) (paths : List (List ℕ)) (n : ℕ) (entries : List Entries)
+pub opened_for : (means : Decoding) (old new : FolderState) (orders : List ℕ) (paths : List (List ℕ)) (n : ℕ) (entries : List Entries)
     (bounds : List (List Bound))
     → HaveRead means old new orders paths n entries bounds → OpensFirst old new paths × NoReadFails old new
 opened_for means old new orders paths n entries bounds have = (
@@ -214,7 +212,7 @@ opened_for means old new orders paths n entries bounds have = (
 )
 
 -- the files that were opened, where one more may have been
-opens_first : (means : Meaning) (old mid new : FolderState) (orders : List ℕ) (paths : List (List ℕ)) (operands : List Operand)
+opens_first : (means : Decoding) (old mid new : FolderState) (orders : List ℕ) (paths : List (List ℕ)) (operands : List Operand)
     (path : List ℕ)
     → AreRead means old mid orders paths operands [] → slice_get paths (length operands) ≡ Some path → MayOpen path mid new
     → OpensFirst old new paths
@@ -242,7 +240,7 @@ later_fault old mid new path h same (inl rose) = inl ((λ small. omega (arith, r
 later_fault old mid new path h same (inr none) = inr (sym (ap (λ f. f path) h) ∙ none)
 
 -- the file behind those that are read gives the refusal
-pub refused_next : (means : Meaning) (old mid new : FolderState) (orders : List ℕ) (paths : List (List ℕ)) (n : ℕ)
+pub refused_next : (means : Decoding) (old mid new : FolderState) (orders : List ℕ) (paths : List (List ℕ)) (n : ℕ)
     (entries : List Entries) (bounds : List (List Bound)) (order : ℕ) (path : List ℕ) (fault : OperandFault)
     → OnlyReads old mid → HaveRead means old mid orders paths n entries bounds → slice_get orders n ≡ Some order
     → slice_get paths n ≡ Some path

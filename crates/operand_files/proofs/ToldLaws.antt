@@ -20,7 +20,7 @@ use Rattle.mtx_io.specs.Progress.{IsMatrixOrder}
 use Rattle.text_lines.specs.declared.line_kind.LineKind.{LineKind}
 use Rattle.operand_files.specs.Decoded.{Operand, IsReadable, reached, sizes, of_entries, of_matrix, operand_of}
 use Rattle.operand_files.specs.Laws.{IsTold, AreTold, bytes_in, before_others, told_operands, IsBadFileOrWant}
-use Rattle.operand_files.specs.Reads.{Meaning, Given, IsToldText, IsTooLong, IsOperand, AreOperands, paths_of, HaveRead, IsReadFault}
+use Rattle.operand_files.specs.Reads.{Decoding, Given, IsToldText, IsTooLong, IsOperand, AreOperands, paths_of, HaveRead, IsReadFault}
 use Rattle.operand_files.specs.Reads.{IsRefused, RefusedAtLine}
 use Rattle.operand_files.specs.declared.fault.OperandFault.{OperandFault}
 use Rattle.operand_files.specs.declared.fault.OperandFault.TheVariants.{ReadFault, FileBytes, BadFile, Memory}
@@ -28,7 +28,7 @@ use Rattle.operand_files.proofs.RowLaws.{as_many}
 use Rattle.operand_files.proofs.FileLaws.{of_matrix_path, of_entries_path}
 
 -- what the told bytes stand for
-told_means : (means : Meaning) (order : ℕ) (told : Told) (path bytes : List ℕ) (what : Result Operand BadLine) → IsTold told
+told_means : (means : Decoding) (order : ℕ) (told : Told) (path bytes : List ℕ) (what : Result Operand BadLine) → IsTold told
     → IsToldText told bytes → means order path bytes ≡ what → means order path (bytes_in told) ≡ what
 told_means means order Untold path bytes what is text e = absurd is
 told_means means order NoFile path bytes what is text e = absurd is
@@ -41,7 +41,7 @@ told_at holds (first ∷ paths) zero path are is = let same : first ≡ path = c
 told_at holds (first ∷ paths) (suc n) path are is = told_at holds paths n path are.1 is
 
 -- the first file's operand
-first_means : (means : Meaning) (holds : List ℕ → Told) (order : ℕ) (path : List ℕ) (file : Given) (operand : Operand)
+first_means : (means : Decoding) (holds : List ℕ → Told) (order : ℕ) (path : List ℕ) (file : Given) (operand : Operand)
     → IsTold (holds path) → file.0 ≡ path → IsOperand means order (holds file.0) file.0 file.1 operand
     → means order path (bytes_in (holds path)) ≡ Ok operand
 first_means means holds order path file operand is name first =
@@ -49,7 +49,7 @@ first_means means holds order path file operand is name first =
     (holds p) p file.1 operand) name first in
     told_means means order (holds path) path file.1 (Ok operand) is here.whole.told_text here.stands_for
 
-all_told : (means : Meaning) (holds : List ℕ → Told) (orders : List ℕ) (paths : List (List ℕ)) (operands : List Operand)
+all_told : (means : Decoding) (holds : List ℕ → Told) (orders : List ℕ) (paths : List (List ℕ)) (operands : List Operand)
     (files : List Given) → AreTold holds paths → length orders ≡ length paths
     → paths_of files ≡ paths → AreOperands means holds orders operands files → told_operands means holds orders paths ≡ Ok operands
 all_told means holds [] [] [] [] are long names is = refl
@@ -69,7 +69,7 @@ all_told means holds (order ∷ orders) (path ∷ paths) (operand ∷ operands) 
     let rest = all_told means holds orders paths operands files are.1 shorter behind is.1 in
     ap (λ w. before_others path w (told_operands means holds orders paths)) first ∙ ap (before_others path (Ok operand)) rest
 
-pub told_answer : (means : Meaning) (old new : FolderState) (orders : List ℕ) (paths : List (List ℕ)) (entries : List Entries)
+pub told_answer : (means : Decoding) (old new : FolderState) (orders : List ℕ) (paths : List (List ℕ)) (entries : List Entries)
     (bounds : List (List Bound)) → AreTold old.holds paths → length orders ≡ length paths
     → (have : HaveRead means old new orders paths (length paths) entries bounds)
     → told_operands means old.holds orders paths ≡ Ok have.operands
@@ -79,7 +79,7 @@ told_answer means old new orders paths entries bounds are long have =
     (arith, many, have.count_is)) in
     all_told means old.holds orders paths have.operands have.read.files are long names have.read.are
 
-bad_told : (means : Meaning) (holds : List ℕ → Told) (orders : List ℕ) (paths : List (List ℕ)) (operands : List Operand)
+bad_told : (means : Decoding) (holds : List ℕ → Told) (orders : List ℕ) (paths : List (List ℕ)) (operands : List Operand)
     (files : List Given) (order : ℕ) (path : List ℕ) (bad : BadLine) → AreTold holds paths
     → paths_of files ≡ take (length files) paths → AreOperands means holds orders operands files
     → slice_get orders (length operands) ≡ Some order → slice_get paths (length operands) ≡ Some path
@@ -105,7 +105,7 @@ bad_told means holds (first ∷ orders) (at ∷ paths) (operand ∷ operands) (f
     let rest = bad_told means holds orders paths operands files order path bad are.1 behind is.1 o p e in
     ap (λ w. before_others at w (told_operands means holds orders paths)) what ∙ ap (before_others at (Ok operand)) rest
 
-pub told_bad_line : (means : Meaning) (old new : FolderState) (orders : List ℕ) (paths : List (List ℕ)) (path : List ℕ) (line : ℕ)
+pub told_bad_line : (means : Decoding) (old new : FolderState) (orders : List ℕ) (paths : List (List ℕ)) (path : List ℕ) (line : ℕ)
     (kind : LineKind) → AreTold old.holds paths
     → (stops : RefusedAtLine means old new orders paths path line kind)
     → told_operands means old.holds orders paths ≡ Err (record { path = path; number = stops.bad.number; kind = kind })
@@ -132,7 +132,7 @@ not_too_long Untold bytes is long = is
 not_too_long NoFile bytes is long = is
 not_too_long (Bytes text) bytes is long = omega (arith, is, long.long, ap length long.told_front.1, length-append bytes long.told_front.0)
 
-pub told_others : (means : Meaning) (old new : FolderState) (orders : List ℕ) (paths : List (List ℕ)) (fault : OperandFault)
+pub told_others : (means : Decoding) (old new : FolderState) (orders : List ℕ) (paths : List (List ℕ)) (fault : OperandFault)
     → AreTold old.holds paths → (Rose old.read_faults new.read_faults → ⊥)
     → IsRefused means old new orders paths fault → IsBadFileOrWant fault
 told_others means old new orders paths (ReadFault at) are calm why =

@@ -5,7 +5,7 @@ use Rattle.outside.specs.Told.{Told, Untold, NoFile, Bytes}
 use Rattle.mtx_io.specs.Matrix.{BadLine}
 use Rattle.text_lines.specs.declared.line_kind.LineKind.{LineKind}
 use Rattle.operand_files.specs.Decoded.{Operand}
-use Rattle.operand_files.specs.Reads.{Meaning}
+use Rattle.operand_files.specs.Reads.{Decoding}
 use Rattle.operand_files.specs.declared.fault.OperandFault.{OperandFault}
 use Rattle.operand_files.specs.declared.fault.OperandFault.TheVariants.{ReadFault, FileBytes, BadFile, Memory}
 
@@ -39,7 +39,7 @@ before_others path (Ok operand) (Err bad) = Err bad
 before_others path (Ok operand) (Ok operands) = Ok (operand ∷ operands)
 
 -- the operands of these files, or the first bad line of the first file that has one
-abbrev pub told_operands : Meaning → (List ℕ → Told) → List ℕ → List (List ℕ) → Result (List Operand) BadFileLine
+abbrev pub told_operands : Decoding → (List ℕ → Told) → List ℕ → List (List ℕ) → Result (List Operand) BadFileLine
 told_operands means holds [] paths = Ok []
 told_operands means holds (order ∷ orders) [] = Ok []
 told_operands means holds (order ∷ orders) (path ∷ paths) =

@@ -16,8 +16,8 @@ use Rattle.operand_files.specs.declared.fault.OperandFault.{OperandFault}
 use Rattle.operand_files.specs.declared.fault.OperandFault.TheVariants.{ReadFault, FileBytes, BadFile, Memory}
 
 -- what the bytes of the file of a path stand for at an order
-abbrev pub Meaning : Type 0
-Meaning = ℕ → List ℕ → List ℕ → Result Operand BadLine
+abbrev pub Decoding : Type 0
+Decoding = ℕ → List ℕ → List ℕ → Result Operand BadLine
 
 -- a file that was opened: its path, and the bytes that reads gave of it
 abbrev pub Given : Type 0
@@ -86,12 +86,12 @@ AreShort [] = Unit {0}
 AreShort (file ∷ files) = (length file.1 ≤ greatest_file_bytes) × AreShort files
 
 -- reads gave the whole of a file, and it stands for this operand
-pub record IsOperand (means : Meaning) (order : ℕ) (told : Told) (path bytes : List ℕ) (operand : Operand) : Type 0 where
+pub record IsOperand (means : Decoding) (order : ℕ) (told : Told) (path bytes : List ℕ) (operand : Operand) : Type 0 where
   pub whole : IsWholeFile told bytes
   pub stands_for : means order path bytes ≡ Ok operand
 
 -- these operands, of these orders, are those of the files that reads gave, one for each
-abbrev pub AreOperands : Meaning → (List ℕ → Told) → List ℕ → List Operand → List Given → Type 0
+abbrev pub AreOperands : Decoding → (List ℕ → Told) → List ℕ → List Operand → List Given → Type 0
 AreOperands means holds orders [] [] = Unit {0}
 AreOperands means holds orders [] (file ∷ files) = ⊥
 AreOperands means holds orders (operand ∷ operands) [] = ⊥
@@ -105,7 +105,7 @@ paths_of files = map (λ file. file.0) files
 
 -- the files that were opened are those of the first of these paths, in order, and their operands are these; what was opened
 -- behind them is `last`
-pub record AreRead (means : Meaning) (old new : FolderState) (orders : List ℕ) (paths : List (List ℕ)) (operands : List Operand)
+pub record AreRead (means : Decoding) (old new : FolderState) (orders : List ℕ) (paths : List (List ℕ)) (operands : List Operand)
     (last : List Given) : Type 0 where
   pub files : List Given
   pub given_is : new.given ≡ old.given ++ (files ++ last)
@@ -113,7 +113,7 @@ pub record AreRead (means : Meaning) (old new : FolderState) (orders : List ℕ)
   pub are : AreOperands means old.holds orders operands files
 
 -- so many operands were read, and these are their entries and their bounds
-pub record HaveRead (means : Meaning) (old new : FolderState) (orders : List ℕ) (paths : List (List ℕ)) (count : ℕ)
+pub record HaveRead (means : Decoding) (old new : FolderState) (orders : List ℕ) (paths : List (List ℕ)) (count : ℕ)
     (entries : List Entries) (bounds : List (List Bound)) : Type 0 where
   pub operands : List Operand
   pub read : AreRead means old new orders paths operands []
@@ -123,7 +123,7 @@ pub record HaveRead (means : Meaning) (old new : FolderState) (orders : List ℕ
   pub quiet : CountsNothing old new
 
 -- the operands before this path, of this order, are read, and it is the next; what was opened then is `last`
-pub record IsNext (means : Meaning) (old new : FolderState) (orders : List ℕ) (paths : List (List ℕ)) (order : ℕ) (path : List ℕ)
+pub record IsNext (means : Decoding) (old new : FolderState) (orders : List ℕ) (paths : List (List ℕ)) (order : ℕ) (path : List ℕ)
     (last : List Given) : Type 0 where
   pub operands : List Operand
   pub read : AreRead means old new orders paths operands last
@@ -131,7 +131,7 @@ pub record IsNext (means : Meaning) (old new : FolderState) (orders : List ℕ) 
   pub next_path : slice_get paths (length operands) ≡ Some path
 
 -- the files before this path are good, and reading it failed
-pub record RefusedAtFault (means : Meaning) (old new : FolderState) (orders : List ℕ) (paths : List (List ℕ)) (path : List ℕ) : Type 0 where
+pub record RefusedAtFault (means : Decoding) (old new : FolderState) (orders : List ℕ) (paths : List (List ℕ)) (path : List ℕ) : Type 0 where
   pub order : ℕ
   pub last : List Given
   pub next : IsNext means old new orders paths order path last
@@ -140,7 +140,7 @@ pub record RefusedAtFault (means : Meaning) (old new : FolderState) (orders : Li
   pub fault : IsReadFault old new path
 
 -- the files before this path are good, and it has too many bytes
-pub record RefusedAtLength (means : Meaning) (old new : FolderState) (orders : List ℕ) (paths : List (List ℕ))
+pub record RefusedAtLength (means : Decoding) (old new : FolderState) (orders : List ℕ) (paths : List (List ℕ))
     (path : List ℕ) : Type 0 where
   pub order : ℕ
   pub bytes : List ℕ
@@ -149,7 +149,7 @@ pub record RefusedAtLength (means : Meaning) (old new : FolderState) (orders : L
   pub quiet : CountsNothing old new
 
 -- the files before this path are good, it was read to its end, and this is its first bad line
-pub record RefusedAtLine (means : Meaning) (old new : FolderState) (orders : List ℕ) (paths : List (List ℕ)) (path : List ℕ)
+pub record RefusedAtLine (means : Decoding) (old new : FolderState) (orders : List ℕ) (paths : List (List ℕ)) (path : List ℕ)
     (line : ℕ) (kind : LineKind) : Type 0 where
   pub order : ℕ
   pub bytes : List ℕ
@@ -165,14 +165,14 @@ pub record OpensFirst (old new : FolderState) (paths : List (List ℕ)) : Type 0
   pub in_order : paths_of files ≡ take (length files) paths
 
 -- why operands aren't read, and which files were opened until then
-abbrev pub IsRefused : Meaning → FolderState → FolderState → List ℕ → List (List ℕ) → OperandFault → Type 0
+abbrev pub IsRefused : Decoding → FolderState → FolderState → List ℕ → List (List ℕ) → OperandFault → Type 0
 IsRefused means old new orders paths (ReadFault path) = RefusedAtFault means old new orders paths path.now
 IsRefused means old new orders paths (FileBytes path) = RefusedAtLength means old new orders paths path.now
 IsRefused means old new orders paths (BadFile path line kind) = RefusedAtLine means old new orders paths path.now line kind
 IsRefused means old new orders paths Memory = OpensFirst old new paths × NoReadFails old new
 
 -- of one file: reads gave it whole, and it is an operand
-pub record ReadsOperand (means : Meaning) (order : ℕ) (path : List ℕ) (old new : FolderState) (operand : Operand) : Type 0 where
+pub record ReadsOperand (means : Decoding) (order : ℕ) (path : List ℕ) (old new : FolderState) (operand : Operand) : Type 0 where
   pub bytes : List ℕ
   pub given_is : new.given ≡ old.given ++ (path, bytes) ∷ []
   pub operand_is : IsOperand means order (old.holds path) path bytes operand
@@ -200,7 +200,7 @@ pub record ReadsTooMuch (path : List ℕ) (old new : FolderState) : Type 0 where
   pub quiet : CountsNothing old new
 
 -- of one file: reads gave it whole, and this is its first bad line
-pub record ReadsBadLine (means : Meaning) (order : ℕ) (path : List ℕ) (old new : FolderState) (line : ℕ) (kind : LineKind) : Type 0 where
+pub record ReadsBadLine (means : Decoding) (order : ℕ) (path : List ℕ) (old new : FolderState) (line : ℕ) (kind : LineKind) : Type 0 where
   pub bytes : List ℕ
   pub given_is : new.given ≡ old.given ++ (path, bytes) ∷ []
   pub whole : IsWholeFile (old.holds path) bytes
@@ -215,7 +215,7 @@ FileStops path old new (BadFile at line kind) = ⊥
 FileStops path old new Memory = MayOpen path old new × NoReadFails old new
 
 -- why one file isn't an operand
-abbrev pub FileRefused : Meaning → ℕ → List ℕ → FolderState → FolderState → OperandFault → Type 0
+abbrev pub FileRefused : Decoding → ℕ → List ℕ → FolderState → FolderState → OperandFault → Type 0
 FileRefused means order path old new (ReadFault at) = FileStops path old new (ReadFault at)
 FileRefused means order path old new (FileBytes at) = FileStops path old new (FileBytes at)
 FileRefused means order path old new (BadFile at line kind) = (at.now ≡ path) × ReadsBadLine means order path old new line kind

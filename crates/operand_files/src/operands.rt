@@ -1,5 +1,6 @@
 // The operands of a statement, each from its file.
 ghost use Rattle.std.specs.Prelude.{◌≡◌, false, true, ◌++◌, [], ◌∷◌, length, map, IfOk, IfErr, OnOk};
+ghost use Rattle.bindings.specs.Tables.{paths_in};
 ghost use Rattle.bindings.specs.Words.{is_mtx};
 ghost use Rattle.operand_files.specs.Decoded.{IsReadable, AreReadable, operand_of};
 ghost use Rattle.operand_files.specs.Reads.{OnlyReads, ReadsOperand, FileRefused, HaveRead, IsRefused};
@@ -8,6 +9,7 @@ use crate::decoding::{decode_entries, decode_matrix};
 use crate::fault::OperandFault;
 use crate::feeding::feed_file;
 use crate::matrix_file::matrix_file;
+use bindings::TensorFile;
 use expr_terms::Bound;
 use numbers::Semiring;
 use outside::Folder;
@@ -45,13 +47,6 @@ impl Operands {
         self.bounds.push(bounds)?;
         Ok(())
     }
-}
-
-/// Whether a path ends in `.mtx`.
-fn is_matrix(path: &str) -> bool
-    ensures { result ≡ is_mtx path.now }
-{
-    path.as_bytes().ends_with(b".mtx")
 }
 
 /// Reads the file of an operand of this order to its end, as a `.tns` file.
@@ -102,26 +97,26 @@ fn read_matrix<'a, F: Folder, S: Semiring>(
 fn read_file<'a, F: Folder, S: Semiring>(
     alloc: Global,
     files: &mut F,
-    path: &'a str,
+    file: TensorFile<'a>,
     order: usize,
 ) -> Result<(Entries, Vec<Bound>), OperandFault<'a>>
-    requires { IsReadable order path.now }
+    requires { IsReadable order file.path.now }
     ensures only_reads { OnlyReads (F.state files.old) (F.state files.new) }
-    ensures operand { IfOk result (λ operand. ReadsOperand (operand_of S.arithmetic S.has_minus) order path.now
+    ensures operand { IfOk result (λ operand. ReadsOperand (operand_of S.arithmetic S.has_minus) order file.entry.path.now
         (F.state files.old) (F.state files.new) (record { entries = operand.0; bounds = operand.1.items })) }
-    ensures refused { IfErr result (FileRefused (operand_of S.arithmetic S.has_minus) order path.now
+    ensures refused { IfErr result (FileRefused (operand_of S.arithmetic S.has_minus) order file.entry.path.now
         (F.state files.old) (F.state files.new)) }
 {
-    if is_matrix(path) {
-        read_matrix::<F, S>(alloc, files, path, order)
+    if file.is_matrix() {
+        read_matrix::<F, S>(alloc, files, file.path, order)
     } else {
-        read_entries::<F, S>(alloc, files, path, order)
+        read_entries::<F, S>(alloc, files, file.path, order)
     }
 }
 
-/// Reads the operands of a statement, in order: `orders` and `paths` have one for each. A file is read once for each operand,
-/// also where two share a path, to its end, and before the next is opened. A path that ends in `.mtx` is a matrix, of order 1
-/// or 2, and gives the sizes of its modes; any other is read as a `.tns` file, and gives the greatest coordinates.
+/// Reads the operands of a statement, in order: `orders` and `sources` have one for each. A file is read once for each operand,
+/// also where two share a path, to its end, and before the next is opened. A matrix has order 1 or 2, and gives the sizes of its
+/// modes; any other file gives the greatest coordinates.
 ///
 /// The first file that isn't good is refused, and none is opened behind it. Of one file a read fault or too many bytes come
 /// before a bad line. Memory may be wanted at any growth.
@@ -129,25 +124,25 @@ pub fn read_operands<'a, F: Folder, S: Semiring>(
     alloc: Global,
     files: &mut F,
     orders: &[usize],
-    paths: &[&'a str],
+    sources: &[TensorFile<'a>],
 ) -> Result<Operands, OperandFault<'a>>
-    requires { AreReadable orders.now (map (λ path. path.now) paths.now) }
+    requires { AreReadable orders.now (paths_in sources.now) }
 
     // All that belongs to writing is as before, every file among it.
     ensures only_reads { OnlyReads (F.state files.old) (F.state files.new) }
 
     // The files opened are those of the paths, in order; each operand is what reads gave of its file.
     ensures operands { IfOk result (λ operands. HaveRead (operand_of S.arithmetic S.has_minus) (F.state files.old) (F.state files.new)
-        orders.now (map (λ path. path.now) paths.now) (length paths.now)
+        orders.now (paths_in sources.now) (length sources.now)
         operands.entries.items (map (λ bounds. bounds.items) operands.bounds.items)) }
 
     // The files before the refused one are good, and why it is refused.
     ensures refused { IfErr result (IsRefused (operand_of S.arithmetic S.has_minus) (F.state files.old) (F.state files.new)
-        orders.now (map (λ path. path.now) paths.now)) }
+        orders.now (paths_in sources.now)) }
 {
     let mut operands = Operands::new(alloc);
-    for (n, path) in paths.iter().enumerate() {
-        match read_file::<F, S>(alloc, files, *path, orders[n]) {
+    for (n, file) in sources.iter().enumerate() {
+        match read_file::<F, S>(alloc, files, *file, orders[n]) {
             Ok((entries, bounds)) => operands.push(entries, bounds)?,
             Err(fault) => return Err(fault),
         }

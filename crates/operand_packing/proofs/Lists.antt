@@ -1,19 +1,9 @@
--- Lists that are taken apart from the front, and elements that are written.
+-- Elements of lists, and elements that are written.
 use Rattle.std.specs.Prelude.{◌≡◌, ◌⊎◌, ℕ, zero, suc, ◌+◌, ◌<◌, List, [], ◌∷◌, ◌++◌, length}
-use Rattle.std.specs.Prelude.{drop, Some, slice_get, slice_index_or, slice_set, refl}
+use Rattle.std.specs.Prelude.{Some, slice_get, slice_index_or, slice_set, refl}
 use Rattle.std.proofs.Common.{sym, ap, arith, inl, inr}
 
 module _ {X : Type 0} where
-  pub first_left : (xs : List X) (n : ℕ) (d : X) → slice_index_or (drop n xs) 0 d ≡ slice_index_or xs n d
-  first_left xs zero d = refl
-  first_left [] (suc n) d = refl
-  first_left (x ∷ xs) (suc n) d = first_left xs n d
-
-  pub drop_more : (xs : List X) (n : ℕ) → drop 1 (drop n xs) ≡ drop (suc n) xs
-  drop_more xs zero = refl
-  drop_more [] (suc n) = refl
-  drop_more (x ∷ xs) (suc n) = drop_more xs n
-
   pub default_free : (xs : List X) (n : ℕ) (d e : X) → n < length xs → slice_index_or xs n d ≡ slice_index_or xs n e
   default_free [] n d e h = absurd (omega (arith, h))
   default_free (x ∷ xs) zero d e h = refl

@@ -105,11 +105,12 @@ pub record IsFirstLargeOperand (a : Arithmetic) (s : Statement) (formats : List 
 
 -- why one operand isn't packed
 abbrev pub IsPackRefusal : Arithmetic → List FormatLevel → List ℕ → List Entry → ℕ → PackFault → Type 0
-IsPackRefusal a format sizes entries tensor (SizeLimit other level count) =
-    (other ≡ tensor) × IsLargeOperand a format sizes entries level count
+IsPackRefusal a format sizes entries tensor (SizeLimit large) =
+    (large.tensor ≡ tensor) × IsLargeOperand a format sizes entries large.level large.count
 IsPackRefusal a format sizes entries tensor (Memory error) = Unit {0}
 
 -- why the operands aren't packed
 abbrev pub MayNotPack : Arithmetic → Statement → List (List FormatLevel) → (ℕ → ℕ) → List Entries → PackFault → Type 0
-MayNotPack a s formats ranges operands (SizeLimit tensor level count) = IsFirstLargeOperand a s formats ranges operands tensor level count
+MayNotPack a s formats ranges operands (SizeLimit large) =
+    IsFirstLargeOperand a s formats ranges operands large.tensor large.level large.count
 MayNotPack a s formats ranges operands (Memory error) = Unit {0}

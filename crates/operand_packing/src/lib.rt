@@ -3,8 +3,10 @@
 //! fit a statement and the ranges of its variables, and `specs/Runnable.antt` what holds of all that words and files can give.
 #![tactic(auto)]
 
+mod large_level;
 mod packing;
 mod sizes;
 
+pub use large_level::LargeLevel;
 pub use packing::{PackFault, pack_operands};
 pub use sizes::sizes_of;

@@ -1,5 +1,5 @@
 //! Operands packed one after another.
-ghost use Rattle.std.specs.Prelude.{◌≡◌, ◌<◌, ◌^◌, ℕ, List, ◌∷◌, All, length, slice_index, OnOk, MatchResult};
+ghost use Rattle.std.specs.Prelude.{◌≡◌, ◌+◌, ◌<◌, ◌^◌, ℕ, List, All, length, slice_index, OnOk, MatchResult};
 ghost use Rattle.numbers.specs.Arithmetic.{Arithmetic};
 ghost use Rattle.tensor_map.specs.declared.entries.Entry.{Entry as AnEntry};
 ghost use Rattle.format_spec.specs.declared.format.FormatLevel.{FormatLevel as ALevel};
@@ -9,6 +9,7 @@ ghost use Rattle.tensor_storage.specs.Storages.{IsStorage};
 ghost use Rattle.operand_packing.specs.Packed.{AreSummed, ArePackedOperands, IsPackedOperand, IsPackRefusal};
 ghost use Rattle.operand_packing.specs.Packed.{MayBePacked, MayAllBePacked, MayNotPack};
 
+use crate::large_level::LargeLevel;
 use crate::sizes::sizes_of;
 use format_spec::Format;
 use index_notation::Statement;
@@ -20,13 +21,8 @@ use tensor_storage::{PackRefusal, Tensor};
 /// Why operands aren't packed.
 #[derive(Debug, Drop)]
 pub enum PackFault {
-    /// The level of the tensor, the top one being number 1, is the first of the first operand that would have more positions than
-    /// may be. It would have so many.
-    SizeLimit {
-        tensor: usize,
-        level: usize,
-        count: u64,
-    },
+    /// This level is the first of the first operand that would have more positions than may be.
+    SizeLimit(LargeLevel),
     /// Want of memory.
     Memory(AllocError),
 }
@@ -51,11 +47,11 @@ fn fault_of(tensor: usize, refusal: PackRefusal) -> PackFault
     match refusal {
         PackRefusal::Memory => PackFault::Memory(AllocError),
         PackRefusal::SizeLimit { level, count } => match u64::try_from(count) {
-            Ok(count) => PackFault::SizeLimit {
+            Ok(count) => PackFault::SizeLimit(LargeLevel {
                 tensor,
                 level,
                 count,
-            },
+            }),
             Err(_) => PackFault::Memory(AllocError),
         },
     }
@@ -95,19 +91,19 @@ fn keeps_rules(packed: &Tensor)
 /// Packs an operand, whose entries are put in order and summed up where several have the same coordinates.
 fn pack_operand<S: Semiring>(
     alloc: Global,
-    format: Format,
+    format: &Format,
     sizes: &[u64],
     tensor: usize,
     entries: &mut Entries,
 ) -> Result<Tensor, PackFault>
-    requires { MayBePacked format sizes.now entries.old }
+    requires { MayBePacked format.now sizes.now entries.old }
     ensures { MatchResult result
-        (λ packed. IsPackedOperand S.arithmetic format sizes.now entries.old.list packed)
-        (IsPackRefusal S.arithmetic format sizes.now entries.old.list tensor) }
+        (λ packed. IsPackedOperand S.arithmetic format.now sizes.now entries.old.list packed)
+        (IsPackRefusal S.arithmetic format.now sizes.now entries.old.list tensor) }
 {
     sum_up::<S>(entries)?;
     let shape = shape_of(alloc, sizes);
-    match Tensor::pack::<S>(alloc, format, &shape, entries) {
+    match Tensor::pack::<S>(alloc, format.copied(), &shape, entries) {
         Ok(packed) => {
             keeps_rules(&packed);
             Ok(packed)
@@ -116,35 +112,34 @@ fn pack_operand<S: Semiring>(
     }
 }
 
-/// Packs the operands of a statement, tensor 1 and on, each in its format. A mode's size is the greatest range of the variables that
-/// stand there in any access.
+/// Packs the operands of a statement, tensor 1 and on, each in its format. `formats` has the format of each tensor, the result's first.
+/// A mode's size is the greatest range of the variables that stand there in any access.
 ///
 /// Refused for the first level of the first operand that would have more positions than may be, or for want of memory.
 pub fn pack_operands<S: Semiring>(
     alloc: Global,
     statement: &Statement,
-    mut formats: Vec<Format>,
+    formats: &[Format],
     ranges: &[u64],
     operands: &mut [Entries],
 ) -> Result<Vec<Tensor>, PackFault>
-    requires many { length formats.items ≡ length operands.old }
-    requires may { (result_format : List ALevel) → MayAllBePacked statement.now (result_format ∷ formats.items) (slice_index ranges.now)
-        operands.old }
-    ensures { (result_format : List ALevel) → MatchResult result
-        (λ packed. ArePackedOperands S.arithmetic statement.now (result_format ∷ formats.items) (slice_index ranges.now) operands.old
-        packed.items)
-        (MayNotPack S.arithmetic statement.now (result_format ∷ formats.items) (slice_index ranges.now) operands.old) }
+    requires many { length formats.now ≡ length operands.old + 1 }
+    requires may { MayAllBePacked statement.now formats.now (slice_index ranges.now) operands.old }
+    ensures { MatchResult result
+        (λ packed. ArePackedOperands S.arithmetic statement.now formats.now (slice_index ranges.now) operands.old packed.items)
+        (MayNotPack S.arithmetic statement.now formats.now (slice_index ranges.now) operands.old) }
 {
     let mut tensors = Vec::new(alloc);
     for number in 0..operands.len() {
-        let format = formats.remove(0);
+        let tensor = number + 1;
+        let format = &formats[tensor];
         let entries = &mut operands[number];
-        let sizes = sizes_of(alloc, statement, ranges, number + 1, entries.order())?;
-        let tensor = match pack_operand::<S>(alloc, format, &sizes, number + 1, entries) {
-            Ok(tensor) => tensor,
+        let sizes = sizes_of(alloc, statement, ranges, tensor, entries.order())?;
+        let packed = match pack_operand::<S>(alloc, format, &sizes, tensor, entries) {
+            Ok(packed) => packed,
             Err(fault) => return Err(fault),
         };
-        match tensors.push(tensor) {
+        match tensors.push(packed) {
             Ok(()) => {}
             Err(error) => return Err(PackFault::Memory(AllocError::from(error))),
         }

@@ -1,5 +1,5 @@
 -- The status of a fault, and its line.
-use Rattle.std.specs.Prelude.{ℕ, List, [], ◌∷◌, ◌++◌, codes, Option, Some, None, slice_get}
+use Rattle.std.specs.Prelude.{ℕ, List, [], ◌∷◌, ◌++◌, codes, Some, None}
 use Rattle.std.specs.Fmt.{decimal}
 use Rattle.limits.specs.Limits.{greatest_order, greatest_variables, greatest_accesses, greatest_operands, greatest_nesting}
 use Rattle.limits.specs.Limits.{greatest_literal, greatest_text_bytes, greatest_range_word, greatest_file_bytes}
@@ -15,6 +15,7 @@ use Rattle.expr_terms.specs.declared.names.NameFault.{NameFault}
 use Rattle.expr_terms.specs.declared.names.NameFault.TheVariants.{ResultRead, Arity, RepeatedVariable}
 use Rattle.expr_terms.specs.declared.range_fault.RangeFault.{RangeFault}
 use Rattle.expr_terms.specs.declared.range_fault.RangeFault.TheVariants as range
+use Rattle.bindings.specs.Names.{name_at}
 use Rattle.bindings.specs.declared.fault.WordFault.{WordFault}
 use Rattle.bindings.specs.declared.fault.WordFault.TheVariants.{BadBinding, UnknownName, Twice, NotMatrix, RangeLimit}
 use Rattle.bindings.specs.declared.fault.BindingFault.{BindingFault}
@@ -54,7 +55,7 @@ named_status (named.Range (range.NoRange var)) = 1
 named_status (named.Range (range.RangeConflict var first other)) = 1
 named_status (named.Range (range.OutOfRange tensor coordinate exact)) = 1
 named_status (named.Range (range.Memory error)) = 5
-named_status (named.SizeLimit tensor level count) = 6
+named_status (named.SizeLimit large) = 6
 
 abbrev pub status_of : Fault → ℕ
 status_of fault.Usage = 2
@@ -68,16 +69,18 @@ status_of (fault.WriteFault path) = 4
 status_of fault.Memory = 5
 
 -- ---- lines
--- the bytes of a name, by its number
-abbrev pub bytes_of : Option Name → List ℕ
-bytes_of None = []
-bytes_of (Some name) = name.bytes
-
-abbrev pub name_at : List Name → ℕ → List ℕ
-name_at names number = bytes_of (slice_get names number)
-
 abbrev pub memory_line : List ℕ
 memory_line = codes "taco: out of memory\n"
+
+-- what is said of a word of the command line, counted from 1; of a variable; and of a tensor or a file
+abbrev pub of_word : ℕ → List (List ℕ) → List ℕ
+of_word word pieces = joined (codes "taco: word " ∷ decimal word ∷ pieces)
+
+abbrev pub of_variable : List ℕ → List (List ℕ) → List ℕ
+of_variable name pieces = joined (codes "taco: variable " ∷ name ∷ pieces)
+
+abbrev pub of_name : List ℕ → List (List ℕ) → List ℕ
+of_name name pieces = joined (codes "taco: " ∷ name ∷ pieces)
 
 -- a limit that a text passes, between the words around it, and the byte at which it does
 abbrev pub limit_at : List ℕ → ℕ → List ℕ → ℕ → List ℕ
@@ -100,40 +103,49 @@ notation_line (notation.LiteralRange at) = limit_at (codes "literal above ") gre
 notation_line (notation.Memory error) = memory_line
 
 abbrev pub name_line : Statement → NameFault → List ℕ
-name_line s (ResultRead tensor) = joined (codes "taco: " ∷ name_at s.tensors tensor ∷ codes ": the result is read\n" ∷ [])
-name_line s (Arity tensor) = joined (codes "taco: " ∷ name_at s.tensors tensor ∷ codes ": accesses of different order\n" ∷ [])
-name_line s (RepeatedVariable tensor var) = joined (codes "taco: " ∷ name_at s.tensors tensor ∷ codes ": variable "
-    ∷ name_at s.vars var ∷ codes " stands twice\n" ∷ [])
+name_line s (ResultRead tensor) = of_name (name_at s.tensors tensor) (codes ": the result is read\n" ∷ [])
+name_line s (Arity tensor) = of_name (name_at s.tensors tensor) (codes ": accesses of different order\n" ∷ [])
+name_line s (RepeatedVariable tensor var) =
+    of_name (name_at s.tensors tensor) (codes ": variable " ∷ name_at s.vars var ∷ codes " stands twice\n" ∷ [])
 
 -- the line of a word that is refused
 abbrev pub word_line : ℕ → WordFault → List ℕ
-word_line word BadBinding = joined (codes "taco: word " ∷ decimal word ∷ codes ": not a binding\n" ∷ [])
-word_line word UnknownName = joined (codes "taco: word " ∷ decimal word ∷ codes ": no such name\n" ∷ [])
-word_line word Twice = joined (codes "taco: word " ∷ decimal word ∷ codes ": bound twice\n" ∷ [])
-word_line word NotMatrix = joined (codes "taco: word " ∷ decimal word ∷ codes ": .mtx needs order 1 or 2\n" ∷ [])
-word_line word RangeLimit =
-    joined (codes "taco: word " ∷ decimal word ∷ codes ": range above " ∷ decimal greatest_range_word ∷ codes "\n" ∷ [])
+word_line word BadBinding = of_word word (codes ": not a binding\n" ∷ [])
+word_line word UnknownName = of_word word (codes ": no such name\n" ∷ [])
+word_line word Twice = of_word word (codes ": bound twice\n" ∷ [])
+word_line word NotMatrix = of_word word (codes ": .mtx needs order 1 or 2\n" ∷ [])
+word_line word RangeLimit = of_word word (codes ": range above " ∷ decimal greatest_range_word ∷ codes "\n" ∷ [])
 
 -- what is wrong with a format
-abbrev pub format_text : FormatFault → List ℕ
-format_text BadLetter = codes ": bad format: letter\n"
-format_text BadLength = codes ": bad format: length\n"
-format_text BadOrder = codes ": bad format: order\n"
-format_text BadChain = codes ": bad format: chain\n"
-format_text BelowHashed = codes ": bad format: below h\n"
+abbrev pub bad_format_text : FormatFault → List ℕ
+bad_format_text BadLetter = codes ": bad format: letter\n"
+bad_format_text BadLength = codes ": bad format: length\n"
+bad_format_text BadOrder = codes ": bad format: order\n"
+bad_format_text BadChain = codes ": bad format: chain\n"
+bad_format_text BelowHashed = codes ": bad format: below h\n"
 
 abbrev pub binding_line : Statement → BindingFault → List ℕ
 binding_line s (binding.Word word why) = word_line word why
-binding_line s (binding.NoFile tensor) = joined (codes "taco: " ∷ name_at s.tensors tensor ∷ codes ": no file\n" ∷ [])
-binding_line s (binding.BadFormat tensor why) = joined (codes "taco: " ∷ name_at s.tensors tensor ∷ format_text why ∷ [])
+binding_line s (binding.NoFile tensor) = of_name (name_at s.tensors tensor) (codes ": no file\n" ∷ [])
+binding_line s (binding.BadFormat tensor why) = of_name (name_at s.tensors tensor) (bad_format_text why ∷ [])
 binding_line s (binding.Memory error) = memory_line
 
+-- a variable has no range, or two; or a tensor has a coordinate above a range
+abbrev pub no_range_text : List ℕ → List ℕ
+no_range_text var = of_variable var (codes ": no range\n" ∷ [])
+
+abbrev pub conflict_text : List ℕ → ℕ → ℕ → List ℕ
+conflict_text var first other =
+    of_variable var (codes ": ranges " ∷ decimal first ∷ codes " and " ∷ decimal other ∷ codes "\n" ∷ [])
+
+abbrev pub above_text : List ℕ → ℕ → ℕ → List ℕ
+above_text tensor coordinate range =
+    of_name tensor (codes ": coordinate " ∷ decimal coordinate ∷ codes " above range " ∷ decimal range ∷ codes "\n" ∷ [])
+
 abbrev pub range_line : Statement → RangeFault → List ℕ
-range_line s (range.NoRange var) = joined (codes "taco: variable " ∷ name_at s.vars var ∷ codes ": no range\n" ∷ [])
-range_line s (range.RangeConflict var first other) = joined (codes "taco: variable " ∷ name_at s.vars var ∷ codes ": ranges "
-    ∷ decimal first ∷ codes " and " ∷ decimal other ∷ codes "\n" ∷ [])
-range_line s (range.OutOfRange tensor coordinate exact) = joined (codes "taco: " ∷ name_at s.tensors tensor ∷ codes ": coordinate "
-    ∷ decimal coordinate ∷ codes " above range " ∷ decimal exact ∷ codes "\n" ∷ [])
+range_line s (range.NoRange var) = no_range_text (name_at s.vars var)
+range_line s (range.RangeConflict var first other) = conflict_text (name_at s.vars var) first other
+range_line s (range.OutOfRange tensor coordinate exact) = above_text (name_at s.tensors tensor) coordinate exact
 range_line s (range.Memory error) = memory_line
 
 abbrev pub size_text : List ℕ → ℕ → ℕ → List ℕ
@@ -156,7 +168,7 @@ named_line s (named.Name why) = name_line s why
 named_line s (named.Binding why) = binding_line s why
 named_line s (named.Cycle cycle) = cycle_text s cycle
 named_line s (named.Range why) = range_line s why
-named_line s (named.SizeLimit tensor level count) = size_text (name_at s.tensors tensor) level count
+named_line s (named.SizeLimit large) = size_text (name_at s.tensors large.tensor) large.level large.count
 
 abbrev pub kind_text : LineKind → List ℕ
 kind_text line.LongLine = codes ": LongLine\n"
@@ -173,15 +185,21 @@ kind_text line.CoordRange = codes ": CoordRange\n"
 kind_text line.SkewDiagonal = codes ": SkewDiagonal\n"
 kind_text line.Truncated = codes ": Truncated\n"
 
+-- a file has too many bytes, or a bad line
+abbrev pub file_bytes_text : List ℕ → List ℕ
+file_bytes_text path = of_name path (codes ": more than " ∷ decimal greatest_file_bytes ∷ codes " bytes\n" ∷ [])
+
+abbrev pub bad_line_text : List ℕ → ℕ → LineKind → List ℕ
+bad_line_text path number kind = of_name path (codes ": line " ∷ decimal number ∷ kind_text kind ∷ [])
+
 abbrev pub line_of : Fault → List ℕ
 line_of fault.Usage = codes "usage: taco run EXPR WORD.. | taco kernel EXPR WORD.. | taco report EXPR WORD.. | taco gen N\n"
 line_of (fault.Notation why) = notation_line why
 line_of (fault.Named s why) = named_line s why
 line_of (fault.WorkspaceLimit count) = workspace_text count
-line_of (fault.ReadFault path) = joined (codes "taco: " ∷ path.now ∷ codes ": read fault\n" ∷ [])
-line_of (fault.FileBytes path) =
-    joined (codes "taco: " ∷ path.now ∷ codes ": more than " ∷ decimal greatest_file_bytes ∷ codes " bytes\n" ∷ [])
-line_of (fault.BadFile path number kind) = joined (codes "taco: " ∷ path.now ∷ codes ": line " ∷ decimal number ∷ kind_text kind ∷ [])
+line_of (fault.ReadFault path) = of_name path.now (codes ": read fault\n" ∷ [])
+line_of (fault.FileBytes path) = file_bytes_text path.now
+line_of (fault.BadFile path number kind) = bad_line_text path.now number kind
 line_of (fault.WriteFault None) = codes "taco: standard output: write fault\n"
-line_of (fault.WriteFault (Some path)) = joined (codes "taco: " ∷ path.now ∷ codes ": write fault\n" ∷ [])
+line_of (fault.WriteFault (Some path)) = of_name path.now (codes ": write fault\n" ∷ [])
 line_of fault.Memory = memory_line

@@ -6,9 +6,9 @@ ghost use Rattle.refusals.specs.declared.fault.Fault.TheVariants.{Memory};
 use bindings::{BindingFault, WordFault};
 use expr_terms::{NameFault, RangeFault};
 use index_notation::{NotationFault, Statement};
+use operand_packing::LargeLevel;
 use std::alloc::AllocError;
 use text_lines::LineKind;
-use thiserror::Error;
 use trees::Items;
 
 /// A fault that is told by names of the statement.
@@ -22,50 +22,37 @@ pub enum NamedFault {
     Cycle(Items<usize>),
     /// A variable has no range, or two.
     Range(RangeFault),
-    /// This level of this tensor, counted from 1, would have so many positions, which pass the limit.
-    SizeLimit {
-        tensor: usize,
-        level: usize,
-        count: u64,
-    },
+    /// This level would have more positions than may be.
+    SizeLimit(LargeLevel),
 }
 
 /// Why a command ends without its result.
-#[derive(Debug, Drop, Error)]
+#[derive(Debug, Drop)]
 pub enum Fault<'a> {
     /// The words are no command line.
-    #[error("usage")]
     Usage,
     /// The statement's text isn't one.
-    #[error("notation")]
     Notation(NotationFault),
     /// A fault that is told by names of this statement.
-    #[error("names of the statement")]
     Named {
         statement: Statement,
         fault: NamedFault,
     },
     /// The result's workspace would have so many pairs of coordinates and a value, which pass the limit.
-    #[error("too many pairs")]
     WorkspaceLimit(u64),
     /// Reading this file failed, or it isn't there.
-    #[error("{0}: read fault")]
     ReadFault(&'a str),
     /// This file has more bytes than may be.
-    #[error("{0}: too many bytes")]
     FileBytes(&'a str),
     /// This line of this file, counted from 1, is the first bad one.
-    #[error("{path}: bad line")]
     BadFile {
         path: &'a str,
         line: u64,
         kind: LineKind,
     },
     /// Writing the result failed: to this path, or to the output.
-    #[error("write fault")]
     WriteFault(Option<&'a str>),
     /// Memory was wanted.
-    #[error("out of memory")]
     Memory,
 }
 
@@ -125,6 +112,6 @@ fn status_of_named(fault: &NamedFault) -> u8
         NamedFault::Binding(BindingFault::Memory(_)) | NamedFault::Range(RangeFault::Memory(_)) =>
             5,
         NamedFault::Binding(_) | NamedFault::Range(_) => 1,
-        NamedFault::SizeLimit { .. } => 6,
+        NamedFault::SizeLimit(_) => 6,
     }
 }

@@ -1,17 +1,16 @@
 // The line of each fault.
-ghost use Rattle.std.specs.Prelude.{◌≡◌, ℕ, List, OnOk, IfErr, [], ◌∷◌, codes};
-ghost use Rattle.std.specs.Fmt.{decimal};
+ghost use Rattle.std.specs.Prelude.{◌≡◌, OnOk, IfErr, [], ◌∷◌};
 ghost use Rattle.outside.specs.Sink.{Appends};
 ghost use Rattle.text_lines.specs.Puts.{AppendsPart};
-ghost use Rattle.limits.specs.Limits.{greatest_nesting, greatest_literal};
+ghost use Rattle.bindings.specs.Names.{name_at};
 ghost use Rattle.bindings.specs.declared.fault.WordFault.TheVariants.{RangeLimit};
 ghost use Rattle.index_notation.specs.declared.fault.NotationFault.TheVariants as notation;
-ghost use Rattle.refusals.specs.Lines.{name_at, limit_at, too_many_at, notation_line, name_line, word_line, format_text, binding_line};
-ghost use Rattle.refusals.specs.Lines.{range_line, size_text, workspace_text, names_behind, cycle_text, named_line, kind_text, line_of};
-ghost use Rattle.text_lines.specs.Pieces.{joined};
+ghost use Rattle.refusals.specs.Lines.{of_word, of_name, limit_at, too_many_at, notation_line, name_line, word_line, bad_format_text};
+ghost use Rattle.refusals.specs.Lines.{binding_line, no_range_text, conflict_text, above_text, range_line, size_text, workspace_text};
+ghost use Rattle.refusals.specs.Lines.{names_behind, cycle_text, named_line, kind_text, file_bytes_text, bad_line_text, line_of};
 
 use crate::fault::{Fault, NamedFault};
-use bindings::{BindingFault, WordFault};
+use bindings::{BindingFault, WordFault, name_at};
 use expr_terms::{NameFault, RangeFault};
 use format_spec::FormatFault;
 use index_notation::{Counted, Name, NotationFault, Statement};
@@ -28,19 +27,9 @@ const MEMORY: &[u8] = b"taco: out of memory\n";
 const USAGE: &[u8] =
     b"usage: taco run EXPR WORD.. | taco kernel EXPR WORD.. | taco report EXPR WORD.. | taco gen N\n";
 
-/// The bytes of a name, by its number: none where there is no such name.
-fn bytes_of(names: &[Name], number: usize) -> &[u8]
-    ensures { result.now ≡ name_at names.now number }
-{
-    match names.get(number) {
-        Some(name) => name.bytes.as_slice(),
-        None => b"",
-    }
-}
-
 /// What is wrong with a format.
 fn text_of_format(fault: FormatFault) -> &'static [u8]
-    ensures { result.now ≡ format_text fault }
+    ensures { result.now ≡ bad_format_text fault }
 {
     match fault {
         FormatFault::BadLetter => b": bad format: letter\n",
@@ -145,8 +134,8 @@ fn put_bad_notation<S: Sink>(sink: &mut S, at: usize) -> Result<(), Refusal>
 
 /// Appends the line of a text that opens too many levels at this byte.
 fn put_too_deep<S: Sink>(sink: &mut S, at: usize) -> Result<(), Refusal>
-    ensures whole { OnOk result (Appends (S.state sink.old) (S.state sink.new) (limit_at (codes "nesting deeper than ") greatest_nesting [] at)) }
-    ensures part { IfErr result (AppendsPart (S.state sink.old) (S.state sink.new) (limit_at (codes "nesting deeper than ") greatest_nesting [] at)) }
+    ensures whole { OnOk result (Appends (S.state sink.old) (S.state sink.new) (notation_line (notation.TooDeep at))) }
+    ensures part { IfErr result (AppendsPart (S.state sink.old) (S.state sink.new) (notation_line (notation.TooDeep at))) }
 {
     put_limit_at(
         sink,
@@ -159,8 +148,8 @@ fn put_too_deep<S: Sink>(sink: &mut S, at: usize) -> Result<(), Refusal>
 
 /// Appends the line of a text with a number at this byte that is too great.
 fn put_above_literal<S: Sink>(sink: &mut S, at: usize) -> Result<(), Refusal>
-    ensures whole { OnOk result (Appends (S.state sink.old) (S.state sink.new) (limit_at (codes "literal above ") greatest_literal [] at)) }
-    ensures part { IfErr result (AppendsPart (S.state sink.old) (S.state sink.new) (limit_at (codes "literal above ") greatest_literal [] at)) }
+    ensures whole { OnOk result (Appends (S.state sink.old) (S.state sink.new) (notation_line (notation.LiteralRange at))) }
+    ensures part { IfErr result (AppendsPart (S.state sink.old) (S.state sink.new) (notation_line (notation.LiteralRange at))) }
 {
     put_limit_at(
         sink,
@@ -188,9 +177,8 @@ fn put_notation_line<S: Sink>(sink: &mut S, fault: &NotationFault) -> Result<(),
 
 /// Appends the line that says this of a word.
 fn put_of_word<S: Sink>(sink: &mut S, word: usize, text: &[u8]) -> Result<(), Refusal>
-    ensures whole { OnOk result (Appends (S.state sink.old) (S.state sink.new) (joined (codes "taco: word " ∷ decimal word ∷ text.now ∷ []))) }
-    ensures part { IfErr result (AppendsPart (S.state sink.old) (S.state sink.new)
-        (joined (codes "taco: word " ∷ decimal word ∷ text.now ∷ []))) }
+    ensures whole { OnOk result (Appends (S.state sink.old) (S.state sink.new) (of_word word (text.now ∷ []))) }
+    ensures part { IfErr result (AppendsPart (S.state sink.old) (S.state sink.new) (of_word word (text.now ∷ []))) }
 {
     let pieces = [
         Piece::Text(b"taco: word "),
@@ -231,8 +219,8 @@ fn put_word_line<S: Sink>(sink: &mut S, word: usize, fault: WordFault) -> Result
 
 /// Appends the line that says this of a path.
 fn put_of_path<'x, S: Sink>(sink: &mut S, path: &'x str, text: &'x [u8]) -> Result<(), Refusal>
-    ensures whole { OnOk result (Appends (S.state sink.old) (S.state sink.new) (joined (codes "taco: " ∷ path.now ∷ text.now ∷ []))) }
-    ensures part { IfErr result (AppendsPart (S.state sink.old) (S.state sink.new) (joined (codes "taco: " ∷ path.now ∷ text.now ∷ []))) }
+    ensures whole { OnOk result (Appends (S.state sink.old) (S.state sink.new) (of_name path.now (text.now ∷ []))) }
+    ensures part { IfErr result (AppendsPart (S.state sink.old) (S.state sink.new) (of_name path.now (text.now ∷ []))) }
 {
     put_pieces(
         sink,
@@ -244,18 +232,16 @@ fn put_of_path<'x, S: Sink>(sink: &mut S, path: &'x str, text: &'x [u8]) -> Resu
     )
 }
 
-/// Appends the line of a file with more bytes than this.
-fn put_file_bytes<S: Sink>(sink: &mut S, path: &str, limit: u64) -> Result<(), Refusal>
-    ensures whole { OnOk result (Appends (S.state sink.old) (S.state sink.new)
-        (joined (codes "taco: " ∷ path.now ∷ codes ": more than " ∷ decimal limit ∷ codes " bytes\n" ∷ []))) }
-    ensures part { IfErr result (AppendsPart (S.state sink.old) (S.state sink.new)
-        (joined (codes "taco: " ∷ path.now ∷ codes ": more than " ∷ decimal limit ∷ codes " bytes\n" ∷ []))) }
+/// Appends the line of a file with more bytes than may be.
+fn put_file_bytes<S: Sink>(sink: &mut S, path: &str) -> Result<(), Refusal>
+    ensures whole { OnOk result (Appends (S.state sink.old) (S.state sink.new) (file_bytes_text path.now)) }
+    ensures part { IfErr result (AppendsPart (S.state sink.old) (S.state sink.new) (file_bytes_text path.now)) }
 {
     let pieces = [
         Piece::Text(b"taco: "),
         Piece::Text(path.as_bytes()),
         Piece::Text(b": more than "),
-        Piece::Number(limit),
+        Piece::Number(greatest_bytes_of_file()),
         Piece::Text(b" bytes\n"),
     ];
     put_pieces(sink, &pieces)
@@ -269,11 +255,11 @@ fn put_of_tensor<'x, S: Sink>(
     text: &'x [u8],
 ) -> Result<(), Refusal>
     ensures whole { OnOk result (Appends (S.state sink.old) (S.state sink.new)
-        (joined (codes "taco: " ∷ name_at statement.now.tensors tensor ∷ text.now ∷ []))) }
+        (of_name (name_at statement.now.tensors tensor) (text.now ∷ []))) }
     ensures part { IfErr result (AppendsPart (S.state sink.old) (S.state sink.new)
-        (joined (codes "taco: " ∷ name_at statement.now.tensors tensor ∷ text.now ∷ []))) }
+        (of_name (name_at statement.now.tensors tensor) (text.now ∷ []))) }
 {
-    let name = bytes_of(statement.tensors.as_slice(), tensor);
+    let name = name_at(statement.tensors.as_slice(), tensor);
     put_pieces(
         sink,
         &[Piece::Text(b"taco: "), Piece::Text(name), Piece::Text(text)],
@@ -305,9 +291,9 @@ fn put_name_line<S: Sink>(
         NameFault::RepeatedVariable { tensor, var } => {
             let pieces = [
                 Piece::Text(b"taco: "),
-                Piece::Text(bytes_of(statement.tensors.as_slice(), tensor)),
+                Piece::Text(name_at(statement.tensors.as_slice(), tensor)),
                 Piece::Text(b": variable "),
-                Piece::Text(bytes_of(statement.vars.as_slice(), var)),
+                Piece::Text(name_at(statement.vars.as_slice(), var)),
                 Piece::Text(b" stands twice\n"),
             ];
             put_pieces(sink, &pieces)
@@ -339,10 +325,8 @@ fn put_binding_line<S: Sink>(
 
 /// Appends the line of a variable without a range.
 fn put_no_range<S: Sink>(sink: &mut S, var: &[u8]) -> Result<(), Refusal>
-    ensures whole { OnOk result (Appends (S.state sink.old) (S.state sink.new)
-        (joined (codes "taco: variable " ∷ var.now ∷ codes ": no range\n" ∷ []))) }
-    ensures part { IfErr result (AppendsPart (S.state sink.old) (S.state sink.new)
-        (joined (codes "taco: variable " ∷ var.now ∷ codes ": no range\n" ∷ []))) }
+    ensures whole { OnOk result (Appends (S.state sink.old) (S.state sink.new) (no_range_text var.now)) }
+    ensures part { IfErr result (AppendsPart (S.state sink.old) (S.state sink.new) (no_range_text var.now)) }
 {
     put_pieces(
         sink,
@@ -356,14 +340,8 @@ fn put_no_range<S: Sink>(sink: &mut S, var: &[u8]) -> Result<(), Refusal>
 
 /// Appends the line of a variable with two ranges.
 fn put_conflict<S: Sink>(sink: &mut S, var: &[u8], first: u64, other: u64) -> Result<(), Refusal>
-    ensures whole { OnOk result
-        (Appends (S.state sink.old) (S.state sink.new)
-        (joined (codes "taco: variable " ∷ var.now ∷ codes ": ranges " ∷ decimal first ∷ codes " and " ∷ decimal other ∷ codes "\n"
-        ∷ []))) }
-    ensures part { IfErr result
-        (AppendsPart (S.state sink.old) (S.state sink.new)
-        (joined (codes "taco: variable " ∷ var.now ∷ codes ": ranges " ∷ decimal first ∷ codes " and " ∷ decimal other ∷ codes "\n"
-        ∷ []))) }
+    ensures whole { OnOk result (Appends (S.state sink.old) (S.state sink.new) (conflict_text var.now first other)) }
+    ensures part { IfErr result (AppendsPart (S.state sink.old) (S.state sink.new) (conflict_text var.now first other)) }
 {
     let pieces = [
         Piece::Text(b"taco: variable "),
@@ -384,14 +362,8 @@ fn put_above<S: Sink>(
     coordinate: u64,
     range: u64,
 ) -> Result<(), Refusal>
-    ensures whole { OnOk result
-        (Appends (S.state sink.old) (S.state sink.new)
-        (joined (codes "taco: " ∷ tensor.now ∷ codes ": coordinate " ∷ decimal coordinate ∷ codes " above range " ∷ decimal range
-        ∷ codes "\n" ∷ []))) }
-    ensures part { IfErr result
-        (AppendsPart (S.state sink.old) (S.state sink.new)
-        (joined (codes "taco: " ∷ tensor.now ∷ codes ": coordinate " ∷ decimal coordinate ∷ codes " above range " ∷ decimal range
-        ∷ codes "\n" ∷ []))) }
+    ensures whole { OnOk result (Appends (S.state sink.old) (S.state sink.new) (above_text tensor.now coordinate range)) }
+    ensures part { IfErr result (AppendsPart (S.state sink.old) (S.state sink.new) (above_text tensor.now coordinate range)) }
 {
     let pieces = [
         Piece::Text(b"taco: "),
@@ -416,10 +388,10 @@ fn put_range_line<S: Sink>(
 {
     let vars = statement.vars.as_slice();
     match fault {
-        RangeFault::NoRange { var } => put_no_range(sink, bytes_of(vars, *var)),
+        RangeFault::NoRange { var } => put_no_range(sink, name_at(vars, *var)),
         RangeFault::RangeConflict { var, first, other } => put_conflict(
             sink,
-            bytes_of(vars, *var),
+            name_at(vars, *var),
             *first,
             *other,
         ),
@@ -429,7 +401,7 @@ fn put_range_line<S: Sink>(
             range,
         } => put_above(
             sink,
-            bytes_of(statement.tensors.as_slice(), *tensor),
+            name_at(statement.tensors.as_slice(), *tensor),
             *coordinate,
             *range,
         ),
@@ -477,7 +449,7 @@ fn put_names<S: Sink>(sink: &mut S, names: &[Name], vars: &[usize]) -> Result<()
     };
     match put_pieces(
         sink,
-        &[Piece::Text(b" "), Piece::Text(bytes_of(names, *var))],
+        &[Piece::Text(b" "), Piece::Text(name_at(names, *var))],
     ) {
         Ok(()) => put_names(sink, names, others),
         Err(refusal) => Err(refusal),
@@ -509,27 +481,19 @@ fn put_named_line<S: Sink>(
         NamedFault::Binding(fault) => put_binding_line(sink, statement, fault),
         NamedFault::Cycle(cycle) => put_cycle(sink, statement, cycle.as_slice()),
         NamedFault::Range(fault) => put_range_line(sink, statement, fault),
-        NamedFault::SizeLimit {
-            tensor,
-            level,
-            count,
-        } => put_size(
+        NamedFault::SizeLimit(large) => put_size(
             sink,
-            bytes_of(statement.tensors.as_slice(), *tensor),
-            *level,
-            *count,
+            name_at(statement.tensors.as_slice(), large.tensor),
+            large.level,
+            large.count,
         ),
     }
 }
 
 /// Appends the line of a file with a bad line.
 fn put_bad_line<S: Sink>(sink: &mut S, path: &str, line: u64, kind: LineKind) -> Result<(), Refusal>
-    ensures whole { OnOk result
-        (Appends (S.state sink.old) (S.state sink.new)
-        (joined (codes "taco: " ∷ path.now ∷ codes ": line " ∷ decimal line ∷ kind_text kind ∷ []))) }
-    ensures part { IfErr result
-        (AppendsPart (S.state sink.old) (S.state sink.new)
-        (joined (codes "taco: " ∷ path.now ∷ codes ": line " ∷ decimal line ∷ kind_text kind ∷ []))) }
+    ensures whole { OnOk result (Appends (S.state sink.old) (S.state sink.new) (bad_line_text path.now line kind)) }
+    ensures part { IfErr result (AppendsPart (S.state sink.old) (S.state sink.new) (bad_line_text path.now line kind)) }
 {
     let pieces = [
         Piece::Text(b"taco: "),
@@ -553,7 +517,7 @@ pub fn put_line<S: Sink>(sink: &mut S, fault: &Fault<'_>) -> Result<(), Refusal>
         Fault::Named { statement, fault } => put_named_line(sink, statement, fault),
         Fault::WorkspaceLimit(count) => put_workspace(sink, *count),
         Fault::ReadFault(path) => put_of_path(sink, path, b": read fault\n"),
-        Fault::FileBytes(path) => put_file_bytes(sink, path, greatest_bytes_of_file()),
+        Fault::FileBytes(path) => put_file_bytes(sink, path),
         Fault::BadFile { path, line, kind } => put_bad_line(sink, path, *line, *kind),
         Fault::WriteFault(None) => put_all(sink, b"taco: standard output: write fault\n"),
         Fault::WriteFault(Some(path)) => put_of_path(sink, path, b": write fault\n"),

@@ -1,8 +1,9 @@
 -- The texts that are printed: their lines, and what is printed of a kernel and of its run.
-use Rattle.std.specs.Prelude.{ℕ, suc, List, [], ◌∷◌, ◌++◌, codes, Option, Some, None, slice_get}
+use Rattle.std.specs.Prelude.{ℕ, suc, List, [], ◌∷◌, ◌++◌, codes}
 use Rattle.std.specs.List.{flat_map}
 use Rattle.std.specs.Fmt.{decimal, signed_decimal}
 use Rattle.numbers.specs.Signed.{signed_of}
+use Rattle.bindings.specs.Names.{name_at}
 use Rattle.index_notation.specs.declared.syntax.Name.{Name}
 use Rattle.index_notation.specs.declared.syntax.Statement.{Statement}
 use Rattle.format_spec.specs.declared.format.FormatLevel.{FormatLevel}
@@ -28,14 +29,9 @@ workload_line w = joined (codes "gen " ∷ decimal w.size ∷ codes " entries " 
     ∷ codes " cost " ∷ decimal w.cost ∷ codes " values " ∷ decimal w.values ∷ codes " sum " ∷ signed_decimal (signed_of w.sum)
     ∷ codes "\n" ∷ [])
 
--- the bytes of a name, by its number: none where there is no such name
-abbrev pub bytes_of : Option Name → List ℕ
-bytes_of None = []
-bytes_of (Some name) = name.bytes
-
 -- a variable of these, by its number, behind a blank
 abbrev pub variable_text : List Name → ℕ → List ℕ
-variable_text names number = joined (codes " " ∷ bytes_of (slice_get names number) ∷ [])
+variable_text names number = joined (codes " " ∷ name_at names number ∷ [])
 
 -- the variables in the order of their loops
 abbrev pub order_line : List Name → List ℕ → List ℕ
@@ -67,7 +63,7 @@ kernel_report statement order formats kernel = heading_text statement order form
 
 -- the turns that loops made, and the storage of the result, which is tensor 0
 abbrev pub result_report : Statement → Turns → Storage → List ℕ
-result_report statement turns tensor = turns_line turns ++ store_text 0 (bytes_of (slice_get statement.tensors 0)) tensor
+result_report statement turns tensor = turns_line turns ++ store_text 0 (name_at statement.tensors 0) tensor
 
 -- a kernel, the turns that its loops made in a run, and the storage of the result
 abbrev pub run_report : Statement → List ℕ → List (List FormatLevel) → Kernel → Turns → Storage → List ℕ

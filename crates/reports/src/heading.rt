@@ -1,31 +1,22 @@
 // What stands before a kernel.
-ghost use Rattle.std.specs.Prelude.{◌≡◌, OnOk, IfErr, length, slice_get};
+ghost use Rattle.std.specs.Prelude.{◌≡◌, OnOk, IfErr, length};
 ghost use Rattle.std.specs.List.{flat_map};
 ghost use Rattle.outside.specs.Sink.{Appends};
 ghost use Rattle.text_lines.specs.Puts.{AppendsPart, Prints};
-ghost use Rattle.reports.specs.Reports.{bytes_of, variable_text, order_line, title_text, tensor_line, tensor_lines, heading_text};
+ghost use Rattle.reports.specs.Reports.{variable_text, order_line, title_text, tensor_line, tensor_lines, heading_text};
 
+use bindings::name_at;
 use format_spec::Format;
 use index_notation::{Name, Statement};
 use outside::{Refusal, Sink};
 use text_lines::{Piece, put_all, put_pieces};
-
-/// The bytes of a name, by its number: none where there is no such name.
-pub(crate) fn name_of(names: &[Name], number: usize) -> &[u8]
-    ensures { result.now ≡ bytes_of (slice_get names.now number) }
-{
-    match names.get(number) {
-        Some(name) => name.bytes.as_slice(),
-        None => b"",
-    }
-}
 
 /// Appends a variable behind a blank.
 fn put_variable<S: Sink>(sink: &mut S, names: &[Name], number: usize) -> Result<(), Refusal>
     ensures whole { OnOk result (Appends (S.state sink.old) (S.state sink.new) (variable_text names.now number)) }
     ensures part { IfErr result (AppendsPart (S.state sink.old) (S.state sink.new) (variable_text names.now number)) }
 {
-    let name = name_of(names, number);
+    let name = name_at(names, number);
     put_pieces(sink, &[Piece::Text(b" "), Piece::Text(name)])
 }
 

@@ -1,14 +1,15 @@
 // What is printed of a run.
-ghost use Rattle.std.specs.Prelude.{◌≡◌, OnOk, IfErr, length, slice_get};
+ghost use Rattle.std.specs.Prelude.{◌≡◌, OnOk, IfErr, length};
 ghost use Rattle.outside.specs.Sink.{Appends};
 ghost use Rattle.text_lines.specs.Puts.{AppendsPart};
 ghost use Rattle.storage_arrays.specs.Arrays.{AreDone};
 ghost use Rattle.result_files.specs.Writes.{PutsAll, PutsFront};
-ghost use Rattle.reports.specs.Reports.{bytes_of, result_report, run_report};
+ghost use Rattle.bindings.specs.Names.{name_at};
+ghost use Rattle.reports.specs.Reports.{result_report, run_report};
 
-use crate::heading::name_of;
 use crate::kernels::KernelReport;
 use crate::turns::put_turns;
+use bindings::name_at;
 use format_spec::Format;
 use index_notation::Statement;
 use kernel_code::{Kernel, Turns};
@@ -19,9 +20,9 @@ use tensor_storage::Tensor;
 
 /// The bytes of the result's name: none where a statement has no tensors.
 fn result_name(statement: &Statement) -> &[u8]
-    ensures { result.now ≡ bytes_of (slice_get statement.now.tensors 0) }
+    ensures { result.now ≡ name_at statement.now.tensors 0 }
 {
-    name_of(statement.tensors.as_slice(), 0)
+    name_at(statement.tensors.as_slice(), 0)
 }
 
 /// Appends the turns that loops made, and the storage of the result.

@@ -1,15 +1,15 @@
 -- The text of a result: a `.tns` text, or a Matrix Market text where a path is given that ends in `.mtx`.
-use Rattle.std.specs.Prelude.{◌≡◌, ℕ, Bool, true, false, List, Option, Some, None, nat_eq, codes}
-use Rattle.std.specs.List.{ends_with}
+use Rattle.std.specs.Prelude.{◌≡◌, ℕ, Bool, true, false, List, Option, Some, None}
+use Rattle.bindings.specs.Words.{is_mtx}
 use Rattle.numbers.specs.Arithmetic.{Arithmetic}
 use Rattle.tns_io.specs.Positions.{IsBelow}
 use Rattle.tns_io.specs.Text.{IsTnsText}
 use Rattle.mtx_io.specs.Text.{IsMatrixText}
 
--- the path of a Matrix Market file
+-- the path of a matrix
 abbrev pub asks_matrix : Option (List ℕ) → Bool
 asks_matrix None = false
-asks_matrix (Some path) = ends_with nat_eq path (codes ".mtx")
+asks_matrix (Some path) = is_mtx path
 
 -- the Matrix Market text of the tensor that has these values below the ranges
 pub record IsMatrixOf (a : Arithmetic) (ranges : List ℕ) (value : List ℕ → ℕ) (text : List ℕ) : Type 0 where

@@ -1,7 +1,7 @@
 //! A result written to the output, or into a folder's file.
-ghost use Rattle.std.specs.Prelude.{◌≡◌, OnOk, IfErr, Some};
-ghost use Rattle.std.specs.Option.{option_map};
+ghost use Rattle.std.specs.Prelude.{◌≡◌, OnOk, IfErr};
 ghost use Rattle.tensor_map.specs.Entries.{value_at};
+ghost use Rattle.bindings.specs.Tables.{path_to};
 ghost use Rattle.result_files.specs.EntriesText.{MayBeWritten};
 ghost use Rattle.result_files.specs.ResultText.{asks_matrix};
 ghost use Rattle.result_files.specs.Writes.{FailsToFill, FillsFile, RefusesResult, WritesResult};
@@ -9,24 +9,18 @@ ghost use Rattle.result_files.specs.Writes.{FailsToFill, FillsFile, RefusesResul
 use crate::printing::{Text, fill, print_text};
 use crate::refusal::WriteRefusal;
 use crate::tensor_text::TensorText;
+use bindings::TensorFile;
 use numbers::Semiring;
 use outside::{FileSink, Folder, Sink};
 use std::marker::PhantomData;
 use tensor_map::{Entries, Shape};
 
-/// Whether a path is that of a Matrix Market file.
-fn is_matrix_path(path: &str) -> bool
-    ensures { result ≡ asks_matrix (Some path.now) }
+/// Whether a result is written as a matrix.
+fn is_matrix(file: Option<TensorFile<'_>>) -> bool
+    ensures { result ≡ asks_matrix (path_to file.entry) }
 {
-    path.as_bytes().ends_with(b".mtx")
-}
-
-/// Whether a result is written as a Matrix Market file.
-fn is_matrix(path: Option<&str>) -> bool
-    ensures { result ≡ asks_matrix (option_map (λ path. path.now) path.entry) }
-{
-    match path {
-        Some(path) => is_matrix_path(path),
+    match file {
+        Some(file) => file.is_matrix(),
         None => false,
     }
 }
@@ -43,35 +37,34 @@ fn write_file<F: Folder, T: Text>(files: &mut F, path: &str, text: &T) -> Result
     Ok(())
 }
 
-/// Writes the text of the entries' tensor: to `out`, which is finished then, or with a path into its file, as `.mtx` or
-/// `.tns` by the path's ending. It takes no memory of its own. The entries are below the shape's ranges and increase, and
-/// those of a `.mtx` file have order 1 or 2.
+/// Writes the text of the entries' tensor: to `out`, which is finished then, or into a file, in the file's format. It takes no
+/// memory of its own. The entries are below the shape's ranges and increase, and those of a matrix have order 1 or 2.
 ///
-/// A fault comes only where `out` or, with a path, the folder counted one in writing, and want of memory only where it counted
+/// A fault comes only where `out` or, with a file, the folder counted one in writing, and want of memory only where it counted
 /// one. A front of the text stands there after a refusal, or the file is as before, where it couldn't be made.
 pub fn write_result<S: Semiring, F: Folder, O: Sink>(
     files: &mut F,
     out: &mut O,
-    path: Option<&str>,
+    file: Option<TensorFile<'_>>,
     shape: &Shape,
     entries: &Entries,
 ) -> Result<(), WriteRefusal>
-    requires { MayBeWritten (asks_matrix (option_map (λ path. path.now) path)) shape.now entries.now }
-    ensures written { OnOk result (WritesResult S.arithmetic (option_map (λ path. path.now) path.entry) shape.now
+    requires { MayBeWritten (asks_matrix (path_to file)) shape.now entries.now }
+    ensures written { OnOk result (WritesResult S.arithmetic (path_to file.entry) shape.now
         (value_at S.arithmetic entries.now.list)
         (F.state files.old) (F.state files.new) (O.state out.old) (O.state out.new)) }
-    ensures refused { IfErr result (RefusesResult S.arithmetic (option_map (λ path. path.now) path.entry) shape.now
+    ensures refused { IfErr result (RefusesResult S.arithmetic (path_to file.entry) shape.now
         (value_at S.arithmetic entries.now.list)
         (F.state files.old) (F.state files.new) (O.state out.old) (O.state out.new)) }
 {
     let text = TensorText::<S> {
-        is_matrix: is_matrix(path),
+        is_matrix: is_matrix(file),
         shape,
         entries,
         semiring: PhantomData,
     };
-    match path {
-        Some(path) => write_file(files, path, &text),
+    match file {
+        Some(file) => write_file(files, file.path, &text),
         None => print_text(out, &text),
     }
 }

@@ -127,7 +127,7 @@ module _ (words : List (List ℕ)) (task : Task) (s : Statement) (formats : List
       binding_apart t rest (needs_files other) formats files ranges why (binds_of other t rest names) is
   only_want (fault.Named t (named.Cycle cycle)) is = is
   only_want (fault.Named t (named.Range why)) is = is
-  only_want (fault.Named t (named.SizeLimit tensor level count)) is = is
+  only_want (fault.Named t (named.SizeLimit large)) is = is
   only_want (fault.WorkspaceLimit count) is = is
   only_want (fault.ReadFault path) is = is
   only_want (fault.FileBytes path) is = is
@@ -166,7 +166,7 @@ workload_taken words size (fault.Named t (named.Binding why)) is (task, rest, na
     absurd (no_statement words size task names.text rest is names.line)
 workload_taken words size (fault.Named t (named.Cycle cycle)) is h = h
 workload_taken words size (fault.Named t (named.Range why)) is h = h
-workload_taken words size (fault.Named t (named.SizeLimit tensor level count)) is h = h
+workload_taken words size (fault.Named t (named.SizeLimit large)) is h = h
 workload_taken words size (fault.WorkspaceLimit count) is h = h
 workload_taken words size (fault.ReadFault path) is h = h
 workload_taken words size (fault.FileBytes path) is h = h

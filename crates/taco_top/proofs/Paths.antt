@@ -2,11 +2,9 @@
 use Rattle.std.specs.Prelude.{◌≡◌, ℕ, zero, suc, ◌+◌, ◌-◌, ◌<◌, ◌==◌, Bool, true, false, cond, if◌then◌else◌, List, [], ◌∷◌, length, map}
 use Rattle.std.specs.Prelude.{Option, Some, None, is_some, unwrap_or, slice_get, slice_index_or, take, refl}
 use Rattle.std.specs.List.{range_with_len}
-use Rattle.std.specs.Option.{option_map}
 use Rattle.std_collections.specs.Map.{lookup}
 use Rattle.std.proofs.Common.{◌∙◌, sym, ap, subst, arith}
 use Rattle.std.proofs.lemmas.List.FromFn.{length-map-range_with_len}
-use denote.Ref.{Bor}
 use Rattle.format_spec.specs.declared.format.FormatLevel.{FormatLevel}
 use Rattle.index_notation.specs.declared.syntax.Statement.{Statement}
 use Rattle.index_notation.specs.Numbering.{place_of}
@@ -15,7 +13,8 @@ use Rattle.bindings.specs.Words.{Said, SaysFormat, SaysFile, SaysRange, said_of}
 use Rattle.mtx_io.specs.Progress.{IsMatrixOrder}
 use Rattle.bindings.specs.Bindings.{first_in, path_in, order_in, order_of, or_later}
 use Rattle.bindings.specs.Outcome.{files_in, with_file, Binds}
-use Rattle.bindings.specs.Tables.{file_in}
+use Rattle.bindings.specs.Tables.{file_in, path_to}
+use Rattle.bindings.specs.declared.tensor_file.TensorFile.{TensorFile}
 use Rattle.bindings.proofs.Tables.{eq_turned}
 use Rattle.operand_files.specs.Decoded.{AreReadable}
 use Rattle.operand_packing.specs.Orders.{operand_orders}
@@ -24,15 +23,13 @@ use Rattle.operand_packing.proofs.RangesSmall.{first_found}
 use Rattle.result_files.specs.ResultText.{asks_matrix}
 use Rattle.taco_top.specs.Run.{path_of, paths_of}
 
--- a path that is looked up among lent ones
-pub path_in_view : (n : ℕ) (files : List (ℕ × Bor (List ℕ)))
-    → option_map (λ path. path.now) (lookup (λ k. n == k) files) ≡ path_of (map file_in files) n
+-- the path of a file that is looked up among those that are kept
+pub path_in_view : (n : ℕ) (files : List (ℕ × TensorFile)) → path_to (lookup (λ k. n == k) files) ≡ path_of (map file_in files) n
 path_in_view n [] = refl
 path_in_view n (file ∷ files) = by_key (n == file.0) (path_in_view n files)
   where
-    by_key : (b : Bool) → option_map (λ path. path.now) (lookup (λ k. n == k) files) ≡ path_of (map file_in files) n
-        → option_map (λ path. path.now) (cond b (Some file.1) (lookup (λ k. n == k) files))
-        ≡ cond b (Some file.1.now) (path_of (map file_in files) n)
+    by_key : (b : Bool) → path_to (lookup (λ k. n == k) files) ≡ path_of (map file_in files) n
+        → path_to (cond b (Some file.1) (lookup (λ k. n == k) files)) ≡ cond b (Some file.1.path.now) (path_of (map file_in files) n)
     by_key true later = refl
     by_key false later = later
 

@@ -1,47 +1,63 @@
 -- What was computed for the words, as it is kept.
-use Rattle.std.specs.Prelude.{◌≡◌, ℕ, Bool, true, List, length, Option, Vec, refl}
-use Rattle.std.specs.Option.{option_map}
+use Rattle.std.specs.Prelude.{◌≡◌, ℕ, Bool, true, List, length, Vec, slice_index, refl}
 use Rattle.std.proofs.Common.{◌∙◌, ap, sym, subst}
+use Rattle.std.proofs.lemmas.List.{length-map}
 use Rattle.std.specs.declared.alloc.Global.{Global}
+use Rattle.numbers.specs.Arithmetic.{Arithmetic}
 use Rattle.numbers.specs.Ring.{ring}
 use Rattle.outside.specs.Folder.{FolderState}
-use Rattle.tensor_map.specs.Entries.{Entries}
+use Rattle.tensor_map.specs.Entries.{AreEntries, Entries}
+use Rattle.index_notation.specs.declared.syntax.Statement.{Statement}
 use Rattle.expr_terms.specs.declared.bound.Bound.{Bound}
 use Rattle.expr_terms.proofs.WellNamed.{notation_well_named}
+use Rattle.bindings.specs.Tables.{path_to}
 use Rattle.mtx_io.specs.Progress.{IsMatrixOrder}
-use Rattle.kernel_runs.specs.Runs.{IsRun}
+use Rattle.kernel_runs.specs.Runs.{IsRun, IsTensorOf}
 use Rattle.result_files.specs.EntriesText.{MayBeWritten}
 use Rattle.result_files.specs.ResultText.{asks_matrix}
 use Rattle.taco_top.specs.Asked.{needs_files}
 use Rattle.taco_top.specs.Run.{Request, path_of}
-use Rattle.taco_top.specs.Causes.{HasOperands, IsKernelOf}
+use Rattle.taco_top.specs.Written.{HasOperands}
+use Rattle.taco_top.specs.Told.{IsKernelOf}
 use Rattle.taco_top.specs.declared.computing.Computed.{Computed}
 use Rattle.taco_top.specs.Prepared.{IsPrepared}
 use Rattle.taco_top.proofs.Paths.{result_is_matrix}
 
+-- the entries of a statement's result may be written, as a matrix where its order is that of one
+may_be_written : (a : Arithmetic) (s : Statement) (operands : List Entries) (ranges : ℕ → ℕ) (shape : List ℕ) (entries : Entries)
+    → AreEntries entries → IsTensorOf a s operands ranges shape entries → (is_matrix : Bool)
+    → (is_matrix ≡ true → IsMatrixOrder (length s.left.vars)) → MayBeWritten is_matrix shape entries
+may_be_written a s operands ranges shape entries are t is_matrix order = record {
+  are = are;
+  order_is = t.order_is;
+  below = t.below;
+  increasing = t.increasing;
+  matrix = λ is. subst IsMatrixOrder (sym (t.order_is ∙ ap length t.shape_is ∙ length-map s.left.vars ranges)) (order is);
+}
+
 pub prepared : (words : List (List ℕ)) (old new : FolderState) (r : Request) (kept : Computed) (entries : List Entries)
-    (bounds : List (Vec Bound Global)) → option_map (λ path. path.now) kept.path ≡ path_of r.files 0 → r.statement ≡ kept.statement
+    (bounds : List (Vec Bound Global)) → path_to kept.file ≡ path_of r.files 0 → r.statement ≡ kept.statement
     → kept.formats.items ≡ r.formats → HasOperands words old new r entries bounds
     → IsKernelOf r kept.compiled.order kept.compiled.kernel
     → IsRun ring r.statement r.formats kept.compiled.kernel r.given entries bounds kept.result.shape kept.result.entries
     kept.result.tensor kept.result.turns
-    → ((is_matrix : Bool) → (is_matrix ≡ true → IsMatrixOrder (length r.statement.left.vars))
-    → MayBeWritten is_matrix kept.result.shape kept.result.entries)
-    → IsPrepared words r.task old new kept
-prepared words old new r kept entries bounds path_is statement_is formats_are operands is_kernel run may =
+    → AreEntries kept.result.entries → IsPrepared words r.task old new kept
+prepared words old new r kept entries bounds path_is statement_is formats_are operands is_kernel run are =
     let names = operands.accepted.asks.names in
     let named = notation_well_named names.text r.statement names.notation names.names in
     record {
-      computed = record {
+      values = record {
         request = r;
         entries = entries;
         bounds = bounds;
         operands = operands;
+        ranges = run.ranges;
+        ranges_are = run.ranges_are;
+      };
+      computed = record {
         order = kept.compiled.order;
         kernel = kept.compiled.kernel;
         is_kernel = is_kernel;
-        ranges = run.ranges;
-        ranges_are = run.ranges_are;
         store = run.store;
         is_store = run.is_store;
         tensor = kept.result.tensor;
@@ -60,7 +76,8 @@ prepared words old new r kept entries bounds path_is statement_is formats_are op
       turns_are = refl;
       tensor = run.tensor_of;
       written = subst (λ p. MayBeWritten (asks_matrix p) kept.result.shape kept.result.entries) (sym path_is)
-          (may (asks_matrix (path_of r.files 0)) (λ matrix. result_is_matrix r.statement operands.accepted.asks.rest (needs_files r.task)
+          (may_be_written ring r.statement entries (slice_index run.ranges) kept.result.shape kept.result.entries are run.tensor_of
+          (asks_matrix (path_of r.files 0)) (λ matrix. result_is_matrix r.statement operands.accepted.asks.rest (needs_files r.task)
           r.formats r.files r.given operands.accepted.asks.binds named.result matrix));
       finished = run.runs.has_run.done;
     }

@@ -5,6 +5,7 @@ use Rattle.std.specs.declared.alloc.Global.{Global}
 use Rattle.numbers.specs.Ring.{ring}
 use Rattle.outside.specs.Folder.{FolderState}
 use Rattle.tensor_map.specs.Entries.{Entries}
+use Rattle.format_spec.specs.declared.format.FormatLevel.{FormatLevel}
 use Rattle.index_notation.specs.Statement.{IsNumbered}
 use Rattle.expr_terms.specs.declared.bound.Bound.{Bound}
 use Rattle.operand_files.specs.Decoded.{AreReadable}
@@ -21,7 +22,8 @@ use Rattle.refusals.specs.declared.fault.Fault.{Fault}
 use Rattle.refusals.specs.declared.fault.Fault.TheVariants as fault
 use Rattle.taco_top.specs.Asked.{needs_files}
 use Rattle.taco_top.specs.Run.{Request}
-use Rattle.taco_top.specs.Causes.{means, IsAccepted, HasOperands, asked_orders, asked_paths, Stops}
+use Rattle.taco_top.specs.Written.{means, IsAccepted, HasOperands, asked_orders, asked_paths}
+use Rattle.taco_top.specs.Refused.{Stops}
 use Rattle.taco_top.specs.Prepared.{IsUncomputed}
 use Rattle.taco_top.proofs.Paths.{paths_readable}
 
@@ -100,21 +102,27 @@ request_runnable words old new r entries bounds operands numbered =
     bounds
     (request_readable words r operands.reads operands.accepted numbered) refl operands.read
 
--- the ranges that were handed in are those of the request
-module _ (r : Request) (given : List (Option ℕ)) (given_are : given ≡ r.given) (entries : List Entries)
-    (bounds : List (Vec Bound Global)) where
+-- the formats and ranges that were handed in are those of the request
+module _ (r : Request) (formats : List (List FormatLevel)) (formats_are : formats ≡ r.formats) (given : List (Option ℕ))
+    (given_are : given ≡ r.given) (entries : List Entries) (bounds : List (Vec Bound Global)) where
+  as_handed : (P : List (List FormatLevel) → List (Option ℕ) → Type 0) → P r.formats r.given → P formats given
+  as_handed P h = subst (λ fs. P fs given) (sym formats_are) (subst (P r.formats) (sym given_are) h)
+
+  as_asked : (P : List (List FormatLevel) → List (Option ℕ) → Type 0) → P formats given → P r.formats r.given
+  as_asked P h = subst (P r.formats) given_are (subst (λ fs. P fs given) formats_are h)
+
   pub runnable : (words : List (List ℕ)) (old new : FolderState) → HasOperands words old new r entries bounds → IsNumbered r.statement
-      → IsRunnable r.statement r.formats given entries bounds
+      → IsRunnable r.statement formats given entries bounds
   runnable words old new operands numbered =
-      subst (λ gs. IsRunnable r.statement r.formats gs entries bounds) (sym given_are)
+      as_handed (λ fs gs. IsRunnable r.statement fs gs entries bounds)
       (request_runnable words old new r entries bounds operands numbered)
 
   pub run_of_request : (kernel : Kernel) (shape : List ℕ) (result : Entries) (tensor : Storage) (turns : Turns)
-      → IsRun ring r.statement r.formats kernel given entries bounds shape result tensor turns
+      → IsRun ring r.statement formats kernel given entries bounds shape result tensor turns
       → IsRun ring r.statement r.formats kernel r.given entries bounds shape result tensor turns
   run_of_request kernel shape result tensor turns run =
-      subst (λ gs. IsRun ring r.statement r.formats kernel gs entries bounds shape result tensor turns) given_are run
+      as_asked (λ fs gs. IsRun ring r.statement fs kernel gs entries bounds shape result tensor turns) run
 
-  pub uncomputed_of_request : (why : Fault) → IsUncomputed r.statement r.formats given entries bounds why
+  pub uncomputed_of_request : (why : Fault) → IsUncomputed r.statement formats given entries bounds why
       → IsUncomputed r.statement r.formats r.given entries bounds why
-  uncomputed_of_request why is = subst (λ gs. IsUncomputed r.statement r.formats gs entries bounds why) given_are is
+  uncomputed_of_request why is = as_asked (λ fs gs. IsUncomputed r.statement fs gs entries bounds why) is

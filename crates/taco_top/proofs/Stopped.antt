@@ -1,6 +1,5 @@
 -- How a command ends, from how its parts do.
 use Rattle.std.specs.Prelude.{◌≡◌, ℕ, ◌≤◌, ◌⊎◌, List, ◌++◌, Option, Some, Vec, Result, Ok, Err, OnOk, IfErr, refl}
-use Rattle.std.specs.Option.{option_map}
 use Rattle.std.proofs.Common.{◌∙◌, sym, ap, subst, inl, inr, arith}
 use Rattle.std.proofs.lemmas.List.{append-nil}
 use Rattle.std.specs.declared.alloc.Global.{Global}
@@ -17,6 +16,7 @@ use Rattle.tensor_map.specs.Entries.{Entries, value_at}
 use Rattle.format_spec.specs.declared.format.FormatLevel.{FormatLevel}
 use Rattle.kernel_code.specs.declared.syntax.Kernel.{Kernel}
 use Rattle.expr_terms.specs.declared.bound.Bound.{Bound}
+use Rattle.bindings.specs.Tables.{path_to}
 use Rattle.operand_files.specs.Reads.{OnlyReads}
 use Rattle.result_files.specs.Writes.{Puts, PutsAll, PutsFront, WritesResult, RefusesResult}
 use Rattle.result_files.specs.ResultText.{IsResultText}
@@ -27,10 +27,11 @@ use Rattle.refusals.specs.declared.fault.NamedFault.TheVariants as named
 use Rattle.refusals.specs.declared.fault.Fault.{Fault}
 use Rattle.refusals.specs.declared.fault.Fault.TheVariants as fault
 use Rattle.taco_top.specs.Asked.{IsRefusedByWords}
-use Rattle.taco_top.specs.Causes.{HasOperands, result_ranges, result_value, OpensOperands, Stops, IsWritten, IsUnwritten}
-use Rattle.taco_top.specs.Causes.{IsAccepted, IsKernelOf, Tells, IsPrinted, IsUnprinted, Refuses}
+use Rattle.taco_top.specs.Written.{HasOperands, result_ranges, result_value, IsAccepted}
+use Rattle.taco_top.specs.Told.{IsKernelOf, IsWrittenIn, Tells, IsPrinted}
+use Rattle.taco_top.specs.Refused.{OpensOperands, Stops, IsUnwritten, IsUnprinted, Refuses}
 use Rattle.operand_packing.specs.Runnable.{told_ranges}
-use Rattle.kernel_runs.specs.Runs.{IsTooLarge}
+use Rattle.kernel_runs.specs.Runs.{IsLargeLevel}
 use Rattle.command_line.specs.CommandLine.{Workload as WorkloadLine, command_line_of}
 use Rattle.command_line.specs.declared.Task.TheVariants as task
 use Rattle.reports.specs.declared.workload.Workload.{Workload}
@@ -50,7 +51,7 @@ stops_by_words words (fault.Named s (named.Name why)) files is = record { folder
 stops_by_words words (fault.Named s (named.Binding why)) files is = record { folder_is = refl; refused = is }
 stops_by_words words (fault.Named s (named.Cycle cycle)) files is = absurd is
 stops_by_words words (fault.Named s (named.Range why)) files is = absurd is
-stops_by_words words (fault.Named s (named.SizeLimit tensor level count)) files is = absurd is
+stops_by_words words (fault.Named s (named.SizeLimit large)) files is = absurd is
 stops_by_words words (fault.WorkspaceLimit count) files is = absurd is
 stops_by_words words (fault.ReadFault path) files is = absurd is
 stops_by_words words (fault.FileBytes path) files is = absurd is
@@ -86,14 +87,14 @@ module _ (words : List (List ℕ)) (old new : FolderState) (r : Request) (entrie
         operands = operands;
         is = subst (λ u. told_ranges u r.given bounds ≡ Err why) (sym same) is;
       }
-  stops_uncomputed (fault.Named t (named.SizeLimit tensor level count)) (same, is) =
+  stops_uncomputed (fault.Named t (named.SizeLimit large)) (same, is) =
       record {
         request = r;
         statement_is = sym same;
         entries = entries;
         bounds = bounds;
         operands = operands;
-        large = subst (λ u. IsTooLarge ring u r.formats r.given entries bounds tensor level count) (sym same) is;
+        is = subst (λ u. IsLargeLevel ring u r.formats r.given entries bounds large) (sym same) is;
       }
   stops_uncomputed (fault.WorkspaceLimit count) needs =
       record { request = r; entries = entries; bounds = bounds; operands = operands; needs = needs }
@@ -138,45 +139,49 @@ reads_nothing files = record {
 module _ (words : List (List ℕ)) (files between files' : FolderState) (out out' : SinkState) (kept : Computed)
     (reads : OnlyReads files between) (is : IsPrepared words task.Run files between kept) where
   path : Option (List ℕ)
-  path = option_map (λ p. p.now) kept.path
+  path = path_to kept.file
 
   -- the text of the result's entries is that of the statement's values
   text_of_values : (text : List ℕ) → IsResultText ring path kept.result.shape (value_at ring kept.result.entries.list) text
-      → IsResultText ring path (result_ranges is.computed.request.statement is.computed.ranges)
-      (result_value is.computed.request.statement is.computed.entries is.computed.ranges) text
+      → IsResultText ring path (result_ranges is.values.request.statement is.values.ranges)
+      (result_value is.values.request.statement is.values.entries is.values.ranges) text
   unfolding path
   text_of_values text text_is =
       subst (λ ranges. IsResultText ring path ranges
-      (result_value is.computed.request.statement is.computed.entries is.computed.ranges) text) is.tensor.shape_is
+      (result_value is.values.request.statement is.values.entries is.values.ranges) text) is.tensor.shape_is
       (same_text ring path kept.result.shape (value_at ring kept.result.entries.list)
-      (result_value is.computed.request.statement is.computed.entries is.computed.ranges) text
+      (result_value is.values.request.statement is.values.entries is.values.ranges) text
       is.tensor.values_are text_is)
 
-  pub written : WritesResult ring (option_map (λ p. p.now) kept.path) kept.result.shape (value_at ring kept.result.entries.list)
-      between files' out out' → IsWritten words files files' out out' kept.result.turns
+  pub written : WritesResult ring (path_to kept.file) kept.result.shape (value_at ring kept.result.entries.list)
+      between files' out out' → IsWrittenIn words files files' out out' kept.result.turns
   unfolding path
   written writes = record {
-    between = between;
-    only_reads = reads;
-    computed = is.computed;
-    task_is = is.task_is;
-    turns_are = is.turns_are;
-    writes = record {
-      text = writes.text;
-      text_is = subst (λ p. IsResultText ring p (result_ranges is.computed.request.statement is.computed.ranges)
-          (result_value is.computed.request.statement is.computed.entries is.computed.ranges) writes.text) (sym is.path_is)
-          (text_of_values writes.text writes.text_is);
-      puts = subst (λ p. Puts p writes.text between files' out out') (sym is.path_is) writes.puts;
+    written = record {
+      between = between;
+      only_reads = reads;
+      values = is.values;
+      task_is = is.task_is;
+      writes = record {
+        text = writes.text;
+        text_is = subst (λ p. IsResultText ring p (result_ranges is.values.request.statement is.values.ranges)
+            (result_value is.values.request.statement is.values.entries is.values.ranges) writes.text) (sym is.path_is)
+            (text_of_values writes.text writes.text_is);
+        puts = subst (λ p. Puts p writes.text between files' out out') (sym is.path_is) writes.puts;
+      };
     };
+    computed = is.computed;
+    turns_are = is.turns_are;
   }
 
-  pub unwritten : (why : WriteRefusal) → RefusesResult ring (option_map (λ p. p.now) kept.path) kept.result.shape
+  pub unwritten : (why : WriteRefusal) → RefusesResult ring (path_to kept.file) kept.result.shape
       (value_at ring kept.result.entries.list) between files' out out' why
-      → IsUnwritten words files files' out out' (option_map (λ p. p.now) kept.path) why
+      → IsUnwritten words files files' out out' (path_to kept.file) why
   unfolding path
   unwritten why refuses = record {
     between = between;
     only_reads = reads;
+    values = is.values;
     computed = is.computed;
     task_is = is.task_is;
     path_is = is.path_is;
@@ -226,8 +231,9 @@ pub tells_run : (words : List (List ℕ)) (old new : FolderState) (kept : Comput
     → Tells words old new (run_report kept.statement told formats kept.compiled.kernel kept.result.turns kept.result.tensor)
 tells_run words old new kept is told formats told_is formats_are =
     let order : told ≡ is.computed.order = told_is ∙ sym is.order_is in
-    let layouts : formats ≡ is.computed.request.formats = formats_are ∙ sym is.formats_are in
+    let layouts : formats ≡ is.values.request.formats = formats_are ∙ sym is.formats_are in
     inr (inl (record {
+      values = is.values;
       computed = is.computed;
       task_is = is.task_is;
       text_is = λ i. run_report (sym is.statement_is i) (order i) (layouts i) (sym is.kernel_is i) (sym is.turns_are i)

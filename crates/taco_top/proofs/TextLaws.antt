@@ -23,7 +23,8 @@ use Rattle.refusals.specs.declared.fault.Fault.TheVariants as fault
 use Rattle.taco_top.specs.Asked.{IsRefusedByWords, IsWant, needs_files}
 use Rattle.taco_top.proofs.OneRequest as request
 use Rattle.taco_top.specs.Run.{Request, AsksFor}
-use Rattle.taco_top.specs.Causes.{IsAccepted, HasCycleFault, FailsToWrite, Refuses}
+use Rattle.taco_top.specs.Written.{IsAccepted}
+use Rattle.taco_top.specs.Refused.{HasCycleFault, FailsToWrite, Refuses}
 use Rattle.taco_top.specs.Ends.{Ends, Ending, Written, Printed, Refused, Cause, status_of_end}
 use Rattle.taco_top.proofs.WholeLaws.{one_request}
 
@@ -57,7 +58,7 @@ module _ (words : List (List ℕ)) (files files' : FolderState) (out out' : Sink
       accepted.is_order
 
   not_failed : (path : Option (List ℕ)) → FailsToWrite words files files' out out' path → ⊥
-  not_failed path (inl is) = apart (same_task is.computed.request is.computed.operands.accepted.asks) is.task_is
+  not_failed path (inl is) = apart (same_task is.values.request is.values.operands.accepted.asks) is.task_is
   not_failed path (inr is) = no_out is.1.puts.cause.0.rose
 
   kernel_refused : (why : Fault) → Refuses words files files' out out' why → why ≡ fault.Memory
@@ -68,7 +69,7 @@ module _ (words : List (List ℕ)) (files files' : FolderState) (out out' : Sink
   kernel_refused (fault.Named s (named.Cycle cycle)) is = absurd (no_cycle s cycle is.stops.1)
   kernel_refused (fault.Named s (named.Range why)) is =
       absurd (no_files (same_task is.stops.request is.stops.operands.accepted.asks) is.stops.operands.reads)
-  kernel_refused (fault.Named s (named.SizeLimit tensor level count)) is =
+  kernel_refused (fault.Named s (named.SizeLimit large)) is =
       absurd (no_files (same_task is.stops.request is.stops.operands.accepted.asks) is.stops.operands.reads)
   kernel_refused (fault.WorkspaceLimit count) is =
       absurd (no_files (same_task is.stops.request is.stops.operands.accepted.asks) is.stops.operands.reads)
@@ -109,7 +110,7 @@ module _ (words : List (List ℕ)) (files files' : FolderState) (out out' : Sink
   by_binding s why (t, rest, names, other) = no_statement names.line
 
   unfailed : (path : Option (List ℕ)) → FailsToWrite words files files' out out' path → ⊥
-  unfailed path (inl is) = no_statement is.computed.operands.accepted.asks.names.line
+  unfailed path (inl is) = no_statement is.values.operands.accepted.asks.names.line
   unfailed path (inr is) = no_out is.1.puts.cause.0.rose
 
   workload_refused : (why : Fault) → Refuses words files files' out out' why → why ≡ fault.Memory
@@ -119,7 +120,7 @@ module _ (words : List (List ℕ)) (files files' : FolderState) (out out' : Sink
   workload_refused (fault.Named s (named.Binding why)) is = absurd (by_binding s why is.stops.refused)
   workload_refused (fault.Named s (named.Cycle cycle)) is = absurd (no_statement is.stops.1.asks.names.line)
   workload_refused (fault.Named s (named.Range why)) is = absurd (no_statement is.stops.operands.accepted.asks.names.line)
-  workload_refused (fault.Named s (named.SizeLimit tensor level count)) is =
+  workload_refused (fault.Named s (named.SizeLimit large)) is =
       absurd (no_statement is.stops.operands.accepted.asks.names.line)
   workload_refused (fault.WorkspaceLimit count) is = absurd (no_statement is.stops.operands.accepted.asks.names.line)
   workload_refused (fault.ReadFault path) is = absurd (no_statement is.stops.accepted.asks.names.line)

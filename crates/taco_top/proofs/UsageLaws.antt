@@ -18,7 +18,8 @@ use Rattle.refusals.specs.declared.fault.Fault.{Fault}
 use Rattle.refusals.specs.declared.fault.Fault.TheVariants as fault
 use Rattle.command_line.specs.CommandLine.{CommandLine, command_line_of}
 use Rattle.taco_top.specs.Asked.{IsRefusedByWords}
-use Rattle.taco_top.specs.Causes.{FailsToWrite, Tells}
+use Rattle.taco_top.specs.Told.{Tells}
+use Rattle.taco_top.specs.Refused.{FailsToWrite}
 use Rattle.taco_top.specs.Ends.{Ends, Ending, Written, Printed, Refused, Cause, status_of_end}
 
 apart : {A : Type 0} {x : A} → None ≡ Some x → ⊥
@@ -51,7 +52,7 @@ named_not_two (named.Range (range.NoRange var)) is = cc
 named_not_two (named.Range (range.RangeConflict var first other)) is = cc
 named_not_two (named.Range (range.OutOfRange tensor coordinate exact)) is = cc
 named_not_two (named.Range (range.Memory error)) is = cc
-named_not_two (named.SizeLimit tensor level count) is = cc
+named_not_two (named.SizeLimit large) is = cc
 
 module _ (words : List (List ℕ)) (files files' : FolderState) (out out' : SinkState) where
   told : (ended : Ending) → 2 ≡ status_of_end ended → Cause words files files' out out' ended → command_line_of words ≡ None
@@ -75,12 +76,12 @@ module _ (words : List (List ℕ)) (files files' : FolderState) (out out' : Sink
     -- there is no text for them
     nothing_told : {text : List ℕ} → Tells words files files' text → ⊥
     nothing_told (inl is) = never is.accepted.asks.names.line
-    nothing_told (inr (inl is)) = never is.computed.operands.accepted.asks.names.line
+    nothing_told (inr (inl is)) = never is.values.operands.accepted.asks.names.line
     nothing_told (inr (inr is)) = never is.line
 
     found : (ended : Ending) → Cause words files files' out out' ended
         → (status_of_end ended ≡ 2) ⊎ (status_of_end ended ≡ 5)
-    found (Written turns) cause = absurd (never cause.computed.operands.accepted.asks.names.line)
+    found (Written turns) cause = absurd (never cause.written.values.operands.accepted.asks.names.line)
     found Printed cause = absurd (nothing_told cause.tells)
     found (Refused fault.Usage) cause = inl refl
     found (Refused (fault.Notation why)) cause = by cause.stops.refused
@@ -99,7 +100,7 @@ module _ (words : List (List ℕ)) (files files' : FolderState) (out out' : Sink
         by (task, rest, names, is) = absurd (never names.line)
     found (Refused (fault.Named s (named.Cycle cycle))) cause = absurd (never cause.stops.1.asks.names.line)
     found (Refused (fault.Named s (named.Range why))) cause = absurd (never cause.stops.operands.accepted.asks.names.line)
-    found (Refused (fault.Named s (named.SizeLimit tensor level count))) cause =
+    found (Refused (fault.Named s (named.SizeLimit large))) cause =
         absurd (never cause.stops.operands.accepted.asks.names.line)
     found (Refused (fault.WorkspaceLimit count)) cause = absurd (never cause.stops.operands.accepted.asks.names.line)
     found (Refused (fault.ReadFault path)) cause = absurd (never cause.stops.accepted.asks.names.line)
@@ -108,7 +109,7 @@ module _ (words : List (List ℕ)) (files files' : FolderState) (out out' : Sink
     found (Refused (fault.WriteFault path)) cause = absurd (by cause)
       where
         by : FailsToWrite words files files' out out' (option_map (λ p. p.now) path) → ⊥
-        by (inl is) = never is.computed.operands.accepted.asks.names.line
+        by (inl is) = never is.values.operands.accepted.asks.names.line
         by (inr is) = nothing_told is.1.tells
     found (Refused fault.Memory) cause = inr refl
 

@@ -25,12 +25,12 @@ use Rattle.iteration_graph.specs.Edges.{statement_edges}
 use Rattle.iteration_graph.proofs.OrderLaws.{no_order}
 use Rattle.taco_compiler.specs.Compiled.{HasCycle}
 use Rattle.operand_packing.specs.Runnable.{told_ranges}
-use Rattle.kernel_runs.specs.Runs.{MayRefuse, IsTooLarge, NeedsPairs, AllFit, IsOfSizes}
+use Rattle.kernel_runs.specs.Runs.{MayRefuseRun, IsLargeLevel, NeedsPairs, AllFit, IsOfSizes}
+use Rattle.operand_packing.specs.declared.large_level.LargeLevel.{LargeLevel}
 use Rattle.kernel_runs.specs.declared.fault.RunFault.{RunFault}
 use Rattle.kernel_runs.specs.declared.fault.RunFault.TheVariants.{SizeLimit, Workspace}
 use Rattle.kernel_runs.proofs.Fits.{none_refused}
 use Rattle.result_files.specs.ResultText.{IsResultText}
-use Rattle.kernel_code.specs.declared.syntax.Turns.{Turns}
 use Rattle.result_files.specs.Writes.{PutsPart}
 use Rattle.result_files.specs.declared.refusal.WriteRefusal.TheVariants as write
 use Rattle.result_files.proofs.OneText.{one_text}
@@ -41,9 +41,9 @@ use Rattle.refusals.specs.Lines.{status_of}
 use Rattle.taco_top.specs.Asked.{IsRefusedByWords, IsWant}
 use Rattle.taco_top.proofs.OneRequest as request
 use Rattle.taco_top.specs.Run.{Request, AsksFor, path_of}
-use Rattle.taco_top.specs.Causes.{means, asked_orders, asked_paths, HasOperands, IsComputed, result_ranges, result_value}
-use Rattle.taco_top.specs.Causes.{StopsReading, HasCycleFault, HasRangeFault, HasLargeLevel, HasManyPairs, Stops}
-use Rattle.taco_top.specs.Causes.{IsWritten, IsUnwritten, IsUnprinted, FailsToWrite}
+use Rattle.taco_top.specs.Written.{means, asked_orders, asked_paths, HasOperands, HasResult, result_ranges, result_value, IsWritten}
+use Rattle.taco_top.specs.Refused.{StopsReading, HasCycleFault, HasRangeFault, HasLargeLevel}
+use Rattle.taco_top.specs.Refused.{HasManyPairs, Stops, IsUnwritten, IsUnprinted, FailsToWrite}
 use Rattle.taco_top.specs.Ends.{Ends, Ending, Written, Printed, Refused, Cause, status_of_end}
 use Rattle.taco_top.specs.Whole.{IsWhole, modes_told, bound_told}
 
@@ -120,7 +120,7 @@ module _ (words : List (List ℕ)) (files : FolderState) (whole : IsWhole words 
 
     -- no size passes a limit
     no_size_fault : (why : RunFault)
-        → MayRefuse ring whole.request.statement whole.request.formats whole.request.given entries bounds why → IsOfSizes why → ⊥
+        → MayRefuseRun ring whole.request.statement whole.request.formats whole.request.given entries bounds why → IsOfSizes why → ⊥
     no_size_fault why may of_sizes =
         none_refused ring whole.request.statement whole.request.formats whole.request.given entries bounds whole.ranges why
         told_there
@@ -147,14 +147,12 @@ module _ (words : List (List ℕ)) (files : FolderState) (whole : IsWhole words 
         subst (λ q. told_ranges q.statement q.given is.bounds ≡ Ok whole.ranges) (sym r) there in
         apart (sym here ∙ ap (λ u. told_ranges u is.request.given is.bounds) is.statement_is ∙ is.is)
 
-    no_level_fault : (s : Statement) (tensor level count : ℕ) → HasLargeLevel words files new s tensor level count → ⊥
-    no_level_fault s tensor level count is =
-        no_size_fault new is.entries is.bounds (operands_at new is.request is.entries is.bounds is.operands)
-        (SizeLimit tensor level count)
-        (subst (λ q. IsTooLarge ring q.statement q.formats q.given is.entries is.bounds tensor level count)
+    no_level_fault : (s : Statement) (large : LargeLevel) → HasLargeLevel words files new s large → ⊥
+    no_level_fault s large is =
+        no_size_fault new is.entries is.bounds (operands_at new is.request is.entries is.bounds is.operands) (SizeLimit large)
+        (subst (λ q. IsLargeLevel ring q.statement q.formats q.given is.entries is.bounds large)
         (request_is is.request is.operands.accepted.asks)
-        (subst (λ u. IsTooLarge ring u is.request.formats is.request.given is.entries is.bounds tensor level count)
-        (sym is.statement_is) is.large))
+        (subst (λ u. IsLargeLevel ring u is.request.formats is.request.given is.entries is.bounds large) (sym is.statement_is) is.is))
         tt
 
     no_pairs_fault : (count : ℕ) → HasManyPairs words files new count → ⊥
@@ -180,7 +178,7 @@ module _ (words : List (List ℕ)) (files : FolderState) (whole : IsWhole words 
     never_stops (fault.Named s (named.Binding why)) is = absurd (never_by_words (fault.Named s (named.Binding why)) is.refused)
     never_stops (fault.Named s (named.Cycle cycle)) (same, is) = absurd (no_cycle_fault s cycle is)
     never_stops (fault.Named s (named.Range why)) is = absurd (no_range_fault s why is)
-    never_stops (fault.Named s (named.SizeLimit tensor level count)) is = absurd (no_level_fault s tensor level count is)
+    never_stops (fault.Named s (named.SizeLimit large)) is = absurd (no_level_fault s large is)
     never_stops (fault.WorkspaceLimit count) is = absurd (no_pairs_fault count is)
     never_stops (fault.ReadFault path) is =
         absurd (told_others means files new (asked_orders whole.request) (asked_paths whole.request) (operand.ReadFault path) whole.told
@@ -235,7 +233,7 @@ module _ (words : List (List ℕ)) (files : FolderState) (whole : IsWhole words 
       inr (ap status_of (never_stops files' no_read (fault.BadFile path line kind) cause.stops))
 
   -- ---- the text is that of the values over the operands that the folder tells
-  text_at : (new : FolderState) (c : IsComputed words files new) (text : List ℕ)
+  text_at : (new : FolderState) (c : HasResult words files new) (text : List ℕ)
       → IsResultText ring (path_of c.request.files 0) (result_ranges c.request.statement c.ranges)
       (result_value c.request.statement c.entries c.ranges) text
       → IsResultText ring (path_of whole.request.files 0) (result_ranges whole.request.statement whole.ranges)
@@ -262,15 +260,15 @@ whole_ends words files files' out out' err err' status whole no_read no_write no
     (ends_well (map string_bytes words) files whole files' out out' ends.ended no_read no_write no_out ends.cause)
 
 pub whole_text : (words : List (List ℕ)) (files files' others others' : FolderState) (out out' away away' : SinkState)
-    (turns made : Turns) → IsWhole words files.holds → others.holds ≡ files.holds
-    → (first : IsWritten words files files' out out' turns) → (second : IsWritten words others others' away away' made)
+    → IsWhole words files.holds → others.holds ≡ files.holds
+    → (first : IsWritten words files files' out out') → (second : IsWritten words others others' away away')
     → first.writes.text ≡ second.writes.text
-whole_text words files files' others others' out out' away away' turns made whole holds first second =
+whole_text words files files' others others' out out' away away' whole holds first second =
     one_text ring ring_laws (path_of whole.request.files 0) (result_ranges whole.request.statement whole.ranges)
     (result_value whole.request.statement (map (λ operand. operand.entries) whole.operands) whole.ranges)
     first.writes.text second.writes.text
-    (text_at words files whole first.between first.computed first.writes.text first.writes.text_is)
-    (text_at words others there second.between second.computed second.writes.text second.writes.text_is)
+    (text_at words files whole first.between first.values first.writes.text first.writes.text_is)
+    (text_at words others there second.between second.values second.writes.text second.writes.text_is)
   where
     there : IsWhole words others.holds
     there = record {

@@ -1,4 +1,6 @@
--- What a call of the program shows: its status, its line on standard error, and why it ends so.
+-- What a call of the program shows: its status, its line on standard error, and why it ends so, in three parts. `Written.antt` says what is
+-- written of a statement's values; `Told.antt` what a kernel's turns and storage say, behind a result and in the printed texts;
+-- `Refused.antt` what stands after a refusal, and why.
 use Rattle.std.specs.Prelude.{◌≡◌, ℕ, ◌⊎◌, List, [], String, map, string_bytes}
 use Rattle.std.specs.declared.alloc.Global.{Global}
 use Rattle.outside.specs.Count.{Rose}
@@ -9,7 +11,8 @@ use Rattle.kernel_code.specs.declared.syntax.Turns.{Turns}
 use Rattle.reports.specs.Reports.{turns_line}
 use Rattle.refusals.specs.Lines.{status_of, line_of}
 use Rattle.refusals.specs.declared.fault.Fault.{Fault}
-use Rattle.taco_top.specs.Causes.{IsWritten, IsPrinted, Refuses}
+use Rattle.taco_top.specs.Told.{IsWrittenIn, IsPrinted}
+use Rattle.taco_top.specs.Refused.{Refuses}
 
 -- a result was written, of a run of so many turns; a text was printed; or a fault is told
 pub data Ending : Type 0 where
@@ -30,7 +33,7 @@ line_of_end (Refused why) = line_of why
 
 -- why a command ends so
 abbrev pub Cause : List (List ℕ) → FolderState → FolderState → SinkState → SinkState → Ending → Type 0
-Cause words files files' out out' (Written turns) = IsWritten words files files' out out' turns
+Cause words files files' out out' (Written turns) = IsWrittenIn words files files' out out' turns
 Cause words files files' out out' Printed = IsPrinted words files files' out out'
 Cause words files files' out out' (Refused why) = Refuses words files files' out out' why
 

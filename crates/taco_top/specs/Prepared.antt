@@ -1,6 +1,5 @@
 -- What is told between the parts of a command: how it ends, why a statement isn't computed, and what was computed.
 use Rattle.std.specs.Prelude.{◌≡◌, ℕ, List, Option, None, Result, Ok, Err, Vec, length, slice_index}
-use Rattle.std.specs.Option.{option_map}
 use Rattle.std.specs.declared.alloc.Global.{Global}
 use Rattle.numbers.specs.Ring.{ring}
 use Rattle.outside.specs.Folder.{FolderState}
@@ -9,7 +8,8 @@ use Rattle.format_spec.specs.declared.format.FormatLevel.{FormatLevel}
 use Rattle.index_notation.specs.declared.syntax.Statement.{Statement}
 use Rattle.expr_terms.specs.declared.bound.Bound.{Bound}
 use Rattle.operand_packing.specs.Runnable.{told_ranges}
-use Rattle.kernel_runs.specs.Runs.{IsTensorOf, IsTooLarge, NeedsPairs}
+use Rattle.kernel_runs.specs.Runs.{IsTensorOf, IsLargeLevel, NeedsPairs}
+use Rattle.bindings.specs.Tables.{path_to}
 use Rattle.result_files.specs.EntriesText.{MayBeWritten}
 use Rattle.result_files.specs.ResultText.{asks_matrix}
 use Rattle.storage_arrays.specs.Arrays.{AreDone}
@@ -19,7 +19,8 @@ use Rattle.command_line.specs.declared.Task.{Task}
 use Rattle.refusals.specs.declared.fault.NamedFault.TheVariants as named
 use Rattle.refusals.specs.declared.fault.Fault.{Fault}
 use Rattle.refusals.specs.declared.fault.Fault.TheVariants as fault
-use Rattle.taco_top.specs.Causes.{IsComputed}
+use Rattle.taco_top.specs.Written.{HasResult}
+use Rattle.taco_top.specs.Told.{IsComputed}
 use Rattle.taco_top.specs.Ends.{Ending, Written, Printed, Refused}
 use Rattle.taco_top.specs.Run.{path_of}
 use Rattle.taco_top.specs.declared.computing.Computed.{Computed}
@@ -41,25 +42,26 @@ end_of_printing (Err (write.Memory error)) = Refused fault.Memory
 -- why a statement isn't computed over these operands
 abbrev pub IsUncomputed : Statement → List (List FormatLevel) → List (Option ℕ) → List Entries → List (Vec Bound Global) → Fault → Type 0
 IsUncomputed s formats given entries bounds (fault.Named t (named.Range why)) = (t ≡ s) × (told_ranges s given bounds ≡ Err why)
-IsUncomputed s formats given entries bounds (fault.Named t (named.SizeLimit tensor level count)) =
-    (t ≡ s) × IsTooLarge ring s formats given entries bounds tensor level count
+IsUncomputed s formats given entries bounds (fault.Named t (named.SizeLimit large)) =
+    (t ≡ s) × IsLargeLevel ring s formats given entries bounds large
 IsUncomputed s formats given entries bounds (fault.WorkspaceLimit count) = NeedsPairs ring s formats given entries bounds count
 IsUncomputed s formats given entries bounds fault.Memory = Unit {0}
 IsUncomputed s formats given entries bounds _ = ⊥
 
 -- what the words ask for was computed, for this task, and this is kept of it
 pub record IsPrepared (words : List (List ℕ)) (task : Task) (old new : FolderState) (kept : Computed) : Type 0 where
-  pub computed : IsComputed words old new
-  pub task_is : computed.request.task ≡ task
-  pub path_is : path_of computed.request.files 0 ≡ option_map (λ path. path.now) kept.path
-  pub statement_is : computed.request.statement ≡ kept.statement
-  pub formats_are : computed.request.formats ≡ kept.formats.items
+  pub values : HasResult words old new
+  pub computed : IsComputed words old new values
+  pub task_is : values.request.task ≡ task
+  pub path_is : path_of values.request.files 0 ≡ path_to kept.file
+  pub statement_is : values.request.statement ≡ kept.statement
+  pub formats_are : values.request.formats ≡ kept.formats.items
   pub each_format : length kept.formats.items ≡ length kept.statement.tensors
   pub order_is : computed.order ≡ kept.compiled.order
   pub kernel_is : computed.kernel ≡ kept.compiled.kernel
   pub storage_is : computed.tensor ≡ kept.result.tensor
   pub turns_are : computed.turns ≡ kept.result.turns
-  pub tensor : IsTensorOf ring computed.request.statement computed.entries (slice_index computed.ranges) kept.result.shape
+  pub tensor : IsTensorOf ring values.request.statement values.entries (slice_index values.ranges) kept.result.shape
       kept.result.entries
-  pub written : MayBeWritten (asks_matrix (option_map (λ path. path.now) kept.path)) kept.result.shape kept.result.entries
+  pub written : MayBeWritten (asks_matrix (path_to kept.file)) kept.result.shape kept.result.entries
   pub finished : AreDone 1 kept.result.tensor.levels

@@ -11,7 +11,7 @@ use Rattle.operand_files.specs.Decoded.{Operand}
 use Rattle.operand_files.specs.Laws.{AreTold, told_operands}
 use Rattle.kernel_runs.specs.Runs.{AllFit}
 use Rattle.taco_top.specs.Asked.{needs_files}
-use Rattle.taco_top.specs.Causes.{IsAccepted, asked_orders, asked_paths, means}
+use Rattle.taco_top.specs.Written.{IsAccepted, asked_orders, asked_paths, means}
 use Rattle.taco_top.specs.Run.{Request}
 
 -- what the modes of a tensor tell, where tensor 1, tensor 2 and so on stand in a row; tensor 0, the result, tells nothing

@@ -2,7 +2,9 @@
 ghost use Rattle.std.specs.Prelude.{◌≡◌, ℕ, List, IfOk, IfErr};
 ghost use Rattle.index_notation.specs.Statement.{IsNumbered};
 ghost use Rattle.outside.specs.Folder.{FolderState};
-ghost use Rattle.taco_top.specs.Causes.{IsAccepted, IsKernelOf, Stops};
+ghost use Rattle.taco_top.specs.Written.{IsAccepted};
+ghost use Rattle.taco_top.specs.Told.{IsKernelOf};
+ghost use Rattle.taco_top.specs.Refused.{Stops};
 ghost use Rattle.taco_top.specs.Run.{AsksFor, request_of};
 
 use crate::asked::Asked;

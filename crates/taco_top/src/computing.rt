@@ -8,28 +8,30 @@ ghost use Rattle.index_notation.specs.Statement.{IsNumbered};
 ghost use Rattle.expr_terms.specs.declared.bound.Bound.{Bound};
 ghost use Rattle.operand_files.specs.Reads.{OnlyReads};
 ghost use Rattle.taco_top.specs.Asked.{needs_files};
-ghost use Rattle.kernel_runs.specs.Runs.{MayRefuse};
-ghost use Rattle.taco_top.specs.Causes.{IsAccepted, IsKernelOf, Stops};
+ghost use Rattle.kernel_runs.specs.Runs.{MayRefuseRun};
+ghost use Rattle.taco_top.specs.Written.{IsAccepted};
+ghost use Rattle.taco_top.specs.Told.{IsKernelOf};
+ghost use Rattle.taco_top.specs.Refused.{Stops};
 ghost use Rattle.taco_top.specs.Run.{request_of};
 ghost use Rattle.taco_top.specs.Prepared.{IsPrepared, IsUncomputed};
 
 use crate::asked::Asked;
 use crate::asking::Accepted;
-use crate::operands::{operands_of, path_of};
-use bindings::Bindings;
+use crate::operands::{file_of, operands_of};
+use bindings::{Bindings, TensorFile};
 use format_spec::Format;
 use index_notation::Statement;
 use kernel_runs::{KernelRun, RunFault, run_kernel};
 use numbers::Ring;
 use outside::Folder;
 use refusals::{Fault, NamedFault};
-use std::alloc::{AllocError, Global};
+use std::alloc::Global;
 use taco_compiler::Compiled;
 
-/// A statement that its kernel computed, with what a report tells of it, and the path that the result goes to, if one is given.
+/// A statement that its kernel computed, with what a report tells of it, and the file that the result goes to, if one is given.
 #[derive(Drop)]
 pub(crate) struct Computed<'a> {
-    pub path: Option<&'a str>,
+    pub file: Option<TensorFile<'a>>,
     pub statement: Statement,
     pub formats: Vec<Format>,
     pub compiled: Compiled,
@@ -39,39 +41,20 @@ pub(crate) struct Computed<'a> {
 /// The refusal of a run, told by the names of the statement.
 fn fault_of<'a>(statement: Statement, why: RunFault) -> Fault<'a>
     ensures { (formats : List (List FormatLevel)) (given : List (Option ℕ)) (entries : List Entries) (bounds : List (Vec Bound AGlobal))
-        → MayRefuse ring statement formats given entries bounds why → IsUncomputed statement formats given entries bounds result }
+        → MayRefuseRun ring statement formats given entries bounds why → IsUncomputed statement formats given entries bounds result }
 {
     match why {
         RunFault::Range(why) => Fault::Named {
             statement,
             fault: NamedFault::Range(why),
         },
-        RunFault::SizeLimit {
-            tensor,
-            level,
-            count,
-        } => Fault::Named {
+        RunFault::SizeLimit(large) => Fault::Named {
             statement,
-            fault: NamedFault::SizeLimit {
-                tensor,
-                level,
-                count,
-            },
+            fault: NamedFault::SizeLimit(large),
         },
         RunFault::Workspace { count } => Fault::WorkspaceLimit(count),
         RunFault::Memory(_) => Fault::Memory,
     }
-}
-
-/// The same formats once more. Refused for want of memory alone.
-fn copied(alloc: Global, formats: &[Format]) -> Result<Vec<Format>, AllocError>
-    ensures { IfOk result (λ copy. copy.items ≡ formats.now) }
-{
-    let mut copy = Vec::new(alloc);
-    for format in formats {
-        copy.push(format.copied())?;
-    }
-    Ok(copy)
 }
 
 /// Does all that comes before the first write: reads the operands, and runs the kernel. All memory of the program's own is taken
@@ -92,11 +75,7 @@ pub(crate) fn compute<'a, F: Folder>(
         → Stops words (F.state files.old) (F.state files.new) fault) }
 {
     let Accepted { asked, compiled } = accepted;
-    let path = path_of(&asked.bindings, 0);
-    let copy = match copied(alloc, asked.bindings.formats.as_slice()) {
-        Ok(copy) => copy,
-        Err(_) => return Err(Fault::Memory),
-    };
+    let file = file_of(&asked.bindings, 0);
     let operands = match operands_of(alloc, &asked, files) {
         Ok(operands) => operands,
         Err(fault) => return Err(fault),
@@ -114,15 +93,15 @@ pub(crate) fn compute<'a, F: Folder>(
     match run_kernel::<Ring>(
         alloc,
         &statement,
-        formats,
+        formats.as_slice(),
         &compiled.kernel,
         ranges.as_slice(),
         operands,
     ) {
         Ok(result) => Ok(Computed {
-            path,
+            file,
             statement,
-            formats: copy,
+            formats,
             compiled,
             result,
         }),

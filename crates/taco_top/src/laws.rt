@@ -10,10 +10,9 @@ ghost use Rattle.format_spec.specs.declared.format.FormatLevel.{FormatLevel};
 ghost use Rattle.index_notation.specs.declared.syntax.Statement.{Statement};
 ghost use Rattle.command_line.specs.declared.Task.{Task};
 ghost use Rattle.refusals.specs.declared.fault.Fault.{Fault};
-ghost use Rattle.kernel_code.specs.declared.syntax.Turns.{Turns};
 ghost use Rattle.command_line.specs.declared.Task.TheVariants as task;
 ghost use Rattle.taco_top.specs.Asked.{Asks, IsRefusedByWords, IsWant};
-ghost use Rattle.taco_top.specs.Causes.{IsAccepted, IsWritten};
+ghost use Rattle.taco_top.specs.Written.{IsAccepted, IsWritten};
 ghost use Rattle.taco_top.specs.Ends.{Ends};
 ghost use Rattle.taco_top.specs.Run.{Request};
 ghost use Rattle.taco_top.specs.Whole.{IsWhole};
@@ -54,8 +53,8 @@ pub fn whole_input_is_computed()
         → (Rose files.write_faults files'.write_faults → ⊥) → (Rose out.faults out'.faults → ⊥)
         → Ends words files files' out out' err err' status → (status ≡ 0) ⊎ (status ≡ 5) }
     ensures texts { (words : List (List ℕ)) (files files' others others' : FolderState) (out out' away away' : SinkState)
-        (turns made : Turns) → IsWhole words files.holds → others.holds ≡ files.holds
-        → (first : IsWritten words files files' out out' turns) → (second : IsWritten words others others' away away' made)
+        → IsWhole words files.holds → others.holds ≡ files.holds
+        → (first : IsWritten words files files' out out') → (second : IsWritten words others others' away away')
         → first.writes.text ≡ second.writes.text }
 {}
 

@@ -1,15 +1,15 @@
 //! The operands of what the words ask for, from their files.
 ghost use Rattle.std.specs.Prelude.{◌≡◌, ℕ, List, [], map, unwrap_or, true, IfOk, IfErr};
-ghost use Rattle.std.specs.Option.{option_map};
 ghost use Rattle.index_notation.specs.Statement.{IsNumbered};
-ghost use Rattle.bindings.specs.Tables.{file_in};
+ghost use Rattle.bindings.specs.Tables.{file_in, path_to, paths_in};
 ghost use Rattle.operand_files.specs.Reads.{OnlyReads};
 ghost use Rattle.taco_top.specs.Asked.{needs_files};
-ghost use Rattle.taco_top.specs.Causes.{IsAccepted, HasOperands, Stops};
+ghost use Rattle.taco_top.specs.Written.{IsAccepted, HasOperands};
+ghost use Rattle.taco_top.specs.Refused.{Stops};
 ghost use Rattle.taco_top.specs.Run.{orders_of as orders_of_operands, path_of as path_of_tensor, paths_of as paths_of_operands, request_of};
 
 use crate::asked::Asked;
-use bindings::{Bindings, order_of};
+use bindings::{Bindings, FileFormat, TensorFile, order_of};
 use index_notation::Statement;
 use numbers::Ring;
 use operand_files::{OperandFault, Operands, read_operands};
@@ -17,20 +17,23 @@ use outside::Folder;
 use refusals::Fault;
 use std::alloc::{AllocError, Global};
 
-/// The path of a tensor's file, if it has one.
-pub(crate) fn path_of<'a>(bindings: &Bindings<'a>, tensor: usize) -> Option<&'a str>
-    ensures { option_map (λ path. path.now) result ≡ path_of_tensor (map file_in bindings.now.files.entries) tensor }
+/// The file of a tensor, if it has one.
+pub(crate) fn file_of<'a>(bindings: &Bindings<'a>, tensor: usize) -> Option<TensorFile<'a>>
+    ensures { path_to result ≡ path_of_tensor (map file_in bindings.now.files.entries) tensor }
 {
     bindings.files.get(&tensor).copied()
 }
 
-/// The path of a tensor's file, empty where it has none.
-fn path_or_empty<'a>(bindings: &Bindings<'a>, tensor: usize) -> &'a str
-    ensures { result.now ≡ unwrap_or (path_of_tensor (map file_in bindings.now.files.entries) tensor) [] }
+/// The file of a tensor, with an empty path where it has none.
+fn file_or_unnamed<'a>(bindings: &Bindings<'a>, tensor: usize) -> TensorFile<'a>
+    ensures { result.path.now ≡ unwrap_or (path_of_tensor (map file_in bindings.now.files.entries) tensor) [] }
 {
-    match path_of(bindings, tensor) {
-        Some(path) => path,
-        None => "",
+    match file_of(bindings, tensor) {
+        Some(file) => file,
+        None => TensorFile {
+            path: "",
+            format: FileFormat::Coordinates,
+        },
     }
 }
 
@@ -45,20 +48,20 @@ fn orders_of(alloc: Global, statement: &Statement) -> Result<Vec<usize>, AllocEr
     Ok(orders)
 }
 
-/// The path of each operand's file.
-fn paths_of<'a>(
+/// The file of each operand.
+fn files_of<'a>(
     alloc: Global,
     statement: &Statement,
     bindings: &Bindings<'a>,
-) -> Result<Vec<&'a str>, AllocError>
-    ensures { IfOk result (λ paths. map (λ path. path.now) paths.items
+) -> Result<Vec<TensorFile<'a>>, AllocError>
+    ensures { IfOk result (λ files. paths_in files.items
         ≡ paths_of_operands statement.now (map file_in bindings.now.files.entries)) }
 {
-    let mut paths = Vec::new(alloc);
+    let mut files = Vec::new(alloc);
     for n in 0..statement.tensors.len().saturating_sub(1) {
-        paths.push(path_or_empty(bindings, n + 1))?;
+        files.push(file_or_unnamed(bindings, n + 1))?;
     }
-    Ok(paths)
+    Ok(files)
 }
 
 /// Reads the operands' files, each to its end, in the order of the tensors' numbers.
@@ -77,8 +80,8 @@ pub(crate) fn operands_of<'a, F: Folder>(
         → Stops words (F.state files.old) (F.state files.new) fault) }
 {
     let orders = orders_of(alloc, &asked.statement)?;
-    let paths = paths_of(alloc, &asked.statement, &asked.bindings)?;
-    match read_operands::<F, Ring>(alloc, files, orders.as_slice(), paths.as_slice()) {
+    let sources = files_of(alloc, &asked.statement, &asked.bindings)?;
+    match read_operands::<F, Ring>(alloc, files, orders.as_slice(), sources.as_slice()) {
         Ok(operands) => Ok(operands),
         Err(OperandFault::ReadFault(path)) => Err(Fault::ReadFault(path)),
         Err(OperandFault::FileBytes(path)) => Err(Fault::FileBytes(path)),

@@ -2,7 +2,8 @@
 ghost use Rattle.std.specs.Prelude.{◌≡◌, ℕ, List, map, string_bytes};
 ghost use Rattle.command_line.specs.declared.Task.TheVariants as task;
 ghost use Rattle.index_notation.specs.Statement.{IsNumbered};
-ghost use Rattle.taco_top.specs.Causes.{IsAccepted, IsKernelOf};
+ghost use Rattle.taco_top.specs.Written.{IsAccepted};
+ghost use Rattle.taco_top.specs.Told.{IsKernelOf};
 ghost use Rattle.taco_top.specs.Ends.{Cause, Ends};
 ghost use Rattle.taco_top.specs.Run.{AsksFor, request_of};
 ghost use Rattle.taco_top.specs.Prepared.{end_of};

@@ -1,19 +1,32 @@
 //! The writing of a result.
-ghost use Rattle.std.specs.Prelude.{ℕ, List};
+ghost use Rattle.std.specs.Prelude.{◌≡◌, ℕ, List};
+ghost use Rattle.std.specs.Option.{option_map};
 ghost use Rattle.outside.specs.Folder.{FolderState};
 ghost use Rattle.command_line.specs.declared.Task.TheVariants as task;
+ghost use Rattle.bindings.specs.Tables.{path_to};
 ghost use Rattle.operand_files.specs.Reads.{OnlyReads};
 ghost use Rattle.taco_top.specs.Ends.{Cause};
 ghost use Rattle.taco_top.specs.Prepared.{IsPrepared, end_of};
 
 use crate::computing::Computed;
 use crate::ending::Done;
+use bindings::TensorFile;
 use numbers::Ring;
 use outside::{Folder, Sink};
 use refusals::Fault;
 use result_files::{WriteRefusal, write_result};
 
-/// Writes the result: to `out`, or into the file of its path.
+/// The path of a file, if there is one.
+fn path_of<'a>(file: Option<TensorFile<'a>>) -> Option<&'a str>
+    ensures { option_map (λ path. path.now) result ≡ path_to file.entry }
+{
+    match file {
+        Some(file) => Some(file.path),
+        None => None,
+    }
+}
+
+/// Writes the result: to `out`, or into its file.
 pub(crate) fn write<'a, F: Folder, O: Sink>(
     files: &mut F,
     out: &mut O,
@@ -24,11 +37,11 @@ pub(crate) fn write<'a, F: Folder, O: Sink>(
         → IsPrepared words task.Run before (F.state files.old) computed.now
         → Cause words before (F.state files.new) (O.state out.old) (O.state out.new) (end_of result) }
 {
-    let path = computed.path;
+    let file = computed.file;
     let result = &computed.result;
-    match write_result::<Ring, F, O>(files, out, path, &result.shape, &result.entries) {
+    match write_result::<Ring, F, O>(files, out, file, &result.shape, &result.entries) {
         Ok(()) => Ok(Done::Written(result.turns)),
-        Err(WriteRefusal::Fault) => Err(Fault::WriteFault(path)),
+        Err(WriteRefusal::Fault) => Err(Fault::WriteFault(path_of(file))),
         Err(WriteRefusal::Memory(_)) => Err(Fault::Memory),
     }
 }

@@ -4,7 +4,7 @@ use Rattle.limits.specs.Limits.{greatest_position_count}
 use Rattle.limits.proofs.Limits.{workloads_are_ranges}
 use Rattle.numbers.specs.Ring.{ring}
 use Rattle.operand_packing.specs.Runnable.{IsRunnable}
-use Rattle.kernel_runs.specs.Runs.{MayRefuse}
+use Rattle.kernel_runs.specs.Runs.{MayRefuseRun}
 use Rattle.kernel_runs.proofs.Fits.{none_refused}
 use Rattle.generated_runs.specs.Workloads.{workload_statement, workload_formats}
 use Rattle.generated_runs.proofs.Fits.{refused_for_memory}
@@ -17,7 +17,7 @@ run_kernel-requires-clause-runnable c =
     let operands = c.args.operands.entries.items in
     let small : c.args.size ≤ greatest_position_count =
     (let few = c.requires.small in let ranges = workloads_are_ranges in omega (arith, few, ranges)) in
-    subst (λ s. IsRunnable s c.args.formats.items given operands c.args.operands.bounds.items) (sym c.requires.statement)
+    subst (λ s. IsRunnable s c.args.formats.now given operands c.args.operands.bounds.items) (sym c.requires.statement)
     (subst (λ formats. IsRunnable workload_statement formats given operands c.args.operands.bounds.items) (sym c.requires.formats)
     (subst (IsRunnable workload_statement workload_formats given operands) (sym c.requires.untold)
     (runnable c.args.size operands small c.requires.matrices)))
@@ -27,8 +27,8 @@ memory_of-requires c =
     let given = Some c.args.size ∷ Some c.args.size ∷ [] in
     let operands = c.args.operands.entries.items in
     refused_for_memory ring c.args.size operands c.requires.small c.requires.matrices none_refused c.in-Err.fault
-    (subst (λ bounds. MayRefuse ring workload_statement workload_formats given operands bounds c.in-Err.fault) c.requires.untold
-    (subst (λ formats. MayRefuse ring workload_statement formats given operands c.args.operands.bounds.items c.in-Err.fault)
+    (subst (λ bounds. MayRefuseRun ring workload_statement workload_formats given operands bounds c.in-Err.fault) c.requires.untold
+    (subst (λ formats. MayRefuseRun ring workload_statement formats given operands c.args.operands.bounds.items c.in-Err.fault)
     c.requires.formats
-    (subst (λ s. MayRefuse ring s c.args.formats.items given operands c.args.operands.bounds.items c.in-Err.fault)
+    (subst (λ s. MayRefuseRun ring s c.args.formats.now given operands c.args.operands.bounds.items c.in-Err.fault)
     c.requires.statement c.in-Err.ensures.refused)))

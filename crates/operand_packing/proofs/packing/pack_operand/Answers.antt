@@ -13,8 +13,10 @@ pack-requires-clause-inside g c =
 
 pub returns-in-Ok : goal.returns-in-Ok
 returns-in-Ok g c =
-    let packed = subst (λ ns. IsPackedFrom g.S.Semiring.arithmetic.zero c.args.format ns c.sum_up.new.entries.list c.in-Ok.packed)
-    c.shape_of-shape.ensures c.in-Ok.ensures in
+    let a = g.S.Semiring.arithmetic in
+    let summed = c.sum_up.new.entries.list in
+    let packed = subst (λ f. IsPackedFrom a.zero f c.args.sizes.now summed c.in-Ok.packed) c.copied.ensures
+    (subst (λ ns. IsPackedFrom a.zero c.copied.result ns summed c.in-Ok.packed) c.shape_of-shape.ensures c.in-Ok.ensures) in
     record {
       is_format = subst IsFormat packed.packed.format_is c.keeps_rules.ensures.whole.format;
       long = c.requires.long;
@@ -30,7 +32,9 @@ returns-in-Ok g c =
 
 pub returns-in-Err : goal.returns-in-Err
 returns-in-Err g c =
-    c.fault_of.ensures g.S.Semiring.arithmetic c.args.format c.args.sizes.now c.args.entries.now.list c.sum_up.new.entries.list
+    let summed = c.sum_up.new.entries.list in
+    c.fault_of.ensures g.S.Semiring.arithmetic c.args.format.now c.args.sizes.now c.args.entries.now.list summed
     (subst (λ n. AreSummed g.S.Semiring.arithmetic n c.args.entries.now.list c.sum_up.new.entries.list) c.requires.order
     c.in_ok-sum_up.ensures.summed)
-    (subst (λ ns. IsRefusalOf c.args.format ns c.sum_up.new.entries.list c.in-Err.refusal) c.shape_of-shape.ensures c.in-Err.ensures)
+    (subst (λ f. IsRefusalOf f c.args.sizes.now summed c.in-Err.refusal) c.copied.ensures
+    (subst (λ ns. IsRefusalOf c.copied.result ns summed c.in-Err.refusal) c.shape_of-shape.ensures c.in-Err.ensures))

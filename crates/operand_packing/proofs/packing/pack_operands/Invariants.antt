@@ -4,5 +4,4 @@ use Rattle.operand_packing.proofs.packing.pack_operands.Given as goal
 
 abbrev pub invariant-loop-number : goal.invariant-loop-number
 invariant-loop-number g l =
-    Packing g.S.Semiring.arithmetic l.statement l.initial.formats.items (slice_index l.ranges) l.initial.operands l.number
-    l.formats.items l.operands l.tensors.items
+    Packing g.S.Semiring.arithmetic l.statement l.formats (slice_index l.ranges) l.initial.operands l.number l.operands l.tensors.items

@@ -1,5 +1,5 @@
-use Rattle.std.proofs.Common.{◌≡◌, ℕ, List, subst, inl, inr, Bor}
-use Rattle.std.specs.Option.{option_map}
+use Rattle.std.proofs.Common.{◌≡◌, ℕ, List, subst, inl, inr}
+use Rattle.bindings.specs.Tables.{path_to}
 use Rattle.numbers.specs.Ring.{ring}
 use Rattle.tensor_map.specs.Entries.{value_at}
 use Rattle.result_files.specs.Writes.{RefusesResult}
@@ -18,7 +18,7 @@ returns-in-Err-Fault g c = λ words before reads is.
     let same : c.in-Err-Fault.field-0 ≡ write.Fault = cc in
     inl (unwritten words before (g.F.Folder.state c.args.files.now) (g.F.Folder.state c.write_result.new.files)
     (g.O.Sink.state c.args.out.now) (g.O.Sink.state c.write_result.new.out) c.args.computed.now reads is write.Fault
-    (subst (λ why. RefusesResult ring (option_map (λ (p : Bor (List ℕ)). p.now) c.args.computed.now.path)
+    (subst (λ why. RefusesResult ring (path_to c.args.computed.now.file)
     c.args.computed.now.result.shape (value_at ring c.args.computed.now.result.entries.list) (g.F.Folder.state c.args.files.now)
     (g.F.Folder.state c.write_result.new.files) (g.O.Sink.state c.args.out.now) (g.O.Sink.state c.write_result.new.out) why) same
     c.in-Err-Fault.ensures.refused))
@@ -28,12 +28,12 @@ returns-in-Err-Memory g c = λ words before reads is.
     let told = c.in-Err-Memory.field-0-is in
     let same : c.in-Err-Memory.field-0 ≡ (write.Memory c.in-Err-Memory.field-0-0) = cc in
     inr (inl (
-      option_map (λ (p : Bor (List ℕ)). p.now) c.args.computed.now.path,
+      path_to c.args.computed.now.file,
       c.in-Err-Memory.field-0-0,
       unwritten words before (g.F.Folder.state c.args.files.now) (g.F.Folder.state c.write_result.new.files)
           (g.O.Sink.state c.args.out.now) (g.O.Sink.state c.write_result.new.out) c.args.computed.now reads is
           (write.Memory c.in-Err-Memory.field-0-0)
-          (subst (λ why. RefusesResult ring (option_map (λ (p : Bor (List ℕ)). p.now) c.args.computed.now.path)
+          (subst (λ why. RefusesResult ring (path_to c.args.computed.now.file)
           c.args.computed.now.result.shape (value_at ring c.args.computed.now.result.entries.list) (g.F.Folder.state c.args.files.now)
           (g.F.Folder.state c.write_result.new.files) (g.O.Sink.state c.args.out.now) (g.O.Sink.state c.write_result.new.out) why) same
           c.in-Err-Memory.ensures.refused),

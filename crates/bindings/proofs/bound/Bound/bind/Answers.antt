@@ -21,9 +21,9 @@ returns-in_ok-insert-in-File c words text is said sound =
     let place = c.requires.number ∙ ap (λ w. number_in s (said_in w)) c.in-File.is in
     let known = said ∙ ap (λ w. Some (said_in w)) c.in-File.is in
     let without = sym (ap (λ w. fault_of_said s words (said_in w)) c.in-File.is) ∙ sound in
-    let new = file_is_new s words text c.args.self.now c.args.number c.in-File.name.now is c.in-File.path.now place without in
-    file_bound s words text c.args.self.now c.args.number c.in-File.name.now is c.in-File.path _ _ place known
-    (insert_entry-new nat_eq c.args.self.now.files c.args.number c.in-File.path new) c.in_ok-insert-in-File.ensures.entries refl refl
+    let new = file_is_new s words text c.args.self.now c.args.number c.in-File.name.now is c.in-File.file.path.now place without in
+    file_bound s words text c.args.self.now c.args.number c.in-File.name.now is c.in-File.file _ _ place known
+    (insert_entry-new nat_eq c.args.self.now.files c.args.number c.in-File.file new) c.in_ok-insert-in-File.ensures.entries refl refl
 
 pub returns-in-Range : goal.returns-in-Range
 returns-in-Range c words text is said sound =

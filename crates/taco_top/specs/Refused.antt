@@ -1,0 +1,138 @@
+-- What stands after a refusal, and why. Third of the three parts of what a command ends with (`Ends.antt`): each stage has causes of its
+-- own: the words, the loop order, the operands' files, the ranges and sizes, the writing of a result or the printing of a text.
+use Rattle.std.specs.Prelude.{◌≡◌, ℕ, ◌⊎◌, List, Option, None, Err, true, Vec}
+use Rattle.std.specs.declared.alloc.Global.{Global}
+use Rattle.std.specs.declared.alloc.AllocError.{AllocError}
+use Rattle.std.specs.Option.{option_map}
+use Rattle.numbers.specs.Ring.{ring}
+use Rattle.outside.specs.Folder.{FolderState}
+use Rattle.outside.specs.Sink.{SinkState}
+use Rattle.tensor_map.specs.Entries.{Entries}
+use Rattle.index_notation.specs.declared.syntax.Statement.{Statement}
+use Rattle.expr_terms.specs.declared.bound.Bound.{Bound}
+use Rattle.expr_terms.specs.declared.range_fault.RangeFault.{RangeFault}
+use Rattle.operand_files.specs.Reads.{OnlyReads, RefusedAtFault, RefusedAtLength, RefusedAtLine, OpensFirst, NoReadFails}
+use Rattle.taco_compiler.specs.Compiled.{HasCycle}
+use Rattle.operand_packing.specs.Runnable.{told_ranges}
+use Rattle.operand_packing.specs.declared.large_level.LargeLevel.{LargeLevel}
+use Rattle.kernel_runs.specs.Runs.{IsLargeLevel, NeedsPairs}
+use Rattle.result_files.specs.Writes.{PutsFront, RefusesResult}
+use Rattle.result_files.specs.declared.refusal.WriteRefusal.{WriteRefusal}
+use Rattle.result_files.specs.declared.refusal.WriteRefusal.TheVariants as write
+use Rattle.refusals.specs.declared.fault.NamedFault.TheVariants as named
+use Rattle.refusals.specs.declared.fault.Fault.{Fault}
+use Rattle.refusals.specs.declared.fault.Fault.TheVariants as fault
+use Rattle.command_line.specs.declared.Task.TheVariants as task
+use Rattle.taco_top.specs.Asked.{IsRefusedByWords, needs_files}
+use Rattle.taco_top.specs.Run.{Request, AsksFor, path_of}
+use Rattle.taco_top.specs.Written.{means, IsAccepted, asked_orders, asked_paths, HasOperands, HasResult, result_ranges, result_value}
+use Rattle.taco_top.specs.Told.{IsComputed, Tells}
+
+-- a statement is accepted, and no more was opened of its operands' files than the first of them, in order
+pub record OpensOperands (words : List (List ℕ)) (old new : FolderState) : Type 0 where
+  pub request : Request
+  pub accepted : IsAccepted words request
+  pub reads : needs_files request.task ≡ true
+  pub opens : OpensFirst old new (asked_paths request)
+  pub no_fault : NoReadFails old new
+
+-- the storage orders of the tensors have this cycle
+pub record HasCycleFault (words : List (List ℕ)) (s : Statement) (cycle : List ℕ) : Type 0 where
+  pub request : Request
+  pub statement_is : request.statement ≡ s
+  pub asks : AsksFor words request
+  pub is : HasCycle s request.formats cycle
+
+-- why the operands of what the words ask for aren't read
+pub record StopsReading (words : List (List ℕ)) (Why : (orders : List ℕ) (paths : List (List ℕ)) → Type 0) : Type 0 where
+  pub request : Request
+  pub accepted : IsAccepted words request
+  pub reads : needs_files request.task ≡ true
+  pub why : Why (asked_orders request) (asked_paths request)
+
+-- why the ranges of this statement don't agree
+pub record HasRangeFault (words : List (List ℕ)) (old new : FolderState) (s : Statement) (why : RangeFault) : Type 0 where
+  pub request : Request
+  pub statement_is : request.statement ≡ s
+  pub entries : List Entries
+  pub bounds : List (Vec Bound Global)
+  pub operands : HasOperands words old new request entries bounds
+  pub is : told_ranges s request.given bounds ≡ Err why
+
+-- this level has too many positions
+pub record HasLargeLevel (words : List (List ℕ)) (old new : FolderState) (s : Statement) (large : LargeLevel) : Type 0 where
+  pub request : Request
+  pub statement_is : request.statement ≡ s
+  pub entries : List Entries
+  pub bounds : List (Vec Bound Global)
+  pub operands : HasOperands words old new request entries bounds
+  pub is : IsLargeLevel ring s request.formats request.given entries bounds large
+
+-- the result's workspace needs too many pairs
+pub record HasManyPairs (words : List (List ℕ)) (old new : FolderState) (count : ℕ) : Type 0 where
+  pub request : Request
+  pub entries : List Entries
+  pub bounds : List (Vec Bound Global)
+  pub operands : HasOperands words old new request entries bounds
+  pub needs : NeedsPairs ring request.statement request.formats request.given entries bounds count
+
+-- no file was opened, and the words are refused so
+pub record RefusesWords (words : List (List ℕ)) (old new : FolderState) (why : Fault) : Type 0 where
+  pub folder_is : new ≡ old
+  pub refused : IsRefusedByWords words why
+
+-- why nothing is computed, and what of the folder was opened then
+abbrev pub Stops : List (List ℕ) → FolderState → FolderState → Fault → Type 0
+Stops words old new (fault.ReadFault path) = StopsReading words (λ orders paths. RefusedAtFault means old new orders paths path.now)
+Stops words old new (fault.FileBytes path) = StopsReading words (λ orders paths. RefusedAtLength means old new orders paths path.now)
+Stops words old new (fault.BadFile path line kind) =
+    StopsReading words (λ orders paths. RefusedAtLine means old new orders paths path.now line kind)
+Stops words old new (fault.Named s (named.Cycle cycle)) = (new ≡ old) × HasCycleFault words s cycle
+Stops words old new (fault.Named s (named.Range why)) = HasRangeFault words old new s why
+Stops words old new (fault.Named s (named.SizeLimit large)) = HasLargeLevel words old new s large
+Stops words old new (fault.WorkspaceLimit count) = HasManyPairs words old new count
+Stops words old new (fault.WriteFault path) = ⊥
+Stops words old new fault.Memory = (new ≡ old) ⊎ OpensOperands words old new
+Stops words old new why = RefusesWords words old new why
+
+-- the writing of a result that was computed was refused
+pub record IsUnwritten (words : List (List ℕ)) (files files' : FolderState) (out out' : SinkState) (path : Option (List ℕ))
+    (why : WriteRefusal) : Type 0 where
+  pub between : FolderState
+  pub only_reads : OnlyReads files between
+  pub values : HasResult words files between
+  pub computed : IsComputed words files between values
+  pub task_is : values.request.task ≡ task.Run
+  pub path_is : path_of values.request.files 0 ≡ path
+  pub refuses : RefusesResult ring path (result_ranges values.request.statement values.ranges)
+      (result_value values.request.statement values.entries values.ranges) between files' out out' why
+
+-- its printing was refused
+pub record IsUnprinted (words : List (List ℕ)) (files files' : FolderState) (out out' : SinkState) (why : WriteRefusal) : Type 0 where
+  pub text : List ℕ
+  pub only_reads : OnlyReads files files'
+  pub tells : Tells words files files' text
+  pub puts : PutsFront out out' text why
+
+-- nothing was written, and why
+pub record IsStopped (words : List (List ℕ)) (files files' : FolderState) (out out' : SinkState) (why : Fault) : Type 0 where
+  pub only_reads : OnlyReads files files'
+  pub stops : Stops words files files' why
+  pub out_is : out' ≡ out
+
+-- the writing of a result failed, to its path or to the output; or the printing of a text did, to the output
+abbrev pub FailsToWrite : List (List ℕ) → FolderState → FolderState → SinkState → SinkState → Option (List ℕ) → Type 0
+FailsToWrite words files files' out out' path = IsUnwritten words files files' out out' path write.Fault
+    ⊎ ((path ≡ None) × IsUnprinted words files files' out out' write.Fault)
+
+-- memory was wanted, before anything was written or in the writing
+abbrev pub WantsMemory : List (List ℕ) → FolderState → FolderState → SinkState → SinkState → Type 0
+WantsMemory words files files' out out' = IsStopped words files files' out out' fault.Memory
+    ⊎ ((path : Option (List ℕ)) × (error : AllocError) × IsUnwritten words files files' out out' path (write.Memory error))
+    ⊎ ((error : AllocError) × IsUnprinted words files files' out out' (write.Memory error))
+
+-- why a command ends with a fault
+abbrev pub Refuses : List (List ℕ) → FolderState → FolderState → SinkState → SinkState → Fault → Type 0
+Refuses words files files' out out' (fault.WriteFault path) = FailsToWrite words files files' out out' (option_map (λ path. path.now) path)
+Refuses words files files' out out' fault.Memory = WantsMemory words files files' out out'
+Refuses words files files' out out' why = IsStopped words files files' out out' why

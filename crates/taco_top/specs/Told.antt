@@ -1,0 +1,83 @@
+-- What a kernel's turns and storage say. Second of the three parts of what a command ends with (`Ends.antt`): which kernel computes a
+-- statement's values, how its run ends, and the texts that tell of kernels and runs.
+use Rattle.std.specs.Prelude.{◌≡◌, ℕ, ◌≤◌, ◌⊎◌, List, Some}
+use Rattle.numbers.specs.Ring.{ring}
+use Rattle.outside.specs.Folder.{FolderState}
+use Rattle.outside.specs.Sink.{SinkState}
+use Rattle.operand_files.specs.Reads.{OnlyReads}
+use Rattle.kernel_code.specs.declared.syntax.Kernel.{Kernel}
+use Rattle.kernel_code.specs.declared.syntax.Turns.{Turns}
+use Rattle.tensor_storage.specs.Storages.{Storage}
+use Rattle.kernel_stores.specs.Stores.{Store}
+use Rattle.taco_compiler.specs.Compiled.{IsOrder, IsCompiled}
+use Rattle.kernel_runs.specs.Runs.{IsStoreFor, RunsKernel}
+use Rattle.result_files.specs.Writes.{PutsAll}
+use Rattle.command_line.specs.CommandLine.{Workload as WorkloadLine, command_line_of}
+use Rattle.command_line.specs.declared.Task.TheVariants as task
+use Rattle.reports.specs.declared.workload.Workload.{Workload}
+use Rattle.generated_runs.specs.Workloads.{IsWorkload}
+use Rattle.reports.specs.Reports.{workload_line, kernel_report, run_report}
+use Rattle.taco_top.specs.Run.{Request}
+use Rattle.taco_top.specs.Written.{IsAccepted, HasResult, IsWritten}
+
+-- a kernel that is right for the statement and its formats, in their loop order
+pub record IsKernelOf (r : Request) (order : List ℕ) (kernel : Kernel) : Type 0 where
+  pub is_order : IsOrder r.statement r.formats order
+  pub compiled : IsCompiled ring r.statement r.formats order kernel
+
+-- a kernel that is right for the statement runs on the operands, packed in their formats. It leaves the storage that stands for the
+-- statement's values, named by its support
+pub record IsComputed (words : List (List ℕ)) (old new : FolderState) (values : HasResult words old new) : Type 0 where
+  pub order : List ℕ
+  pub kernel : Kernel
+  pub is_kernel : IsKernelOf values.request order kernel
+  pub store : Store
+  pub is_store : IsStoreFor ring values.request.statement values.request.formats values.ranges values.entries store
+  pub tensor : Storage
+  pub turns : Turns
+  pub runs : RunsKernel ring values.request.statement kernel store tensor turns
+
+-- the result of `run` was written, of a kernel's run of so many turns
+pub record IsWrittenIn (words : List (List ℕ)) (files files' : FolderState) (out out' : SinkState) (turns : Turns) : Type 0 where
+  pub written : IsWritten words files files' out out'
+  pub computed : IsComputed words files written.between written.values
+  pub turns_are : computed.turns ≡ turns
+
+-- `kernel`: that of a kernel which is right for the statement and its formats; no file is opened
+pub record TellsKernel (words : List (List ℕ)) (old new : FolderState) (text : List ℕ) : Type 0 where
+  pub request : Request
+  pub accepted : IsAccepted words request
+  pub task_is : request.task ≡ task.Kernel
+  pub order : List ℕ
+  pub kernel : Kernel
+  pub is_kernel : IsKernelOf request order kernel
+  pub folder_is : new ≡ old
+  pub text_is : text ≡ kernel_report request.statement order request.formats kernel
+
+-- `report`: that of a kernel, the turns of its run on the operands, and the storage that this run leaves
+pub record TellsRun (words : List (List ℕ)) (old new : FolderState) (text : List ℕ) : Type 0 where
+  pub values : HasResult words old new
+  pub computed : IsComputed words old new values
+  pub task_is : values.request.task ≡ task.Report
+  pub text_is : text ≡ run_report values.request.statement computed.order values.request.formats computed.kernel computed.turns
+      computed.tensor
+
+-- `gen`: the line of the generated workload of this size, whose merged loops turn no more often than it costs; no file is opened
+pub record TellsWorkload (words : List (List ℕ)) (old new : FolderState) (text : List ℕ) : Type 0 where
+  pub size : ℕ
+  pub line : command_line_of words ≡ Some (WorkloadLine size)
+  pub workload : Workload
+  pub is : IsWorkload size workload
+  pub few : workload.turns.merge ≤ workload.cost
+  pub folder_is : new ≡ old
+  pub text_is : text ≡ workload_line workload
+
+abbrev pub Tells : List (List ℕ) → FolderState → FolderState → List ℕ → Type 0
+Tells words old new text = TellsKernel words old new text ⊎ TellsRun words old new text ⊎ TellsWorkload words old new text
+
+-- the text was printed; no file is written
+pub record IsPrinted (words : List (List ℕ)) (files files' : FolderState) (out out' : SinkState) : Type 0 where
+  pub text : List ℕ
+  pub only_reads : OnlyReads files files'
+  pub tells : Tells words files files' text
+  pub puts : PutsAll out out' text

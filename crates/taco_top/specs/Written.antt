@@ -1,0 +1,69 @@
+-- What is written. First of the three parts of what a command ends with (`Ends.antt`): the values of a statement, by the words and the
+-- files of its operands, and where their text stands. It speaks of no kernel.
+use Rattle.std.specs.Prelude.{◌≡◌, ℕ, List, Ok, length, map, slice_index, true, Vec}
+use Rattle.std.specs.declared.alloc.Global.{Global}
+use Rattle.numbers.specs.Ring.{ring}
+use Rattle.outside.specs.Folder.{FolderState}
+use Rattle.outside.specs.Sink.{SinkState}
+use Rattle.tensor_map.specs.Entries.{Entries}
+use Rattle.index_notation.specs.declared.syntax.Statement.{Statement}
+use Rattle.expr_terms.specs.Operands.{operand_values}
+use Rattle.expr_terms.specs.Terms.{statement_value}
+use Rattle.expr_terms.specs.declared.bound.Bound.{Bound}
+use Rattle.operand_files.specs.Decoded.{operand_of}
+use Rattle.operand_files.specs.Reads.{OnlyReads, HaveRead, Decoding}
+use Rattle.taco_compiler.specs.Compiled.{IsOrder}
+use Rattle.operand_packing.specs.Runnable.{told_ranges}
+use Rattle.result_files.specs.Writes.{WritesResult}
+use Rattle.command_line.specs.declared.Task.TheVariants as task
+use Rattle.taco_top.specs.Asked.{needs_files}
+use Rattle.taco_top.specs.Run.{Request, AsksFor, path_of, orders_of, paths_of}
+
+-- what the bytes of an operand's file stand for, where values are added and multiplied modulo 2^64
+abbrev pub means : Decoding
+means = operand_of ring true
+
+-- the words ask for a statement, and it has a loop order by the formats of its tensors
+pub record IsAccepted (words : List (List ℕ)) (r : Request) : Type 0 where
+  pub asks : AsksFor words r
+  pub order : List ℕ
+  pub is_order : IsOrder r.statement r.formats order
+
+-- the orders and the paths of its operands' files
+abbrev pub asked_orders : Request → List ℕ
+asked_orders r = orders_of r.statement
+
+abbrev pub asked_paths : Request → List (List ℕ)
+asked_paths r = paths_of r.statement r.files
+
+-- and its operands were read: these are their entries, and what their modes give
+pub record HasOperands (words : List (List ℕ)) (old new : FolderState) (r : Request) (entries : List Entries)
+    (bounds : List (Vec Bound Global)) : Type 0 where
+  pub accepted : IsAccepted words r
+  pub reads : needs_files r.task ≡ true
+  pub read : HaveRead means old new (asked_orders r) (asked_paths r) (length (asked_paths r)) entries (map (λ b. b.items) bounds)
+
+-- and the ranges of its variables agree: so what the words ask for has a result
+pub record HasResult (words : List (List ℕ)) (old new : FolderState) : Type 0 where
+  pub request : Request
+  pub entries : List Entries
+  pub bounds : List (Vec Bound Global)
+  pub operands : HasOperands words old new request entries bounds
+  pub ranges : List ℕ
+  pub ranges_are : told_ranges request.statement request.given bounds ≡ Ok ranges
+
+-- the result's ranges, and its values
+abbrev pub result_ranges : Statement → List ℕ → List ℕ
+result_ranges s ranges = map (slice_index ranges) s.left.vars
+
+abbrev pub result_value : Statement → List Entries → List ℕ → List ℕ → ℕ
+result_value s entries ranges = statement_value ring s (operand_values ring entries) (slice_index ranges)
+
+-- the result of `run` was written: the text of its values; `between` is the folder as it was when the writing began
+pub record IsWritten (words : List (List ℕ)) (files files' : FolderState) (out out' : SinkState) : Type 0 where
+  pub between : FolderState
+  pub only_reads : OnlyReads files between
+  pub values : HasResult words files between
+  pub task_is : values.request.task ≡ task.Run
+  pub writes : WritesResult ring (path_of values.request.files 0) (result_ranges values.request.statement values.ranges)
+      (result_value values.request.statement values.entries values.ranges) between files' out out'
