@@ -39,7 +39,7 @@ impl Steps for Items<u64> {
 
 /// What is done with a list.
 pub(crate) fn tell_items(answer: &mut Answer, steps: &str) -> Option<()> {
-    let mut items = Items::new(answer.alloc());
+    let mut items: Items<u64> = Items::new(answer.alloc());
     tell_steps(answer, &mut items, steps)?;
     answer.show(items.as_slice());
     Some(())

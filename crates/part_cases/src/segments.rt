@@ -8,7 +8,7 @@ use std::alloc::AllocError;
 use std::fmt::Debug;
 
 /// What a segment has as elements.
-trait Element: Copy + Debug {
+pub(crate) trait Element: Copy + Debug {
     /// The element that a number stands for.
     fn of(word: u64) -> Self;
 }
@@ -153,7 +153,7 @@ fn tell_segment<T: Element>(answer: &mut Answer, steps: &str) -> Option<()> {
 
 /// What is done with two lists that grow together.
 pub(crate) fn tell_twin(answer: &mut Answer, steps: &str) -> Option<()> {
-    let mut twin = Twin::new(answer.alloc());
+    let mut twin: Twin<u64, u32> = Twin::new(answer.alloc());
     tell_steps(answer, &mut twin, steps)?;
     answer.show(twin.first());
     answer.tell(" ");

@@ -14,7 +14,8 @@ fn entries_of(answer: &mut Answer, text: &str, order: usize) -> Option<Entries> 
     if order as u64 > greatest_order_of_tensor() {
         return None;
     }
-    let mut entries = Entries::new(answer.alloc(), order).ok()?;
+    let entries = Entries::new(answer.alloc(), order);
+    let mut entries = answer.made(entries)?;
     for line in text.split(';') {
         let numbers = answer.numbers(line)?;
         if let Some((value, coords)) = numbers.as_slice().split_last() {
@@ -101,7 +102,8 @@ fn tell_drains<S: Semiring>(answer: &mut Answer, order: usize, rounds: &str) -> 
     if order as u64 > greatest_order_of_tensor() {
         return None;
     }
-    let mut workspace = CoordWorkspace::new(answer.alloc(), order).ok()?;
+    let workspace = CoordWorkspace::new(answer.alloc(), order);
+    let mut workspace = answer.made(workspace)?;
     for round in rounds.split('/') {
         let pairs = entries_of(answer, round, order)?;
         add_all(answer, &mut workspace, &pairs)?;

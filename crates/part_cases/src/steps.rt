@@ -1,5 +1,6 @@
 //! What is done with a buffer or a list, step by step.
 use case_files::{Answer, keyword_of};
+use std::alloc::AllocError;
 
 /// What steps are done with.
 pub(crate) trait Steps {
@@ -24,7 +25,7 @@ pub(crate) fn tell_steps<S: Steps>(
 }
 
 /// Tells that memory was refused, if it was.
-pub(crate) fn tell_refusal<E: Drop>(answer: &mut Answer, done: Result<(), E>) {
+pub(crate) fn tell_refusal(answer: &mut Answer, done: Result<(), AllocError>) {
     if done.is_err() {
         answer.tell(" refused");
     }

@@ -59,38 +59,32 @@ fn started<'a>(
     Ok(machine)
 }
 
-fn text_of(ending: Ending) -> &'static str {
-    match ending {
-        Ending::Ended => "ended",
-        Ending::Stuck => "stuck",
-        Ending::Over {
-            array: _array,
-            count: _count,
-        } => "over",
-        Ending::More => "more turns",
-    }
-}
-
 /// How a run ended, and its turns. Where a growth was refused, its count is told.
 fn tell_ending(answer: &mut Answer, ending: Ending, turns: Turns) {
-    answer.tell(text_of(ending));
-    answer.tell("\n");
-    if let Ending::Over { array, count } = ending {
-        answer.tell("    ");
-        answer.show(array);
-        answer.show_all(&[count]);
-        answer.tell("\n");
+    match ending {
+        Ending::Ended => answer.tell("ended\n"),
+        Ending::Stuck => answer.tell("stuck\n"),
+        Ending::More => answer.tell("more turns\n"),
+        Ending::Over { array, count } => {
+            answer.tell("over\n    ");
+            answer.show(array);
+            answer.show_all(&[count]);
+            answer.tell("\n");
+        }
     }
-    answer.tell("    merge ");
-    answer.show(turns.merge);
-    answer.tell(" skip ");
-    answer.show(turns.skip);
-    answer.tell(" gather ");
-    answer.show(turns.gather);
-    answer.tell(" drain ");
-    answer.show(turns.drain);
-    answer.tell(" probe ");
-    answer.show(turns.probe);
+    let counts = [
+        ("merge", turns.merge),
+        ("skip", turns.skip),
+        ("gather", turns.gather),
+        ("drain", turns.drain),
+        ("probe", turns.probe),
+    ];
+    answer.tell("   ");
+    for (kind, count) in &counts {
+        answer.tell(" ");
+        answer.tell(*kind);
+        answer.show_all(&[*count]);
+    }
     answer.tell("\n");
 }
 

@@ -69,7 +69,8 @@ fn entries_of(answer: &mut Answer, text: &str, order: usize) -> Option<Entries> 
     if order as u64 > greatest_order_of_tensor() {
         return None;
     }
-    let mut entries = Entries::new(answer.alloc(), order).ok()?;
+    let entries = Entries::new(answer.alloc(), order);
+    let mut entries = answer.made(entries)?;
     for line in text.split(';') {
         if let Some(value) = line.split_whitespace().nth(order) {
             let value = value.parse::<i64>().ok()?;
