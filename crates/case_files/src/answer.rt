@@ -2,7 +2,6 @@
 ghost use Rattle.std.specs.Prelude.{◌≡◌};
 ghost use Rattle.std.specs.Result.{result_ok};
 
-use bstr::ByteVec;
 use std::alloc::{AllocError, Global};
 use std::fmt::{Debug, Write};
 
@@ -47,10 +46,17 @@ impl Answer {
         }
     }
 
+    /// Adds bytes with escapes.
+    pub fn escape(&mut self, bytes: &[u8]) {
+        let added = write!(self.text, "{}", bytes.escape_ascii());
+        self.note(added);
+    }
+
     /// Adds bytes between double quotes, with escapes.
     pub fn quote(&mut self, bytes: &[u8]) {
-        let added = write!(self.text, "\"{}\"", bytes.escape_ascii());
-        self.note(added);
+        self.tell("\"");
+        self.escape(bytes);
+        self.tell("\"");
     }
 
     fn note(&mut self, added: Result<(), AllocError>) {
@@ -70,22 +76,6 @@ impl Answer {
                 None
             }
         }
-    }
-
-    /// The numbers of a text, parted by blanks.
-    pub fn numbers(&mut self, text: &str) -> Option<Vec<u64>> {
-        let mut numbers = Vec::new(self.alloc);
-        for word in text.split_whitespace() {
-            let pushed = numbers.push(word.parse().ok()?);
-            self.made(pushed)?;
-        }
-        Some(numbers)
-    }
-
-    /// The bytes that a text with escapes stands for.
-    pub fn bytes(&mut self, text: &str) -> Option<Vec<u8>> {
-        let bytes = Vec::unescape_bytes(self.alloc, text);
-        self.made(bytes)
     }
 
     pub(crate) fn wants_memory(&self) -> bool {

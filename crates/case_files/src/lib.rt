@@ -8,4 +8,4 @@ mod running;
 mod texts;
 
 pub use answer::Answer;
-pub use running::{Cases, keyword_of, run_answers, run_lines};
+pub use running::{Cases, keyword_of, run_lines};

@@ -1,7 +1,32 @@
-//! Texts and words, as case files write them.
+//! Numbers, words and texts, as case files write them.
 use crate::answer::Answer;
 
+/// What an escape stands for whose backslash is left out, and what stands behind it.
+fn unescaped(text: &str) -> Option<(u8, &str)> {
+    if let Some(digits) = text.strip_prefix('x') {
+        let (digits, behind) = digits.split_at_checked(2)?;
+        return Some((u8::from_str_radix(digits, 16).ok()?, behind));
+    }
+    let (letter, behind) = text.split_at_checked(1)?;
+    match letter {
+        "t" => Some((b'\t', behind)),
+        "r" => Some((b'\r', behind)),
+        "n" => Some((b'\n', behind)),
+        _ => None,
+    }
+}
+
 impl Answer {
+    /// The numbers of a text, parted by blanks.
+    pub fn numbers(&mut self, text: &str) -> Option<Vec<u64>> {
+        let mut numbers = Vec::new(self.alloc());
+        for word in text.split_whitespace() {
+            let pushed = numbers.push(word.parse().ok()?);
+            self.made(pushed)?;
+        }
+        Some(numbers)
+    }
+
     fn add_word(&mut self, words: &mut Vec<String>, word: &str) -> Option<()> {
         let word = String::from_str(self.alloc(), word);
         let word = self.made(word)?;
@@ -22,6 +47,30 @@ impl Answer {
             }
         }
         Some(words)
+    }
+
+    /// The bytes of a text, in which `\t`, `\r`, `\n`, `\\` and `\xHH` stand for one each.
+    pub fn bytes(&mut self, text: &str) -> Option<Vec<u8>> {
+        let mut bytes = Vec::new(self.alloc());
+        let mut is_plain = true;
+        for part in text.split('\\') {
+            let mut plain = part;
+            if !is_plain {
+                // An empty part stands between two backslashes, and what stands behind the second is plain.
+                let (byte, behind) = if part.is_empty() {
+                    (b'\\', part)
+                } else {
+                    unescaped(part)?
+                };
+                let pushed = bytes.push(byte);
+                self.made(pushed)?;
+                plain = behind;
+            }
+            is_plain = !is_plain && part.is_empty();
+            let added = bytes.extend_from_slice(plain.as_bytes());
+            self.made(added)?;
+        }
+        Some(bytes)
     }
 
     /// Adds so many copies of a piece: the number stands before it, and then a blank. Nothing is added where nothing stands.

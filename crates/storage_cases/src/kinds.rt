@@ -1,41 +1,40 @@
-//! The properties and the capabilities of a kind.
-
-use anyhow::{Result, bail};
+//! Cases of the properties and the capabilities of a kind.
+use crate::names::named;
+use case_files::Answer;
 use level_core::{Letter, caps_of, props_of};
-use std::alloc::{AllocError, Global};
-use std::fmt::Write;
 
-/// The kind that a letter names.
-fn letter_of(word: &str) -> Result<Letter> {
-    match word {
-        "d" => Ok(Letter::Dense),
-        "s" => Ok(Letter::Compressed),
-        "u" => Ok(Letter::CompressedGroups),
-        "q" => Ok(Letter::Singleton),
-        "c" => Ok(Letter::SingletonGroups),
-        "h" => Ok(Letter::Hashed),
-        _ => bail!("another letter"),
-    }
-}
+/// The kinds by their letters.
+const LETTERS: [(&'static str, Letter); 6] = [
+    ("d", Letter::Dense),
+    ("s", Letter::Compressed),
+    ("u", Letter::CompressedGroups),
+    ("q", Letter::Singleton),
+    ("c", Letter::SingletonGroups),
+    ("h", Letter::Hashed),
+];
 
 /// The words of those tests that hold.
-fn words_that_hold(alloc: Global, tests: &[(bool, &str)]) -> Result<String, AllocError> {
-    let mut text = String::new(alloc);
+fn tell_those_that_hold(answer: &mut Answer, letter: Letter, verb: &str, tests: &[(bool, &str)]) {
+    answer.show(letter);
+    answer.tell(verb);
     for (holds, word) in tests {
         if *holds {
-            write!(text, " {word}")?;
+            answer.tell(" ");
+            answer.tell(*word);
         }
     }
-    Ok(text)
+    answer.tell("\n");
 }
 
 /// What is true of the entries of levels of a kind, and what can be done with them.
-pub(crate) fn answers(alloc: Global, word: &str) -> Result<Vec<String>> {
-    let letter = letter_of(word)?;
+pub(crate) fn tell_kind(answer: &mut Answer, word: &str) -> Option<()> {
+    let letter = named(&LETTERS, word)?;
     let properties = props_of(letter);
     let capabilities = caps_of(letter);
-    let is = words_that_hold(
-        alloc,
+    tell_those_that_hold(
+        answer,
+        letter,
+        " is",
         &[
             (properties.full, "full"),
             (properties.ordered, "ordered"),
@@ -43,9 +42,11 @@ pub(crate) fn answers(alloc: Global, word: &str) -> Result<Vec<String>> {
             (properties.branchless, "branchless"),
             (properties.compact, "compact"),
         ],
-    )?;
-    let can = words_that_hold(
-        alloc,
+    );
+    tell_those_that_hold(
+        answer,
+        letter,
+        " can",
         &[
             (capabilities.coordinate_iteration, "coordinates"),
             (capabilities.position_iteration, "positions"),
@@ -53,9 +54,6 @@ pub(crate) fn answers(alloc: Global, word: &str) -> Result<Vec<String>> {
             (capabilities.insert, "insert"),
             (capabilities.append, "append"),
         ],
-    )?;
-    let mut texts = Vec::new(alloc);
-    texts.push(format!(in alloc; "{letter:?} is{is}")?)?;
-    texts.push(format!(in alloc; "{letter:?} can{can}")?)?;
-    Ok(texts)
+    );
+    Some(())
 }

@@ -1,141 +1,118 @@
-//! The levels of packed entries, one below another, asked by the calls of a level.
-ghost use Rattle.std.specs.Prelude.{◌≡◌, ℕ, IfOk};
+//! Cases of the levels of packed entries, one below another, asked by the calls of a level.
+ghost use Rattle.std.specs.Prelude.{◌≡◌, ℕ, IfSome};
 ghost use Rattle.level_core.specs.Entries.{one};
 ghost use Rattle.tensor_storage.specs.Levels.{meaning};
 ghost use Rattle.tensor_storage.specs.Storages.{IsOpen};
 ghost use Rattle.storage_arrays.specs.Arrays.{AreDone};
 
-use anyhow::{Context, Result, bail};
-use case_tensors::{Case, packed};
+use crate::tensors::{Parts, pack};
+use case_files::Answer;
 use format_spec::FormatLevel;
 use level_core::{Entry, Level, LevelKind, Span, positions_below, walk};
-use std::alloc::{AllocError, Global};
-use std::fmt::Write;
 use storage_arrays::positions_of;
 use tensor_storage::StorageLevel;
 use trees::Items;
 
-/// Adds how many parents and positions each level has, from the top.
-fn add_positions(
-    alloc: Global,
-    levels: &[StorageLevel],
-    parents: u64,
-    texts: &mut Vec<String>,
-) -> Result<(), AllocError>
+/// Tells how many parents and positions each level has, from the top.
+fn tell_positions(answer: &mut Answer, levels: &[StorageLevel], parents: u64)
     requires { AreDone parents levels.now }
 {
     let Some((level, below)) = levels.split_first() else {
-        return Ok(());
+        return;
     };
-    let letter = level.letter();
-    let positions = positions_below(level, parents);
-    texts.push(format!(in alloc; "{letter:?}: parents {parents} positions {positions}")?)?;
-    add_positions(alloc, below, positions_of(level, parents), texts)
+    answer.show(level.letter());
+    answer.tell(": parents ");
+    answer.show(parents);
+    answer.tell(" positions ");
+    answer.show(positions_below(level, parents));
+    answer.tell("\n");
+    tell_positions(answer, below, positions_of(level, parents));
 }
 
-/// The segment below a span that may be asked, and the entries there.
-fn segment_text<L: Level>(
-    alloc: Global,
-    level: &L,
-    span: Span,
-    entries: &[Entry],
-) -> Result<String, AllocError>
+fn tell_span(answer: &mut Answer, before: &str, span: Span) {
+    answer.tell(before);
+    answer.show_all(&[span.lo, span.hi]);
+}
+
+/// Tells the segment below a span that may be asked, and the entries there.
+fn tell_segment<L: Level>(answer: &mut Answer, level: &L, span: Span, entries: &[Entry])
     requires { L.meaning.allowed level.now span }
 {
-    let letter = level.letter();
-    let segment = level.segment(span);
-    let mut text = format!(in alloc; "{letter:?} below {} {}:", span.lo, span.hi)?;
-    write!(text, " segment {} {}", segment.lo, segment.hi)?;
+    answer.show(level.letter());
+    tell_span(answer, " below", span);
+    tell_span(answer, ": segment", level.segment(span));
     for Entry { coord, child } in entries {
-        write!(text, ", {coord} at {} {}", child.lo, child.hi)?;
+        answer.tell(", ");
+        answer.show(*coord);
+        tell_span(answer, " at", *child);
     }
-    Ok(text)
+    answer.tell("\n");
 }
 
-/// The places of the coordinates below a parent, from 0 up to a range itself, with a minus for none.
-fn places_text<L: Level>(
-    alloc: Global,
-    level: &L,
-    parent: u64,
-    range: u64,
-) -> Result<String, AllocError>
+/// Tells the places of the coordinates below a parent, from 0 up to a range itself, with a minus for none.
+fn tell_places<L: Level>(answer: &mut Answer, level: &L, parent: u64, range: u64)
     requires { L.meaning.allowed level.now (one parent) }
 {
-    let mut text = format!(in alloc; "places below {parent}:")?;
+    answer.tell("places below ");
+    answer.show(parent);
+    answer.tell(":");
     for coord in 0..range.saturating_add(1) {
         match level.locate(parent, coord) {
-            Some(place) => write!(text, " {place}")?,
-            None => write!(text, " -")?,
+            Some(place) => answer.show_all(&[place]),
+            None => answer.tell(" -"),
         }
     }
-    Ok(text)
+    answer.tell("\n");
 }
 
-/// The entries of a level below a span that may be asked. What is told of them is added.
-fn add_level(
-    alloc: Global,
+/// Tells of the entries of a level below a span that may be asked.
+fn tell_level(
+    answer: &mut Answer,
     level: &StorageLevel,
     span: Span,
     range: u64,
-    texts: &mut Vec<String>,
-) -> Result<Items<Entry>, AllocError>
+) -> Option<Items<Entry>>
     requires { meaning.allowed level.now span }
-    ensures { IfOk result (λ entries. entries ≡ meaning.entries level.now span) }
+    ensures { IfSome result (λ entries. entries ≡ meaning.entries level.now span) }
 {
-    let entries = walk(alloc, level, span)?;
-    texts.push(segment_text(alloc, level, span, entries.as_slice())?)?;
+    let walked = walk(answer.alloc(), level, span);
+    let entries = answer.made(walked)?;
+    tell_segment(answer, level, span, entries.as_slice());
     if level.caps().locate {
-        texts.push(places_text(alloc, level, span.lo, range)?)?;
+        tell_places(answer, level, span.lo, range);
     }
-    Ok(entries)
+    Some(entries)
 }
 
-/// Adds what is told of levels, whose ranges these are, below a span that may be asked.
-fn add_levels(
-    alloc: Global,
+/// Tells of levels of a format below a span that may be asked.
+fn tell_levels(
+    answer: &mut Answer,
     levels: &[StorageLevel],
+    format: &[FormatLevel],
     ranges: &[u64],
     span: Span,
-    texts: &mut Vec<String>,
-) -> Result<()>
+) -> Option<()>
     requires { (positions : ℕ) × IsOpen meaning levels.now positions span }
 {
     let Some((level, below)) = levels.split_first() else {
-        return Ok(());
+        return Some(());
     };
-    let (range, ranges_below) = ranges.split_first().context("no range")?;
-    let entries = add_level(alloc, level, span, *range, texts)?;
+    let (top, format_below) = format.split_first()?;
+    let range = ranges.get(top.mode).copied()?;
+    let entries = tell_level(answer, level, span, range)?;
     for entry in entries.as_slice() {
-        add_levels(alloc, below, ranges_below, entry.child, texts)?;
+        tell_levels(answer, below, format_below, ranges, entry.child)?;
     }
-    Ok(())
+    Some(())
 }
 
-/// The ranges of the modes of the levels.
-fn ranges_of(alloc: Global, format: &[FormatLevel], ranges: &[u64]) -> Result<Vec<u64>> {
-    let mut sizes = Vec::new(alloc);
-    for level in format {
-        sizes.push(ranges.get(level.mode).copied().context("no range")?)?;
-    }
-    Ok(sizes)
-}
-
-/// What is told of the levels of packed entries, in lines.
-pub(crate) fn answers(alloc: Global, case: Case) -> Result<Vec<String>> {
-    let Case {
-        format,
-        shape,
-        entries,
-        asked: _asked,
-    } = case;
-    let tensor = match packed(alloc, format, &shape, entries)? {
-        Ok(tensor) => tensor,
-        Err(refusal) => bail!("{refusal:?}"),
+/// What is told of the levels of packed entries.
+pub(crate) fn tell_tensor_levels(answer: &mut Answer, parts: Parts<'_>) -> Option<()> {
+    let Ok(tensor) = pack(answer, parts)? else {
+        return None;
     };
-    let ranges = ranges_of(alloc, tensor.format(), shape.ranges())?;
-    let mut texts = Vec::new(alloc);
-    add_positions(alloc, tensor.levels(), 1, &mut texts)?;
+    let ranges = answer.numbers(parts.ranges)?;
+    tell_positions(answer, tensor.levels(), 1);
     let top = Span { lo: 0, hi: 1 };
-    add_levels(alloc, tensor.levels(), ranges.as_slice(), top, &mut texts)?;
-    Ok(texts)
+    tell_levels(answer, tensor.levels(), tensor.format(), ranges.as_slice(), top)
 }

@@ -1,7 +1,7 @@
-//! Runs cases of packed tensors and of levels of all kinds: each case file that the command line names. It prints each case and
-//! what came of it, which is compared with the file `stdout`, where stands what must come.
+//! Runs cases of packed tensors, of levels of all kinds, and of kernels written by hand: each case file that the command line names. What
+//! it prints is compared with the file `stdout`, where stands what must come.
 //!
-//! A line of a case file is a case, or a comment that begins with `#`, or empty. A case is
+//! A line of a case file is a comment that begins with `#`, or empty, or one of these.
 //!
 //! ```text
 //! FORMAT | RANGES | ENTRIES
@@ -12,7 +12,7 @@
 //!
 //! The format is a word, as `ds` or `ds:1,0`, and nothing for a tensor of order 0. The ranges are those of the modes. Entries
 //! stand as in a file, their lines parted by `;`: coordinates, counted from 1, and a value. Those with equal coordinates are
-//! added. The entries are packed in the format, and what is printed is the value at each of the coordinates, parted by `;`
+//! added. The entries are packed in the format, and what is printed below the case is the value at each of the coordinates, parted by `;`
 //! too; where there are none in the case, at every coordinate list within the ranges, in increasing order. Then come the
 //! entries that the packed tensor gives back, and its text as tensor 1, named `A`. Want of memory is printed as such, and comes in
 //! no case.
@@ -23,54 +23,43 @@
 //! of the coordinates follow, from 0 up to the range itself, with a minus for none.
 //!
 //! Of a case that begins with `kind:`, the properties and the capabilities of the kind of level that the letter names are printed.
+//!
+//! Kernels written by hand are printed, simplified and run:
+//!
+//! ```text
+//! tensor s | 6 | 2 4; 5 5   The tensor 1 of the runs from here on: its format, ranges and entries.
+//! workspace 2               One more workspace of the kernel, with so many keys.
+//! list                      One more scratch list of the kernel.
+//! do WORDS                  More of the kernel's body, in words that each take what they need from those before.
+//! print                     The text of the kernel; a new kernel begins.
+//! simplify                  The text of what `simplify` makes of the kernel; a new kernel begins.
+//! run NAME                  What the kernel's body leaves; a new kernel begins.
+//! ```
+//!
+//! Expressions are a number; a variable as `x0`; an array as `T1_val`, which is its word at an index before, and `#T1_val`, its length; an
+//! operator with its operands before, `min` and `width` too. Statements are `set:0`, `plus:0`, `times:0` with a variable's number;
+//! `put:ARRAY`, `add:ARRAY`, `push:ARRAY`, `extend:ARRAY`, `cut:ARRAY`; `sort:0`, `sort_sum:0`. A body stands in `[` and `]`: `if` has its
+//! test and two bodies before it, `while:KIND` its test and one. `names.rt` has the arrays that a case may name.
+//!
+//! Each run has the same arrays but for those of tensor 1: `range` has 6 and 7; the result has one value, 0, two segment ends and no
+//! coordinates at level 1, and no width at level 2; there is one workspace of one key and one scratch list. Behind the name come how
+//! the run ended, the turns of each kind, and the arrays that have words, with these.
 #![tactic(auto)]
 
 mod kinds;
 mod levels;
+mod names;
+mod postfix;
+mod run;
+mod session;
+mod tensors;
 mod values;
 
-use anyhow::{Context, Result};
-use case_tensors::Case;
-use std::alloc::Global;
-use std::fmt::Write;
-use std::{env, fs};
-
-/// What comes of the case of a line, in lines.
-fn answers_of(alloc: Global, line: &str) -> Result<Vec<String>> {
-    if let Some(letter) = line.strip_prefix("kind:") {
-        return kinds::answers(alloc, letter.trim());
-    }
-    if let Some(case) = line.strip_prefix("levels:") {
-        return levels::answers(alloc, Case::read(alloc, case)?);
-    }
-    values::answers(alloc, Case::read(alloc, line)?)
-}
-
-/// A case, and below it what came of it.
-fn case_text(alloc: Global, line: &str) -> Result<String> {
-    let mut text = format!(in alloc; "{line}\n")?;
-    for answer in &answers_of(alloc, line).context(format_args!("{line}"))? {
-        writeln!(text, "    {answer}")?;
-    }
-    Ok(text)
-}
-
-/// What is printed of the cases of a file.
-fn cases_text(alloc: Global, lines: &str) -> Result<String> {
-    let mut text = String::new(alloc);
-    for line in lines.lines() {
-        if !line.is_empty() && !line.starts_with('#') {
-            text.push_str(case_text(alloc, line)?.as_str())?;
-        }
-    }
-    Ok(text)
-}
+use anyhow::Result;
+use case_files::run_lines;
+use session::Session;
 
 fn main(rt: HostRuntime) -> Result<()> {
-    for path in env::args(&rt)?.skip(1) {
-        let lines = fs::read_to_string(&rt, path.as_str())?;
-        let text = cases_text(rt.alloc(), lines.as_str()).context(format_args!("{path}"))?;
-        print!(rt; "{text}")?;
-    }
-    Ok(())
+    let mut session = Session::new(rt.alloc());
+    run_lines(&rt, &mut session)
 }

@@ -1,136 +1,119 @@
-//! The values of packed entries, the entries that the tensor gives back, and its text.
+//! Cases of the values of packed entries, of the entries that the tensor gives back, and of its text.
 ghost use Rattle.storage_arrays.specs.Arrays.{AreDone};
 
-use anyhow::{Context, Result, bail};
-use case_tensors::{Case, packed};
+use crate::tensors::{Parts, coords_of, pack};
+use case_files::Answer;
 use numbers::{Ring, signed};
 use outside::MemSink;
-use std::alloc::{AllocError, Global};
-use std::fmt::Write;
 use storage_text::put_store_text;
-use tensor_map::{Entries, Shape};
+use tensor_map::Entries;
 use tensor_storage::{PackRefusal, Tensor};
 
 /// How many coordinate lists there are below the ranges.
-fn count_of(ranges: &[u64]) -> Result<u64> {
+fn count_of(ranges: &[u64]) -> Option<u64> {
     let mut count: u64 = 1;
     for range in ranges {
-        count = count.checked_mul(*range).context("too many coordinates")?;
+        count = count.checked_mul(*range)?;
     }
-    Ok(count)
+    Some(count)
 }
 
 /// The coordinate list of this number, of those below the ranges, in increasing order.
-fn coords_at(alloc: Global, ranges: &[u64], number: u64) -> Result<Vec<u64>> {
-    let mut coords = Vec::new(alloc);
+fn coords_at(answer: &mut Answer, ranges: &[u64], number: u64) -> Option<Vec<u64>> {
+    let mut coords = Vec::new(answer.alloc());
     let mut rest = number;
     for range in ranges.iter().rev() {
-        coords.push(rest.checked_rem(*range).context("no coordinate")?)?;
-        rest = rest.checked_div(*range).context("no coordinate")?;
+        let pushed = coords.push(rest.checked_rem(*range)?);
+        answer.made(pushed)?;
+        rest = rest.checked_div(*range)?;
     }
     coords.reverse();
-    Ok(coords)
+    Some(coords)
 }
 
-/// The coordinate lists at which values are asked.
-fn asked_coords(
-    alloc: Global,
-    shape: &Shape,
-    asked: Option<Vec<Vec<u64>>>,
-) -> Result<Vec<Vec<u64>>> {
-    if let Some(asked) = asked {
-        return Ok(asked);
+/// The value of a tensor at a coordinate list.
+fn tell_value(answer: &mut Answer, tensor: &Tensor, coords: &[u64]) -> Option<()> {
+    if coords.len() != tensor.order() {
+        return None;
     }
-    let mut all = Vec::new(alloc);
-    for number in 0..count_of(shape.ranges())? {
-        all.push(coords_at(alloc, shape.ranges(), number)?)?;
-    }
-    Ok(all)
+    answer.show_all(&[signed(tensor.at::<Ring>(coords))]);
+    Some(())
 }
 
-/// The values of a tensor at coordinate lists.
-fn values_text(alloc: Global, tensor: &Tensor, asked: &[Vec<u64>]) -> Result<String> {
-    let mut out = format!(in alloc; "at")?;
-    for coords in asked {
-        if coords.len() != tensor.order() {
-            bail!("another order");
-        }
-        let value = signed(tensor.at::<Ring>(coords.as_slice()));
-        write!(out, " {value}")?;
+/// The values at the coordinate lists that are named.
+fn tell_asked_values(answer: &mut Answer, tensor: &Tensor, asked: &str) -> Option<()> {
+    for text in asked.split(';') {
+        let coords = coords_of(answer, text, tensor.order())?;
+        tell_value(answer, tensor, coords.as_slice())?;
     }
-    Ok(out)
+    Some(())
+}
+
+/// The values at all coordinate lists below the ranges.
+fn tell_all_values(answer: &mut Answer, tensor: &Tensor, ranges: &str) -> Option<()> {
+    let ranges = answer.numbers(ranges)?;
+    for number in 0..count_of(ranges.as_slice())? {
+        let coords = coords_at(answer, ranges.as_slice(), number)?;
+        tell_value(answer, tensor, coords.as_slice())?;
+    }
+    Some(())
 }
 
 /// Entries as lines of a file, parted by `;`.
-fn entries_text(alloc: Global, entries: &Entries) -> Result<String, AllocError> {
-    let mut out = format!(in alloc; "entries")?;
+fn tell_entries(answer: &mut Answer, entries: &Entries) {
+    answer.tell("entries");
     for i in 0..entries.len() {
-        if i > 0 {
-            write!(out, ";")?;
-        }
+        answer.tell(if i > 0 { ";" } else { "" });
         for coordinate in entries.coords(i) {
-            let counted = *coordinate as u128 + 1;
-            write!(out, " {counted}")?;
+            answer.show_all(&[*coordinate as u128 + 1]);
         }
-        let value = signed(entries.value(i));
-        write!(out, " {value}")?;
+        answer.show_all(&[signed(entries.value(i))]);
     }
-    Ok(out)
+    answer.tell("\n");
 }
 
-fn refusal_text(alloc: Global, refusal: PackRefusal) -> Result<String, AllocError> {
+/// The text of a tensor, which is written in pieces.
+fn tell_store(answer: &mut Answer, tensor: &Tensor) -> Option<()>
+    requires { AreDone 1 tensor.now.levels }
+{
+    let mut sink = MemSink::new(answer.alloc());
+    let cut = sink.cut_into(&[1, 4]);
+    answer.made(cut)?;
+    put_store_text(&mut sink, 1, b"A", tensor).ok()?;
+    answer.tell(str::from_utf8(sink.written()).ok()?);
+    Some(())
+}
+
+fn tell_refusal(answer: &mut Answer, refusal: PackRefusal) {
     match refusal {
-        PackRefusal::Memory => format!(in alloc; "no memory"),
+        PackRefusal::Memory => answer.tell("no memory"),
         PackRefusal::SizeLimit { level, count } => {
-            format!(in alloc; "size limit: level {level} would have {count} positions")
+            answer.tell("size limit: level ");
+            answer.show(level);
+            answer.tell(" would have ");
+            answer.show(count);
+            answer.tell(" positions");
         }
     }
 }
 
-/// Adds the lines of the text of a tensor, which is written in pieces.
-fn add_store_lines(alloc: Global, tensor: &Tensor, texts: &mut Vec<String>) -> Result<()>
-    requires { AreDone 1 tensor.now.levels }
-{
-    let mut sink = MemSink::new(alloc);
-    sink.cut_into(&[1, 4])?;
-    if put_store_text(&mut sink, 1, b"A", tensor).is_err() {
-        bail!("a refusal");
-    }
-    for line in std::str::from_utf8(sink.written())?.lines() {
-        texts.push(String::from_str(alloc, line)?)?;
-    }
-    Ok(())
-}
-
-/// The values of a packed tensor, its entries, and its text.
-fn tensor_texts(alloc: Global, tensor: &Tensor, asked: &[Vec<u64>]) -> Result<Vec<String>>
-    requires { AreDone 1 tensor.now.levels }
-{
-    let mut texts = Vec::new(alloc);
-    texts.push(values_text(alloc, tensor, asked)?)?;
-    let entries = tensor.to_entries::<Ring>(alloc)?;
-    texts.push(entries_text(alloc, &entries)?)?;
-    add_store_lines(alloc, tensor, &mut texts)?;
-    Ok(texts)
-}
-
-/// What comes of packed entries, in lines.
-pub(crate) fn answers(alloc: Global, case: Case) -> Result<Vec<String>> {
-    let Case {
-        format,
-        shape,
-        entries,
-        asked,
-    } = case;
-    match packed(alloc, format, &shape, entries)? {
-        Ok(tensor) => {
-            let asked = asked_coords(alloc, &shape, asked)?;
-            tensor_texts(alloc, &tensor, asked.as_slice())
-        }
+/// What comes of packed entries.
+pub(crate) fn tell_values(answer: &mut Answer, parts: Parts<'_>) -> Option<()> {
+    let tensor = match pack(answer, parts)? {
+        Ok(tensor) => tensor,
         Err(refusal) => {
-            let mut texts = Vec::new(alloc);
-            texts.push(refusal_text(alloc, refusal)?)?;
-            Ok(texts)
+            tell_refusal(answer, refusal);
+            return Some(());
         }
+    };
+    answer.tell("at");
+    match parts.asked {
+        Some(asked) => tell_asked_values(answer, &tensor, asked)?,
+        None => tell_all_values(answer, &tensor, parts.ranges)?,
     }
+    answer.tell("\n");
+    let entries = tensor.to_entries::<Ring>(answer.alloc());
+    let entries = answer.made(entries)?;
+    tell_entries(answer, &entries);
+    tell_store(answer, &tensor)
 }

@@ -1,151 +1,173 @@
-// A run of a case, and the text that tells how it ended.
-use crate::case::{Case, CaseFile, Shown};
-use crate::telling::Telling;
+//! Runs of a case, and what is told of how they ended.
+use crate::case::{Case, CaseFile, Place, Shown};
+use crate::telling::{kernel_in, tell_text, turns_in};
+use case_files::{Answer, keyword_of};
 use outside::{MemFolder, MemSink};
-use std::alloc::{AllocError, Global};
-use std::fmt::Write;
+use refusals::{Fault, put_line};
 
-// Runs the case, and answers the status.
-fn run(alloc: Global, case: &mut Case) -> Result<u8, AllocError> {
-    for file in &case.files {
-        if let Some(bytes) = &file.bytes {
-            case.folder.add_file(file.name.as_str(), bytes.as_slice())?;
+/// Runs a command line over these files, and answers the status.
+fn run(
+    answer: &mut Answer,
+    files: &[CaseFile],
+    words: &[String],
+    place: &mut Place,
+) -> Option<u8> {
+    for file in files {
+        if file.is_there {
+            let added = place.folder.add_file(file.name.as_str(), file.bytes.as_slice());
+            answer.made(added)?;
         }
     }
-    Ok(taco_top::taco(
-        alloc,
-        case.words.as_slice(),
-        &mut case.folder,
-        &mut case.out,
-        &mut case.err,
+    Some(taco_top::taco(
+        answer.alloc(),
+        words,
+        &mut place.folder,
+        &mut place.out,
+        &mut place.err,
     ))
 }
 
-// The text that a stream holds, or none if its end is inside a character.
+/// The text that a stream holds, or none if its end is inside a character.
 fn text_of(stream: &MemSink) -> &str {
     str::from_utf8(stream.written()).unwrap_or("")
 }
 
-// What a stream holds, and whether a finish is due.
-fn put_stream(
-    alloc: Global,
-    out: &mut String,
-    name: &str,
-    stream: &MemSink,
-    shown: Shown,
-) -> Result<(), AllocError> {
+/// What a stream holds, and whether a finish is due.
+fn tell_stream(answer: &mut Answer, name: &str, stream: &MemSink, shown: Shown) {
     let text = text_of(stream);
+    answer.tell(name);
+    answer.tell(" \"");
     if shown == Shown::All || text.is_empty() {
-        write!(out, "{name} \"{}\"", stream.written().escape_ascii())?;
+        answer.escape(stream.written());
     } else {
-        let telling = Telling::new(alloc, &[text], shown == Shown::Turns)?;
-        write!(out, "{name} \"{}\"", telling.text.as_bytes().escape_ascii())?;
+        tell_text(answer, text, shown == Shown::Turns);
     }
-    out.push_str(if stream.is_unfinished() {
-        ", unfinished\n"
+    answer.tell(if stream.is_unfinished() {
+        "\", unfinished\n"
     } else {
-        "\n"
-    })
+        "\"\n"
+    });
 }
 
-// The status, and both streams.
-fn put_streams(alloc: Global, out: &mut String, case: &Case, status: u8) -> Result<(), AllocError> {
-    write!(out, "status {status}\n")?;
-    put_stream(alloc, out, "out", &case.out, case.shown)?;
-    put_stream(alloc, out, "err", &case.err, case.shown)
+/// The status, and both streams.
+fn tell_streams(answer: &mut Answer, status: u8, place: &Place, shown: Shown) {
+    answer.tell("status ");
+    answer.show(status);
+    answer.tell("\n");
+    tell_stream(answer, "out", &place.out, shown);
+    tell_stream(answer, "err", &place.err, shown);
 }
 
-// What stands in a file's place afterwards.
-fn put_file(out: &mut String, file: &CaseFile, folder: &MemFolder) -> Result<(), AllocError> {
-    let name = file.name.as_str();
-    let before = file.bytes.as_ref().map(|bytes| bytes.as_slice());
-    match folder.bytes(name) {
-        None => write!(out, "absent {name}\n"),
-        after if after == before => write!(out, "file {name} as before\n"),
-        Some(bytes) => write!(out, "file {name} \"{}\"\n", bytes.escape_ascii()),
+/// What stands in a file's place afterwards.
+fn tell_file(answer: &mut Answer, file: &CaseFile, folder: &MemFolder) {
+    let after = folder.bytes(file.name.as_str());
+    answer.tell(if after.is_some() { "file " } else { "absent " });
+    answer.tell(file.name.as_str());
+    if let Some(bytes) = after {
+        answer.tell(" ");
+        if file.is_there && bytes == file.bytes.as_slice() {
+            answer.tell("as before");
+        } else {
+            answer.quote(bytes);
+        }
+    }
+    answer.tell("\n");
+}
+
+/// The words of a case with another command in place of its own, and with further words behind.
+fn further_words<'a>(
+    answer: &mut Answer,
+    own: &'a str,
+    further: &'a str,
+) -> Option<Vec<String>> {
+    let (command, further) = keyword_of(further);
+    let mut line = Answer::new(answer.alloc());
+    for part in &["taco ", command, " ", own, " ", further] {
+        line.tell(*part);
+    }
+    answer.words(line.as_str())
+}
+
+/// Tells whether two texts are the same, where both are there.
+fn tell_compared(answer: &mut Answer, name: &str, texts: (Option<&str>, Option<&str>), other: &str) {
+    if let (Some(first), Some(second)) = texts {
+        answer.tell(if first == second { ", same " } else { other });
+        answer.tell(name);
     }
 }
 
-// Each file of the case as it is afterwards, and whether a finish of the folder's writing is due.
-fn put_files(out: &mut String, case: &Case) -> Result<(), AllocError> {
+/// Runs another command line over the files of a case, with no fault, and tells how it ended: another command with the case's words, and
+/// further ones behind them; or, to be compared with the case, another command, or with words of its own these alone.
+fn tell_further(answer: &mut Answer, case: &Case, line: &str) -> Option<()> {
+    let (keyword, further) = keyword_of(line);
+    let (command, further_own) = keyword_of(further);
+    let (_taco, own) = keyword_of(case.line.as_str());
+    let (_command, own) = keyword_of(own);
+    let has_own = keyword == "beside" && !further_own.is_empty();
+    let words = further_words(answer, if has_own { "" } else { own }, further)?;
+    let mut place = Place::new(answer.alloc());
+    let status = run(answer, case.files.as_slice(), words.as_slice(), &mut place)?;
+    if keyword == "again" {
+        answer.tell(line);
+        answer.tell("\n");
+        tell_streams(answer, status, &place, case.shown);
+        return Some(());
+    }
+    answer.tell("beside ");
+    answer.tell(command);
+    answer.tell(": status ");
+    answer.show(status);
+    let (own, out) = (text_of(&case.place.out), text_of(&place.out));
+    tell_compared(answer, "kernel", (kernel_in(own), kernel_in(out)), ", another ");
+    let own = turns_in(own).or(turns_in(text_of(&case.place.err)));
+    let other = turns_in(out).or(turns_in(text_of(&place.err)));
+    tell_compared(answer, "turns", (own, other), ", other ");
+    answer.tell("\n");
+    Some(())
+}
+
+/// The status and the line of a refusal that no run in memory ends with.
+fn tell_refused(answer: &mut Answer, text: &str) -> Option<()> {
+    let fault = match keyword_of(text) {
+        ("bytes", path) => Fault::FileBytes(path),
+        ("pairs", count) => Fault::WorkspaceLimit(count.parse::<u64>().ok()?),
+        _ => return None,
+    };
+    let mut err = MemSink::new(answer.alloc());
+    let put = put_line(&mut err, &fault);
+    answer.made(put)?;
+    answer.tell("refused ");
+    answer.tell(text);
+    answer.tell("\nstatus ");
+    answer.show(fault.status());
+    answer.tell("\nerr ");
+    answer.quote(err.written());
+    answer.tell("\n");
+    Some(())
+}
+
+/// Runs the case, and tells how it ended: its status and streams, each of its files as it is afterwards, whether a finish of the folder's
+/// writing is due, and what its further lines ask for.
+pub(crate) fn tell_case(answer: &mut Answer, mut case: Case) -> Option<()> {
+    let status = run(
+        answer,
+        case.files.as_slice(),
+        case.words.as_slice(),
+        &mut case.place,
+    )?;
+    tell_streams(answer, status, &case.place, case.shown);
     for file in &case.files {
-        put_file(out, file, &case.folder)?;
+        tell_file(answer, file, &case.place.folder);
     }
-    if case.folder.is_unfinished() {
-        out.push_str("folder unfinished\n")?;
+    if case.place.folder.is_unfinished() {
+        answer.tell("folder unfinished\n");
     }
-    Ok(())
-}
-
-// What both streams of a case tell.
-fn tell(alloc: Global, case: &Case) -> Result<Telling, AllocError> {
-    Telling::new(alloc, &[text_of(&case.out), text_of(&case.err)], true)
-}
-
-// The words for two texts that are the same or not, where both are there.
-fn compared<'a>(one: &str, other: &str, same: &'a str, different: &'a str) -> &'a str {
-    if one.is_empty() || other.is_empty() {
-        ""
-    } else if one == other {
-        same
-    } else {
-        different
+    for line in case.further.as_str().lines() {
+        match line.strip_prefix("refused ") {
+            Some(text) => tell_refused(answer, text)?,
+            None => tell_further(answer, &case, line)?,
+        }
     }
-}
-
-// Runs another command line over the same files, and tells whether its kernel and its turns are those of the case.
-fn put_beside(
-    alloc: Global,
-    out: &mut String,
-    case: &Case,
-    words: &[String],
-) -> Result<(), AllocError> {
-    let mut beside = case.with_words(words)?;
-    let status = run(alloc, &mut beside)?;
-    let own = tell(alloc, case)?;
-    let other = tell(alloc, &beside)?;
-    let command = words.get(1).map_or("", |word| word.as_str());
-    let kernels = compared(
-        own.kernel.as_str(),
-        other.kernel.as_str(),
-        ", same kernel",
-        ", another kernel",
-    );
-    let turns = compared(
-        own.turns.as_str(),
-        other.turns.as_str(),
-        ", same turns",
-        ", other turns",
-    );
-    write!(out, "beside {command}: status {status}{kernels}{turns}\n")
-}
-
-// Runs another command with further words over the same files, and tells how that ended.
-fn put_again(alloc: Global, out: &mut String, case: &Case, text: &str) -> Result<(), AllocError> {
-    let mut again = case.again(text)?;
-    let status = run(alloc, &mut again)?;
-    write!(out, "again {text}\n")?;
-    put_streams(alloc, out, &again, status)
-}
-
-// The further command lines of a case, and its refusals.
-fn put_further(alloc: Global, out: &mut String, case: &Case) -> Result<(), AllocError> {
-    for words in &case.beside {
-        put_beside(alloc, out, case, words.as_slice())?;
-    }
-    for text in &case.again {
-        put_again(alloc, out, case, text.as_str())?;
-    }
-    out.push_str(case.refused.as_str())
-}
-
-// Runs the case, and tells how it ended, and its further command lines.
-pub(crate) fn case_text(alloc: Global, mut case: Case) -> Result<String, AllocError> {
-    let status = run(alloc, &mut case)?;
-    let mut out = String::new(alloc);
-    write!(out, "case {}\n", case.name.as_str())?;
-    put_streams(alloc, &mut out, &case, status)?;
-    put_files(&mut out, &case)?;
-    put_further(alloc, &mut out, &case)?;
-    Ok(out)
+    answer.tell("\n");
+    Some(())
 }

@@ -1,7 +1,0 @@
-use Rattle.std.specs.Prelude.{ℕ, ◌<◌, length, slice_index, slice_index_or}
-use Rattle.tensor_map.specs.declared.entries.Entry.{Entry}
-use Rattle.case_tensors.proofs.case.are_inside.Given as goal
-
-abbrev pub invariant-loop-i : goal.invariant-loop-i
-invariant-loop-i l = (k : ℕ) (d : Entry) → k < l.i → (mode : ℕ) → mode < length l.ranges
-    → slice_index (slice_index_or l.entries.list k d).coords mode < slice_index l.ranges mode

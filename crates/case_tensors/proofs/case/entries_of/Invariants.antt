@@ -1,5 +1,0 @@
-use Rattle.std.specs.Prelude.{◌≡◌}
-use Rattle.case_tensors.proofs.case.entries_of.Given as goal
-
-abbrev pub invariant-loop-line : goal.invariant-loop-line
-invariant-loop-line l = l.entries.order ≡ l.order

@@ -1,7 +1,0 @@
-use Rattle.std.proofs.Common.{◌≡◌}
-use Rattle.kernel_steps.specs.Store.{made}
-use Rattle.code_cases.proofs.run.started.Given as goal
-
--- no turn is made
-abbrev pub invariant-loop-number : goal.invariant-loop-number
-invariant-loop-number l = made l.machine ≡ 0

@@ -1,4 +1,0 @@
-use Rattle.file_cases.proofs.files.put_tns_of.Goals as goal
-
-pub put_tns-answer-requires : goal.put_tns-answer-requires
-put_tns-answer-requires c = c.in-Ok.ensures c.sort_sum.new.self.list c.in_ok-sort_sum.ensures.listed

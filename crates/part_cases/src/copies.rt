@@ -1,0 +1,99 @@
+//! Cases of copies: the objects in memory that never fail, and the real ones, through the same functions. And one run of each law.
+use case_files::Answer;
+use outside::{
+    Batch, FileSink, Folder, NeverFails, RealFolder, Refusal, Sink, StdSink, read_through,
+};
+use std::rt::Files;
+use std::{fs, io};
+use tns_io::{tensors_have_one_text, written_texts_stand_for_their_tensor};
+
+const NAME: &str = "part-cases.txt";
+
+/// Puts the text into a file through a batch, and answers how many bytes were kept back before the end.
+fn write_text<F: Folder>(folder: &mut F, text: &[u8]) -> Result<usize, Refusal> {
+    folder.start_write(NAME)?;
+    let mut file = FileSink::new(folder);
+    let mut batch = Batch::new(&mut file);
+    let _taken = batch.write(text)?;
+    let kept = batch.kept().len();
+    batch.finish()?;
+    Ok(kept)
+}
+
+/// Writes a file and reads it back, and gives its text to a sink. No call fails in these cases.
+fn tell_copy<F: Folder, S: Sink>(
+    answer: &mut Answer,
+    folder: &mut F,
+    sink: &mut S,
+    text: &[u8],
+) -> Option<()> {
+    let kept = write_text(folder, text).ok()?;
+    let mut eaten = Vec::new(answer.alloc());
+    let read = read_through(folder, NAME, 100, &mut eaten).ok()?;
+    let given = sink.write(eaten.as_slice()).ok()?;
+    sink.finish().ok()?;
+    answer.tell("kept ");
+    answer.show(kept);
+    answer.tell(", read ");
+    answer.show(read);
+    answer.tell(", given ");
+    answer.show(given);
+    Some(())
+}
+
+/// The copy, the file and what the sink was given, and then the file once another is put in its place.
+fn tell_copy_in_memory(answer: &mut Answer, text: &[u8]) -> Option<()> {
+    let mut folder = NeverFails::new(answer.alloc());
+    let mut sink = NeverFails::new(answer.alloc());
+    tell_copy(answer, &mut folder, &mut sink, text)?;
+    answer.tell(": ");
+    answer.quote(folder.bytes(NAME).unwrap_or(b"none"));
+    answer.tell(" ");
+    answer.quote(sink.written());
+    let added = folder.add_file(NAME, b"other");
+    answer.made(added)?;
+    answer.tell(" ");
+    answer.quote(folder.bytes(NAME).unwrap_or(b"none"));
+    Some(())
+}
+
+/// The copy, whose text is printed, and then what a read answers once the file is removed.
+fn tell_real_copy<R: Files + Print + AllocGlobal>(
+    rt: &R,
+    answer: &mut Answer,
+    text: &[u8],
+) -> Option<()> {
+    let mut folder = RealFolder::new(rt.alloc(), rt);
+    let mut sink = StdSink::new(io::writer(rt));
+    tell_copy(answer, &mut folder, &mut sink, text)?;
+    fs::remove_file(rt, NAME).ok()?;
+    answer.tell(", removed ");
+    let mut eaten = Vec::new(rt.alloc());
+    answer.show(read_through(&mut folder, NAME, 100, &mut eaten));
+    Some(())
+}
+
+/// Each claim is the contract of a call that does nothing.
+fn call_laws() {
+    tensors_have_one_text();
+    written_texts_stand_for_their_tensor();
+}
+
+/// What comes of a case of copies.
+pub(crate) fn tell<R: Files + Print + AllocGlobal>(
+    rt: &R,
+    answer: &mut Answer,
+    keyword: &str,
+    text: &[u8],
+) -> Option<()> {
+    match keyword {
+        "copy" => tell_copy_in_memory(answer, text),
+        "copy_real" => tell_real_copy(rt, answer, text),
+        "laws" => {
+            call_laws();
+            answer.tell("called");
+            Some(())
+        }
+        _ => None,
+    }
+}

@@ -1,6 +1,0 @@
-use Rattle.std.proofs.Common.{◌∙◌, sym, ap}
-use Rattle.storage_cases.proofs.Opened.{one_allowed}
-use Rattle.storage_cases.proofs.levels.add_level.Goals as goal
-
-pub places_text-requires : goal.places_text-requires
-places_text-requires c = one_allowed c.args.level.now c.args.span c.requires (ap (λ can. can.locate) (sym c.caps.ensures) ∙ c.if-caps.true)

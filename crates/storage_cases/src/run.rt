@@ -1,0 +1,118 @@
+//! A kernel's body run on the arrays of all cases, and what it leaves.
+ghost use Rattle.std.specs.Prelude.{◌≡◌, ◌<◌, true, IfOk, IfSome};
+ghost use Rattle.kernel_code.specs.Arrays.{may_write};
+ghost use Rattle.storage_arrays.specs.Arrays.{AreDone};
+ghost use Rattle.kernel_steps.specs.Store.{made};
+
+use crate::names::OWN;
+use crate::tensors::{Parts, pack};
+use case_files::Answer;
+use kernel_code::{Arr, KStmt, Turns};
+use kernel_steps::{Ending, Machine, run_statements};
+use lent_arrays::{LentArrays, Operand};
+use machine_starts::lent_operands;
+use numbers::Ring;
+use seg_buffer::Segment;
+use std::alloc::{AllocError, Global};
+use tensor_storage::Tensor;
+
+/// The turns that a run may make.
+const TURNS: u64 = 1000;
+
+/// The tensor of a line, packed; none where the line says none, or for want of memory.
+fn tensor_of(answer: &mut Answer, line: &str) -> Option<Tensor>
+    ensures { IfSome result (λ t. AreDone 1 t.levels) }
+{
+    match pack(answer, Parts::of(line)?)? {
+        Ok(tensor) => Some(tensor),
+        Err(_) => None,
+    }
+}
+
+/// An array that a run may write, by its place in the table, and the number of zeros that it starts with.
+fn own_array(number: usize) -> (Arr, usize)
+    requires { number < 8 }
+    ensures { may_write result.0 ≡ true }
+{
+    let (_name, own) = OWN[number];
+    own
+}
+
+/// A machine with the arrays of all cases, and these operands.
+fn started<'a>(
+    alloc: Global,
+    ranges: &'a [u64],
+    operands: Vec<Operand<'a>>,
+) -> Result<Machine<'a>, AllocError>
+    ensures { IfOk result (λ m. made m ≡ 0) }
+{
+    let lent = LentArrays {
+        ranges,
+        sizes: Vec::new(alloc),
+        operands,
+    };
+    let mut machine = Machine::new(alloc, lent);
+    for number in 0..OWN.len() {
+        let (array, zeros) = own_array(number);
+        machine.add_array(array, Segment::filled(alloc, zeros, 0)?)?;
+    }
+    Ok(machine)
+}
+
+/// How a run ended, and its turns. Where a growth was refused, its count is told.
+fn tell_ending(answer: &mut Answer, ending: Ending, turns: Turns) {
+    match ending {
+        Ending::Ended => answer.tell("ended\n"),
+        Ending::Stuck => answer.tell("stuck\n"),
+        Ending::More => answer.tell("more turns\n"),
+        Ending::Over { array, count } => {
+            answer.tell("over\n    ");
+            answer.show(array);
+            answer.show_all(&[count]);
+            answer.tell("\n");
+        }
+    }
+    let counts = [
+        ("merge", turns.merge),
+        ("skip", turns.skip),
+        ("gather", turns.gather),
+        ("drain", turns.drain),
+        ("probe", turns.probe),
+    ];
+    answer.tell("   ");
+    for (kind, count) in &counts {
+        answer.tell(" ");
+        answer.tell(*kind);
+        answer.show_all(&[*count]);
+    }
+    answer.tell("\n");
+}
+
+/// The arrays that have words, with these.
+fn tell_arrays(answer: &mut Answer, machine: &Machine) {
+    for number in 0..OWN.len() {
+        let (name, (array, _zeros)) = OWN[number];
+        let words = machine.array(array).unwrap_or(&[]);
+        if !words.is_empty() {
+            answer.tell("    ");
+            answer.tell(name);
+            answer.show_all(words);
+            answer.tell("\n");
+        }
+    }
+}
+
+/// What a run leaves, over the tensor of a line; none where the line says none, or for want of memory.
+pub(crate) fn tell_run(answer: &mut Answer, line: &str, code: &[KStmt]) -> Option<()> {
+    let alloc = answer.alloc();
+    let tensors = [tensor_of(answer, line)?];
+    let operands = lent_operands(alloc, &tensors);
+    let operands = answer.made(operands)?;
+    let machine = started(alloc, &[6, 7], operands);
+    let mut machine = answer.made(machine)?;
+    let ending = run_statements::<Ring>(&mut machine, code, &[1], TURNS);
+    let ending = answer.made(ending)?;
+    tell_ending(answer, ending, machine.turns());
+    tell_arrays(answer, &machine);
+    Some(())
+}
