@@ -1,27 +1,31 @@
 -- The terms of an expression behind others, by those of its parts.
-use Rattle.std.specs.Prelude.{◌≡◌, Bool, not, List, ◌++◌}
+use Rattle.std.specs.Prelude.{◌≡◌, Bool, true, false, not, List, [], ◌∷◌, ◌++◌, map}
 use Rattle.std.proofs.Common.{◌∙◌, sym, ap, append_assoc}
-use Rattle.index_notation.specs.declared.syntax.Expr.{Expr, Add, Sub, Neg}
-use Rattle.expr_terms.specs.Terms.{Term}
-use Rattle.expr_terms.specs.Signs.{signed_terms}
-use Rattle.expr_terms.proofs.TermSums.{signed_add, signed_sub, signed_neg}
+use Rattle.index_notation.specs.declared.operator.Operator.{Operator}
+use Rattle.index_notation.specs.declared.syntax.Expr.{Expr, Binary, Neg}
+use Rattle.index_notation.specs.Operators.{is_product}
+use Rattle.expr_terms.specs.Terms.{Term, terms, plain_term, negated_term}
+use Rattle.expr_terms.specs.Signs.{sign_behind, signed_terms}
+use Rattle.expr_terms.proofs.TermSums.{signed_binary, signed_neg}
 
-behind : (old between xs ys all : List Term) → between ≡ old ++ xs → all ≡ xs ++ ys → between ++ ys ≡ old ++ all
-behind old between xs ys all first whole = ap (λ ts. ts ++ ys) first ∙ append_assoc old xs ys ∙ ap (λ ts. old ++ ts) (sym whole)
+after : (old between xs ys all : List Term) → between ≡ old ++ xs → all ≡ xs ++ ys → between ++ ys ≡ old ++ all
+after old between xs ys all first whole = ap (λ ts. ts ++ ys) first ∙ append_assoc old xs ys ∙ ap (λ ts. old ++ ts) (sym whole)
 
-pub pushed_sum : (b : Bool) (whole e f e' f' : Expr) (old between : List Term) → whole ≡ Add e f → e' ≡ e → f' ≡ f
-    → between ≡ old ++ signed_terms b e' → between ++ signed_terms b f' ≡ old ++ signed_terms b whole
-pushed_sum b whole e f e' f' old between is first second before =
-    behind old between (signed_terms b e') (signed_terms b f') (signed_terms b whole) before
-    (ap (signed_terms b) is ∙ signed_add b e f ∙ ap (λ ts. ts ++ signed_terms b f) (ap (signed_terms b) (sym first))
-    ∙ ap (λ ts. signed_terms b e' ++ ts) (ap (signed_terms b) (sym second)))
+pub pushed_one : (b : Bool) (whole copy : Expr) (old : List Term) → terms whole ≡ plain_term whole ∷ [] → copy ≡ whole
+    → old ++ (record { negated = b; expr = copy } ∷ []) ≡ old ++ signed_terms b whole
+pushed_one true whole copy old one same =
+    ap (λ e. old ++ (record { negated = true; expr = e } ∷ [])) same ∙ ap (λ ts. old ++ map negated_term ts) (sym one)
+pushed_one false whole copy old one same =
+    ap (λ e. old ++ (record { negated = false; expr = e } ∷ [])) same ∙ ap (λ ts. old ++ ts) (sym one)
 
-pub pushed_difference : (b : Bool) (whole e f e' f' : Expr) (old between : List Term) → whole ≡ Sub e f → e' ≡ e → f' ≡ f
-    → between ≡ old ++ signed_terms b e' → between ++ signed_terms (not b) f' ≡ old ++ signed_terms b whole
-pushed_difference b whole e f e' f' old between is first second before =
-    behind old between (signed_terms b e') (signed_terms (not b) f') (signed_terms b whole) before
-    (ap (signed_terms b) is ∙ signed_sub b e f ∙ ap (λ ts. ts ++ signed_terms (not b) f) (ap (signed_terms b) (sym first))
-    ∙ ap (λ ts. signed_terms b e' ++ ts) (ap (signed_terms (not b)) (sym second)))
+pub pushed_sides : (b behind : Bool) (whole : Expr) (o : Operator) (e f e' f' : Expr) (old between : List Term) → whole ≡ Binary o e f
+    → is_product o ≡ false → behind ≡ sign_behind o b → e' ≡ e → f' ≡ f
+    → between ≡ old ++ signed_terms b e' → between ++ signed_terms behind f' ≡ old ++ signed_terms b whole
+pushed_sides b behind whole o e f e' f' old between is sides sign first second before =
+    after old between (signed_terms b e') (signed_terms behind f') (signed_terms b whole) before
+    (ap (signed_terms b) is ∙ signed_binary b o e f sides
+    ∙ ap (λ ts. ts ++ signed_terms (sign_behind o b) f) (ap (signed_terms b) (sym first))
+    ∙ ap (λ ts. signed_terms b e' ++ ts) (ap (signed_terms (sign_behind o b)) (sym second) ∙ ap (λ c. signed_terms c f') (sym sign)))
 
 pub pushed_negation : (b : Bool) (whole e e' : Expr) (old : List Term) → whole ≡ Neg e → e' ≡ e
     → old ++ signed_terms (not b) e' ≡ old ++ signed_terms b whole

@@ -11,9 +11,13 @@ fn has_minus(expr: &Expr) -> bool
 {
     match expr {
         Expr::Num(_) | Expr::Access(_) => false,
-        Expr::Add(first, second) => has_minus(first.get()) || has_minus(second.get()),
-        Expr::Mul(first, second) => has_minus(first.get()) || has_minus(second.get()),
-        Expr::Sub(_, _) | Expr::Neg(_) => true,
+        Expr::Binary(operator, first, second) => {
+            if operator.is_minus() {
+                return true;
+            }
+            has_minus(first.get()) || has_minus(second.get())
+        }
+        Expr::Neg(_) => true,
     }
 }
 

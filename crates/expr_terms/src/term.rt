@@ -1,10 +1,10 @@
 //! The terms of a right side, and the variables over which each of them is summed.
-ghost use Rattle.std.specs.Prelude.{◌≡◌, ◌++◌, IfOk, OnOk};
-ghost use Rattle.expr_terms.specs.Signs.{signed_terms};
-ghost use Rattle.expr_terms.specs.Terms.{terms, stands_in, is_own, own_in, own_variables};
+ghost use Rattle.std.specs.Prelude.{◌≡◌, [], ◌∷◌, ◌++◌, IfOk, OnOk};
+ghost use Rattle.expr_terms.specs.Signs.{sign_behind, signed_terms};
+ghost use Rattle.expr_terms.specs.Terms.{plain_term, terms, stands_in, is_own, own_in, own_variables};
 
 use crate::lookups::{has_number, stands_at};
-use index_notation::{Access, Expr, Statement, copy_expr};
+use index_notation::{Access, Expr, Operator, Statement, copy_expr};
 use std::alloc::{AllocError, Global};
 use trees::Items;
 
@@ -22,13 +22,7 @@ pub fn stands_in(accesses: &[Access], var: usize, expr: &Expr) -> bool
     match expr {
         Expr::Num(_) => false,
         Expr::Access(n) => stands_at(accesses, *n, var),
-        Expr::Add(first, second) => {
-            stands_in(accesses, var, first.get()) || stands_in(accesses, var, second.get())
-        }
-        Expr::Sub(first, second) => {
-            stands_in(accesses, var, first.get()) || stands_in(accesses, var, second.get())
-        }
-        Expr::Mul(first, second) => {
+        Expr::Binary(_, first, second) => {
             stands_in(accesses, var, first.get()) || stands_in(accesses, var, second.get())
         }
         Expr::Neg(inner) => stands_in(accesses, var, inner.get()),
@@ -72,6 +66,31 @@ pub fn own_variables(
     own_in(alloc, statement, &term.expr)
 }
 
+/// Whether the terms behind an operator are negated, where those before it are or aren't.
+pub(crate) fn sign_behind(operator: Operator, negated: bool) -> bool
+    ensures { result ≡ sign_behind operator negated }
+{
+    match operator {
+        Operator::Add => negated,
+        Operator::Sub => !negated,
+        Operator::Mul => negated,
+    }
+}
+
+/// Puts an expression that is one term, negated where `negated` says so, at the end of a list.
+fn push_one(
+    alloc: Global,
+    expr: &Expr,
+    negated: bool,
+    list: &mut Items<Term>,
+) -> Result<(), AllocError>
+    requires { terms expr.now ≡ plain_term expr.now ∷ [] }
+    ensures { OnOk result (list.new ≡ list.old ++ signed_terms negated expr.now) }
+{
+    let expr = copy_expr(alloc, expr)?;
+    list.push(Term { negated, expr })
+}
+
 /// Puts the terms of an expression, each negated where `negated` says so, at the end of a list.
 fn push_terms(
     alloc: Global,
@@ -82,19 +101,16 @@ fn push_terms(
     ensures { OnOk result (list.new ≡ list.old ++ signed_terms negated expr.now) }
 {
     match expr {
-        Expr::Add(first, second) => {
+        Expr::Binary(operator, first, second) => {
+            if operator.is_product() {
+                return push_one(alloc, expr, negated, list);
+            }
             push_terms(alloc, first.get(), negated, list)?;
-            push_terms(alloc, second.get(), negated, list)
-        }
-        Expr::Sub(first, second) => {
-            push_terms(alloc, first.get(), negated, list)?;
-            push_terms(alloc, second.get(), !negated, list)
+            let behind = sign_behind(*operator, negated);
+            push_terms(alloc, second.get(), behind, list)
         }
         Expr::Neg(inner) => push_terms(alloc, inner.get(), !negated, list),
-        Expr::Num(_) | Expr::Access(_) | Expr::Mul(_, _) => {
-            let expr = copy_expr(alloc, expr)?;
-            list.push(Term { negated, expr })
-        }
+        Expr::Num(_) | Expr::Access(_) => push_one(alloc, expr, negated, list),
     }
 }
 

@@ -3,6 +3,7 @@ pub mod Grammar
 pub mod Notation
 pub mod Numbering
 pub mod NumberingLaws
+pub mod Operators
 pub mod Statement
 pub mod Symbols
 pub mod Tokens

@@ -2,7 +2,7 @@
 use Rattle.std.specs.Prelude.{◌≡◌, ◌≢◌, ℕ, zero, suc, ◌+◌, ◌<◌, ◌≤◌, List, [], ◌∷◌, length}
 use Rattle.limits.specs.Limits.{greatest_order, greatest_variables}
 use Rattle.index_notation.specs.declared.syntax.Access.{Access}
-use Rattle.index_notation.specs.declared.syntax.Expr.{Expr, Num, Access as AccessOf, Add', Sub', Mul', Neg', Row_of-Expr, end_of-Expr}
+use Rattle.index_notation.specs.declared.syntax.Expr.{Expr, Num, Access as AccessOf, Binary', Neg', Row_of-Expr, end_of-Expr}
 use Rattle.index_notation.specs.declared.syntax.Expr.{more_of-Expr}
 use Rattle.index_notation.specs.declared.syntax.Statement.{Statement}
 use Rattle.lists.specs.Each.{Each}
@@ -28,9 +28,7 @@ abbrev mutual
   pub AccessesUnder : ℕ → Expr → Type 0
   AccessesUnder n (Num k) = Unit {0}
   AccessesUnder n (AccessOf k) = k < n
-  AccessesUnder n (Add' p a q b) = AccessesUnder_in n a × AccessesUnder_in n b
-  AccessesUnder n (Sub' p a q b) = AccessesUnder_in n a × AccessesUnder_in n b
-  AccessesUnder n (Mul' p a q b) = AccessesUnder_in n a × AccessesUnder_in n b
+  AccessesUnder n (Binary' o p a q b) = AccessesUnder_in n a × AccessesUnder_in n b
   AccessesUnder n (Neg' p a) = AccessesUnder_in n a
 
   -- the same of the one expression in a box

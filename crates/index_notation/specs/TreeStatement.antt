@@ -1,7 +1,8 @@
 -- The statement of a syntax tree. Brackets only group; names, tensors and variables apart, are numbered by first
 -- appearance, and accesses of the right side in text order.
 use Rattle.std.specs.Prelude.{ℕ, ◌+◌, List, [], ◌∷◌, ◌++◌, map}
-use Rattle.index_notation.specs.declared.syntax.Expr.{Expr, Num, Access as AccessOf, Add, Sub, Mul, Neg}
+use Rattle.index_notation.specs.declared.syntax.Expr.{Expr, Num, Access as AccessOf, Binary, Neg}
+use Rattle.index_notation.specs.declared.operator.Operator.TheVariants as op
 use Rattle.index_notation.specs.declared.syntax.Statement.{Statement}
 use Rattle.index_notation.specs.declared.token.WrittenAccess.{WrittenAccess}
 use Rattle.index_notation.specs.Grammar.{Factor, Digits, Read, Bracketed, Negated, Product, Lone, Multiplied, Sum, Alone, Added, Taken}
@@ -53,12 +54,12 @@ abbrev mutual
 
   pub product_expr : ℕ → Product → Expr
   product_expr n (Lone factor) = factor_expr n factor
-  product_expr n (Multiplied product factor) = Mul (product_expr n product) (factor_expr (n + reads_in_product product) factor)
+  product_expr n (Multiplied product factor) = Binary op.Mul (product_expr n product) (factor_expr (n + reads_in_product product) factor)
 
   pub sum_expr : ℕ → Sum → Expr
   sum_expr n (Alone product) = product_expr n product
-  sum_expr n (Added sum product) = Add (sum_expr n sum) (product_expr (n + reads_in_sum sum) product)
-  sum_expr n (Taken sum product) = Sub (sum_expr n sum) (product_expr (n + reads_in_sum sum) product)
+  sum_expr n (Added sum product) = Binary op.Add (sum_expr n sum) (product_expr (n + reads_in_sum sum) product)
+  sum_expr n (Taken sum product) = Binary op.Sub (sum_expr n sum) (product_expr (n + reads_in_sum sum) product)
 
 -- all accesses, the left one first
 abbrev pub accesses_of_tree : Tree → List WrittenAccess

@@ -46,9 +46,9 @@ fn is_under(expr: &Expr, count: usize) -> bool
     match expr {
         Expr::Num(_) => true,
         Expr::Access(n) => *n < count,
-        Expr::Add(first, second) => is_under(first.get(), count) && is_under(second.get(), count),
-        Expr::Sub(first, second) => is_under(first.get(), count) && is_under(second.get(), count),
-        Expr::Mul(first, second) => is_under(first.get(), count) && is_under(second.get(), count),
+        Expr::Binary(_, first, second) => {
+            is_under(first.get(), count) && is_under(second.get(), count)
+        }
         Expr::Neg(inner) => is_under(inner.get(), count),
     }
 }

@@ -6,11 +6,13 @@
 
 mod checks;
 mod fault;
+mod operator;
 mod symbol;
 mod syntax;
 mod token;
 
 pub use fault::{Counted, NotationFault, SymbolFault};
+pub use operator::Operator;
 pub use symbol::{PlacedSymbol, Symbol};
-pub use syntax::{Access, Expr, Name, Statement, copy_access, copy_expr, copy_name};
+pub use syntax::{Access, Expr, Name, Statement, binary, copy_access, copy_expr, copy_name};
 pub use token::{Mark, Token, WrittenAccess};

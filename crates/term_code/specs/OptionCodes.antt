@@ -1,5 +1,5 @@
 -- The code of values that may be absent: 1 and the value, or 0.
-use Rattle.std.specs.Prelude.{ℕ, ◌+◌, Bool, true, false, List, [], ◌∷◌}
+use Rattle.std.specs.Prelude.{ℕ, ◌+◌, Bool, true, false, List, [], ◌∷◌, ◌++◌}
 use Rattle.kernel_code.specs.declared.syntax.Arr.TheVariants.{Values}
 use Rattle.kernel_code.specs.declared.syntax.Op.{Op}
 use Rattle.kernel_code.specs.declared.syntax.Op.TheVariants.{Add, Mul}
@@ -7,6 +7,8 @@ use Rattle.kernel_code.specs.declared.syntax.ValueOp.{ValueOp}
 use Rattle.kernel_code.specs.declared.syntax.ValueOp.TheVariants.{Plus, Times}
 use Rattle.kernel_code.specs.declared.syntax.KExpr.{KExpr, Num, Var, At, Bin}
 use Rattle.kernel_code.specs.declared.syntax.KStmt.{KStmt, Set, Combine, If}
+use Rattle.index_notation.specs.declared.operator.Operator.{Operator}
+use Rattle.index_notation.specs.declared.operator.Operator.TheVariants as op
 use Rattle.term_code.specs.Places.{AccessPlace}
 
 abbrev pub number_code : ℕ → ℕ → List KStmt
@@ -46,3 +48,9 @@ both_code ring free =
 -- a value by a number, where it is there
 abbrev pub each_code : Bool → ℕ → ℕ → List KStmt
 each_code ring n free = If (Var free) (combine_code ring (free + 1) Times (Num n) (Var (free + 1)) ∷ []) [] ∷ []
+
+-- an operator of two values, by the code of each and the number minus one
+abbrev pub applied_code : Bool → ℕ → Operator → List KStmt → List KStmt → ℕ → List KStmt
+applied_code ring n op.Add first second free = (first ++ second) ++ either_code ring free
+applied_code ring n op.Sub first second free = (first ++ (second ++ each_code ring n (free + 2))) ++ either_code ring free
+applied_code ring n op.Mul first second free = (first ++ second) ++ both_code ring free

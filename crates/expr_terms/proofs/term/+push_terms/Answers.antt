@@ -1,23 +1,26 @@
 use Rattle.std.specs.Prelude.{◌≡◌, List, OnOk}
-use Rattle.std.proofs.Common.{subst}
+use Rattle.std.proofs.Common.{◌∙◌, sym, subst}
 use Rattle.expr_terms.specs.Terms.{Term}
-use Rattle.expr_terms.proofs.PushedTerms.{pushed_sum, pushed_difference, pushed_negation}
+use Rattle.expr_terms.proofs.PushedTerms.{pushed_sides, pushed_negation}
+use Rattle.expr_terms.proofs.TermSums.{product_is_one_term, leaf_is_one_term}
 use Rattle.expr_terms.proofs.term.+push_terms.Goals as goal
 
-pub returns-in_ok-push_terms-in-Add : goal.returns-in_ok-push_terms-in-Add
-returns-in_ok-push_terms-in-Add t c =
-    subst (λ (list : List Term). OnOk c.push_terms-in-Add.result (c.push_terms-in-Add.new.list ≡ list))
-    (pushed_sum c.args.negated c.args.expr.now c.in-Add.first c.in-Add.second c.get.result.now c.get-in-Add.result.now c.args.list.now
-    c.push_terms.new.list c.in-Add.is c.get.ensures c.get-in-Add.ensures c.in_ok-push_terms-in-Add.ensures)
-    c.push_terms-in-Add.ensures
+pub push_one-requires : goal.push_one-requires
+push_one-requires t c =
+    product_is_one_term c.args.expr.now c.in-Binary.operator c.in-Binary.first c.in-Binary.second c.in-Binary.is
+    (sym c.is_product.ensures ∙ c.if-is_product.true)
 
-pub returns-in_ok-push_terms-in-Sub : goal.returns-in_ok-push_terms-in-Sub
-returns-in_ok-push_terms-in-Sub t c =
-    subst (λ (list : List Term). OnOk c.push_terms-in-Sub-2.result (c.push_terms-in-Sub-2.new.list ≡ list))
-    (pushed_difference c.args.negated c.args.expr.now c.in-Sub.first c.in-Sub.second c.get-in-Sub.result.now c.get-in-Sub-2.result.now
-    c.args.list.now c.push_terms-in-Sub.new.list c.in-Sub.is c.get-in-Sub.ensures c.get-in-Sub-2.ensures
-    c.in_ok-push_terms-in-Sub.ensures)
-    c.push_terms-in-Sub-2.ensures
+pub push_one-requires-in-Num : goal.push_one-requires-in-Num
+push_one-requires-in-Num t c = leaf_is_one_term c.args.expr.now c.in-Num.is
+
+pub returns-in_ok-push_terms-in-Binary : goal.returns-in_ok-push_terms-in-Binary
+returns-in_ok-push_terms-in-Binary t c =
+    subst (λ (list : List Term). OnOk c.push_terms-in-Binary.result (c.push_terms-in-Binary.new.list ≡ list))
+    (pushed_sides c.args.negated c.sign_behind-behind.result c.args.expr.now c.in-Binary.operator c.in-Binary.first c.in-Binary.second
+    c.get.result.now c.get-in-Binary.result.now c.args.list.now c.push_terms.new.list c.in-Binary.is
+    (sym c.is_product.ensures ∙ c.if-is_product.false) c.sign_behind-behind.ensures c.get.ensures c.get-in-Binary.ensures
+    c.in_ok-push_terms-in-Binary.ensures)
+    c.push_terms-in-Binary.ensures
 
 pub returns-in-Neg : goal.returns-in-Neg
 returns-in-Neg t c =

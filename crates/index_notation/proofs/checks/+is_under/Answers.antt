@@ -8,7 +8,7 @@ pub returns-then-is_under-clause-told : goal.returns-then-is_under-clause-told
 unfolding hidden-the_row-Expr-0 hidden
 returns-then-is_under-clause-told t c = λ told.
     let P = AccessesUnder c.args.count in
-    subst P (sym c.in-Add.is) (
+    subst P (sym c.in-Binary.is) (
       subst P c.get.ensures (c.is_under.ensures.told c.if-is_under.true),
       subst P c.get-then-is_under.ensures (c.is_under-then-is_under.ensures.told told),
     )
@@ -17,55 +17,13 @@ pub returns-then-is_under-clause-found : goal.returns-then-is_under-clause-found
 unfolding hidden-the_row-Expr-0 hidden
 returns-then-is_under-clause-found t c = λ has.
     let P = AccessesUnder c.args.count in
-    c.is_under-then-is_under.ensures.found (subst P (sym c.get-then-is_under.ensures) (subst P c.in-Add.is has).1)
+    c.is_under-then-is_under.ensures.found (subst P (sym c.get-then-is_under.ensures) (subst P c.in-Binary.is has).1)
 
 pub returns-else-is_under-clause-found : goal.returns-else-is_under-clause-found
 unfolding hidden-the_row-Expr-0 hidden
 returns-else-is_under-clause-found t c = λ has.
     let P = AccessesUnder c.args.count in
-    c.is_under.ensures.found (subst P (sym c.get.ensures) (subst P c.in-Add.is has).0)
-
-pub returns-then-is_under-2-clause-told : goal.returns-then-is_under-2-clause-told
-unfolding hidden-the_row-Expr-0 hidden
-returns-then-is_under-2-clause-told t c = λ told.
-    let P = AccessesUnder c.args.count in
-    subst P (sym c.in-Sub.is) (
-      subst P c.get-in-Sub.ensures (c.is_under-in-Sub.ensures.told c.if-is_under-2.true),
-      subst P c.get-then-is_under-2.ensures (c.is_under-then-is_under-2.ensures.told told),
-    )
-
-pub returns-then-is_under-2-clause-found : goal.returns-then-is_under-2-clause-found
-unfolding hidden-the_row-Expr-0 hidden
-returns-then-is_under-2-clause-found t c = λ has.
-    let P = AccessesUnder c.args.count in
-    c.is_under-then-is_under-2.ensures.found (subst P (sym c.get-then-is_under-2.ensures) (subst P c.in-Sub.is has).1)
-
-pub returns-else-is_under-2-clause-found : goal.returns-else-is_under-2-clause-found
-unfolding hidden-the_row-Expr-0 hidden
-returns-else-is_under-2-clause-found t c = λ has.
-    let P = AccessesUnder c.args.count in
-    c.is_under-in-Sub.ensures.found (subst P (sym c.get-in-Sub.ensures) (subst P c.in-Sub.is has).0)
-
-pub returns-then-is_under-3-clause-told : goal.returns-then-is_under-3-clause-told
-unfolding hidden-the_row-Expr-0 hidden
-returns-then-is_under-3-clause-told t c = λ told.
-    let P = AccessesUnder c.args.count in
-    subst P (sym c.in-Mul.is) (
-      subst P c.get-in-Mul.ensures (c.is_under-in-Mul.ensures.told c.if-is_under-3.true),
-      subst P c.get-then-is_under-3.ensures (c.is_under-then-is_under-3.ensures.told told),
-    )
-
-pub returns-then-is_under-3-clause-found : goal.returns-then-is_under-3-clause-found
-unfolding hidden-the_row-Expr-0 hidden
-returns-then-is_under-3-clause-found t c = λ has.
-    let P = AccessesUnder c.args.count in
-    c.is_under-then-is_under-3.ensures.found (subst P (sym c.get-then-is_under-3.ensures) (subst P c.in-Mul.is has).1)
-
-pub returns-else-is_under-3-clause-found : goal.returns-else-is_under-3-clause-found
-unfolding hidden-the_row-Expr-0 hidden
-returns-else-is_under-3-clause-found t c = λ has.
-    let P = AccessesUnder c.args.count in
-    c.is_under-in-Mul.ensures.found (subst P (sym c.get-in-Mul.ensures) (subst P c.in-Mul.is has).0)
+    c.is_under.ensures.found (subst P (sym c.get.ensures) (subst P c.in-Binary.is has).0)
 
 pub returns-in-Neg-clause-told : goal.returns-in-Neg-clause-told
 unfolding hidden-the_row-Expr-0 hidden
