@@ -32,7 +32,6 @@ use Rattle.level_rows.specs.Rows.{Rows, begun_below, MayInsertRows}
 use Rattle.level_rows.specs.Values.{StoresValues}
 use Rattle.level_rows.specs.Tables.{ShareBy}
 use Rattle.level_rows.proofs.InsertLoop.{Inserting, begins}
-use Rattle.level_rows.proofs.TableLaws.{before}
 use Rattle.level_rows.proofs.ValueLaws.{places_apart}
 use Rattle.format_spec.specs.Formats.{Chained}
 use Rattle.tensor_storage.specs.declared.level.StorageLevel.{StorageLevel}

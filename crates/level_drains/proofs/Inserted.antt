@@ -32,17 +32,10 @@ use Rattle.tensor_storage.proofs.Tables.{apart}
 use Rattle.level_drains.specs.Drained.{MayDrain, AreDrained, PassesAt}
 use Rattle.level_drains.specs.Tests.{begins_test}
 use Rattle.level_drains.proofs.Holding.{inserted_summed, is_new}
+use Rattle.level_drains.proofs.KindLaws.{inserted_able}
 use Rattle.level_drains.proofs.Steps.{size_here, rows_here, few_words, begun_here, fill_here, first_told, coord_told}
 use Rattle.level_drains.proofs.Steps.{told_here, packed_here, drained_here}
 use Rattle.level_drains.proofs.Turns.{counted_few, counted_above}
-
-pub inserted_able : (letter : Letter) → (capabilities letter).append ≡ false → (capabilities letter).insert ≡ true
-inserted_able Dense h = refl
-inserted_able Compressed h = apart h
-inserted_able CompressedGroups h = apart h
-inserted_able Singleton h = apart h
-inserted_able SingletonGroups h = apart h
-inserted_able Hashed h = refl
 
 -- where there are no parents there are no positions
 no_parents : (letter : Letter) (size most : ℕ) → positions_for letter size 0 most ≡ 0

@@ -1,5 +1,5 @@
--- The code of a hashed level that is the last, as a function makes it, from pieces.
-use Rattle.std.specs.Prelude.{◌≡◌, ℕ, suc, ◌+◌, ◌-◌, List, [], ◌∷◌, ◌++◌}
+-- The code of the last level where its coordinates are counted, as a function makes it, from pieces.
+use Rattle.std.specs.Prelude.{◌≡◌, ℕ, suc, ◌+◌, ◌-◌, List, [], ◌∷◌, ◌++◌, drop}
 use Rattle.std.proofs.Common.{◌∙◌, sym, ap, subst, arith}
 use Rattle.std.proofs.lemmas.List.{append_assoc}
 use Rattle.kernel_code.specs.Does.{Does}
@@ -18,6 +18,7 @@ use Rattle.level_drains.specs.Filling.{fill_rows_code, FillsLast, LeavesFilled}
 use Rattle.level_drains.specs.Tests.{begins_test}
 use Rattle.level_drains.proofs.Codes.{rows_of}
 use Rattle.level_drains.proofs.FillCode.{last_filled}
+use Rattle.level_drains.proofs.KindLaws.{counted_is}
 
 one_less : (level d : ℕ) → level ≡ suc d → level - 1 ≡ d
 one_less level d is = omega (arith, is)
@@ -55,8 +56,9 @@ filled_of at site count test coord nothing total greatest prepare insert fill co
         → fill ≡ fill_rows_code (at.base + 1) at.workspace at.list insert
         → code ≡ (((greatest ++ total ∷ []) ++ prepare) ++ Extend (Values 0) (Var at.base) (Num nothing) ∷ []) ++ fill
         → FillsLast nothing at.level at.workspace at.list at.base count code
-    here tests coords totals finds prepares inserts fills codes letters d number left c sizes table may s dr =
+    here tests coords totals finds prepares inserts fills codes letters letter d number left counted c sizes table may s dr =
         let w = at.workspace in let g = at.list in let base = at.base in
+        let left_here : drop d letters ≡ Hashed ∷ [] = subst (λ k. drop d letters ≡ k ∷ []) (counted_is letter counted) left in
         let finds_here : FindsGreatest (base + 1) w g (suc d) (begins_test (base + 1) w at.level) greatest =
         subst (λ k. FindsGreatest (base + 1) w g k (begins_test (base + 1) w at.level) greatest) number
         (subst (λ t. FindsGreatest (base + 1) w g at.level t greatest) tests finds) in
@@ -76,7 +78,7 @@ filled_of at site count test coord nothing total greatest prepare insert fill co
         ∙ in_row greatest (Set base (Bin Mul count (Width (Var (base + 1 + 2)))) ∷ []) prepare
         (Extend (Values 0) (Var base) (Num nothing) ∷ []) (fill_rows_code (base + 1) w g insert) in
         subst (λ k. Does c k s (LeavesFilled nothing letters sizes table w g d base s) (RefusesLevel letters sizes table d s)) (sym code_is)
-        (last_filled letters w g d at.level base count bounded left (number ∙ next d) nothing sizes table may s dr greatest prepare insert
+        (last_filled letters w g d at.level base count bounded left_here (number ∙ next d) nothing sizes table may s dr greatest prepare insert
         finds_here prepares_here inserts_here c)
       where
         next : (d : ℕ) → suc d ≡ d + 1

@@ -1,4 +1,5 @@
 pub mod Lists
+pub mod KindLaws
 pub mod Telling
 pub mod Holding
 pub mod Turns

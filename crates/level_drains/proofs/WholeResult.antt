@@ -1,5 +1,5 @@
 -- Levels that are filled, and then the values, are a packed result.
-use Rattle.std.specs.Prelude.{◌≡◌, ℕ, suc, ◌+◌, ◌≤◌, ◌<◌, ◌^◌, List, [], ◌∷◌, ◌++◌, length, map, drop, replicate, None, refl}
+use Rattle.std.specs.Prelude.{◌≡◌, ℕ, suc, ◌+◌, ◌≤◌, ◌<◌, ◌^◌, List, [], ◌∷◌, ◌++◌, length, map, drop, replicate, None, Some, refl}
 use Rattle.std.proofs.Common.{◌∙◌, sym, ap, subst, arith}
 use Rattle.std.proofs.lemmas.List.{append-nil, length-map}
 use Rattle.limits.proofs.Limits.{positions_are_small, workspace_pairs_are_positions}
@@ -11,7 +11,6 @@ use Rattle.kernel_code.specs.declared.syntax.Arr.TheVariants.{Values}
 use Rattle.kernel_code.specs.declared.syntax.KExpr.{KExpr, Var}
 use Rattle.kernel_code.specs.declared.syntax.KStmt.{KStmt}
 use Rattle.level_core.specs.declared.letter.Letter.{Letter}
-use Rattle.level_core.specs.declared.letter.Letter.TheVariants.{Hashed}
 use Rattle.level_rows.specs.Tables.{Increase}
 use Rattle.format_spec.specs.declared.format.FormatLevel.{FormatLevel}
 use Rattle.format_spec.specs.Formats.{letters_of, IsFormat}
@@ -21,7 +20,7 @@ use Rattle.tensor_storage.specs.Stands.{IsPacked}
 use Rattle.tensor_storage.specs.Storages.{IsStorage, storage_of, in_level_order}
 use Rattle.tensor_storage.specs.Tables.{Table}
 use Rattle.tensor_storage.proofs.Standing.{pack_done, distinct_places}
-use Rattle.level_drains.specs.Drained.{MayDrain, AreDrained, IsAboveLast, most_passes, passes_at, passes_of}
+use Rattle.level_drains.specs.Drained.{MayDrain, AreDrained, IsAboveLast, IsCounted, most_passes, passes_at, passes_of}
 use Rattle.level_drains.specs.Filling.{without_values, LeavesFilled, FillsLast}
 use Rattle.level_drains.specs.Levels.{IsReady, LeavesLevels, RefusesLevels, DrainsFirst}
 use Rattle.level_drains.specs.Stored.{values_code, LeavesValues, LeavesStored, DrainsResult}
@@ -119,9 +118,10 @@ whole_drained format w g base nothing place count code values all is last first 
     subst (DrainsResult format w g base nothing) (sym (all_is ∙ ap (λ v. code ++ v) values_is))
     (λ c ranges table may s ready. whole format w g base nothing code is first once c ranges table may s ready)
 
--- where the last level is hashed its code stores the values too
+-- where the coordinates of the last level are counted its code stores the values too
 module _ (format : List FormatLevel) (w g base nothing d : ℕ) (code last : List KStmt) (is : IsFormat format)
-    (left : drop d (letters_of format) ≡ Hashed ∷ []) (first : DrainsFirst (letters_of format) d w g base code)
+    (letter : Letter) (left : drop d (letters_of format) ≡ letter ∷ []) (counted : IsCounted letter)
+    (first : DrainsFirst (letters_of format) d w g base code)
     (fills : FillsLast nothing (suc d) w g (base + d + 1) (Var (base + d)) last)
     (c : Setting) (ranges : List ℕ) (table : Table) (may : MayDrain (letters_of format) (in_level_order format ranges) table)
     (s : State) (ready : IsReady nothing (letters_of format) (in_level_order format ranges) table w g s) where
@@ -136,7 +136,7 @@ module _ (format : List FormatLevel) (w g base nothing d : ℕ) (code last : Lis
 
   all_levels : suc d ≡ length format
   all_levels =
-      let r = drop_rest (letters_of format) d Hashed [] left in
+      let r = drop_rest (letters_of format) d letter [] left in
       let less = r.0 in
       let none = ap length r.1 in
       let there = left_long (letters_of format) d less in
@@ -165,7 +165,7 @@ module _ (format : List FormatLevel) (w g base nothing d : ℕ) (code last : Lis
         (replicate l.drained.parents nothing) l.values l.values is rises packed_all refl refl l.stores refl
 
     none_left : drop (suc d) (letters_of format) ≡ []
-    none_left = sym (drop_rest (letters_of format) d Hashed [] left).1
+    none_left = sym (drop_rest (letters_of format) d letter [] left).1
 
     filled : LeavesStored nothing format ranges table g base s u
     filled = record {
@@ -204,7 +204,7 @@ module _ (format : List FormatLevel) (w g base nothing d : ℕ) (code last : Lis
         ((λ j. fewer_turns (s.turns j) (turns j) (passes_of letters d) (passes_at letters d) table.count r.2 j (r.3.0 j)), r.3.1),
       )))
       (λ t f.
-      does_weaker c last t _ _ _ _ (fills letters d refl left c sizes table may t f.drained) (λ u l. filled t u f l)
+      does_weaker c last t _ _ _ _ (fills letters letter d refl left counted c sizes table may t f.drained) (λ u l. filled t u f l)
       (λ turns a k r. subst (λ n. RefusesLevels letters sizes table n s turns a k) all_levels (
         d,
         omega arith,
@@ -217,13 +217,14 @@ module _ (format : List FormatLevel) (w g base nothing d : ℕ) (code last : Lis
       )))
 
 pub whole_filled : (format : List FormatLevel) (w g base nothing d level place : ℕ) (count : KExpr) (code last all : List KStmt)
-    → IsFormat format → drop d (letters_of format) ≡ Hashed ∷ [] → DrainsFirst (letters_of format) d w g base code → level ≡ suc d
+    → IsFormat format → IsAboveLast (letters_of format) (Some d) → DrainsFirst (letters_of format) d w g base code → level ≡ suc d
     → place ≡ base + d + 1 → count ≡ Var (base + d) → FillsLast nothing level w g place count last → all ≡ code ++ last
     → DrainsResult format w g base nothing all
-whole_filled format w g base nothing d level place count code last all is left first number placed counted fills all_is =
+whole_filled format w g base nothing d level place count code last all is above first number placed told fills all_is =
     let fills_here : FillsLast nothing (suc d) w g (base + d + 1) (Var (base + d)) last =
     subst (λ l. FillsLast nothing l w g (base + d + 1) (Var (base + d)) last) number
     (subst (λ p. FillsLast nothing level w g p (Var (base + d)) last) placed
-    (subst (λ e. FillsLast nothing level w g place e last) counted fills)) in
+    (subst (λ e. FillsLast nothing level w g place e last) told fills)) in
     subst (DrainsResult format w g base nothing) (sym all_is)
-    (λ c ranges table may s ready. filled_all format w g base nothing d code last is left first fills_here c ranges table may s ready)
+    (λ c ranges table may s ready. filled_all format w g base nothing d code last is above.0 above.2 above.1 first fills_here c ranges table
+    may s ready)

@@ -1,6 +1,6 @@
 -- Levels of a kernel's result that are filled from the rows of a workspace, one below another: what arrays hold after each, and what the
 -- code of one level does.
-use Rattle.std.specs.Prelude.{◌≡◌, ◌⊎◌, ℕ, zero, suc, ◌+◌, ◌*◌, ◌≤◌, ◌<◌}
+use Rattle.std.specs.Prelude.{◌≡◌, ◌⊎◌, ℕ, zero, suc, ◌+◌, ◌*◌, ◌≤◌, ◌<◌, true, false}
 use Rattle.std.specs.Prelude.{List, [], ◌∷◌, length, drop, if◌then◌else◌, All}
 use Rattle.std.specs.Prelude.{Option, Some, None, slice_index}
 use Rattle.limits.specs.Limits.{greatest_position_count, greatest_workspace_pairs}
@@ -14,9 +14,8 @@ use Rattle.kernel_code.specs.declared.syntax.KStmt.{KStmt}
 use Rattle.kernel_code.specs.declared.syntax.LoopKind.{LoopKind}
 use Rattle.kernel_code.specs.declared.syntax.LoopKind.TheVariants.{Drain, Probe}
 use Rattle.level_core.specs.declared.letter.Letter.{Letter}
-use Rattle.level_core.specs.declared.letter.Letter.TheVariants.{Hashed}
 use Rattle.level_core.specs.Fragments.{IsOf, RefusedWithin, turns_of}
-use Rattle.level_core.specs.Kinds.{properties}
+use Rattle.level_core.specs.Kinds.{properties, capabilities}
 use Rattle.level_core.specs.Meaning.{Arrays}
 use Rattle.level_rows.specs.Draining.{Stays}
 use Rattle.level_rows.specs.Placing.{times}
@@ -84,10 +83,16 @@ abbrev pub passes_of : List Letter → ℕ → ℕ
 passes_of letters zero = 0
 passes_of letters (suc d) = passes_of letters d + passes_at letters d
 
--- how many levels stand above the last one where that is gone over twice; it is gone over once where nothing is told
+-- coordinates are inserted into a level of this kind and stored there: they are counted first, since how many stand below one parent
+-- settles how wide its blocks are
+pub record IsCounted (letter : Letter) : Type 0 where
+  pub inserted : (capabilities letter).insert ≡ true
+  pub stored : (properties letter).full ≡ false
+
+-- how many levels stand above the last one where its coordinates are counted; it is gone over once where nothing is told
 abbrev pub IsAboveLast : List Letter → Option ℕ → Type 0
 IsAboveLast letters None = (d : ℕ) → suc d ≡ length letters → passes_at letters d ≤ 1
-IsAboveLast letters (Some d) = drop d letters ≡ Hashed ∷ []
+IsAboveLast letters (Some d) = (letter : Letter) × IsCounted letter × (drop d letters ≡ letter ∷ [])
 
 -- how often the rows are gone over at most for so many levels and their values: twice for each level, and once where there is none
 abbrev pub most_passes : ℕ → ℕ

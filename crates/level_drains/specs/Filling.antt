@@ -1,4 +1,5 @@
--- The last level of a kernel's result where it is hashed, filled from the rows of a workspace together with the values.
+-- The last level of a kernel's result where its coordinates are counted and inserted, filled from the rows of a workspace together with
+-- the values.
 use Rattle.std.specs.Prelude.{◌≡◌, ℕ, suc, ◌+◌, List, [], ◌∷◌, ◌++◌, drop, replicate, slice_index, Some}
 use Rattle.kernel_code.specs.Does.{Does}
 use Rattle.kernel_code.specs.Keeps.{Leaves, NoVariable}
@@ -9,11 +10,10 @@ use Rattle.kernel_code.specs.declared.syntax.KStmt.{KStmt, Set, Put, While}
 use Rattle.kernel_code.specs.declared.syntax.LoopKind.TheVariants.{Drain}
 use Rattle.kernel_code.specs.declared.syntax.Op.TheVariants.{Add, Less}
 use Rattle.level_core.specs.declared.letter.Letter.{Letter}
-use Rattle.level_core.specs.declared.letter.Letter.TheVariants.{Hashed}
 use Rattle.level_rows.specs.Draining.{Stays}
 use Rattle.level_rows.specs.Values.{StoresValues}
 use Rattle.tensor_storage.specs.Tables.{Table}
-use Rattle.level_drains.specs.Drained.{MayDrain, AreDrained, RefusesLevel, drain_turns, passes_at}
+use Rattle.level_drains.specs.Drained.{MayDrain, AreDrained, IsCounted, RefusesLevel, drain_turns, passes_at}
 use Rattle.level_drains.specs.Stored.{IsNoValue}
 
 -- variables, from base on: the row, its parent's position (4), and its own (6), where its value is stored
@@ -41,10 +41,10 @@ pub record LeavesFilled (nothing : ℕ) (letters : List Letter) (sizes : List �
   pub probes : ℕ
   pub leaves : Leaves NoVariable (λ a. Stays (suc d) g a × IsNoValue a) base (drain_turns (passes_at letters d) table.count probes) s t
 
--- what the code of a hashed level does that is the last
+-- what the code of a level does that is the last, and whose coordinates are counted
 abbrev pub FillsLast : ℕ → ℕ → ℕ → ℕ → ℕ → KExpr → List KStmt → Type 0
 FillsLast nothing level w g base count code =
-    (letters : List Letter) (d : ℕ) → level ≡ suc d → drop d letters ≡ Hashed ∷ []
+    (letters : List Letter) (letter : Letter) (d : ℕ) → level ≡ suc d → drop d letters ≡ letter ∷ [] → IsCounted letter
     → (c : Setting) (sizes : List ℕ) (table : Table) → MayDrain letters sizes table
     → (s : State) → AreDrained nothing letters sizes table w g d count s
     → Does c code s (LeavesFilled nothing letters sizes table w g d base s) (RefusesLevel letters sizes table d s)

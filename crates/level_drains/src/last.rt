@@ -1,8 +1,9 @@
-//! The last level of a result where it is hashed, filled together with the values: a row's value is stored as its coordinate is inserted.
+//! The last level of a result where its coordinates are counted and inserted, filled together with the values: a row's value is stored as
+//! its coordinate is inserted.
 ghost use Rattle.std.specs.Prelude.{◌≡◌, ◌≤◌, ◌<◌, ◌+◌, ◌^◌, IfOk};
 ghost use Rattle.kernel_code.specs.Keeps.{Below};
-ghost use Rattle.level_core.specs.declared.letter.Letter.TheVariants.{Hashed};
 ghost use Rattle.tensor_storage.specs.Levels.{meaning};
+ghost use Rattle.level_drains.specs.Drained.{IsCounted};
 ghost use Rattle.level_drains.specs.Filling.{fill_row_code, fill_rows_code, FillsLast};
 
 use crate::levels::{block_positions, rows_site};
@@ -50,7 +51,7 @@ fn fill_rows(alloc: Global, at: DrainSite, insert: Items<KStmt>) -> Result<Items
     Ok(code)
 }
 
-/// Code that fills a hashed level, the last of a kernel's result, and its values, `zero` where no row is, from the rows of a workspace:
+/// Code that fills the last level of a kernel's result, whose coordinates are counted and inserted, and its values, `zero` where no row is, from the rows of a workspace:
 /// `at.level` is its number, counted from 1, `parents` tells how many positions the level above has, and the number of its own
 /// positions is left in the variable `at.base`; those above are its own. Refused for want of memory alone.
 pub fn fill_last(
@@ -60,7 +61,7 @@ pub fn fill_last(
     parents: KExpr,
     zero: u64,
 ) -> Result<Items<KStmt>, AllocError>
-    requires kind { meaning.kind level.now ≡ Hashed }
+    requires counted { IsCounted (meaning.kind level.now) }
     requires room { at.base ≤ 2 ^ 61 }
     requires number { 0 < at.level }
     requires parents { Below at.base parents }

@@ -4,15 +4,14 @@ ghost use Rattle.kernel_code.specs.declared.syntax.Arr.{Arr};
 ghost use Rattle.kernel_code.specs.declared.syntax.KExpr.{KExpr};
 ghost use Rattle.kernel_code.specs.declared.syntax.KStmt.{KStmt};
 ghost use Rattle.kernel_code.specs.declared.syntax.Op.TheVariants.{Mul};
-ghost use Rattle.level_core.specs.Kinds.{capabilities};
-ghost use Rattle.level_core.specs.declared.letter.Letter.TheVariants.{Dense, Hashed};
+ghost use Rattle.level_core.specs.Kinds.{properties, capabilities};
 ghost use Rattle.tensor_storage.specs.Levels.{meaning};
-ghost use Rattle.level_drains.specs.Drained.{DrainsOf};
+ghost use Rattle.level_drains.specs.Drained.{DrainsOf, IsCounted};
 ghost use Rattle.level_drains.specs.Tests.{guard_code};
 
 use crate::tests_of_rows::begins_by_keys;
 use kernel_code::{Arr, KExpr, KStmt, Op, binary, copy_expr, one_statement, word_at};
-use level_core::Letter;
+use level_core::{Letter, caps_of, props_of};
 use level_rows::{DrainSite, emit_append_rows, emit_greatest_below, emit_insert_rows};
 use limits::greatest_positions;
 use std::alloc::{AllocError, Global};
@@ -67,7 +66,7 @@ fn drain_appended(
     Ok(code)
 }
 
-/// The number of positions of a hashed level: as many for each parent as a block is wide. Refused for want of memory alone.
+/// The number of positions of a level whose coordinates are counted: as many for each parent as a block is wide. Refused for want of memory alone.
 pub(crate) fn block_positions(
     alloc: Global,
     base: u64,
@@ -82,19 +81,20 @@ pub(crate) fn block_positions(
     Ok(KStmt::Set(base, total))
 }
 
-/// The code of a hashed level: the greatest number of positions below one parent is found first. Refused for want of memory alone.
-fn drain_hashed(
+/// The code of a level that coordinates are inserted into and that stores them: the greatest number of positions below one parent is
+/// found first. Refused for want of memory alone.
+fn drain_counted(
     alloc: Global,
     level: &StorageLevel,
     at: DrainSite,
     through: u64,
     parents: KExpr,
 ) -> Result<Items<KStmt>, AllocError>
-    requires kind { meaning.kind level.now ≡ Hashed }
+    requires counted { IsCounted (meaning.kind level.now) }
     requires room { at.base ≤ 2 ^ 61 }
     requires number { 0 < at.level }
     requires parents { Below at.base parents }
-    ensures { IfOk result (DrainsOf Hashed at.level through at.workspace at.list at.base parents) }
+    ensures { IfOk result (DrainsOf (meaning.kind level.now) at.level through at.workspace at.list at.base parents) }
 {
     let rows = rows_site(at);
     let first = begins_by_keys(alloc, rows, through)?;
@@ -110,8 +110,8 @@ fn drain_hashed(
     Ok(code)
 }
 
-/// The number of positions of a dense level: as many for each parent as its range. Refused for want of memory alone.
-fn dense_positions(
+/// The number of positions of a full level: as many for each parent as its range. Refused for want of memory alone.
+fn full_positions(
     alloc: Global,
     base: u64,
     parents: &KExpr,
@@ -126,22 +126,22 @@ fn dense_positions(
     Ok(KStmt::Set(base, total))
 }
 
-/// The code of a dense level: nothing is stored. Refused for want of memory alone.
-fn drain_dense(
+/// The code of a full level: nothing is stored. Refused for want of memory alone.
+fn drain_full(
     alloc: Global,
     level: &StorageLevel,
     at: DrainSite,
     through: u64,
     parents: KExpr,
 ) -> Result<Items<KStmt>, AllocError>
-    requires kind { meaning.kind level.now ≡ Dense }
+    requires full { (properties (meaning.kind level.now)).full ≡ true }
     requires room { at.base ≤ 2 ^ 61 }
     requires number { 0 < at.level }
     requires parents { Below at.base parents }
-    ensures { IfOk result (DrainsOf Dense at.level through at.workspace at.list at.base parents) }
+    ensures { IfOk result (DrainsOf (meaning.kind level.now) at.level through at.workspace at.list at.base parents) }
 {
     let rows = rows_site(at);
-    let total = dense_positions(alloc, at.base, &parents, at.level)?;
+    let total = full_positions(alloc, at.base, &parents, at.level)?;
     let mut code = one_statement(alloc, total)?;
     let refuse = guard(alloc, at.base)?;
     code.append(refuse)?;
@@ -169,12 +169,11 @@ pub fn drain_level(
     ensures { IfOk result (DrainsOf letter at.level through at.workspace at.list at.base parents) }
 {
     let level = kind_of(alloc, letter)?;
-    match letter {
-        Letter::Dense => drain_dense(alloc, &level, at, through, parents),
-        Letter::Hashed => drain_hashed(alloc, &level, at, through, parents),
-        Letter::Compressed
-        | Letter::CompressedGroups
-        | Letter::Singleton
-        | Letter::SingletonGroups => drain_appended(alloc, &level, at, through, parents),
+    if caps_of(letter).append {
+        return drain_appended(alloc, &level, at, through, parents);
     }
+    if props_of(letter).full {
+        return drain_full(alloc, &level, at, through, parents);
+    }
+    drain_counted(alloc, &level, at, through, parents)
 }

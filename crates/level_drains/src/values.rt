@@ -1,6 +1,5 @@
-ghost use Rattle.std.specs.Prelude.{◌≡◌, ◌≤◌, ◌+◌, ◌^◌, ◌∷◌, [], None, IfOk, drop};
+ghost use Rattle.std.specs.Prelude.{◌≡◌, ◌≤◌, ◌+◌, ◌^◌, None, Some, IfOk};
 ghost use Rattle.format_spec.specs.Formats.{letters_of, IsFormat};
-ghost use Rattle.level_core.specs.declared.letter.Letter.TheVariants.{Hashed};
 ghost use Rattle.level_drains.specs.Drained.{IsAboveLast};
 ghost use Rattle.level_drains.specs.Stored.{value_row_code, values_code, DrainsResult};
 
@@ -8,7 +7,7 @@ use crate::drains::drain_levels;
 use crate::last::fill_last;
 use format_spec::FormatLevel;
 use kernel_code::{Arr, KExpr, KStmt, LoopKind, Op, binary, one_statement, word_at};
-use level_core::{Letter, props_of};
+use level_core::props_of;
 use level_rows::DrainSite;
 use std::alloc::{AllocError, Global};
 use tensor_storage::kind_of;
@@ -67,8 +66,9 @@ fn above_last(format: &[FormatLevel]) -> Option<usize>
     Some(above)
 }
 
-/// The code of a result whose last level, below so many others, is hashed. Refused for want of memory alone.
-fn fill_hashed(
+/// The code of a result whose last level, below so many others, has its coordinates counted and inserted. Refused for want of memory
+/// alone.
+fn fill_counted(
     alloc: Global,
     format: &[FormatLevel],
     above: usize,
@@ -78,7 +78,7 @@ fn fill_hashed(
     zero: u64,
 ) -> Result<Items<KStmt>, AllocError>
     requires format { IsFormat format.now }
-    requires last { drop above (letters_of format.now) ≡ Hashed ∷ [] }
+    requires last { IsAboveLast (letters_of format.now) (Some above) }
     requires room { base ≤ 2 ^ 60 }
     ensures { IfOk result (DrainsResult format.now workspace list base zero) }
 {
@@ -90,7 +90,7 @@ fn fill_hashed(
         workspace,
         list,
     };
-    let level = kind_of(alloc, Letter::Hashed)?;
+    let level = kind_of(alloc, format[above].letter)?;
     let count = KExpr::Var(base + above as u64);
     let last = fill_last(alloc, &level, at, count, zero)?;
     code.append(last)?;
@@ -134,7 +134,7 @@ pub fn drain_result(
     ensures { IfOk result (DrainsResult format.now workspace list base zero) }
 {
     match above_last(format) {
-        Some(above) => fill_hashed(alloc, format, above, workspace, list, base, zero),
+        Some(above) => fill_counted(alloc, format, above, workspace, list, base, zero),
         None => fill_values(alloc, format, workspace, list, base, zero),
     }
 }

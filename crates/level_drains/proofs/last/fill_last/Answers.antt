@@ -7,6 +7,7 @@ use Rattle.kernel_code.specs.declared.syntax.KStmt.{Extend}
 use Rattle.level_core.specs.Codes.{PrepareCode, InsertCode}
 use Rattle.tensor_storage.specs.Levels.{meaning}
 use Rattle.level_drains.proofs.Codes.{below_more, key_below}
+use Rattle.level_drains.proofs.KindLaws.{counted_is}
 use Rattle.level_drains.proofs.LastCode.{filled_of}
 use Rattle.level_drains.proofs.last.fill_last.Goals as goal
 
@@ -48,12 +49,13 @@ returns c =
     let insert = c.in_ok-insert.insert in
     let prepare = c.in_ok-prepare.prepare in
     let fill = c.in_ok-fill.fill in
+    let is = counted_is (meaning.kind c.args.level.now) c.requires.counted in
     filled_of at site c.args.parents c.in_ok-first.first c.in_ok-coord.coord c.args.zero c.in_ok-total.total
     c.in_ok-code.code prepare insert fill c.append-2.new.self c.requires.parents
     c.rows_site-rows.ensures c.in_ok-first.ensures c.in_ok-coord.ensures c.in_ok-total.ensures c.in_ok-code.ensures
-    (subst (λ k. PrepareCode meaning k 0 at.level (c.args.parents ∷ Var (site.base + 2) ∷ []) (site.base + 6) prepare) c.requires.kind
+    (subst (λ k. PrepareCode meaning k 0 at.level (c.args.parents ∷ Var (site.base + 2) ∷ []) (site.base + 6) prepare) is
     c.in_ok-prepare.ensures)
-    (subst (λ k. InsertCode meaning k 0 at.level (Var (site.base + 4) ∷ c.in_ok-coord.coord ∷ []) (site.base + 6) insert) c.requires.kind
+    (subst (λ k. InsertCode meaning k 0 at.level (Var (site.base + 4) ∷ c.in_ok-coord.coord ∷ []) (site.base + 6) insert) is
     c.in_ok-insert.ensures)
     c.in_ok-fill.ensures
     (c.in_ok-append-2.ensures.ok ∙ ap (λ k. k ++ fill)
