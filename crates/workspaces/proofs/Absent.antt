@@ -8,16 +8,15 @@ use Rattle.tensor_map.specs.declared.entries.Entry.{Entry}
 use Rattle.tensor_map.specs.Entries.{is_at, Listed}
 use Rattle.tensor_map.specs.Laws.{same, other}
 use Rattle.tensor_map.proofs.Lemmas.{tested}
+use Rattle.index_notation.specs.declared.operator.Operator.{Operator}
+use Rattle.index_notation.specs.declared.operator.Operator.TheVariants as op
 use Rattle.index_notation.specs.declared.syntax.Access.{Access}
-use Rattle.index_notation.specs.declared.syntax.Expr.{Expr, Num, Access as AccessOf, Add', Sub', Mul', Neg', Row_of-Expr, end_of-Expr}
-use Rattle.index_notation.specs.declared.syntax.Expr.{more_of-Expr}
-use Rattle.expr_terms.specs.Value.{access_value_or_zero, value_of, value_of_in, minus}
+use Rattle.index_notation.specs.declared.syntax.Expr.{Expr, Num, Access as AccessOf, Binary', Neg', Row_of-Expr, end_of-Expr, more_of-Expr}
+use Rattle.index_notation.specs.Operators.{is_there}
+use Rattle.expr_terms.specs.Value.{access_value_or_zero, applied, value_of, value_of_in, minus}
+use Rattle.expr_terms.proofs.Meanings.{neither}
 use Rattle.workspaces.specs.Presence.{access_is_present, is_listed, is_present, is_present_in}
 use Rattle.workspaces.specs.PresenceLaws.{AreZeroElsewhere}
-
-neither : (x y : Bool) → (x || y) ≡ false → (x ≡ false) × (y ≡ false)
-neither true y h = cc
-neither false y h = (refl, h)
 
 not_both : (x y : Bool) → (x && y) ≡ false → (x ≡ false) ⊎ (y ≡ false)
 not_both true y h = inr h
@@ -55,23 +54,22 @@ module _ (a : Arithmetic) (laws : Laws a) (paths : ℕ → List ℕ → Bool) (v
   times_none : (x y : ℕ) → y ≡ a.zero → a.times x y ≡ a.zero
   times_none x y first_is = ap (a.times x) first_is ∙ laws.times_zero x
 
+  zero_applied : (o : Operator) (b c : Bool) (x y : ℕ) → is_there o b c ≡ false → (b ≡ false → x ≡ a.zero) → (c ≡ false → y ≡ a.zero)
+      → applied a o x y ≡ a.zero
+  zero_applied op.Add b c x y h f g = let none = neither b c h in zeros_add x y (f none.0) (g none.1)
+  zero_applied op.Sub b c x y h f g = let none = neither b c h in zeros_add x (minus a y) (f none.0) (minus_zero y (g none.1))
+  zero_applied op.Mul b c x y h f g = elim (not_both b c h) [
+    | inl first ↦ zero_times x y (f first)
+    | inr second ↦ times_none x y (g second)
+  ]
+
   mutual
     pub absent_is_zero : (e : Expr) → is_present paths accesses point e ≡ false → value_of a values accesses point e ≡ a.zero
     absent_is_zero (Num n) h = cc
     absent_is_zero (AccessOf k) h = access_absent (slice_get accesses k) h
-    absent_is_zero (Add' p e q f) h =
-        let none = neither (is_present_in paths accesses point e) (is_present_in paths accesses point f) h in
-        zeros_add (value_of_in a values accesses point e) (value_of_in a values accesses point f)
-        (absent_inside e none.0) (absent_inside f none.1)
-    absent_is_zero (Sub' p e q f) h =
-        let none = neither (is_present_in paths accesses point e) (is_present_in paths accesses point f) h in
-        zeros_add (value_of_in a values accesses point e) (minus a (value_of_in a values accesses point f))
-        (absent_inside e none.0) (minus_zero (value_of_in a values accesses point f) (absent_inside f none.1))
-    absent_is_zero (Mul' p e q f) h =
-        elim (not_both (is_present_in paths accesses point e) (is_present_in paths accesses point f) h) [
-          | inl first ↦ zero_times (value_of_in a values accesses point e) (value_of_in a values accesses point f) (absent_inside e first)
-          | inr second ↦ times_none (value_of_in a values accesses point e) (value_of_in a values accesses point f) (absent_inside f second)
-        ]
+    absent_is_zero (Binary' o p e q f) h =
+        zero_applied o (is_present_in paths accesses point e) (is_present_in paths accesses point f)
+        (value_of_in a values accesses point e) (value_of_in a values accesses point f) h (absent_inside e) (absent_inside f)
     absent_is_zero (Neg' p e) h = minus_zero (value_of_in a values accesses point e) (absent_inside e h)
 
     absent_inside : {m : _} (e : Row_of-Expr m) → is_present_in paths accesses point e ≡ false

@@ -1,5 +1,5 @@
 -- What is told of an expression that is made of its parts, and of the first entries of a tensor.
-use Rattle.std.specs.Prelude.{◌≡◌, ℕ, zero, suc, ◌+◌, ◌<◌, ◌≤◌, ◌^◌, Bool, true, false, ◌||◌, ◌&&◌, List, [], ◌∷◌, ◌++◌, length, take}
+use Rattle.std.specs.Prelude.{◌≡◌, ℕ, zero, suc, ◌+◌, ◌<◌, ◌≤◌, ◌^◌, Bool, true, false, ◌||◌, List, [], ◌∷◌, ◌++◌, length, take}
 use Rattle.std.specs.Prelude.{Option, None, Some, slice_index_or, refl}
 use Rattle.std.proofs.Common.{◌∙◌, sym, ap, subst, arith}
 use Rattle.std.proofs.lemmas.List.{take_all}
@@ -11,36 +11,24 @@ use Rattle.numbers.proofs.Sums.{total_fits}
 use Rattle.tensor_map.specs.declared.entries.Entry.{Entry}
 use Rattle.tensor_map.specs.Entries.{is_at, value_at, values_at}
 use Rattle.tensor_map.proofs.Lemmas.{value_here, value_elsewhere, value_append}
+use Rattle.index_notation.specs.declared.operator.Operator.{Operator}
 use Rattle.index_notation.specs.declared.syntax.Access.{Access}
-use Rattle.index_notation.specs.declared.syntax.Expr.{Expr, Add, Sub, Mul, Neg}
+use Rattle.index_notation.specs.declared.syntax.Expr.{Expr, Binary, Neg}
 use Rattle.index_notation.specs.declared.syntax.Expr.TheBlock.{hidden-the_row-Expr-0}
-use Rattle.expr_terms.specs.Value.{value_of, minus}
+use Rattle.index_notation.specs.Operators.{is_there}
+use Rattle.expr_terms.specs.Value.{applied, value_of, minus}
 use Rattle.workspaces.specs.Presence.{TellsPart, is_listed, is_present}
 
 module _ (a : Arithmetic) (paths : ℕ → List ℕ → Bool) (values : ℕ → List ℕ → ℕ) (accesses : List Access) (point : ℕ → ℕ) where
   abbrev pub Tells : Expr → Option ℕ → Type 0
   Tells e told = TellsPart a (is_present paths accesses point e) (value_of a values accesses point e) told
 
-  added : (e f : Expr) (r : Option ℕ)
-      → TellsPart a (is_present paths accesses point e || is_present paths accesses point f)
-      (a.plus (value_of a values accesses point e) (value_of a values accesses point f)) r
-      → Tells (Add e f) r
+  two_sides : (o : Operator) (e f : Expr) (r : Option ℕ)
+      → TellsPart a (is_there o (is_present paths accesses point e) (is_present paths accesses point f))
+      (applied a o (value_of a values accesses point e) (value_of a values accesses point f)) r
+      → Tells (Binary o e f) r
   unfolding hidden-the_row-Expr-0 hidden
-  added e f r told = told
-
-  taken_away : (e f : Expr) (r : Option ℕ)
-      → TellsPart a (is_present paths accesses point e || is_present paths accesses point f)
-      (a.plus (value_of a values accesses point e) (minus a (value_of a values accesses point f))) r
-      → Tells (Sub e f) r
-  unfolding hidden-the_row-Expr-0 hidden
-  taken_away e f r told = told
-
-  multiplied : (e f : Expr) (r : Option ℕ)
-      → TellsPart a (is_present paths accesses point e && is_present paths accesses point f)
-      (a.times (value_of a values accesses point e) (value_of a values accesses point f)) r
-      → Tells (Mul e f) r
-  unfolding hidden-the_row-Expr-0 hidden
-  multiplied e f r told = told
+  two_sides o e f r told = told
 
   turned : (e : Expr) (r : Option ℕ) → TellsPart a (is_present paths accesses point e) (minus a (value_of a values accesses point e)) r
       → Tells (Neg e) r
@@ -48,26 +36,11 @@ module _ (a : Arithmetic) (paths : ℕ → List ℕ → Bool) (values : ℕ → 
   turned e r told = told
 
   -- the parts were read of the whole, and x and y tell of them
-  pub tells_sum : (whole e f e' f' : Expr) (x y r : Option ℕ) → whole ≡ Add e f → e' ≡ e → f' ≡ f → Tells e' x → Tells f' y
-      → ((p q : Bool) (m n : ℕ) → TellsPart a p m x → TellsPart a q n y → TellsPart a (p || q) (a.plus m n) r) → Tells whole r
-  tells_sum whole e f e' f' x y r is first second left right made =
-      subst (λ w. Tells w r) (sym is) (added e f r (made (is_present paths accesses point e) (is_present paths accesses point f)
-      (value_of a values accesses point e) (value_of a values accesses point f)
-      (subst (λ w. Tells w x) first left) (subst (λ w. Tells w y) second right)))
-
-  pub tells_difference : (whole e f e' f' : Expr) (x y y' r : Option ℕ) → whole ≡ Sub e f → e' ≡ e → f' ≡ f → Tells e' x → Tells f' y
-      → ((p : Bool) (m : ℕ) → TellsPart a p m y → TellsPart a p (minus a m) y')
-      → ((p q : Bool) (m n : ℕ) → TellsPart a p m x → TellsPart a q n y' → TellsPart a (p || q) (a.plus m n) r) → Tells whole r
-  tells_difference whole e f e' f' x y y' r is first second left right turns made =
-      subst (λ w. Tells w r) (sym is) (taken_away e f r (made (is_present paths accesses point e) (is_present paths accesses point f)
-      (value_of a values accesses point e) (minus a (value_of a values accesses point f))
-      (subst (λ w. Tells w x) first left)
-      (turns (is_present paths accesses point f) (value_of a values accesses point f) (subst (λ w. Tells w y) second right))))
-
-  pub tells_product : (whole e f e' f' : Expr) (x y r : Option ℕ) → whole ≡ Mul e f → e' ≡ e → f' ≡ f → Tells e' x → Tells f' y
-      → ((p q : Bool) (m n : ℕ) → TellsPart a p m x → TellsPart a q n y → TellsPart a (p && q) (a.times m n) r) → Tells whole r
-  tells_product whole e f e' f' x y r is first second left right made =
-      subst (λ w. Tells w r) (sym is) (multiplied e f r (made (is_present paths accesses point e) (is_present paths accesses point f)
+  pub tells_binary : (whole : Expr) (o : Operator) (e f e' f' : Expr) (x y r : Option ℕ) → whole ≡ Binary o e f → e' ≡ e → f' ≡ f
+      → Tells e' x → Tells f' y
+      → ((p q : Bool) (m n : ℕ) → TellsPart a p m x → TellsPart a q n y → TellsPart a (is_there o p q) (applied a o m n) r) → Tells whole r
+  tells_binary whole o e f e' f' x y r is first second left right made =
+      subst (λ w. Tells w r) (sym is) (two_sides o e f r (made (is_present paths accesses point e) (is_present paths accesses point f)
       (value_of a values accesses point e) (value_of a values accesses point f)
       (subst (λ w. Tells w x) first left) (subst (λ w. Tells w y) second right)))
 

@@ -1,14 +1,14 @@
 -- Which parts of an expression are present at a point: an access is where the coordinates of its variables are a path
 -- of its tensor, a number is everywhere, a product is where both factors are, and a sum or a difference where one side
 -- is. So a stored zero is present, and a present part may have the value zero.
-use Rattle.std.specs.Prelude.{◌≡◌, ℕ, Bool, true, false, ◌||◌, ◌&&◌, List, Option, None, Some, slice_get}
+use Rattle.std.specs.Prelude.{◌≡◌, ℕ, Bool, true, false, List, Option, None, Some, slice_get}
 use Rattle.std.specs.List.{list_any}
 use Rattle.numbers.specs.Arithmetic.{Arithmetic}
 use Rattle.tensor_map.specs.declared.entries.Entry.{Entry}
 use Rattle.tensor_map.specs.Entries.{Entries, is_at}
 use Rattle.index_notation.specs.declared.syntax.Access.{Access}
-use Rattle.index_notation.specs.declared.syntax.Expr.{Expr, Num, Access as AccessOf, Add', Sub', Mul', Neg', Row_of-Expr, end_of-Expr}
-use Rattle.index_notation.specs.declared.syntax.Expr.{more_of-Expr}
+use Rattle.index_notation.specs.declared.syntax.Expr.{Expr, Num, Access as AccessOf, Binary', Neg', Row_of-Expr, end_of-Expr, more_of-Expr}
+use Rattle.index_notation.specs.Operators.{is_there}
 use Rattle.expr_terms.specs.Operands.{entries_of}
 use Rattle.expr_terms.specs.Points.{coords_at}
 
@@ -30,9 +30,8 @@ abbrev mutual
   pub is_present : (ℕ → List ℕ → Bool) → List Access → (ℕ → ℕ) → Expr → Bool
   is_present paths accesses point (Num n) = true
   is_present paths accesses point (AccessOf k) = access_is_present paths point (slice_get accesses k)
-  is_present paths accesses point (Add' p e q f) = is_present_in paths accesses point e || is_present_in paths accesses point f
-  is_present paths accesses point (Sub' p e q f) = is_present_in paths accesses point e || is_present_in paths accesses point f
-  is_present paths accesses point (Mul' p e q f) = is_present_in paths accesses point e && is_present_in paths accesses point f
+  is_present paths accesses point (Binary' o p e q f) =
+      is_there o (is_present_in paths accesses point e) (is_present_in paths accesses point f)
   is_present paths accesses point (Neg' p e) = is_present_in paths accesses point e
 
   -- the same of the one expression in a box

@@ -1,128 +1,64 @@
 use Rattle.std.specs.Prelude.{slice_index}
 use Rattle.std.proofs.Common.{rules}
-use Rattle.index_notation.specs.declared.syntax.Expr.{Add, Sub, Mul, Neg}
-use Rattle.expr_terms.proofs.Meanings.{first_added, second_added, first_factor, second_factor, minus_subtracts, minus_negates, all_meant}
-use Rattle.expr_terms.proofs.Heights.{falls, parts_of_add, parts_of_sub, parts_of_mul, part_of_neg}
+use Rattle.index_notation.specs.declared.syntax.Expr.{Binary, Neg}
+use Rattle.expr_terms.proofs.Meanings.{first_meant, second_meant, minus_subtracts, minus_negates, all_meant}
+use Rattle.expr_terms.proofs.Heights.{falls, parts_of_binary, part_of_neg}
 use Rattle.expr_terms.specs.Operands.{operand_values}
 use Rattle.workspaces.specs.Presence.{operand_paths}
-use Rattle.workspaces.proofs.Present.{tells_sum, tells_difference, tells_product, tells_negated}
+use Rattle.workspaces.proofs.Present.{tells_binary, tells_negated}
 use Rattle.workspaces.proofs.parts.+presence.Goals as goal
 
-pub returns-in-Add : goal.returns-in-Add
-returns-in-Add g t c =
-    tells_sum g.S.Semiring.arithmetic (operand_paths c.args.tensors.now) (operand_values g.S.Semiring.arithmetic c.args.tensors.now)
+pub returns-in-Binary : goal.returns-in-Binary
+returns-in-Binary g t c =
+    tells_binary g.S.Semiring.arithmetic (operand_paths c.args.tensors.now) (operand_values g.S.Semiring.arithmetic c.args.tensors.now)
     c.args.statement.now.accesses (slice_index c.args.point.now)
-    c.args.expr.now c.in-Add.first c.in-Add.second c.get.result.now c.get-in-Add.result.now
-    c.presence-x.result c.presence-y.result c.either.result
-    c.in-Add.is c.get.ensures c.get-in-Add.ensures c.presence-x.ensures c.presence-y.ensures c.either.ensures
-
-pub returns-in-Sub : goal.returns-in-Sub
-returns-in-Sub g t c =
-    tells_difference g.S.Semiring.arithmetic (operand_paths c.args.tensors.now) (operand_values g.S.Semiring.arithmetic c.args.tensors.now)
-    c.args.statement.now.accesses (slice_index c.args.point.now)
-    c.args.expr.now c.in-Sub.first c.in-Sub.second c.get-in-Sub.result.now c.get-in-Sub-2.result.now
-    c.presence-x-in-Sub.result c.presence-y-in-Sub.result c.negated.result c.either-in-Sub.result
-    c.in-Sub.is c.get-in-Sub.ensures c.get-in-Sub-2.ensures
-    c.presence-x-in-Sub.ensures c.presence-y-in-Sub.ensures c.negated.ensures c.either-in-Sub.ensures
-
-pub returns-in-Mul : goal.returns-in-Mul
-returns-in-Mul g t c =
-    tells_product g.S.Semiring.arithmetic (operand_paths c.args.tensors.now) (operand_values g.S.Semiring.arithmetic c.args.tensors.now)
-    c.args.statement.now.accesses (slice_index c.args.point.now)
-    c.args.expr.now c.in-Mul.first c.in-Mul.second c.get-in-Mul.result.now c.get-in-Mul-2.result.now
-    c.presence-x-in-Mul.result c.presence-y-in-Mul.result c.both.result
-    c.in-Mul.is c.get-in-Mul.ensures c.get-in-Mul-2.ensures c.presence-x-in-Mul.ensures c.presence-y-in-Mul.ensures c.both.ensures
+    c.args.expr.now c.in-Binary.operator c.in-Binary.first c.in-Binary.second c.get.result.now c.get-in-Binary.result.now
+    c.presence-x.result c.presence-y.result c.applied.result
+    c.in-Binary.is c.get.ensures c.get-in-Binary.ensures c.presence-x.ensures c.presence-y.ensures c.applied.ensures
 
 pub returns-in-Neg : goal.returns-in-Neg
 returns-in-Neg g t c =
     tells_negated g.S.Semiring.arithmetic (operand_paths c.args.tensors.now) (operand_values g.S.Semiring.arithmetic c.args.tensors.now)
     c.args.statement.now.accesses (slice_index c.args.point.now)
-    c.args.expr.now c.in-Neg.inner c.get-in-Neg.result.now c.presence-x-in-Neg.result c.negated-in-Neg.result
-    c.in-Neg.is c.get-in-Neg.ensures c.presence-x-in-Neg.ensures c.negated-in-Neg.ensures
+    c.args.expr.now c.in-Neg.inner c.get-in-Neg.result.now c.presence-x-in-Neg.result c.negated.result
+    c.in-Neg.is c.get-in-Neg.ensures c.presence-x-in-Neg.ensures c.negated.ensures
 
 pub presence-x-requires : goal.presence-x-requires
-presence-x-requires g t c κs within = (
-  falls t c.args.expr.now (Add c.in-Add.first c.in-Add.second) c.in-Add.first c.get.result.now c.in-Add.is c.get.ensures
-      (parts_of_add c.in-Add.first c.in-Add.second).0 c.decreases,
-  (
-    search (rules, within),
-    (
-      c.requires.numbered,
-      first_added g.S.Semiring.has_minus c.args.expr.now c.in-Add.first c.in-Add.second
-          c.get.result.now c.in-Add.is c.get.ensures c.requires.meant,
-    ),
-  ),
-)
+presence-x-requires g t c κs within =
+    let o = c.in-Binary.operator in
+    let e = c.in-Binary.first in
+    let f = c.in-Binary.second in (
+      falls t c.args.expr.now (Binary o e f) e c.get.result.now c.in-Binary.is c.get.ensures (parts_of_binary o e f).0 c.decreases,
+      (
+        search (rules, within),
+        (
+          c.requires.numbered,
+          first_meant g.S.Semiring.has_minus c.args.expr.now o e f c.get.result.now c.in-Binary.is c.get.ensures c.requires.meant,
+        ),
+      ),
+    )
 
 pub presence-y-requires : goal.presence-y-requires
-presence-y-requires g t c κs within = (
-  falls t c.args.expr.now (Add c.in-Add.first c.in-Add.second) c.in-Add.second c.get-in-Add.result.now c.in-Add.is
-      c.get-in-Add.ensures (parts_of_add c.in-Add.first c.in-Add.second).1 c.decreases,
-  (
-    search (rules, within),
-    (
-      c.requires.numbered,
-      second_added g.S.Semiring.has_minus c.args.expr.now c.in-Add.first c.in-Add.second
-          c.get-in-Add.result.now c.in-Add.is c.get-in-Add.ensures c.requires.meant,
-    ),
-  ),
-)
+presence-y-requires g t c κs within =
+    let o = c.in-Binary.operator in
+    let e = c.in-Binary.first in
+    let f = c.in-Binary.second in (
+      falls t c.args.expr.now (Binary o e f) f c.get-in-Binary.result.now c.in-Binary.is c.get-in-Binary.ensures
+          (parts_of_binary o e f).1 c.decreases,
+      (
+        search (rules, within),
+        (
+          c.requires.numbered,
+          second_meant g.S.Semiring.has_minus c.args.expr.now o e f c.get-in-Binary.result.now c.in-Binary.is c.get-in-Binary.ensures
+              c.requires.meant,
+        ),
+      ),
+    )
 
-pub presence-x-requires-in-Sub : goal.presence-x-requires-in-Sub
-presence-x-requires-in-Sub g t c κs within = (
-  falls t c.args.expr.now (Sub c.in-Sub.first c.in-Sub.second) c.in-Sub.first c.get-in-Sub.result.now c.in-Sub.is
-      c.get-in-Sub.ensures (parts_of_sub c.in-Sub.first c.in-Sub.second).0 c.decreases,
-  (
-    search (rules, within),
-    (
-      c.requires.numbered,
-      all_meant g.S.Semiring.has_minus c.get-in-Sub.result.now
-          (minus_subtracts g.S.Semiring.has_minus c.args.expr.now c.in-Sub.first c.in-Sub.second c.in-Sub.is c.requires.meant),
-    ),
-  ),
-)
-
-pub presence-y-requires-in-Sub : goal.presence-y-requires-in-Sub
-presence-y-requires-in-Sub g t c κs within = (
-  falls t c.args.expr.now (Sub c.in-Sub.first c.in-Sub.second) c.in-Sub.second c.get-in-Sub-2.result.now c.in-Sub.is
-      c.get-in-Sub-2.ensures (parts_of_sub c.in-Sub.first c.in-Sub.second).1 c.decreases,
-  (
-    search (rules, within),
-    (
-      c.requires.numbered,
-      all_meant g.S.Semiring.has_minus c.get-in-Sub-2.result.now
-          (minus_subtracts g.S.Semiring.has_minus c.args.expr.now c.in-Sub.first c.in-Sub.second c.in-Sub.is c.requires.meant),
-    ),
-  ),
-)
-
-pub presence-x-requires-in-Mul : goal.presence-x-requires-in-Mul
-presence-x-requires-in-Mul g t c κs within = (
-  falls t c.args.expr.now (Mul c.in-Mul.first c.in-Mul.second) c.in-Mul.first c.get-in-Mul.result.now c.in-Mul.is
-      c.get-in-Mul.ensures (parts_of_mul c.in-Mul.first c.in-Mul.second).0 c.decreases,
-  (
-    search (rules, within),
-    (
-      c.requires.numbered,
-      first_factor g.S.Semiring.has_minus c.args.expr.now c.in-Mul.first c.in-Mul.second
-          c.get-in-Mul.result.now c.in-Mul.is c.get-in-Mul.ensures c.requires.meant,
-    ),
-  ),
-)
-
-pub presence-y-requires-in-Mul : goal.presence-y-requires-in-Mul
-presence-y-requires-in-Mul g t c κs within = (
-  falls t c.args.expr.now (Mul c.in-Mul.first c.in-Mul.second) c.in-Mul.second c.get-in-Mul-2.result.now c.in-Mul.is
-      c.get-in-Mul-2.ensures (parts_of_mul c.in-Mul.first c.in-Mul.second).1 c.decreases,
-  (
-    search (rules, within),
-    (
-      c.requires.numbered,
-      second_factor g.S.Semiring.has_minus c.args.expr.now c.in-Mul.first c.in-Mul.second
-          c.get-in-Mul-2.result.now c.in-Mul.is c.get-in-Mul-2.ensures c.requires.meant,
-    ),
-  ),
-)
+pub applied-requires : goal.applied-requires
+applied-requires g t c =
+    minus_subtracts g.S.Semiring.has_minus c.args.expr.now c.in-Binary.operator c.in-Binary.first c.in-Binary.second c.in-Binary.is
+    c.requires.meant
 
 pub presence-x-requires-in-Neg : goal.presence-x-requires-in-Neg
 presence-x-requires-in-Neg g t c κs within = (
@@ -139,7 +75,4 @@ presence-x-requires-in-Neg g t c κs within = (
 )
 
 pub negated-requires : goal.negated-requires
-negated-requires g t c = minus_subtracts g.S.Semiring.has_minus c.args.expr.now c.in-Sub.first c.in-Sub.second c.in-Sub.is c.requires.meant
-
-pub negated-requires-in-Neg : goal.negated-requires-in-Neg
-negated-requires-in-Neg g t c = minus_negates g.S.Semiring.has_minus c.args.expr.now c.in-Neg.inner c.in-Neg.is c.requires.meant
+negated-requires g t c = minus_negates g.S.Semiring.has_minus c.args.expr.now c.in-Neg.inner c.in-Neg.is c.requires.meant
