@@ -3,10 +3,12 @@ use Rattle.std.specs.Prelude.{◌≡◌, ℕ, nat_eq, Bool, true, false, ◌||�
 use Rattle.std.proofs.Common.{◌∙◌, sym, ap, arith}
 use Rattle.std.proofs.lemmas.Bool.Decides.{nat_tests}
 use Rattle.numbers.specs.Arithmetic.{Arithmetic}
-use Rattle.index_notation.specs.declared.syntax.Expr.{Expr, Num, Access as AccessOf, Add', Sub', Mul', Neg', Row_of-Expr, end_of-Expr}
-use Rattle.index_notation.specs.declared.syntax.Expr.{more_of-Expr}
+use Rattle.index_notation.specs.declared.operator.Operator.{Operator}
+use Rattle.index_notation.specs.declared.operator.Operator.TheVariants as op
+use Rattle.index_notation.specs.declared.syntax.Expr.{Expr, Num, Access as AccessOf, Binary', Neg', Row_of-Expr, end_of-Expr, more_of-Expr}
+use Rattle.index_notation.specs.Operators.{is_there}
 use Rattle.expr_terms.specs.Value.{minus}
-use Rattle.loop_code.specs.PresentValues.{both, either, each, present_value, present_value_in}
+use Rattle.loop_code.specs.PresentValues.{both, either, each, present_applied, present_value, present_value_in}
 use Rattle.loop_code.specs.Parts.{remains, remains_in, is_live, is_live_in, is_full, is_full_in}
 
 pub neither : (a b : Bool) → (a || b) ≡ false → (a ≡ false) × (b ≡ false)
@@ -44,21 +46,19 @@ module _ (a : Arithmetic) (P : ℕ → Bool) where
   both_not true d h x y f g = both_second x y (g h)
   both_not false d h x y f g = both_first x y (f refl)
 
+  applied_none : (o : Operator) (b d : Bool) → is_there o b d ≡ false → (x y : Option ℕ) → (b ≡ false → x ≡ None) → (d ≡ false → y ≡ None)
+      → present_applied a o x y ≡ None
+  applied_none op.Add b d h x y f g = let t = neither b d h in either_none x y (f t.0) (g t.1)
+  applied_none op.Sub b d h x y f g = let t = neither b d h in either_none x (each (minus a) y) (f t.0) (each_none y (g t.1))
+  applied_none op.Mul b d h x y f g = both_not b d h x y f g
+
   mutual
     -- where no part remains there is no value
     pub none_remains : (values : ℕ → Option ℕ) → Within P values → (e : Expr) → remains P e ≡ false → present_value a values e ≡ None
     none_remains values s (Num n) h = absurd (cc h)
     none_remains values s (AccessOf k) h = s k h
-    none_remains values s (Add' p e q f) h =
-        let t = neither (remains_in P e) (remains_in P f) h in
-        either_none (present_value_in a values e) (present_value_in a values f) (none_remains_in values s e t.0)
-        (none_remains_in values s f t.1)
-    none_remains values s (Sub' p e q f) h =
-        let t = neither (remains_in P e) (remains_in P f) h in
-        either_none (present_value_in a values e) (each (minus a) (present_value_in a values f)) (none_remains_in values s e t.0)
-        (each_none (present_value_in a values f) (none_remains_in values s f t.1))
-    none_remains values s (Mul' p e q f) h =
-        both_not (remains_in P e) (remains_in P f) h (present_value_in a values e) (present_value_in a values f)
+    none_remains values s (Binary' o p e q f) h =
+        applied_none o (remains_in P e) (remains_in P f) h (present_value_in a values e) (present_value_in a values f)
         (none_remains_in values s e)
         (none_remains_in values s f)
     none_remains values s (Neg' p e) h = each_none (present_value_in a values e) (none_remains_in values s e h)
@@ -75,10 +75,10 @@ module _ (a : Arithmetic) (P : ℕ → Bool) where
   masked_within : (M : ℕ → Bool) (values : ℕ → Option ℕ) → Within P values → Within P (masked M values)
   masked_within M values s k h = elim (M k) as (λ b. (if b then values k else None) ≡ None) [ true ↦ s k h | false ↦ refl ]
 
-  times_same : (b : Bool) (x y z w : Option ℕ) → (b ≡ true → x ≡ y) → (b ≡ true → z ≡ w)
-      → (b ≡ false → both a.times x z ≡ both a.times y w) → both a.times x z ≡ both a.times y w
-  times_same true x y z w f g h = ap (λ o. both a.times o z) (f refl) ∙ ap (both a.times y) (g refl)
-  times_same false x y z w f g h = h refl
+  applied_same : (o : Operator) (b : Bool) (x y z w : Option ℕ) → (b ≡ true → x ≡ y) → (b ≡ true → z ≡ w)
+      → (b ≡ false → present_applied a o x z ≡ present_applied a o y w) → present_applied a o x z ≡ present_applied a o y w
+  applied_same o true x y z w f g h = ap (λ v. present_applied a o v z) (f refl) ∙ ap (present_applied a o y) (g refl)
+  applied_same o false x y z w f g h = h refl
 
   mutual
     -- accesses outside the part that remains may be left out
@@ -93,25 +93,15 @@ module _ (a : Arithmetic) (P : ℕ → Bool) where
         by_present : (b : Bool) → P k ≡ b → masked M values k ≡ values k
         by_present true is = ap (λ b. if b then values k else None) (c k (ap (λ b. b && P k) (same k) ∙ is))
         by_present false is = masked_within M values s k is ∙ sym (s k is)
-    masked_same M values s (Add' p e q f) c =
-        ap (λ o. either a.plus o (present_value_in a (masked M values) f))
-        (masked_same_in M values s e (λ k h. c k (or_left (is_live_in P e k) (is_live_in P f k) h)))
-        ∙ ap (either a.plus (present_value_in a values e))
-        (masked_same_in M values s f (λ k h. c k (or_right (is_live_in P e k) (is_live_in P f k) h)))
-    masked_same M values s (Sub' p e q f) c =
-        ap (λ o. either a.plus o (each (minus a) (present_value_in a (masked M values) f)))
-        (masked_same_in M values s e (λ k h. c k (or_left (is_live_in P e k) (is_live_in P f k) h)))
-        ∙ ap (λ o. either a.plus (present_value_in a values e) (each (minus a) o))
-        (masked_same_in M values s f (λ k h. c k (or_right (is_live_in P e k) (is_live_in P f k) h)))
-    masked_same M values s (Mul' p e q f) c =
-        times_same (remains_in P e && remains_in P f) (present_value_in a (masked M values) e) (present_value_in a values e)
+    masked_same M values s (Binary' o p e q f) c =
+        applied_same o (is_there o (remains_in P e) (remains_in P f)) (present_value_in a (masked M values) e) (present_value_in a values e)
         (present_value_in a (masked M values) f) (present_value_in a values f)
         (λ is. masked_same_in M values s e (λ k h. c k
         (ap (λ b. b && (is_live_in P e k || is_live_in P f k)) is ∙ or_left (is_live_in P e k) (is_live_in P f k) h)))
         (λ is. masked_same_in M values s f (λ k h. c k
         (ap (λ b. b && (is_live_in P e k || is_live_in P f k)) is ∙ or_right (is_live_in P e k) (is_live_in P f k) h)))
-        (λ is. none_remains (masked M values) (masked_within M values s) (Mul' p e q f) is
-        ∙ sym (none_remains values s (Mul' p e q f) is))
+        (λ is. none_remains (masked M values) (masked_within M values s) (Binary' o p e q f) is
+        ∙ sym (none_remains values s (Binary' o p e q f) is))
     masked_same M values s (Neg' p e) c = ap (each (minus a)) (masked_same_in M values s e c)
 
     masked_same_in : {m : _} (M : ℕ → Bool) (values : ℕ → Option ℕ) → Within P values → (row : Row_of-Expr m)
@@ -121,22 +111,12 @@ module _ (a : Arithmetic) (P : ℕ → Bool) where
 
 -- where Q has of the accesses that are present those that are full alone, what is left is there exactly where the part is full
 module _ (F P Q : ℕ → Bool) (only_full : (k : ℕ) → Q k ≡ (F k && P k)) where
-  or_same : (a b c d : Bool) → a ≡ c → b ≡ d → (a || b) ≡ (c || d)
-  or_same a b c d h g = ap (λ x. x || b) h ∙ ap (λ x. c || x) g
-
-  and_same : (a b c d : Bool) → a ≡ c → b ≡ d → (a && b) ≡ (c && d)
-  and_same a b c d h g = ap (λ x. x && b) h ∙ ap (λ x. c && x) g
-
   mutual
     pub full_remains : (e : Expr) → remains Q e ≡ is_full F P e
     full_remains (Num n) = refl
     full_remains (AccessOf k) = only_full k
-    full_remains (Add' p e q f) =
-        or_same (remains_in Q e) (remains_in Q f) (is_full_in F P e) (is_full_in F P f) (full_remains_in e) (full_remains_in f)
-    full_remains (Sub' p e q f) =
-        or_same (remains_in Q e) (remains_in Q f) (is_full_in F P e) (is_full_in F P f) (full_remains_in e) (full_remains_in f)
-    full_remains (Mul' p e q f) =
-        and_same (remains_in Q e) (remains_in Q f) (is_full_in F P e) (is_full_in F P f) (full_remains_in e) (full_remains_in f)
+    full_remains (Binary' o p e q f) =
+        ap (λ b. is_there o b (remains_in Q f)) (full_remains_in e) ∙ ap (is_there o (is_full_in F P e)) (full_remains_in f)
     full_remains (Neg' p e) = full_remains_in e
 
     full_remains_in : {m : _} → (row : Row_of-Expr m) → remains_in Q row ≡ is_full_in F P row

@@ -2,8 +2,9 @@
 -- difference where one side is, which is then its value.
 use Rattle.std.specs.Prelude.{ℕ, Bool, true, false, Option, Some, None}
 use Rattle.numbers.specs.Arithmetic.{Arithmetic}
-use Rattle.index_notation.specs.declared.syntax.Expr.{Expr, Num, Access as AccessOf, Add', Sub', Mul', Neg', Row_of-Expr, end_of-Expr}
-use Rattle.index_notation.specs.declared.syntax.Expr.{more_of-Expr}
+use Rattle.index_notation.specs.declared.operator.Operator.{Operator}
+use Rattle.index_notation.specs.declared.operator.Operator.TheVariants as op
+use Rattle.index_notation.specs.declared.syntax.Expr.{Expr, Num, Access as AccessOf, Binary', Neg', Row_of-Expr, end_of-Expr, more_of-Expr}
 use Rattle.expr_terms.specs.Value.{minus}
 
 -- of two, where both are there
@@ -23,14 +24,18 @@ abbrev pub each : (ℕ → ℕ) → Option ℕ → Option ℕ
 each f None = None
 each f (Some x) = Some (f x)
 
+-- an operator of two values that are there or not
+abbrev pub present_applied : Arithmetic → Operator → Option ℕ → Option ℕ → Option ℕ
+present_applied a op.Add x y = either a.plus x y
+present_applied a op.Sub x y = either a.plus x (each (minus a) y)
+present_applied a op.Mul x y = both a.times x y
+
 abbrev mutual
   -- the value of an expression, if it is present, by the values of the accesses that are present
   pub present_value : Arithmetic → (ℕ → Option ℕ) → Expr → Option ℕ
   present_value a values (Num n) = Some n
   present_value a values (AccessOf k) = values k
-  present_value a values (Add' p e q f) = either a.plus (present_value_in a values e) (present_value_in a values f)
-  present_value a values (Sub' p e q f) = either a.plus (present_value_in a values e) (each (minus a) (present_value_in a values f))
-  present_value a values (Mul' p e q f) = both a.times (present_value_in a values e) (present_value_in a values f)
+  present_value a values (Binary' o p e q f) = present_applied a o (present_value_in a values e) (present_value_in a values f)
   present_value a values (Neg' p e) = each (minus a) (present_value_in a values e)
 
   -- the same of the one expression in a box
