@@ -38,9 +38,9 @@ needs_minus SkewSymmetric = true
 
 -- a pattern has no values that could be negated
 abbrev pub go_together : Layout → Symmetry → Bool
-go_together Coordinate symmetry = true
-go_together Pattern symmetry = not (needs_minus symmetry)
-go_together Array symmetry = true
+go_together Coordinate which = true
+go_together Pattern which = not (needs_minus which)
+go_together Array which = true
 
 abbrev pub banner_from : Option Layout → Option Symmetry → Option Banner
 banner_from None symmetry = None
