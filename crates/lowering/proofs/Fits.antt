@@ -13,14 +13,14 @@ use Rattle.format_spec.specs.declared.format.FormatLevel.{FormatLevel}
 use Rattle.format_spec.specs.Formats.{letters_of, modes_of, IsFormat}
 use Rattle.index_notation.specs.Statement.{IsDistinct, IsNumbered, IsAccess, AccessesUnder, AccessesUnder_in, numbers_from}
 use Rattle.index_notation.specs.declared.syntax.Access.{Access}
-use Rattle.index_notation.specs.declared.syntax.Expr.{Expr, Num, Access as AccessOf, Add', Sub', Mul', Neg', Row_of-Expr, end_of-Expr}
-use Rattle.index_notation.specs.declared.syntax.Expr.{more_of-Expr}
+use Rattle.index_notation.specs.declared.syntax.Expr.{Expr, Num, Access as AccessOf, Binary', Neg', Row_of-Expr, end_of-Expr, more_of-Expr}
 use Rattle.index_notation.specs.declared.syntax.Statement.{Statement}
 use Rattle.iteration_graph.specs.Edges.{neighbours, by_level, access_edges, format_of, edges_of, statement_edges, HasFormat}
 use Rattle.iteration_graph.specs.Graphs.{IsLoopOrder, is_among, leads, has_edge}
 use Rattle.iteration_graph.proofs.OrderLaws.{each_forward}
 use Rattle.lists.specs.Each.{Each}
-use Rattle.expr_terms.specs.Terms.{terms, terms_in, contains, is_at_access, stands_in, stands_inside, own_variables, is_own, negated_term}
+use Rattle.expr_terms.specs.Terms.{terms, terms_in, contains, is_at_access, stands_in, stands_inside, own_variables, is_own}
+use Rattle.expr_terms.proofs.TermLaws.{each_negated, each_of_sides}
 use Rattle.expr_terms.specs.declared.term.Term.{Term}
 use Rattle.concrete_notation.specs.declared.concrete.Concrete.{Concrete}
 use Rattle.concrete_notation.specs.Nests.{Nest, IsOrderOf, loops_of, nest_of, nests}
@@ -47,27 +47,16 @@ or_split : (b c : Bool) → (b || c) ≡ true → (b ≡ true) ⊎ (c ≡ true)
 or_split true c h = inl refl
 or_split false c h = inr h
 
-each_append : {X : Type 0} (P : X → Type 0) (xs ys : List X) → Each P xs → Each P ys → Each P (xs ++ ys)
-each_append P [] ys h g = g
-each_append P (x ∷ xs) ys h g = (h.0, each_append P xs ys h.1 g)
-
-negated : (n : ℕ) (ts : List Term) → Each (λ (t : Term). EachAccess (λ k. k < n) t.expr) ts
-    → Each (λ (t : Term). EachAccess (λ k. k < n) t.expr) (map negated_term ts)
-negated n [] h = tt
-negated n (t ∷ ts) h = (h.0, negated n ts h.1)
-
 -- the accesses of the terms of an expression are its own
 mutual
   terms_under : (n : ℕ) (e : Expr) → AccessesUnder n e → Each (λ (t : Term). EachAccess (λ k. k < n) t.expr) (terms e)
   terms_under n (Num k) h = (tt, tt)
   terms_under n (AccessOf k) h = (h, tt)
-  terms_under n (Add' p e q f) h = each_append (λ (t : Term). EachAccess (λ k. k < n) t.expr) (terms_in e) (terms_in f)
-      (terms_under_in n e h.0) (terms_under_in n f h.1)
-  terms_under n (Sub' p e q f) h =
-      each_append (λ (t : Term). EachAccess (λ k. k < n) t.expr) (terms_in e) (map negated_term (terms_in f)) (terms_under_in n e h.0)
-      (negated n (terms_in f) (terms_under_in n f h.1))
-  terms_under n (Mul' p e q f) h = ((under_in n e h.0, under_in n f h.1), tt)
-  terms_under n (Neg' p e) h = negated n (terms_in e) (terms_under_in n e h)
+  terms_under n (Binary' o p e q f) h =
+      each_of_sides (λ (t : Term). EachAccess (λ k. k < n) t.expr) (λ t g. g) o (Binary' o p e q f) (terms_in e) (terms_in f)
+      (under_in n e h.0, under_in n f h.1) (terms_under_in n e h.0) (terms_under_in n f h.1)
+  terms_under n (Neg' p e) h =
+      each_negated (λ (t : Term). EachAccess (λ k. k < n) t.expr) (λ t g. g) (terms_in e) (terms_under_in n e h)
 
   terms_under_in : {m : _} (n : ℕ) (row : Row_of-Expr m) → AccessesUnder_in n row
       → Each (λ (t : Term). EachAccess (λ k. k < n) t.expr) (terms_in row)
@@ -77,9 +66,7 @@ mutual
   under : (n : ℕ) (e : Expr) → AccessesUnder n e → EachAccess (λ k. k < n) e
   under n (Num k) h = tt
   under n (AccessOf k) h = h
-  under n (Add' p e q f) h = (under_in n e h.0, under_in n f h.1)
-  under n (Sub' p e q f) h = (under_in n e h.0, under_in n f h.1)
-  under n (Mul' p e q f) h = (under_in n e h.0, under_in n f h.1)
+  under n (Binary' o p e q f) h = (under_in n e h.0, under_in n f h.1)
   under n (Neg' p e) h = under_in n e h
 
   under_in : {m : _} (n : ℕ) (row : Row_of-Expr m) → AccessesUnder_in n row → EachAccess_in (λ k. k < n) row
@@ -96,13 +83,7 @@ mutual
       → stands_in accesses v e ≡ true
   stands_by accesses v k (Num n) h is = absurd (cc h)
   stands_by accesses v k (AccessOf j) h is = ap (λ i. is_at_access v (slice_get accesses i)) (same_by j k h) ∙ is
-  stands_by accesses v k (Add' p e q f) h is =
-      stands_either (has_access_in e k) (has_access_in f k) (stands_inside accesses v e) (stands_inside accesses v f) h
-      (λ g. stands_by_in accesses v k e g is) (λ g. stands_by_in accesses v k f g is)
-  stands_by accesses v k (Sub' p e q f) h is =
-      stands_either (has_access_in e k) (has_access_in f k) (stands_inside accesses v e) (stands_inside accesses v f) h
-      (λ g. stands_by_in accesses v k e g is) (λ g. stands_by_in accesses v k f g is)
-  stands_by accesses v k (Mul' p e q f) h is =
+  stands_by accesses v k (Binary' o p e q f) h is =
       stands_either (has_access_in e k) (has_access_in f k) (stands_inside accesses v e) (stands_inside accesses v f) h
       (λ g. stands_by_in accesses v k e g is) (λ g. stands_by_in accesses v k f g is)
   stands_by accesses v k (Neg' p e) h is = stands_by_in accesses v k e h is
