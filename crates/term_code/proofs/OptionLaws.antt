@@ -15,12 +15,14 @@ use Rattle.kernel_code.proofs.Words.{word_is}
 use Rattle.level_core.specs.declared.span.Span.{Span}
 use Rattle.level_core.specs.Fragments.{Reads, OptionLeft}
 use Rattle.level_cursors.specs.Children.{ChildLeft}
+use Rattle.index_notation.specs.declared.operator.Operator.{Operator}
+use Rattle.index_notation.specs.declared.operator.Operator.TheVariants as op
 use Rattle.expr_terms.specs.Value.{minus}
 use Rattle.loop_code.specs.Loops.{Env, Stored, word_of}
-use Rattle.loop_code.specs.PresentValues.{both, either, each}
+use Rattle.loop_code.specs.PresentValues.{both, either, each, present_applied}
 use Rattle.term_code.specs.Places.{Places, AccessPlace, AreBelow, Keeps, HasValue, HasValues}
 use Rattle.term_code.specs.Options.{LeavesOption}
-use Rattle.term_code.specs.OptionCodes.{number_code, access_code, either_code, both_code, each_code}
+use Rattle.term_code.specs.OptionCodes.{number_code, access_code, either_code, both_code, each_code, applied_code}
 use Rattle.term_code.proofs.PlaceLaws.{keeps_kept, values_kept}
 
 option_kept : (free : ℕ) (o : Option ℕ) (s t : State) → t.vars free ≡ s.vars free → t.vars (free + 1) ≡ s.vars (free + 1)
@@ -200,6 +202,16 @@ negated_leaves a places these free f x h = λ c is stored bound env s keeps has.
     then_reads c x (each_code a.minus_one free) free free s _ _ (omega arith) (h c is stored bound env s keeps has)
     (λ t l o. subst (λ b. Reads c (each_code b.minus_one free) free no_turns t (OptionLeft free (each (minus b) (f stored env)))) is
     (each_does c free (f stored env) t o))
+
+pub applied_leaves : (a : Arithmetic) (places : Places) (these : ℕ → Bool) (free : ℕ) → AreBelow free places → (o : Operator)
+    (f g : Options) (x y : List KStmt) → LeavesOption a places these f free x → LeavesOption a places these g (free + 2) y
+    → LeavesOption a places these (λ stored env. present_applied a o (f stored env) (g stored env)) free
+    (applied_code a.minus_one o x y free)
+applied_leaves a places these free are op.Add f g x y h k = sum_leaves a places these free are f g x y h k
+applied_leaves a places these free are op.Sub f g x y h k =
+    sum_leaves a places these free are f (λ stored env. each (minus a) (g stored env)) x (y ++ each_code a.minus_one (free + 2)) h
+    (negated_leaves a places these (free + 2) g y k)
+applied_leaves a places these free are op.Mul f g x y h k = product_leaves a places these free are f g x y h k
 
 pub leaves_same : (a : Arithmetic) (places : Places) (these : ℕ → Bool) (free : ℕ) (f g : Options) (x : List KStmt)
     → ((stored : Stored) (env : Env) → f stored env ≡ g stored env)

@@ -9,10 +9,13 @@ use Rattle.kernel_code.proofs.Keeps.{mentions_bin}
 use Rattle.kernel_code.proofs.Words.{binary_is}
 use Rattle.level_core.specs.declared.span.Span.{Span}
 use Rattle.level_cursors.specs.Children.{ChildLeft}
+use Rattle.index_notation.specs.declared.operator.Operator.{Operator}
+use Rattle.index_notation.specs.declared.operator.Operator.TheVariants as op
+use Rattle.index_notation.specs.Operators.{is_there}
 use Rattle.loop_code.specs.Loops.{Env}
 use Rattle.loop_code.specs.Parts.{is_some}
 use Rattle.term_code.specs.Places.{Places, AccessPlace}
-use Rattle.term_code.specs.Presence.{Tells}
+use Rattle.term_code.specs.Presence.{Tells, flag_operator}
 
 pub tells_number : (places : Places) (b : Bool) → Tells places (λ env. b) (Num (word_of b))
 tells_number places b = record { told = λ bound env s h. refl; below = λ free h. tt }
@@ -42,6 +45,12 @@ tells_both places f g x y h k = record {
       binary_is And x y (word_of (f env)) (word_of (g env)) s (h.told bound env s at) (k.told bound env s at) ∙ and_words (f env) (g env);
   below = λ free are. mentions_bin (λ v. v < free) EveryArray And x y (h.below free are) (k.below free are);
 }
+
+pub tells_there : (places : Places) (o : Operator) (f g : Env → Bool) (x y : KExpr) → Tells places f x → Tells places g y
+    → Tells places (λ env. is_there o (f env) (g env)) (Bin (flag_operator o) x y)
+tells_there places op.Add f g x y h k = tells_either places f g x y h k
+tells_there places op.Sub f g x y h k = tells_either places f g x y h k
+tells_there places op.Mul f g x y h k = tells_both places f g x y h k
 
 flag_is : (base : ℕ) (o : Option Span) (s : State) → ChildLeft base o s → s.vars base ≡ Some (word_of (is_some o))
 flag_is base None s h = h

@@ -1,9 +1,11 @@
 -- The code of values that may be absent: 1 and the value, or 0.
-use Rattle.std.specs.Prelude.{ℕ, ◌+◌, List, [], ◌∷◌}
+use Rattle.std.specs.Prelude.{ℕ, ◌+◌, List, [], ◌∷◌, ◌++◌}
 use Rattle.kernel_code.specs.declared.syntax.Arr.TheVariants.{Values}
 use Rattle.kernel_code.specs.declared.syntax.ValueOp.TheVariants.{Plus, Times}
 use Rattle.kernel_code.specs.declared.syntax.KExpr.{Num, Var, At}
 use Rattle.kernel_code.specs.declared.syntax.KStmt.{KStmt, Set, Combine, If}
+use Rattle.index_notation.specs.declared.operator.Operator.{Operator}
+use Rattle.index_notation.specs.declared.operator.Operator.TheVariants as op
 use Rattle.term_code.specs.Places.{AccessPlace}
 
 abbrev pub number_code : ℕ → ℕ → List KStmt
@@ -33,3 +35,9 @@ both_code free =
 -- a value by a number, where it is there
 abbrev pub each_code : ℕ → ℕ → List KStmt
 each_code n free = If (Var free) (Combine (free + 1) Times (Num n) (Var (free + 1)) ∷ []) [] ∷ []
+
+-- an operator of two values, by the code of each and the number minus one
+abbrev pub applied_code : ℕ → Operator → List KStmt → List KStmt → ℕ → List KStmt
+applied_code n op.Add first second free = (first ++ second) ++ either_code free
+applied_code n op.Sub first second free = (first ++ (second ++ each_code n (free + 2))) ++ either_code free
+applied_code n op.Mul first second free = (first ++ second) ++ both_code free

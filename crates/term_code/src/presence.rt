@@ -2,10 +2,10 @@
 ghost use Rattle.std.specs.Prelude.{◌≡◌, ◌<◌, length, IfOk};
 ghost use Rattle.loop_code.specs.Parts.{here, remains, is_full, is_iterator, is_other};
 ghost use Rattle.loop_code.specs.Places.{EachAccess};
-ghost use Rattle.term_code.specs.Presence.{Tells};
+ghost use Rattle.term_code.specs.Presence.{Tells, flag_operator};
 
 use crate::places::Places;
-use index_notation::Expr;
+use index_notation::{Expr, Operator};
 use kernel_code::{KExpr, Op, binary};
 use loop_code::Seek;
 use std::alloc::{AllocError, Global};
@@ -32,6 +32,17 @@ fn full_flag(places: &Places, seeks: &[Seek], access: usize) -> KExpr
     KExpr::Var(place.cursor)
 }
 
+/// The operator of flags that says whether the whole is there, by its sides.
+fn flag_operator(operator: Operator) -> Op
+    ensures { result ≡ flag_operator operator }
+{
+    match operator {
+        Operator::Add => Op::Or,
+        Operator::Sub => Op::Or,
+        Operator::Mul => Op::And,
+    }
+}
+
 /// An expression that is 1 where the part of `expr` that remains is full at a loop with these seeks, and else 0. Refused only
 /// for want of memory.
 pub fn fullness_of(
@@ -46,23 +57,11 @@ pub fn fullness_of(
     match expr {
         Expr::Num(_) => Ok(KExpr::Num(1)),
         Expr::Access(access) => Ok(full_flag(places, seeks, *access)),
-        Expr::Add(first, second) => {
+        Expr::Binary(operator, first, second) => {
             let x = fullness_of(alloc, places, seeks, first.get())?;
             let y = fullness_of(alloc, places, seeks, second.get())?;
-            let either = binary(alloc, Op::Or, x, y)?;
-            Ok(either)
-        }
-        Expr::Sub(first, second) => {
-            let x = fullness_of(alloc, places, seeks, first.get())?;
-            let y = fullness_of(alloc, places, seeks, second.get())?;
-            let either = binary(alloc, Op::Or, x, y)?;
-            Ok(either)
-        }
-        Expr::Mul(first, second) => {
-            let x = fullness_of(alloc, places, seeks, first.get())?;
-            let y = fullness_of(alloc, places, seeks, second.get())?;
-            let both = binary(alloc, Op::And, x, y)?;
-            Ok(both)
+            let flag = binary(alloc, flag_operator(*operator), x, y)?;
+            Ok(flag)
         }
         Expr::Neg(inner) => fullness_of(alloc, places, seeks, inner.get()),
     }

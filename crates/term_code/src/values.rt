@@ -1,15 +1,16 @@
 //! Code that leaves the value of an expression, if it is present.
 ghost use Rattle.std.specs.Prelude.{◌≡◌, ℕ, ◌<◌, ◌≤◌, ◌+◌, ◌^◌, Bool, [], ◌∷◌, ◌++◌, true, length, IfOk};
 ghost use Rattle.expr_terms.specs.Minus.{HasMeaning};
+ghost use Rattle.index_notation.specs.Operators.{is_minus};
 ghost use Rattle.loop_code.specs.Loops.{access_values};
 ghost use Rattle.loop_code.specs.Places.{EachAccess};
 ghost use Rattle.loop_code.specs.PresentValues.{present_value};
 ghost use Rattle.term_code.specs.Places.{AreBelow};
 ghost use Rattle.term_code.specs.Options.{LeavesOption};
-ghost use Rattle.term_code.specs.OptionCodes.{number_code, access_code, either_code, both_code, each_code};
+ghost use Rattle.term_code.specs.OptionCodes.{number_code, access_code, either_code, both_code, each_code, applied_code};
 
 use crate::places::{AccessPlace, Places};
-use index_notation::Expr;
+use index_notation::{Expr, Operator};
 use kernel_code::{Arr, KExpr, KStmt, ValueOp, one_statement, word_at};
 use numbers::Semiring;
 use std::alloc::{AllocError, Global};
@@ -118,6 +119,35 @@ pub(crate) fn negated<S: Semiring>(
     Ok(code)
 }
 
+/// An operator of two values, by the code of each.
+fn applied<S: Semiring>(
+    alloc: Global,
+    operator: Operator,
+    first: Items<KStmt>,
+    second: Items<KStmt>,
+    free: u64,
+) -> Result<Items<KStmt>, AllocError>
+    requires minus { is_minus operator ≡ true → S.has_minus ≡ true }
+    requires room { free ≤ 2 ^ 62 }
+    ensures { IfOk result (λ code. code ≡ applied_code S.arithmetic.minus_one operator first second free) }
+{
+    match operator {
+        Operator::Add => {
+            let code = sum(alloc, first, second, free)?;
+            Ok(code)
+        }
+        Operator::Sub => {
+            let less = negated::<S>(alloc, second, free + 2)?;
+            let code = sum(alloc, first, less, free)?;
+            Ok(code)
+        }
+        Operator::Mul => {
+            let code = product(alloc, first, second, free)?;
+            Ok(code)
+        }
+    }
+}
+
 /// Code that leaves, in two variables from `free` on, 1 and the value of an expression, or 0 where it is absent. Variables
 /// from `free` on are its own. Refused only for want of memory.
 pub fn emit_value<S: Semiring>(
@@ -148,23 +178,10 @@ pub fn emit_value<S: Semiring>(
             let code = access(alloc, place, free)?;
             Ok(code)
         }
-        Expr::Add(first, second) => {
+        Expr::Binary(operator, first, second) => {
             let x = emit_value::<S>(alloc, places, first.get(), free)?;
             let y = emit_value::<S>(alloc, places, second.get(), free + 2)?;
-            let code = sum(alloc, x, y, free)?;
-            Ok(code)
-        }
-        Expr::Sub(first, second) => {
-            let x = emit_value::<S>(alloc, places, first.get(), free)?;
-            let y = emit_value::<S>(alloc, places, second.get(), free + 2)?;
-            let less = negated::<S>(alloc, y, free + 2)?;
-            let code = sum(alloc, x, less, free)?;
-            Ok(code)
-        }
-        Expr::Mul(first, second) => {
-            let x = emit_value::<S>(alloc, places, first.get(), free)?;
-            let y = emit_value::<S>(alloc, places, second.get(), free + 2)?;
-            let code = product(alloc, x, y, free)?;
+            let code = applied::<S>(alloc, *operator, x, y, free)?;
             Ok(code)
         }
         Expr::Neg(inner) => {
