@@ -1,11 +1,12 @@
 -- Which parts of terms remain where fewer accesses are present: no more do, and just as many where those that are missing stand in no
 -- part.
-use Rattle.std.specs.Prelude.{◌≡◌, ℕ, nat_eq, not, Bool, true, false, ◌||◌, ◌&&◌, List, [], ◌∷◌, ◌++◌, map, refl}
-use Rattle.std.specs.List.{list_any}
+use Rattle.std.specs.Prelude.{◌≡◌, ℕ, nat_eq, Bool, true, false, ◌||◌, ◌&&◌, List, [], ◌∷◌, ◌++◌, map, refl}
 use Rattle.std.proofs.Common.{◌∙◌, sym, ap, arith}
 use Rattle.std.proofs.lemmas.Bool.Decides.{nat_tests}
-use Rattle.index_notation.specs.declared.syntax.Expr.{Expr, Num, Access as AccessOf, Add', Sub', Mul', Neg', Row_of-Expr, end_of-Expr}
-use Rattle.index_notation.specs.declared.syntax.Expr.{more_of-Expr}
+use Rattle.index_notation.specs.declared.operator.Operator.{Operator}
+use Rattle.index_notation.specs.declared.operator.Operator.TheVariants as op
+use Rattle.index_notation.specs.declared.syntax.Expr.{Expr, Num, Access as AccessOf, Binary', Neg', Row_of-Expr, end_of-Expr, more_of-Expr}
+use Rattle.index_notation.specs.Operators.{is_there}
 use Rattle.concrete_notation.specs.Nests.{Nest, inside}
 use Rattle.loop_code.specs.Parts.{remains, remains_in, is_live, is_live_in, is_full, is_full_in}
 use Rattle.lowering.specs.Seeking.{has_access, has_access_in}
@@ -26,6 +27,13 @@ or_more false b c d f g h = or_right c d (g h)
 pub and_more : (a b c d : Bool) → (a ≡ true → c ≡ true) → (b ≡ true → d ≡ true) → (a && b) ≡ true → (c && d) ≡ true
 and_more true b c d f g h = ap (λ x. x && d) (f refl) ∙ g h
 and_more false b c d f g h = absurd (cc h)
+
+-- where more is so of the sides, more is of the whole
+there_more : (o : Operator) (a b c d : Bool) → (a ≡ true → c ≡ true) → (b ≡ true → d ≡ true) → is_there o a b ≡ true
+    → is_there o c d ≡ true
+there_more op.Add a b c d f g h = or_more a b c d f g h
+there_more op.Sub a b c d f g h = or_more a b c d f g h
+there_more op.Mul a b c d f g h = and_more a b c d f g h
 
 pub and_first : (a b : Bool) → (a && b) ≡ true → a ≡ true
 and_first true b h = refl
@@ -60,12 +68,8 @@ module _ (Q P : ℕ → Bool) (less : (k : ℕ) → Q k ≡ true → P k ≡ tru
     pub less_remains : (e : Expr) → remains Q e ≡ true → remains P e ≡ true
     less_remains (Num n) h = refl
     less_remains (AccessOf k) h = less k h
-    less_remains (Add' p e q f) h =
-        or_more (remains_in Q e) (remains_in Q f) (remains_in P e) (remains_in P f) (less_remains_in e) (less_remains_in f) h
-    less_remains (Sub' p e q f) h =
-        or_more (remains_in Q e) (remains_in Q f) (remains_in P e) (remains_in P f) (less_remains_in e) (less_remains_in f) h
-    less_remains (Mul' p e q f) h =
-        and_more (remains_in Q e) (remains_in Q f) (remains_in P e) (remains_in P f) (less_remains_in e) (less_remains_in f) h
+    less_remains (Binary' o p e q f) h =
+        there_more o (remains_in Q e) (remains_in Q f) (remains_in P e) (remains_in P f) (less_remains_in e) (less_remains_in f) h
     less_remains (Neg' p e) h = less_remains_in e h
 
     less_remains_in : {m : _} (row : Row_of-Expr m) → remains_in Q row ≡ true → remains_in P row ≡ true
@@ -76,14 +80,10 @@ module _ (Q P : ℕ → Bool) (less : (k : ℕ) → Q k ≡ true → P k ≡ tru
     pub less_live : (j : ℕ) (e : Expr) → is_live Q e j ≡ true → is_live P e j ≡ true
     less_live j (Num n) h = h
     less_live j (AccessOf k) h = and_more (nat_eq k j) (Q k) (nat_eq k j) (P k) (λ is. is) (less k) h
-    less_live j (Add' p e q f) h =
-        or_more (is_live_in Q e j) (is_live_in Q f j) (is_live_in P e j) (is_live_in P f j) (less_live_in j e) (less_live_in j f) h
-    less_live j (Sub' p e q f) h =
-        or_more (is_live_in Q e j) (is_live_in Q f j) (is_live_in P e j) (is_live_in P f j) (less_live_in j e) (less_live_in j f) h
-    less_live j (Mul' p e q f) h =
-        and_more (remains_in Q e && remains_in Q f) (is_live_in Q e j || is_live_in Q f j) (remains_in P e && remains_in P f)
-        (is_live_in P e j || is_live_in P f j)
-        (and_more (remains_in Q e) (remains_in Q f) (remains_in P e) (remains_in P f) (less_remains_in e) (less_remains_in f))
+    less_live j (Binary' o p e q f) h =
+        and_more (is_there o (remains_in Q e) (remains_in Q f)) (is_live_in Q e j || is_live_in Q f j)
+        (is_there o (remains_in P e) (remains_in P f)) (is_live_in P e j || is_live_in P f j)
+        (there_more o (remains_in Q e) (remains_in Q f) (remains_in P e) (remains_in P f) (less_remains_in e) (less_remains_in f))
         (or_more (is_live_in Q e j) (is_live_in Q f j) (is_live_in P e j) (is_live_in P f j) (less_live_in j e) (less_live_in j f)) h
     less_live j (Neg' p e) h = less_live_in j e h
 
@@ -95,12 +95,8 @@ module _ (Q P : ℕ → Bool) (less : (k : ℕ) → Q k ≡ true → P k ≡ tru
     pub less_full : (F : ℕ → Bool) (e : Expr) → is_full F Q e ≡ true → is_full F P e ≡ true
     less_full F (Num n) h = refl
     less_full F (AccessOf k) h = and_more (F k) (Q k) (F k) (P k) (λ is. is) (less k) h
-    less_full F (Add' p e q f) h =
-        or_more (is_full_in F Q e) (is_full_in F Q f) (is_full_in F P e) (is_full_in F P f) (less_full_in F e) (less_full_in F f) h
-    less_full F (Sub' p e q f) h =
-        or_more (is_full_in F Q e) (is_full_in F Q f) (is_full_in F P e) (is_full_in F P f) (less_full_in F e) (less_full_in F f) h
-    less_full F (Mul' p e q f) h =
-        and_more (is_full_in F Q e) (is_full_in F Q f) (is_full_in F P e) (is_full_in F P f) (less_full_in F e) (less_full_in F f) h
+    less_full F (Binary' o p e q f) h =
+        there_more o (is_full_in F Q e) (is_full_in F Q f) (is_full_in F P e) (is_full_in F P f) (less_full_in F e) (less_full_in F f) h
     less_full F (Neg' p e) h = less_full_in F e h
 
     less_full_in : {m : _} (F : ℕ → Bool) (row : Row_of-Expr m) → is_full_in F Q row ≡ true → is_full_in F P row ≡ true
@@ -112,12 +108,8 @@ mutual
   pub full_remains : (F P : ℕ → Bool) (e : Expr) → is_full F P e ≡ true → remains P e ≡ true
   full_remains F P (Num n) h = refl
   full_remains F P (AccessOf k) h = and_second (F k) (P k) h
-  full_remains F P (Add' p e q f) h =
-      or_more (is_full_in F P e) (is_full_in F P f) (remains_in P e) (remains_in P f) (full_remains_in F P e) (full_remains_in F P f) h
-  full_remains F P (Sub' p e q f) h =
-      or_more (is_full_in F P e) (is_full_in F P f) (remains_in P e) (remains_in P f) (full_remains_in F P e) (full_remains_in F P f) h
-  full_remains F P (Mul' p e q f) h =
-      and_more (is_full_in F P e) (is_full_in F P f) (remains_in P e) (remains_in P f) (full_remains_in F P e) (full_remains_in F P f) h
+  full_remains F P (Binary' o p e q f) h =
+      there_more o (is_full_in F P e) (is_full_in F P f) (remains_in P e) (remains_in P f) (full_remains_in F P e) (full_remains_in F P f) h
   full_remains F P (Neg' p e) h = full_remains_in F P e h
 
   full_remains_in : {m : _} (F P : ℕ → Bool) (row : Row_of-Expr m) → is_full_in F P row ≡ true → remains_in P row ≡ true
@@ -130,16 +122,8 @@ mutual
       → is_full F P e ≡ true → is_full G P e ≡ true
   other_full F G P (Num n) c h = refl
   other_full F G P (AccessOf k) c h = and_more (F k) (P k) (G k) (P k) (c k (self k)) (λ is. is) h
-  other_full F G P (Add' p e q f) c h =
-      or_more (is_full_in F P e) (is_full_in F P f) (is_full_in G P e) (is_full_in G P f)
-      (other_full_in F G P e (λ k is. c k (or_left (has_access_in e k) (has_access_in f k) is)))
-      (other_full_in F G P f (λ k is. c k (or_right (has_access_in e k) (has_access_in f k) is))) h
-  other_full F G P (Sub' p e q f) c h =
-      or_more (is_full_in F P e) (is_full_in F P f) (is_full_in G P e) (is_full_in G P f)
-      (other_full_in F G P e (λ k is. c k (or_left (has_access_in e k) (has_access_in f k) is)))
-      (other_full_in F G P f (λ k is. c k (or_right (has_access_in e k) (has_access_in f k) is))) h
-  other_full F G P (Mul' p e q f) c h =
-      and_more (is_full_in F P e) (is_full_in F P f) (is_full_in G P e) (is_full_in G P f)
+  other_full F G P (Binary' o p e q f) c h =
+      there_more o (is_full_in F P e) (is_full_in F P f) (is_full_in G P e) (is_full_in G P f)
       (other_full_in F G P e (λ k is. c k (or_left (has_access_in e k) (has_access_in f k) is)))
       (other_full_in F G P f (λ k is. c k (or_right (has_access_in e k) (has_access_in f k) is))) h
   other_full F G P (Neg' p e) c h = other_full_in F G P e c h
@@ -154,13 +138,9 @@ mutual
   pub live_stands : (P : ℕ → Bool) (e : Expr) (j : ℕ) → is_live P e j ≡ true → has_access e j ≡ true
   live_stands P (Num n) j h = h
   live_stands P (AccessOf k) j h = and_first (nat_eq k j) (P k) h
-  live_stands P (Add' p e q f) j h =
-      or_more (is_live_in P e j) (is_live_in P f j) (has_access_in e j) (has_access_in f j) (live_stands_in P e j) (live_stands_in P f j) h
-  live_stands P (Sub' p e q f) j h =
-      or_more (is_live_in P e j) (is_live_in P f j) (has_access_in e j) (has_access_in f j) (live_stands_in P e j) (live_stands_in P f j) h
-  live_stands P (Mul' p e q f) j h =
+  live_stands P (Binary' o p e q f) j h =
       or_more (is_live_in P e j) (is_live_in P f j) (has_access_in e j) (has_access_in f j) (live_stands_in P e j) (live_stands_in P f j)
-      (and_second (remains_in P e && remains_in P f) (is_live_in P e j || is_live_in P f j) h)
+      (and_second (is_there o (remains_in P e) (remains_in P f)) (is_live_in P e j || is_live_in P f j) h)
   live_stands P (Neg' p e) j h = live_stands_in P e j h
 
   live_stands_in : {m : _} (P : ℕ → Bool) (row : Row_of-Expr m) (j : ℕ) → is_live_in P row j ≡ true → has_access_in row j ≡ true
@@ -172,13 +152,9 @@ mutual
   pub live_present : (P : ℕ → Bool) (e : Expr) (j : ℕ) → is_live P e j ≡ true → P j ≡ true
   live_present P (Num n) j h = never h
   live_present P (AccessOf k) j h = ap P (sym (same_number k j (and_first (nat_eq k j) (P k) h))) ∙ and_second (nat_eq k j) (P k) h
-  live_present P (Add' p e q f) j h =
-      either (is_live_in P e j) (is_live_in P f j) (P j) (live_present_in P e j) (live_present_in P f j) h
-  live_present P (Sub' p e q f) j h =
-      either (is_live_in P e j) (is_live_in P f j) (P j) (live_present_in P e j) (live_present_in P f j) h
-  live_present P (Mul' p e q f) j h =
+  live_present P (Binary' o p e q f) j h =
       either (is_live_in P e j) (is_live_in P f j) (P j) (live_present_in P e j) (live_present_in P f j)
-      (and_second (remains_in P e && remains_in P f) (is_live_in P e j || is_live_in P f j) h)
+      (and_second (is_there o (remains_in P e) (remains_in P f)) (is_live_in P e j || is_live_in P f j) h)
   live_present P (Neg' p e) j h = live_present_in P e j h
 
   live_present_in : {m : _} (P : ℕ → Bool) (row : Row_of-Expr m) (j : ℕ) → is_live_in P row j ≡ true → P j ≡ true
@@ -201,26 +177,20 @@ module _ (P Q : ℕ → Bool) where
       → HasLive_in f
   right_live e f c k is = c k (or_right (is_live_in P e k) (is_live_in P f k) is)
 
-  -- of a product that remains both sides' are
-  both_live : {m n : _} (e : Row_of-Expr m) (f : Row_of-Expr n) → (remains_in P e && remains_in P f) ≡ true
-      → ((k : ℕ) → ((remains_in P e && remains_in P f) && (is_live_in P e k || is_live_in P f k)) ≡ true → Q k ≡ true)
+  -- where the whole remains, what is so of its accesses is so of both sides'
+  both_live : {m n : _} (o : Operator) (e : Row_of-Expr m) (f : Row_of-Expr n) → is_there o (remains_in P e) (remains_in P f) ≡ true
+      → ((k : ℕ) → (is_there o (remains_in P e) (remains_in P f) && (is_live_in P e k || is_live_in P f k)) ≡ true → Q k ≡ true)
       → (k : ℕ) → (is_live_in P e k || is_live_in P f k) ≡ true → Q k ≡ true
-  both_live e f is c k h = c k (ap (λ b. b && (is_live_in P e k || is_live_in P f k)) is ∙ h)
+  both_live o e f is c k h = c k (ap (λ b. b && (is_live_in P e k || is_live_in P f k)) is ∙ h)
 
   mutual
     pub more_remains : (e : Expr) → HasLive e → remains P e ≡ true → remains Q e ≡ true
     more_remains (Num n) c h = refl
     more_remains (AccessOf k) c h = c k (ap (λ b. b && P k) (self k) ∙ h)
-    more_remains (Add' p e q f) c h =
-        or_more (remains_in P e) (remains_in P f) (remains_in Q e) (remains_in Q f) (more_remains_in e (left_live e f c))
-        (more_remains_in f (right_live e f c)) h
-    more_remains (Sub' p e q f) c h =
-        or_more (remains_in P e) (remains_in P f) (remains_in Q e) (remains_in Q f) (more_remains_in e (left_live e f c))
-        (more_remains_in f (right_live e f c)) h
-    more_remains (Mul' p e q f) c h =
-        and_more (remains_in P e) (remains_in P f) (remains_in Q e) (remains_in Q f)
-        (more_remains_in e (left_live e f (both_live e f h c)))
-        (more_remains_in f (right_live e f (both_live e f h c))) h
+    more_remains (Binary' o p e q f) c h =
+        there_more o (remains_in P e) (remains_in P f) (remains_in Q e) (remains_in Q f)
+        (more_remains_in e (left_live e f (both_live o e f h c)))
+        (more_remains_in f (right_live e f (both_live o e f h c))) h
     more_remains (Neg' p e) c h = more_remains_in e c h
 
     more_remains_in : {m : _} (row : Row_of-Expr m) → HasLive_in row → remains_in P row ≡ true → remains_in Q row ≡ true
@@ -232,22 +202,16 @@ module _ (P Q : ℕ → Bool) where
     more_live j (Num n) c h = h
     more_live j (AccessOf k) c h =
         and_more (nat_eq k j) (P k) (nat_eq k j) (Q k) (λ is. is) (λ is. c k (ap (λ b. b && P k) (self k) ∙ is)) h
-    more_live j (Add' p e q f) c h =
-        or_more (is_live_in P e j) (is_live_in P f j) (is_live_in Q e j) (is_live_in Q f j) (more_live_in j e (left_live e f c))
-        (more_live_in j f (right_live e f c)) h
-    more_live j (Sub' p e q f) c h =
-        or_more (is_live_in P e j) (is_live_in P f j) (is_live_in Q e j) (is_live_in Q f j) (more_live_in j e (left_live e f c))
-        (more_live_in j f (right_live e f c)) h
-    more_live j (Mul' p e q f) c h =
-        let is = and_first (remains_in P e && remains_in P f) (is_live_in P e j || is_live_in P f j) h in
-        and_more (remains_in P e && remains_in P f) (is_live_in P e j || is_live_in P f j) (remains_in Q e && remains_in Q f)
-        (is_live_in Q e j || is_live_in Q f j)
-        (and_more (remains_in P e) (remains_in P f) (remains_in Q e) (remains_in Q f)
-        (more_remains_in e (left_live e f (both_live e f is c)))
-        (more_remains_in f (right_live e f (both_live e f is c))))
+    more_live j (Binary' o p e q f) c h =
+        let is = and_first (is_there o (remains_in P e) (remains_in P f)) (is_live_in P e j || is_live_in P f j) h in
+        and_more (is_there o (remains_in P e) (remains_in P f)) (is_live_in P e j || is_live_in P f j)
+        (is_there o (remains_in Q e) (remains_in Q f)) (is_live_in Q e j || is_live_in Q f j)
+        (there_more o (remains_in P e) (remains_in P f) (remains_in Q e) (remains_in Q f)
+        (more_remains_in e (left_live e f (both_live o e f is c)))
+        (more_remains_in f (right_live e f (both_live o e f is c))))
         (or_more (is_live_in P e j) (is_live_in P f j) (is_live_in Q e j) (is_live_in Q f j)
-        (more_live_in j e (left_live e f (both_live e f is c)))
-        (more_live_in j f (right_live e f (both_live e f is c)))) h
+        (more_live_in j e (left_live e f (both_live o e f is c)))
+        (more_live_in j f (right_live e f (both_live o e f is c)))) h
     more_live j (Neg' p e) c h = more_live_in j e c h
 
     more_live_in : {m : _} (j : ℕ) (row : Row_of-Expr m) → HasLive_in row → is_live_in P row j ≡ true → is_live_in Q row j ≡ true
@@ -259,18 +223,12 @@ module _ (P Q : ℕ → Bool) where
     more_full F (Num n) c h = refl
     more_full F (AccessOf k) c h =
         and_more (F k) (P k) (F k) (Q k) (λ is. is) (λ is. c k (ap (λ b. b && P k) (self k) ∙ is)) h
-    more_full F (Add' p e q f) c h =
-        or_more (is_full_in F P e) (is_full_in F P f) (is_full_in F Q e) (is_full_in F Q f) (more_full_in F e (left_live e f c))
-        (more_full_in F f (right_live e f c)) h
-    more_full F (Sub' p e q f) c h =
-        or_more (is_full_in F P e) (is_full_in F P f) (is_full_in F Q e) (is_full_in F Q f) (more_full_in F e (left_live e f c))
-        (more_full_in F f (right_live e f c)) h
-    more_full F (Mul' p e q f) c h =
-        let is = and_more (is_full_in F P e) (is_full_in F P f) (remains_in P e) (remains_in P f) (full_remains_in F P e)
+    more_full F (Binary' o p e q f) c h =
+        let is = there_more o (is_full_in F P e) (is_full_in F P f) (remains_in P e) (remains_in P f) (full_remains_in F P e)
         (full_remains_in F P f) h in
-        and_more (is_full_in F P e) (is_full_in F P f) (is_full_in F Q e) (is_full_in F Q f)
-        (more_full_in F e (left_live e f (both_live e f is c)))
-        (more_full_in F f (right_live e f (both_live e f is c))) h
+        there_more o (is_full_in F P e) (is_full_in F P f) (is_full_in F Q e) (is_full_in F Q f)
+        (more_full_in F e (left_live e f (both_live o e f is c)))
+        (more_full_in F f (right_live e f (both_live o e f is c))) h
     more_full F (Neg' p e) c h = more_full_in F e c h
 
     more_full_in : {m : _} (F : ℕ → Bool) (row : Row_of-Expr m) → HasLive_in row → is_full_in F P row ≡ true → is_full_in F Q row ≡ true

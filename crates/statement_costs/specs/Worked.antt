@@ -6,8 +6,9 @@ use Rattle.level_core.specs.Entries.{one, span}
 use Rattle.level_core.specs.declared.letter.Letter.{Letter}
 use Rattle.level_core.specs.declared.letter.Letter.TheVariants.{Dense, Compressed, CompressedGroups, Singleton, Hashed}
 use Rattle.format_spec.specs.declared.format.FormatLevel.{FormatLevel}
+use Rattle.index_notation.specs.declared.operator.Operator.TheVariants as op
 use Rattle.index_notation.specs.declared.syntax.Access.{Access}
-use Rattle.index_notation.specs.declared.syntax.Expr.{Access as AccessOf, Add, Mul}
+use Rattle.index_notation.specs.declared.syntax.Expr.{Access as AccessOf, Binary}
 use Rattle.index_notation.specs.declared.syntax.Name.{Name}
 use Rattle.index_notation.specs.declared.syntax.Statement.{Statement}
 use Rattle.loop_code.specs.Loops.{Stored}
@@ -31,7 +32,7 @@ product = record {
   vars = no_name ∷ no_name ∷ [];
   left = access 0 (0 ∷ []);
   accesses = access 1 (0 ∷ 1 ∷ []) ∷ access 2 (1 ∷ []) ∷ [];
-  expr = Mul (AccessOf 0) (AccessOf 1);
+  expr = Binary op.Mul (AccessOf 0) (AccessOf 1);
 }
 
 -- all ranges are n
@@ -73,7 +74,7 @@ sum = record {
   vars = no_name ∷ [];
   left = access 0 (0 ∷ []);
   accesses = access 1 (0 ∷ []) ∷ access 2 (0 ∷ []) ∷ [];
-  expr = Add (AccessOf 0) (AccessOf 1);
+  expr = Binary op.Add (AccessOf 0) (AccessOf 1);
 }
 
 -- vectors of the kinds of levels, of which the first has two coordinates stored, and the second one of them
