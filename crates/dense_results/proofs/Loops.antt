@@ -9,12 +9,15 @@ use Rattle.lists.specs.Each.{Each}
 use Rattle.lists.proofs.Each.{each_append}
 use Rattle.format_spec.specs.declared.format.FormatLevel.{FormatLevel}
 use Rattle.index_notation.specs.Statement.{IsNumbered}
-use Rattle.index_notation.specs.declared.syntax.Expr.{Expr, Num, Access as AccessOf, Add', Sub', Mul', Neg', Row_of-Expr, end_of-Expr}
-use Rattle.index_notation.specs.declared.syntax.Expr.{more_of-Expr}
+use Rattle.index_notation.specs.declared.operator.Operator.{Operator}
+use Rattle.index_notation.specs.declared.operator.Operator.TheVariants as op
+use Rattle.index_notation.specs.declared.syntax.Expr.{Expr, Num, Access as AccessOf, Binary', Neg', Row_of-Expr, end_of-Expr, more_of-Expr}
 use Rattle.index_notation.specs.declared.syntax.Statement.{Statement}
 use Rattle.iteration_graph.specs.Edges.{statement_edges}
+use Rattle.index_notation.specs.Operators.{is_minus}
 use Rattle.expr_terms.specs.Minus.{HasMeaning, has_minus, has_minus_in}
-use Rattle.expr_terms.specs.Terms.{terms, terms_in, contains, own_variables, plain_term}
+use Rattle.expr_terms.specs.Terms.{terms, terms_in, terms_of_sides, contains, own_variables, plain_term}
+use Rattle.expr_terms.proofs.Meanings.{neither}
 use Rattle.expr_terms.specs.declared.term.Term.{Term}
 use Rattle.concrete_notation.specs.declared.concrete.Concrete.{Concrete, Forall, Both}
 use Rattle.concrete_notation.specs.Nests.{Nest, inside, nests, nest_of, loops_of, IsOrderOf}
@@ -169,25 +172,26 @@ mutual
   target_bound_in target bound end_of-LoopCode h = tt
   target_bound_in target bound (more_of-LoopCode c rest) h = target_bound target bound c h
 
--- the terms of an expression that has a meaning have one, with the sign that they are given
-neither : (b c : Bool) → (b || c) ≡ false → (b ≡ false) × (c ≡ false)
-neither true c h = cc
-neither false c h = (refl, h)
-
--- where there is no minus
+-- the terms of an expression that has a meaning have one, with the sign that they are given: where there is no minus
 record IsPlain (t : Term) : Type 0 where
   expr : has_minus t.expr ≡ false
   sign : t.negated ≡ false
+
+plain_sides : (o : Operator) (whole : Expr) (ts us : List Term) → is_minus o ≡ false → IsPlain (plain_term whole) → Each IsPlain ts
+    → Each IsPlain us → Each IsPlain (terms_of_sides o whole ts us)
+plain_sides op.Add whole ts us n one first second = each_append IsPlain ts us first second
+plain_sides op.Sub whole ts us n one first second = absurd (cc n)
+plain_sides op.Mul whole ts us n one first second = (one, tt)
 
 mutual
   plain_terms : (e : Expr) → has_minus e ≡ false → Each IsPlain (terms e)
   plain_terms (Num n) h = (record { expr = refl; sign = refl }, tt)
   plain_terms (AccessOf k) h = (record { expr = refl; sign = refl }, tt)
-  plain_terms (Add' p e q f) h =
-      let parts = neither (has_minus_in e) (has_minus_in f) h in
-      each_append IsPlain (terms_in e) (terms_in f) (plain_terms_in e parts.0) (plain_terms_in f parts.1)
-  plain_terms (Sub' p e q f) h = cc
-  plain_terms (Mul' p e q f) h = (record { expr = h; sign = refl }, tt)
+  plain_terms (Binary' o p e q f) h =
+      let parts = neither (is_minus o) (has_minus_in e || has_minus_in f) h in
+      let sides = neither (has_minus_in e) (has_minus_in f) parts.1 in
+      plain_sides o (Binary' o p e q f) (terms_in e) (terms_in f) parts.0 (record { expr = h; sign = refl }) (plain_terms_in e sides.0)
+      (plain_terms_in f sides.1)
   plain_terms (Neg' p e) h = cc
 
   plain_terms_in : {m : _} (row : Row_of-Expr m) → has_minus_in row ≡ false → Each IsPlain (terms_in row)

@@ -8,8 +8,9 @@ use Rattle.numbers.specs.Arithmetic.{Arithmetic, Laws}
 use Rattle.level_core.specs.declared.span.Span.{Span}
 use Rattle.format_spec.specs.declared.format.FormatLevel.{FormatLevel}
 use Rattle.format_spec.specs.Formats.{modes_of}
-use Rattle.index_notation.specs.declared.syntax.Expr.{Expr, Num, Access as AccessOf, Add', Sub', Mul', Neg', Row_of-Expr, end_of-Expr}
-use Rattle.index_notation.specs.declared.syntax.Expr.{more_of-Expr}
+use Rattle.index_notation.specs.declared.operator.Operator.{Operator}
+use Rattle.index_notation.specs.declared.operator.Operator.TheVariants as op
+use Rattle.index_notation.specs.declared.syntax.Expr.{Expr, Num, Access as AccessOf, Binary', Neg', Row_of-Expr, end_of-Expr, more_of-Expr}
 use Rattle.index_notation.specs.declared.syntax.Statement.{Statement}
 use Rattle.tensor_map.specs.declared.entries.Entry.{Entry}
 use Rattle.tensor_map.proofs.Lemmas.{listed_at}
@@ -20,7 +21,7 @@ use Rattle.concrete_notation.specs.Contributions.{rows_below}
 use Rattle.loop_code.specs.declared.loops.LoopCode.{LoopCode, Add, Both', Loop', Row_of-LoopCode, end_of-LoopCode, more_of-LoopCode}
 use Rattle.loop_code.specs.Loops.{Layout, Stored, Env, start, moved, word_of, access_values, term_value, row_of, contributions}
 use Rattle.loop_code.specs.Loops.{contributions_in}
-use Rattle.loop_code.specs.PresentValues.{both, either, each, present_value, present_value_in, signed}
+use Rattle.loop_code.specs.PresentValues.{both, either, each, present_applied, present_value, present_value_in, signed}
 use Rattle.lowering.specs.Layouts.{layout_of}
 use Rattle.lowering.specs.Right.{HaveValues, rows_to}
 use Rattle.lowering.specs.Shapes as shapes
@@ -55,17 +56,18 @@ module _ (a : Arithmetic) (laws : Laws a) where
   minus_word None = tt
   minus_word (Some v) = laws.times_fits a.minus_one v
 
+  applied_word : (o : Operator) (x y : Option ℕ) → IsWord x → IsWord y → IsWord (present_applied a o x y)
+  applied_word op.Add x y f g = either_word x y f g
+  applied_word op.Sub x y f g = either_word x (each (minus a) y) f (minus_word y)
+  applied_word op.Mul x y f g = both_word x y
+
   module _ (values : ℕ → Option ℕ) (words : (k : ℕ) → IsWord (values k)) where
     mutual
       value_word : (e : Expr) → HasWords e → IsWord (present_value a values e)
       value_word (Num n) h = h
       value_word (AccessOf k) h = words k
-      value_word (Add' p e q f) h =
-          either_word (present_value_in a values e) (present_value_in a values f) (value_word_in e h.0) (value_word_in f h.1)
-      value_word (Sub' p e q f) h =
-          either_word (present_value_in a values e) (each (minus a) (present_value_in a values f)) (value_word_in e h.0)
-          (minus_word (present_value_in a values f))
-      value_word (Mul' p e q f) h = both_word (present_value_in a values e) (present_value_in a values f)
+      value_word (Binary' o p e q f) h =
+          applied_word o (present_value_in a values e) (present_value_in a values f) (value_word_in e h.0) (value_word_in f h.1)
       value_word (Neg' p e) h = minus_word (present_value_in a values e)
 
       value_word_in : {m : _} (row : Row_of-Expr m) → HasWords_in row → IsWord (present_value_in a values row)

@@ -8,9 +8,10 @@ use Rattle.kernel_code.specs.declared.syntax.Kernel.{Kernel}
 use Rattle.kernel_code.specs.declared.syntax.Turns.{Turns}
 use Rattle.level_core.specs.declared.letter.Letter.TheVariants.{Dense, Compressed}
 use Rattle.format_spec.specs.declared.format.FormatLevel.{FormatLevel}
+use Rattle.index_notation.specs.declared.operator.Operator.TheVariants as op
 use Rattle.index_notation.specs.declared.syntax.Name.{Name}
 use Rattle.index_notation.specs.declared.syntax.Access.{Access}
-use Rattle.index_notation.specs.declared.syntax.Expr.{Access as AccessOf, Add, Mul}
+use Rattle.index_notation.specs.declared.syntax.Expr.{Access as AccessOf, Binary}
 use Rattle.index_notation.specs.declared.syntax.Statement.{Statement}
 use Rattle.generated_runs.specs.Generated.{IsGenerated}
 use Rattle.tensor_storage.specs.Storages.{Storage}
@@ -33,7 +34,7 @@ workload_statement = record {
   vars = letter_name 105 ∷ letter_name 106 ∷ [];
   left = matrix_at 0;
   accesses = matrix_at 1 ∷ matrix_at 2 ∷ matrix_at 3 ∷ [];
-  expr = Add (Mul (AccessOf 0) (AccessOf 1)) (AccessOf 2);
+  expr = Binary op.Add (Binary op.Mul (AccessOf 0) (AccessOf 1)) (AccessOf 2);
 }
 
 -- `ds`: all rows, and of each the columns that are stored

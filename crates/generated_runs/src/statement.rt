@@ -1,12 +1,11 @@
 //! The statement of the workload, and the formats of its tensors.
 ghost use Rattle.std.specs.Prelude.{◌≡◌, ◌∷◌, [], IfOk, map};
-ghost use Rattle.index_notation.specs.declared.syntax.Expr.{Access as AccessOf, Add, Mul};
 ghost use Rattle.generated_runs.specs.Workloads.{letter_name, matrix_at, workload_statement, by_rows, workload_formats};
 
 use format_spec::{Format, parse_format};
-use index_notation::{Access, Expr, Name, Statement};
+use index_notation::{Access, Expr, Name, Operator, Statement, binary};
 use std::alloc::{AllocError, Global};
-use trees::{Boxed, Items};
+use trees::Items;
 
 /// A name for each letter. Refused only for want of memory.
 fn letter_names(alloc: Global, letters: &[u8]) -> Result<Items<Name>, AllocError>
@@ -41,13 +40,12 @@ fn operands_at(alloc: Global) -> Result<Items<Access>, AllocError>
 
 /// The right side: the product of the first two accesses, and the third. Refused only for want of memory.
 fn right_side(alloc: Global) -> Result<Expr, AllocError>
-    ensures { IfOk result (λ expr. expr ≡ Add (Mul (AccessOf 0) (AccessOf 1)) (AccessOf 2)) }
+    ensures { IfOk result (λ expr. expr
+        ≡ Expr.Binary Operator.Add (Expr.Binary Operator.Mul (Expr.Access 0) (Expr.Access 1)) (Expr.Access 2)) }
 {
-    let first = Boxed::new(alloc, Expr::Access(0))?;
-    let second = Boxed::new(alloc, Expr::Access(1))?;
-    let product = Boxed::new(alloc, Expr::Mul(first, second))?;
-    let third = Boxed::new(alloc, Expr::Access(2))?;
-    Ok(Expr::Add(product, third))
+    let product = binary(alloc, Operator::Mul, Expr::Access(0), Expr::Access(1))?;
+    let right = binary(alloc, Operator::Add, product, Expr::Access(2))?;
+    Ok(right)
 }
 
 /// `A(i,j) = B(i,j) * C(i,j) + D(i,j)`. Refused only for want of memory.
@@ -60,13 +58,7 @@ pub(crate) fn workload_statement(alloc: Global) -> Result<Statement, AllocError>
     let left = matrix_at(alloc, 0)?;
     let accesses = operands_at(alloc)?;
     let expr = right_side(alloc)?;
-    Ok(Statement {
-        tensors,
-        vars,
-        left,
-        accesses,
-        expr,
-    })
+    Ok(Statement::new(tensors, vars, left, accesses, expr))
 }
 
 /// The format `ds`.

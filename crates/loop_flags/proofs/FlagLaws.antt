@@ -4,14 +4,17 @@ use Rattle.std.proofs.Common.{◌∙◌, sym, ap, subst, arith}
 use Rattle.kernel_code.specs.declared.syntax.Op.TheVariants.{And, Or}
 use Rattle.kernel_code.specs.declared.syntax.KExpr.{KExpr, Num, Bin}
 use Rattle.kernel_code.specs.Meaning.{State, word_of}
+use Rattle.index_notation.specs.declared.operator.Operator.{Operator}
+use Rattle.index_notation.specs.declared.operator.Operator.TheVariants as op
 use Rattle.index_notation.specs.declared.syntax.Expr.{Expr}
+use Rattle.index_notation.specs.Operators.{is_product, is_there}
 use Rattle.loop_code.specs.Loops.{Env}
 use Rattle.loop_code.specs.Parts.{here, remains}
 use Rattle.term_code.specs.declared.places.Places.{Places}
 use Rattle.term_code.specs.Places.{Keeps}
 use Rattle.term_code.specs.Presence.{Tells}
 use Rattle.term_code.proofs.PresenceLaws.{tells_either, tells_both}
-use Rattle.loop_flags.specs.Flags.{TellsEither, TellsBoth, TellsFactor, TellsProduct}
+use Rattle.loop_flags.specs.Flags.{TellsEither, TellsBoth, TellsThere, TellsFactor, TellsSides}
 
 pub if_flag : {E A : Type 0} (r : Result A E) (P Q : A → Type 0) → ((x : A) → P x → Q x) → IfOk r P → IfOk r Q
 if_flag (Ok x) P Q f h = f x h
@@ -144,8 +147,27 @@ both_are false q true b = refl
 both_are false q false true = refl
 both_are false q false false = refl
 
+either_is : (r q a b : Bool) → (a ≡ true → r ≡ true) → (b ≡ true → q ≡ true) → (a || b) ≡ ((r || q) && (a || b))
+either_is true q a b f g = refl
+either_is false true a b f g = refl
+either_is false false true b f g = absurd (cc (f refl))
+either_is false false false true f g = absurd (cc (g refl))
+either_is false false false false f g = refl
+
 module _ (places : Places) (e f : Expr) (x y : KExpr) where
-  pub first_of_product : (flag : KExpr) → y ≡ Num 0 → TellsFactor places x f flag → TellsProduct places e f x y flag
+  either_of_sum : (flag : KExpr) → TellsEither x y flag → TellsSides places op.Add e f x y flag
+  either_of_sum flag w g h is in_it one two =
+      tells_kept places (λ env. g env || h env)
+      (λ env. (remains (here env) e || remains (here env) f) && (g env || h env)) flag
+      (λ bound env s at. either_is (remains (here env) e) (remains (here env) f) (g env) (h env) (is env) (in_it env))
+      (w places g h one two)
+
+  pub either_of_sides : (o : Operator) (flag : KExpr) → is_product o ≡ false → TellsEither x y flag → TellsSides places o e f x y flag
+  either_of_sides op.Add flag n w = either_of_sum flag w
+  either_of_sides op.Sub flag n w = either_of_sum flag w
+  either_of_sides op.Mul flag n w = absurd (cc n)
+
+  pub first_of_product : (flag : KExpr) → y ≡ Num 0 → TellsFactor places x f flag → TellsSides places op.Mul e f x y flag
   first_of_product flag zero w g h is in_it one none =
       tells_kept places (λ env. g env && remains (here env) f)
       (λ env. (remains (here env) e && remains (here env) f) && (g env || h env)) flag
@@ -153,7 +175,7 @@ module _ (places : Places) (e f : Expr) (x y : KExpr) where
       (never_so places h y zero none bound env s at))
       (w g one)
 
-  pub second_of_product : (flag : KExpr) → x ≡ Num 0 → TellsFactor places y e flag → TellsProduct places e f x y flag
+  pub second_of_product : (flag : KExpr) → x ≡ Num 0 → TellsFactor places y e flag → TellsSides places op.Mul e f x y flag
   second_of_product flag zero w g h is in_it none one =
       tells_kept places (λ env. h env && remains (here env) e)
       (λ env. (remains (here env) e && remains (here env) f) && (g env || h env)) flag
@@ -162,7 +184,7 @@ module _ (places : Places) (e f : Expr) (x y : KExpr) where
       (w h one)
 
   pub both_of_product : (one left flag : KExpr) → TellsEither x y one → TellsFactor places one e left → TellsFactor places left f flag
-      → TellsProduct places e f x y flag
+      → TellsSides places op.Mul e f x y flag
   both_of_product one left flag u w v g h is in_it in_first in_second =
       tells_kept places (λ env. ((g env || h env) && remains (here env) e) && remains (here env) f)
       (λ env. (remains (here env) e && remains (here env) f) && (g env || h env)) flag
@@ -185,10 +207,10 @@ module _ {X : Type 0} (places : Places) (V : X → Env → Bool) where
       (tells_kept places (λ env. V e env || V f env) (V made) flag (λ bound env s at. sym (same env))
       (told places (V e) (V f) (subst (λ w. Tells places (V w) x) first one) (subst (λ w. Tells places (V w) y) second two)))
 
-  pub tells_parts_both : (whole made e f e' f' : X) (x y flag : KExpr) → whole ≡ made → e' ≡ e → f' ≡ f
-      → ((env : Env) → V made env ≡ (V e env && V f env)) → Tells places (V e') x → Tells places (V f') y → TellsBoth x y flag
-      → Tells places (V whole) flag
-  tells_parts_both whole made e f e' f' x y flag is first second same one two told =
+  pub tells_parts_there : (o : Operator) (whole made e f e' f' : X) (x y flag : KExpr) → whole ≡ made → e' ≡ e → f' ≡ f
+      → ((env : Env) → V made env ≡ is_there o (V e env) (V f env)) → Tells places (V e') x → Tells places (V f') y
+      → TellsThere o x y flag → Tells places (V whole) flag
+  tells_parts_there o whole made e f e' f' x y flag is first second same one two told =
       subst (λ w. Tells places (V w) flag) (sym is)
-      (tells_kept places (λ env. V e env && V f env) (V made) flag (λ bound env s at. sym (same env))
+      (tells_kept places (λ env. is_there o (V e env) (V f env)) (V made) flag (λ bound env s at. sym (same env))
       (told places (V e) (V f) (subst (λ w. Tells places (V w) x) first one) (subst (λ w. Tells places (V w) y) second two)))

@@ -5,7 +5,7 @@ ghost use Rattle.loop_code.specs.Places.{EachAccess};
 ghost use Rattle.operand_arrays.specs.Terms.{EachTerm};
 ghost use Rattle.term_code.specs.Presence.{Tells};
 
-use crate::flags::{both, either};
+use crate::flags::{either, there};
 use index_notation::Expr;
 use kernel_code::KExpr;
 use loop_code::{LoopCode, Seek};
@@ -20,22 +20,10 @@ fn full_in(alloc: Global, places: &Places, seeks: &[Seek], expr: &Expr) -> Resul
     match expr {
         Expr::Num(_) => fullness_of(alloc, places, seeks, expr),
         Expr::Access(_) => fullness_of(alloc, places, seeks, expr),
-        Expr::Add(first, second) => {
+        Expr::Binary(operator, first, second) => {
             let x = full_in(alloc, places, seeks, first.get())?;
             let y = full_in(alloc, places, seeks, second.get())?;
-            let flag = either(alloc, x, y)?;
-            Ok(flag)
-        }
-        Expr::Sub(first, second) => {
-            let x = full_in(alloc, places, seeks, first.get())?;
-            let y = full_in(alloc, places, seeks, second.get())?;
-            let flag = either(alloc, x, y)?;
-            Ok(flag)
-        }
-        Expr::Mul(first, second) => {
-            let x = full_in(alloc, places, seeks, first.get())?;
-            let y = full_in(alloc, places, seeks, second.get())?;
-            let flag = both(alloc, x, y)?;
+            let flag = there(alloc, *operator, x, y)?;
             Ok(flag)
         }
         Expr::Neg(inner) => full_in(alloc, places, seeks, inner.get()),

@@ -13,13 +13,12 @@ fn stands_alone(expr: &Expr, access: usize) -> bool
     match expr {
         Expr::Num(_) => false,
         Expr::Access(found) => *found == access,
-        Expr::Add(first, second) => {
+        Expr::Binary(operator, first, second) => {
+            if operator.is_product() {
+                return false;
+            }
             stands_alone(first.get(), access) || stands_alone(second.get(), access)
         }
-        Expr::Sub(first, second) => {
-            stands_alone(first.get(), access) || stands_alone(second.get(), access)
-        }
-        Expr::Mul(_, _) => false,
         Expr::Neg(inner) => stands_alone(inner.get(), access),
     }
 }
@@ -35,14 +34,11 @@ fn stays_in(expr: &Expr, access: usize) -> bool
     match expr {
         Expr::Num(_) => false,
         Expr::Access(_) => false,
-        Expr::Add(first, second) => {
+        Expr::Binary(operator, first, second) => {
+            if operator.is_product() {
+                return stays_in(first.get(), access) || stays_in(second.get(), access);
+            }
             stays_in(first.get(), access) && stays_in(second.get(), access)
-        }
-        Expr::Sub(first, second) => {
-            stays_in(first.get(), access) && stays_in(second.get(), access)
-        }
-        Expr::Mul(first, second) => {
-            stays_in(first.get(), access) || stays_in(second.get(), access)
         }
         Expr::Neg(inner) => stays_in(inner.get(), access),
     }

@@ -1,7 +1,7 @@
 //! Statements by their numbers, and whether they are well formed.
 use case_files::{Answer, keyword_of};
-use index_notation::{Access, Expr, Name, Statement};
-use trees::{Boxed, Items};
+use index_notation::{Access, Expr, Name, Operator, Statement, binary};
+use trees::Items;
 
 fn names_of(answer: &mut Answer, count: u64) -> Option<Items<Name>> {
     let mut names = Items::new(answer.alloc());
@@ -29,9 +29,8 @@ fn access_of(answer: &mut Answer, text: &str) -> Option<Access> {
 fn product_of(answer: &mut Answer, factors: u64) -> Option<Expr> {
     let mut expr = Expr::Access(0);
     for n in 1..factors {
-        let product = Boxed::new(answer.alloc(), expr).ok()?;
-        let factor = Boxed::new(answer.alloc(), Expr::Access(n as usize)).ok()?;
-        expr = Expr::Mul(product, factor);
+        let factor = Expr::Access(n as usize);
+        expr = binary(answer.alloc(), Operator::Mul, expr, factor).ok()?;
     }
     Some(expr)
 }
@@ -49,13 +48,10 @@ pub(crate) fn tell_numbered(answer: &mut Answer, text: &str) -> Option<()> {
         let added = accesses.push(access_of(answer, part)?);
         answer.made(added)?;
     }
-    let statement = Statement {
-        tensors: names_of(answer, *tensors)?,
-        vars: names_of(answer, *vars)?,
-        left,
-        accesses,
-        expr: product_of(answer, *factors)?,
-    };
+    let tensors = names_of(answer, *tensors)?;
+    let vars = names_of(answer, *vars)?;
+    let expr = product_of(answer, *factors)?;
+    let statement = Statement::new(tensors, vars, left, accesses, expr);
     answer.tell("numbered ");
     answer.show(&statement.is_numbered());
     answer.tell(", well named ");

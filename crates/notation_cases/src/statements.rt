@@ -1,7 +1,7 @@
 //! Statements and their groups, as they are told.
 use case_files::Answer;
 use expr_terms::{Term, groups};
-use index_notation::{Expr, Name, Statement, copy_access, copy_expr, copy_name};
+use index_notation::{Expr, Name, Operator, Statement, copy_access, copy_expr, copy_name};
 
 /// Each name, by way of a copy.
 fn tell_names(answer: &mut Answer, names: &[Name]) -> Option<()> {
@@ -15,6 +15,14 @@ fn tell_names(answer: &mut Answer, names: &[Name]) -> Option<()> {
     Some(())
 }
 
+fn sign_of(operator: Operator) -> &'static str {
+    match operator {
+        Operator::Add => "+",
+        Operator::Sub => "-",
+        Operator::Mul => "*",
+    }
+}
+
 /// Each operation in brackets, and accesses by their numbers behind `#`.
 pub(crate) fn tell_expr(answer: &mut Answer, expr: &Expr) {
     match expr {
@@ -23,24 +31,10 @@ pub(crate) fn tell_expr(answer: &mut Answer, expr: &Expr) {
             answer.tell("#");
             answer.show(n);
         }
-        Expr::Add(first, second) => {
+        Expr::Binary(operator, first, second) => {
             answer.tell("(");
             tell_expr(answer, first.get());
-            answer.tell("+");
-            tell_expr(answer, second.get());
-            answer.tell(")");
-        }
-        Expr::Sub(first, second) => {
-            answer.tell("(");
-            tell_expr(answer, first.get());
-            answer.tell("-");
-            tell_expr(answer, second.get());
-            answer.tell(")");
-        }
-        Expr::Mul(first, second) => {
-            answer.tell("(");
-            tell_expr(answer, first.get());
-            answer.tell("*");
+            answer.tell(sign_of(*operator));
             tell_expr(answer, second.get());
             answer.tell(")");
         }

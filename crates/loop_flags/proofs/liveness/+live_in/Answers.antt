@@ -1,66 +1,34 @@
 use Rattle.std.specs.Prelude.{◌<◌, length}
-use Rattle.index_notation.specs.declared.syntax.Expr.{Add, Sub, Mul, Neg}
-use Rattle.expr_terms.proofs.Heights.{falls, parts_of_add, parts_of_sub, parts_of_mul, part_of_neg}
+use Rattle.index_notation.specs.declared.syntax.Expr.{Binary, Neg}
+use Rattle.expr_terms.proofs.Heights.{falls, parts_of_binary, part_of_neg}
 use Rattle.term_code.specs.Presence.{Tells}
-use Rattle.term_code.proofs.Parts.{first_added, second_added, first_subtracted, second_subtracted, first_factor, second_factor}
-use Rattle.term_code.proofs.Parts.{negated_part}
+use Rattle.term_code.proofs.Parts.{first_side, second_side, negated_part}
 use Rattle.loop_code.specs.Parts.{here}
-use Rattle.loop_flags.proofs.LiveLaws.{live_add, live_sub, live_neg}
-use Rattle.loop_flags.proofs.FlagLaws.{if_flag, tells_part, tells_parts_either}
-use Rattle.loop_flags.proofs.FlagParts.{live_at, flag_mul}
+use Rattle.loop_flags.proofs.LiveLaws.{live_neg}
+use Rattle.loop_flags.proofs.FlagLaws.{if_flag, tells_part}
+use Rattle.loop_flags.proofs.FlagParts.{live_at, flag_sides}
 use Rattle.loop_flags.proofs.liveness.+live_in.Goals as goal
 
 pub live_in-requires : goal.live_in-requires
 live_in-requires t c =
-    let e = c.in-Add.first in
-    let f = c.in-Add.second in (
-      falls t c.args.expr.now (Add e f) e c.get.result.now c.in-Add.is c.get.ensures (parts_of_add e f).0 c.decreases,
-      first_added (λ k. k < length c.args.places.now.accesses) c.args.expr.now e f c.get.result.now c.in-Add.is c.get.ensures c.requires,
+    let o = c.in-Binary.operator in
+    let e = c.in-Binary.first in
+    let f = c.in-Binary.second in (
+      falls t c.args.expr.now (Binary o e f) e c.get-first.result.now c.in-Binary.is c.get-first.ensures (parts_of_binary o e f).0
+          c.decreases,
+      first_side (λ k. k < length c.args.places.now.accesses) c.args.expr.now o e f c.get-first.result.now c.in-Binary.is
+          c.get-first.ensures c.requires,
     )
 
-pub live_in-requires-in-Add : goal.live_in-requires-in-Add
-live_in-requires-in-Add t c =
-    let e = c.in-Add.first in
-    let f = c.in-Add.second in (
-      falls t c.args.expr.now (Add e f) f c.get-in-Add.result.now c.in-Add.is c.get-in-Add.ensures (parts_of_add e f).1 c.decreases,
-      second_added (λ k. k < length c.args.places.now.accesses) c.args.expr.now e f c.get-in-Add.result.now c.in-Add.is c.get-in-Add.ensures
-          c.requires,
-    )
-
-pub live_in-requires-in-Sub : goal.live_in-requires-in-Sub
-live_in-requires-in-Sub t c =
-    let e = c.in-Sub.first in
-    let f = c.in-Sub.second in (
-      falls t c.args.expr.now (Sub e f) e c.get-in-Sub.result.now c.in-Sub.is c.get-in-Sub.ensures (parts_of_sub e f).0 c.decreases,
-      first_subtracted (λ k. k < length c.args.places.now.accesses) c.args.expr.now e f c.get-in-Sub.result.now c.in-Sub.is
-          c.get-in-Sub.ensures c.requires,
-    )
-
-pub live_in-requires-in-Sub-2 : goal.live_in-requires-in-Sub-2
-live_in-requires-in-Sub-2 t c =
-    let e = c.in-Sub.first in
-    let f = c.in-Sub.second in (
-      falls t c.args.expr.now (Sub e f) f c.get-in-Sub-2.result.now c.in-Sub.is c.get-in-Sub-2.ensures (parts_of_sub e f).1 c.decreases,
-      second_subtracted (λ k. k < length c.args.places.now.accesses) c.args.expr.now e f c.get-in-Sub-2.result.now c.in-Sub.is
-          c.get-in-Sub-2.ensures c.requires,
-    )
-
-pub live_in-requires-in-Mul : goal.live_in-requires-in-Mul
-live_in-requires-in-Mul t c =
-    let e = c.in-Mul.first in
-    let f = c.in-Mul.second in (
-      falls t c.args.expr.now (Mul e f) e c.get-in-Mul.result.now c.in-Mul.is c.get-in-Mul.ensures (parts_of_mul e f).0 c.decreases,
-      first_factor (λ k. k < length c.args.places.now.accesses) c.args.expr.now e f c.get-in-Mul.result.now c.in-Mul.is c.get-in-Mul.ensures
-          c.requires,
-    )
-
-pub live_in-requires-in-Mul-2 : goal.live_in-requires-in-Mul-2
-live_in-requires-in-Mul-2 t c =
-    let e = c.in-Mul.first in
-    let f = c.in-Mul.second in (
-      falls t c.args.expr.now (Mul e f) f c.get-in-Mul-2.result.now c.in-Mul.is c.get-in-Mul-2.ensures (parts_of_mul e f).1 c.decreases,
-      second_factor (λ k. k < length c.args.places.now.accesses) c.args.expr.now e f c.get-in-Mul-2.result.now c.in-Mul.is
-          c.get-in-Mul-2.ensures c.requires,
+pub live_in-requires-in-Binary : goal.live_in-requires-in-Binary
+live_in-requires-in-Binary t c =
+    let o = c.in-Binary.operator in
+    let e = c.in-Binary.first in
+    let f = c.in-Binary.second in (
+      falls t c.args.expr.now (Binary o e f) f c.get-second.result.now c.in-Binary.is c.get-second.ensures (parts_of_binary o e f).1
+          c.decreases,
+      second_side (λ k. k < length c.args.places.now.accesses) c.args.expr.now o e f c.get-second.result.now c.in-Binary.is
+          c.get-second.ensures c.requires,
     )
 
 pub live_in-requires-in-Neg : goal.live_in-requires-in-Neg
@@ -71,42 +39,22 @@ live_in-requires-in-Neg t c = (
       c.get-in-Neg.ensures c.requires,
 )
 
-pub in_product-requires-clause-first : goal.in_product-requires-clause-first
-in_product-requires-clause-first t c =
-    first_factor (λ k. k < length c.args.places.now.accesses) c.args.expr.now c.in-Mul.first c.in-Mul.second c.get-in-Mul-3.result.now
-    c.in-Mul.is c.get-in-Mul-3.ensures c.requires
+pub in_sides-requires-clause-first : goal.in_sides-requires-clause-first
+in_sides-requires-clause-first t c =
+    first_side (λ k. k < length c.args.places.now.accesses) c.args.expr.now c.in-Binary.operator c.in-Binary.first c.in-Binary.second
+    c.get-first.result.now c.in-Binary.is c.get-first.ensures c.requires
 
-pub in_product-requires-clause-second : goal.in_product-requires-clause-second
-in_product-requires-clause-second t c =
-    second_factor (λ k. k < length c.args.places.now.accesses) c.args.expr.now c.in-Mul.first c.in-Mul.second c.get-in-Mul-4.result.now
-    c.in-Mul.is c.get-in-Mul-4.ensures c.requires
+pub in_sides-requires-clause-second : goal.in_sides-requires-clause-second
+in_sides-requires-clause-second t c =
+    second_side (λ k. k < length c.args.places.now.accesses) c.args.expr.now c.in-Binary.operator c.in-Binary.first c.in-Binary.second
+    c.get-second.result.now c.in-Binary.is c.get-second.ensures c.requires
 
-pub returns-in_ok-flag-in-Add : goal.returns-in_ok-flag-in-Add
-returns-in_ok-flag-in-Add t c =
-    let k = c.args.access in
-    let e = c.in-Add.first in
-    let f = c.in-Add.second in
-    tells_parts_either c.args.places.now (live_at k) c.args.expr.now (Add e f) e f c.get.result.now c.get-in-Add.result.now
-    c.in_ok-x-in-Add.x
-    c.in_ok-y-in-Add.y c.in_ok-flag-in-Add.flag c.in-Add.is c.get.ensures c.get-in-Add.ensures (λ env. live_add (here env) e f k)
-    c.in_ok-x-in-Add.ensures c.in_ok-y-in-Add.ensures c.in_ok-flag-in-Add.ensures
-
-pub returns-in_ok-flag-in-Sub : goal.returns-in_ok-flag-in-Sub
-returns-in_ok-flag-in-Sub t c =
-    let k = c.args.access in
-    let e = c.in-Sub.first in
-    let f = c.in-Sub.second in
-    tells_parts_either c.args.places.now (live_at k) c.args.expr.now (Sub e f) e f c.get-in-Sub.result.now c.get-in-Sub-2.result.now
-    c.in_ok-x-in-Sub.x
-    c.in_ok-y-in-Sub.y c.in_ok-flag-in-Sub.flag c.in-Sub.is c.get-in-Sub.ensures c.get-in-Sub-2.ensures (λ env. live_sub (here env) e f k)
-    c.in_ok-x-in-Sub.ensures c.in_ok-y-in-Sub.ensures c.in_ok-flag-in-Sub.ensures
-
-pub returns-in_ok-flag-in-Mul : goal.returns-in_ok-flag-in-Mul
-returns-in_ok-flag-in-Mul t c =
-    flag_mul c.args.places.now c.args.access c.args.expr.now c.in-Mul.first c.in-Mul.second c.get-in-Mul.result.now
-    c.get-in-Mul-2.result.now c.get-in-Mul-3.result.now c.get-in-Mul-4.result.now c.in_ok-x-in-Mul.x c.in_ok-y-in-Mul.y
-    c.in_ok-flag-in-Mul.flag c.in-Mul.is c.get-in-Mul.ensures c.get-in-Mul-2.ensures c.get-in-Mul-3.ensures c.get-in-Mul-4.ensures
-    c.in_ok-x-in-Mul.ensures c.in_ok-y-in-Mul.ensures c.in_ok-flag-in-Mul.ensures
+pub returns-in_ok-flag-in-Binary : goal.returns-in_ok-flag-in-Binary
+returns-in_ok-flag-in-Binary t c =
+    flag_sides c.args.places.now c.args.access c.args.expr.now c.in-Binary.operator c.in-Binary.first c.in-Binary.second
+    c.get-first.result.now c.get-second.result.now c.in_ok-x-in-Binary.x c.in_ok-y-in-Binary.y c.in_ok-flag-in-Binary.flag
+    c.in-Binary.is c.get-first.ensures c.get-second.ensures
+    c.in_ok-x-in-Binary.ensures c.in_ok-y-in-Binary.ensures c.in_ok-flag-in-Binary.ensures
 
 pub returns-in-Neg : goal.returns-in-Neg
 returns-in-Neg t c =

@@ -1,25 +1,13 @@
 use Rattle.std.proofs.Common.{sym, subst}
 use Rattle.expr_terms.specs.ValueLaws.{HasWords}
-use Rattle.lowering.proofs.Equations.{words_add, words_sub, words_mul, words_neg}
+use Rattle.lowering.proofs.Equations.{words_binary, words_neg}
 use Rattle.taco_compiler.proofs.lowered.+numbers_are_words.Goals as goal
 
-pub returns-in-Add : goal.returns-in-Add
-returns-in-Add t c =
-    subst HasWords (sym c.in-Add.is)
-    (words_add c.in-Add.first c.in-Add.second (subst HasWords c.get.ensures c.numbers_are_words.ensures)
-    (subst HasWords c.get-in-Add.ensures c.numbers_are_words-in-Add.ensures))
-
-pub returns-in-Sub : goal.returns-in-Sub
-returns-in-Sub t c =
-    subst HasWords (sym c.in-Sub.is)
-    (words_sub c.in-Sub.first c.in-Sub.second (subst HasWords c.get-in-Sub.ensures c.numbers_are_words-in-Sub.ensures)
-    (subst HasWords c.get-in-Sub-2.ensures c.numbers_are_words-in-Sub-2.ensures))
-
-pub returns-in-Mul : goal.returns-in-Mul
-returns-in-Mul t c =
-    subst HasWords (sym c.in-Mul.is)
-    (words_mul c.in-Mul.first c.in-Mul.second (subst HasWords c.get-in-Mul.ensures c.numbers_are_words-in-Mul.ensures)
-    (subst HasWords c.get-in-Mul-2.ensures c.numbers_are_words-in-Mul-2.ensures))
+pub returns-in-Binary : goal.returns-in-Binary
+returns-in-Binary t c =
+    subst HasWords (sym c.in-Binary.is)
+    (words_binary c.in-Binary.field-0 c.in-Binary.first c.in-Binary.second (subst HasWords c.get.ensures c.numbers_are_words.ensures)
+    (subst HasWords c.get-in-Binary.ensures c.numbers_are_words-in-Binary.ensures))
 
 pub returns-in-Neg : goal.returns-in-Neg
 returns-in-Neg t c =
