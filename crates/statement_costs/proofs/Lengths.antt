@@ -1,6 +1,6 @@
 -- The segments that a loop goes through are together no longer than those of the accesses that its group goes through.
-use Rattle.std.specs.Prelude.{◌≡◌, ◌≢◌, ◌⊎◌, ℕ, zero, suc, ◌+◌, ◌-◌, ◌≤◌, ◌<◌, nat_eq, not, Bool, true, false, ◌&&◌, if◌then◌else◌}
-use Rattle.std.specs.Prelude.{List, [], ◌∷◌, length, Option, Some, None, refl}
+use Rattle.std.specs.Prelude.{◌≡◌, ◌≢◌, ◌⊎◌, ℕ, zero, suc, ◌+◌, ◌-◌, ◌≤◌, ◌<◌, nat_eq, Bool, true, false, if◌then◌else◌}
+use Rattle.std.specs.Prelude.{List, [], ◌∷◌, length, refl}
 use Rattle.std.proofs.Common.{◌∙◌, sym, ap, subst, arith, inl, inr}
 use Rattle.std.proofs.lemmas.Bool.Decides.{nat_tests, eqb_tells}
 use Rattle.level_core.specs.declared.span.Entry.{Entry as LevelEntry}

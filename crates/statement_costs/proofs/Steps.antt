@@ -7,29 +7,24 @@ use Rattle.level_core.specs.declared.span.Entry.{Entry as LevelEntry}
 use Rattle.format_spec.specs.declared.format.FormatLevel.{FormatLevel}
 use Rattle.index_notation.specs.declared.syntax.Statement.{Statement}
 use Rattle.lists.specs.Each.{Each}
-use Rattle.expr_terms.specs.Points.{with_coordinate}
 use Rattle.expr_terms.specs.Terms.{contains}
 use Rattle.concrete_notation.specs.Nests.{Nest}
 use Rattle.loop_code.specs.declared.loops.LoopCode.{LoopCode}
 use Rattle.loop_code.specs.declared.loops.Seek.{Seek}
-use Rattle.loop_code.specs.Loops.{Stored, Env, at_variable, found, moved}
-use Rattle.loop_code.specs.Parts.{entries_at, entries_of, here, is_full, is_full_below, is_iterator, is_live, is_other, is_some, only}
-use Rattle.loop_code.specs.Parts.{pruned}
-use Rattle.loop_code.specs.Parts.{remains, remains_below}
+use Rattle.loop_code.specs.Loops.{Stored, Env}
+use Rattle.loop_code.specs.Parts.{entries_at, entries_of, here, is_full_below, is_live, is_other, is_some}
 use Rattle.loop_code.specs.Places.{AreSeeks, depth_after}
 use Rattle.loop_code.specs.Turns.{lengths, repeated, repeats, weight_of}
-use Rattle.lowering.specs.Held.{path_span}
 use Rattle.lowering.specs.Layouts.{layout_of}
 use Rattle.lowering.specs.Lowered.{concrete_of}
 use Rattle.lowering.specs.Seeking.{reached, uses}
 use Rattle.lowering.specs.Shapes.{AreReached, variables_at}
 use Rattle.statement_costs.specs.Costs.{HaveGroups, at, group_length, group_repeats, groups_length, is_full_group, is_here, is_walked}
-use Rattle.statement_costs.specs.Costs.{next_level, segment, segment_length, some_term, sum_walked, times_stored}
-use Rattle.statement_costs.proofs.Parts.{AreLive, full_other, full_same, live_same, remains_same, some_more, some_present, some_stands}
-use Rattle.statement_costs.proofs.Parts.{less_live}
-use Rattle.statement_costs.proofs.Trees.{full_terms, live_terms, loop_length, loop_repeats, nests_of, remains_terms, uses_terms}
-use Rattle.statement_costs.proofs.Walks.{AreAt, at_front, at_same, found_at, is_some_of_none, walked_at, walked_same}
-use Rattle.statement_costs.proofs.Lengths.{length_weight, seeks_most, weight_most, weight_none}
+use Rattle.statement_costs.specs.Costs.{next_level, segment, segment_length, some_term, sum_walked}
+use Rattle.statement_costs.proofs.Parts.{AreLive, full_other, full_same, some_present, some_stands}
+use Rattle.statement_costs.proofs.Trees.{full_terms, loop_length, loop_repeats, nests_of, uses_terms}
+use Rattle.statement_costs.proofs.Walks.{is_some_of_none, walked_at, walked_same}
+use Rattle.statement_costs.proofs.Lengths.{length_weight, seeks_most, weight_none}
 
 module _ (s : Statement) (formats : List (List FormatLevel)) (stored : Stored) where
   -- whether an access stands in the part of some terms that remains

@@ -18,7 +18,7 @@ use Rattle.loop_code.specs.declared.loops.LoopCode.TheViews.{roll-LoopCode}
 use Rattle.loop_code.specs.declared.loops.LoopCode.TheOpen as view
 use Rattle.loop_code.specs.declared.loops.Seek.{Seek}
 use Rattle.loop_code.specs.Loops.{Layout, Stored, Env, moved}
-use Rattle.loop_code.specs.Parts.{here, is_full, is_full_below, is_live, is_live_below, is_other, only, pruned, remains, remains_below}
+use Rattle.loop_code.specs.Parts.{here, is_full, is_full_below, is_live, is_live_below, is_other, pruned, remains, remains_below}
 use Rattle.loop_code.specs.Places.{depth_after}
 use Rattle.loop_code.specs.Turns.{cost, count_below, dups, lengths, repeated}
 use Rattle.lowering.specs.Lowered.{concrete_of}

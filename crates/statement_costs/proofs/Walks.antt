@@ -1,5 +1,5 @@
 -- Where accesses are at a loop, and which of them it goes through.
-use Rattle.std.specs.Prelude.{◌≡◌, ◌≢◌, ◌⊎◌, ℕ, zero, suc, ◌+◌, ◌≤◌, ◌<◌, nat_eq, not, Bool, true, false, ◌||◌, ◌&&◌, if◌then◌else◌}
+use Rattle.std.specs.Prelude.{◌≡◌, ◌≢◌, ◌⊎◌, ℕ, zero, suc, ◌≤◌, ◌<◌, nat_eq, not, Bool, true, false, ◌||◌, ◌&&◌, if◌then◌else◌}
 use Rattle.std.specs.Prelude.{List, [], ◌∷◌, length, slice_index_or, Option, Some, None, refl}
 use Rattle.std.proofs.Common.{◌∙◌, sym, ap, subst, arith, inl, inr}
 use Rattle.std.proofs.lemmas.Bool.Decides.{nat_tests, eqb_tells}
@@ -11,9 +11,9 @@ use Rattle.expr_terms.specs.Points.{with_coordinate}
 use Rattle.expr_terms.specs.Terms.{contains}
 use Rattle.expr_terms.proofs.PointLaws.{coordinate_other}
 use Rattle.loop_code.specs.declared.loops.Seek.{Seek}
-use Rattle.loop_code.specs.Loops.{Layout, Stored, Env, follow, at_cursor, at_variable, sought, found, moved}
+use Rattle.loop_code.specs.Loops.{Layout, Stored, Env, follow, at_cursor, sought, found}
 use Rattle.loop_code.specs.Parts.{is_iterator, is_some}
-use Rattle.loop_code.specs.Places.{AreSeeks, IsSeek, deeper, depth_after}
+use Rattle.loop_code.specs.Places.{AreSeeks, deeper, depth_after}
 use Rattle.lowering.specs.Held.{path_span}
 use Rattle.lowering.specs.Layouts.{layout_of}
 use Rattle.lowering.specs.Seeking.{reached}

@@ -1,8 +1,7 @@
 -- All loops of a statement count no more than its groups.
-use Rattle.std.specs.Prelude.{◌≡◌, ℕ, zero, suc, ◌≤◌, ◌<◌, not, Bool, ◌||◌, ◌&&◌, if◌then◌else◌, List, [], ◌∷◌, length, map, refl}
+use Rattle.std.specs.Prelude.{◌≡◌, ℕ, zero, suc, ◌≤◌, ◌<◌, not, ◌||◌, ◌&&◌, if◌then◌else◌, List, [], ◌∷◌, length, map}
 use Rattle.std.specs.Prelude.{slice_index_or}
 use Rattle.std.specs.List.{All}
-use Rattle.std.specs.List.Sorted.{IsPermutation}
 use Rattle.std.proofs.Common.{◌∙◌, sym, ap, subst, arith, inl}
 use Rattle.std.proofs.lemmas.List.Sorted.{All-permutation}
 use Rattle.format_spec.specs.declared.format.FormatLevel.{FormatLevel}
@@ -29,7 +28,7 @@ use Rattle.statement_costs.specs.Costs.{some_term, sum_walked, total}
 use Rattle.statement_costs.proofs.Groups.{AreAlong, AreSame, IsAlong, filtered_along, permutation_same, some_same, total_same}
 use Rattle.statement_costs.proofs.Steps.{IsInside, IsStep}
 use Rattle.statement_costs.proofs.Trees.{IsCount, nests_of}
-use Rattle.statement_costs.proofs.Within.{IsBelow, within}
+use Rattle.statement_costs.proofs.Within.{within}
 
 each_all : {X : Type 0} (P : X → Type 0) (xs : List X) → Each P xs → All P xs
 each_all P [] h = λ k d l. absurd (omega (arith, l))

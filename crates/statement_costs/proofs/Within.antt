@@ -1,10 +1,9 @@
 -- Loops count no more than their groups.
-use Rattle.std.specs.Prelude.{◌≡◌, ◌≢◌, ◌⊎◌, ℕ, suc, ◌+◌, ◌≤◌, ◌<◌, nat_eq, Bool, true, false, ◌||◌, if◌then◌else◌, List, [], ◌∷◌, ◌++◌}
-use Rattle.std.specs.Prelude.{length, map, Option, Some, None, refl}
+use Rattle.std.specs.Prelude.{◌≡◌, ◌≢◌, ◌⊎◌, ℕ, ◌+◌, ◌≤◌, nat_eq, Bool, true, false, ◌||◌, if◌then◌else◌, List, [], ◌∷◌, ◌++◌}
+use Rattle.std.specs.Prelude.{length, None, refl}
 use Rattle.std.proofs.Common.{◌∙◌, sym, ap, subst, arith, inl, inr}
 use Rattle.std.proofs.lemmas.Bool.Decides.{nat_tests, eqb_tells}
 use Rattle.std.proofs.lemmas.List.Concat.{flat_map-append}
-use Rattle.level_core.specs.declared.span.Span.{Span}
 use Rattle.format_spec.specs.declared.format.FormatLevel.{FormatLevel}
 use Rattle.index_notation.specs.Statement.{IsDistinct}
 use Rattle.index_notation.specs.declared.syntax.Statement.{Statement}
@@ -12,11 +11,11 @@ use Rattle.lists.specs.Each.{Each}
 use Rattle.expr_terms.specs.Points.{with_coordinate}
 use Rattle.expr_terms.specs.Terms.{contains}
 use Rattle.expr_terms.specs.declared.term.Term.{Term}
-use Rattle.concrete_notation.specs.Nests.{Nest, inside, next_loops, SharesLoops}
+use Rattle.concrete_notation.specs.Nests.{Nest, next_loops, SharesLoops}
 use Rattle.loop_code.specs.declared.loops.LoopCode.{LoopCode, Loop, Both, Add}
 use Rattle.loop_code.specs.declared.loops.Seek.{Seek}
-use Rattle.loop_code.specs.Loops.{Stored, Env, at_variable, found, moved}
-use Rattle.loop_code.specs.Parts.{here, is_live, is_live_below, pruned, remains, remains_below}
+use Rattle.loop_code.specs.Loops.{Stored, Env, at_variable, moved}
+use Rattle.loop_code.specs.Parts.{here, is_live, pruned, remains, remains_below}
 use Rattle.loop_code.specs.Places.{AreSeeks, IsWellPlaced, depth_after}
 use Rattle.loop_code.specs.Turns.{count_below}
 use Rattle.loop_code.proofs.Equations.{placed_loop, placed_both}
@@ -24,10 +23,10 @@ use Rattle.loop_code.proofs.Turns.{count_most}
 use Rattle.lowering.specs.Held.{path_span}
 use Rattle.lowering.specs.Layouts.{layout_of}
 use Rattle.lowering.specs.Lowered.{concrete_of}
-use Rattle.lowering.specs.Seeking.{reached, uses}
-use Rattle.lowering.specs.Shapes.{AreReached, FindsBelow, FindsReached, variables_at}
+use Rattle.lowering.specs.Seeking.{uses}
+use Rattle.lowering.specs.Shapes.{AreReached, FindsBelow, FindsReached}
 use Rattle.statement_costs.specs.Costs.{at, group_of, inside_of, is_here, some_term, total}
-use Rattle.statement_costs.proofs.Groups.{AreAlong, IsAlong, entered, group_inside, group_other, total_both, total_loop}
+use Rattle.statement_costs.proofs.Groups.{AreAlong, IsAlong, entered, group_other, total_both, total_loop}
 use Rattle.statement_costs.proofs.Parts.{less_live, live_same, or_left, or_right, remains_same, some_both, some_more, some_inside}
 use Rattle.statement_costs.proofs.Parts.{some_stands}
 use Rattle.statement_costs.proofs.Steps.{IsInside, IsStep, in_part, inside_less, inside_live}

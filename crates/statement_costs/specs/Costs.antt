@@ -1,8 +1,8 @@
 -- The cost of a statement, told by its groups of terms alone, whatever its loops are made of. As in Kjolstad and others, 'The Tensor
 -- Algebra Compiler' (OOPSLA 2017), section 5: at a variable the terms whose next loop is over it share that loop, which goes over the
 -- whole range where the part of them that remains is full, and else through the coordinates that its accesses have stored.
-use Rattle.std.specs.Prelude.{◌≡◌, ℕ, suc, ◌+◌, ◌-◌, ◌≤◌, ◌<◌, nat_eq, not, Bool}
-use Rattle.std.specs.Prelude.{true, false, ◌&&◌, if◌then◌else◌, List, [], ◌∷◌}
+use Rattle.std.specs.Prelude.{◌≡◌, ℕ, suc, ◌+◌, ◌-◌, ◌<◌, nat_eq, not, Bool}
+use Rattle.std.specs.Prelude.{false, ◌&&◌, if◌then◌else◌, List, [], ◌∷◌}
 use Rattle.std.specs.Prelude.{length, map, Option, Some, None}
 use Rattle.std.specs.List.{flat_map, list_any}
 use Rattle.lists.specs.Each.{Each}

@@ -33,10 +33,10 @@ live_in-requires-in-Binary t c =
 
 pub live_in-requires-in-Neg : goal.live_in-requires-in-Neg
 live_in-requires-in-Neg t c = (
-  falls t c.args.expr.now (Neg c.in-Neg.inner) c.in-Neg.inner c.get-in-Neg.result.now c.in-Neg.is c.get-in-Neg.ensures
+  falls t c.args.expr.now (Neg c.in-Neg.inner) c.in-Neg.inner c.get.result.now c.in-Neg.is c.get.ensures
       (part_of_neg c.in-Neg.inner) c.decreases,
-  negated_part (λ k. k < length c.args.places.now.accesses) c.args.expr.now c.in-Neg.inner c.get-in-Neg.result.now c.in-Neg.is
-      c.get-in-Neg.ensures c.requires,
+  negated_part (λ k. k < length c.args.places.now.accesses) c.args.expr.now c.in-Neg.inner c.get.result.now c.in-Neg.is
+      c.get.ensures c.requires,
 )
 
 pub in_sides-requires-clause-first : goal.in_sides-requires-clause-first
@@ -61,6 +61,6 @@ returns-in-Neg t c =
     let places = c.args.places.now in
     let k = c.args.access in
     let e = c.in-Neg.inner in
-    if_flag c.live_in-in-Neg.result (Tells places (live_at k c.get-in-Neg.result.now)) (Tells places (live_at k c.args.expr.now))
-    (λ x. tells_part places (live_at k) c.args.expr.now (Neg e) e c.get-in-Neg.result.now x c.in-Neg.is c.get-in-Neg.ensures
+    if_flag c.live_in-in-Neg.result (Tells places (live_at k c.get.result.now)) (Tells places (live_at k c.args.expr.now))
+    (λ x. tells_part places (live_at k) c.args.expr.now (Neg e) e c.get.result.now x c.in-Neg.is c.get.ensures
     (λ env. live_neg (here env) e k)) c.live_in-in-Neg.ensures
