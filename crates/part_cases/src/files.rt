@@ -106,9 +106,12 @@ fn tell_tns(answer: &mut Answer, case: Scripted<'_>) -> Option<()> {
 /// The text that is written of the entries that are read.
 fn tell_written(answer: &mut Answer, case: Scripted<'_>) -> Option<()> {
     let order = order_of(case)?;
-    let read = read_in_pieces(answer.alloc(), order, case.text, 4_096);
-    let mut entries = answer.made(read)?;
-    entries.sort_sum::<Ring>().ok()?;
+    let Ok(mut entries) = read_in_pieces(answer.alloc(), order, case.text, 4_096) else {
+        return None;
+    };
+    let Ok(()) = entries.sort_sum::<Ring>() else {
+        return None;
+    };
     let mut sink = MemSink::new(answer.alloc());
     answer.show(put_tns::<Ring, MemSink>(&mut sink, &entries));
     answer.tell(" ");
