@@ -95,7 +95,10 @@ fn tell_tns(answer: &mut Answer, case: Scripted<'_>) -> Option<()> {
     tell_read(answer, read_in_pieces(alloc, order, text.as_slice(), 4_096))?;
     for length in 1..3 {
         let mut other = Answer::new(alloc);
-        tell_read(&mut other, read_in_pieces(alloc, order, text.as_slice(), length))?;
+        tell_read(
+            &mut other,
+            read_in_pieces(alloc, order, text.as_slice(), length),
+        )?;
         if other.as_str() != answer.as_str() {
             return None;
         }
@@ -106,9 +109,12 @@ fn tell_tns(answer: &mut Answer, case: Scripted<'_>) -> Option<()> {
 /// The text that is written of the entries that are read.
 fn tell_written(answer: &mut Answer, case: Scripted<'_>) -> Option<()> {
     let order = order_of(case)?;
-    let read = read_in_pieces(answer.alloc(), order, case.text, 4_096);
-    let mut entries = answer.made(read)?;
-    entries.sort_sum::<Ring>().ok()?;
+    let Ok(mut entries) = read_in_pieces(answer.alloc(), order, case.text, 4_096) else {
+        return None;
+    };
+    let Ok(()) = entries.sort_sum::<Ring>() else {
+        return None;
+    };
     let mut sink = MemSink::new(answer.alloc());
     answer.show(put_tns::<Ring, MemSink>(&mut sink, &entries));
     answer.tell(" ");

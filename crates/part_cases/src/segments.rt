@@ -80,7 +80,10 @@ fn do_at<T: Element>(
     }
     match written {
         Some(word) => segment.set(place, T::of(word)),
-        None => answer.show_all(&[at(segment, place)]),
+        None => {
+            answer.tell(" ");
+            answer.show(at(segment, place));
+        }
     }
     Some(())
 }

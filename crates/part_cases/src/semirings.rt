@@ -152,7 +152,13 @@ fn tell_values<S: Semiring>(
         return Some(());
     }
     for coordinate in 0..4u64 {
-        match presence::<S>(answer.alloc(), &statement, operands, &[coordinate], &statement.expr) {
+        match presence::<S>(
+            answer.alloc(),
+            &statement,
+            operands,
+            &[coordinate],
+            &statement.expr,
+        ) {
             Some(value) => {
                 answer.tell(" ");
                 answer.show(value);

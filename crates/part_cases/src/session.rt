@@ -62,10 +62,10 @@ impl<'a, R: Files + Print + AllocGlobal> Session<'a, R> {
             text: text.as_slice(),
         };
         match keyword {
-            "lines" | "tokens" | "blanks" | "index" | "whole" => tokens::tell(answer, keyword, case),
+            "put" | "read" | "absent" | "write" | "batch" => streams::tell(answer, keyword, case),
             "tns" | "put_tns" => files::tell(answer, keyword, case),
             "copy" | "copy_real" | "laws" => copies::tell(self.rt, answer, keyword, case.text),
-            _ => streams::tell(answer, keyword, case),
+            _ => tokens::tell(answer, keyword, case),
         }
     }
 }

@@ -118,7 +118,9 @@ fn packed(
 ) -> Option<Result<Tensor, PackRefusal>>
     ensures { IfSome result (λ packed. IfOk packed (λ tensor. AreDone 1 tensor.levels)) }
 {
-    entries.sort_sum::<Ring>().ok()?;
+    let Ok(()) = entries.sort_sum::<Ring>() else {
+        return None;
+    };
     if shape.order() != format.order() || entries.order() != format.order() {
         return None;
     }

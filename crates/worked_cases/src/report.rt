@@ -6,15 +6,12 @@ use outside::{MemFolder, MemSink};
 use refusals::{Fault, put_line};
 
 /// Runs a command line over these files, and answers the status.
-fn run(
-    answer: &mut Answer,
-    files: &[CaseFile],
-    words: &[String],
-    place: &mut Place,
-) -> Option<u8> {
+fn run(answer: &mut Answer, files: &[CaseFile], words: &[String], place: &mut Place) -> Option<u8> {
     for file in files {
         if file.is_there {
-            let added = place.folder.add_file(file.name.as_str(), file.bytes.as_slice());
+            let added = place
+                .folder
+                .add_file(file.name.as_str(), file.bytes.as_slice());
             answer.made(added)?;
         }
     }
@@ -75,11 +72,7 @@ fn tell_file(answer: &mut Answer, file: &CaseFile, folder: &MemFolder) {
 }
 
 /// The words of a case with another command in place of its own, and with further words behind.
-fn further_words<'a>(
-    answer: &mut Answer,
-    own: &'a str,
-    further: &'a str,
-) -> Option<Vec<String>> {
+fn further_words<'a>(answer: &mut Answer, own: &'a str, further: &'a str) -> Option<Vec<String>> {
     let (command, further) = keyword_of(further);
     let mut line = Answer::new(answer.alloc());
     for part in &["taco ", command, " ", own, " ", further] {
@@ -89,7 +82,12 @@ fn further_words<'a>(
 }
 
 /// Tells whether two texts are the same, where both are there.
-fn tell_compared(answer: &mut Answer, name: &str, texts: (Option<&str>, Option<&str>), other: &str) {
+fn tell_compared(
+    answer: &mut Answer,
+    name: &str,
+    texts: (Option<&str>, Option<&str>),
+    other: &str,
+) {
     if let (Some(first), Some(second)) = texts {
         answer.tell(if first == second { ", same " } else { other });
         answer.tell(name);
@@ -118,7 +116,12 @@ fn tell_further(answer: &mut Answer, case: &Case, line: &str) -> Option<()> {
     answer.tell(": status ");
     answer.show(status);
     let (own, out) = (text_of(&case.place.out), text_of(&place.out));
-    tell_compared(answer, "kernel", (kernel_in(own), kernel_in(out)), ", another ");
+    tell_compared(
+        answer,
+        "kernel",
+        (kernel_in(own), kernel_in(out)),
+        ", another ",
+    );
     let own = turns_in(own).or(turns_in(text_of(&case.place.err)));
     let other = turns_in(out).or(turns_in(text_of(&place.err)));
     tell_compared(answer, "turns", (own, other), ", other ");
