@@ -1,6 +1,6 @@
 -- Where all input is whole, a run ends with its result.
 use Rattle.std.specs.Prelude.{◌≡◌, ℕ, zero, suc, ◌-◌, ◌⊎◌, List, [], ◌∷◌, length, map, Option, Some, None, Result, Ok, Err}
-use Rattle.std.specs.Prelude.{Vec, String, string_bytes, slice_get, slice_index, unwrap_or, refl}
+use Rattle.std.specs.Prelude.{Vec, String, string_bytes, slice_get, unwrap_or, refl}
 use Rattle.std.specs.Option.{option_map}
 use Rattle.std.proofs.Common.{◌∙◌, sym, ap, subst, inl, inr}
 use Rattle.std.proofs.lemmas.List.FromFn.{length-map-range_with_len}
