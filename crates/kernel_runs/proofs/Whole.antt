@@ -1,5 +1,5 @@
 -- A whole run: a right kernel on the store that packed operands are, and why it has no result.
-use Rattle.std.specs.Prelude.{◌≡◌, ◌⊎◌, ℕ, zero, suc, ◌+◌, ◌<◌, ◌≤◌, Bool, true, List, length, map, Option, Ok, Some, Vec, slice_index}
+use Rattle.std.specs.Prelude.{◌≡◌, ◌⊎◌, ℕ, zero, suc, ◌+◌, ◌<◌, ◌≤◌, List, length, map, Option, Ok, Some, Vec, slice_index}
 use Rattle.std.specs.declared.alloc.Global.{Global}
 use Rattle.std.proofs.Common.{◌∙◌, sym, ap, subst, arith, inl, inr}
 use Rattle.lists.specs.Each.{Each}
@@ -32,7 +32,7 @@ use Rattle.operand_packing.specs.Runnable.{IsRunnable, told_ranges}
 use Rattle.operand_packing.specs.Packed.{ArePackedOperands}
 use Rattle.kernel_runs.specs.declared.fault.RunFault.{RunFault}
 use Rattle.kernel_runs.specs.declared.fault.RunFault.TheVariants.{Range, SizeLimit, Workspace, Memory}
-use Rattle.kernel_runs.specs.Runs.{IsRun, IsStoreFor, IsTensorOf, IsLargeLevelBy, MayRefuseRun}
+use Rattle.kernel_runs.specs.Runs.{IsRun, IsStoreFor, IsLargeLevelBy, MayRefuseRun}
 use Rattle.kernel_runs.specs.Steps.{CanBegin, EndsOn, ListsNonzero, RefusedOn, StopsOn}
 use Rattle.kernel_runs.proofs.Alike.{packed_alike}
 use Rattle.kernel_runs.proofs.Entries.{tensor_of}

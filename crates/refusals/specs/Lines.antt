@@ -186,8 +186,8 @@ kind_text line.SkewDiagonal = codes ": SkewDiagonal\n"
 kind_text line.Truncated = codes ": Truncated\n"
 
 -- a file has too many bytes, or a bad line
-abbrev pub file_bytes_text : List ℕ → List ℕ
-file_bytes_text path = of_name path (codes ": more than " ∷ decimal greatest_file_bytes ∷ codes " bytes\n" ∷ [])
+abbrev pub file_bytes_text : List ℕ → ℕ → List ℕ
+file_bytes_text path limit = of_name path (codes ": more than " ∷ decimal limit ∷ codes " bytes\n" ∷ [])
 
 abbrev pub bad_line_text : List ℕ → ℕ → LineKind → List ℕ
 bad_line_text path number kind = of_name path (codes ": line " ∷ decimal number ∷ kind_text kind ∷ [])
@@ -198,7 +198,7 @@ line_of (fault.Notation why) = notation_line why
 line_of (fault.Named s why) = named_line s why
 line_of (fault.WorkspaceLimit count) = workspace_text count
 line_of (fault.ReadFault path) = of_name path.now (codes ": read fault\n" ∷ [])
-line_of (fault.FileBytes path) = file_bytes_text path.now
+line_of (fault.FileBytes path) = file_bytes_text path.now greatest_file_bytes
 line_of (fault.BadFile path number kind) = bad_line_text path.now number kind
 line_of (fault.WriteFault None) = codes "taco: standard output: write fault\n"
 line_of (fault.WriteFault (Some path)) = of_name path.now (codes ": write fault\n" ∷ [])

@@ -232,16 +232,16 @@ fn put_of_path<'x, S: Sink>(sink: &mut S, path: &'x str, text: &'x [u8]) -> Resu
     )
 }
 
-/// Appends the line of a file with more bytes than may be.
-fn put_file_bytes<S: Sink>(sink: &mut S, path: &str) -> Result<(), Refusal>
-    ensures whole { OnOk result (Appends (S.state sink.old) (S.state sink.new) (file_bytes_text path.now)) }
-    ensures part { IfErr result (AppendsPart (S.state sink.old) (S.state sink.new) (file_bytes_text path.now)) }
+/// Appends the line of a file with more bytes than this.
+fn put_file_bytes<S: Sink>(sink: &mut S, path: &str, limit: u64) -> Result<(), Refusal>
+    ensures whole { OnOk result (Appends (S.state sink.old) (S.state sink.new) (file_bytes_text path.now limit)) }
+    ensures part { IfErr result (AppendsPart (S.state sink.old) (S.state sink.new) (file_bytes_text path.now limit)) }
 {
     let pieces = [
         Piece::Text(b"taco: "),
         Piece::Text(path.as_bytes()),
         Piece::Text(b": more than "),
-        Piece::Number(greatest_bytes_of_file()),
+        Piece::Number(limit),
         Piece::Text(b" bytes\n"),
     ];
     put_pieces(sink, &pieces)
@@ -517,7 +517,7 @@ pub fn put_line<S: Sink>(sink: &mut S, fault: &Fault<'_>) -> Result<(), Refusal>
         Fault::Named { statement, fault } => put_named_line(sink, statement, fault),
         Fault::WorkspaceLimit(count) => put_workspace(sink, *count),
         Fault::ReadFault(path) => put_of_path(sink, path, b": read fault\n"),
-        Fault::FileBytes(path) => put_file_bytes(sink, path),
+        Fault::FileBytes(path) => put_file_bytes(sink, path, greatest_bytes_of_file()),
         Fault::BadFile { path, line, kind } => put_bad_line(sink, path, *line, *kind),
         Fault::WriteFault(None) => put_all(sink, b"taco: standard output: write fault\n"),
         Fault::WriteFault(Some(path)) => put_of_path(sink, path, b": write fault\n"),

@@ -28,7 +28,7 @@ use Rattle.refusals.specs.declared.fault.Fault.{Fault}
 use Rattle.refusals.specs.declared.fault.Fault.TheVariants as fault
 use Rattle.taco_top.specs.Asked.{IsRefusedByWords}
 use Rattle.taco_top.specs.Written.{HasOperands, result_ranges, result_value, IsAccepted}
-use Rattle.taco_top.specs.Told.{IsKernelOf, IsWrittenIn, Tells, IsPrinted}
+use Rattle.taco_top.specs.Told.{IsKernelOf, IsWrittenIn, Tells}
 use Rattle.taco_top.specs.Refused.{OpensOperands, Stops, IsUnwritten, IsUnprinted, Refuses}
 use Rattle.operand_packing.specs.Runnable.{told_ranges}
 use Rattle.kernel_runs.specs.Runs.{IsLargeLevel}

@@ -14,7 +14,6 @@ use Rattle.bindings.specs.declared.fault.BindingFault.TheVariants as binding
 use Rattle.refusals.specs.Lines.{named_status, notation_status, word_status}
 use Rattle.refusals.specs.declared.fault.NamedFault.{NamedFault}
 use Rattle.refusals.specs.declared.fault.NamedFault.TheVariants as named
-use Rattle.refusals.specs.declared.fault.Fault.{Fault}
 use Rattle.refusals.specs.declared.fault.Fault.TheVariants as fault
 use Rattle.command_line.specs.CommandLine.{CommandLine, command_line_of}
 use Rattle.taco_top.specs.Asked.{IsRefusedByWords}

@@ -1,6 +1,6 @@
 -- Where all input is whole, a run ends with its result.
 use Rattle.std.specs.Prelude.{◌≡◌, ℕ, zero, suc, ◌-◌, ◌⊎◌, List, [], ◌∷◌, length, map, Option, Some, None, Result, Ok, Err}
-use Rattle.std.specs.Prelude.{Vec, String, string_bytes, slice_get, slice_index, unwrap_or, refl}
+use Rattle.std.specs.Prelude.{Vec, String, string_bytes, slice_get, unwrap_or, refl}
 use Rattle.std.specs.Option.{option_map}
 use Rattle.std.proofs.Common.{◌∙◌, sym, ap, subst, inl, inr}
 use Rattle.std.proofs.lemmas.List.FromFn.{length-map-range_with_len}
@@ -43,7 +43,7 @@ use Rattle.taco_top.proofs.OneRequest as request
 use Rattle.taco_top.specs.Run.{Request, AsksFor, path_of}
 use Rattle.taco_top.specs.Written.{means, asked_orders, asked_paths, HasOperands, HasResult, result_ranges, result_value, IsWritten}
 use Rattle.taco_top.specs.Refused.{StopsReading, HasCycleFault, HasRangeFault, HasLargeLevel}
-use Rattle.taco_top.specs.Refused.{HasManyPairs, Stops, IsUnwritten, IsUnprinted, FailsToWrite}
+use Rattle.taco_top.specs.Refused.{HasManyPairs, Stops, IsUnwritten, FailsToWrite}
 use Rattle.taco_top.specs.Ends.{Ends, Ending, Written, Printed, Refused, Cause, status_of_end}
 use Rattle.taco_top.specs.Whole.{IsWhole, modes_told, bound_told}
 

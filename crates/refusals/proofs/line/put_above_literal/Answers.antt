@@ -1,4 +1,4 @@
-use Rattle.std.specs.Prelude.{◌≡◌, ℕ, [], codes, OnOk}
+use Rattle.std.specs.Prelude.{ℕ, [], codes, OnOk}
 use Rattle.std.proofs.Common.{subst}
 use Rattle.outside.specs.Sink.{Appends}
 use Rattle.refusals.specs.Lines.{limit_at}

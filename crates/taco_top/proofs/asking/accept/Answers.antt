@@ -1,4 +1,4 @@
-use Rattle.std.proofs.Common.{◌≡◌, ℕ, List, refl, subst}
+use Rattle.std.proofs.Common.{◌≡◌, refl, subst}
 use Rattle.std.specs.Prelude.{Err}
 use Rattle.numbers.specs.Ring.{ring}
 use Rattle.taco_compiler.specs.Compiled.{Answers}

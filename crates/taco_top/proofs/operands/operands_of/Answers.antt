@@ -1,4 +1,4 @@
-use Rattle.std.proofs.Common.{◌≡◌, ℕ, List, ap, ◌∙◌}
+use Rattle.std.proofs.Common.{◌≡◌, ap, ◌∙◌}
 use Rattle.bindings.specs.Tables.{paths_in}
 use Rattle.operand_files.specs.declared.fault.OperandFault.TheVariants as operand
 use Rattle.taco_top.specs.Run.{request_of}

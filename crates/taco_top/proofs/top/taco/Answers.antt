@@ -1,5 +1,5 @@
 use Rattle.std.specs.Prelude.{Ok}
-use Rattle.std.proofs.Common.{ℕ, List, map, string_bytes, refl, subst}
+use Rattle.std.proofs.Common.{map, string_bytes, refl, subst}
 use Rattle.std.specs.declared.alloc.Global.{Global}
 use Rattle.refusals.specs.Lines.{line_of}
 use Rattle.reports.specs.Reports.{turns_line}

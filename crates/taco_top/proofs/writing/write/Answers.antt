@@ -1,9 +1,10 @@
-use Rattle.std.proofs.Common.{◌≡◌, ℕ, List, subst, inl, inr}
+use Rattle.std.proofs.Common.{◌≡◌, subst, sym, inl, inr}
 use Rattle.bindings.specs.Tables.{path_to}
 use Rattle.numbers.specs.Ring.{ring}
 use Rattle.tensor_map.specs.Entries.{value_at}
 use Rattle.result_files.specs.Writes.{RefusesResult}
 use Rattle.result_files.specs.declared.refusal.WriteRefusal.TheVariants as write
+use Rattle.taco_top.specs.Refused.{FailsToWrite}
 use Rattle.taco_top.proofs.Stopped.{written, unwritten}
 use Rattle.taco_top.proofs.writing.write.Goals as goal
 
@@ -16,12 +17,14 @@ pub returns-in-Err-Fault : goal.returns-in-Err-Fault
 returns-in-Err-Fault g c = λ words before reads is.
     let told = c.in-Err-Fault.field-0-is in
     let same : c.in-Err-Fault.field-0 ≡ write.Fault = cc in
-    inl (unwritten words before (g.F.Folder.state c.args.files.now) (g.F.Folder.state c.write_result.new.files)
+    subst (FailsToWrite words before (g.F.Folder.state c.write_result.new.files) (g.O.Sink.state c.args.out.now)
+    (g.O.Sink.state c.write_result.new.out)) (sym c.path_of.ensures)
+    (inl (unwritten words before (g.F.Folder.state c.args.files.now) (g.F.Folder.state c.write_result.new.files)
     (g.O.Sink.state c.args.out.now) (g.O.Sink.state c.write_result.new.out) c.args.computed.now reads is write.Fault
     (subst (λ why. RefusesResult ring (path_to c.args.computed.now.file)
     c.args.computed.now.result.shape (value_at ring c.args.computed.now.result.entries.list) (g.F.Folder.state c.args.files.now)
     (g.F.Folder.state c.write_result.new.files) (g.O.Sink.state c.args.out.now) (g.O.Sink.state c.write_result.new.out) why) same
-    c.in-Err-Fault.ensures.refused))
+    c.in-Err-Fault.ensures.refused)))
 
 pub returns-in-Err-Memory : goal.returns-in-Err-Memory
 returns-in-Err-Memory g c = λ words before reads is.
