@@ -92,11 +92,11 @@ two_set c free v e s h =
 combine_does : (r : Bool) (c : Setting) → (r ≡ true → c.arithmetic ≡ ring) → (x : ℕ) (o : ValueOp) (e f : KExpr) (s : State) (v w : ℕ)
     (P : State → Type 0) → value e s ≡ Some v → value f s ≡ Some w → Does c [] (set_var s x (combined c.arithmetic o v w)) P Never
     → Does c (combine_code r x o e f ∷ []) s P Never
+unfolding ring
 combine_does false c is x o e f s v w P he hf d = does_combine c x o e f [] s v w P Never he hf d
 combine_does true c is x o e f s v w P he hf d = does_set c x (Bin (operator_for o) e f) [] s (combined c.arithmetic o v w) P Never (by o) d
   where
     by : (o : ValueOp) → value (Bin (operator_for o) e f) s ≡ Some (combined c.arithmetic o v w)
-    unfolding ring
     by Plus = binary_is (operator_for Plus) e f v w s he hf ∙ ap (λ a. Some (a.plus v w)) (sym (is refl))
     by Times = binary_is (operator_for Times) e f v w s he hf ∙ ap (λ a. Some (a.times v w)) (sym (is refl))
 
