@@ -1,8 +1,10 @@
 -- What a factor, and a bracket that closes, build.
-use Rattle.std.specs.Prelude.{◌≡◌, ℕ, suc, ◌+◌, ◌-◌, Bool, true, false, Option, Some, None, List, [], ◌∷◌, ◌++◌, refl}
+use Rattle.std.specs.Prelude.{◌≡◌, ℕ, suc, ◌+◌, ◌-◌, Option, Some, None, List, [], ◌∷◌, ◌++◌, refl}
 use Rattle.std.proofs.Common.{sym, ◌∙◌, ap, arith}
 use Rattle.index_notation.specs.declared.syntax.Name.{Name}
 use Rattle.index_notation.specs.declared.token.WrittenAccess.{WrittenAccess}
+use Rattle.index_notation.specs.declared.operator.Operator.{Operator}
+use Rattle.index_notation.specs.declared.operator.Operator.TheVariants as op
 use Rattle.index_notation.specs.declared.syntax.Expr.{Expr, Access as AccessOf}
 use Rattle.notation_reader.specs.declared.builder.Joined.{Joined}
 use Rattle.notation_reader.specs.declared.builder.Frame.{Frame}
@@ -84,20 +86,20 @@ sum_frames (First place) = refl
 sum_frames (BehindPlus place s) = refl
 sum_frames (BehindMinus place s) = refl
 
-joined_of : (n m : ℕ) (o q : List Frame) (a b : Expr) (minus : Bool) → n ≡ m → o ≡ q → a ≡ b
+joined_of : (n m : ℕ) (o q : List Frame) (a b : Expr) (operator : Operator) → n ≡ m → o ≡ q → a ≡ b
     → ◌≡◌ {A = Builder} (record {
       reads = n;
       outer = o;
       frame =
-          record { sum = Some (joined_by minus a); product = None; minuses = 0 };
+          record { sum = Some (joined_by operator a); product = None; minuses = 0 };
       result = None;
     })
-    (record { reads = m; outer = q; frame = record { sum = Some (joined_by minus b); product = None; minuses = 0 }; result = None })
-joined_of n m o q a b minus e f g =
+    (record { reads = m; outer = q; frame = record { sum = Some (joined_by operator b); product = None; minuses = 0 }; result = None })
+joined_of n m o q a b operator e f g =
     λ i. record {
       reads = e i;
       outer = f i;
-      frame = record { sum = Some (joined_by minus (g i)); product = None; minuses = 0 };
+      frame = record { sum = Some (joined_by operator (g i)); product = None; minuses = 0 };
       result =
           None;
     }
@@ -106,17 +108,17 @@ zero_more : (n m : ℕ) → n ≡ m → n + 0 ≡ m
 zero_more n m e = omega (arith, e)
 
 pub plus_built : (place : ProductPlace) (p : Product)
-    → built (WantsFactor (FirstFactor (BehindPlus (its_sum place) (sum_with place p)))) ≡ joined_with (built (Behind place p)) false
+    → built (WantsFactor (FirstFactor (BehindPlus (its_sum place) (sum_with place p)))) ≡ joined_with (built (Behind place p)) op.Add
 plus_built place p = joined_of ((reads_to_sum (its_sum place) + reads_in_sum (sum_with place p)) + 0)
     (reads_to_product place + reads_in_product p) (frames_of_sum (its_sum place)) (frames_of_product place)
-    (sum_expr (reads_to_sum (its_sum place)) (sum_with place p)) (whole_sum (frame_behind place p)) false
+    (sum_expr (reads_to_sum (its_sum place)) (sum_with place p)) (whole_sum (frame_behind place p)) op.Add
     (zero_more _ _ (sum_reads place p)) (sym (sum_frames place)) (sum_built place p)
 
 pub minus_built : (place : ProductPlace) (p : Product)
-    → built (WantsFactor (FirstFactor (BehindMinus (its_sum place) (sum_with place p)))) ≡ joined_with (built (Behind place p)) true
+    → built (WantsFactor (FirstFactor (BehindMinus (its_sum place) (sum_with place p)))) ≡ joined_with (built (Behind place p)) op.Sub
 minus_built place p = joined_of ((reads_to_sum (its_sum place) + reads_in_sum (sum_with place p)) + 0)
     (reads_to_product place + reads_in_product p) (frames_of_sum (its_sum place)) (frames_of_product place)
-    (sum_expr (reads_to_sum (its_sum place)) (sum_with place p)) (whole_sum (frame_behind place p)) true
+    (sum_expr (reads_to_sum (its_sum place)) (sum_with place p)) (whole_sum (frame_behind place p)) op.Sub
     (zero_more _ _ (sum_reads place p)) (sym (sum_frames place)) (sum_built place p)
 
 -- a bracket that closes: its frame goes behind what it holds
@@ -191,10 +193,10 @@ behind_equal place p (Lexeme (MarkToken Times)) next new b e k w =
     from_equal (WantsFactor (BehindTimes place p)) next new e (times_built place p ∙ sym k ∙ sym w)
 behind_equal place p (Lexeme (MarkToken Plus)) next new b e k w =
     from_equal (WantsFactor (FirstFactor (BehindPlus (its_sum place) (sum_with place p)))) next new e (plus_built place p
-    ∙ ap (λ (x : Builder). joined_with x false) (sym k) ∙ sym w)
+    ∙ ap (λ (x : Builder). joined_with x op.Add) (sym k) ∙ sym w)
 behind_equal place p (Lexeme (MarkToken Minus)) next new b e k w =
     from_equal (WantsFactor (FirstFactor (BehindMinus (its_sum place) (sum_with place p)))) next new e (minus_built place p
-    ∙ ap (λ (x : Builder). joined_with x true) (sym k) ∙ sym w)
+    ∙ ap (λ (x : Builder). joined_with x op.Sub) (sym k) ∙ sym w)
 behind_equal place p (Lexeme (MarkToken Close)) next new b e k w = close_equal (its_sum place) place p next new b refl e k w
 behind_equal place p End next new b e k w = end_equal (its_sum place) place p next new b refl e k w
 behind_equal place p _ next new b e k w = nothing_leads next e

@@ -6,6 +6,7 @@ use Rattle.std.proofs.lemmas.List.{length-map}
 use Rattle.limits.specs.Limits.{greatest_order, greatest_variables}
 use Rattle.lists.specs.Each.{Each}
 use Rattle.lists.proofs.Each.{each_append}
+use Rattle.index_notation.specs.declared.operator.Operator.TheVariants as op
 use Rattle.index_notation.specs.declared.syntax.Name.{Name}
 use Rattle.index_notation.specs.declared.syntax.Statement.{Statement}
 use Rattle.index_notation.specs.declared.token.Mark.TheVariants.{Close}
@@ -27,7 +28,7 @@ use Rattle.index_notation.specs.TreeStatement.{reads_in_factor, reads_in_product
 use Rattle.index_notation.specs.TreeStatement.{statement_of_tree}
 use Rattle.index_notation.specs.Notation.{IsNotationOf}
 use Rattle.index_notation.proofs.NumberingLaws.{stands_distinct, numbered_are_accesses}
-use Rattle.index_notation.proofs.StatementLaws.{accesses_under_add, accesses_under_sub, accesses_under_mul, accesses_under_neg}
+use Rattle.index_notation.proofs.StatementLaws.{accesses_under_binary, accesses_under_neg}
 use Rattle.notation_reader.proofs.MachineLaws.{append_none}
 use Rattle.notation_reader.proofs.ReadingLaws.{symbols_join}
 use Rattle.notation_reader.proofs.AnswerLaws.{none_at}
@@ -244,16 +245,16 @@ mutual
   product_under : (m n : ℕ) (p : Product) → n + reads_in_product p ≤ m → AccessesUnder m (product_expr n p)
   product_under m n (Lone f) h = factor_under m n f h
   product_under m n (Multiplied p f) h =
-      rw (accesses_under_mul m (product_expr n p) (factor_expr (n + reads_in_product p) f))
+      rw (accesses_under_binary m op.Mul (product_expr n p) (factor_expr (n + reads_in_product p) f))
       (product_under m n p (omega (arith, h)), factor_under m (n + reads_in_product p) f (omega (arith, h)))
 
   sum_under : (m n : ℕ) (s : Sum) → n + reads_in_sum s ≤ m → AccessesUnder m (sum_expr n s)
   sum_under m n (Alone p) h = product_under m n p h
   sum_under m n (Added s p) h =
-      rw (accesses_under_add m (sum_expr n s) (product_expr (n + reads_in_sum s) p))
+      rw (accesses_under_binary m op.Add (sum_expr n s) (product_expr (n + reads_in_sum s) p))
       (sum_under m n s (omega (arith, h)), product_under m (n + reads_in_sum s) p (omega (arith, h)))
   sum_under m n (Taken s p) h =
-      rw (accesses_under_sub m (sum_expr n s) (product_expr (n + reads_in_sum s) p))
+      rw (accesses_under_binary m op.Sub (sum_expr n s) (product_expr (n + reads_in_sum s) p))
       (sum_under m n s (omega (arith, h)), product_under m (n + reads_in_sum s) p (omega (arith, h)))
 
 pub tree_is_numbered : (w : Tree) → HaveNoFault [] (symbols (sentence_of w)) → IsNumbered (statement_of_tree w)

@@ -1,7 +1,9 @@
 -- What is built of the right side's expression at a place.
-use Rattle.std.specs.Prelude.{◌≡◌, ℕ, zero, suc, ◌+◌, ◌-◌, Bool, true, false, if◌then◌else◌}
+use Rattle.std.specs.Prelude.{◌≡◌, ℕ, zero, suc, ◌+◌, ◌-◌}
 use Rattle.std.specs.Prelude.{Option, Some, None, List, [], ◌∷◌, ◌++◌}
-use Rattle.index_notation.specs.declared.syntax.Expr.{Expr, Num, Access as AccessOf, Add, Sub, Mul, Neg}
+use Rattle.index_notation.specs.declared.operator.Operator.{Operator}
+use Rattle.index_notation.specs.declared.operator.Operator.TheVariants as op
+use Rattle.index_notation.specs.declared.syntax.Expr.{Expr, Num, Access as AccessOf, Binary, Neg}
 use Rattle.index_notation.specs.declared.token.Mark.TheVariants.{Plus, Minus}
 use Rattle.index_notation.specs.declared.token.Token.TheVariants.{Mark as MarkToken}
 use Rattle.index_notation.specs.declared.symbol.Symbol.{Symbol}
@@ -37,13 +39,13 @@ abbrev mutual
   reads_to (BehindTimes place product) = reads_to_product place + reads_in_product product
   reads_to (BehindSign place) = reads_to place
 
-abbrev pub joined_by : Bool → Expr → Joined
-joined_by is_minus expr = record { before = expr; is_minus = is_minus }
+abbrev pub joined_by : Operator → Expr → Joined
+joined_by operator expr = record { before = expr; operator = operator }
 
 abbrev pub sum_before : ProductPlace → Option Joined
 sum_before (First place) = None
-sum_before (BehindPlus place sum) = Some (joined_by false (sum_expr (reads_to_sum place) sum))
-sum_before (BehindMinus place sum) = Some (joined_by true (sum_expr (reads_to_sum place) sum))
+sum_before (BehindPlus place sum) = Some (joined_by op.Add (sum_expr (reads_to_sum place) sum))
+sum_before (BehindMinus place sum) = Some (joined_by op.Sub (sum_expr (reads_to_sum place) sum))
 
 abbrev pub product_before : FactorPlace → Option Expr
 product_before (FirstFactor place) = None
@@ -102,11 +104,11 @@ negated (suc n) expr = negated n (Neg expr)
 
 abbrev pub times : Option Expr → Expr → Expr
 times None expr = expr
-times (Some product) expr = Mul product expr
+times (Some product) expr = Binary op.Mul product expr
 
 abbrev pub with_sum : Option Joined → Expr → Expr
 with_sum None expr = expr
-with_sum (Some joined) expr = if joined.is_minus then Sub joined.before expr else Add joined.before expr
+with_sum (Some joined) expr = Binary joined.operator joined.before expr
 
 abbrev pub last_product : Option Expr → Expr
 last_product None = Num 0
@@ -123,11 +125,11 @@ whole_sum frame = with_sum frame.sum (last_product frame.product)
 abbrev pub finished_by : Builder → Expr → Builder
 finished_by b expr = record { reads = b.reads; outer = b.outer; frame = with_factor b.frame expr; result = None }
 
-abbrev pub joined_with : Builder → Bool → Builder
-joined_with b is_minus = record {
+abbrev pub joined_with : Builder → Operator → Builder
+joined_with b operator = record {
   reads = b.reads;
   outer = b.outer;
-  frame = record { sum = Some (joined_by is_minus (whole_sum b.frame)); product = None; minuses = 0 };
+  frame = record { sum = Some (joined_by operator (whole_sum b.frame)); product = None; minuses = 0 };
   result = None;
 }
 
@@ -160,8 +162,8 @@ settled stand.Name b = with_last_access b
 settled _ b = b
 
 abbrev pub by_operator : Builder → Symbol → Builder
-by_operator b (Lexeme (MarkToken Plus)) = joined_with b false
-by_operator b (Lexeme (MarkToken Minus)) = joined_with b true
+by_operator b (Lexeme (MarkToken Plus)) = joined_with b op.Add
+by_operator b (Lexeme (MarkToken Minus)) = joined_with b op.Sub
 by_operator b _ = b
 
 -- what a bracket that closes builds

@@ -8,15 +8,15 @@ ghost use Rattle.index_notation.specs.Faults.{number_of};
 
 use crate::literals::number;
 use crate::position::{Lead, Stand};
-use index_notation::{Expr, Mark, Symbol, Token};
+use index_notation::{Expr, Mark, Operator, Symbol, Token, binary};
 use std::alloc::{AllocError, Global};
 use trees::{Boxed, Items};
 
-/// A sum so far, and the sign behind it.
+/// A sum so far, and the operator behind it.
 #[derive(Debug, Drop)]
 pub struct Joined {
     pub before: Expr,
-    pub is_minus: bool,
+    pub operator: Operator,
 }
 
 /// What stands right before a factor: the sum so far, the product so far, and prefix minuses.
@@ -55,9 +55,8 @@ fn times(alloc: Global, product: Option<Expr>, expr: Expr) -> Result<Expr, Alloc
 {
     match product {
         Some(product) => {
-            let first = Boxed::new(alloc, product)?;
-            let second = Boxed::new(alloc, expr)?;
-            Ok(Expr::Mul(first, second))
+            let longer = binary(alloc, Operator::Mul, product, expr)?;
+            Ok(longer)
         }
         None => Ok(expr),
     }
@@ -69,14 +68,9 @@ fn with_sum(alloc: Global, sum: Option<Joined>, expr: Expr) -> Result<Expr, Allo
 {
     match sum {
         Some(joined) => {
-            let Joined { before, is_minus } = joined;
-            let first = Boxed::new(alloc, before)?;
-            let second = Boxed::new(alloc, expr)?;
-            if is_minus {
-                Ok(Expr::Sub(first, second))
-            } else {
-                Ok(Expr::Add(first, second))
-            }
+            let Joined { before, operator } = joined;
+            let whole = binary(alloc, operator, before, expr)?;
+            Ok(whole)
         }
         None => Ok(expr),
     }
@@ -163,9 +157,9 @@ impl Builder {
         }
     }
 
-    /// Goes behind the sign of a sum.
-    fn join(self, alloc: Global, is_minus: bool) -> Result<Builder, AllocError>
-        ensures { IfOk result (λ b. b ≡ joined_with self is_minus) }
+    /// Goes behind the operator of a sum.
+    fn join(self, alloc: Global, operator: Operator) -> Result<Builder, AllocError>
+        ensures { IfOk result (λ b. b ≡ joined_with self operator) }
     {
         let Builder {
             reads,
@@ -178,7 +172,7 @@ impl Builder {
             reads,
             outer,
             frame: Frame {
-                sum: Some(Joined { before, is_minus }),
+                sum: Some(Joined { before, operator }),
                 product: None,
                 minuses: 0,
             },
@@ -187,11 +181,12 @@ impl Builder {
     }
 
     fn by_operator(self, alloc: Global, symbol: &Symbol) -> Result<Builder, AllocError>
-        ensures { IfOk result (λ b. b ≡ by_sign self symbol.now) }
+        ensures joined { IfOk result (λ b. b ≡ by_sign self symbol.now) }
+        ensures reads { IfOk result (λ b. b.reads ≤ self.reads) }
     {
         match symbol {
-            Symbol::Lexeme(Token::Mark(Mark::Plus)) => self.join(alloc, false),
-            Symbol::Lexeme(Token::Mark(Mark::Minus)) => self.join(alloc, true),
+            Symbol::Lexeme(Token::Mark(Mark::Plus)) => self.join(alloc, Operator::Add),
+            Symbol::Lexeme(Token::Mark(Mark::Minus)) => self.join(alloc, Operator::Sub),
             _ => Ok(self),
         }
     }

@@ -83,11 +83,5 @@ pub fn number_statement(
     };
     let left = number_access(alloc, tensors.as_slice(), vars.as_slice(), left)?;
     let accesses = number_accesses(alloc, tensors.as_slice(), vars.as_slice(), right)?;
-    Ok(Statement {
-        tensors,
-        vars,
-        left,
-        accesses,
-        expr,
-    })
+    Ok(Statement::new(tensors, vars, left, accesses, expr))
 }
