@@ -181,7 +181,8 @@ impl Builder {
     }
 
     fn by_operator(self, alloc: Global, symbol: &Symbol) -> Result<Builder, AllocError>
-        ensures { IfOk result (λ b. b ≡ by_sign self symbol.now) }
+        ensures joined { IfOk result (λ b. b ≡ by_sign self symbol.now) }
+        ensures reads { IfOk result (λ b. b.reads ≤ self.reads) }
     {
         match symbol {
             Symbol::Lexeme(Token::Mark(Mark::Plus)) => self.join(alloc, Operator::Add),
