@@ -12,5 +12,5 @@ use Rattle.storage_arrays.proofs.Packed.{packed_are_done}
 pub finished : (zero : ℕ) (format : List FormatLevel) (ranges : List ℕ) (entries : List Entry) (r : Result Storage PackRefusal)
     → MatchResult r (IsPackedFrom zero format ranges entries) (IsRefusalOf format ranges entries)
     → IfOk r (λ tensor. AreDone 1 tensor.levels)
-finished zero format ranges entries (Ok t) h = packed_are_done _ _ _ _ _ h.packed
-finished zero format ranges entries (Err refusal) h = tt
+finished z format ranges entries (Ok t) h = packed_are_done _ _ _ _ _ h.packed
+finished z format ranges entries (Err refusal) h = tt
