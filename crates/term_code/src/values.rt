@@ -139,8 +139,13 @@ pub(crate) fn negated<S: Semiring>(
 {
     let minus_one = S::minus_one().unwrap();
     let number = KExpr::Num(minus_one);
-    let there =
-        combined::<S>(alloc, free + 1, ValueOp::Times, number, KExpr::Var(free + 1))?;
+    let there = combined::<S>(
+        alloc,
+        free + 1,
+        ValueOp::Times,
+        number,
+        KExpr::Var(free + 1),
+    )?;
     let mut code = value;
     code.push(KStmt::If(KExpr::Var(free), there, Items::new(alloc)))?;
     Ok(code)
