@@ -78,7 +78,8 @@ filled_of at site count test coord nothing total greatest prepare insert fill co
         ∙ in_row greatest (Set base (Bin Mul count (Width (Var (base + 1 + 2)))) ∷ []) prepare
         (Extend (Values 0) (Var base) (Num nothing) ∷ []) (fill_rows_code (base + 1) w g insert) in
         subst (λ k. Does c k s (LeavesFilled nothing letters sizes table w g d base s) (RefusesLevel letters sizes table d s)) (sym code_is)
-        (last_filled letters w g d at.level base count bounded left_here (number ∙ next d) nothing sizes table may s dr greatest prepare insert
+        (last_filled letters w g d at.level base count bounded left_here (number ∙ next d) nothing sizes table may s dr greatest prepare
+        insert
         finds_here prepares_here inserts_here c)
       where
         next : (d : ℕ) → suc d ≡ d + 1

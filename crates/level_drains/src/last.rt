@@ -51,7 +51,8 @@ fn fill_rows(alloc: Global, at: DrainSite, insert: Items<KStmt>) -> Result<Items
     Ok(code)
 }
 
-/// Code that fills the last level of a kernel's result, whose coordinates are counted and inserted, and its values, `zero` where no row is, from the rows of a workspace:
+/// Code that fills the last level of a kernel's result, whose coordinates are counted and inserted, and its values, `zero` where no row
+/// is, from the rows of a workspace:
 /// `at.level` is its number, counted from 1, `parents` tells how many positions the level above has, and the number of its own
 /// positions is left in the variable `at.base`; those above are its own. Refused for want of memory alone.
 pub fn fill_last(

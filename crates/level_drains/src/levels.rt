@@ -66,7 +66,8 @@ fn drain_appended(
     Ok(code)
 }
 
-/// The number of positions of a level whose coordinates are counted: as many for each parent as a block is wide. Refused for want of memory alone.
+/// The number of positions of a level whose coordinates are counted: as many for each parent as a block is wide. Refused for want of
+/// memory alone.
 pub(crate) fn block_positions(
     alloc: Global,
     base: u64,

@@ -131,7 +131,8 @@ pub record IsNext (means : Decoding) (old new : FolderState) (orders : List ℕ)
   pub next_path : slice_get paths (length operands) ≡ Some path
 
 -- the files before this path are good, and reading it failed
-pub record RefusedAtFault (means : Decoding) (old new : FolderState) (orders : List ℕ) (paths : List (List ℕ)) (path : List ℕ) : Type 0 where
+pub record RefusedAtFault (means : Decoding) (old new : FolderState) (orders : List ℕ) (paths : List (List ℕ)) (path : List ℕ)
+    : Type 0 where
   pub order : ℕ
   pub last : List Given
   pub next : IsNext means old new orders paths order path last

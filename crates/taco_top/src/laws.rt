@@ -58,8 +58,8 @@ pub fn whole_input_is_computed()
         → first.writes.text ≡ second.writes.text }
 {}
 
-/// Claim: where the words ask for a kernel and pass, and where they ask for a generated workload, a call ends with status 0, and so with its
-/// text, unless the output failed, or with want of memory.
+/// Claim: where the words ask for a kernel and pass, and where they ask for a generated workload, a call ends with status 0, and so with
+/// its text, unless the output failed, or with want of memory.
 pub fn texts_are_printed()
     ensures kernels { (words : List (String Global)) (request : Request) (files files' : FolderState) (out out' err err' : SinkState)
         (status : ℕ) → IsAccepted (map string_bytes words) request → request.task ≡ task.Kernel → (Rose out.faults out'.faults → ⊥)

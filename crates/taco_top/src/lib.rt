@@ -1,7 +1,7 @@
 //! The program: what a command line does, from its words to the bytes of the result. `taco` is generic over the folder with
 //! the files and over the streams, so that its contract speaks of any of them; the crate above makes the real ones. `specs/Asked.antt`
-//! says what the words ask for, before any file is opened, or the first refusal of the words; `specs/Run.antt` what a statement's command is
-//! about, and `specs/Ends.antt`, in three parts, why a command ends as it does, and what it shows.
+//! says what the words ask for, before any file is opened, or the first refusal of the words; `specs/Run.antt` what a statement's command
+//! is about, and `specs/Ends.antt`, in three parts, why a command ends as it does, and what it shows.
 #![tactic(auto)]
 
 mod asked;

@@ -113,7 +113,8 @@ each_does r c is free (Some x) s h =
     )))
 
 both_does : (r : Bool) (c : Setting) → (r ≡ true → c.arithmetic ≡ ring) → (free : ℕ) (x y : Option ℕ) (s : State)
-    → OptionLeft free x s → OptionLeft (free + 2) y s → Reads c (both_code r free) free no_turns s (OptionLeft free (both c.arithmetic.times x y))
+    → OptionLeft free x s → OptionLeft (free + 2) y s
+    → Reads c (both_code r free) free no_turns s (OptionLeft free (both c.arithmetic.times x y))
 both_does r c is free None y s h g = else_read c free free _ [] s (OptionLeft free None) h (nothing_read c free s (OptionLeft free None) h)
 both_does r c is free (Some x) None s h g =
     if_read c free free 0 _ [] s (OptionLeft free None) h.0
@@ -130,7 +131,8 @@ both_does r c is free (Some x) (Some y) s h g =
     ))))
 
 either_does : (r : Bool) (c : Setting) → (r ≡ true → c.arithmetic ≡ ring) → (free : ℕ) (x y : Option ℕ) (s : State)
-    → OptionLeft free x s → OptionLeft (free + 2) y s → Reads c (either_code r free) free no_turns s (OptionLeft free (either c.arithmetic.plus x y))
+    → OptionLeft free x s → OptionLeft (free + 2) y s
+    → Reads c (either_code r free) free no_turns s (OptionLeft free (either c.arithmetic.plus x y))
 either_does r c is free None None s h g = else_read c free (free + 2) _ [] s (OptionLeft free None) g
     (nothing_read c free s (OptionLeft free None) h)
 either_does r c is free (Some x) None s h g = else_read c free (free + 2) _ [] s (OptionLeft free (Some x)) g
@@ -211,7 +213,8 @@ module _ (a : Arithmetic) (places : Places) (these : ℕ → Bool) (free : ℕ) 
       (λ t l o. subst (λ b. Reads c (both_code r free) free no_turns t (OptionLeft free (both b.times (f stored env) (g stored env)))) is
       (both_does r c (λ e. is ∙ ring_is e) free (f stored env) (g stored env) t o.0 o.1))
 
-pub negated_leaves : (a : Arithmetic) (r : Bool) → (r ≡ true → a ≡ ring) → (places : Places) (these : ℕ → Bool) (free : ℕ) (f : Options) (x : List KStmt)
+pub negated_leaves : (a : Arithmetic) (r : Bool) → (r ≡ true → a ≡ ring) → (places : Places) (these : ℕ → Bool) (free : ℕ) (f : Options)
+    (x : List KStmt)
     → LeavesOption a places these f free x
     → LeavesOption a places these (λ stored env. each (minus a) (f stored env)) free (x ++ each_code r a.minus_one free)
 negated_leaves a r ring_is places these free f x h = λ c is stored bound env s keeps has.
@@ -219,13 +222,15 @@ negated_leaves a r ring_is places these free f x h = λ c is stored bound env s 
     (λ t l o. subst (λ b. Reads c (each_code r b.minus_one free) free no_turns t (OptionLeft free (each (minus b) (f stored env)))) is
     (each_does r c (λ e. is ∙ ring_is e) free (f stored env) t o))
 
-pub applied_leaves : (a : Arithmetic) (r : Bool) → (r ≡ true → a ≡ ring) → (places : Places) (these : ℕ → Bool) (free : ℕ) → AreBelow free places → (o : Operator)
+pub applied_leaves : (a : Arithmetic) (r : Bool) → (r ≡ true → a ≡ ring) → (places : Places) (these : ℕ → Bool) (free : ℕ)
+    → AreBelow free places → (o : Operator)
     (f g : Options) (x y : List KStmt) → LeavesOption a places these f free x → LeavesOption a places these g (free + 2) y
     → LeavesOption a places these (λ stored env. present_applied a o (f stored env) (g stored env)) free
     (applied_code r a.minus_one o x y free)
 applied_leaves a r ring_is places these free are op.Add f g x y h k = sum_leaves a places these free are r ring_is f g x y h k
 applied_leaves a r ring_is places these free are op.Sub f g x y h k =
-    sum_leaves a places these free are r ring_is f (λ stored env. each (minus a) (g stored env)) x (y ++ each_code r a.minus_one (free + 2)) h
+    sum_leaves a places these free are r ring_is f (λ stored env. each (minus a) (g stored env)) x
+    (y ++ each_code r a.minus_one (free + 2)) h
     (negated_leaves a r ring_is places these (free + 2) g y k)
 applied_leaves a r ring_is places these free are op.Mul f g x y h k = product_leaves a places these free are r ring_is f g x y h k
 

@@ -15,7 +15,8 @@ full_in-requires t c =
     let e = c.in-Binary.first in
     let f = c.in-Binary.second in (
       falls t c.args.expr.now (Binary o e f) e c.get.result.now c.in-Binary.is c.get.ensures (parts_of_binary o e f).0 c.decreases,
-      first_side (λ k. k < length c.args.places.now.accesses) c.args.expr.now o e f c.get.result.now c.in-Binary.is c.get.ensures c.requires,
+      first_side (λ k. k < length c.args.places.now.accesses) c.args.expr.now o e f c.get.result.now c.in-Binary.is c.get.ensures
+          c.requires,
     )
 
 pub full_in-requires-in-Binary : goal.full_in-requires-in-Binary

@@ -128,7 +128,8 @@ returns-in_ok-code-in-Neg g t c = λ these stand.
     (sym c.in_ok-code-in-Neg.ensures)
     (leaves_same a places these free (λ stored env. each (minus a) (present_value a (access_values stored env) e))
     (λ stored env. present_value a (access_values stored env) (Neg e)) _ (λ stored env. sym (value_neg a (access_values stored env) e))
-    (negated_leaves a g.S.Semiring.is_ring g.S.Semiring.ring_is places these free (λ stored env. present_value a (access_values stored env) e)
+    (negated_leaves a g.S.Semiring.is_ring g.S.Semiring.ring_is places these free
+    (λ stored env. present_value a (access_values stored env) e)
     c.in_ok-x-in-Neg.x one)))
 
 pub returns-in_ok-code-in-Num : goal.returns-in_ok-code-in-Num
