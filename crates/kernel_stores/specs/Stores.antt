@@ -1,6 +1,6 @@
 -- What a kernel is run on: the ranges of the variables, packed operands, and the arrays with which its run starts.
-use Rattle.std.specs.Prelude.{◌≡◌, ℕ, zero, suc, ◌*◌, ◌≤◌, ◌<◌, ◌^◌}
-use Rattle.std.specs.Prelude.{if◌then◌else◌, List, [], ◌∷◌, length, map, All}
+use Rattle.std.specs.Prelude.{◌≡◌, ℕ, zero, suc, ◌≤◌, ◌<◌, ◌^◌}
+use Rattle.std.specs.Prelude.{List, [], ◌∷◌, length, map, All}
 use Rattle.std.specs.Prelude.{Some, slice_index, slice_index_or, replicate}
 use Rattle.limits.specs.Limits.{greatest_position_count}
 use Rattle.numbers.specs.Arithmetic.{Arithmetic}
