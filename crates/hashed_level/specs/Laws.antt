@@ -309,9 +309,6 @@ finished_apart h = absurd (apart h)
     apart : Finished ≡ Unfinished → ⊥
     apart e = cc
 
-block_end : (w p : ℕ) → (p + 1) * w ≡ p * w + w
-block_end w p = grind arith
-
 pub laws : Laws meaning
 laws = record {
   held_there = holds_there;
