@@ -5,7 +5,8 @@ use Rattle.std.specs.Fmt.{decimal, signed_decimal}
 use Rattle.numbers.specs.Signed.{signed_of}
 use Rattle.level_core.specs.declared.letter.Letter.{Letter}
 use Rattle.level_core.specs.declared.arrays.LevelArray.{LevelArray}
-use Rattle.level_core.specs.declared.arrays.LevelArray.TheVariants.{Dimension as OfSize, Ends as OfEnds, Coordinates as OfCoordinates, Width as OfWidth}
+use Rattle.level_core.specs.declared.arrays.LevelArray.TheVariants.{Dimension as OfSize, Ends as OfEnds}
+use Rattle.level_core.specs.declared.arrays.LevelArray.TheVariants.{Coordinates as OfCoordinates, Width as OfWidth}
 use Rattle.hashed_level.specs.Slots.{coord_of}
 use Rattle.format_spec.specs.Words.{letter_byte, format_text}
 use Rattle.tensor_storage.specs.declared.level.StorageLevel.{StorageLevel}
