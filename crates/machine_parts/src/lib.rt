@@ -1,6 +1,6 @@
 //! What the machine that runs kernels is made of: tables that are looked up in constant time, places of arrays by name, arrays that
-//! grow, operators whose first operand decides or whose operands are values, and the sorting of rows. `specs/Places.antt` says what a table holds, `specs/Rows.antt` which
-//! rows are sorted.
+//! grow, operators whose first operand decides or whose operands are values, and the sorting of rows. `specs/Places.antt` says what a
+//! table holds, `specs/Rows.antt` which rows are sorted.
 #![tactic(auto)]
 
 mod operators;
