@@ -1,6 +1,6 @@
 -- A compressed level: coordinates in the order of positions, and where each parent's positions end.
 use Rattle.std.specs.Prelude.{◌≡◌, ◌≢◌, ℕ, ◌+◌, ◌-◌, ◌≤◌, ◌<◌}
-use Rattle.std.specs.Prelude.{Bool, List, [], ◌∷◌, length, take, drop, Some, None}
+use Rattle.std.specs.Prelude.{Bool, List, [], ◌∷◌, length, take, drop, Option, Some, None}
 use Rattle.limits.specs.Limits.{greatest_position_count}
 use Rattle.level_core.specs.declared.span.Span.{Span}
 use Rattle.level_core.specs.declared.span.Entry.{Entry}
@@ -8,6 +8,8 @@ use Rattle.level_core.specs.declared.letter.Letter.{Letter}
 use Rattle.level_core.specs.declared.letter.Letter.TheVariants.{Compressed, CompressedGroups}
 use Rattle.level_core.specs.declared.stage.Stage.{Stage}
 use Rattle.level_core.specs.declared.stage.Stage.TheVariants.{Fresh, Unfinished, Finished}
+use Rattle.level_core.specs.declared.arrays.LevelArray.{LevelArray}
+use Rattle.level_core.specs.declared.arrays.LevelArray.TheVariants.{Ends as OfEnds, Coordinates as OfCoordinates}
 use Rattle.level_core.specs.Logs.{Log, total, running, NoneFrom, Rises, segment_in, entries_between}
 use Rattle.level_core.specs.GroupLaws.{CoordsBelow}
 use Rattle.level_core.specs.Meaning.{Arrays, Meaning}
@@ -102,6 +104,12 @@ pub record Holds (l : CompressedLevel) (tensor level : ℕ) (arrays : Arrays) : 
   pub ends : arrays (Ends tensor level) ≡ Some (ends_of l.log.stage l.log.counts)
   pub coords : arrays (Coordinates tensor level) ≡ Some l.log.coords
 
+-- the words of each
+abbrev pub words_of : CompressedLevel → LevelArray → Option (List ℕ)
+words_of l OfEnds = Some (ends_of l.log.stage l.log.counts)
+words_of l OfCoordinates = Some l.log.coords
+words_of l _ = None
+
 abbrev pub meaning : Meaning CompressedLevel
 meaning = record {
   kind = λ l. letter_of l.unique;
@@ -109,7 +117,9 @@ meaning = record {
   size = λ l. l.size;
   width = λ l. None;
   holds = Holds;
+  words = words_of;
   has_parents = HasParents;
+  positions = λ l parents. length l.log.coords;
   allowed = IsAllowed;
   segment_of = segment_of;
   entries = entries_of;

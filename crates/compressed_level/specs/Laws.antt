@@ -3,7 +3,7 @@ use Rattle.std.specs.Prelude.{◌≡◌, ◌≢◌, ℕ, suc, ◌+◌, ◌-◌, 
 use Rattle.std.specs.Prelude.{true, false, List, [], ◌∷◌, ◌++◌, length, take, replicate}
 use Rattle.std.specs.Prelude.{slice_get, Some, None, refl}
 use Rattle.std.proofs.Common.{◌∙◌, sym, ap, subst, arith}
-use Rattle.std.proofs.lemmas.List.{length-append, length-replicate}
+use Rattle.std.proofs.lemmas.List.{length-append, length-replicate, take_all}
 use Rattle.limits.specs.Limits.{greatest_position_count}
 use Rattle.kernel_code.specs.declared.syntax.Arr.{Arr}
 use Rattle.kernel_code.specs.declared.syntax.Arr.TheVariants.{Ends, Coordinates}
@@ -11,6 +11,7 @@ use Rattle.level_core.specs.declared.span.Span.{Span}
 use Rattle.level_core.specs.declared.stage.Stage.{Stage}
 use Rattle.level_core.specs.declared.stage.Stage.TheVariants.{Fresh, Unfinished, Finished}
 use Rattle.level_core.specs.declared.letter.Letter.TheVariants.{Compressed, CompressedGroups}
+use Rattle.level_core.specs.declared.arrays.LevelArray.TheVariants.{Ends as OfEnds, Coordinates as OfCoordinates}
 use Rattle.level_core.specs.Entries.{one, span, IsIn, coord_at}
 use Rattle.level_core.specs.Kinds.{properties, AreEntries}
 use Rattle.level_core.specs.Logs.{Log, total, NoneFrom, Rises, slice, IsLog, ungiven, with_parents, finished, MayReserve, MayFinish}
@@ -259,13 +260,34 @@ same_arrays l m parents tensor level arrays has also agree held = record {
   coords = held.coords ∙ ap Some (sym (coords_same l m parents has also agree));
 }
 
+no_total : (ns : List ℕ) → length ns ≡ 0 → total ns ≡ 0
+no_total [] h = refl
+no_total (n ∷ ns) h = absurd (omega (arith, h))
+
+not_unfinished : (stage : Stage) → stage ≡ Finished → stage ≢ Unfinished
+not_unfinished stage is not = absurd (never (sym is ∙ not))
+  where
+    never : Finished ≡ Unfinished → ⊥
+    never e = cc
+
+-- the last parent's positions end with the coordinates
+last_end : (l : CompressedLevel) (parents p : ℕ) → HasParents l parents → p + 1 ≡ parents
+    → (segment_of l (one p)).hi ≡ length l.log.coords
+last_end l parents p has last =
+    let long = has.count in
+    ap total (take_all (p + 1) l.log.counts (omega (arith, long, last)))
+    ∙ has.keeps.all_given (not_unfinished l.log.stage has.finished)
+
 pub laws : Laws meaning
 laws = record {
   held_there = holds_there;
+  words_hold = λ l tensor level arrays has. record { ends = has OfEnds _ refl; coords = has OfCoordinates _ refl };
   entries = are_entries;
   in_row = λ l. segments_in_row l.log.counts (IsAllowed l);
   one_parent = λ l parent ok _. ok.single;
   parents = λ l parents p has h. allowed_finished l p has.keeps has.finished (subst (λ n. p < n) (sym has.count) h);
+  last_end = last_end;
+  none_without = λ l has. sym (has.keeps.all_given (not_unfinished l.log.stage has.finished)) ∙ no_total l.log.counts has.count;
   wide = λ l w parent has ok. none_some w has;
   logs = logs_are;
   prepares = λ l m parents most keeps may within is. absurd is;

@@ -1,5 +1,5 @@
 use crate::compressed::CompressedLevel;
-use level_core::{Level, Span};
+use level_core::{Level, LevelArray, Span};
 
 impl Level for CompressedLevel {
     fn tell_rules(&self) {
@@ -26,5 +26,21 @@ impl Level for CompressedLevel {
 
     fn locate(&self, _parent: u64, _x: u64) -> Option<u64> {
         None
+    }
+
+    fn array_len(&self, array: LevelArray) -> Option<u64> {
+        match array {
+            LevelArray::Ends => Some(self.ends.len()),
+            LevelArray::Coordinates => Some(self.coords.len()),
+            LevelArray::Dimension | LevelArray::Width => None,
+        }
+    }
+
+    fn array_word(&self, array: LevelArray, at: u64) -> Option<u64> {
+        match array {
+            LevelArray::Ends => self.ends.at(at),
+            LevelArray::Coordinates => self.coords.at(at),
+            LevelArray::Dimension | LevelArray::Width => None,
+        }
     }
 }

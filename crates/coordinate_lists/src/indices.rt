@@ -65,6 +65,13 @@ impl Indices {
         self.words.get(i as usize) as u64
     }
 
+    /// The item at `i`, counted from 0, if there is one.
+    pub fn at(&self, i: u64) -> Option<u64>
+        ensures { result ≡ slice_get self.now.items i }
+    {
+        if i < self.len() { Some(self.get(i)) } else { None }
+    }
+
     /// The end of the group of equal coordinates that begins at the position `pos`, among the positions before `end`.
     pub fn group_end(&self, pos: u64, end: u64) -> u64
         requires first { pos < end }

@@ -1,10 +1,12 @@
 -- What a dense level of size n holds.
-use Rattle.std.specs.Prelude.{◌≡◌, ℕ, zero, suc, ◌+◌, ◌*◌, ◌≤◌, List, [], ◌∷◌, Some, None}
+use Rattle.std.specs.Prelude.{◌≡◌, ℕ, zero, suc, ◌+◌, ◌*◌, ◌≤◌, List, [], ◌∷◌, Option, Some, None}
 use Rattle.limits.specs.Limits.{greatest_position_count}
 use Rattle.kernel_code.specs.declared.syntax.Arr.TheVariants.{Dimension}
 use Rattle.level_core.specs.declared.span.Span.{Span}
 use Rattle.level_core.specs.declared.span.Entry.{Entry}
 use Rattle.level_core.specs.declared.letter.Letter.TheVariants.{Dense}
+use Rattle.level_core.specs.declared.arrays.LevelArray.{LevelArray}
+use Rattle.level_core.specs.declared.arrays.LevelArray.TheVariants.{Dimension as OfSize}
 use Rattle.level_core.specs.Entries.{span, one}
 use Rattle.level_core.specs.Logs.{nothing_appended}
 use Rattle.level_core.specs.Meaning.{Arrays, Meaning}
@@ -16,6 +18,11 @@ KeepsRules n = n ≤ greatest_position_count
 -- one word is stored, the size
 abbrev pub Holds : ℕ → ℕ → ℕ → Arrays → Type 0
 Holds n tensor level arrays = arrays (Dimension tensor level) ≡ Some (n ∷ [])
+
+-- the words of its array
+abbrev pub words_of : ℕ → LevelArray → Option (List ℕ)
+words_of n OfSize = Some (n ∷ [])
+words_of n _ = None
 
 -- so many parents, whose positions are within the limit
 pub record HasParents (n parents : ℕ) : Type 0 where
@@ -55,7 +62,9 @@ meaning = record {
   size = λ n. n;
   width = λ n. None;
   holds = Holds;
+  words = words_of;
   has_parents = HasParents;
+  positions = λ n parents. parents * n;
   allowed = IsAllowed;
   segment_of = segment_of;
   entries = entries_of;

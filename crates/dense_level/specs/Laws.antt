@@ -12,6 +12,7 @@ use Rattle.level_core.specs.Fragments.{IsOf}
 use Rattle.level_core.specs.declared.span.Span.{Span}
 use Rattle.level_core.specs.declared.letter.Letter.TheVariants.{Dense}
 use Rattle.level_core.specs.declared.stage.Stage.TheVariants.{Unfinished, Finished}
+use Rattle.level_core.specs.declared.arrays.LevelArray.TheVariants.{Dimension as OfSize}
 use Rattle.level_core.specs.Entries.{one, AreInRow, Tiles, Rising, AllBelow, Single, position_of}
 use Rattle.level_core.proofs.EntryLaws.{tiles_placed, rising_distinct}
 use Rattle.level_core.specs.Meaning.{Arrays, Prepares, Inserts}
@@ -152,10 +153,13 @@ none_some w h = absurd (apart h)
 pub laws : Laws meaning
 laws = record {
   held_there = holds_there;
+  words_hold = λ n tensor level arrays has. has OfSize (n ∷ []) refl;
   entries = are_entries;
   in_row = in_row;
   one_parent = λ n parent ok _. ok.one_parent;
   parents = parent_allowed;
+  last_end = λ n parents p has last. ap (λ k. k * n) last;
+  none_without = λ n has. zero-mul n;
   wide = λ n w parent has. none_some w has;
   logs = λ n keeps branches. record { ahead = tt; given = omega arith };
   prepares = prepares;

@@ -1,5 +1,5 @@
 use crate::dense::DenseLevel;
-use level_core::{Level, Span};
+use level_core::{Level, LevelArray, Span};
 
 impl Level for DenseLevel {
     fn tell_rules(&self) {
@@ -29,6 +29,20 @@ impl Level for DenseLevel {
             Some(self.place_of(parent, x))
         } else {
             None
+        }
+    }
+
+    fn array_len(&self, array: LevelArray) -> Option<u64> {
+        match array {
+            LevelArray::Dimension => Some(1),
+            LevelArray::Ends | LevelArray::Width | LevelArray::Coordinates => None,
+        }
+    }
+
+    fn array_word(&self, array: LevelArray, at: u64) -> Option<u64> {
+        match array {
+            LevelArray::Dimension if at == 0 => Some(self.size),
+            _ => None,
         }
     }
 }

@@ -12,3 +12,4 @@ mod text;
 pub use fault::FormatFault;
 pub use format::{Format, FormatLevel};
 pub use reading::parse_format;
+pub use text::letter_byte;

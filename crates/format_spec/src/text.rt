@@ -14,7 +14,7 @@ use std::alloc::Global;
 use text_lines::put_all;
 
 /// The byte of a kind's letter.
-fn letter_of(kind: Letter) -> u8
+pub fn letter_byte(kind: Letter) -> u8
     ensures { result ≡ letter_byte kind }
 {
     match kind {
@@ -36,7 +36,7 @@ fn letters_text(alloc: Global, levels: &[FormatLevel]) -> SmallVec<u8, 18>
 {
     let mut text = SmallVec::new(alloc);
     for level in levels {
-        text.push_reserved(letter_of(level.letter));
+        text.push_reserved(letter_byte(level.letter));
     }
     text
 }

@@ -7,6 +7,8 @@ use Rattle.kernel_code.specs.declared.syntax.Arr.TheVariants.{Coordinates, Width
 use Rattle.level_core.specs.declared.span.Span.{Span}
 use Rattle.level_core.specs.declared.span.Entry.{Entry}
 use Rattle.level_core.specs.declared.letter.Letter.TheVariants.{Hashed as HashedLetter}
+use Rattle.level_core.specs.declared.arrays.LevelArray.{LevelArray}
+use Rattle.level_core.specs.declared.arrays.LevelArray.TheVariants.{Coordinates as OfCoordinates, Width as OfWidth}
 use Rattle.level_core.specs.Entries.{span}
 use Rattle.level_core.specs.Logs.{nothing_appended}
 use Rattle.level_core.specs.Meaning.{Arrays, Meaning}
@@ -55,6 +57,12 @@ pub record Holds (l : Hashed) (tensor level : ℕ) (arrays : Arrays) : Type 0 wh
   pub width : arrays (Width tensor level) ≡ Some (width_words l.width)
   pub slots : arrays (Coordinates tensor level) ≡ Some l.slots
 
+-- the words of each
+abbrev pub words_of : Hashed → LevelArray → Option (List ℕ)
+words_of l OfWidth = Some (width_words l.width)
+words_of l OfCoordinates = Some l.slots
+words_of l _ = None
+
 -- so many parents were prepared
 pub record HasParents (l : Hashed) (parents : ℕ) : Type 0 where
   pub rules : KeepsRules l
@@ -96,7 +104,9 @@ meaning = record {
   size = λ l. l.size;
   width = λ l. l.width;
   holds = Holds;
+  words = words_of;
   has_parents = HasParents;
+  positions = λ l parents. length l.slots;
   allowed = IsAllowed;
   segment_of = segment_of;
   entries = entries_of;

@@ -13,6 +13,7 @@ use Rattle.kernel_code.specs.declared.syntax.Arr.{Arr}
 use Rattle.kernel_code.specs.declared.syntax.Arr.TheVariants.{Coordinates, Width}
 use Rattle.level_core.specs.declared.span.Span.{Span}
 use Rattle.level_core.specs.declared.letter.Letter.TheVariants.{Hashed as HashedLetter}
+use Rattle.level_core.specs.declared.arrays.LevelArray.TheVariants.{Coordinates as OfCoordinates, Width as OfWidth}
 use Rattle.level_core.specs.Fragments.{IsOf}
 use Rattle.level_core.specs.declared.stage.Stage.TheVariants.{Unfinished, Finished}
 use Rattle.level_core.specs.Entries.{AreInRow, FirstFree, Gains, coord_at, one}
@@ -311,10 +312,14 @@ finished_apart h = absurd (apart h)
 pub laws : Laws meaning
 laws = record {
   held_there = holds_there;
+  words_hold = λ l tensor level arrays has. record { width = has OfWidth _ refl; slots = has OfCoordinates _ refl };
   entries = are_entries;
   in_row = in_row;
   one_parent = λ l parent ok _. ok.one_parent;
   parents = λ l parents p has h. record { rules = has.rules; one_parent = refl; prepared = subst (λ n. p < n) (sym has.count) h };
+  last_end = λ l parents p has last.
+      sym (block_end (block_width l) p) ∙ ap (λ k. k * block_width l) (last ∙ sym has.count) ∙ sym has.rules.count;
+  none_without = λ l has. has.rules.count ∙ ap (λ k. k * block_width l) has.count ∙ zero-mul (block_width l);
   wide = λ l w parent has ok. ap (λ o. base_of l parent.lo + width_or_two o) has;
   logs = λ l keeps branches. record { ahead = tt; given = omega arith };
   prepares = prepares;

@@ -1,11 +1,11 @@
-ghost use Rattle.std.specs.Prelude.{◌≡◌, ◌≤◌, ◌<◌, ◌+◌, ◌*◌, [], None, Some, IfOk, IsOk, OnOk, OnErr, length, slice_index};
+ghost use Rattle.std.specs.Prelude.{◌≡◌, ◌≤◌, ◌<◌, ◌+◌, ◌*◌, [], None, Some, IfOk, IsOk, OnOk, OnErr, length, slice_get, slice_index};
 ghost use Rattle.limits.specs.Limits.{greatest_position_count};
 ghost use Rattle.level_core.specs.declared.letter.Letter.TheVariants.{Hashed as HashedLetter};
 ghost use Rattle.level_core.specs.Entries.{one, span, position_of};
 ghost use Rattle.level_core.specs.Kinds.{positions_for, MayPrepare, MayInsert};
 ghost use Rattle.hashed_level.specs.Slots.{coord_of, FirstEmpty};
 ghost use Rattle.hashed_level.specs.Hashed.{hashed, KeepsRules, IsAllowed, block_width, base_of, segment_of, entries_of, with_blocks};
-ghost use Rattle.hashed_level.specs.Hashed.{Inserted};
+ghost use Rattle.hashed_level.specs.Hashed.{Inserted, width_words};
 
 use crate::slots::{coordinate_of, empty_slots, slot_of, sought};
 use crate::widths::width_for;
@@ -80,6 +80,37 @@ impl HashedLevel {
             None => 2,
             Some(width) => width,
         }
+    }
+
+    /// The width of a block, once parents are prepared.
+    pub(crate) fn width(&self) -> Option<u64>
+        ensures { result ≡ self.now.width }
+    {
+        self.width
+    }
+
+    /// How many words the width is stored in.
+    pub(crate) fn width_count(&self) -> u64
+        ensures { result ≡ length (width_words self.now.width) }
+    {
+        match self.width {
+            None => 0,
+            Some(_) => 1,
+        }
+    }
+
+    /// The number of slots.
+    pub(crate) fn slot_count(&self) -> u64
+        ensures { result ≡ length self.now.slots }
+    {
+        self.slots.len() as u64
+    }
+
+    /// The word of a slot, if it is there.
+    pub(crate) fn slot(&self, at: u64) -> Option<u64>
+        ensures { result ≡ slice_get self.now.slots at }
+    {
+        self.slots.as_slice().get(at as usize).copied()
     }
 
     /// The slots of a parent.

@@ -12,3 +12,4 @@ mod slots;
 mod widths;
 
 pub use hashed::HashedLevel;
+pub use slots::coordinate_of;

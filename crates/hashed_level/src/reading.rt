@@ -1,5 +1,5 @@
 use crate::hashed::HashedLevel;
-use level_core::{Level, Span};
+use level_core::{Level, LevelArray, Span};
 
 impl Level for HashedLevel {
     fn tell_rules(&self) {
@@ -23,5 +23,21 @@ impl Level for HashedLevel {
 
     fn locate(&self, parent: u64, x: u64) -> Option<u64> {
         self.position_below(parent, x)
+    }
+
+    fn array_len(&self, array: LevelArray) -> Option<u64> {
+        match array {
+            LevelArray::Width => Some(self.width_count()),
+            LevelArray::Coordinates => Some(self.slot_count()),
+            LevelArray::Dimension | LevelArray::Ends => None,
+        }
+    }
+
+    fn array_word(&self, array: LevelArray, at: u64) -> Option<u64> {
+        match array {
+            LevelArray::Width if at == 0 => self.width(),
+            LevelArray::Coordinates => self.slot(at),
+            _ => None,
+        }
     }
 }

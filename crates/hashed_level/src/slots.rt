@@ -22,8 +22,8 @@ pub(crate) fn is_empty(word: u64) -> bool
     word == empty_slot()
 }
 
-/// The coordinate in a slot that holds a word.
-pub(crate) fn coordinate_of(word: u64) -> Option<u64>
+/// The coordinate in a slot that holds a word: none where it is empty.
+pub fn coordinate_of(word: u64) -> Option<u64>
     ensures { result ≡ coord_of word }
 {
     if is_empty(word) { None } else { Some(word) }

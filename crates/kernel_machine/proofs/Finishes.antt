@@ -69,7 +69,7 @@ pub ready : (ls : List StorageLevel) (parts : List Part) (parents level : ℕ) (
 ready [] parts parents level a held done left = tt
 ready (l ∷ ls) [] parents level a held done left = absurd left
 ready (l ∷ ls) (part ∷ parts) parents level a held done left =
-    let k = handed l level parents part a held.0 done.0.has_parents left.0 in (
+    let k = handed l level parents part a held.0 done.0 left.0 in (
       k.ready,
       subst (AreReady (map meaning.kind ls) (map meaning.size ls) parts) (sym k.positions)
           (ready ls parts (positions_in parents l) (suc level) a held.1 done.1 left.1),
@@ -81,7 +81,7 @@ pub many : (ls : List StorageLevel) (parts : List Part) (parents level : ℕ) (a
 many [] parts parents level a held done left = refl
 many (l ∷ ls) [] parents level a held done left = absurd left
 many (l ∷ ls) (part ∷ parts) parents level a held done left =
-    let k = handed l level parents part a held.0 done.0.has_parents left.0 in
+    let k = handed l level parents part a held.0 done.0 left.0 in
     ap (values_for (map meaning.kind ls) (map meaning.size ls) parts) k.positions
     ∙ many ls parts (positions_in parents l) (suc level) a held.1 done.1 left.1
 
@@ -91,7 +91,7 @@ pub kinds : (ls : List StorageLevel) (parts : List Part) (parents level : ℕ) (
 kinds [] parts parents level a held done left = refl
 kinds (l ∷ ls) [] parents level a held done left = absurd left
 kinds (l ∷ ls) (part ∷ parts) parents level a held done left =
-    let k = handed l level parents part a held.0 done.0.has_parents left.0 in
+    let k = handed l level parents part a held.0 done.0 left.0 in
     ap (λ (j : Letter). j ∷ map meaning.kind (levels_of (map meaning.kind ls) (map meaning.size ls) parts
     (positions_of (meaning.kind l) (meaning.size l) parents part))) k.ready.kind
     ∙ ap (λ n. meaning.kind l ∷ map meaning.kind (levels_of (map meaning.kind ls) (map meaning.size ls) parts n)) k.positions
@@ -103,7 +103,7 @@ pub opened : (ls : List StorageLevel) (parts : List Part) (parents level : ℕ) 
 opened [] parts parents level a positions span held done left o = o
 opened (l ∷ ls) [] parents level a positions span held done left o = absurd left
 opened (l ∷ ls) (part ∷ parts) parents level a positions span held done left o =
-    let k = handed l level parents part a held.0 done.0.has_parents left.0 in
+    let k = handed l level parents part a held.0 done.0 left.0 in
     let alike = k.alike _ (0, refl) in (
       alike.allowed span o.0,
       λ e at.
@@ -135,7 +135,7 @@ made_are_held [] (t ∷ ts) parts parents level a held done left made = absurd m
 made_are_held (l ∷ ls) [] parts parents level a held done left made = absurd made
 made_are_held (l ∷ ls) (t ∷ ts) [] parents level a held done left made = absurd left
 made_are_held (l ∷ ls) (t ∷ ts) (part ∷ parts) parents level a held done left made =
-    let k = handed l level parents part a held.0 done.0.has_parents left.0 in (
+    let k = handed l level parents part a held.0 done.0 left.0 in (
       subst (λ m. meaning.holds m 0 level (summed a)) (sym made.0.1)
           (made_held made.0.0 (meaning.kind l) (meaning.size l) parents level part a k.ready.behind left.0 (dense_size l level a held.0)),
       made_are_held ls ts parts (positions_in parents l) (suc level) a held.1 done.1 left.1
@@ -211,14 +211,11 @@ made_are_done [] (t ∷ ts) parts parents level a held done left made = absurd m
 made_are_done (l ∷ ls) [] parts parents level a held done left made = tt
 made_are_done (l ∷ ls) (t ∷ ts) [] parents level a held done left made = absurd left
 made_are_done (l ∷ ls) (t ∷ ts) (part ∷ parts) parents level a held done left made =
-    let k = handed l level parents part a held.0 done.0.has_parents left.0 in
+    let k = handed l level parents part a held.0 done.0 left.0 in
     let alike = k.alike t made.0 in
     let same : positions_in parents t ≡ positions_in parents l =
     ap (positions_in parents) made.0.1 ∙ spare_free made.0.0 (meaning.kind l) (meaning.size l) parents part ∙ k.positions in (
-      record {
-        has_parents = alike.has_parents parents done.0.has_parents;
-        width = λ none w h. done.0.width none w (sym alike.width ∙ h);
-      },
+      alike.has_parents parents done.0,
       subst (λ n. AreDone n ts) (sym same)
           (made_are_done ls ts parts (positions_in parents l) (suc level) a held.1 done.1 left.1
           (subst (λ n. AreMade (map meaning.kind ls) (map meaning.size ls) parts n ts) k.positions made.1)),
@@ -240,7 +237,7 @@ made_are_alike [] (t ∷ ts) parts parents level a held done left made = absurd 
 made_are_alike (l ∷ ls) [] parts parents level a held done left made = absurd made
 made_are_alike (l ∷ ls) (t ∷ ts) [] parents level a held done left made = absurd left
 made_are_alike (l ∷ ls) (t ∷ ts) (part ∷ parts) parents level a held done left made =
-    let k = handed l level parents part a held.0 done.0.has_parents left.0 in (
+    let k = handed l level parents part a held.0 done.0 left.0 in (
       k.alike t made.0,
       made_are_alike ls ts parts (positions_in parents l) (suc level) a held.1 done.1 left.1
           (subst (λ n. AreMade (map meaning.kind ls) (map meaning.size ls) parts n ts) k.positions made.1),

@@ -18,11 +18,12 @@ use Rattle.tensor_storage.specs.declared.level.StorageLevel.{StorageLevel}
 use Rattle.tensor_storage.specs.Storages.{Storage, in_level_order}
 use Rattle.format_spec.specs.declared.format.FormatLevel.{FormatLevel}
 use Rattle.format_spec.specs.Formats.{letters_of}
-use Rattle.storage_arrays.specs.declared.view.LevelArray.{LevelArray}
-use Rattle.storage_arrays.specs.declared.view.LevelArray.TheVariants.{Dimension as OfSize, Ends as OfEnds}
-use Rattle.storage_arrays.specs.declared.view.LevelArray.TheVariants.{Coordinates as OfCoordinates, Width as OfWidth}
-use Rattle.storage_arrays.specs.Views.{Lent, words_in, array_of}
-use Rattle.storage_arrays.proofs.Holding.{words_hold}
+use Rattle.level_core.specs.declared.arrays.LevelArray.{LevelArray}
+use Rattle.level_core.specs.declared.arrays.LevelArray.TheVariants.{Dimension as OfSize, Ends as OfEnds}
+use Rattle.level_core.specs.declared.arrays.LevelArray.TheVariants.{Coordinates as OfCoordinates, Width as OfWidth}
+use Rattle.level_core.specs.Arrays.{array_of}
+use Rattle.tensor_storage.specs.Laws.{laws}
+use Rattle.tensor_storage.specs.Levels.{meaning}
 use Rattle.lent_arrays.specs.declared.lent.LentArrays.{LentArrays}
 use Rattle.lent_arrays.specs.declared.lent.Operand.{Operand}
 use Rattle.lent_arrays.specs.Lent.{numbered, words_of_level, words_of_operand, values_of_operand, one_word, lent_array}
@@ -106,16 +107,15 @@ tail_same : {X : Type 0} (x y : X) (xs ys : List X) → x ∷ xs ≡ y ∷ ys �
 tail_same x y xs ys h = cc
 
 -- the levels of an operand are held
-are_held : (ls : List StorageLevel) (vs : List Lent) (tensor k : ℕ) (a : Arrays) → map (λ (v : Lent). v.level) vs ≡ ls
+are_held : (ls vs : List StorageLevel) (tensor k : ℕ) (a : Arrays) → vs ≡ ls
     → ((array : LevelArray) (i : ℕ) → a (array_of array tensor (k + i)) ≡ words_of_level array (slice_get vs i))
     → AreHeld ls tensor k a
 are_held [] vs tensor k a same h = tt
 are_held (l ∷ ls) [] tensor k a same h = absurd (cc)
 are_held (l ∷ ls) (v ∷ vs) tensor k a same h = (
-  words_hold l tensor k a (λ array words is.
-      ap (λ j. a (array_of array tensor j)) here ∙ h array 0
-      ∙ ap (words_in array) (head_same v.level l (map (λ (v : Lent). v.level) vs) ls same) ∙ is),
-  are_held ls vs tensor (suc k) a (tail_same v.level l (map (λ (v : Lent). v.level) vs) ls same)
+  laws.words_hold l tensor k a (λ array words is.
+      ap (λ j. a (array_of array tensor j)) here ∙ h array 0 ∙ ap (λ m. meaning.words m array) (head_same v l vs ls same) ∙ is),
+  are_held ls vs tensor (suc k) a (tail_same v l vs ls same)
       (λ array i. ap (λ j. a (array_of array tensor j)) (next i) ∙ h array (suc i)),
 )
   where
@@ -134,7 +134,7 @@ operands_held (t ∷ ts) [] tensor a same h values = absurd (cc)
 operands_held (t ∷ ts) (o ∷ os) tensor a same h values =
     let is : lent_of o ≡ parts_of t = head_same (lent_of o) (parts_of t) (map lent_of os) (map parts_of ts) same in (
       record {
-        levels = are_held t.levels o.levels.items tensor 1 a (ap (λ (p : Parts). p.levels) is)
+        levels = are_held t.levels o.levels.now tensor 1 a (ap (λ (p : Parts). p.levels) is)
             (λ array i. ap (λ j. a (array_of array j (1 + i))) here ∙ h array 0 (1 + i) ∙ numbers i array);
         values = ap (λ j. a (Values j)) here ∙ values 0 ∙ ap (λ (p : Parts). Some p.values) is;
       },
@@ -150,8 +150,8 @@ operands_held (t ∷ ts) (o ∷ os) tensor a same h values =
     next i = omega arith
 
     numbers : (i : ℕ) (array : LevelArray)
-        → words_of_level array (numbered o.levels.items (1 + i)) ≡ words_of_level array (slice_get o.levels.items i)
-    numbers i array = let one : 1 + i ≡ suc i = omega arith in ap (λ j. words_of_level array (numbered o.levels.items j)) one
+        → words_of_level array (numbered o.levels.now (1 + i)) ≡ words_of_level array (slice_get o.levels.now i)
+    numbers i array = let one : 1 + i ≡ suc i = omega arith in ap (λ j. words_of_level array (numbered o.levels.now j)) one
 
 -- a machine that has nothing of its own
 pub record IsNew (m : Machine) (lent : LentArrays) : Type 0 where

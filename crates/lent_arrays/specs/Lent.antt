@@ -1,12 +1,13 @@
 -- The arrays that a kernel only reads: the ranges, the ranges of the result's levels, and what is stored of each operand.
-use Rattle.std.specs.Prelude.{ℕ, zero, suc, Bool, true, false, List, [], ◌∷◌, Option, Some, None, slice_get}
+use Rattle.std.specs.Prelude.{ℕ, zero, suc, List, [], ◌∷◌, Option, Some, None, slice_get}
 use Rattle.kernel_code.specs.declared.syntax.Arr.{Arr}
 use Rattle.kernel_code.specs.declared.syntax.Arr.TheVariants.{Range, Values, Dimension, Ends, Coordinates, Width, Key, Sums}
 use Rattle.kernel_code.specs.declared.syntax.Arr.TheVariants.{ListCoordinates, ListPositions}
-use Rattle.storage_arrays.specs.declared.view.LevelArray.{LevelArray}
-use Rattle.storage_arrays.specs.Views.{Lent, words_in}
-use Rattle.storage_arrays.specs.declared.view.LevelArray.TheVariants.{Dimension as OfSize, Ends as OfEnds}
-use Rattle.storage_arrays.specs.declared.view.LevelArray.TheVariants.{Coordinates as OfCoordinates, Width as OfWidth}
+use Rattle.level_core.specs.declared.arrays.LevelArray.{LevelArray}
+use Rattle.level_core.specs.declared.arrays.LevelArray.TheVariants.{Dimension as OfSize, Ends as OfEnds}
+use Rattle.level_core.specs.declared.arrays.LevelArray.TheVariants.{Coordinates as OfCoordinates, Width as OfWidth}
+use Rattle.tensor_storage.specs.declared.level.StorageLevel.{StorageLevel}
+use Rattle.tensor_storage.specs.Levels.{meaning}
 use Rattle.lent_arrays.specs.declared.lent.Operand.{Operand}
 use Rattle.lent_arrays.specs.declared.lent.LentArrays.{LentArrays}
 
@@ -15,20 +16,15 @@ abbrev pub numbered : {X : Type 0} → List X → ℕ → Option X
 numbered xs zero = None
 numbered xs (suc n) = slice_get xs n
 
--- whether there are words
-abbrev pub is_there : Option (List ℕ) → Bool
-is_there None = false
-is_there (Some words) = true
-
 -- the words of an array of a level, where the level is there and has the array
-abbrev pub words_of_level : LevelArray → Option Lent → Option (List ℕ)
+abbrev pub words_of_level : LevelArray → Option StorageLevel → Option (List ℕ)
 words_of_level array None = None
-words_of_level array (Some l) = words_in array l.level
+words_of_level array (Some l) = meaning.words l array
 
 -- the same of the level of this number of an operand
 abbrev pub words_of_operand : LevelArray → ℕ → Option Operand → Option (List ℕ)
 words_of_operand array level None = None
-words_of_operand array level (Some o) = words_of_level array (numbered o.levels.items level)
+words_of_operand array level (Some o) = words_of_level array (numbered o.levels.now level)
 
 abbrev pub values_of_operand : Option Operand → Option (List ℕ)
 values_of_operand None = None

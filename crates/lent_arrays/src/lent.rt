@@ -1,91 +1,23 @@
 //! The arrays that a kernel only reads, lent by those that have them.
 ghost use Rattle.std.specs.Prelude.{◌≡◌, Some, option_map};
 ghost use Rattle.kernel_code.specs.Meaning.{word_at, length_of};
-ghost use Rattle.storage_arrays.specs.Arrays.{IsDone};
-ghost use Rattle.storage_arrays.specs.Views.{words_in, lent};
-ghost use Rattle.lent_arrays.specs.Lent.{is_there, words_of_operand, values_of_operand, one_word, dimension_of, lent_array, numbered};
+ghost use Rattle.lent_arrays.specs.Lent.{words_of_operand, values_of_operand, one_word, dimension_of, lent_array, numbered};
 
 use kernel_code::Arr;
-use std::marker::Model;
-use storage_arrays::{LevelArray, LevelArrays};
+use level_core::{Level, LevelArray};
 use tensor_storage::StorageLevel;
-
-/// A finished level below so many parents.
-#[derive(Drop)]
-pub struct LentLevel<'a> {
-    level: &'a StorageLevel,
-    parents: u64,
-}
-
-impl<'a> Model for LentLevel<'a> {
-    ghost use Rattle.storage_arrays.specs.Arrays.{IsDone};
-    ghost use Rattle.storage_arrays.specs.Views.{Lent, lent};
-
-    ghost Value = { Lent };
-
-    ghost view = { λ l. lent l.level.now l.parents };
-
-    ghost invariant = { λ l. IsDone l.parents l.level.now };
-}
-
-/// Whether a level has an array.
-fn has_array(level: &StorageLevel, array: LevelArray) -> bool
-    ensures { result ≡ is_there (words_in array level.now) }
-{
-    match level {
-        StorageLevel::Dense(_) => matches!(array, LevelArray::Dimension),
-        StorageLevel::Compressed(_) => matches!(array, LevelArray::Ends | LevelArray::Coordinates),
-        StorageLevel::Singleton(_) => matches!(array, LevelArray::Coordinates),
-        StorageLevel::Hashed(_) => matches!(array, LevelArray::Width | LevelArray::Coordinates),
-    }
-}
-
-impl<'a> LentLevel<'a> {
-    /// A level below so many parents.
-    pub fn new(level: &'a StorageLevel, parents: u64) -> LentLevel<'a>
-        requires { IsDone parents level.now }
-        ensures { result ≡ lent level.now parents }
-    {
-        LentLevel { level, parents }
-    }
-
-    /// The number of words of an array, where the level has it.
-    fn length(&self, array: LevelArray) -> Option<u64>
-        ensures { result ≡ length_of (words_in array self.now.level) }
-    {
-        if !has_array(self.level, array) {
-            return None;
-        }
-        let arrays = LevelArrays::new(self.level, self.parents);
-        Some(arrays.len(array))
-    }
-
-    /// The word of an array at a place, where the level has it.
-    fn word(&self, array: LevelArray, at: u64) -> Option<u64>
-        ensures { result ≡ word_at (words_in array self.now.level) (Some at) }
-    {
-        if !has_array(self.level, array) {
-            return None;
-        }
-        let arrays = LevelArrays::new(self.level, self.parents);
-        if at >= arrays.len(array) {
-            return None;
-        }
-        Some(arrays.word(array, at))
-    }
-}
 
 /// What is lent of an operand: its levels from the top, and its values.
 #[derive(Drop)]
 pub struct Operand<'a> {
-    pub levels: Vec<LentLevel<'a>>,
+    pub levels: &'a [StorageLevel],
     pub values: &'a [u64],
 }
 
 impl<'a> Operand<'a> {
     /// The level of a number, of which the top one is 1.
-    fn level(&self, level: u64) -> Option<&LentLevel<'a>>
-        ensures { option_map (λ l. l.now) result ≡ numbered self.now.levels.items level }
+    fn level(&self, level: u64) -> Option<&StorageLevel>
+        ensures { option_map (λ l. l.now) result ≡ numbered self.now.levels.now level }
     {
         if level == 0 {
             return None;
@@ -98,7 +30,7 @@ impl<'a> Operand<'a> {
     {
         match self.level(level) {
             None => None,
-            Some(level) => level.length(array),
+            Some(level) => level.array_len(array),
         }
     }
 
@@ -107,7 +39,7 @@ impl<'a> Operand<'a> {
     {
         match self.level(level) {
             None => None,
-            Some(level) => level.word(array, at),
+            Some(level) => level.array_word(array, at),
         }
     }
 }

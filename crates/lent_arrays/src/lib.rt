@@ -4,4 +4,4 @@
 
 mod lent;
 
-pub use lent::{LentArrays, LentLevel, Operand};
+pub use lent::{LentArrays, Operand};

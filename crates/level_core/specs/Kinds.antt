@@ -1,11 +1,12 @@
 -- The kinds of levels: their properties and capabilities, and what the properties say of entries.
-use Rattle.std.specs.Prelude.{◌≡◌, ℕ, ◌+◌, ◌-◌, ◌*◌, ◌≤◌, ◌<◌, true, false, if◌then◌else◌, List, length, Option, Some, None}
+use Rattle.std.specs.Prelude.{◌≡◌, ℕ, suc, ◌+◌, ◌-◌, ◌*◌, ◌≤◌, ◌<◌, true, false, if◌then◌else◌, List, length, Option, Some, None}
 use Rattle.limits.specs.Limits.{greatest_position_count}
 pub use Rattle.level_core.specs.declared.letter.Letter.{Letter}
 pub use Rattle.level_core.specs.declared.letter.Letter.TheVariants.{Dense, Compressed, CompressedGroups, Singleton, SingletonGroups, Hashed}
 pub use Rattle.level_core.specs.declared.letter.Properties.{Properties}
 pub use Rattle.level_core.specs.declared.letter.Capabilities.{Capabilities}
 use Rattle.kernel_code.specs.Widths.{slot_width}
+use Rattle.level_core.specs.Arrays.{LevelArray, OfEnds, OfCoordinates, OfWidth}
 use Rattle.level_core.specs.Entries.{Span, Entry, Placed, Tiles, Rising, AllBelow, Lacks, Distinct, Single, position_of}
 
 abbrev pub properties : Letter → Properties
@@ -56,6 +57,19 @@ positions_for SingletonGroups n parents most = 0
 -- how many positions a level of a kernel's result has as the run starts, below so many parents: a dense one all of them, any other none
 abbrev pub parents_below : Letter → ℕ → ℕ → ℕ
 parents_below letter size parents = if (properties letter).full then parents * size else 0
+
+-- how many zeros stand in an array of a level of a kernel's result as the run starts, below so many parents, if it is one that the run
+-- makes: segment ends stand as numbers of positions behind a zero, and other arrays have no word yet
+abbrev pub zeros_at_start : Letter → LevelArray → ℕ → Option ℕ
+zeros_at_start Compressed OfEnds parents = Some (suc parents)
+zeros_at_start Compressed OfCoordinates parents = Some 0
+zeros_at_start CompressedGroups OfEnds parents = Some (suc parents)
+zeros_at_start CompressedGroups OfCoordinates parents = Some 0
+zeros_at_start Singleton OfCoordinates parents = Some 0
+zeros_at_start SingletonGroups OfCoordinates parents = Some 0
+zeros_at_start Hashed OfWidth parents = Some 0
+zeros_at_start Hashed OfCoordinates parents = Some 0
+zeros_at_start _ _ parents = None
 
 -- a level that coordinates can be inserted into may be prepared, once where that settles its width, for coordinates within the
 -- limit below each parent

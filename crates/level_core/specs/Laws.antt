@@ -4,6 +4,7 @@ use Rattle.limits.specs.Limits.{greatest_position_count}
 use Rattle.kernel_code.specs.declared.syntax.Arr.{Arr}
 use Rattle.kernel_code.specs.declared.syntax.Arr.TheVariants.{Dimension, Ends, Coordinates, Width}
 use Rattle.kernel_code.specs.Arrays.{same_arr}
+use Rattle.level_core.specs.Arrays.{LevelArray, array_of}
 use Rattle.level_core.specs.Entries.{Span, AreInRow, one}
 use Rattle.level_core.specs.Kinds.{Letter, Dense, Compressed, CompressedGroups, Singleton, SingletonGroups, Hashed, properties}
 use Rattle.level_core.specs.Kinds.{capabilities, positions_for, AreEntries, MayPrepare, MayInsert}
@@ -48,6 +49,10 @@ pub record Laws {L : Type 0} (means : Meaning L) : Type 0 where
   -- what a level's arrays are depends on those of that level of that tensor alone
   pub held_there : (l : L) (tensor level : ℕ) (a b : Arrays) → ((x : Arr) → IsOf tensor level x → b x ≡ a x)
       → means.holds l tensor level a → means.holds l tensor level b
+  -- arrays that have the words of each array of a level hold it
+  pub words_hold : (l : L) (tensor level : ℕ) (arrays : Arrays)
+      → ((array : LevelArray) (words : List ℕ) → means.words l array ≡ Some words → arrays (array_of array tensor level) ≡ Some words)
+      → means.holds l tensor level arrays
   -- the entries below an allowed parent are such as the kind promises
   pub entries : (l : L) (parent : Span) → means.allowed l parent
       → AreEntries (properties (means.kind l)) (means.size l) parent (means.segment_of l parent) (means.entries l parent)
@@ -59,6 +64,11 @@ pub record Laws {L : Type 0} (means : Meaning L) : Type 0 where
       → parent.hi ≡ parent.lo + 1
   -- each of a level's parents may be asked
   pub parents : (l : L) (parents p : ℕ) → means.has_parents l parents → p < parents → means.allowed l (one p)
+  -- the last parent's positions end with the level's
+  pub last_end : (l : L) (parents p : ℕ) → means.has_parents l parents → p + 1 ≡ parents
+      → (means.segment_of l (one p)).hi ≡ means.positions l parents
+  -- without parents there are no positions
+  pub none_without : (l : L) → means.has_parents l 0 → means.positions l 0 ≡ 0
   -- a level that has a width has so many positions below each parent
   pub wide : (l : L) (w : ℕ) (parent : Span) → means.width l ≡ Some w → means.allowed l parent
       → (means.segment_of l parent).hi ≡ (means.segment_of l parent).lo + w

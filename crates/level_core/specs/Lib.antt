@@ -1,3 +1,4 @@
+pub mod Arrays
 pub mod Codes
 pub mod EdgeLaws
 pub mod Entries

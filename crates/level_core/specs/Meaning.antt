@@ -2,6 +2,7 @@
 use Rattle.std.specs.Prelude.{◌≡◌, ◌≢◌, ℕ, ◌+◌, ◌-◌, ◌*◌, ◌≤◌, ◌<◌, true, false, List, [], Option, Some}
 use Rattle.kernel_code.specs.declared.syntax.Arr.{Arr}
 use Rattle.kernel_code.specs.Widths.{slot_width}
+use Rattle.level_core.specs.Arrays.{LevelArray}
 use Rattle.level_core.specs.Entries.{Span, Entry, IsIn, Gains, FirstFree, one}
 use Rattle.level_core.specs.Kinds.{Letter, properties, positions_for}
 use Rattle.level_core.specs.Logs.{Log, Rises, slice, segment_in, entries_between, finished}
@@ -22,8 +23,12 @@ pub record Meaning (L : Type 0) : Type 1 where
   pub width : L → Option ℕ
   -- the arrays of this level of this tensor are those of the level
   pub holds : L → ℕ → ℕ → Arrays → Type 0
+  -- the words of each array that the level has, as a kernel has them
+  pub words : L → LevelArray → Option (List ℕ)
   -- the level's making is done, and its parents are the positions below this number
   pub has_parents : L → ℕ → Type 0
+  -- how many positions so many parents have, where the level has so many
+  pub positions : L → ℕ → ℕ
   -- the span of positions of the level above may be asked for its entries
   pub allowed : L → Span → Type 0
   -- the positions below an allowed parent

@@ -1,5 +1,7 @@
-ghost use Rattle.std.specs.Prelude.{◌≡◌, ◌<◌, ◌^◌};
-ghost use Rattle.level_core.specs.Kinds.{properties, capabilities, parents_below};
+ghost use Rattle.std.specs.Prelude.{◌≡◌, ◌<◌, ◌^◌, suc};
+ghost use Rattle.level_core.specs.Kinds.{properties, capabilities, parents_below, zeros_at_start};
+
+use crate::arrays::LevelArray;
 
 /// A kind of level. Formats name it by a letter.
 #[derive(Clone, Copy, Debug, PartialEq, Eq, Drop)]
@@ -89,5 +91,29 @@ pub fn positions_at_start(letter: Letter, size: u64, parents: u64) -> u64
     match letter {
         Letter::Dense => parents * size,
         _ => 0,
+    }
+}
+
+/// How many zeros stand in an array of a level of a kernel's result as the run starts, below so many parents, if it is one that the
+/// run makes: the range of a dense level is lent.
+pub fn zeros_at_start(letter: Letter, array: LevelArray, parents: u64) -> Option<u64>
+    requires { suc parents < 2 ^ 64 }
+    ensures { result ≡ zeros_at_start letter array parents }
+{
+    match letter {
+        Letter::Dense => None,
+        Letter::Compressed | Letter::CompressedGroups => match array {
+            LevelArray::Ends => Some(parents + 1),
+            LevelArray::Coordinates => Some(0),
+            LevelArray::Dimension | LevelArray::Width => None,
+        },
+        Letter::Singleton | Letter::SingletonGroups => match array {
+            LevelArray::Coordinates => Some(0),
+            LevelArray::Dimension | LevelArray::Ends | LevelArray::Width => None,
+        },
+        Letter::Hashed => match array {
+            LevelArray::Width | LevelArray::Coordinates => Some(0),
+            LevelArray::Dimension | LevelArray::Ends => None,
+        },
     }
 }

@@ -1,4 +1,5 @@
-ghost use Rattle.std.specs.Prelude.{◌≡◌, IfOk, true};
+ghost use Rattle.std.specs.Prelude.{◌≡◌, Some, IfOk, true};
+ghost use Rattle.kernel_code.specs.Meaning.{length_of, word_at};
 ghost use Rattle.level_core.specs.Entries.{Span, Entry, IsIn, StandsAt, coord_at, position_of, one};
 ghost use Rattle.level_core.specs.Kinds.{properties, capabilities};
 ghost use Rattle.level_core.specs.Fragments.{AreArguments};
@@ -7,6 +8,7 @@ ghost use Rattle.level_core.specs.Laws.{Laws};
 ghost use Rattle.level_core.specs.Codes.{SegmentCode, CoordCode, ChildCode, LocateCode, ReserveCode, AppendCode, EdgesCode};
 ghost use Rattle.level_core.specs.Codes.{PrepareCode, InsertCode};
 
+use crate::arrays::LevelArray;
 use crate::letter::{Capabilities, Letter, Properties, caps_of, props_of};
 use crate::span::{Entry, Span};
 use kernel_code::{KExpr, KStmt};
@@ -189,4 +191,12 @@ pub trait Level: LevelKind {
         requires { Self.meaning.allowed self.now (one parent) }
         ensures { (capabilities (Self.meaning.kind self.now)).locate ≡ true
             → result ≡ position_of (Self.meaning.entries self.now (one parent)) x };
+
+    /// The number of words of an array, if the level has it.
+    fn array_len(&self, array: LevelArray) -> Option<u64>
+        ensures { result ≡ length_of (Self.meaning.words self.now array) };
+
+    /// The word of an array at a place, counted from 0, if it is there.
+    fn array_word(&self, array: LevelArray, at: u64) -> Option<u64>
+        ensures { result ≡ word_at (Self.meaning.words self.now array) (Some at) };
 }

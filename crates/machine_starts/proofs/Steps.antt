@@ -1,15 +1,37 @@
 -- One step of each list from which arrays are begun.
-use Rattle.std.specs.Prelude.{◌≡◌, ℕ, zero, suc, ◌+◌, ◌<◌, ◌≤◌, List, [], ◌∷◌, length, drop, replicate, slice_index_or, refl}
+use Rattle.std.specs.Prelude.{◌≡◌, ℕ, zero, suc, ◌+◌, ◌<◌, ◌≤◌, true, List, [], ◌∷◌, length, drop, replicate}
+use Rattle.std.specs.Prelude.{slice_index_or, Some, refl}
 use Rattle.std.proofs.Common.{◌∙◌, sym, ap, subst, arith}
 use Rattle.kernel_code.specs.declared.syntax.Arr.TheVariants.{Values}
+use Rattle.kernel_code.specs.Arrays.{may_write}
 use Rattle.kernel_code.specs.Meaning.{State, set_array}
 use Rattle.format_spec.specs.declared.format.FormatLevel.{FormatLevel}
 use Rattle.format_spec.specs.Formats.{letters_of}
 use Rattle.machine_starts.specs.Begun.{begun, begun_result, IsFew}
-use Rattle.level_core.specs.Kinds.{parents_below}
+use Rattle.level_core.specs.declared.arrays.LevelArray.{LevelArray}
+use Rattle.level_core.specs.declared.arrays.LevelArray.TheVariants.{Dimension as OfSize, Ends as OfEnds}
+use Rattle.level_core.specs.declared.arrays.LevelArray.TheVariants.{Coordinates as OfCoordinates, Width as OfWidth}
+use Rattle.level_core.specs.Arrays.{array_of}
+use Rattle.level_core.specs.declared.letter.Letter.{Letter}
+use Rattle.level_core.specs.declared.letter.Letter.TheVariants.{Dense, Compressed, CompressedGroups, Singleton, SingletonGroups, Hashed}
+use Rattle.level_core.specs.Kinds.{parents_below, zeros_at_start}
 
-pub one_more_zero : (n x : ℕ) → replicate (n + 1) x ≡ x ∷ replicate n x
-one_more_zero n x = let e : n + 1 ≡ suc n = omega arith in ap (λ k. replicate k x) e
+-- no range of a level is made
+no_size : (letter : Letter) (parents count : ℕ) → zeros_at_start letter OfSize parents ≡ Some count → ⊥
+no_size Dense parents count h = cc
+no_size Compressed parents count h = cc
+no_size CompressedGroups parents count h = cc
+no_size Singleton parents count h = cc
+no_size SingletonGroups parents count h = cc
+no_size Hashed parents count h = cc
+
+-- what is made may be written
+pub writable : (letter : Letter) (array : LevelArray) (parents level count : ℕ) → zeros_at_start letter array parents ≡ Some count
+    → may_write (array_of array 0 level) ≡ true
+writable letter OfSize parents level count h = absurd (no_size letter parents count h)
+writable letter OfEnds parents level count h = refl
+writable letter OfWidth parents level count h = refl
+writable letter OfCoordinates parents level count h = refl
 
 pub drop_here : {X : Type 0} (xs : List X) (i : ℕ) (d : X) → i < length xs → drop i xs ≡ slice_index_or xs i d ∷ drop (suc i) xs
 drop_here [] i d l = absurd (omega arith)

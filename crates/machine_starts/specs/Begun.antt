@@ -1,23 +1,30 @@
 -- The arrays that a run starts with, step by step: of the result's levels, its values, workspaces and scratch lists.
-use Rattle.std.specs.Prelude.{◌≡◌, ℕ, zero, suc, ◌*◌, ◌≤◌, if◌then◌else◌, List, [], ◌∷◌, replicate, Some}
+use Rattle.std.specs.Prelude.{◌≡◌, ℕ, zero, suc, ◌*◌, ◌≤◌, List, [], ◌∷◌, replicate, Option, Some, None}
 use Rattle.limits.specs.Limits.{greatest_position_count}
-use Rattle.kernel_code.specs.declared.syntax.Arr.TheVariants.{Values, Dimension, Ends, Coordinates, Width, Key, Sums, ListCoordinates}
+use Rattle.kernel_code.specs.declared.syntax.Arr.TheVariants.{Values, Dimension, Key, Sums, ListCoordinates}
 use Rattle.kernel_code.specs.declared.syntax.Arr.TheVariants.{ListPositions}
 use Rattle.kernel_code.specs.Meaning.{State, set_array}
 use Rattle.level_core.specs.declared.letter.Letter.{Letter}
-use Rattle.level_core.specs.declared.letter.Letter.TheVariants.{Dense, Compressed, CompressedGroups, Singleton, SingletonGroups, Hashed}
-use Rattle.level_core.specs.Kinds.{parents_below}
+use Rattle.level_core.specs.declared.arrays.LevelArray.{LevelArray}
+use Rattle.level_core.specs.declared.arrays.LevelArray.TheVariants.{Ends as OfEnds, Coordinates as OfCoordinates, Width as OfWidth}
+use Rattle.level_core.specs.Arrays.{array_of}
+use Rattle.level_core.specs.Kinds.{parents_below, zeros_at_start}
 use Rattle.level_core.specs.Laws.{AreAtStart}
 use Rattle.level_core.specs.Meaning.{Arrays}
 
+-- zeros in an array of the level of this number, where there are some
+abbrev pub filled_with : Option ℕ → LevelArray → ℕ → State → State
+filled_with None array level s = s
+filled_with (Some count) array level s = set_array s (array_of array 0 level) (replicate count 0)
+
+-- an array of a level of this kind, below so many parents, as it starts, if it is one that the run makes
+abbrev pub with_zeros : Letter → LevelArray → ℕ → ℕ → State → State
+with_zeros letter array parents level s = filled_with (zeros_at_start letter array parents) array level s
+
 -- a level of the result with its arrays as they start
 abbrev pub begun : Letter → ℕ → ℕ → State → State
-begun Dense parents level s = s
-begun Compressed parents level s = set_array (set_array s (Ends 0 level) (0 ∷ replicate parents 0)) (Coordinates 0 level) []
-begun CompressedGroups parents level s = set_array (set_array s (Ends 0 level) (0 ∷ replicate parents 0)) (Coordinates 0 level) []
-begun Singleton parents level s = set_array s (Coordinates 0 level) []
-begun SingletonGroups parents level s = set_array s (Coordinates 0 level) []
-begun Hashed parents level s = set_array (set_array s (Width 0 level) []) (Coordinates 0 level) []
+begun letter parents level s =
+    with_zeros letter OfCoordinates parents level (with_zeros letter OfWidth parents level (with_zeros letter OfEnds parents level s))
 
 -- no dense level that has dense levels alone above it has more positions than may be
 abbrev pub IsFew : List Letter → List ℕ → ℕ → Type 0

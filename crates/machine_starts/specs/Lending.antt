@@ -1,5 +1,5 @@
 -- What is lent of operands.
-use Rattle.std.specs.Prelude.{ℕ, List, map}
+use Rattle.std.specs.Prelude.{ℕ, List}
 use Rattle.lent_arrays.specs.declared.lent.Operand.{Operand}
 use Rattle.tensor_storage.specs.declared.level.StorageLevel.{StorageLevel}
 use Rattle.tensor_storage.specs.Storages.{Storage}
@@ -11,7 +11,7 @@ pub record Parts : Type 0 where
 
 -- those that are lent of an operand
 abbrev pub lent_of : Operand → Parts
-lent_of o = record { levels = map (λ l. l.level) o.levels.items; values = o.values.now }
+lent_of o = record { levels = o.levels.now; values = o.values.now }
 
 -- those of what is stored
 abbrev pub parts_of : Storage → Parts

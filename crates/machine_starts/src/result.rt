@@ -4,43 +4,35 @@ ghost use Rattle.limits.specs.Limits.{greatest_position_count};
 ghost use Rattle.level_core.specs.declared.letter.Letter.{Letter};
 ghost use Rattle.format_spec.specs.Formats.{letters_of};
 ghost use Rattle.kernel_steps.specs.Store.{state_of};
-ghost use Rattle.machine_starts.specs.Begun.{begun, begun_result, IsFew};
+ghost use Rattle.machine_starts.specs.Begun.{begun, begun_result, with_zeros, IsFew};
 
-use crate::empty::add_empty;
 use format_spec::FormatLevel;
 use kernel_code::Arr;
 use kernel_steps::Machine;
-use level_core::{Letter, positions_at_start};
+use level_core::{Letter, LevelArray, positions_at_start, zeros_at_start};
 use seg_buffer::Segment;
 use std::alloc::{AllocError, Global};
 
-fn begin_compressed(
+/// An array of a level of a kind, below so many parents, if it is one that the run makes.
+fn begin_array(
     machine: &mut Machine,
     alloc: Global,
+    letter: Letter,
+    array: LevelArray,
     level: u64,
     parents: u64,
 ) -> Result<(), AllocError>
     requires { parents ≤ greatest_position_count }
-    ensures { OnOk result (state_of machine.new ≡ begun Letter.Compressed parents level (state_of machine.old)) }
+    ensures { OnOk result (state_of machine.new ≡ with_zeros letter array parents level (state_of machine.old)) }
 {
-    let ends = Segment::filled(alloc, parents as usize + 1, 0)?;
-    machine.add_array(Arr::Ends(0, level), ends)?;
-    add_empty(machine, alloc, Arr::Coordinates(0, level))?;
-    Ok(())
-}
-
-fn begin_singleton(machine: &mut Machine, alloc: Global, level: u64) -> Result<(), AllocError>
-    ensures { OnOk result (state_of machine.new ≡ begun Letter.Singleton 0 level (state_of machine.old)) }
-{
-    add_empty(machine, alloc, Arr::Coordinates(0, level))
-}
-
-fn begin_hashed(machine: &mut Machine, alloc: Global, level: u64) -> Result<(), AllocError>
-    ensures { OnOk result (state_of machine.new ≡ begun Letter.Hashed 0 level (state_of machine.old)) }
-{
-    add_empty(machine, alloc, Arr::Width(0, level))?;
-    add_empty(machine, alloc, Arr::Coordinates(0, level))?;
-    Ok(())
+    match zeros_at_start(letter, array, parents) {
+        None => Ok(()),
+        Some(count) => {
+            let zeros = Segment::filled(alloc, count as usize, 0)?;
+            machine.add_array(array.named(0, level), zeros)?;
+            Ok(())
+        }
+    }
 }
 
 /// The arrays of a level of a kind, below so many parents.
@@ -54,14 +46,10 @@ fn begin_level(
     requires { parents ≤ greatest_position_count }
     ensures { OnOk result (state_of machine.new ≡ begun letter parents level (state_of machine.old)) }
 {
-    match letter {
-        Letter::Dense => Ok(()),
-        Letter::Compressed | Letter::CompressedGroups => {
-            begin_compressed(machine, alloc, level, parents)
-        }
-        Letter::Singleton | Letter::SingletonGroups => begin_singleton(machine, alloc, level),
-        Letter::Hashed => begin_hashed(machine, alloc, level),
-    }
+    begin_array(machine, alloc, letter, LevelArray::Ends, level, parents)?;
+    begin_array(machine, alloc, letter, LevelArray::Width, level, parents)?;
+    begin_array(machine, alloc, letter, LevelArray::Coordinates, level, parents)?;
+    Ok(())
 }
 
 /// The arrays of a result of these levels and their ranges, and its values, each of which is nothing. Refused for want of memory alone.

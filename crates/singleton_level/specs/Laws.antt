@@ -9,6 +9,7 @@ use Rattle.kernel_code.specs.declared.syntax.Arr.TheVariants.{Coordinates}
 use Rattle.level_core.specs.declared.span.Span.{Span}
 use Rattle.level_core.specs.declared.stage.Stage.TheVariants.{Fresh, Unfinished, Finished}
 use Rattle.level_core.specs.declared.letter.Letter.TheVariants.{Singleton, SingletonGroups}
+use Rattle.level_core.specs.declared.arrays.LevelArray.TheVariants.{Coordinates as OfCoordinates}
 use Rattle.level_core.specs.Entries.{one, span, AreInRow, coord_at}
 use Rattle.level_core.specs.Kinds.{properties, AreEntries}
 use Rattle.level_core.specs.Logs.{Log, total, ungiven, with_parents, segment_in, Rises, slice, IsLog, MayFinish}
@@ -213,10 +214,13 @@ many_or_one b h g = cc
 pub laws : Laws meaning
 laws = record {
   held_there = holds_there;
+  words_hold = λ l tensor level arrays has. has OfCoordinates l.coords refl;
   entries = are_entries;
   in_row = in_row;
   one_parent = λ l parent ok many. absurd (many_or_one (properties (letter_of l.unique)).branchless (branchless l.unique) many);
   parents = parent_allowed;
+  last_end = λ l parents p has last. last ∙ sym has.count ∙ sym (has.keeps.given has.finished);
+  none_without = λ l has. has.keeps.given has.finished ∙ has.count;
   wide = λ l w parent has ok. none_some w has;
   logs = logs_are;
   prepares = λ l m parents most keeps may within is. absurd is;

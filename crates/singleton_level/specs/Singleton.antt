@@ -1,5 +1,5 @@
 -- A singleton level: one coordinate for each position of the level above, at the same position.
-use Rattle.std.specs.Prelude.{◌≡◌, ◌≢◌, ℕ, ◌≤◌, Bool, List, [], length, replicate, Some, None}
+use Rattle.std.specs.Prelude.{◌≡◌, ◌≢◌, ℕ, ◌≤◌, Bool, List, [], length, replicate, Option, Some, None}
 use Rattle.limits.specs.Limits.{greatest_position_count}
 use Rattle.level_core.specs.declared.span.Span.{Span}
 use Rattle.level_core.specs.declared.span.Entry.{Entry}
@@ -7,6 +7,8 @@ use Rattle.level_core.specs.declared.letter.Letter.{Letter}
 use Rattle.level_core.specs.declared.letter.Letter.TheVariants.{Singleton, SingletonGroups}
 use Rattle.level_core.specs.declared.stage.Stage.{Stage}
 use Rattle.level_core.specs.declared.stage.Stage.TheVariants.{Fresh, Unfinished, Finished}
+use Rattle.level_core.specs.declared.arrays.LevelArray.{LevelArray}
+use Rattle.level_core.specs.declared.arrays.LevelArray.TheVariants.{Coordinates as OfCoordinates}
 use Rattle.level_core.specs.Logs.{Log, Rises, slice, entries_between}
 use Rattle.level_core.specs.GroupLaws.{CoordsBelow}
 use Rattle.level_core.specs.Meaning.{Arrays, Meaning}
@@ -73,6 +75,11 @@ entries_of l parent = entries_between l.coords parent
 abbrev pub Holds : SingletonLevel → ℕ → ℕ → Arrays → Type 0
 Holds l tensor level arrays = arrays (Coordinates tensor level) ≡ Some l.coords
 
+-- the words of it
+abbrev pub words_of : SingletonLevel → LevelArray → Option (List ℕ)
+words_of l OfCoordinates = Some l.coords
+words_of l _ = None
+
 abbrev pub meaning : Meaning SingletonLevel
 meaning = record {
   kind = λ l. letter_of l.unique;
@@ -80,7 +87,9 @@ meaning = record {
   size = λ l. l.size;
   width = λ l. None;
   holds = Holds;
+  words = words_of;
   has_parents = HasParents;
+  positions = λ l parents. length l.coords;
   allowed = IsAllowed;
   segment_of = segment_of;
   entries = entries_of;

@@ -1,5 +1,5 @@
 use crate::singleton::SingletonLevel;
-use level_core::{Level, Span};
+use level_core::{Level, LevelArray, Span};
 
 impl Level for SingletonLevel {
     fn tell_rules(&self) {
@@ -23,5 +23,19 @@ impl Level for SingletonLevel {
 
     fn locate(&self, _parent: u64, _x: u64) -> Option<u64> {
         None
+    }
+
+    fn array_len(&self, array: LevelArray) -> Option<u64> {
+        match array {
+            LevelArray::Coordinates => Some(self.coords.len()),
+            LevelArray::Dimension | LevelArray::Ends | LevelArray::Width => None,
+        }
+    }
+
+    fn array_word(&self, array: LevelArray, at: u64) -> Option<u64> {
+        match array {
+            LevelArray::Coordinates => self.coords.at(at),
+            LevelArray::Dimension | LevelArray::Ends | LevelArray::Width => None,
+        }
     }
 }

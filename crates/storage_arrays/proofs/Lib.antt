@@ -1,4 +1,2 @@
-pub mod Finished
-pub mod Holding
 pub mod Packed
-pub mod Seen
+mod Parents

@@ -1,10 +1,8 @@
 -- The levels of packed tensors are finished.
 use Rattle.std.specs.Prelude.{◌≡◌, ℕ, zero, suc, ◌+◌, ◌<◌, List, [], ◌∷◌, Some, refl}
-use Rattle.std.proofs.Common.{◌∙◌, sym, ap, subst, arith, lit<, lit≤}
+use Rattle.std.proofs.Common.{◌∙◌, sym, ap, subst, arith}
 use Rattle.std.proofs.Math.Nat.{zero-mul}
-use Rattle.std.proofs.lemmas.Option.{same_Some}
 use Rattle.kernel_code.specs.Widths.{slot_width}
-use Rattle.kernel_code.proofs.Widths.{slot_width_is}
 use Rattle.level_core.specs.declared.letter.Letter.{Letter}
 use Rattle.level_core.specs.declared.letter.Letter.TheVariants.{Dense, Compressed, CompressedGroups, Singleton, SingletonGroups, Hashed}
 use Rattle.level_rows.specs.Stacks.{Column}
@@ -13,8 +11,6 @@ use Rattle.format_spec.specs.Formats.{letters_of}
 use Rattle.tensor_storage.specs.Built.{counts_of, IsBuilt, AreBuilt}
 use Rattle.tensor_storage.specs.Chains.{chain_length}
 use Rattle.tensor_storage.specs.Counts.{different, greatest_below, positions_at, positions_from}
-use Rattle.tensor_storage.specs.declared.level.StorageLevel.TheVariants.{Dense as OfDense, Compressed as OfCompressed}
-use Rattle.tensor_storage.specs.declared.level.StorageLevel.TheVariants.{Singleton as OfSingleton, Hashed as OfHashed}
 use Rattle.tensor_storage.specs.declared.level.StorageLevel.{StorageLevel}
 use Rattle.tensor_storage.specs.Levels.{meaning}
 use Rattle.tensor_storage.specs.Laws.{laws}
@@ -22,7 +18,6 @@ use Rattle.tensor_storage.specs.Storages.{in_level_order}
 use Rattle.tensor_storage.specs.Tables.{Table}
 use Rattle.storage_arrays.specs.Arrays.{positions_in, AreDone}
 use Rattle.storage_arrays.specs.Done.{PackedAreDone}
-use Rattle.storage_arrays.proofs.Finished.{last_end, none_without}
 
 pub heads : (x y : ℕ) (xs ys : List ℕ) → x ∷ xs ≡ y ∷ ys → x ≡ y
 heads x y xs ys h = cc
@@ -44,32 +39,17 @@ none_at table d Singleton letters size none = ap (different table.coords (d + ch
 none_at table d SingletonGroups letters size none = ap (different table.coords (d + chain_length (SingletonGroups ∷ letters))) none
 none_at table d Hashed letters size none = zero-mul (slot_width (greatest_below table.coords d table.count table.count))
 
-two_wide : slot_width 0 ≡ 2
-two_wide = sym (slot_width_is 0 1 (lit≤ tt) (0, refl) (omega arith) (lit< tt))
-
-width_none : (table : Table) (d : ℕ) → table.count ≡ 0 → slot_width (greatest_below table.coords d table.count table.count) ≡ 2
-width_none table d none =
-    ap (λ (n : ℕ). slot_width (greatest_below table.coords d n n)) none ∙ two_wide
-
 module _ (table : Table) where
-  width_is : (l : StorageLevel) (d n : ℕ) (parent : ℕ → ℕ) (parents : ℕ) (column : Column)
-      → IsBuilt meaning table d n parent parents column l → table.count ≡ 0 → (w : ℕ) → meaning.width l ≡ Some w → w ≡ 2
-  width_is (OfDense m) d n parent parents column built none w h = absurd (cc)
-  width_is (OfCompressed l) d n parent parents column built none w h = absurd (cc)
-  width_is (OfSingleton l) d n parent parents column built none w h = absurd (cc)
-  width_is (OfHashed l) d n parent parents column built none w h =
-      same_Some w (slot_width (greatest_below table.coords d table.count table.count)) (sym h ∙ built.width refl)
-      ∙ width_none table d none
-
   pub positions_same : (l : StorageLevel) (d n : ℕ) (parent : ℕ → ℕ) (parents : ℕ) (column : Column) (letter : Letter)
       (letters : List Letter)
       (size : ℕ) → IsBuilt meaning table d n parent parents column l → column.positions ≡ positions_at table d parents letter letters size
       → ((i : ℕ) → i < table.count → parent i < parents) → column.positions ≡ positions_in parents l
   positions_same l d n parent zero column letter letters size built is within =
-      is ∙ none_at table d letter letters size (no_rows table.count parent 0 refl within) ∙ sym (none_without l built.stores.has_parents)
+      is ∙ none_at table d letter letters size (no_rows table.count parent 0 refl within)
+      ∙ sym (laws.none_without l built.stores.has_parents)
   positions_same l d n parent (suc last) column letter letters size built is within =
       let more : last + 1 ≡ suc last = omega arith in
-      sym (built.stores.ends last more) ∙ last_end l (suc last) last built.stores.has_parents more
+      sym (built.stores.ends last more) ∙ laws.last_end l (suc last) last built.stores.has_parents more
 
   done_from : (letters : List Letter) (sizes : List ℕ) (ls : List StorageLevel) (cs : List Column) (d : ℕ) (parent : ℕ → ℕ) (parents : ℕ)
       → AreBuilt meaning table d parent parents letters ls cs → counts_of cs ≡ positions_from table d parents letters sizes
@@ -85,10 +65,7 @@ module _ (table : Table) where
       let is : c.positions ≡ positions = heads c.positions positions (counts_of cs) rest counts in
       let others : counts_of cs ≡ rest = tails c.positions positions (counts_of cs) rest counts in
       let same = positions_same l d n parent parents c letter letters size built.0 is within in (
-        record {
-          has_parents = built.0.stores.has_parents;
-          width = λ none w h. width_is l d n parent parents c built.0 (no_rows table.count parent parents none within) w h;
-        },
+        built.0.stores.has_parents,
         subst (λ (k : ℕ). AreDone k ls) same
             (done_from letters sizes ls cs (suc d) c.place c.positions built.1
             (subst (λ (k : ℕ). counts_of cs ≡ positions_from table (suc d) k letters sizes) (sym is) others)

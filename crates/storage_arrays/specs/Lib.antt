@@ -1,4 +1,2 @@
 pub mod Arrays
 pub mod Done
-pub mod Kinds
-pub mod Views

@@ -17,7 +17,7 @@ use Rattle.storage_arrays.specs.Arrays.{AreDone}
 pub parent_allowed : (levels : List StorageLevel) (l : StorageLevel) (below : List StorageLevel) (parents : ℕ) → levels ≡ l ∷ below
     → AreDone parents levels → (p : ℕ) → p < parents → meaning.allowed l (one p)
 parent_allowed levels l below parents same done p h =
-    laws.parents l parents p (subst (AreDone parents) same done).0.has_parents h
+    laws.parents l parents p (subst (AreDone parents) same done).0 h
 
 -- where coordinates can be located, a parent is one position
 located_alone : (k : Letter) → (capabilities k).locate ≡ true → (properties k).branchless ≡ false

@@ -4,16 +4,14 @@ use Rattle.std.specs.List.{flat_map}
 use Rattle.std.specs.Fmt.{decimal, signed_decimal}
 use Rattle.numbers.specs.Signed.{signed_of}
 use Rattle.level_core.specs.declared.letter.Letter.{Letter}
-use Rattle.level_core.specs.declared.letter.Letter.TheVariants.{Dense, Hashed}
-use Rattle.compressed_level.specs.Compressed as compressed
-use Rattle.singleton_level.specs.Singleton as singleton
-use Rattle.hashed_level.specs.Hashed.{block_width}
+use Rattle.level_core.specs.declared.arrays.LevelArray.{LevelArray}
+use Rattle.level_core.specs.declared.arrays.LevelArray.TheVariants.{Dimension as OfSize, Ends as OfEnds}
+use Rattle.level_core.specs.declared.arrays.LevelArray.TheVariants.{Coordinates as OfCoordinates, Width as OfWidth}
+use Rattle.hashed_level.specs.Slots.{coord_of}
 use Rattle.format_spec.specs.Words.{letter_byte, format_text}
-use Rattle.tensor_storage.specs.declared.level.StorageLevel.TheVariants.{Dense as OfDense, Compressed as OfCompressed}
-use Rattle.tensor_storage.specs.declared.level.StorageLevel.TheVariants.{Singleton as OfSingleton, Hashed as OfHashed}
 use Rattle.tensor_storage.specs.declared.level.StorageLevel.{StorageLevel}
+use Rattle.tensor_storage.specs.Levels.{meaning}
 use Rattle.tensor_storage.specs.Storages.{Storage}
-use Rattle.storage_arrays.specs.Arrays.{ends_in, places_in}
 
 -- a number behind a blank
 abbrev pub number_text : ℕ → List ℕ
@@ -32,23 +30,39 @@ value_text v = codes " " ++ signed_decimal (signed_of v)
 abbrev pub head_text : ℕ → Letter → List ℕ
 head_text number letter = codes "level " ++ (decimal number ++ (codes " " ++ letter_byte letter ∷ []))
 
--- the line of a list of positions
-abbrev pub ends_line : ℕ → Letter → StorageLevel → List ℕ
-ends_line number letter l = head_text number letter ++ (codes " pos" ++ flat_map number_text (ends_in l))
+-- the word that names an array behind a blank; the range of a level has none
+abbrev pub array_text : LevelArray → List ℕ
+array_text OfSize = []
+array_text OfEnds = codes " pos"
+array_text OfWidth = codes " width"
+array_text OfCoordinates = codes " crd"
 
--- the line of a list of coordinates
-abbrev pub places_line : ℕ → Letter → StorageLevel → List ℕ
-places_line number letter l = head_text number letter ++ (codes " crd" ++ flat_map place_text (places_in l))
+-- a word of an array behind a blank; the last word, which empty slots hold, is a minus
+abbrev pub word_text : ℕ → List ℕ
+word_text word = place_text (coord_of word)
 
--- the lines of the level of this number
+-- the line of these words of an array
+abbrev pub words_line : ℕ → Letter → LevelArray → List ℕ → List ℕ
+words_line number letter array words = head_text number letter ++ (array_text array ++ flat_map word_text words)
+
+-- the line of an array, where there is one
+abbrev pub line_of : ℕ → Letter → LevelArray → Option (List ℕ) → List (List ℕ)
+line_of number letter array None = []
+line_of number letter array (Some words) = words_line number letter array words ∷ []
+
+-- the same of an array of the level of this number
+abbrev pub array_lines : ℕ → StorageLevel → LevelArray → List (List ℕ)
+array_lines number l array = line_of number (meaning.kind l) array (meaning.words l array)
+
+-- the words, if there are any
+abbrev pub all_words : Option (List ℕ) → List ℕ
+all_words None = []
+all_words (Some words) = words
+
+-- the lines of the level of this number: of each array that it has
 abbrev pub level_lines : ℕ → StorageLevel → List (List ℕ)
-level_lines number (OfDense n) = (head_text number Dense ++ number_text n) ∷ []
-level_lines number (OfCompressed l) =
-    ends_line number (compressed.letter_of l.unique) (OfCompressed l)
-    ∷ places_line number (compressed.letter_of l.unique) (OfCompressed l) ∷ []
-level_lines number (OfSingleton l) = places_line number (singleton.letter_of l.unique) (OfSingleton l) ∷ []
-level_lines number (OfHashed l) =
-    (head_text number Hashed ++ (codes " width" ++ number_text (block_width l))) ∷ places_line number Hashed (OfHashed l) ∷ []
+level_lines number l =
+    array_lines number l OfSize ++ (array_lines number l OfEnds ++ (array_lines number l OfWidth ++ array_lines number l OfCoordinates))
 
 -- the lines of the levels from the one of this number on
 abbrev pub lines_from : ℕ → List StorageLevel → List (List ℕ)

@@ -1,20 +1,17 @@
 // Lists of numbers, each behind a blank.
-ghost use Rattle.std.specs.Prelude.{◌≡◌, ◌++◌, ◌∷◌, [], false, codes, map};
+ghost use Rattle.std.specs.Prelude.{◌≡◌, ℕ, Some};
 ghost use Rattle.std.specs.Fmt.{signed_decimal};
 ghost use Rattle.std.specs.List.{flat_map};
+ghost use Rattle.kernel_code.specs.Meaning.{length_of, word_at};
 ghost use Rattle.numbers.specs.Signed.{signed_of};
-ghost use Rattle.level_core.specs.Kinds.{properties};
-ghost use Rattle.format_spec.specs.Words.{letter_byte};
 ghost use Rattle.text_lines.specs.Puts.{Prints};
 ghost use Rattle.tensor_storage.specs.Levels.{meaning};
-ghost use Rattle.storage_arrays.specs.Arrays.{ends_in, places_in, positions_in};
-ghost use Rattle.storage_arrays.specs.Kinds.{IsCompressed};
-ghost use Rattle.storage_text.specs.StoreText.{number_text, place_text, value_text, head_text};
+ghost use Rattle.storage_text.specs.StoreText.{number_text, place_text, word_text, value_text, all_words};
 
-use level_core::Letter;
+use hashed_level::coordinate_of;
+use level_core::{Level, LevelArray};
 use numbers::signed;
 use outside::{Refusal, Sink};
-use storage_arrays::{end_at, place_at, positions_of};
 use tensor_storage::StorageLevel;
 use text_lines::{put_all, put_i64, put_u64};
 
@@ -51,34 +48,34 @@ fn put_value<S: Sink>(sink: &mut S, value: u64) -> Result<(), Refusal>
     put_signed(sink, value)
 }
 
-/// Appends the list of segment ends of a compressed level.
-pub(crate) fn put_ends<S: Sink>(
+/// Appends the word of an array at a place, if it is there.
+fn put_word<S: Sink>(
     sink: &mut S,
     level: &StorageLevel,
-    parents: u64,
+    array: LevelArray,
+    at: u64,
 ) -> Result<(), Refusal>
-    requires parents { meaning.has_parents level.now parents }
-    requires kind { IsCompressed (meaning.kind level.now) }
-    ensures { Prints (S.state sink.old) (S.state sink.new) (flat_map number_text (ends_in level.now)) result }
+    ensures { (word : ℕ) → word_at (meaning.words level.now array) (Some at) ≡ Some word
+        → Prints (S.state sink.old) (S.state sink.new) (word_text word) result }
 {
-    for number in 0..parents + 1 {
-        put_number(sink, end_at(level, number))?;
+    match level.array_word(array, at) {
+        None => Ok(()),
+        Some(word) => put_place(sink, coordinate_of(word)),
     }
-    Ok(())
 }
 
-/// Appends what stands at each position of a level that isn't dense.
-pub(crate) fn put_places<S: Sink>(
+/// Appends the words of an array that has so many.
+pub(crate) fn put_words<S: Sink>(
     sink: &mut S,
     level: &StorageLevel,
-    parents: u64,
+    array: LevelArray,
+    count: u64,
 ) -> Result<(), Refusal>
-    requires parents { meaning.has_parents level.now parents }
-    requires kind { (properties (meaning.kind level.now)).full ≡ false }
-    ensures { Prints (S.state sink.old) (S.state sink.new) (flat_map place_text (places_in level.now)) result }
+    requires { length_of (meaning.words level.now array) ≡ Some count }
+    ensures { Prints (S.state sink.old) (S.state sink.new) (flat_map word_text (all_words (meaning.words level.now array))) result }
 {
-    for position in 0..positions_of(level, parents) {
-        put_place(sink, place_at(level, position))?;
+    for at in 0..count {
+        put_word(sink, level, array, at)?;
     }
     Ok(())
 }

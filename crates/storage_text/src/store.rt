@@ -4,7 +4,6 @@ ghost use Rattle.std.specs.Fmt.{decimal};
 ghost use Rattle.outside.specs.Sink.{Appends};
 ghost use Rattle.format_spec.specs.Words.{format_text};
 ghost use Rattle.text_lines.specs.Puts.{AppendsPart, Prints};
-ghost use Rattle.storage_arrays.specs.Arrays.{AreDone};
 ghost use Rattle.storage_text.specs.StoreText.{first_line, values_line, text_of, store_text};
 
 use crate::levels::put_levels;
@@ -57,7 +56,6 @@ pub fn put_store_text<S: Sink>(
     name: &[u8],
     tensor: &Tensor,
 ) -> Result<(), Refusal>
-    requires { AreDone 1 tensor.now.levels }
     ensures whole { OnOk result (Appends (S.state sink.old) (S.state sink.new) (store_text number name.now tensor.now)) }
     ensures part { IfErr result (AppendsPart (S.state sink.old) (S.state sink.new) (store_text number name.now tensor.now)) }
 {

@@ -333,6 +333,12 @@ laws = record {
     | OfSingleton l ↦ singleton_laws.held_there l
     | OfHashed l ↦ hashed_laws.held_there l
   ];
+  words_hold = elim [
+    | OfDense l ↦ dense_laws.words_hold l
+    | OfCompressed l ↦ compressed_laws.words_hold l
+    | OfSingleton l ↦ singleton_laws.words_hold l
+    | OfHashed l ↦ hashed_laws.words_hold l
+  ];
   entries = elim [
     | OfDense l ↦ dense_laws.entries l
     | OfCompressed l ↦ compressed_laws.entries l
@@ -356,6 +362,18 @@ laws = record {
     | OfCompressed l ↦ compressed_laws.parents l
     | OfSingleton l ↦ singleton_laws.parents l
     | OfHashed l ↦ hashed_laws.parents l
+  ];
+  last_end = elim [
+    | OfDense l ↦ dense_laws.last_end l
+    | OfCompressed l ↦ compressed_laws.last_end l
+    | OfSingleton l ↦ singleton_laws.last_end l
+    | OfHashed l ↦ hashed_laws.last_end l
+  ];
+  none_without = elim [
+    | OfDense l ↦ dense_laws.none_without l
+    | OfCompressed l ↦ compressed_laws.none_without l
+    | OfSingleton l ↦ singleton_laws.none_without l
+    | OfHashed l ↦ hashed_laws.none_without l
   ];
   wide = elim [
     | OfDense l ↦ dense_laws.wide l

@@ -3,6 +3,7 @@ use Rattle.std.specs.Prelude.{ℕ, List, Option}
 use Rattle.level_core.specs.declared.letter.Letter.{Letter}
 use Rattle.level_core.specs.declared.span.Span.{Span}
 use Rattle.level_core.specs.declared.span.Entry.{Entry}
+use Rattle.level_core.specs.declared.arrays.LevelArray.{LevelArray}
 use Rattle.level_core.specs.Logs.{Log}
 use Rattle.level_core.specs.Meaning.{Arrays, Meaning}
 pub use Rattle.tensor_storage.specs.declared.level.StorageLevel.{StorageLevel}
@@ -43,11 +44,23 @@ Holds (OfCompressed l) = compressed.meaning.holds l
 Holds (OfSingleton l) = singleton.meaning.holds l
 Holds (OfHashed l) = hashed.meaning.holds l
 
+abbrev pub words_of : StorageLevel → LevelArray → Option (List ℕ)
+words_of (OfDense n) = dense.meaning.words n
+words_of (OfCompressed l) = compressed.meaning.words l
+words_of (OfSingleton l) = singleton.meaning.words l
+words_of (OfHashed l) = hashed.meaning.words l
+
 abbrev pub HasParents : StorageLevel → ℕ → Type 0
 HasParents (OfDense n) = dense.meaning.has_parents n
 HasParents (OfCompressed l) = compressed.meaning.has_parents l
 HasParents (OfSingleton l) = singleton.meaning.has_parents l
 HasParents (OfHashed l) = hashed.meaning.has_parents l
+
+abbrev pub positions_of : StorageLevel → ℕ → ℕ
+positions_of (OfDense n) = dense.meaning.positions n
+positions_of (OfCompressed l) = compressed.meaning.positions l
+positions_of (OfSingleton l) = singleton.meaning.positions l
+positions_of (OfHashed l) = hashed.meaning.positions l
 
 abbrev pub IsAllowed : StorageLevel → Span → Type 0
 IsAllowed (OfDense n) = dense.meaning.allowed n
@@ -97,7 +110,9 @@ meaning = record {
   size = size_of;
   width = width_of;
   holds = Holds;
+  words = words_of;
   has_parents = HasParents;
+  positions = positions_of;
   allowed = IsAllowed;
   segment_of = segment_of;
   entries = entries_of;

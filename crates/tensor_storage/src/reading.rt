@@ -1,5 +1,5 @@
 use crate::level::StorageLevel;
-use level_core::{Level, Span};
+use level_core::{Level, LevelArray, Span};
 
 impl Level for StorageLevel {
     fn tell_rules(&self) {
@@ -44,6 +44,24 @@ impl Level for StorageLevel {
             StorageLevel::Compressed(it) => it.locate(parent, x),
             StorageLevel::Singleton(it) => it.locate(parent, x),
             StorageLevel::Hashed(it) => it.locate(parent, x),
+        }
+    }
+
+    fn array_len(&self, array: LevelArray) -> Option<u64> {
+        match self {
+            StorageLevel::Dense(it) => it.array_len(array),
+            StorageLevel::Compressed(it) => it.array_len(array),
+            StorageLevel::Singleton(it) => it.array_len(array),
+            StorageLevel::Hashed(it) => it.array_len(array),
+        }
+    }
+
+    fn array_word(&self, array: LevelArray, at: u64) -> Option<u64> {
+        match self {
+            StorageLevel::Dense(it) => it.array_word(array, at),
+            StorageLevel::Compressed(it) => it.array_word(array, at),
+            StorageLevel::Singleton(it) => it.array_word(array, at),
+            StorageLevel::Hashed(it) => it.array_word(array, at),
         }
     }
 }
