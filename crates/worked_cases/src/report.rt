@@ -149,15 +149,9 @@ fn tell_refused(answer: &mut Answer, text: &str) -> Option<()> {
     Some(())
 }
 
-/// Runs the case, and tells how it ended: its status and streams, each of its files as it is afterwards, whether a finish of the folder's
-/// writing is due, and what its further lines ask for.
-pub(crate) fn tell_case(answer: &mut Answer, mut case: Case) -> Option<()> {
-    let status = run(
-        answer,
-        case.files.as_slice(),
-        case.words.as_slice(),
-        &mut case.place,
-    )?;
+/// Tells how a case ended: its status and streams, each of its files as it is afterwards, whether a finish of the folder's writing is
+/// due, and what its further lines ask for.
+fn tell_ended(answer: &mut Answer, case: &Case, status: u8) -> Option<()> {
     tell_streams(answer, status, &case.place, case.shown);
     for file in &case.files {
         tell_file(answer, file, &case.place.folder);
@@ -168,9 +162,20 @@ pub(crate) fn tell_case(answer: &mut Answer, mut case: Case) -> Option<()> {
     for line in case.further.as_str().lines() {
         match line.strip_prefix("refused ") {
             Some(text) => tell_refused(answer, text)?,
-            None => tell_further(answer, &case, line)?,
+            None => tell_further(answer, case, line)?,
         }
     }
     answer.tell("\n");
     Some(())
+}
+
+/// Runs the case, and tells how it ended.
+pub(crate) fn tell_case(answer: &mut Answer, case: &mut Case) -> Option<()> {
+    let status = run(
+        answer,
+        case.files.as_slice(),
+        case.words.as_slice(),
+        &mut case.place,
+    )?;
+    tell_ended(answer, case, status)
 }

@@ -22,7 +22,7 @@ impl Session {
     /// Runs the case that was read, if there is one.
     fn end_case(&mut self, answer: &mut Answer) -> Option<()> {
         match self.case.take() {
-            Some(case) => tell_case(answer, case),
+            Some(mut case) => tell_case(answer, &mut case),
             None => Some(()),
         }
     }
