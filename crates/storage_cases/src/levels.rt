@@ -114,5 +114,11 @@ pub(crate) fn tell_tensor_levels(answer: &mut Answer, parts: Parts<'_>) -> Optio
     let ranges = answer.numbers(parts.ranges)?;
     tell_positions(answer, tensor.levels(), 1);
     let top = Span { lo: 0, hi: 1 };
-    tell_levels(answer, tensor.levels(), tensor.format(), ranges.as_slice(), top)
+    tell_levels(
+        answer,
+        tensor.levels(),
+        tensor.format(),
+        ranges.as_slice(),
+        top,
+    )
 }

@@ -132,10 +132,7 @@ fn packed(
 
 /// What comes of packing the entries of a line, those with equal coordinates added. None where the line says no tensor, or for want of
 /// memory before they are packed.
-pub(crate) fn pack(
-    answer: &mut Answer,
-    parts: Parts<'_>,
-) -> Option<Result<Tensor, PackRefusal>>
+pub(crate) fn pack(answer: &mut Answer, parts: Parts<'_>) -> Option<Result<Tensor, PackRefusal>>
     ensures { IfSome result (λ packed. IfOk packed (λ tensor. AreDone 1 tensor.levels)) }
 {
     let ranges = answer.numbers(parts.ranges)?;
