@@ -69,7 +69,11 @@ impl Indices {
     pub fn at(&self, i: u64) -> Option<u64>
         ensures { result ≡ slice_get self.now.items i }
     {
-        if i < self.len() { Some(self.get(i)) } else { None }
+        if i < self.len() {
+            Some(self.get(i))
+        } else {
+            None
+        }
     }
 
     /// The end of the group of equal coordinates that begins at the position `pos`, among the positions before `end`.
