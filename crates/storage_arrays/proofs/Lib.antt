@@ -1,2 +1,2 @@
 pub mod Packed
-mod Parents
+mod LastParents

@@ -7,7 +7,7 @@ ghost use Rattle.storage_text.specs.StoreText.{head_text, array_text, all_words,
 
 use crate::sequences::put_words;
 use format_spec::letter_byte;
-use level_core::{Letter, Level, LevelArray, LevelKind};
+use level_core::{Level, LevelArray, LevelKind};
 use outside::{Refusal, Sink};
 use tensor_storage::StorageLevel;
 use text_lines::{put_all, put_u64};
@@ -24,11 +24,18 @@ fn array_text(array: LevelArray) -> &'static [u8]
     }
 }
 
-/// Appends what a line of a level begins with, and a word.
-fn put_head<S: Sink>(sink: &mut S, number: u64, letter: Letter, word: &[u8]) -> Result<(), Refusal>
-    ensures { Prints (S.state sink.old) (S.state sink.new) (head_text number letter ++ word.now) result }
+/// Appends what the line of an array begins with.
+fn put_head<S: Sink>(
+    sink: &mut S,
+    number: u64,
+    level: &StorageLevel,
+    array: LevelArray,
+) -> Result<(), Refusal>
+    ensures { Prints (S.state sink.old) (S.state sink.new) (head_text number (meaning.kind level.now) ++ array_text array) result }
 {
-    let letter = [b' ', letter_byte(letter)];
+    let kind = level.letter();
+    let letter = [b' ', letter_byte(kind)];
+    let word = array_text(array);
     put_all(sink, b"level ")?;
     put_u64(sink, number)?;
     put_all(sink, &letter)?;
@@ -47,9 +54,7 @@ fn put_line<S: Sink>(
     ensures { Prints (S.state sink.old) (S.state sink.new)
         (text_of (words_line number (meaning.kind level.now) array (all_words (meaning.words level.now array)) ∷ [])) result }
 {
-    let letter = level.letter();
-    let word = array_text(array);
-    put_head(sink, number, letter, word)?;
+    put_head(sink, number, level, array)?;
     put_words(sink, level, array, count)?;
     put_all(sink, b"\n")
 }

@@ -1,5 +1,5 @@
 use Rattle.std.proofs.Common.{◌∙◌, ap, arith}
-use Rattle.storage_arrays.proofs.Parents.{one_allowed, all_end, no_positions}
+use Rattle.storage_arrays.proofs.LastParents.{one_allowed, all_end, no_positions}
 use Rattle.storage_arrays.proofs.parents.positions_of.Goals as goal
 
 pub returns-then-parents-eq0 : goal.returns-then-parents-eq0

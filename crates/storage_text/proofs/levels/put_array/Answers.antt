@@ -1,3 +1,4 @@
+use Rattle.std.proofs.Common.{◌∙◌, sym}
 use Rattle.text_lines.proofs.PutPieces.{retold}
 use Rattle.tensor_storage.specs.Levels.{meaning}
 use Rattle.storage_text.proofs.Lines.{line_there}
