@@ -48,7 +48,14 @@ fn begin_level(
 {
     begin_array(machine, alloc, letter, LevelArray::Ends, level, parents)?;
     begin_array(machine, alloc, letter, LevelArray::Width, level, parents)?;
-    begin_array(machine, alloc, letter, LevelArray::Coordinates, level, parents)?;
+    begin_array(
+        machine,
+        alloc,
+        letter,
+        LevelArray::Coordinates,
+        level,
+        parents,
+    )?;
     Ok(())
 }
 
