@@ -1,5 +1,5 @@
 -- Words, added and multiplied modulo 2^64.
-use Rattle.std.specs.Prelude.{ℕ, zero, ◌+◌, ◌-◌, ◌*◌, ◌%◌, ◌^◌}
+use Rattle.std.specs.Prelude.{ℕ, ◌+◌, ◌-◌, ◌*◌, ◌%◌, ◌^◌}
 use Rattle.numbers.specs.Arithmetic.{Arithmetic}
 
 -- the sum, the difference and the product of two words: what a machine computes

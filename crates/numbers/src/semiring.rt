@@ -1,13 +1,16 @@
 // How values are added and multiplied: the trait that all computing with values goes through.
-ghost use Rattle.std.specs.Prelude.{◌≡◌, ℕ, Option, Some, None, Bool, true, refl};
-ghost use Rattle.numbers.specs.Arithmetic.{Arithmetic, Laws, MinusLaws, IfMinus};
+ghost use Rattle.std.specs.Prelude.{◌≡◌, ◌≢◌, ℕ, Option, Some, None, Bool, true, false, refl};
+ghost use Rattle.numbers.specs.Arithmetic.{Arithmetic, WordLaws, Laws, MinusLaws, IfMinus, on_words};
 ghost use Rattle.numbers.specs.Ring.{ring};
-ghost use Rattle.numbers.specs.RingLaws.{ring_laws, ring_minus_laws};
+ghost use Rattle.numbers.specs.RingLaws.{ring_laws, ring_minus_laws, ring_word_laws, ring_on_words, true_is_not_false};
 
 /// Words with a sum and a product that keep the laws of a commutative semiring. Its calls are of the type: no
 /// value of it is needed.
 pub trait Semiring {
-    /// What the calls compute.
+    /// What the calls compute of words.
+    ghost of_words: { Arithmetic };
+
+    /// The same of every number, each taken by its remainder of 2^64: what definitions add and multiply by.
     ghost arithmetic: { Arithmetic };
 
     /// Whether there is a minus: a number that makes zero with one.
@@ -16,12 +19,19 @@ pub trait Semiring {
     /// Whether these are the whole numbers modulo 2^64.
     ghost is_ring: { Bool };
 
+    /// Whether a value is written as a signed number; else it is written as the word itself.
+    ghost is_signed: { Bool };
+
     /// The semiring's name, as a kernel's text and a command line have it.
     const NAME: &'static str;
 
     /// Whether these are the whole numbers modulo 2^64: code adds and multiplies them as it does words.
     fn is_ring() -> bool
         ensures { result ≡ is_ring };
+
+    /// Whether a value is written as a signed number: itself below 2^63, and 2^64 less from there on.
+    fn is_signed() -> bool
+        ensures { result ≡ is_signed };
 
     /// The word that a sum starts from.
     fn zero() -> u64
@@ -46,7 +56,16 @@ pub trait Semiring {
     /// What is told to be the ring is the ring.
     ghost ring_is: { is_ring ≡ true → arithmetic ≡ ring };
 
-    /// Sums and products keep the laws.
+    /// Nothing else is.
+    ghost ring_alone: { is_ring ≡ false → arithmetic ≢ ring };
+
+    /// Sums and products of words keep the laws.
+    ghost word_laws: { WordLaws of_words };
+
+    /// Definitions add and multiply words as the calls do.
+    ghost arithmetic_is: { on_words of_words ≡ arithmetic };
+
+    /// So sums and products keep the laws, told of every number: `laws_on_words` proves it.
     ghost laws: { Laws arithmetic };
 
     /// Where there is a minus, one and minus one cancel.
@@ -58,15 +77,23 @@ pub trait Semiring {
 pub struct Ring;
 
 impl Semiring for Ring {
+    ghost of_words = { ring };
+
     ghost arithmetic = { ring };
 
     ghost has_minus = { true };
 
     ghost is_ring = { true };
 
+    ghost is_signed = { true };
+
     const NAME: &'static str = "ring";
 
     fn is_ring() -> bool {
+        true
+    }
+
+    fn is_signed() -> bool {
         true
     }
 
@@ -92,6 +119,12 @@ impl Semiring for Ring {
     }
 
     ghost ring_is = { λ _. refl };
+
+    ghost ring_alone = { true_is_not_false };
+
+    ghost word_laws = { ring_word_laws };
+
+    ghost arithmetic_is = { ring_on_words };
 
     ghost laws = { ring_laws };
 

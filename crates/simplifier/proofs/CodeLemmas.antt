@@ -1,200 +1,225 @@
 -- Lemmas about statements: what does the same in place of other code, and what is simple.
-use Rattle.std.specs.Prelude.{◌≡◌, ℕ, zero, suc, ◌<◌, true, List, [], ◌∷◌, ◌++◌, Option, Some, Result, Ok, Err, OnOk, refl}
+use Rattle.std.specs.Prelude.{◌≡◌, ℕ, zero, suc, ◌<◌, true, List, [], ◌∷◌, ◌++◌, Option, Some, None, Result, Ok, Err, OnOk, refl}
 use Rattle.std.specs.declared.alloc.AllocError.{AllocError}
 use Rattle.std.proofs.Common.{◌∙◌, ◌+◌, ap, sym, subst, take, get_or, length, append_assoc, append-nil}
 use Rattle.std.proofs.lemmas.List.{take_more}
+use Rattle.numbers.specs.Arithmetic.{Arithmetic}
+use Rattle.numbers.specs.Ring.{ring}
 use Rattle.kernel_code.specs.declared.syntax.Arr.{Arr}
 use Rattle.kernel_code.specs.declared.syntax.LoopKind.{LoopKind}
 use Rattle.kernel_code.specs.declared.syntax.ValueOp.{ValueOp}
-use Rattle.kernel_code.specs.declared.syntax.KExpr.{KExpr}
+use Rattle.kernel_code.specs.declared.syntax.ValueOp.TheVariants.{Plus, Times}
+use Rattle.kernel_code.specs.declared.syntax.KExpr.{KExpr, Bin}
 use Rattle.kernel_code.specs.declared.syntax.KStmt.{KStmt, Set, Combine, Put, AddTo, Push, Extend, Cut, If, While}
-use Rattle.kernel_code.specs.Meaning.{Setting, State, Outcome, Ended, Stuck, Over, More, value, apply_each, combined, one_turn, then_run}
+use Rattle.kernel_code.specs.Meaning.{Setting, State, Outcome, Ended, Stuck, Over, More, value, apply_each, apply_both, combined, one_turn, then_run}
 use Rattle.kernel_code.specs.Meaning.{choice, run_turns, run, run_list, set_outcome, put_outcome, add_outcome, push_outcome, extend_outcome}
 use Rattle.kernel_code.specs.Meaning.{cut_outcome}
 use Rattle.kernel_code.proofs.Does.{run_append}
-use Rattle.kernel_code.proofs.Equations.{run_if, run_while}
+use Rattle.kernel_code.proofs.Equations.{run_if, run_while, value_bin}
 use Rattle.kernel_code.proofs.RunLemmas.{if_no, if_yes, turns_end}
-use Rattle.simplifier.specs.Folded.{FoldedStep, FoldedCode, SimpleCode, number_of, is_zero}
+use Rattle.simplifier.specs.Folded.{FoldedStep, FoldedCode, SimpleCode, number_of, is_zero, operator_for}
 use Rattle.simplifier.specs.Same.{SameValue, SameRuns}
 use Rattle.simplifier.proofs.ExprLemmas.{number_is, zero_is}
 
 -- two statements do the same
-pub record SameStep (s t : KStmt) : Type 0 where
-  pub from : (c : Setting) (n : ℕ) (st : State) → run c n s st ≡ run c n t st
+pub record SameStep (over : Arithmetic) (s t : KStmt) : Type 0 where
+  pub from : (c : Setting) → c.arithmetic ≡ over → (n : ℕ) (st : State) → run c n s st ≡ run c n t st
 
-pub step_same : (s t : KStmt) → s ≡ t → SameStep s t
-step_same s t is = record { from = λ c n st. ap (λ s. run c n s st) is }
+-- over the ring a sum or product of values is that of words
+words_of : (c : Setting) → c.arithmetic ≡ ring → (o : ValueOp) (v w : Option ℕ)
+    → apply_each (combined c.arithmetic o) v w ≡ apply_both (operator_for o) v w
+unfolding ring
+words_of c is Plus None w = refl
+words_of c is Plus (Some v) None = refl
+words_of c is Plus (Some v) (Some w) = ap (λ m. Some (m.plus v w)) is
+words_of c is Times None w = refl
+words_of c is Times (Some v) None = refl
+words_of c is Times (Some v) (Some w) = ap (λ m. Some (m.times v w)) is
 
-pub step_then : (s t u : KStmt) → SameStep s t → SameStep t u → SameStep s u
-step_then s t u h g = record { from = λ c n st. h.from c n st ∙ g.from c n st }
+module _ (over : Arithmetic) where
+  pub step_same : (s t : KStmt) → s ≡ t → SameStep over s t
+  step_same s t is = record { from = λ c q n st. ap (λ s. run c n s st) is }
 
-pub same_set : (x : ℕ) (e f : KExpr) → SameValue e f → SameStep (Set x e) (Set x f)
-same_set x e f h = record { from = λ c n st. ap (set_outcome st x) (h.at st) }
+  pub step_then : (s t u : KStmt) → SameStep over s t → SameStep over t u → SameStep over s u
+  step_then s t u h g = record { from = λ c q n st. h.from c q n st ∙ g.from c q n st }
 
-pub same_combine : (x : ℕ) (o : ValueOp) (e f e' f' : KExpr) → SameValue e e' → SameValue f f'
-    → SameStep (Combine x o e f) (Combine x o e' f')
-same_combine x o e f e' f' h g = record {
-  from = λ c n st. ap (λ v. set_outcome st x (apply_each (combined c.arithmetic o) v (value f st))) (h.at st)
-      ∙ ap (λ v. set_outcome st x (apply_each (combined c.arithmetic o) (value e' st) v)) (g.at st);
-}
+  pub same_set : (x : ℕ) (e f : KExpr) → SameValue e f → SameStep over (Set x e) (Set x f)
+  same_set x e f h = record { from = λ c q n st. ap (set_outcome st x) (h.at st) }
 
-pub same_put : (a : Arr) (i e i' e' : KExpr) → SameValue i i' → SameValue e e' → SameStep (Put a i e) (Put a i' e')
-same_put a i e i' e' h g = record {
-  from = λ c n st. ap (λ v. put_outcome st a v (value e st)) (h.at st) ∙ ap (put_outcome st a (value i' st)) (g.at st);
-}
+  pub same_combine : (x : ℕ) (o : ValueOp) (e f e' f' : KExpr) → SameValue e e' → SameValue f f'
+      → SameStep over (Combine x o e f) (Combine x o e' f')
+  same_combine x o e f e' f' h g = record {
+    from = λ c q n st. ap (λ v. set_outcome st x (apply_each (combined c.arithmetic o) v (value f st))) (h.at st)
+        ∙ ap (λ v. set_outcome st x (apply_each (combined c.arithmetic o) (value e' st) v)) (g.at st);
+  }
 
-pub same_add_to : (a : Arr) (i e i' e' : KExpr) → SameValue i i' → SameValue e e' → SameStep (AddTo a i e) (AddTo a i' e')
-same_add_to a i e i' e' h g = record {
-  from = λ c n st. ap (λ v. add_outcome c.arithmetic st a v (value e st)) (h.at st)
-      ∙ ap (add_outcome c.arithmetic st a (value i' st)) (g.at st);
-}
+  pub same_words : (x : ℕ) (o : ValueOp) (e f r e' f' : KExpr) → over ≡ ring → SameValue r (Bin (operator_for o) e f) → SameValue e e'
+      → SameValue f f' → SameStep over (Set x r) (Combine x o e' f')
+  same_words x o e f r e' f' ring_is h g k = step_then (Set x r) (Combine x o e f) (Combine x o e' f')
+      (record {
+        from = λ c q n st. ap (set_outcome st x) (h.at st ∙ value_bin (operator_for o) e f st
+            ∙ sym (words_of c (q ∙ ring_is) o (value e st) (value f st)));
+      })
+      (same_combine x o e f e' f' g k)
 
-pub same_push : (a : Arr) (e f : KExpr) → SameValue e f → SameStep (Push a e) (Push a f)
-same_push a e f h = record { from = λ c n st. ap (push_outcome st a) (h.at st) }
+  pub same_put : (a : Arr) (i e i' e' : KExpr) → SameValue i i' → SameValue e e' → SameStep over (Put a i e) (Put a i' e')
+  same_put a i e i' e' h g = record {
+    from = λ c q n st. ap (λ v. put_outcome st a v (value e st)) (h.at st) ∙ ap (put_outcome st a (value i' st)) (g.at st);
+  }
 
-pub same_extend : (a : Arr) (i e i' e' : KExpr) → SameValue i i' → SameValue e e' → SameStep (Extend a i e) (Extend a i' e')
-same_extend a i e i' e' h g = record {
-  from = λ c n st. ap (λ v. extend_outcome st a v (value e st)) (h.at st) ∙ ap (extend_outcome st a (value i' st)) (g.at st);
-}
+  pub same_add_to : (a : Arr) (i e i' e' : KExpr) → SameValue i i' → SameValue e e' → SameStep over (AddTo a i e) (AddTo a i' e')
+  same_add_to a i e i' e' h g = record {
+    from = λ c q n st. ap (λ v. add_outcome c.arithmetic st a v (value e st)) (h.at st)
+        ∙ ap (add_outcome c.arithmetic st a (value i' st)) (g.at st);
+  }
 
-pub same_cut : (a : Arr) (e f : KExpr) → SameValue e f → SameStep (Cut a e) (Cut a f)
-same_cut a e f h = record { from = λ c n st. ap (cut_outcome st a) (h.at st) }
+  pub same_push : (a : Arr) (e f : KExpr) → SameValue e f → SameStep over (Push a e) (Push a f)
+  same_push a e f h = record { from = λ c q n st. ap (push_outcome st a) (h.at st) }
 
-then_same : (o : Outcome) (f g : State → Outcome) → ((s : State) → f s ≡ g s) → then_run o f ≡ then_run o g
-then_same (Ended s) f g h = h s
-then_same (Stuck t) f g h = refl
-then_same (Over t a count) f g h = refl
-then_same More f g h = refl
+  pub same_extend : (a : Arr) (i e i' e' : KExpr) → SameValue i i' → SameValue e e' → SameStep over (Extend a i e) (Extend a i' e')
+  same_extend a i e i' e' h g = record {
+    from = λ c q n st. ap (λ v. extend_outcome st a v (value e st)) (h.at st) ∙ ap (extend_outcome st a (value i' st)) (g.at st);
+  }
 
-turns_same : (n : ℕ) (k : LoopKind) (test test' : State → Option ℕ) (body body' : State → Outcome) → ((s : State) → test s ≡ test' s)
-    → ((s : State) → body s ≡ body' s) → (s : State) → run_turns n k test body s ≡ run_turns n k test' body' s
-turns_same zero k test test' body body' h g s = ap (λ v. choice s v More (Ended s)) (h s)
-turns_same (suc n) k test test' body body' h g s =
-    ap (λ v. choice s v (then_run (body (one_turn s k)) (run_turns n k test body)) (Ended s)) (h s)
-    ∙ ap (λ o. choice s (test' s) o (Ended s)) (ap (λ o. then_run o (run_turns n k test body)) (g (one_turn s k))
-    ∙ then_same (body' (one_turn s k)) (run_turns n k test body) (run_turns n k test' body') (turns_same n k test test' body body' h g))
+  pub same_cut : (a : Arr) (e f : KExpr) → SameValue e f → SameStep over (Cut a e) (Cut a f)
+  same_cut a e f h = record { from = λ c q n st. ap (cut_outcome st a) (h.at st) }
 
-pub same_if : (e e' : KExpr) (first second first' second' : List KStmt) → SameValue e e' → SameRuns first first'
-    → SameRuns second second' → SameStep (If e first second) (If e' first' second')
-same_if e e' first second first' second' h f g = record {
-  from = λ c n st. run_if c n e first second st ∙ ap (λ v. choice st v (run_list c n first st) (run_list c n second st)) (h.at st)
-      ∙ ap (λ o. choice st (value e' st) o (run_list c n second st)) (f.from c n st)
-      ∙ ap (λ o. choice st (value e' st) (run_list c n first' st) o) (g.from c n st) ∙ sym (run_if c n e' first' second' st);
-}
+  then_same : (o : Outcome) (f g : State → Outcome) → ((s : State) → f s ≡ g s) → then_run o f ≡ then_run o g
+  then_same (Ended s) f g h = h s
+  then_same (Stuck t) f g h = refl
+  then_same (Over t a count) f g h = refl
+  then_same More f g h = refl
 
-pub same_while : (k : LoopKind) (e e' : KExpr) (body body' : List KStmt) → SameValue e e' → SameRuns body body'
-    → SameStep (While k e body) (While k e' body')
-same_while k e e' body body' h f = record {
-  from = λ c n st. run_while c n k e body st
-      ∙ turns_same n k (value e) (value e') (run_list c n body) (run_list c n body') h.at (f.from c n) st
-      ∙ sym (run_while c n k e' body' st);
-}
+  turns_same : (n : ℕ) (k : LoopKind) (test test' : State → Option ℕ) (body body' : State → Outcome) → ((s : State) → test s ≡ test' s)
+      → ((s : State) → body s ≡ body' s) → (s : State) → run_turns n k test body s ≡ run_turns n k test' body' s
+  turns_same zero k test test' body body' h g s = ap (λ v. choice s v More (Ended s)) (h s)
+  turns_same (suc n) k test test' body body' h g s =
+      ap (λ v. choice s v (then_run (body (one_turn s k)) (run_turns n k test body)) (Ended s)) (h s)
+      ∙ ap (λ o. choice s (test' s) o (Ended s)) (ap (λ o. then_run o (run_turns n k test body)) (g (one_turn s k))
+      ∙ then_same (body' (one_turn s k)) (run_turns n k test body) (run_turns n k test' body') (turns_same n k test test' body body' h g))
 
-pub runs_same : (a : List KStmt) → SameRuns a a
-runs_same a = record { from = λ c n s. refl }
+  pub same_if : (e e' : KExpr) (first second first' second' : List KStmt) → SameValue e e' → SameRuns over first first'
+      → SameRuns over second second' → SameStep over (If e first second) (If e' first' second')
+  same_if e e' first second first' second' h f g = record {
+    from = λ c q n st. run_if c n e first second st ∙ ap (λ v. choice st v (run_list c n first st) (run_list c n second st)) (h.at st)
+        ∙ ap (λ o. choice st (value e' st) o (run_list c n second st)) (f.from c q n st)
+        ∙ ap (λ o. choice st (value e' st) (run_list c n first' st) o) (g.from c q n st) ∙ sym (run_if c n e' first' second' st);
+  }
 
-pub runs_then : (a b d : List KStmt) → SameRuns a b → SameRuns b d → SameRuns a d
-runs_then a b d h g = record { from = λ c n s. h.from c n s ∙ g.from c n s }
+  pub same_while : (k : LoopKind) (e e' : KExpr) (body body' : List KStmt) → SameValue e e' → SameRuns over body body'
+      → SameStep over (While k e body) (While k e' body')
+  same_while k e e' body body' h f = record {
+    from = λ c q n st. run_while c n k e body st
+        ∙ turns_same n k (value e) (value e') (run_list c n body) (run_list c n body') h.at (f.from c q n) st
+        ∙ sym (run_while c n k e' body' st);
+  }
 
-pub runs_now : (a b d : List KStmt) → SameRuns a b → b ≡ d → SameRuns a d
-runs_now a b d h is = subst (SameRuns a) is h
+  pub runs_same : (a : List KStmt) → SameRuns over a a
+  runs_same a = record { from = λ c q n s. refl }
 
--- more code behind
-pub runs_more : (a b more : List KStmt) → SameRuns a b → SameRuns (a ++ more) (b ++ more)
-runs_more a b more h = record {
-  from = λ c n s. run_append c n a more s ∙ ap (λ o. then_run o (run_list c n more)) (h.from c n s) ∙ sym (run_append c n b more s);
-}
+  pub runs_then : (a b d : List KStmt) → SameRuns over a b → SameRuns over b d → SameRuns over a d
+  runs_then a b d h g = record { from = λ c q n s. h.from c q n s ∙ g.from c q n s }
 
-last : (c : Setting) (n : ℕ) (o : Outcome) → then_run o (run_list c n []) ≡ o
-last c n (Ended s) = refl
-last c n (Stuck t) = refl
-last c n (Over t a count) = refl
-last c n More = refl
+  pub runs_now : (a b d : List KStmt) → SameRuns over a b → b ≡ d → SameRuns over a d
+  runs_now a b d h is = subst (SameRuns over a) is h
 
--- code in place of a statement at the end
-pub runs_behind : (out code : List KStmt) (s : KStmt) → ((c : Setting) (n : ℕ) (st : State) → run_list c n code st ≡ run c n s st)
-    → SameRuns (out ++ code) (out ++ s ∷ [])
-runs_behind out code s h = record {
-  from = λ c n st. run_append c n out code st
-      ∙ then_same (run_list c n out st) (run_list c n code) (run_list c n (s ∷ [])) (λ st. h c n st ∙ sym (last c n (run c n s st)))
-      ∙ sym (run_append c n out (s ∷ []) st);
-}
+  -- more code behind
+  pub runs_more : (a b more : List KStmt) → SameRuns over a b → SameRuns over (a ++ more) (b ++ more)
+  runs_more a b more h = record {
+    from = λ c q n s. run_append c n a more s ∙ ap (λ o. then_run o (run_list c n more)) (h.from c q n s) ∙ sym (run_append c n b more s);
+  }
 
-pub pushed : (out : List KStmt) (s t : KStmt) → SameStep s t → SameRuns (out ++ s ∷ []) (out ++ t ∷ [])
-pushed out s t h = runs_behind out (s ∷ []) t (λ c n st. last c n (run c n s st) ∙ h.from c n st)
+  last : (c : Setting) (n : ℕ) (o : Outcome) → then_run o (run_list c n []) ≡ o
+  last c n (Ended s) = refl
+  last c n (Stuck t) = refl
+  last c n (Over t a count) = refl
+  last c n More = refl
 
--- one body in place of a choice by a number
-pub takes_second : (out : List KStmt) (e : KExpr) (first second : List KStmt) → number_of e ≡ Some 0
-    → SameRuns (out ++ second) (out ++ If e first second ∷ [])
-takes_second out e first second h =
-    runs_behind out second (If e first second) (λ c n st. if_no c n e first second st (number_is e 0 h st))
+  -- code in place of a statement at the end
+  pub runs_behind : (out code : List KStmt) (s : KStmt)
+      → ((c : Setting) → c.arithmetic ≡ over → (n : ℕ) (st : State) → run_list c n code st ≡ run c n s st)
+      → SameRuns over (out ++ code) (out ++ s ∷ [])
+  runs_behind out code s h = record {
+    from = λ c q n st. run_append c n out code st
+        ∙ then_same (run_list c n out st) (run_list c n code) (run_list c n (s ∷ [])) (λ st. h c q n st ∙ sym (last c n (run c n s st)))
+        ∙ sym (run_append c n out (s ∷ []) st);
+  }
 
-pub takes_first : (out : List KStmt) (e : KExpr) (first second : List KStmt) (v : ℕ) → number_of e ≡ Some v → 0 < v
-    → SameRuns (out ++ first) (out ++ If e first second ∷ [])
-takes_first out e first second v h l =
-    runs_behind out first (If e first second) (λ c n st. if_yes c n e first second st v (number_is e v h st) l)
+  pub pushed : (out : List KStmt) (s t : KStmt) → SameStep over s t → SameRuns over (out ++ s ∷ []) (out ++ t ∷ [])
+  pushed out s t h = runs_behind out (s ∷ []) t (λ c q n st. last c n (run c n s st) ∙ h.from c q n st)
 
--- nothing in place of a loop on 0
-pub no_loop : (out : List KStmt) (k : LoopKind) (e : KExpr) (body : List KStmt) → is_zero e ≡ true
-    → SameRuns out (out ++ While k e body ∷ [])
-no_loop out k e body h =
-    subst (λ code. SameRuns code (out ++ While k e body ∷ [])) (append-nil out)
-    (runs_behind out [] (While k e body)
-    (λ c n st. sym (run_while c n k e body st ∙ turns_end n k (value e) (run_list c n body) st (number_is e 0 (zero_is e h) st))))
+  -- one body in place of a choice by a number
+  pub takes_second : (out : List KStmt) (e : KExpr) (first second : List KStmt) → number_of e ≡ Some 0
+      → SameRuns over (out ++ second) (out ++ If e first second ∷ [])
+  takes_second out e first second h =
+      runs_behind out second (If e first second) (λ c q n st. if_no c n e first second st (number_is e 0 h st))
 
--- a choice whose test is a number once it is simple, in place of the statement that it was
-choice_now : (out : List KStmt) (e e' : KExpr) (first second : List KStmt) (s : KStmt) → SameValue e' e → s ≡ If e first second
-    → SameRuns (out ++ If e' first second ∷ []) (out ++ s ∷ [])
-choice_now out e e' first second s h from =
-    pushed out (If e' first second) s
-    (step_then (If e' first second) (If e first second) s (same_if e' e first second first second h (runs_same first) (runs_same second))
-    (step_same (If e first second) s (sym from)))
+  pub takes_first : (out : List KStmt) (e : KExpr) (first second : List KStmt) (v : ℕ) → number_of e ≡ Some v → 0 < v
+      → SameRuns over (out ++ first) (out ++ If e first second ∷ [])
+  takes_first out e first second v h l =
+      runs_behind out first (If e first second) (λ c q n st. if_yes c n e first second st v (number_is e v h st) l)
 
-pub second_taken : (out : List KStmt) (e e' : KExpr) (first second code : List KStmt) (s : KStmt) → number_of e' ≡ Some 0
-    → SameValue e' e → code ≡ second → s ≡ If e first second → SameRuns (out ++ code) (out ++ s ∷ [])
-second_taken out e e' first second code s n h is from =
-    subst (λ body. SameRuns (out ++ body) (out ++ s ∷ [])) (sym is)
-    (runs_then (out ++ second) (out ++ If e' first second ∷ []) (out ++ s ∷ []) (takes_second out e' first second n)
-    (choice_now out e e' first second s h from))
+  -- nothing in place of a loop on 0
+  pub no_loop : (out : List KStmt) (k : LoopKind) (e : KExpr) (body : List KStmt) → is_zero e ≡ true
+      → SameRuns over out (out ++ While k e body ∷ [])
+  no_loop out k e body h =
+      subst (λ code. SameRuns over code (out ++ While k e body ∷ [])) (append-nil out)
+      (runs_behind out [] (While k e body)
+      (λ c q n st. sym (run_while c n k e body st ∙ turns_end n k (value e) (run_list c n body) st (number_is e 0 (zero_is e h) st))))
 
-pub first_taken : (out : List KStmt) (e e' : KExpr) (first second code : List KStmt) (s : KStmt) (v : ℕ) → number_of e' ≡ Some v → 0 < v
-    → SameValue e' e → code ≡ first → s ≡ If e first second → SameRuns (out ++ code) (out ++ s ∷ [])
-first_taken out e e' first second code s v n l h is from =
-    subst (λ body. SameRuns (out ++ body) (out ++ s ∷ [])) (sym is)
-    (runs_then (out ++ first) (out ++ If e' first second ∷ []) (out ++ s ∷ []) (takes_first out e' first second v n l)
-    (choice_now out e e' first second s h from))
+  -- a choice whose test is a number once it is simple, in place of the statement that it was
+  choice_now : (out : List KStmt) (e e' : KExpr) (first second : List KStmt) (s : KStmt) → SameValue e' e → s ≡ If e first second
+      → SameRuns over (out ++ If e' first second ∷ []) (out ++ s ∷ [])
+  choice_now out e e' first second s h from =
+      pushed out (If e' first second) s
+      (step_then (If e' first second) (If e first second) s (same_if e' e first second first second h (runs_same first) (runs_same second))
+      (step_same (If e first second) s (sym from)))
 
--- one more statement of code
-pub runs_so_far : (new out old code : List KStmt) (i : ℕ) (s : KStmt) → i < length code → s ≡ get_or code i s
-    → SameRuns out (old ++ take i code) → SameRuns new (out ++ s ∷ []) → SameRuns new (old ++ take (i + 1) code)
-runs_so_far new out old code i s l is h g =
-    let all : (old ++ take i code) ++ s ∷ [] ≡ old ++ take (i + 1) code =
-    append_assoc old (take i code) (s ∷ []) ∙ ap (λ xs. old ++ xs) (ap (λ x. take i code ++ x ∷ []) is ∙ sym (take_more code i s l)) in
-    runs_now new ((old ++ take i code) ++ s ∷ []) (old ++ take (i + 1) code)
-    (runs_then new (out ++ s ∷ []) ((old ++ take i code) ++ s ∷ []) g (runs_more out (old ++ take i code) (s ∷ []) h)) all
+  pub second_taken : (out : List KStmt) (e e' : KExpr) (first second code : List KStmt) (s : KStmt) → number_of e' ≡ Some 0
+      → SameValue e' e → code ≡ second → s ≡ If e first second → SameRuns over (out ++ code) (out ++ s ∷ [])
+  second_taken out e e' first second code s n h is from =
+      subst (λ body. SameRuns over (out ++ body) (out ++ s ∷ [])) (sym is)
+      (runs_then (out ++ second) (out ++ If e' first second ∷ []) (out ++ s ∷ []) (takes_second out e' first second n)
+      (choice_now out e e' first second s h from))
 
-folded_behind : (code : List KStmt) (s : KStmt) → FoldedCode code → FoldedStep s → FoldedCode (code ++ s ∷ [])
-folded_behind [] s h g = (g, tt)
-folded_behind (k ∷ rest) s h g = (h.0, folded_behind rest s h.1 g)
+  pub first_taken : (out : List KStmt) (e e' : KExpr) (first second code : List KStmt) (s : KStmt) (v : ℕ) → number_of e' ≡ Some v → 0 < v
+      → SameValue e' e → code ≡ first → s ≡ If e first second → SameRuns over (out ++ code) (out ++ s ∷ [])
+  first_taken out e e' first second code s v n l h is from =
+      subst (λ body. SameRuns over (out ++ body) (out ++ s ∷ [])) (sym is)
+      (runs_then (out ++ first) (out ++ If e' first second ∷ []) (out ++ s ∷ []) (takes_first out e' first second v n l)
+      (choice_now out e e' first second s h from))
 
-pub simple_pushed : (code : List KStmt) (s : KStmt) → SimpleCode code → FoldedStep s → SimpleCode (code ++ s ∷ [])
-simple_pushed code s h g = record { folded = folded_behind code s h.folded g }
+  -- one more statement of code
+  pub runs_so_far : (new out old code : List KStmt) (i : ℕ) (s : KStmt) → i < length code → s ≡ get_or code i s
+      → SameRuns over out (old ++ take i code) → SameRuns over new (out ++ s ∷ []) → SameRuns over new (old ++ take (i + 1) code)
+  runs_so_far new out old code i s l is h g =
+      let all : (old ++ take i code) ++ s ∷ [] ≡ old ++ take (i + 1) code =
+      append_assoc old (take i code) (s ∷ []) ∙ ap (λ xs. old ++ xs) (ap (λ x. take i code ++ x ∷ []) is ∙ sym (take_more code i s l)) in
+      runs_now new ((old ++ take i code) ++ s ∷ []) (old ++ take (i + 1) code)
+      (runs_then new (out ++ s ∷ []) ((old ++ take i code) ++ s ∷ []) g (runs_more out (old ++ take i code) (s ∷ []) h)) all
 
-pub simple_nothing : SimpleCode []
-simple_nothing = record { folded = tt }
+  folded_behind : (code : List KStmt) (s : KStmt) → FoldedCode over code → FoldedStep over s → FoldedCode over (code ++ s ∷ [])
+  folded_behind [] s h g = (g, tt)
+  folded_behind (k ∷ rest) s h g = (h.0, folded_behind rest s h.1 g)
 
-module _ {A : Type 0} where
+  pub simple_pushed : (code : List KStmt) (s : KStmt) → SimpleCode over code → FoldedStep over s → SimpleCode over (code ++ s ∷ [])
+  simple_pushed code s h g = record { folded = folded_behind code s h.folded g }
+
+  pub simple_nothing : SimpleCode over []
+  simple_nothing = record { folded = tt }
+
+module _ (over : Arithmetic) {A : Type 0} where
   -- a statement that was appended in place of one that does the same
-  pub added : (r : Result A AllocError) (new old : List KStmt) (s t : KStmt) → OnOk r (new ≡ old ++ s ∷ []) → SameStep s t
-      → OnOk r (SameRuns new (old ++ t ∷ []))
-  added (Ok done) new old s t is h = subst (λ code. SameRuns code (old ++ t ∷ [])) (sym is) (pushed old s t h)
+  pub added : (r : Result A AllocError) (new old : List KStmt) (s t : KStmt) → OnOk r (new ≡ old ++ s ∷ []) → SameStep over s t
+      → OnOk r (SameRuns over new (old ++ t ∷ []))
+  added (Ok done) new old s t is h = subst (λ code. SameRuns over code (old ++ t ∷ [])) (sym is) (pushed over old s t h)
   added (Err why) new old s t is h = tt
 
-  pub runs_result : (r : Result A AllocError) (new a b : List KStmt) → OnOk r (SameRuns new a) → SameRuns a b → OnOk r (SameRuns new b)
-  runs_result (Ok done) new a b h g = runs_then new a b h g
+  pub runs_result : (r : Result A AllocError) (new a b : List KStmt) → OnOk r (SameRuns over new a) → SameRuns over a b → OnOk r (SameRuns over new b)
+  runs_result (Ok done) new a b h g = runs_then over new a b h g
   runs_result (Err why) new a b h g = tt
 
-  pub added_simple : (r : Result A AllocError) (new old : List KStmt) (s : KStmt) → OnOk r (new ≡ old ++ s ∷ []) → FoldedStep s
-      → SimpleCode old → OnOk r (SimpleCode new)
-  added_simple (Ok done) new old s is h g = subst SimpleCode (sym is) (simple_pushed old s g h)
+  pub added_simple : (r : Result A AllocError) (new old : List KStmt) (s : KStmt) → OnOk r (new ≡ old ++ s ∷ []) → FoldedStep over s
+      → SimpleCode over old → OnOk r (SimpleCode over new)
+  added_simple (Ok done) new old s is h g = subst (SimpleCode over) (sym is) (simple_pushed over old s g h)
   added_simple (Err why) new old s is h g = tt

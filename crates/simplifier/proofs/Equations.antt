@@ -2,6 +2,7 @@
 use Rattle.std.specs.Prelude.{◌≡◌, min, false, List, None}
 use Rattle.std.proofs.Common.{subst, sym}
 use denote.Hole.Carrier.{hidden}
+use Rattle.numbers.specs.Arithmetic.{Arithmetic}
 use Rattle.kernel_code.specs.declared.syntax.Arr.{Arr}
 use Rattle.kernel_code.specs.declared.syntax.Op.{Op}
 use Rattle.kernel_code.specs.declared.syntax.KExpr.{KExpr, At, Bin, Min, Width}
@@ -30,17 +31,17 @@ pub simple_width : (e : KExpr) → width_of (number_of e) ≡ None → SimpleExp
 unfolding hidden-the_row-KExpr-0 hidden
 simple_width e n h = record { folded = (n, h.folded) }
 
-row_folded : {m : _} (row : Row_of-KStmt m) → FoldedCode (items-the_row-KStmt m row) → FoldedRow row
-row_folded end_of-KStmt h = tt
-row_folded (more_of-KStmt s rest) h = (h.0, row_folded rest h.1)
+row_folded : {m : _} (a : Arithmetic) (row : Row_of-KStmt m) → FoldedCode a (items-the_row-KStmt m row) → FoldedRow a row
+row_folded a end_of-KStmt h = tt
+row_folded a (more_of-KStmt s rest) h = (h.0, row_folded a rest h.1)
 
-held_folded : (body : List KStmt) → FoldedCode body → FoldedRow (hidden-the_row-KStmt-0 body)
-held_folded body h = row_folded (hidden-the_row-KStmt-0 body) (subst FoldedCode (sym (items_hidden-the_row-KStmt-0 body)) h)
+held_folded : (a : Arithmetic) (body : List KStmt) → FoldedCode a body → FoldedRow a (hidden-the_row-KStmt-0 body)
+held_folded a body h = row_folded a (hidden-the_row-KStmt-0 body) (subst (FoldedCode a) (sym (items_hidden-the_row-KStmt-0 body)) h)
 
-pub folded_if : (e : KExpr) (first second : List KStmt) → number_of e ≡ None → SimpleExpr e → FoldedCode first → FoldedCode second
-    → FoldedStep (If e first second)
-folded_if e first second n h f g = (n, (h, (held_folded first f, held_folded second g)))
+pub folded_if : (a : Arithmetic) (e : KExpr) (first second : List KStmt) → number_of e ≡ None → SimpleExpr e → FoldedCode a first
+    → FoldedCode a second → FoldedStep a (If e first second)
+folded_if a e first second n h f g = (n, (h, (held_folded a first f, held_folded a second g)))
 
-pub folded_while : (k : LoopKind) (e : KExpr) (body : List KStmt) → is_zero e ≡ false → SimpleExpr e → FoldedCode body
-    → FoldedStep (While k e body)
-folded_while k e body n h f = (n, (h, held_folded body f))
+pub folded_while : (a : Arithmetic) (k : LoopKind) (e : KExpr) (body : List KStmt) → is_zero e ≡ false → SimpleExpr e → FoldedCode a body
+    → FoldedStep a (While k e body)
+folded_while a k e body n h f = (n, (h, held_folded a body f))

@@ -1,9 +1,15 @@
 -- What isn't left in simple code: what numbers settle.
-use Rattle.std.specs.Prelude.{◌≡◌, ℕ, min, Bool, false, ◌==◌, List, [], ◌∷◌, Option, Some, None}
+use Rattle.std.specs.Prelude.{◌≡◌, ◌≢◌, ℕ, min, Bool, false, ◌==◌, List, [], ◌∷◌, Option, Some, None}
+use Rattle.numbers.specs.Arithmetic.{Arithmetic}
+use Rattle.numbers.specs.Ring.{ring}
 use Rattle.kernel_code.specs.declared.syntax.KExpr.{KExpr, Num, Var, At', Len, Bin', Min', Width', Row_of-KExpr, end_of-KExpr}
 use Rattle.kernel_code.specs.declared.syntax.KExpr.{more_of-KExpr}
 use Rattle.kernel_code.specs.declared.syntax.KStmt.{KStmt, Set, Combine, Put, AddTo, Push, Extend, Cut, Sort, SortSum, If', While'}
 use Rattle.kernel_code.specs.declared.syntax.KStmt.{Row_of-KStmt, end_of-KStmt, more_of-KStmt}
+use Rattle.kernel_code.specs.declared.syntax.Op.{Op}
+use Rattle.kernel_code.specs.declared.syntax.Op.TheVariants.{Add, Mul}
+use Rattle.kernel_code.specs.declared.syntax.ValueOp.{ValueOp}
+use Rattle.kernel_code.specs.declared.syntax.ValueOp.TheVariants.{Plus, Times}
 use Rattle.kernel_code.specs.Meaning.{apply_each, apply_both, width_of}
 
 -- the number that an expression is, if it is one
@@ -51,28 +57,34 @@ pub record SimpleExpr (e : KExpr) : Type 0 where
   pub folded : Folded e
 
 abbrev mutual
-  -- each expression is simple, no `if` has a number for a test, and no loop has 0
-  pub FoldedStep : KStmt → Type 0
-  FoldedStep (Set x e) = SimpleExpr e
-  FoldedStep (Combine x o e f) = SimpleExpr e × SimpleExpr f
-  FoldedStep (Put a i e) = SimpleExpr i × SimpleExpr e
-  FoldedStep (AddTo a i e) = SimpleExpr i × SimpleExpr e
-  FoldedStep (Push a e) = SimpleExpr e
-  FoldedStep (Extend a count e) = SimpleExpr count × SimpleExpr e
-  FoldedStep (Cut a e) = SimpleExpr e
-  FoldedStep (Sort g) = Unit {0}
-  FoldedStep (SortSum w) = Unit {0}
-  FoldedStep (If' e p first q second) = (number_of e ≡ None) × (SimpleExpr e × (FoldedRow first × FoldedRow second))
-  FoldedStep (While' k e p body) = (is_zero e ≡ false) × (SimpleExpr e × FoldedRow body)
+  -- each expression is simple, no `if` has a number for a test, and no loop has 0; over the ring, whose sums and
+  -- products are those of words, no sum or product of values is left beside them
+  pub FoldedStep : Arithmetic → KStmt → Type 0
+  FoldedStep a (Set x e) = SimpleExpr e
+  FoldedStep a (Combine x o e f) = (a ≢ ring) × (SimpleExpr e × SimpleExpr f)
+  FoldedStep a (Put array i e) = SimpleExpr i × SimpleExpr e
+  FoldedStep a (AddTo array i e) = SimpleExpr i × SimpleExpr e
+  FoldedStep a (Push array e) = SimpleExpr e
+  FoldedStep a (Extend array count e) = SimpleExpr count × SimpleExpr e
+  FoldedStep a (Cut array e) = SimpleExpr e
+  FoldedStep a (Sort g) = Unit {0}
+  FoldedStep a (SortSum w) = Unit {0}
+  FoldedStep a (If' e p first q second) = (number_of e ≡ None) × (SimpleExpr e × (FoldedRow a first × FoldedRow a second))
+  FoldedStep a (While' k e p body) = (is_zero e ≡ false) × (SimpleExpr e × FoldedRow a body)
 
-  pub FoldedRow : {m : _} → Row_of-KStmt m → Type 0
-  FoldedRow end_of-KStmt = Unit {0}
-  FoldedRow (more_of-KStmt s rest) = FoldedStep s × FoldedRow rest
+  pub FoldedRow : {m : _} → Arithmetic → Row_of-KStmt m → Type 0
+  FoldedRow a end_of-KStmt = Unit {0}
+  FoldedRow a (more_of-KStmt s rest) = FoldedStep a s × FoldedRow a rest
 
-abbrev pub FoldedCode : List KStmt → Type 0
-FoldedCode [] = Unit {0}
-FoldedCode (s ∷ rest) = FoldedStep s × FoldedCode rest
+abbrev pub FoldedCode : Arithmetic → List KStmt → Type 0
+FoldedCode a [] = Unit {0}
+FoldedCode a (s ∷ rest) = FoldedStep a s × FoldedCode a rest
 
--- statements in which numbers settle nothing
-pub record SimpleCode (code : List KStmt) : Type 0 where
-  pub folded : FoldedCode code
+-- statements in which numbers settle nothing, over an arithmetic of values
+pub record SimpleCode (a : Arithmetic) (code : List KStmt) : Type 0 where
+  pub folded : FoldedCode a code
+
+-- the operator of words that the ring's sum or product is
+abbrev pub operator_for : ValueOp → Op
+operator_for Plus = Add
+operator_for Times = Mul

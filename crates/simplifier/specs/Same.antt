@@ -12,17 +12,17 @@ use Rattle.kernel_code.specs.Meaning.{Setting, State, value, run_list}
 pub record SameValue (e f : KExpr) : Type 0 where
   pub at : (s : State) → value e s ≡ value f s
 
--- From every state, however values are added, and whatever number of turns each loop entry may make, two pieces of code end
+-- Over an arithmetic of values, from every state, and whatever number of turns each loop entry may make, two pieces of code end
 -- alike: both with the same variables, arrays and turns of each kind, both stuck after the same turns, both refused the same
 -- growth of the same array after the same turns, or both without a turn left.
-pub record SameRuns (a b : List KStmt) : Type 0 where
-  pub from : (c : Setting) (n : ℕ) (s : State) → run_list c n a s ≡ run_list c n b s
+pub record SameRuns (arithmetic : Arithmetic) (a b : List KStmt) : Type 0 where
+  pub from : (c : Setting) → c.arithmetic ≡ arithmetic → (n : ℕ) (s : State) → run_list c n a s ≡ run_list c n b s
 
--- Two kernels have the same workspaces and scratch lists, and on the same arrays, within the same number of turns in all, their
+-- Two kernels have the same workspaces and scratch lists, and over an arithmetic of values, on the same arrays, within the same number of turns in all, their
 -- runs end alike: they finish with the same arrays and as many turns of each kind, are stuck, are refused a growth at the same
 -- place with the same count, or don't finish.
-pub record SameKernel (j k : Kernel) : Type 0 where
+pub record SameKernel (arithmetic : Arithmetic) (j k : Kernel) : Type 0 where
   pub workspaces : j.workspaces ≡ k.workspaces
   pub lists : j.lists ≡ k.lists
-  pub runs : (arithmetic : Arithmetic) (order : ℕ) (given : Arr → Option (List ℕ)) (n : ℕ)
+  pub runs : (order : ℕ) (given : Arr → Option (List ℕ)) (n : ℕ)
       → go arithmetic order j given n ≡ go arithmetic order k given n

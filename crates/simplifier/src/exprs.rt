@@ -29,7 +29,7 @@ pub(crate) fn is_zero(e: &KExpr) -> bool
 }
 
 /// An operator of two expressions, or its answer where numbers among them settle it.
-fn fold_binary(alloc: Global, op: Op, a: KExpr, b: KExpr) -> Result<KExpr, AllocError>
+pub(crate) fn fold_binary(alloc: Global, op: Op, a: KExpr, b: KExpr) -> Result<KExpr, AllocError>
     ensures same { IfOk result (λ r. SameValue r (KExpr.Bin op a b)) }
     ensures folded { SimpleExpr a → SimpleExpr b → IfOk result (λ r. SimpleExpr r) }
 {
