@@ -8,6 +8,7 @@ use crate::values::tell_values;
 use case_files::{Answer, Cases, keyword_of};
 use kernel_code::Kernel;
 use kernel_print::put_kernel;
+use numbers::Ring;
 use outside::MemSink;
 use simplifier::simplify;
 use std::alloc::Global;
@@ -45,7 +46,7 @@ impl Session {
         match keyword {
             "print" => tell_kernel(answer, keyword, &kernel),
             "simplify" => {
-                let simple = simplify(answer.alloc(), kernel);
+                let simple = simplify::<Ring>(answer.alloc(), kernel);
                 let simple = answer.made(simple)?;
                 tell_kernel(answer, keyword, &simple)
             }

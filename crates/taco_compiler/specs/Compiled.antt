@@ -91,8 +91,9 @@ pub record IsCompiled (a : Arithmetic) (s : Statement) (formats : List (List For
   pub few : KeepsCost a s formats order kernel
   pub drains : KeepsDrains a s formats kernel
 
--- such a kernel in the loop order, in whose code numbers settle nothing; or the cycle, where there is one; or want of memory
+-- such a kernel in the loop order, in whose code numbers settle nothing and which over the ring adds and multiplies words alone; or the
+-- cycle, where there is one; or want of memory
 abbrev pub Answers : Arithmetic → Statement → List (List FormatLevel) → Result Compiled CompileFault → Type 0
-Answers a s formats (Ok c) = IsOrder s formats c.order × IsCompiled a s formats c.order c.kernel × SimpleCode c.kernel.body
+Answers a s formats (Ok c) = IsOrder s formats c.order × IsCompiled a s formats c.order c.kernel × SimpleCode a c.kernel.body
 Answers a s formats (Err (Cycle cycle)) = HasCycle s formats cycle
 Answers a s formats (Err (Memory error)) = Unit {0}
