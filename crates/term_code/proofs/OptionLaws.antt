@@ -1,19 +1,17 @@
 -- What the code of values that may be absent does.
-use Rattle.std.specs.Prelude.{◌≡◌, ℕ, suc, ◌+◌, ◌≤◌, Bool, true, false, List, [], ◌∷◌, ◌++◌, Option, Some, None, slice_get, refl}
-use Rattle.std.proofs.Common.{◌∙◌, ap, subst, sym, arith}
+use Rattle.std.specs.Prelude.{◌≡◌, ℕ, suc, ◌+◌, ◌≤◌, Bool, true, List, [], ◌∷◌, ◌++◌, Option, Some, None, slice_get, refl}
+use Rattle.std.proofs.Common.{◌∙◌, subst, arith}
 use Rattle.numbers.specs.Arithmetic.{Arithmetic}
-use Rattle.numbers.specs.Ring.{ring}
 use Rattle.kernel_code.specs.declared.syntax.Arr.TheVariants.{Values}
-use Rattle.kernel_code.specs.declared.syntax.ValueOp.{ValueOp}
 use Rattle.kernel_code.specs.declared.syntax.ValueOp.TheVariants.{Plus, Times}
-use Rattle.kernel_code.specs.declared.syntax.KExpr.{KExpr, Num, Var, At, Bin}
+use Rattle.kernel_code.specs.declared.syntax.KExpr.{KExpr, Num, Var, At}
 use Rattle.kernel_code.specs.declared.syntax.KStmt.{KStmt, Set, If}
-use Rattle.kernel_code.specs.Meaning.{Setting, State, combined, value, set_var}
-use Rattle.kernel_code.specs.Does.{Does, Never}
+use Rattle.kernel_code.specs.Meaning.{Setting, State, value, set_var}
+use Rattle.kernel_code.specs.Does.{Never}
 use Rattle.kernel_code.proofs.Does.{does_append, does_set, does_combine, does_nothing, does_if_yes, does_if_no, does_weaker}
 use Rattle.kernel_code.specs.Keeps.{Leaves, NoVariable, EveryArray, no_turns}
 use Rattle.kernel_code.proofs.Keeps.{this_var, other_var}
-use Rattle.kernel_code.proofs.Words.{binary_is, word_is}
+use Rattle.kernel_code.proofs.Words.{word_is}
 use Rattle.level_core.specs.declared.span.Span.{Span}
 use Rattle.level_core.specs.Fragments.{Reads, OptionLeft}
 use Rattle.level_cursors.specs.Children.{ChildLeft}
@@ -24,7 +22,7 @@ use Rattle.loop_code.specs.Loops.{Env, Stored, word_of}
 use Rattle.loop_code.specs.PresentValues.{both, either, each, present_applied}
 use Rattle.term_code.specs.Places.{Places, AccessPlace, AreBelow, Keeps, HasValue, HasValues}
 use Rattle.term_code.specs.Options.{LeavesOption}
-use Rattle.term_code.specs.OptionCodes.{number_code, access_code, operator_for, combine_code, either_code, both_code, each_code}
+use Rattle.term_code.specs.OptionCodes.{number_code, access_code, either_code, both_code, each_code}
 use Rattle.term_code.specs.OptionCodes.{applied_code}
 use Rattle.term_code.proofs.PlaceLaws.{keeps_kept, values_kept}
 
@@ -88,64 +86,52 @@ two_set c free v e s h =
       (other_var t (free + 1) free v (λ q. omega (arith, q)) ∙ this_var s free 1, this_var t (free + 1) v),
     )))
 
--- a sum or a product of values, of the ring's as of words
-combine_does : (r : Bool) (c : Setting) → (r ≡ true → c.arithmetic ≡ ring) → (x : ℕ) (o : ValueOp) (e f : KExpr) (s : State) (v w : ℕ)
-    (P : State → Type 0) → value e s ≡ Some v → value f s ≡ Some w → Does c [] (set_var s x (combined c.arithmetic o v w)) P Never
-    → Does c (combine_code r x o e f ∷ []) s P Never
-unfolding ring
-combine_does false c is x o e f s v w P he hf d = does_combine c x o e f [] s v w P Never he hf d
-combine_does true c is x o e f s v w P he hf d = does_set c x (Bin (operator_for o) e f) [] s (combined c.arithmetic o v w) P Never (by o) d
-  where
-    by : (o : ValueOp) → value (Bin (operator_for o) e f) s ≡ Some (combined c.arithmetic o v w)
-    by Plus = binary_is (operator_for Plus) e f v w s he hf ∙ ap (λ a. Some (a.plus v w)) (sym (is refl))
-    by Times = binary_is (operator_for Times) e f v w s he hf ∙ ap (λ a. Some (a.times v w)) (sym (is refl))
-
-pub each_does : (r : Bool) (c : Setting) → (r ≡ true → c.arithmetic ≡ ring) → (free : ℕ) (x : Option ℕ) (s : State) → OptionLeft free x s
-    → Reads c (each_code r c.arithmetic.minus_one free) free no_turns s (OptionLeft free (each (minus c.arithmetic) x))
-each_does r c is free None s h = else_read c free free _ [] s (OptionLeft free None) h (nothing_read c free s (OptionLeft free None) h)
-each_does r c is free (Some x) s h =
+pub each_does : (c : Setting) (free : ℕ) (x : Option ℕ) (s : State) → OptionLeft free x s
+    → Reads c (each_code c.arithmetic.minus_one free) free no_turns s (OptionLeft free (each (minus c.arithmetic) x))
+each_does c free None s h = else_read c free free _ [] s (OptionLeft free None) h (nothing_read c free s (OptionLeft free None) h)
+each_does c free (Some x) s h =
     let v = minus c.arithmetic x in
     if_read c free free 0 _ [] s _ h.0
-    (combine_does r c is (free + 1) Times (Num c.arithmetic.minus_one) (Var (free + 1)) s c.arithmetic.minus_one x _ refl h.1
+    (does_combine c (free + 1) Times (Num c.arithmetic.minus_one) (Var (free + 1)) [] s c.arithmetic.minus_one x _ Never refl h.1
     (does_nothing c (set_var s (free + 1) v) _ Never (
       one_set free (free + 1) v s (omega arith),
       (other_var s (free + 1) free v (λ q. omega (arith, q)) ∙ h.0, this_var s (free + 1) v),
     )))
 
-both_does : (r : Bool) (c : Setting) → (r ≡ true → c.arithmetic ≡ ring) → (free : ℕ) (x y : Option ℕ) (s : State)
+both_does : (c : Setting) (free : ℕ) (x y : Option ℕ) (s : State)
     → OptionLeft free x s → OptionLeft (free + 2) y s
-    → Reads c (both_code r free) free no_turns s (OptionLeft free (both c.arithmetic.times x y))
-both_does r c is free None y s h g = else_read c free free _ [] s (OptionLeft free None) h (nothing_read c free s (OptionLeft free None) h)
-both_does r c is free (Some x) None s h g =
+    → Reads c (both_code free) free no_turns s (OptionLeft free (both c.arithmetic.times x y))
+both_does c free None y s h g = else_read c free free _ [] s (OptionLeft free None) h (nothing_read c free s (OptionLeft free None) h)
+both_does c free (Some x) None s h g =
     if_read c free free 0 _ [] s (OptionLeft free None) h.0
     (else_read c free (free + 2) _ (Set free (Num 0) ∷ []) s (OptionLeft free None) g
     (set_read c free free 0 (Num 0) s (OptionLeft free None) (omega arith) refl (this_var s free 0)))
-both_does r c is free (Some x) (Some y) s h g =
+both_does c free (Some x) (Some y) s h g =
     let v = c.arithmetic.times x y in
     if_read c free free 0 _ [] s _ h.0
     (if_read c free (free + 2) 0 _ (Set free (Num 0) ∷ []) s _ g.0
-    (combine_does r c is (free + 1) Times (Var (free + 1)) (Var (free + 2 + 1)) s x y _ h.1 g.1
+    (does_combine c (free + 1) Times (Var (free + 1)) (Var (free + 2 + 1)) [] s x y _ Never h.1 g.1
     (does_nothing c (set_var s (free + 1) v) _ Never (
       one_set free (free + 1) v s (omega arith),
       (other_var s (free + 1) free v (λ q. omega (arith, q)) ∙ h.0, this_var s (free + 1) v),
     ))))
 
-either_does : (r : Bool) (c : Setting) → (r ≡ true → c.arithmetic ≡ ring) → (free : ℕ) (x y : Option ℕ) (s : State)
+either_does : (c : Setting) (free : ℕ) (x y : Option ℕ) (s : State)
     → OptionLeft free x s → OptionLeft (free + 2) y s
-    → Reads c (either_code r free) free no_turns s (OptionLeft free (either c.arithmetic.plus x y))
-either_does r c is free None None s h g = else_read c free (free + 2) _ [] s (OptionLeft free None) g
+    → Reads c (either_code free) free no_turns s (OptionLeft free (either c.arithmetic.plus x y))
+either_does c free None None s h g = else_read c free (free + 2) _ [] s (OptionLeft free None) g
     (nothing_read c free s (OptionLeft free None) h)
-either_does r c is free (Some x) None s h g = else_read c free (free + 2) _ [] s (OptionLeft free (Some x)) g
+either_does c free (Some x) None s h g = else_read c free (free + 2) _ [] s (OptionLeft free (Some x)) g
     (nothing_read c free s (OptionLeft free (Some x)) h)
-either_does r c is free None (Some y) s h g =
+either_does c free None (Some y) s h g =
     if_read c free (free + 2) 0 _ [] s _ g.0
     (else_read c free free _ _ s _ h
     (two_set c free y (Var (free + 2 + 1)) s (other_var s free (free + 2 + 1) 1 (λ q. omega (arith, q)) ∙ g.1)))
-either_does r c is free (Some x) (Some y) s h g =
+either_does c free (Some x) (Some y) s h g =
     let v = c.arithmetic.plus x y in
     if_read c free (free + 2) 0 _ [] s _ g.0
     (if_read c free free 0 _ _ s _ h.0
-    (combine_does r c is (free + 1) Plus (Var (free + 1)) (Var (free + 2 + 1)) s x y _ h.1 g.1
+    (does_combine c (free + 1) Plus (Var (free + 1)) (Var (free + 2 + 1)) [] s x y _ Never h.1 g.1
     (does_nothing c (set_var s (free + 1) v) _ Never (
       one_set free (free + 1) v s (omega arith),
       (other_var s (free + 1) free v (λ q. omega (arith, q)) ∙ h.0, this_var s (free + 1) v),
@@ -197,42 +183,42 @@ module _ (a : Arithmetic) (places : Places) (these : ℕ → Bool) (free : ℕ) 
         (option_kept free (f stored env) t u (r.0.below free (omega arith) (λ z. z)) (r.0.below (free + 1) (omega arith) (λ z. z)) o, r.1),
       )) (λ t b n z. z))
 
-  pub sum_leaves : (r : Bool) → (r ≡ true → a ≡ ring) → (f g : Options) (x y : List KStmt) → LeavesOption a places these f free x
+  pub sum_leaves : (f g : Options) (x y : List KStmt) → LeavesOption a places these f free x
       → LeavesOption a places these g (free + 2) y
-      → LeavesOption a places these (λ stored env. either a.plus (f stored env) (g stored env)) free ((x ++ y) ++ either_code r free)
-  sum_leaves r ring_is f g x y h k = λ c is stored bound env s keeps has.
-      then_reads c (x ++ y) (either_code r free) free free s _ _ (omega arith) (beside f g x y h k c is stored bound env s keeps has)
-      (λ t l o. subst (λ b. Reads c (either_code r free) free no_turns t (OptionLeft free (either b.plus (f stored env) (g stored env)))) is
-      (either_does r c (λ e. is ∙ ring_is e) free (f stored env) (g stored env) t o.0 o.1))
+      → LeavesOption a places these (λ stored env. either a.plus (f stored env) (g stored env)) free ((x ++ y) ++ either_code free)
+  sum_leaves f g x y h k = λ c is stored bound env s keeps has.
+      then_reads c (x ++ y) (either_code free) free free s _ _ (omega arith) (beside f g x y h k c is stored bound env s keeps has)
+      (λ t l o. subst (λ b. Reads c (either_code free) free no_turns t (OptionLeft free (either b.plus (f stored env) (g stored env)))) is
+      (either_does c free (f stored env) (g stored env) t o.0 o.1))
 
-  pub product_leaves : (r : Bool) → (r ≡ true → a ≡ ring) → (f g : Options) (x y : List KStmt) → LeavesOption a places these f free x
+  pub product_leaves : (f g : Options) (x y : List KStmt) → LeavesOption a places these f free x
       → LeavesOption a places these g (free + 2) y
-      → LeavesOption a places these (λ stored env. both a.times (f stored env) (g stored env)) free ((x ++ y) ++ both_code r free)
-  product_leaves r ring_is f g x y h k = λ c is stored bound env s keeps has.
-      then_reads c (x ++ y) (both_code r free) free free s _ _ (omega arith) (beside f g x y h k c is stored bound env s keeps has)
-      (λ t l o. subst (λ b. Reads c (both_code r free) free no_turns t (OptionLeft free (both b.times (f stored env) (g stored env)))) is
-      (both_does r c (λ e. is ∙ ring_is e) free (f stored env) (g stored env) t o.0 o.1))
+      → LeavesOption a places these (λ stored env. both a.times (f stored env) (g stored env)) free ((x ++ y) ++ both_code free)
+  product_leaves f g x y h k = λ c is stored bound env s keeps has.
+      then_reads c (x ++ y) (both_code free) free free s _ _ (omega arith) (beside f g x y h k c is stored bound env s keeps has)
+      (λ t l o. subst (λ b. Reads c (both_code free) free no_turns t (OptionLeft free (both b.times (f stored env) (g stored env)))) is
+      (both_does c free (f stored env) (g stored env) t o.0 o.1))
 
-pub negated_leaves : (a : Arithmetic) (r : Bool) → (r ≡ true → a ≡ ring) → (places : Places) (these : ℕ → Bool) (free : ℕ) (f : Options)
+pub negated_leaves : (a : Arithmetic) (places : Places) (these : ℕ → Bool) (free : ℕ) (f : Options)
     (x : List KStmt)
     → LeavesOption a places these f free x
-    → LeavesOption a places these (λ stored env. each (minus a) (f stored env)) free (x ++ each_code r a.minus_one free)
-negated_leaves a r ring_is places these free f x h = λ c is stored bound env s keeps has.
-    then_reads c x (each_code r a.minus_one free) free free s _ _ (omega arith) (h c is stored bound env s keeps has)
-    (λ t l o. subst (λ b. Reads c (each_code r b.minus_one free) free no_turns t (OptionLeft free (each (minus b) (f stored env)))) is
-    (each_does r c (λ e. is ∙ ring_is e) free (f stored env) t o))
+    → LeavesOption a places these (λ stored env. each (minus a) (f stored env)) free (x ++ each_code a.minus_one free)
+negated_leaves a places these free f x h = λ c is stored bound env s keeps has.
+    then_reads c x (each_code a.minus_one free) free free s _ _ (omega arith) (h c is stored bound env s keeps has)
+    (λ t l o. subst (λ b. Reads c (each_code b.minus_one free) free no_turns t (OptionLeft free (each (minus b) (f stored env)))) is
+    (each_does c free (f stored env) t o))
 
-pub applied_leaves : (a : Arithmetic) (r : Bool) → (r ≡ true → a ≡ ring) → (places : Places) (these : ℕ → Bool) (free : ℕ)
+pub applied_leaves : (a : Arithmetic) (places : Places) (these : ℕ → Bool) (free : ℕ)
     → AreBelow free places → (o : Operator)
     (f g : Options) (x y : List KStmt) → LeavesOption a places these f free x → LeavesOption a places these g (free + 2) y
     → LeavesOption a places these (λ stored env. present_applied a o (f stored env) (g stored env)) free
-    (applied_code r a.minus_one o x y free)
-applied_leaves a r ring_is places these free are op.Add f g x y h k = sum_leaves a places these free are r ring_is f g x y h k
-applied_leaves a r ring_is places these free are op.Sub f g x y h k =
-    sum_leaves a places these free are r ring_is f (λ stored env. each (minus a) (g stored env)) x
-    (y ++ each_code r a.minus_one (free + 2)) h
-    (negated_leaves a r ring_is places these (free + 2) g y k)
-applied_leaves a r ring_is places these free are op.Mul f g x y h k = product_leaves a places these free are r ring_is f g x y h k
+    (applied_code a.minus_one o x y free)
+applied_leaves a places these free are op.Add f g x y h k = sum_leaves a places these free are f g x y h k
+applied_leaves a places these free are op.Sub f g x y h k =
+    sum_leaves a places these free are f (λ stored env. each (minus a) (g stored env)) x
+    (y ++ each_code a.minus_one (free + 2)) h
+    (negated_leaves a places these (free + 2) g y k)
+applied_leaves a places these free are op.Mul f g x y h k = product_leaves a places these free are f g x y h k
 
 pub leaves_same : (a : Arithmetic) (places : Places) (these : ℕ → Bool) (free : ℕ) (f g : Options) (x : List KStmt)
     → ((stored : Stored) (env : Env) → f stored env ≡ g stored env)

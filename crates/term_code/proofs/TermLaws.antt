@@ -4,7 +4,6 @@ use Rattle.std.specs.Prelude.{slice_index, slice_index_or, refl}
 use Rattle.std.proofs.Common.{◌∙◌, sym, ap, subst, arith}
 use Rattle.std.proofs.lemmas.List.{append-nil}
 use Rattle.numbers.specs.Arithmetic.{Arithmetic, Laws}
-use Rattle.numbers.specs.Ring.{ring}
 use Rattle.kernel_code.specs.declared.syntax.KExpr.{Var}
 use Rattle.kernel_code.specs.declared.syntax.KStmt.{KStmt, If}
 use Rattle.kernel_code.specs.Meaning.{Setting, State}
@@ -37,14 +36,14 @@ module _ (a : Arithmetic) (places : Places) (these : ℕ → Bool) (free : ℕ) 
       (λ stored env. term_value a stored env t) x
       (λ stored env. ap (λ b. signed a b (present_value a (access_values stored env) t.expr)) (sym is)) leaves
 
-  pub signed_leaves : (r : Bool) → (r ≡ true → a ≡ ring) → t.negated ≡ true
-      → LeavesOption a places these (λ stored env. term_value a stored env t) free (x ++ each_code r a.minus_one free)
-  signed_leaves r ring_is is =
+  pub signed_leaves : t.negated ≡ true
+      → LeavesOption a places these (λ stored env. term_value a stored env t) free (x ++ each_code a.minus_one free)
+  signed_leaves is =
       leaves_same a places these free (λ stored env. signed a true (present_value a (access_values stored env) t.expr))
       (λ stored env. term_value a stored env t)
-      (x ++ each_code r a.minus_one free)
+      (x ++ each_code a.minus_one free)
       (λ stored env. ap (λ b. signed a b (present_value a (access_values stored env) t.expr)) (sym is))
-      (negated_leaves a r ring_is places these free (λ stored env. present_value a (access_values stored env) t.expr) x leaves)
+      (negated_leaves a places these free (λ stored env. present_value a (access_values stored env) t.expr) x leaves)
 
 -- the kernel's variables of the target's are below free
 pub keys_below : (free : ℕ) (variables target : List ℕ) → All (λ y. y < free) variables → All (λ v. v < length variables) target

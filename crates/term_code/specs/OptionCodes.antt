@@ -1,11 +1,8 @@
 -- The code of values that may be absent: 1 and the value, or 0.
-use Rattle.std.specs.Prelude.{ℕ, ◌+◌, Bool, true, false, List, [], ◌∷◌, ◌++◌}
+use Rattle.std.specs.Prelude.{ℕ, ◌+◌, List, [], ◌∷◌, ◌++◌}
 use Rattle.kernel_code.specs.declared.syntax.Arr.TheVariants.{Values}
-use Rattle.kernel_code.specs.declared.syntax.Op.{Op}
-use Rattle.kernel_code.specs.declared.syntax.Op.TheVariants.{Add, Mul}
-use Rattle.kernel_code.specs.declared.syntax.ValueOp.{ValueOp}
 use Rattle.kernel_code.specs.declared.syntax.ValueOp.TheVariants.{Plus, Times}
-use Rattle.kernel_code.specs.declared.syntax.KExpr.{KExpr, Num, Var, At, Bin}
+use Rattle.kernel_code.specs.declared.syntax.KExpr.{Num, Var, At}
 use Rattle.kernel_code.specs.declared.syntax.KStmt.{KStmt, Set, Combine, If}
 use Rattle.index_notation.specs.declared.operator.Operator.{Operator}
 use Rattle.index_notation.specs.declared.operator.Operator.TheVariants as op
@@ -19,38 +16,28 @@ abbrev pub access_code : AccessPlace → ℕ → List KStmt
 access_code p free = If (Var p.cursor) (Set free (Num 1) ∷ Set (free + 1) (At (Values p.tensor) (Var (p.cursor + 1))) ∷ [])
     (Set free (Num 0) ∷ []) ∷ []
 
--- the operator of words that the ring's sum or product is
-abbrev pub operator_for : ValueOp → Op
-operator_for Plus = Add
-operator_for Times = Mul
-
--- the sum or the product of two expressions is left in a variable: where the values are the ring's, as that of words
-abbrev pub combine_code : Bool → ℕ → ValueOp → KExpr → KExpr → KStmt
-combine_code false x o e f = Combine x o e f
-combine_code true x o e f = Set x (Bin (operator_for o) e f)
-
 -- of two values, one from free on and the other from free + 2 on, the sum where both are there, else the one that is
-abbrev pub either_code : Bool → ℕ → List KStmt
-either_code ring free =
+abbrev pub either_code : ℕ → List KStmt
+either_code free =
     If (Var (free + 2))
     (If (Var free)
-    (combine_code ring (free + 1) Plus (Var (free + 1)) (Var (free + 2 + 1)) ∷ [])
+    (Combine (free + 1) Plus (Var (free + 1)) (Var (free + 2 + 1)) ∷ [])
     (Set free (Num 1) ∷ Set (free + 1) (Var (free + 2 + 1)) ∷ []) ∷ [])
     [] ∷ []
 
 -- their product, where both are there
-abbrev pub both_code : Bool → ℕ → List KStmt
-both_code ring free =
+abbrev pub both_code : ℕ → List KStmt
+both_code free =
     If (Var free)
-    (If (Var (free + 2)) (combine_code ring (free + 1) Times (Var (free + 1)) (Var (free + 2 + 1)) ∷ []) (Set free (Num 0) ∷ []) ∷ [])
+    (If (Var (free + 2)) (Combine (free + 1) Times (Var (free + 1)) (Var (free + 2 + 1)) ∷ []) (Set free (Num 0) ∷ []) ∷ [])
     [] ∷ []
 
 -- a value by a number, where it is there
-abbrev pub each_code : Bool → ℕ → ℕ → List KStmt
-each_code ring n free = If (Var free) (combine_code ring (free + 1) Times (Num n) (Var (free + 1)) ∷ []) [] ∷ []
+abbrev pub each_code : ℕ → ℕ → List KStmt
+each_code n free = If (Var free) (Combine (free + 1) Times (Num n) (Var (free + 1)) ∷ []) [] ∷ []
 
 -- an operator of two values, by the code of each and the number minus one
-abbrev pub applied_code : Bool → ℕ → Operator → List KStmt → List KStmt → ℕ → List KStmt
-applied_code ring n op.Add first second free = (first ++ second) ++ either_code ring free
-applied_code ring n op.Sub first second free = (first ++ (second ++ each_code ring n (free + 2))) ++ either_code ring free
-applied_code ring n op.Mul first second free = (first ++ second) ++ both_code ring free
+abbrev pub applied_code : ℕ → Operator → List KStmt → List KStmt → ℕ → List KStmt
+applied_code n op.Add first second free = (first ++ second) ++ either_code free
+applied_code n op.Sub first second free = (first ++ (second ++ each_code n (free + 2))) ++ either_code free
+applied_code n op.Mul first second free = (first ++ second) ++ both_code free

@@ -7,12 +7,12 @@ ghost use Rattle.loop_code.specs.Places.{EachAccess};
 ghost use Rattle.loop_code.specs.PresentValues.{present_value};
 ghost use Rattle.term_code.specs.Places.{AreBelow};
 ghost use Rattle.term_code.specs.Options.{LeavesOption};
-ghost use Rattle.term_code.specs.OptionCodes.{number_code, access_code, operator_for, combine_code, either_code, both_code, each_code};
+ghost use Rattle.term_code.specs.OptionCodes.{number_code, access_code, either_code, both_code, each_code};
 ghost use Rattle.term_code.specs.OptionCodes.{applied_code};
 
 use crate::places::{AccessPlace, Places};
 use index_notation::{Expr, Operator};
-use kernel_code::{Arr, KExpr, KStmt, Op, ValueOp, binary, one_statement, word_at};
+use kernel_code::{Arr, KExpr, KStmt, ValueOp, one_statement, word_at};
 use numbers::Semiring;
 use std::alloc::{AllocError, Global};
 use trees::Items;
@@ -45,60 +45,28 @@ fn access(alloc: Global, place: AccessPlace, free: u64) -> Result<Items<KStmt>, 
     Ok(code)
 }
 
-/// The operator of words that the ring's sum or product is.
-fn operator_for(op: ValueOp) -> Op
-    ensures { result ≡ operator_for op }
-{
-    match op {
-        ValueOp::Plus => Op::Add,
-        ValueOp::Times => Op::Mul,
-    }
-}
-
-/// Leaves the sum or the product of two values in a variable.
-fn combined<S: Semiring>(
-    alloc: Global,
-    x: u64,
-    op: ValueOp,
-    first: KExpr,
-    second: KExpr,
-) -> Result<Items<KStmt>, AllocError>
-    ensures { IfOk result (λ code. code ≡ combine_code S.is_ring x op first second ∷ []) }
-{
-    if S::is_ring() {
-        let words = binary(alloc, operator_for(op), first, second)?;
-        one_statement(alloc, KStmt::Set(x, words))
-    } else {
-        one_statement(alloc, KStmt::Combine(x, op, first, second))
-    }
-}
-
 /// Leaves the sum or the product of two values that are there in place of the first.
-fn combined_pair<S: Semiring>(
-    alloc: Global,
-    op: ValueOp,
-    free: u64,
-) -> Result<Items<KStmt>, AllocError>
+fn combined_pair(alloc: Global, op: ValueOp, free: u64) -> Result<Items<KStmt>, AllocError>
     requires { free ≤ 2 ^ 62 }
     ensures { IfOk result
-        (λ code. code ≡ combine_code S.is_ring (free + 1) op (KExpr.Var (free + 1)) (KExpr.Var (free + 2 + 1)) ∷ []) }
+        (λ code. code ≡ KStmt.Combine (free + 1) op (KExpr.Var (free + 1)) (KExpr.Var (free + 2 + 1)) ∷ []) }
 {
     let first = KExpr::Var(free + 1);
     let second = KExpr::Var(free + 2 + 1);
-    combined::<S>(alloc, free + 1, op, first, second)
+    one_statement(alloc, KStmt::Combine(free + 1, op, first, second))
 }
 
 /// The sum of two values, of which an absent one counts nothing.
-fn sum<S: Semiring>(
+fn sum(
     alloc: Global,
     first: Items<KStmt>,
     second: Items<KStmt>,
     free: u64,
 ) -> Result<Items<KStmt>, AllocError>
     requires { free ≤ 2 ^ 62 }
-    ensures { IfOk result (λ code. code ≡ (first ++ second) ++ either_code S.is_ring free) }
+    ensures { IfOk result (λ code. code ≡ (first ++ second) ++ either_code free) }
 {
-    let two = combined_pair::<S>(alloc, ValueOp::Plus, free)?;
+    let two = combined_pair(alloc, ValueOp::Plus, free)?;
     let mut other = one_statement(alloc, KStmt::Set(free, KExpr::Num(1)))?;
     other.push(KStmt::Set(free + 1, KExpr::Var(free + 2 + 1)))?;
     let there = one_statement(alloc, KStmt::If(KExpr::Var(free), two, other))?;
@@ -109,16 +77,16 @@ fn sum<S: Semiring>(
 }
 
 /// The product of two values, absent where one is.
-fn product<S: Semiring>(
+fn product(
     alloc: Global,
     first: Items<KStmt>,
     second: Items<KStmt>,
     free: u64,
 ) -> Result<Items<KStmt>, AllocError>
     requires { free ≤ 2 ^ 62 }
-    ensures { IfOk result (λ code. code ≡ (first ++ second) ++ both_code S.is_ring free) }
+    ensures { IfOk result (λ code. code ≡ (first ++ second) ++ both_code free) }
 {
-    let two = combined_pair::<S>(alloc, ValueOp::Times, free)?;
+    let two = combined_pair(alloc, ValueOp::Times, free)?;
     let none = one_statement(alloc, KStmt::Set(free, KExpr::Num(0)))?;
     let there = one_statement(alloc, KStmt::If(KExpr::Var(free + 2), two, none))?;
     let mut code = first;
@@ -135,17 +103,12 @@ pub(crate) fn negated<S: Semiring>(
 ) -> Result<Items<KStmt>, AllocError>
     requires minus { S.has_minus ≡ true }
     requires room { free ≤ 2 ^ 63 }
-    ensures { IfOk result (λ code. code ≡ value ++ each_code S.is_ring S.arithmetic.minus_one free) }
+    ensures { IfOk result (λ code. code ≡ value ++ each_code S.arithmetic.minus_one free) }
 {
     let minus_one = S::minus_one().unwrap();
     let number = KExpr::Num(minus_one);
-    let there = combined::<S>(
-        alloc,
-        free + 1,
-        ValueOp::Times,
-        number,
-        KExpr::Var(free + 1),
-    )?;
+    let product = KStmt::Combine(free + 1, ValueOp::Times, number, KExpr::Var(free + 1));
+    let there = one_statement(alloc, product)?;
     let mut code = value;
     code.push(KStmt::If(KExpr::Var(free), there, Items::new(alloc)))?;
     Ok(code)
@@ -161,20 +124,20 @@ fn applied<S: Semiring>(
 ) -> Result<Items<KStmt>, AllocError>
     requires minus { is_minus operator ≡ true → S.has_minus ≡ true }
     requires room { free ≤ 2 ^ 62 }
-    ensures { IfOk result (λ code. code ≡ applied_code S.is_ring S.arithmetic.minus_one operator first second free) }
+    ensures { IfOk result (λ code. code ≡ applied_code S.arithmetic.minus_one operator first second free) }
 {
     match operator {
         Operator::Add => {
-            let code = sum::<S>(alloc, first, second, free)?;
+            let code = sum(alloc, first, second, free)?;
             Ok(code)
         }
         Operator::Sub => {
             let less = negated::<S>(alloc, second, free + 2)?;
-            let code = sum::<S>(alloc, first, less, free)?;
+            let code = sum(alloc, first, less, free)?;
             Ok(code)
         }
         Operator::Mul => {
-            let code = product::<S>(alloc, first, second, free)?;
+            let code = product(alloc, first, second, free)?;
             Ok(code)
         }
     }

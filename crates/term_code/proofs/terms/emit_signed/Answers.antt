@@ -17,5 +17,4 @@ returns g c = λ these each.
     let t = c.args.term.now in
     let minus : t.negated ≡ true = grind (arith, c.if-not-term.false) in
     subst (LeavesOption a c.args.places.now these (λ stored env. term_value a stored env t) c.args.free) (sym c.in_ok-code.ensures)
-    (signed_leaves a c.args.places.now these c.args.free t c.in_ok-value.value (c.in_ok-value.ensures these each)
-    g.S.Semiring.is_ring g.met.S.Semiring.ring_is minus)
+    (signed_leaves a c.args.places.now these c.args.free t c.in_ok-value.value (c.in_ok-value.ensures these each) minus)

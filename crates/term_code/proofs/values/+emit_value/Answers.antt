@@ -108,7 +108,7 @@ returns-in_ok-code-in-Binary g t c = λ these stand.
     (leaves_same a places these free (λ stored env. present_applied a o (present_value a (access_values stored env) e)
     (present_value a (access_values stored env) f)) (λ stored env. present_value a (access_values stored env) (Binary o e f)) _
     (λ stored env. sym (value_binary a (access_values stored env) o e f))
-    (applied_leaves a g.S.Semiring.is_ring g.met.S.Semiring.ring_is places these free c.requires.below o
+    (applied_leaves a places these free c.requires.below o
     (λ stored env. present_value a (access_values stored env) e)
     (λ stored env. present_value a (access_values stored env) f) c.in_ok-x-in-Binary.x c.in_ok-y-in-Binary.y one two)))
 
@@ -128,7 +128,7 @@ returns-in_ok-code-in-Neg g t c = λ these stand.
     (sym c.in_ok-code-in-Neg.ensures)
     (leaves_same a places these free (λ stored env. each (minus a) (present_value a (access_values stored env) e))
     (λ stored env. present_value a (access_values stored env) (Neg e)) _ (λ stored env. sym (value_neg a (access_values stored env) e))
-    (negated_leaves a g.S.Semiring.is_ring g.met.S.Semiring.ring_is places these free
+    (negated_leaves a places these free
     (λ stored env. present_value a (access_values stored env) e)
     c.in_ok-x-in-Neg.x one)))
 
