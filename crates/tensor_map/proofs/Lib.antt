@@ -1,6 +1,6 @@
-pub mod Greatest
 pub mod Lemmas
 pub mod Neighbours
+pub mod Noted
 pub mod OrderLaws
 pub mod Permutations
 pub mod Sorting

@@ -83,6 +83,29 @@ module _ (a : Arithmetic) where
         ∙ ap (λ es. (take last current ++ x ∷ []) ++ summed_from a y es) back);
   }
 
+  -- the next entry stands where it goes already
+  pub adds_here : (initial current : List Entry) (last next : ℕ) → Adds a initial current last next → next < length initial
+      → ((d : Entry) → pointwise nat_eq (get_or current next d).coords (get_or current last d).coords ≡ false)
+      → last + 1 ≡ next
+      → Adds a initial current (last + 1) (next + 1)
+  adds_here initial current last next so h tested here = record {
+    long = so.long;
+    behind = omega arith;
+    within = omega arith;
+    is = λ d.
+        let x : Entry = get_or current last d in
+        let y : Entry = get_or current next d in
+        let last_in : last < length current = omega (arith, so.behind, so.long) in
+        let next_in : next < length current = omega (arith, so.long) in
+        let rest : List Entry = summed_from a y (drop (next + 1) current) in
+        so.is d
+        ∙ ap (λ es. take last current ++ summed_from a x es) (drop_more current next d next_in)
+        ∙ ap (λ es. take last current ++ es) (summed_other a x y (drop (next + 1) current) (tested d))
+        ∙ sym (append_assoc (take last current) (x ∷ []) rest)
+        ∙ sym (ap (λ es. es ++ summed_from a (get_or current (last + 1) d) (drop (next + 1) current)) (take_more current last d last_in)
+        ∙ ap (λ k. (take last current ++ x ∷ []) ++ summed_from a (get_or current k d) (drop (next + 1) current)) here);
+  }
+
   -- at the end
   pub adds_all : (initial current : List Entry) (last next : ℕ) → Adds a initial current last next → length initial ≤ next
       → take (last + 1) current ≡ summed a initial

@@ -1,14 +1,14 @@
 -- Entries of a tensor in a row, and the tensor that they stand for: at a coordinate list the sum of the values
 -- of all entries that have it, and beside that the coordinate lists that some entry has. This is how the FROSTT
 -- page and NISTIR 5935 (section 'Coordinate Format') read a list of entries.
-use Rattle.std.specs.Prelude.{◌≡◌, ◌≢◌, ℕ, ◌^◌, ◌<◌, ◌≤◌, Bool, nat_eq, not, List}
+use Rattle.std.specs.Prelude.{◌≡◌, ◌≢◌, ℕ, ◌+◌, ◌^◌, ◌<◌, ◌≤◌, Bool, IsTrue, max, nat_eq, not, List}
 use Rattle.std.specs.Prelude.{[], ◌∷◌, length, map, filter, All, ◌⊎◌, ◌↔◌, slice_index}
 use Rattle.std.specs.Prelude.{slice_index_or}
 use Rattle.std.specs.Cmp.Lexicographic.{pointwise}
 use Rattle.limits.specs.Limits.{greatest_order}
 use Rattle.numbers.specs.Arithmetic.{Arithmetic}
 use Rattle.numbers.specs.Sums.{total_of}
-use Rattle.tensor_map.specs.Order.{Increasing}
+use Rattle.tensor_map.specs.Order.{IsBefore, Increasing}
 pub use Rattle.tensor_map.specs.declared.entries.Entry.{Entry}
 
 -- the number of modes, and the entries in their order
@@ -72,3 +72,18 @@ NoneIsZero a entries = All (λ entry. entry.value ≢ a.zero) entries
 pub record IsGreatest (entries : List Entry) (mode coordinate : ℕ) : Type 0 where
   pub found : (k : ℕ) × (k < length entries) × ((d : Entry) → slice_index (slice_index_or entries k d).coords mode ≡ coordinate)
   pub most : All (λ entry. slice_index entry.coords mode ≤ coordinate) entries
+
+-- the coordinates are after those of the last entry, if there is one
+abbrev pub ComeLast : List Entry → List ℕ → Type 0
+ComeLast entries coords = (k : ℕ) (d : Entry) → k + 1 ≡ length entries → IsBefore (slice_index_or entries k d).coords coords
+
+-- the greatest of the entries' coordinates in a mode, and 0 where there is no entry
+abbrev pub greatest_in : List Entry → ℕ → ℕ
+greatest_in [] mode = 0
+greatest_in (entry ∷ entries) mode = max (slice_index entry.coords mode) (greatest_in entries mode)
+
+-- what is noted beside a row of entries is true of them
+pub record AreNoted (entries : Entries) (increases : Bool) (greatest : List ℕ) : Type 0 where
+  pub row : AreEntries entries
+  pub increasing : IsTrue increases → StrictlyIncreasing entries.list
+  pub most : (mode : ℕ) → slice_index greatest mode ≡ greatest_in entries.list mode

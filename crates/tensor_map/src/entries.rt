@@ -1,9 +1,9 @@
 ghost use Rattle.std.specs.Prelude.{◌≡◌, ℕ, ◌≤◌, ◌<◌, ◌↔◌, [], ◌∷◌, ◌++◌};
 ghost use Rattle.std.specs.Prelude.{length, IsTrue, IsOk, IfOk, OnOk, OnErr, MatchOption};
-ghost use Rattle.std.specs.Prelude.{slice_index_or, slice_set, nat_eq, max, List, take, filter};
+ghost use Rattle.std.specs.Prelude.{slice_index, slice_index_or, slice_set, nat_eq, max, List, take, filter};
 ghost use Rattle.limits.specs.Limits.{greatest_order};
 ghost use Rattle.tensor_map.specs.Summed.{joined, summed};
-ghost use Rattle.tensor_map.specs.Entries.{Entry};
+ghost use Rattle.tensor_map.specs.Entries.{Entry, ComeLast, greatest_in};
 ghost use Rattle.std.specs.Cmp.Lexicographic.{pointwise};
 
 use crate::Coords;
@@ -18,21 +18,25 @@ struct Entry {
     value: u64,
 }
 
-/// Entries of a tensor in a row, which may repeat coordinates.
+/// Entries of a tensor in a row, which may repeat coordinates. What a caller asks of all of them is noted as each is pushed.
 #[derive(Debug, Drop)]
 pub struct Entries {
     order: usize,
     list: Vec<Entry>,
+    /// Whether each entry's coordinates are before the next one's, so that there is nothing to sort.
+    increases: bool,
+    /// The greatest coordinate of each mode, and 0 where there is no entry.
+    greatest: [u64; 6],
 }
 
 impl Model for Entries {
-    ghost use Rattle.tensor_map.specs.Entries.{Entries as Row, AreEntries};
+    ghost use Rattle.tensor_map.specs.Entries.{Entries as Row, AreNoted};
 
     ghost Value = { Row };
 
     ghost view = { λ e. record { order = e.order; list = e.list.items } };
 
-    ghost invariant = { λ e. AreEntries (record { order = e.order; list = e.list.items }) };
+    ghost invariant = { λ e. AreNoted (record { order = e.order; list = e.list.items }) e.increases e.greatest };
 }
 
 impl Entries {
@@ -48,10 +52,13 @@ impl Entries {
         Ok(Entries {
             order,
             list: Vec::new(alloc),
+            increases: true,
+            greatest: [0; 6],
         })
     }
 
     /// Appends an entry. Refused for want of memory, the entries are as before.
+    #[tactic(auto, unfolding(limits::specs::Limits::greatest_order))]
     pub fn push(&mut self, coords: &[u64], v: u64) -> Result<(), AllocError>
         requires { length coords.now ≡ self.old.order }
         ensures order { self.new.order ≡ self.old.order }
@@ -63,7 +70,10 @@ impl Entries {
             coords: Coords::from_slice(alloc, coords),
             value: v,
         };
+        let increases = self.increases && come_last(self.list.as_slice(), coords);
         self.list.push(entry)?;
+        self.increases = increases;
+        raise(&mut self.greatest, coords);
         Ok(())
     }
 
@@ -108,7 +118,8 @@ impl Entries {
     }
 
     /// Puts the entries in increasing lexicographic order of their coordinates, and adds the values of equal ones, as
-    /// `S` says. A sum of zero stays. They are sorted where they stand, which takes no memory: nothing is refused.
+    /// `S` says. A sum of zero stays. They are sorted where they stand, which takes no memory: nothing is refused. Where they
+    /// increase already, nothing is read or moved.
     pub fn sort_sum<S: Semiring>(&mut self) -> Result<(), AllocError>
         ensures order { self.new.order ≡ self.old.order }
         ensures values { OnOk result (SameValues S.arithmetic self.old.list self.new.list) }
@@ -118,12 +129,16 @@ impl Entries {
         ensures shorter { length self.new.list ≤ length self.old.list }
         ensures succeeds { IsOk result }
     {
+        if self.increases {
+            return Ok(());
+        }
         self.list.sort_unstable_by(|left, right| left
             .coords
             .as_slice()
             .cmp(&right.coords.as_slice()));
         let kept = add_neighbours::<S>(self.list.as_mut_slice());
         self.list.truncate(kept);
+        self.increases = true;
         Ok(())
     }
 
@@ -136,28 +151,56 @@ impl Entries {
         ensures increasing { StrictlyIncreasing self.old.list → StrictlyIncreasing self.new.list }
         ensures entries { AreEntries self.new }
     {
+        let before = self.list.len();
         self.list.retain(|entry| entry.value != S::zero());
+        if self.list.len() < before {
+            self.greatest = greatest_of(self.list.as_slice());
+        }
     }
 
     /// The greatest coordinate that an entry has in a mode, and none exactly where there is no entry.
+    #[tactic(auto, unfolding(limits::specs::Limits::greatest_order))]
     pub fn greatest(&self, mode: usize) -> Option<u64>
         requires { mode < self.now.order }
         ensures { MatchOption result (self.now.list ≡ []) (IsGreatest self.now.list mode) }
     {
-        let mut greatest = None;
-        for i in 0..self.list.len() {
-            let coordinate = self.list[i].coords.as_slice()[mode];
-            greatest = Some(greater(greatest, coordinate));
+        if self.list.is_empty() {
+            return None;
         }
-        greatest
+        Some(self.greatest[mode])
     }
 }
 
-/// The coordinate, or the one before it where that is greater.
-fn greater(before: Option<u64>, coordinate: u64) -> u64
-    ensures { MatchOption before (result ≡ coordinate) (λ most. result ≡ max most coordinate) }
+/// Whether the coordinates are after those of the last entry.
+fn come_last(entries: &[Entry], coords: &[u64]) -> bool
+    ensures { IsTrue result ↔ ComeLast entries.now coords.now }
 {
-    before.map_or(coordinate, |most: u64| most.max(coordinate))
+    match entries.last() {
+        Some(last) => last.coords.as_slice().cmp(&coords).is_lt(),
+        None => true,
+    }
+}
+
+/// Raises the greatest coordinate of each mode to an entry's, where that is greater.
+fn raise(greatest: &mut [u64], coords: &[u64])
+    requires { length coords.now ≤ length greatest.old }
+    ensures { (mode : ℕ) → slice_index greatest.new mode ≡ max (slice_index coords.now mode) (slice_index greatest.old mode) }
+{
+    for (mode, coordinate) in coords.iter().enumerate() {
+        greatest[mode] = greatest[mode].max(*coordinate);
+    }
+}
+
+/// The greatest coordinate of each mode, and 0 where there is no entry.
+#[tactic(auto, unfolding(limits::specs::Limits::greatest_order))]
+fn greatest_of(entries: &[Entry]) -> [u64; 6]
+    ensures { (mode : ℕ) → slice_index result mode ≡ greatest_in entries.now mode }
+{
+    let mut greatest = [0; 6];
+    for entry in entries {
+        raise(&mut greatest, entry.coords.as_slice());
+    }
+    greatest
 }
 
 /// Adds entries that follow one another with equal coordinates, and moves what is left to the front.
@@ -174,7 +217,9 @@ fn add_neighbours<S: Semiring>(entries: &mut [Entry]) -> usize
             join::<S>(entries, last, next);
         } else {
             last += 1;
-            entries.swap(last, next);
+            if last != next {
+                entries.swap(last, next);
+            }
         }
     }
     last + 1

@@ -1,7 +1,8 @@
 use Rattle.std.proofs.Common.{◌<◌, length, sym, ◌∙◌, arith}
-use Rattle.tensor_map.proofs.Neighbours.{adds_same, adds_other, adds_all}
+use Rattle.tensor_map.proofs.Neighbours.{adds_same, adds_other, adds_here, adds_all}
 use Rattle.tensor_map.proofs.entries.add_neighbours.Goals as goal
-use Rattle.tensor_map.proofs.entries.add_neighbours.Goals.{then-have_equal_coords, else-have_equal_coords}
+use Rattle.tensor_map.proofs.entries.add_neighbours.Goals.{then-have_equal_coords}
+use Rattle.tensor_map.proofs.entries.add_neighbours.Goals.{else-have_equal_coords+then-last-next, else-have_equal_coords+else-last-next}
 
 pub loop-next-preserved : goal.loop-next-preserved
 loop-next-preserved g c =
@@ -10,9 +11,12 @@ loop-next-preserved g c =
       | then-have_equal_coords w ↦ rw (w.entries-is, w.last-is)
           (adds_same g.S.Semiring.arithmetic _ _ _ _ _ c.loop-next.invariant within (λ d. sym (c.have_equal_coords.ensures d)
           ∙ w.if-have_equal_coords.true) w.join.ensures)
-      | else-have_equal_coords w ↦ rw (w.entries-is, w.last-is)
+      | else-have_equal_coords+then-last-next w ↦ rw (w.entries-is, w.last-is)
           (adds_other g.S.Semiring.arithmetic _ _ _ _ _ c.loop-next.invariant within (λ d. sym (c.have_equal_coords.ensures d)
           ∙ w.if-have_equal_coords.false) w.swap.ensures.len w.swap.ensures.by_index)
+      | else-have_equal_coords+else-last-next w ↦ rw (w.entries-is, w.last-is)
+          (adds_here g.S.Semiring.arithmetic _ _ _ _ c.loop-next.invariant within (λ d. sym (c.have_equal_coords.ensures d)
+          ∙ w.if-have_equal_coords.false) (omega (arith, w.if-last-next.false)))
     ]
 
 pub returns-clause-front : goal.returns-clause-front

@@ -1,13 +1,11 @@
-use Rattle.std.proofs.Common.{◌<◌, sym, ◌∙◌, ap, get_or, length, arith}
-use Rattle.std.proofs.lemmas.List.{get_or_default}
-use Rattle.tensor_map.specs.Entries.{Entry}
-use Rattle.tensor_map.proofs.Greatest.{greatest_more}
+use Rattle.std.proofs.Common.{◌<◌, length, sym, subst, arith}
+use Rattle.std.proofs.lemmas.Grind.{common_steps}
+use Rattle.tensor_map.specs.Entries.{IsGreatest}
+use Rattle.tensor_map.proofs.Noted.{is_greatest}
 use Rattle.tensor_map.proofs.entries.Entries.greatest.Goals as goal
 
-pub loop-i-preserved : goal.loop-i-preserved
-loop-i-preserved c =
-    let within : c.loop-i.i < length c.self.inside.list.items = omega arith in
-    greatest_more _ _ _ _ _ c.loop-i.greatest
-    (λ d. ap (λ (e : Entry). get_or e.coords c.args.mode 0) (get_or_default _ _ d c.index.result.now within ∙ sym c.index.ensures)
-    ∙ ap (λ s. get_or s c.args.mode 0) (sym c.as_slice.ensures.value))
-    c.greater.ensures c.loop-i.invariant
+pub returns : goal.returns
+returns c =
+    let some : 0 < length c.self.inside.list.items = grind (arith, common_steps) in
+    rw (← c.self.view_is) (subst (IsGreatest c.self.inside.list.items c.args.mode) (sym (c.self.invariant.most c.args.mode))
+    (is_greatest c.self.inside.list.items c.args.mode some))
