@@ -1,7 +1,7 @@
 ghost use Rattle.std.specs.Prelude.{◌≡◌, ◌++◌, ◌∷◌, length, IfOk, OnOk};
 ghost use Rattle.format_spec.specs.Formats.{IsFormat};
 ghost use Rattle.lists.specs.Each.{Each};
-ghost use Rattle.iteration_graph.specs.Edges.{access_edges, statement_edges, AreFormats, HasFormat};
+ghost use Rattle.iteration_graph.specs.Edges.{access_edges, statement_edges, AreFormed, HasFormat};
 
 use format_spec::Format;
 use index_notation::Statement;
@@ -38,7 +38,7 @@ pub fn edges(
     requires left { HasFormat formats.now statement.now.left }
     requires right { Each (HasFormat formats.now) statement.now.accesses }
     ensures edges { IfOk result (λ edges. edges ≡ statement_edges statement.now formats.now) }
-    ensures formats { IfOk result (λ edges. AreFormats formats.now (statement.now.left ∷ statement.now.accesses)) }
+    ensures formats { IfOk result (λ edges. AreFormed formats.now (statement.now.left ∷ statement.now.accesses)) }
 {
     let left = &statement.left;
     let mut edges = Items::new(alloc);
