@@ -10,7 +10,7 @@ use Rattle.format_spec.proofs.WordLaws.{one_answer}
 use Rattle.index_notation.specs.declared.syntax.Statement.{Statement}
 use Rattle.bindings.specs.Words.{FormatText}
 use Rattle.bindings.specs.Bindings.{first_in, format_in, path_in, order_of}
-use Rattle.bindings.specs.Outcome.{HasFormat}
+use Rattle.bindings.specs.Outcome.{AnswersFormat}
 use Rattle.bindings.specs.Outcome.{Binds, IsRefused, IsWant}
 use Rattle.bindings.specs.declared.fault.BindingFault.{BindingFault}
 use Rattle.bindings.specs.declared.fault.BindingFault.TheVariants.{Word, NoFile, BadFormat, Memory}
@@ -56,7 +56,7 @@ ok_or d (Ok levels) = levels
 ok_or d (Err fault) = d
 
 format_once : (text : Option FormatText) (order : ℕ) (levels others : List FormatLevel)
-    → HasFormat text order (Ok levels) → HasFormat text order (Ok others) → levels ≡ others
+    → AnswersFormat text order (Ok levels) → AnswersFormat text order (Ok others) → levels ≡ others
 format_once None order levels others is be =
     levels_same levels others (is.0 ∙ sym be.0) (is.1 ∙ sym be.1)
 format_once (Some text) order levels others is be =
@@ -80,7 +80,7 @@ answers_apart text order levels fault is bad = apart (one_answer text.letters te
     apart h = cc
 
 format_apart : (text : Option FormatText) (order : ℕ) (levels : List FormatLevel) (fault : FormatFault)
-    → HasFormat text order (Ok levels) → HasFormat text order (Err fault) → ⊥
+    → AnswersFormat text order (Ok levels) → AnswersFormat text order (Err fault) → ⊥
 format_apart None order levels fault is bad = bad
 format_apart (Some text) order levels fault is bad = answers_apart text order levels fault is bad
 

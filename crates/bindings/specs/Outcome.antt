@@ -15,13 +15,13 @@ use Rattle.bindings.specs.declared.fault.BindingFault.{BindingFault}
 use Rattle.bindings.specs.declared.fault.BindingFault.TheVariants.{Word, NoFile, BadFormat, Memory}
 
 -- the format of a tensor of this order, or why there is none: by its word, or all dense, the modes in their own order
-abbrev pub HasFormat : Option FormatText → ℕ → Result (List FormatLevel) FormatFault → Type 0
-HasFormat None order (Ok levels) = (letters_of levels ≡ replicate order Dense) × (modes_of levels ≡ standing order)
-HasFormat None order (Err fault) = ⊥
-HasFormat (Some text) order answer = Answers text.letters text.order order answer
+abbrev pub AnswersFormat : Option FormatText → ℕ → Result (List FormatLevel) FormatFault → Type 0
+AnswersFormat None order (Ok levels) = (letters_of levels ≡ replicate order Dense) × (modes_of levels ≡ standing order)
+AnswersFormat None order (Err fault) = ⊥
+AnswersFormat (Some text) order answer = Answers text.letters text.order order answer
 
 abbrev pub FormatIs : Statement → List (List ℕ) → ℕ → Result (List FormatLevel) FormatFault → Type 0
-FormatIs s words tensor answer = HasFormat (first_in (format_in s tensor) words) (order_of s tensor) answer
+FormatIs s words tensor answer = AnswersFormat (first_in (format_in s tensor) words) (order_of s tensor) answer
 
 abbrev pub with_file : Statement → Option Said → List (ℕ × List ℕ) → List (ℕ × List ℕ)
 with_file s (Some (SaysFile name path)) files = (place_of s.tensors (record { bytes = name }), path) ∷ files

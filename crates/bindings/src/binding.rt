@@ -6,7 +6,7 @@ ghost use Rattle.std.specs.Prelude.{true, OnOk, ◌++◌, ◌∷◌, [], option_
 ghost use Rattle.limits.specs.Limits.{greatest_order};
 ghost use Rattle.index_notation.specs.Statement.{IsNumbered};
 ghost use Rattle.bindings.specs.Bindings.{AreSound, IsFirstFault};
-ghost use Rattle.bindings.specs.Outcome.{HasFormat, HaveFiles, AreFormats, IsWithoutFile, IsFileRefused, IsWordRefused, IsFormatRefused};
+ghost use Rattle.bindings.specs.Outcome.{AnswersFormat, AreFormats, HaveFiles, IsWithoutFile, IsFileRefused, IsWordRefused, IsFormatRefused};
 ghost use Rattle.bindings.specs.Outcome.{Binds, IsRefused};
 ghost use Rattle.bindings.specs.Tables.{IsBound, file_in};
 ghost use Rattle.bindings.specs.Views.{text_in};
@@ -93,7 +93,7 @@ fn format_of(
     order: usize,
 ) -> Result<Format, FormatFault>
     requires { order ≤ greatest_order }
-    ensures { HasFormat (option_map text_in text.entry) order result }
+    ensures { AnswersFormat (option_map text_in text.entry) order result }
 {
     match text {
         Some(text) => parse_format(alloc, text.letters, text.order, order),

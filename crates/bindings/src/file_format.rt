@@ -5,6 +5,6 @@
 pub enum FileFormat {
     /// A line for each entry, with its coordinates and its value: a path that ends in `.tns`.
     Coordinates,
-    /// A matrix in the coordinate format of Matrix Market: a path that ends in `.mtx`.
+    /// A matrix as Matrix Market has it, by its entries or as an array: a path that ends in `.mtx`.
     MatrixMarket,
 }

@@ -4,7 +4,7 @@ use Rattle.std.specs.Result.{IsErrAnd}
 use Rattle.std.proofs.Common.{◌∙◌, sym, ap, subst, arith}
 use Rattle.index_notation.specs.Statement.{numbers_from}
 use Rattle.expr_terms.specs.Ranges.{RangeFault, NoRange, RangeConflict, OutOfRange, and_range, ranges_or_first}
-use Rattle.expr_terms.specs.Told.{MayRefuse}
+use Rattle.expr_terms.specs.Told.{MayRefuseRanges}
 use Rattle.expr_terms.specs.declared.range_fault.RangeFault.TheVariants.{Memory}
 
 numbers_split : (m a b c : ℕ) → c ≡ a + b → numbers_from m c ≡ numbers_from m a ++ numbers_from (m + a) b
@@ -70,7 +70,7 @@ module _ (range : ℕ → Result ℕ RangeFault) where
 
 -- one variable's refusal is that of all, if it is the first
 pub passes_on : (one : Result ℕ RangeFault) (all : Result (List ℕ) RangeFault) (f : RangeFault) → (one ≡ Err f → all ≡ Err f)
-    → MayRefuse one f → MayRefuse all f
+    → MayRefuseRanges one f → MayRefuseRanges all f
 passes_on one all (NoRange v) same may = same may
 passes_on one all (RangeConflict v first other) same may = same may
 passes_on one all (OutOfRange tensor coordinate range) same may = same may
@@ -78,6 +78,6 @@ passes_on one all (Memory error) same may = tt
 
 -- a fault that is handed on
 pub handed_on : {A B : Type 0} (told : Result A RangeFault) (r : Result B RangeFault) (f : RangeFault) → IsErrAnd r (λ g. g ≡ f)
-    → MayRefuse told f → IfErr r (MayRefuse told)
+    → MayRefuseRanges told f → IfErr r (MayRefuseRanges told)
 handed_on told (Ok x) f is may = tt
-handed_on told (Err g) f is may = subst (MayRefuse told) (sym is) may
+handed_on told (Err g) f is may = subst (MayRefuseRanges told) (sym is) may

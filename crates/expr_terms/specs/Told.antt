@@ -30,6 +30,6 @@ abbrev pub bound_at : List (Vec Bound Global) → ℕ → ℕ → Bound
 bound_at bounds tensor mode = bound_or_none (slice_get (modes_of bounds tensor) mode)
 
 -- what a call may refuse with where this is the defined answer: its refusal, or want of memory
-abbrev pub MayRefuse : {A : Type 0} → Result A RangeFault → RangeFault → Type 0
-MayRefuse answer (Memory error) = Unit {0}
-MayRefuse answer fault = answer ≡ Err fault
+abbrev pub MayRefuseRanges : {A : Type 0} → Result A RangeFault → RangeFault → Type 0
+MayRefuseRanges answer (Memory error) = Unit {0}
+MayRefuseRanges answer fault = answer ≡ Err fault

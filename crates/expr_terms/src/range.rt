@@ -2,7 +2,7 @@
 ghost use Rattle.std.specs.Prelude.{◌≡◌, Ok, map, option_to_list, IfOk, IfErr};
 ghost use Rattle.expr_terms.specs.Ranges.{exact_ranges, first_other, first_above, unless_above, bounded_range, settled, range_of};
 ghost use Rattle.expr_terms.specs.Ranges.{greatest_of, least_of, ranges_of};
-ghost use Rattle.expr_terms.specs.Told.{bound_at, given_at, MayRefuse};
+ghost use Rattle.expr_terms.specs.Told.{bound_at, given_at, MayRefuseRanges};
 
 use crate::bound::{Bound, Place, bound_at, given_at, least_of, places_in};
 use crate::range_fault::RangeFault;
@@ -129,7 +129,7 @@ fn range_of(
     var: usize,
 ) -> Result<u64, RangeFault>
     ensures range { IfOk result (λ range. range_of statement.now (given_at given.now) (bound_at bounds.now) var ≡ Ok range) }
-    ensures fault { IfErr result (MayRefuse (range_of statement.now (given_at given.now) (bound_at bounds.now) var)) }
+    ensures fault { IfErr result (MayRefuseRanges (range_of statement.now (given_at given.now) (bound_at bounds.now) var)) }
 {
     let places = places_in(alloc, statement.accesses.as_slice(), var)?;
     let exact = exact_ranges(alloc, given_at(given, var), bounds, places.as_slice())?;
@@ -151,7 +151,7 @@ pub fn ranges(
     bounds: &[Vec<Bound>],
 ) -> Result<Vec<u64>, RangeFault>
     ensures ranges { IfOk result (λ found. ranges_of statement.now (given_at given.now) (bound_at bounds.now) ≡ Ok found.items) }
-    ensures fault { IfErr result (MayRefuse (ranges_of statement.now (given_at given.now) (bound_at bounds.now))) }
+    ensures fault { IfErr result (MayRefuseRanges (ranges_of statement.now (given_at given.now) (bound_at bounds.now))) }
 {
     let mut ranges = Items::new(alloc);
     for var in 0..statement.vars.len() {

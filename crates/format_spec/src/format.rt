@@ -76,7 +76,8 @@ impl Format {
 
     /// Whether all levels are dense, whatever the order of the modes.
     pub fn is_all_dense(&self) -> bool
-        ensures { IsTrue result ↔ All (λ level. level.letter ≡ Dense) self.now }
+        ensures told { IsTrue result ↔ All (λ level. level.letter ≡ Dense) self.now }
+        ensures format { IsFormat self.now }
     {
         self.levels
             .as_slice()
@@ -87,7 +88,8 @@ impl Format {
     /// The same format once more. It takes no memory.
     #[tactic(auto, unfolding(limits::specs::Limits::greatest_order))]
     pub fn copied(&self) -> Format
-        ensures { result ≡ self.now }
+        ensures value { result ≡ self.now }
+        ensures format { IsFormat result }
     {
         let alloc = self.allocator();
         Format {

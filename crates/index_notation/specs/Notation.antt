@@ -45,6 +45,6 @@ IsFaultOf text (Memory error) = ⊥
 IsFaultOf text fault = HasFaultySymbol text fault
 
 -- what a reader may refuse the text with: its fault, or want of memory
-abbrev pub MayRefuse : List ℕ → NotationFault → Type 0
-MayRefuse text (Memory error) = Unit {0}
-MayRefuse text fault = IsFaultOf text fault
+abbrev pub MayRefuseText : List ℕ → NotationFault → Type 0
+MayRefuseText text (Memory error) = Unit {0}
+MayRefuseText text fault = IsFaultOf text fault

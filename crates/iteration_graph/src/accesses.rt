@@ -1,6 +1,7 @@
-ghost use Rattle.std.specs.Prelude.{◌≡◌, ◌++◌, length, IfOk, OnOk};
+ghost use Rattle.std.specs.Prelude.{◌≡◌, ◌++◌, ◌∷◌, length, IfOk, OnOk};
+ghost use Rattle.format_spec.specs.Formats.{IsFormat};
 ghost use Rattle.lists.specs.Each.{Each};
-ghost use Rattle.iteration_graph.specs.Edges.{access_edges, statement_edges, HasFormat};
+ghost use Rattle.iteration_graph.specs.Edges.{access_edges, statement_edges, AreFormed, HasFormat};
 
 use format_spec::Format;
 use index_notation::Statement;
@@ -14,7 +15,8 @@ fn put_edges(
     vars: &[usize],
 ) -> Result<(), AllocError>
     requires { length format.now ≡ length vars.now }
-    ensures { OnOk result (edges.new ≡ edges.old ++ access_edges format.now vars.now) }
+    ensures edges { OnOk result (edges.new ≡ edges.old ++ access_edges format.now vars.now) }
+    ensures format { IsFormat format.now }
 {
     if format.is_all_dense() {
         return Ok(());
@@ -35,7 +37,8 @@ pub fn edges(
 ) -> Result<Items<(usize, usize)>, AllocError>
     requires left { HasFormat formats.now statement.now.left }
     requires right { Each (HasFormat formats.now) statement.now.accesses }
-    ensures { IfOk result (λ edges. edges ≡ statement_edges statement.now formats.now) }
+    ensures edges { IfOk result (λ edges. edges ≡ statement_edges statement.now formats.now) }
+    ensures formats { IfOk result (λ edges. AreFormed formats.now (statement.now.left ∷ statement.now.accesses)) }
 {
     let left = &statement.left;
     let mut edges = Items::new(alloc);

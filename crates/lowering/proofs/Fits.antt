@@ -15,7 +15,7 @@ use Rattle.index_notation.specs.Statement.{IsDistinct, IsNumbered, IsAccess, Acc
 use Rattle.index_notation.specs.declared.syntax.Access.{Access}
 use Rattle.index_notation.specs.declared.syntax.Expr.{Expr, Num, Access as AccessOf, Binary', Neg', Row_of-Expr, end_of-Expr, more_of-Expr}
 use Rattle.index_notation.specs.declared.syntax.Statement.{Statement}
-use Rattle.iteration_graph.specs.Edges.{neighbours, by_level, access_edges, format_of, edges_of, statement_edges, HasFormat}
+use Rattle.iteration_graph.specs.Edges.{AreFormed, HasFormat, neighbours, by_level, access_edges, format_of, edges_of, statement_edges}
 use Rattle.iteration_graph.specs.Graphs.{IsLoopOrder, is_among, leads, has_edge}
 use Rattle.iteration_graph.proofs.OrderLaws.{each_forward}
 use Rattle.lists.specs.Each.{Each}
@@ -182,8 +182,7 @@ in_accesses formats (a ∷ accesses) (suc k) access f h any =
     any_second f (access_edges (format_of formats a.tensor) a.vars) (edges_of formats accesses)
     (in_accesses formats accesses k access f h any)
 
-module _ (s : Statement) (formats : List (List FormatLevel)) (numbered : IsNumbered s) (formed : Each (λ (a : Access). IsFormat
-    (format_of formats a.tensor)) s.accesses)
+module _ (s : Statement) (formats : List (List FormatLevel)) (numbered : IsNumbered s) (formed : AreFormed formats s.accesses)
     (orders : Each (HasFormat formats) s.accesses) where
   -- what is so of each access is so of the one with a number
   of_number : (P : Access → Type 0) (accesses : List Access) (k : ℕ) (access : Access) → Each P accesses

@@ -1,7 +1,7 @@
 // The statement of a text, or its fault.
 ghost use Rattle.std.specs.Prelude.{◌≡◌, IfOk, IfErr};
 ghost use Rattle.index_notation.specs.Statement.{IsNumbered};
-ghost use Rattle.index_notation.specs.Notation.{IsNotationOf, MayRefuse, at_byte as fault_at_byte};
+ghost use Rattle.index_notation.specs.Notation.{IsNotationOf, MayRefuseText, at_byte as fault_at_byte};
 
 use crate::numbering::number_statement;
 use crate::reader::{Reading, read};
@@ -30,7 +30,7 @@ fn at_byte(at: usize, fault: SymbolFault) -> NotationFault
 pub fn parse(alloc: Global, text: &str) -> Result<Statement, NotationFault>
     ensures statement { IfOk result (IsNotationOf text.now) }
     ensures numbered { IfOk result IsNumbered }
-    ensures fault { IfErr result (MayRefuse text.now) }
+    ensures fault { IfErr result (MayRefuseText text.now) }
 {
     let bytes = text.as_bytes();
     if bytes.len() as u64 > limits::greatest_bytes_of_text() {

@@ -17,7 +17,7 @@ use Rattle.iteration_graph.specs.Edges as edges
 use Rattle.iteration_graph.specs.Edges.{format_of}
 use Rattle.bindings.specs.Words.{FormatText}
 use Rattle.bindings.specs.Bindings.{first_in, format_in, order_in, order_of}
-use Rattle.bindings.specs.Outcome.{AreFormats, Binds, HasFormat}
+use Rattle.bindings.specs.Outcome.{AnswersFormat, AreFormats, Binds}
 
 -- ---- orders of accesses
 pub order_is : (accesses : List Access) (j : ℕ) (access : Access) → HaveOrders accesses → slice_get accesses j ≡ Some access
@@ -41,7 +41,7 @@ some_order : (order : Option (List ℕ)) (n : ℕ) (modes : List ℕ) → HasOrd
 some_order None n modes is = subst (IsOrder n) (sym is) (standing_is_order n)
 some_order (Some text) n modes is = is.0
 
-format_order : (text : Option FormatText) (n : ℕ) (levels : List FormatLevel) → HasFormat text n (Ok levels)
+format_order : (text : Option FormatText) (n : ℕ) (levels : List FormatLevel) → AnswersFormat text n (Ok levels)
     → IsOrder n (modes_of levels)
 format_order None n levels is = subst (IsOrder n) (sym is.1) (standing_is_order n)
 format_order (Some text) n levels is = some_order text.order n (modes_of levels) is.0.modes_are

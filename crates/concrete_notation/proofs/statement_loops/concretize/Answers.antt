@@ -54,7 +54,7 @@ returns-clause-workspaces c =
     let here = c.index-formats-statement.result in
     let level = c.args.statement.now.left.tensor in
     record {
-      none = λ dense. absurd (never c.is_all_dense.result (c.is_all_dense.ensures.1 (subst AreAllDense
+      none = λ dense. absurd (never c.is_all_dense.result (c.is_all_dense.ensures.told.1 (subst AreAllDense
           (read_within c.args.formats.now level [] here c.requires.format ∙ sym read) dense)) c.if-is_all_dense.false);
       one = λ other. ap workspaces c.in_ok-all.ensures ∙ workspaces_where keys c.in_ok-tree.tree
           ∙ ap (λ ks. keys ∷ ks) c.in_ok-tree.ensures.plain;

@@ -6,11 +6,11 @@ use Rattle.iteration_graph.specs.Edges.{neighbours, by_level}
 use Rattle.iteration_graph.proofs.EdgeSteps.{dense_gives_none, next_edge}
 use Rattle.iteration_graph.proofs.accesses.put_edges.Goals as goal
 
-pub returns-then-is_all_dense : goal.returns-then-is_all_dense
-returns-then-is_all_dense c =
+pub returns-then-is_all_dense-clause-edges : goal.returns-then-is_all_dense-clause-edges
+returns-then-is_all_dense-clause-edges c =
     sym (append-nil c.args.edges.now)
     ∙ ap (λ es. c.args.edges.now
-    ++ es) (sym (dense_gives_none c.args.format.now c.args.vars.now (c.is_all_dense.ensures.0 c.if-is_all_dense.true)))
+    ++ es) (sym (dense_gives_none c.args.format.now c.args.vars.now (c.is_all_dense.ensures.told.0 c.if-is_all_dense.true)))
 
 pub loop-level-preserved : goal.loop-level-preserved
 loop-level-preserved c =
