@@ -28,10 +28,10 @@ module _ (a : Arithmetic) (s : Statement) (store : Store) (letters : List Letter
   IsDone t = LeavesResult a s (told_by a store) store t.arrays × AreTurns s (told_by a store) letters most t.turns
 
   -- the growth may be refused
-  abbrev pub MayRefuse : Refusal
-  MayRefuse turns b count = IsRightOutcome a s (told_by a store) store (TooLong (place_of (length store.format) b) count)
+  abbrev pub IsRightRefusal : Refusal
+  IsRightRefusal turns b count = IsRightOutcome a s (told_by a store) store (TooLong (place_of (length store.format) b) count)
 
-  pub done_told : (o : KernelOutcome) → ToldOf (length store.format) IsDone MayRefuse o
+  pub done_told : (o : KernelOutcome) → ToldOf (length store.format) IsDone IsRightRefusal o
       → IsRightOutcome a s (told_by a store) store o × MakesTurns s (told_by a store) letters most o
   done_told (Finished arrays turns) h = (
     subst (LeavesResult a s (told_by a store) store) h.2 h.1.0,

@@ -65,7 +65,7 @@ use Rattle.sparse_results.proofs.Sorting.{sorting_sums}
 use Rattle.sparse_results.proofs.Stored.{standing_is_result}
 use Rattle.sparse_kernels.specs.Kernels.{IsForSparse, PushesFromTop, SparseKernelsAreRight, sorting_code}
 use Rattle.sparse_kernels.specs.Turns.{AreTurns, MakesTurns}
-use Rattle.sparse_kernels.proofs.Ends.{IsDone, MayRefuse, done_told}
+use Rattle.sparse_kernels.proofs.Ends.{IsDone, IsRightRefusal, done_told}
 use Rattle.sparse_kernels.proofs.Filled.{IsFilled, still_filled, ready, may_drain}
 use Rattle.sparse_kernels.proofs.Points.{has_points}
 use Rattle.sparse_kernels.proofs.Starts.{at_top, starts_empty, list_starts_empty, values_start}
@@ -141,7 +141,7 @@ module _ (a : Arithmetic) (laws : Laws a) (s : Statement) (formats : List (List 
     IsEnd = IsDone a s store (letters_of store.format) most
 
     abbrev MayBe : (LoopKind → ℕ) → Arr → ℕ → Type 0
-    MayBe = MayRefuse a s store (letters_of store.format) most
+    MayBe = IsRightRefusal a s store (letters_of store.format) most
 
     abbrev Holds : List Entry → (LoopKind → ℕ) → State → Type 0
     Holds some made t =

@@ -15,10 +15,10 @@ pub returns-in-Ok : goal.returns-in-Ok
 returns-in-Ok g c =
     let a = g.S.Semiring.arithmetic in
     let summed = c.sum_up.new.entries.list in
-    let packed = subst (λ f. IsPackedFrom a.zero f c.args.sizes.now summed c.in-Ok.packed) c.copied.ensures
+    let packed = subst (λ f. IsPackedFrom a.zero f c.args.sizes.now summed c.in-Ok.packed) c.copied.ensures.value
     (subst (λ ns. IsPackedFrom a.zero c.copied.result ns summed c.in-Ok.packed) c.shape_of-shape.ensures c.in-Ok.ensures) in
     record {
-      is_format = subst IsFormat packed.packed.format_is c.keeps_rules.ensures.whole.format;
+      is_format = subst IsFormat c.copied.ensures.value c.copied.ensures.format;
       long = c.requires.long;
       summed = c.sum_up.new.entries.list;
       are_summed = subst (λ n. AreSummed g.S.Semiring.arithmetic n c.args.entries.now.list c.sum_up.new.entries.list) c.requires.order
@@ -36,5 +36,5 @@ returns-in-Err g c =
     c.fault_of.ensures g.S.Semiring.arithmetic c.args.format.now c.args.sizes.now c.args.entries.now.list summed
     (subst (λ n. AreSummed g.S.Semiring.arithmetic n c.args.entries.now.list c.sum_up.new.entries.list) c.requires.order
     c.in_ok-sum_up.ensures.summed)
-    (subst (λ f. IsRefusalOf f c.args.sizes.now summed c.in-Err.refusal) c.copied.ensures
+    (subst (λ f. IsRefusalOf f c.args.sizes.now summed c.in-Err.refusal) c.copied.ensures.value
     (subst (λ ns. IsRefusalOf c.copied.result ns summed c.in-Err.refusal) c.shape_of-shape.ensures c.in-Err.ensures))
