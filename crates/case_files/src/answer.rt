@@ -2,8 +2,9 @@
 ghost use Rattle.std.specs.Prelude.{◌≡◌};
 ghost use Rattle.std.specs.Result.{result_ok};
 
-use std::alloc::{AllocError, Global};
+use std::alloc::Global;
 use std::fmt::{Debug, Write};
+use std::mem;
 
 /// What is told of a case, in one text. Where memory for it is wanting that is noted, and ends the program once the case is through.
 #[derive(Drop)]
@@ -59,8 +60,9 @@ impl Answer {
         self.tell("\"");
     }
 
-    fn note(&mut self, added: Result<(), AllocError>) {
-        if added.is_err() {
+    /// Notes whether memory was wanting for something that was to be kept.
+    pub fn note<E: Drop>(&mut self, kept: Result<(), E>) {
+        if kept.is_err() {
             self.wants_memory = true;
         }
     }
@@ -80,6 +82,16 @@ impl Answer {
 
     pub(crate) fn wants_memory(&self) -> bool {
         self.wants_memory
+    }
+
+    /// Puts four blanks before each line that was told.
+    pub(crate) fn indent(&mut self) {
+        let told = mem::replace(&mut self.text, String::new(self.alloc));
+        for line in told.lines() {
+            self.tell("    ");
+            self.tell(line);
+            self.tell("\n");
+        }
     }
 
     /// What was told.

@@ -27,29 +27,38 @@ pub fn keyword_of(line: &str) -> (&str, &str) {
     line.split_once(' ').unwrap_or((line, ""))
 }
 
-/// What was told, once the case is through.
-fn told<'a>(answer: &'a Answer, outcome: Option<()>) -> Result<&'a str> {
+/// Prints what was told, once the case is through.
+fn print_told<R: Print>(rt: &R, answer: &Answer, outcome: Option<()>) -> Result<()> {
     if answer.wants_memory() {
         bail!("out of memory");
     }
     outcome.context("no such case")?;
-    Ok(answer.as_str())
+    print!(rt; "{}", answer.as_str())?;
+    Ok(())
 }
 
-/// Prints what comes of a line.
+/// Prints what comes of a line, if it isn't a comment or empty.
 fn run_line<R: Print + AllocGlobal, C: Cases>(rt: &R, cases: &mut C, line: &str) -> Result<()> {
-    let mut answer = Answer::new(rt.alloc());
-    if !cases.shows(line) {
-        let outcome = cases.read_line(line, &mut answer);
-        print!(rt; "{}", told(&answer, outcome)?)?;
+    if line.is_empty() || line.starts_with('#') {
         return Ok(());
     }
-    println!(rt; "{line}")?;
-    let outcome = cases.read_line(line, &mut answer);
-    for below in told(&answer, outcome)?.lines() {
-        println!(rt; "    {below}")?;
+    let shows = cases.shows(line);
+    if shows {
+        println!(rt; "{line}")?;
     }
-    Ok(())
+    let mut answer = Answer::new(rt.alloc());
+    let outcome = cases.read_line(line, &mut answer);
+    if shows {
+        answer.indent();
+    }
+    print_told(rt, &answer, outcome)
+}
+
+/// Prints what is left to tell at the end of a file.
+fn end_file<R: Print + AllocGlobal, C: Cases>(rt: &R, cases: &mut C) -> Result<()> {
+    let mut answer = Answer::new(rt.alloc());
+    let outcome = cases.end_file(&mut answer);
+    print_told(rt, &answer, outcome)
 }
 
 fn run_file<R: Files + Print + AllocGlobal, C: Cases>(
@@ -59,14 +68,9 @@ fn run_file<R: Files + Print + AllocGlobal, C: Cases>(
 ) -> Result<()> {
     let text = fs::read_to_string(rt, path)?;
     for line in text.lines() {
-        if !line.is_empty() && !line.starts_with('#') {
-            run_line(rt, cases, line).context(format_args!("{line}"))?;
-        }
+        run_line(rt, cases, line).context(format_args!("{line}"))?;
     }
-    let mut answer = Answer::new(rt.alloc());
-    let outcome = cases.end_file(&mut answer);
-    print!(rt; "{}", told(&answer, outcome)?)?;
-    Ok(())
+    end_file(rt, cases)
 }
 
 /// Goes over the case files that the command line names, line by line.

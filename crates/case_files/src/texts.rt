@@ -3,15 +3,16 @@ use crate::answer::Answer;
 
 /// What an escape stands for whose backslash is left out, and what stands behind it.
 fn unescaped(text: &str) -> Option<(u8, &str)> {
-    if let Some(digits) = text.strip_prefix('x') {
-        let (digits, behind) = digits.split_at_checked(2)?;
-        return Some((u8::from_str_radix(digits, 16).ok()?, behind));
-    }
     let (letter, behind) = text.split_at_checked(1)?;
     match letter {
         "t" => Some((b'\t', behind)),
         "r" => Some((b'\r', behind)),
         "n" => Some((b'\n', behind)),
+        "\\" => Some((b'\\', behind)),
+        "x" => {
+            let (digits, behind) = behind.split_at_checked(2)?;
+            Some((u8::from_str_radix(digits, 16).ok()?, behind))
+        }
         _ => None,
     }
 }
@@ -21,8 +22,7 @@ impl Answer {
     pub fn numbers(&mut self, text: &str) -> Option<Vec<u64>> {
         let mut numbers = Vec::new(self.alloc());
         for word in text.split_whitespace() {
-            let pushed = numbers.push(word.parse().ok()?);
-            self.made(pushed)?;
+            self.note(numbers.push(word.parse().ok()?));
         }
         Some(numbers)
     }
@@ -30,8 +30,8 @@ impl Answer {
     fn add_word(&mut self, words: &mut Vec<String>, word: &str) -> Option<()> {
         let word = String::from_str(self.alloc(), word);
         let word = self.made(word)?;
-        let added = words.push(word);
-        self.made(added)
+        self.note(words.push(word));
+        Some(())
     }
 
     /// The words of a line. One with blanks, or an empty one, stands in double quotes.
@@ -52,24 +52,17 @@ impl Answer {
     /// The bytes of a text, in which `\t`, `\r`, `\n`, `\\` and `\xHH` stand for one each.
     pub fn bytes(&mut self, text: &str) -> Option<Vec<u8>> {
         let mut bytes = Vec::new(self.alloc());
-        let mut is_plain = true;
-        for part in text.split('\\') {
-            let mut plain = part;
-            if !is_plain {
-                // An empty part stands between two backslashes, and what stands behind the second is plain.
-                let (byte, behind) = if part.is_empty() {
-                    (b'\\', part)
-                } else {
-                    unescaped(part)?
-                };
-                let pushed = bytes.push(byte);
-                self.made(pushed)?;
-                plain = behind;
-            }
-            is_plain = !is_plain && part.is_empty();
-            let added = bytes.extend_from_slice(plain.as_bytes());
-            self.made(added)?;
+        let mut rest = text;
+        for _ in 0..text.len() {
+            let Some((plain, escape)) = rest.split_once('\\') else {
+                break;
+            };
+            let (byte, behind) = unescaped(escape)?;
+            self.note(bytes.extend_from_slice(plain.as_bytes()));
+            self.note(bytes.push(byte));
+            rest = behind;
         }
+        self.note(bytes.extend_from_slice(rest.as_bytes()));
         Some(bytes)
     }
 
@@ -80,8 +73,7 @@ impl Answer {
         }
         let (count, piece) = copies.split_once(' ')?;
         for _ in 0..count.parse::<u32>().ok()? {
-            let added = text.push_str(piece);
-            self.made(added)?;
+            self.note(text.push_str(piece));
         }
         Some(())
     }
@@ -92,8 +84,7 @@ impl Answer {
         for part in text.split('{') {
             let (copies, behind) = part.split_once('}').unwrap_or(("", part));
             self.add_copies(&mut whole, copies)?;
-            let added = whole.push_str(behind);
-            self.made(added)?;
+            self.note(whole.push_str(behind));
         }
         Some(whole)
     }
