@@ -6,7 +6,8 @@ ghost use Rattle.std.specs.Prelude.{true, OnOk, ◌++◌, ◌∷◌, [], option_
 ghost use Rattle.limits.specs.Limits.{greatest_order};
 ghost use Rattle.index_notation.specs.Statement.{IsNumbered};
 ghost use Rattle.bindings.specs.Bindings.{AreSound, IsFirstFault};
-ghost use Rattle.bindings.specs.Outcome.{AnswersFormat, AreFormats, HaveFiles, IsWithoutFile, IsFileRefused, IsWordRefused, IsFormatRefused};
+ghost use Rattle.bindings.specs.Outcome.{AnswersFormat, AreFormats, HaveFiles, IsWithoutFile};
+ghost use Rattle.bindings.specs.Outcome.{IsFileRefused, IsWordRefused, IsFormatRefused};
 ghost use Rattle.bindings.specs.Outcome.{Binds, IsRefused};
 ghost use Rattle.bindings.specs.Tables.{IsBound, file_in};
 ghost use Rattle.bindings.specs.Views.{text_in};
