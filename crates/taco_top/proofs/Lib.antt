@@ -2,6 +2,7 @@ pub mod Accepted
 pub mod OneRequest
 pub mod Paths
 pub mod Prepares
+pub mod Programs
 pub mod Reading
 pub mod Stopped
 pub mod TextLaws

@@ -4,13 +4,9 @@ use Rattle.std.proofs.Common.{◌∙◌, sym, ap, subst, inl, inr, arith}
 use Rattle.std.proofs.lemmas.List.{append-nil}
 use Rattle.std.specs.declared.alloc.Global.{Global}
 use Rattle.numbers.specs.Ring.{ring}
-use Rattle.outside.specs.Count.{Rose}
 use Rattle.outside.specs.Folder.{FolderState}
-use Rattle.outside.specs.Refusal.{IsCounted}
 use Rattle.outside.specs.Sink.{SinkState, Appends}
 use Rattle.outside.specs.declared.refusal.Refusal.{Refusal}
-use Rattle.outside.specs.declared.refusal.Refusal.TheVariants.{Failed, Absent}
-use Rattle.outside.specs.declared.refusal.Refusal.TheVariants as refusal
 use Rattle.text_lines.specs.Puts.{AppendsPart}
 use Rattle.tensor_map.specs.Entries.{Entries, value_at}
 use Rattle.format_spec.specs.declared.format.FormatLevel.{FormatLevel}
@@ -258,11 +254,5 @@ tells_workload words files size workload line is few = inr (inr (record {
 module _ {A : Type 0} where
   pub line_put : (r : Result A Refusal) (old new : SinkState) (line : List ℕ) → OnOk r (Appends old new line)
       → IfErr r (AppendsPart old new line) → PutsLine old new line
-  line_put (Ok done) old new line whole part = inl whole.written_is
-  line_put (Err why) old new line whole part = inr (part.less, counted why part.counted)
-    where
-      counted : (why : Refusal) → IsCounted why old.faults new.faults old.wants new.wants
-          → Rose old.faults new.faults ⊎ Rose old.wants new.wants
-      counted Failed is = inl is.0.rose
-      counted Absent is = absurd is
-      counted (refusal.Memory e) is = inr is.1.rose
+  line_put (Ok done) old new line whole part = inl whole
+  line_put (Err why) old new line whole part = inr (why, part)

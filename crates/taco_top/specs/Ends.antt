@@ -1,12 +1,12 @@
 -- What a call of the program shows: its status, its line on standard error, and why it ends so, in three parts. `Written.antt` says what is
 -- written of a statement's values; `Told.antt` what a kernel's turns and storage say, behind a result and in the printed texts;
 -- `Refused.antt` what stands after a refusal, and why.
-use Rattle.std.specs.Prelude.{◌≡◌, ℕ, ◌⊎◌, List, [], String, map, string_bytes}
+use Rattle.std.specs.Prelude.{◌≡◌, ℕ, ◌⊎◌, List, String, map, string_bytes}
 use Rattle.std.specs.declared.alloc.Global.{Global}
-use Rattle.outside.specs.Count.{Rose}
-use Rattle.outside.specs.Folder.{FolderState, appended}
-use Rattle.outside.specs.Sink.{SinkState}
-use Rattle.text_lines.specs.Puts.{PutsLess}
+use Rattle.outside.specs.Folder.{FolderState}
+use Rattle.outside.specs.Sink.{SinkState, Appends}
+use Rattle.outside.specs.declared.refusal.Refusal.{Refusal}
+use Rattle.text_lines.specs.Puts.{AppendsPart}
 use Rattle.kernel_code.specs.declared.syntax.Turns.{Turns}
 use Rattle.reports.specs.Reports.{turns_line}
 use Rattle.refusals.specs.Lines.{status_of, line_of}
@@ -25,27 +25,26 @@ status_of_end (Written turns) = 0
 status_of_end Printed = 0
 status_of_end (Refused why) = status_of why
 
--- what a command tells beside its output: the turns of a run whose result it writes, or its fault
-abbrev pub line_of_end : Ending → List ℕ
-line_of_end (Written turns) = turns_line turns
-line_of_end Printed = []
-line_of_end (Refused why) = line_of why
-
 -- why a command ends so
 abbrev pub Cause : List (List ℕ) → FolderState → FolderState → SinkState → SinkState → Ending → Type 0
 Cause words files files' out out' (Written turns) = IsWrittenIn words files files' out out' turns
 Cause words files files' out out' Printed = IsPrinted words files files' out out'
 Cause words files files' out out' (Refused why) = Refuses words files files' out out' why
 
--- the line was appended whole; or not the whole of it, where the sink failed or wanted memory
+-- the line was appended whole; or a part of it at its front, and then the sink failed or wanted memory. Nothing else of the sink
+-- changed but for the count of that, and whether a finish is due
 abbrev pub PutsLine : SinkState → SinkState → List ℕ → Type 0
-PutsLine old new line =
-    (new.written ≡ appended old.written line)
-    ⊎ (PutsLess old.written new.written line × (Rose old.faults new.faults ⊎ Rose old.wants new.wants))
+PutsLine old new line = Appends old new line ⊎ ((why : Refusal) × AppendsPart old new line why)
 
--- a call with this status ended so: it has its cause, and standard error grew by its line
+-- what a command tells beside its output: the turns of a run whose result it writes, or its fault; beside a printed text nothing
+abbrev pub PutsEnd : SinkState → SinkState → Ending → Type 0
+PutsEnd old new (Written turns) = PutsLine old new (turns_line turns)
+PutsEnd old new Printed = new ≡ old
+PutsEnd old new (Refused why) = PutsLine old new (line_of why)
+
+-- a call with this status ended so: it has its cause, and its line was told on standard error
 pub record Ends (words : List (String Global)) (files files' : FolderState) (out out' err err' : SinkState) (status : ℕ) : Type 0 where
   pub ended : Ending
   pub status_is : status ≡ status_of_end ended
   pub cause : Cause (map string_bytes words) files files' out out' ended
-  pub line : PutsLine err err' (line_of_end ended)
+  pub line : PutsEnd err err' ended

@@ -1,6 +1,7 @@
 pub mod Asked
 pub mod Ends
 pub mod Prepared
+pub mod Program
 pub mod Refused
 pub mod Run
 pub mod Told

@@ -4,7 +4,8 @@ ghost use Rattle.command_line.specs.declared.Task.TheVariants as task;
 ghost use Rattle.index_notation.specs.Statement.{IsNumbered};
 ghost use Rattle.taco_top.specs.Written.{IsAccepted};
 ghost use Rattle.taco_top.specs.Told.{IsKernelOf};
-ghost use Rattle.taco_top.specs.Ends.{Cause, Ends};
+ghost use Rattle.refusals.specs.Lines.{status_of, line_of};
+ghost use Rattle.taco_top.specs.Ends.{Cause, Ends, PutsLine};
 ghost use Rattle.taco_top.specs.Run.{AsksFor, request_of};
 ghost use Rattle.taco_top.specs.Prepared.{end_of};
 
@@ -100,6 +101,15 @@ fn answer<'a, F: Folder, O: Sink>(
     }
 }
 
+/// Tells a fault on standard error, and answers its status.
+pub(crate) fn refuse<E: Sink>(err: &mut E, fault: &Fault<'_>) -> u8
+    ensures status { result ≡ status_of fault.now }
+    ensures line { PutsLine (E.state err.old) (E.state err.new) (line_of fault.now) }
+{
+    let _ = put_line(err, fault);
+    fault.status()
+}
+
 /// All that the program does, and its status: 0 done, 1 refused input, 2 no command line, 3 read fault, 4 write fault, 5 want
 /// of memory, 6 a limit is passed. `words` is the command line with the program's name first. A result goes to `out`, or with
 /// a path into its file; the text of another command goes to `out`. A line goes to `err`: of a refusal, or of the turns of the run
@@ -113,7 +123,7 @@ pub fn taco<F: Folder, O: Sink, E: Sink>(
 ) -> u8
     // The status has its cause: the first refusal in order of the words, the operands' files as reads gave them, ranges and
     // sizes, and the writing; or the file of the statement's values was written; or the text of a kernel, of a run or of a workload
-    // was printed. `err` grew by the line of it.
+    // was printed. `err` grew by the line of it, or by a part of that line, and stays as it was beside a printed text.
     ensures { Ends words.now (F.state files.old) (F.state files.new) (O.state out.old) (O.state out.new)
         (E.state err.old) (E.state err.new) result }
 {
@@ -123,9 +133,6 @@ pub fn taco<F: Folder, O: Sink, E: Sink>(
             0
         }
         Ok(Done::Printed) => 0,
-        Err(fault) => {
-            let _ = put_line(err, &fault);
-            fault.status()
-        }
+        Err(fault) => refuse(err, &fault),
     }
 }

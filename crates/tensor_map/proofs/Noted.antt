@@ -1,5 +1,5 @@
 -- What is noted beside a row of entries: the greatest coordinate of each mode, and whether the row increases.
-use Rattle.std.specs.Prelude.{◌≡◌, ℕ, suc, ◌+◌, ◌-◌, ◌<◌, ◌≤◌, Bool, true, false, cond, List, [], ◌∷◌, ◌++◌, length, max, filter, All}
+use Rattle.std.specs.Prelude.{◌≡◌, ℕ, suc, ◌-◌, ◌<◌, ◌≤◌, Bool, true, false, cond, List, [], ◌∷◌, ◌++◌, length, max, filter, All}
 use Rattle.std.specs.Prelude.{◌↔◌, Some, IsTrue, refl, slice_index, slice_index_or, slice_get}
 use Rattle.std.specs.declared.cmp.Ordering.{Ordering}
 use Rattle.std.specs.declared.cmp.Ordering.TheVariants.{Less, Equal, Greater}
@@ -13,7 +13,7 @@ use Rattle.std.proofs.lemmas.List.Recursion.{max_bounds}
 use Rattle.std.proofs.lemmas.List.Sums.{length-filter, count_by-le-length}
 use Rattle.std.proofs.lemmas.Option.{get_or_from_slice_get, slice_get_within}
 use Rattle.numbers.specs.Arithmetic.{Arithmetic, Laws}
-use Rattle.tensor_map.specs.Order.{IsBefore, IsBeforeAll}
+use Rattle.tensor_map.specs.Order.{IsBefore}
 use Rattle.tensor_map.specs.Entries.{Entry, IsEntry, AreEntries, AreNoted, coords_of, Listed, SameListed, SameValues, StrictlyIncreasing}
 use Rattle.tensor_map.specs.Entries.{IsGreatest, ComeLast, NoneIsZero, is_nonzero, value_at, greatest_in}
 use Rattle.tensor_map.proofs.Lemmas.{value_nonzero, increasing_filter, none_zero_filter}

@@ -1,7 +1,6 @@
 use Rattle.std.specs.Prelude.{Ok}
 use Rattle.std.proofs.Common.{map, string_bytes, refl, subst}
 use Rattle.std.specs.declared.alloc.Global.{Global}
-use Rattle.refusals.specs.Lines.{line_of}
 use Rattle.reports.specs.Reports.{turns_line}
 use Rattle.taco_top.specs.Ends.{Written, Refused, Cause}
 use Rattle.taco_top.specs.Prepared.{end_of}
@@ -11,10 +10,9 @@ use Rattle.taco_top.proofs.top.taco.Goals as goal
 pub returns-in-Err : goal.returns-in-Err
 returns-in-Err g c = record {
   ended = Refused c.in-Err.fault;
-  status_is = c.status.ensures;
+  status_is = c.refuse.ensures.status;
   cause = c.in-Err.ensures;
-  line = line_put c.put_line.result (g.E.Sink.state c.args.err.now) (g.E.Sink.state c.put_line.new.sink) (line_of c.in-Err.fault)
-      c.put_line.ensures.whole c.put_line.ensures.part;
+  line = c.refuse.ensures.line;
 }
 
 pub returns-in-Ok-Written : goal.returns-in-Ok-Written

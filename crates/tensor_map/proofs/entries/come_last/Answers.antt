@@ -1,4 +1,4 @@
-use Rattle.std.proofs.Common.{◌≡◌, ◌∙◌, ap, sym, nat_cmp}
+use Rattle.std.proofs.Common.{◌∙◌, ap, sym, nat_cmp}
 use Rattle.std.specs.Prelude.{IsTrue, ◌↔◌}
 use Rattle.std.specs.Cmp.Lexicographic.{slice_cmp}
 use Rattle.tensor_map.specs.Order.{IsBefore}

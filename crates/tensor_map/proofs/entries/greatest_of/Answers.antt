@@ -1,4 +1,4 @@
-use Rattle.std.proofs.Common.{◌≡◌, sym, ◌∙◌, ap, max, get_or, take, [], ◌∷◌, ◌++◌}
+use Rattle.std.proofs.Common.{sym, ◌∙◌, ap, max, get_or, take, [], ◌∷◌, ◌++◌}
 use Rattle.std.proofs.lemmas.List.{take_more}
 use Rattle.tensor_map.specs.Entries.{greatest_in}
 use Rattle.tensor_map.proofs.Noted.{greatest_more}
