@@ -1,6 +1,5 @@
-ghost use Rattle.std.specs.Prelude.{◌≡◌, ◌≤◌, ◌-◌, [], IfOk, length};
+ghost use Rattle.std.specs.Prelude.{◌≡◌, ◌≤◌, IfOk};
 ghost use Rattle.limits.specs.Limits.{greatest_position_count};
-ghost use Rattle.level_core.specs.declared.stage.Stage.TheVariants.{Finished};
 
 use coordinate_lists::Indices;
 use level_core::Stage;
@@ -35,7 +34,7 @@ impl Model for CompressedLevel {
 }
 
 impl CompressedLevel {
-    ghost use Rattle.compressed_level.specs.Compressed.{fresh, stored, KeepsRules, IsStored};
+    ghost use Rattle.compressed_level.specs.Compressed.{fresh};
 
     /// A level without parents, for coordinates below `n`. Refused for want of memory alone.
     pub fn new(alloc: Global, n: u64, unique: bool) -> Result<CompressedLevel, AllocError>
@@ -53,22 +52,5 @@ impl CompressedLevel {
             coords: Indices::new(alloc),
             next: 0,
         })
-    }
-
-    /// A finished level of these segment ends and coordinates. It takes no memory.
-    pub fn from_arrays(n: u64, unique: bool, ends: Indices, coords: Indices) -> CompressedLevel
-        requires rules { KeepsRules (stored n unique Finished ends.items coords.items (length ends.items - 1) coords.spare) }
-        requires ends { IsStored Finished ends.items }
-        ensures { result ≡ stored n unique Finished ends.items coords.items (length ends.items - 1) coords.spare }
-    {
-        let next = ends.len().saturating_sub(1);
-        CompressedLevel {
-            size: n,
-            unique,
-            stage: Stage::Finished,
-            ends,
-            coords,
-            next,
-        }
     }
 }

@@ -6,6 +6,7 @@ mod appending;
 mod code;
 mod compressed;
 mod kind;
+mod made;
 mod reading;
 mod sums;
 

@@ -1,6 +1,6 @@
 //! `Indices`: a list of coordinates or positions. A clause sees it as its `items` and its `spare`.
 ghost use Rattle.std.specs.Prelude.{◌≡◌, ◌+◌, ◌-◌, ◌^◌, ◌<◌, ◌≤◌, [], ◌∷◌};
-ghost use Rattle.std.specs.Prelude.{◌++◌, length, replicate, slice_get, slice_set, Some, OnOk};
+ghost use Rattle.std.specs.Prelude.{◌++◌, All, length, replicate, slice_get, slice_set, Some, IfOk, OnOk};
 ghost use Rattle.std.specs.Prelude.{OnErr, IsOk};
 ghost use Rattle.limits.specs.Limits.{greatest_position_count};
 ghost use Rattle.level_core.specs.declared.span.Span.{Span};
@@ -41,6 +41,19 @@ impl Indices {
         Indices {
             words: Segment::new(alloc),
         }
+    }
+
+    /// A copy of numbers within the limit. Refused for want of memory alone.
+    pub fn copied(alloc: Global, numbers: &[u64]) -> Result<Indices, AllocError>
+        requires { All (λ number. number ≤ greatest_position_count) numbers.now }
+        ensures { IfOk result (λ copy. copy.items ≡ numbers.now) }
+    {
+        let mut copy = Indices::new(alloc);
+        copy.reserve(numbers.len() as u64)?;
+        for number in numbers {
+            copy.push(*number);
+        }
+        Ok(copy)
     }
 
     /// The number of items.

@@ -1,6 +1,6 @@
 -- The ranges of the result's levels.
 use Rattle.std.specs.Prelude.{◌≡◌, ℕ, zero, suc, ◌+◌, ◌*◌, ◌<◌, ◌≤◌, ◌^◌, List, [], ◌∷◌, length, take, drop, slice_index, slice_index_or}
-use Rattle.std.specs.Prelude.{refl}
+use Rattle.std.specs.Prelude.{Bool, true, false, if◌then◌else◌, refl}
 use Rattle.std.proofs.Common.{sym, ap, subst, arith, inl, inr}
 use Rattle.std.proofs.lemmas.Nat.{mul-lt}
 use Rattle.coordinate_lists.proofs.Words.{positions_fit_32_bits}
@@ -12,8 +12,7 @@ use Rattle.tensor_storage.specs.Storages.{in_level_order}
 use Rattle.machine_starts.proofs.Steps.{drop_here}
 use Rattle.kernel_stores.specs.Stores.{StartsFew}
 use Rattle.level_core.specs.declared.letter.Letter.{Letter}
-use Rattle.level_core.specs.declared.letter.Letter.TheVariants.{Dense, Compressed, CompressedGroups, Singleton, SingletonGroups, Hashed}
-use Rattle.level_core.specs.Kinds.{parents_below}
+use Rattle.level_core.specs.Kinds.{parents_below, properties}
 use Rattle.kernel_machine.specs.Begins.{IsTooLarge}
 
 index_taken : (ranges : List ℕ) (n i : ℕ) → i < n → slice_index (take n ranges) i ≡ slice_index ranges i
@@ -47,12 +46,11 @@ product_small n m h k =
 -- as many positions as a level has when a run starts are a word
 pub start_small : (letter : Letter) (size parents : ℕ) → parents ≤ greatest_position_count → size ≤ greatest_position_count
     → parents_below letter size parents < 2 ^ 64
-start_small Dense size parents p s = product_small parents size p s
-start_small Compressed size parents p s = omega arith
-start_small CompressedGroups size parents p s = omega arith
-start_small Singleton size parents p s = omega arith
-start_small SingletonGroups size parents p s = omega arith
-start_small Hashed size parents p s = omega arith
+start_small letter size parents p s = by (properties letter).full
+  where
+    by : (full : Bool) → (if full then parents * size else 0) < 2 ^ 64
+    by true = product_small parents size p s
+    by false = omega arith
 
 drop_letters : (format : List FormatLevel) (i : ℕ) (d : FormatLevel) → i < length format
     → drop i (letters_of format) ≡ (slice_index_or format i d).letter ∷ drop (suc i) (letters_of format)

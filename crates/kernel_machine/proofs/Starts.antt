@@ -1,5 +1,5 @@
 -- The arrays of a machine that was begun are those with which a kernel's run starts on its store.
-use Rattle.std.specs.Prelude.{◌≡◌, ℕ, zero, suc, ◌+◌, ◌==◌, true, false, List, [], ◌∷◌, map, Some, None, slice_get}
+use Rattle.std.specs.Prelude.{◌≡◌, ℕ, zero, suc, ◌+◌, ◌==◌, true, false, List, [], ◌∷◌, map, Option, Some, None, slice_get}
 use Rattle.std.specs.Prelude.{refl}
 use Rattle.std.proofs.Common.{◌∙◌, ap, arith}
 use Rattle.std.proofs.lemmas.Bool.Decides.{nat_tests}
@@ -12,7 +12,6 @@ use Rattle.kernel_code.specs.Arrays.{same_arr, may_write}
 use Rattle.kernel_code.specs.Laws.{is_scratch}
 use Rattle.kernel_code.specs.Meaning.{State, set_array}
 use Rattle.level_core.specs.declared.letter.Letter.{Letter}
-use Rattle.level_core.specs.declared.letter.Letter.TheVariants.{Dense, Compressed, CompressedGroups, Singleton, SingletonGroups, Hashed}
 use Rattle.level_core.specs.Meaning.{Arrays}
 use Rattle.tensor_storage.specs.declared.level.StorageLevel.{StorageLevel}
 use Rattle.tensor_storage.specs.Storages.{Storage, in_level_order}
@@ -29,8 +28,8 @@ use Rattle.lent_arrays.specs.declared.lent.Operand.{Operand}
 use Rattle.lent_arrays.specs.Lent.{numbered, words_of_level, words_of_operand, values_of_operand, one_word, lent_array}
 use Rattle.kernel_steps.specs.declared.machine.Machine.{Machine}
 use Rattle.kernel_steps.specs.Store.{own_array, by_right, state_of}
-use Rattle.machine_starts.specs.Begun.{begun, begun_result, with_keys, with_workspaces, with_lists, HasSizes, AreBegun}
-use Rattle.level_core.specs.Kinds.{parents_below}
+use Rattle.machine_starts.specs.Begun.{filled_with, with_zeros, begun, begun_result, with_keys, with_workspaces, with_lists, HasSizes, AreBegun}
+use Rattle.level_core.specs.Kinds.{parents_below, zeros_at_start}
 use Rattle.machine_starts.specs.Begun.{IsFew}
 use Rattle.machine_starts.specs.Lending.{Parts, lent_of, parts_of}
 use Rattle.machine_starts.proofs.Begun.{result_apart, result_begun, IsFrom}
@@ -39,17 +38,21 @@ use Rattle.kernel_stores.specs.Stores.{AreHeld, OperandsHeld, StartsBelow, Start
 use Rattle.kernel_machine.specs.Begins.{StartsOn, store_of}
 
 -- what no step changes: variables and turns
-begun_same : (letter : Letter) (parents level : ℕ) (s : State)
-    → ((begun letter parents level s).vars ≡ s.vars) × ((begun letter parents level s).turns ≡ s.turns)
-begun_same Dense parents level s = (refl, refl)
-begun_same Compressed parents level s = (refl, refl)
-begun_same CompressedGroups parents level s = (refl, refl)
-begun_same Singleton parents level s = (refl, refl)
-begun_same SingletonGroups parents level s = (refl, refl)
-begun_same Hashed parents level s = (refl, refl)
-
 abbrev Same : State → State → Type 0
 Same s t = (t.vars ≡ s.vars) × (t.turns ≡ s.turns)
+
+filled_same : (o : Option ℕ) (array : LevelArray) (level : ℕ) (s : State) → Same s (filled_with o array level s)
+filled_same None array level s = (refl, refl)
+filled_same (Some count) array level s = (refl, refl)
+
+begun_same : (letter : Letter) (parents level : ℕ) (s : State) → Same s (begun letter parents level s)
+begun_same letter parents level s =
+    let ends = with_zeros letter OfEnds parents level s in
+    let widths = with_zeros letter OfWidth parents level ends in
+    let first = filled_same (zeros_at_start letter OfEnds parents) OfEnds level s in
+    let second = filled_same (zeros_at_start letter OfWidth parents) OfWidth level ends in
+    let third = filled_same (zeros_at_start letter OfCoordinates parents) OfCoordinates level widths in
+    (third.0 ∙ second.0 ∙ first.0, third.1 ∙ second.1 ∙ first.1)
 
 result_same : (nothing : ℕ) (letters : List Letter) (sizes : List ℕ) (parents level : ℕ) (s : State)
     → Same s (begun_result nothing letters sizes parents level s)

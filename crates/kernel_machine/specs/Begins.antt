@@ -9,9 +9,9 @@ use Rattle.level_core.specs.declared.letter.Letter.{Letter}
 use Rattle.level_core.specs.Meaning.{Arrays}
 use Rattle.format_spec.specs.declared.format.FormatLevel.{FormatLevel}
 use Rattle.format_spec.specs.Formats.{letters_of}
+use Rattle.tensor_storage.specs.Handed.{no_words}
 use Rattle.tensor_storage.specs.Storages.{Storage}
 use Rattle.storage_builder.specs.Building.{building}
-use Rattle.storage_builder.specs.declared.part.Part.TheVariants.{Missing}
 use Rattle.kernel_steps.specs.declared.machine.Machine.{Machine}
 use Rattle.kernel_steps.specs.Memory.{SetsBelow, Through, variable_room}
 use Rattle.kernel_steps.specs.Store.{state_of}
@@ -48,7 +48,7 @@ pub record IsReadyFor (a : Arithmetic) (kernel : Kernel) (store : Store) (p : Pr
   pub few : StartsFew (letters_of store.format) (result_sizes store) 1
   pub starts : StartsOn a.zero kernel store p.machine
   pub room : Through (SetsBelow (variable_room p.machine)) kernel.body
-  pub building : p.builder ≡ building store.format (result_sizes store) (replicate (length store.format) Missing)
+  pub building : p.builder ≡ building store.format (result_sizes store) (replicate (length store.format) no_words)
 
 -- a refusal before the run: of the first level that can't be begun
 abbrev pub IsBeginRefusal : Store → RunRefusal → Type 0

@@ -1,25 +1,23 @@
 -- How the run of a prepared kernel ends.
-use Rattle.std.specs.Prelude.{◌≡◌, ℕ, suc, ◌-◌, ◌^◌, ◌<◌, List, [], ◌∷◌, length, map, All, Some, slice_get}
+use Rattle.std.specs.Prelude.{◌≡◌, ℕ, suc, ◌-◌, ◌^◌, ◌<◌, List, length, map, All, Some, slice_get}
 use Rattle.numbers.specs.Arithmetic.{Arithmetic}
 use Rattle.kernel_code.specs.declared.syntax.Arr.{Arr}
-use Rattle.kernel_code.specs.declared.syntax.Arr.TheVariants.{Values}
+use Rattle.kernel_code.specs.declared.syntax.Arr.TheVariants.{Values, Ends, Width, Coordinates}
 use Rattle.kernel_code.specs.declared.syntax.Kernel.{Kernel}
 use Rattle.kernel_code.specs.declared.syntax.Turns.{Turns}
 use Rattle.kernel_code.specs.Kernels.{Finished, TooLong, NotFinished, go}
 use Rattle.level_core.specs.declared.letter.Letter.{Letter}
-use Rattle.level_core.specs.declared.letter.Letter.TheVariants.{Dense}
 use Rattle.level_core.specs.Fragments.{IsOf}
 use Rattle.level_core.specs.Meaning.{Arrays}
 use Rattle.format_spec.specs.declared.format.FormatLevel.{FormatLevel}
 use Rattle.format_spec.specs.Formats.{letters_of}
 use Rattle.tensor_storage.specs.declared.level.StorageLevel.{StorageLevel}
+use Rattle.tensor_storage.specs.declared.words.LevelWords.{LevelWords}
 use Rattle.tensor_storage.specs.Levels.{meaning}
 use Rattle.tensor_storage.specs.Storages.{Storage, IsStorage}
 use Rattle.storage_arrays.specs.Arrays.{AreDone}
 use Rattle.storage_builder.specs.Building.{Building, AreDense}
-use Rattle.storage_builder.specs.declared.part.Part.{Part}
-use Rattle.storage_builder.specs.declared.part.Part.TheVariants.{Missing}
-use Rattle.storage_builder.specs.Handed.{HoldsPart, AreAlike}
+use Rattle.storage_builder.specs.Made.{AllAlike}
 use Rattle.kernel_steps.specs.Memory.{IsInPlace, Through}
 use Rattle.kernel_steps.specs.Store.{count_of}
 use Rattle.kernel_stores.specs.Results.{IsLeft, summed}
@@ -31,17 +29,11 @@ use Rattle.kernel_machine.specs.declared.refusal.RunRefusal.TheVariants.{SizeLim
 unfoldable pub most_turns : ℕ
 most_turns = 2 ^ 64 - 1
 
--- what arrays have of a level of the result that is to be handed over; of a dense level there is nothing
-abbrev pub LeftPart : Letter → ℕ → Part → Arrays → Type 0
-LeftPart Dense level part a = Unit {0}
-LeftPart letter level part a = HoldsPart letter 0 0 level part a
-
--- levels that are the same but for their room, one by one
-abbrev pub AllAlike : List StorageLevel → List StorageLevel → Type 0
-AllAlike [] [] = Unit {0}
-AllAlike [] (m ∷ ms) = ⊥
-AllAlike (l ∷ ls) [] = ⊥
-AllAlike (l ∷ ls) (m ∷ ms) = AreAlike l m × AllAlike ls ms
+-- what arrays have of a level of the result: these words in each array that is there
+pub record WordsLeft (level : ℕ) (words : LevelWords) (a : Arrays) : Type 0 where
+  pub ends : (xs : List ℕ) → a (Ends 0 level) ≡ Some xs → xs ≡ words.ends.items
+  pub width : (xs : List ℕ) → a (Width 0 level) ≡ Some xs → xs ≡ words.width.items
+  pub coordinates : (xs : List ℕ) → a (Coordinates 0 level) ≡ Some xs → xs ≡ words.coordinates.items
 
 -- finished levels of these kinds and ranges that the arrays hold, as the first of a result, are these, but for their room
 abbrev pub AreThese : List Letter → List ℕ → Arrays → List StorageLevel → Type 0
@@ -72,17 +64,12 @@ IsRunRefusal a kernel store given Memory =
     WorksInPlace kernel → AreDense store.format → go a (length store.format) kernel given most_turns ≡ NotFinished
 IsRunRefusal a kernel store given (SizeLimit place count) = go a (length store.format) kernel given most_turns ≡ TooLong place count
 
--- nothing was handed over of any level
-abbrev pub IsUntouched : Building → Type 0
-IsUntouched b = (i : ℕ) → i < length b.format → slice_get b.parts i ≡ Some Missing
-
 -- each level was handed over as arrays had it, and arrays that are no level's stand as before
 pub record WasHanded (old : Building) (before : Arrays) (new : Building) (after : Arrays) : Type 0 where
   pub format : new.format ≡ old.format
   pub sizes : new.sizes ≡ old.sizes
   pub long : length new.parts ≡ length old.parts
-  pub handed : (i : ℕ) (letter : Letter) (part : Part) → i < length old.format → slice_get (letters_of old.format) i ≡ Some letter
-      → slice_get new.parts i ≡ Some part → LeftPart letter (suc i) part before
+  pub handed : (i : ℕ) (words : LevelWords) → i < length old.format → slice_get new.parts i ≡ Some words → WordsLeft (suc i) words before
   pub others : (x : Arr) → ((k : ℕ) → IsOf 0 k x → ⊥) → after x ≡ before x
 
 -- a tensor has the levels and the values that arrays have of the result: a storage of this format and of levels of these ranges, which

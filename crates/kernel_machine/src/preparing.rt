@@ -2,10 +2,9 @@
 ghost use Rattle.std.specs.Prelude.{◌≡◌, ◌≤◌, All, length, replicate, IfOk, MatchResult};
 ghost use Rattle.limits.specs.Limits.{greatest_position_count};
 ghost use Rattle.format_spec.specs.Formats.{IsFormat, letters_of};
-ghost use Rattle.storage_arrays.specs.Arrays.{AreDone};
+ghost use Rattle.tensor_storage.specs.Handed.{no_words};
 ghost use Rattle.tensor_storage.specs.Storages.{in_level_order};
 ghost use Rattle.storage_builder.specs.Building.{building};
-ghost use Rattle.storage_builder.specs.declared.part.Part.TheVariants.{Missing};
 ghost use Rattle.kernel_stores.specs.Stores.{StartsFew};
 ghost use Rattle.kernel_steps.specs.Memory.{SetsBelow, Through, variable_room};
 ghost use Rattle.kernel_machine.specs.Begins.{store_of, StartsOn, IsReadyFor, IsBeginRefusal};
@@ -35,7 +34,6 @@ fn started_machine<'a, S: Semiring>(
 ) -> Result<Machine<'a>, AllocError>
     requires sizes { sizes.now ≡ in_level_order format.now ranges.now }
     requires few { StartsFew (letters_of format.now) sizes.now 1 }
-    requires done { All (λ t. AreDone 1 t.levels) operands.now }
     ensures starts { IfOk result (StartsOn S.arithmetic.zero kernel.now (store_of ranges.now operands.now format.now)) }
     ensures room { IfOk result (λ m. Through (SetsBelow (variable_room m)) kernel.now.body) }
 {
@@ -59,7 +57,7 @@ fn started_machine<'a, S: Semiring>(
 /// A builder for a tensor of this format, to which nothing was handed over.
 fn empty_builder(alloc: Global, format: Format, ranges: &[u64]) -> Result<Builder, AllocError>
     requires { length format ≤ length ranges.now }
-    ensures { IfOk result (λ b. b ≡ building format (in_level_order format ranges.now) (replicate (length format) Missing)) }
+    ensures { IfOk result (λ b. b ≡ building format (in_level_order format ranges.now) (replicate (length format) no_words)) }
 {
     let order = format.levels().len();
     let Some(shape) = Shape::new(alloc, &ranges[..order]) else {
@@ -80,7 +78,6 @@ fn begun_kernel<'a, S: Semiring>(
     requires enough { length format ≤ length ranges.now }
     requires sizes { sizes.now ≡ in_level_order format ranges.now }
     requires few { StartsFew (letters_of format) sizes.now 1 }
-    requires done { All (λ t. AreDone 1 t.levels) operands.now }
     ensures { IfOk result (IsReadyFor S.arithmetic kernel.now (store_of ranges.now operands.now format)) }
 {
     let machine = started_machine::<S>(alloc, kernel, format.levels(), operands, ranges, sizes)?;
@@ -95,7 +92,7 @@ fn begun_kernel<'a, S: Semiring>(
     })
 }
 
-/// Makes a kernel ready to run on operands whose levels are finished, with these ranges of its variables and a result of this format.
+/// Makes a kernel ready to run on operands, with these ranges of its variables and a result of this format.
 /// The operands are lent, and no code is copied. Refused for want of memory, or exactly where the result can't be begun, since dense
 /// levels alone would have more positions than may be: the first such level is told, and how many it would have.
 pub fn prepare<'a, S: Semiring>(
@@ -107,7 +104,6 @@ pub fn prepare<'a, S: Semiring>(
 ) -> Result<Prepared<'a>, RunRefusal>
     requires enough { length format ≤ length ranges.now }
     requires small { All (λ range. range ≤ greatest_position_count) ranges.now }
-    requires done { All (λ t. AreDone 1 t.levels) operands.now }
     ensures { MatchResult result (IsReadyFor S.arithmetic kernel.now (store_of ranges.now operands.now format))
         (IsBeginRefusal (store_of ranges.now operands.now format)) }
 {

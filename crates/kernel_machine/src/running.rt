@@ -1,19 +1,19 @@
 //! Runs of kernels that stand ready.
 ghost use Rattle.std.specs.Prelude.{◌≡◌, ◌∷◌, [], ◌<◌, ◌≤◌, ℕ, IfOk, IsOk};
-ghost use Rattle.std.specs.Prelude.{MatchResult, length, replicate, slice_get, Some, true};
+ghost use Rattle.std.specs.Prelude.{MatchResult, length, replicate};
 ghost use Rattle.kernel_code.specs.declared.syntax.Arr.{Arr};
 ghost use Rattle.kernel_code.specs.Kernels.{place_of};
 ghost use Rattle.level_core.specs.Meaning.{Arrays};
 ghost use Rattle.storage_builder.specs.Building.{building, AreDense};
-ghost use Rattle.storage_builder.specs.declared.part.Part.TheVariants.{Missing};
+ghost use Rattle.tensor_storage.specs.Handed.{no_words};
 ghost use Rattle.kernel_steps.specs.Store.{state_of};
 ghost use Rattle.kernel_stores.specs.Kernels.{IsSoundOn};
 ghost use Rattle.kernel_stores.specs.Results.{LeavesStorage, IsLeft};
 ghost use Rattle.kernel_stores.specs.Stores.{Store, result_sizes};
 ghost use Rattle.kernel_machine.specs.Begins.{IsReadyFor};
-ghost use Rattle.kernel_machine.specs.Runs.{most_turns, HasRun, IsRunRefusal, WasHanded, IsUntouched, IsMadeFrom};
+ghost use Rattle.kernel_machine.specs.Runs.{most_turns, HasRun, IsRunRefusal, WasHanded, IsMadeFrom};
 
-use crate::handing::{give_part, taken_part};
+use crate::handing::{taken_array, taken_words};
 use crate::prepared::Prepared;
 use crate::refusal::RunRefusal;
 use kernel_code::{Arr, Place, Turns};
@@ -48,21 +48,16 @@ fn place_of(order: usize, a: Arr) -> Place
     }
 }
 
-/// Hands over the arrays of each level. It answers whether all were there.
-fn hand_over(machine: &mut Machine, builder: &mut Builder, alloc: Global, order: usize) -> bool
+/// Hands over the arrays of each level.
+fn hand_over(machine: &mut Machine, builder: &mut Builder, alloc: Global, order: usize)
     requires order { order ≡ length builder.old.format }
-    requires missing { IsUntouched builder.old }
-    ensures handed { result ≡ true → WasHanded builder.old (state_of machine.old).arrays builder.new (state_of machine.new).arrays }
-    ensures dense { AreDense builder.old.format → result ≡ true }
+    requires long { length builder.old.parts ≡ order }
+    ensures { WasHanded builder.old (state_of machine.old).arrays builder.new (state_of machine.new).arrays }
 {
     for number in 0..order {
-        let letter = builder.letter(number + 1);
-        let Some(part) = taken_part(machine, alloc, letter, number as u64 + 1) else {
-            return false;
-        };
-        give_part(builder, number + 1, part);
+        let words = taken_words(machine, alloc, number as u64 + 1);
+        builder.hand_over(number + 1, words);
     }
-    true
 }
 
 /// The tensor that the arrays of the result make. Where all levels are dense it takes no memory.
@@ -74,16 +69,12 @@ fn made_tensor(
 ) -> Result<Tensor, AllocError>
     requires order { order ≡ length builder.format }
     requires left { (nothing : ℕ) × (store : Store) × LeavesStorage nothing store (state_of machine).arrays
-        × (builder ≡ building store.format (result_sizes store) (replicate (length store.format) Missing)) }
+        × (builder ≡ building store.format (result_sizes store) (replicate (length store.format) no_words)) }
     ensures made { IfOk result (λ t. IsMadeFrom builder.format builder.sizes (state_of machine.entry).arrays t) }
     ensures dense { AreDense builder.format → IsOk result }
 {
-    if !hand_over(&mut machine, &mut builder, alloc, order) {
-        return Err(AllocError);
-    }
-    let Some(values) = machine.take_array(Arr::Values(0)) else {
-        return Err(AllocError);
-    };
+    hand_over(&mut machine, &mut builder, alloc, order);
+    let values = taken_array(&mut machine, alloc, Arr::Values(0));
     builder.finish(values)
 }
 

@@ -16,9 +16,9 @@ use Rattle.tensor_storage.specs.Levels.{meaning}
 use Rattle.tensor_storage.specs.Stands.{IsPacked, Stands, row_from}
 use Rattle.tensor_storage.specs.Storages.{IsOpen, Storage, in_level_order, storage_of}
 use Rattle.tensor_storage.specs.Tables.{Table}
-use Rattle.storage_builder.specs.Handed.{AreAlike}
-use Rattle.storage_builder.proofs.Drained.{stores_alike}
-use Rattle.kernel_machine.specs.Runs.{AllAlike}
+use Rattle.tensor_storage.specs.Handed.{AreAlike}
+use Rattle.storage_builder.specs.Made.{AllAlike}
+use Rattle.storage_builder.proofs.Alike.{stores_alike}
 
 -- ---- one level
 order_alike : (l m : StorageLevel) (p : ℕ) → AreAlike l m → InOrder meaning l p → InOrder meaning m p

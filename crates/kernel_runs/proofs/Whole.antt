@@ -27,7 +27,7 @@ use Rattle.kernel_stores.specs.Stores.{told_by}
 use Rattle.kernel_stores.proofs.Sound.{right_is_sound}
 use Rattle.kernel_machine.specs.Begins as begins
 use Rattle.kernel_machine.specs.Begins.{store_of}
-use Rattle.kernel_machine.specs.Runs.{AllAlike}
+use Rattle.storage_builder.specs.Made.{AllAlike}
 use Rattle.operand_packing.specs.Runnable.{IsRunnable, told_ranges}
 use Rattle.operand_packing.specs.Packed.{ArePackedOperands}
 use Rattle.kernel_runs.specs.declared.fault.RunFault.{RunFault}

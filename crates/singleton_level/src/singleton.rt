@@ -1,5 +1,4 @@
-ghost use Rattle.std.specs.Prelude.{◌≡◌, ◌≤◌, IfOk, IsOk, length};
-ghost use Rattle.level_core.specs.declared.stage.Stage.TheVariants.{Finished};
+ghost use Rattle.std.specs.Prelude.{◌≡◌, ◌≤◌, ℕ, IfOk, IsOk};
 ghost use Rattle.limits.specs.Limits.{greatest_position_count};
 
 use coordinate_lists::Indices;
@@ -31,7 +30,8 @@ impl Model for SingletonLevel {
 }
 
 impl SingletonLevel {
-    ghost use Rattle.singleton_level.specs.Singleton.{fresh, stored, KeepsRules};
+    ghost use Rattle.singleton_level.specs.Handed.{HasWords, listed};
+    ghost use Rattle.singleton_level.specs.Singleton.{SingletonLevel as Level, fresh};
 
     /// A level without parents, for coordinates below `n`. It takes no memory.
     pub fn new(alloc: Global, n: u64, unique: bool) -> Result<SingletonLevel, AllocError>
@@ -48,17 +48,23 @@ impl SingletonLevel {
         })
     }
 
-    /// A finished level of these coordinates, one for each parent. It takes no memory.
-    pub fn from_coordinates(n: u64, unique: bool, coords: Indices) -> SingletonLevel
-        requires { KeepsRules (stored n unique Finished (length coords.items) coords.items coords.spare) }
-        ensures { result ≡ stored n unique Finished (length coords.items) coords.items coords.spare }
+    /// The finished level of coordinates, one for each parent. Refused for want of memory alone.
+    pub fn from_words(
+        alloc: Global,
+        n: u64,
+        unique: bool,
+        coords: &[u64],
+    ) -> Result<SingletonLevel, AllocError>
+        requires { (parents : ℕ) × (l : Level) × HasWords n unique parents coords.now l }
+        ensures { IfOk result (λ l. (spare : ℕ) × (l ≡ listed n unique coords.now spare)) }
     {
-        SingletonLevel {
+        let coords = Indices::copied(alloc, coords)?;
+        Ok(SingletonLevel {
             size: n,
             unique,
             stage: Stage::Finished,
             parents: coords.len(),
             coords,
-        }
+        })
     }
 }

@@ -1,161 +1,85 @@
--- Levels that differ in their room alone are alike.
-use Rattle.std.specs.Prelude.{◌≡◌, ◌≢◌, ℕ, ◌-◌, ◌<◌, Bool, true, false, List, length, Some, refl}
-use Rattle.std.proofs.Common.{◌∙◌, sym, ap, subst}
-use Rattle.level_core.specs.declared.letter.Letter.{Letter}
-use Rattle.level_core.specs.declared.letter.Letter.TheVariants.{Dense, Compressed, CompressedGroups, Singleton, SingletonGroups, Hashed}
-use Rattle.level_core.specs.declared.stage.Stage.{Stage}
-use Rattle.level_core.specs.declared.stage.Stage.TheVariants.{Unfinished, Finished}
-use Rattle.level_core.specs.Logs.{Rises, slice, running, segment_in, entries_between}
-use Rattle.coordinate_lists.specs.Spans.{Within}
-use Rattle.compressed_level.specs.Compressed as compressed
-use Rattle.singleton_level.specs.Singleton as singleton
-use Rattle.hashed_level.specs.Hashed as hashed
-use Rattle.tensor_storage.specs.declared.level.StorageLevel.TheVariants.{Dense as OfDense, Compressed as OfCompressed}
-use Rattle.tensor_storage.specs.declared.level.StorageLevel.TheVariants.{Singleton as OfSingleton, Hashed as OfHashed}
+-- What follows for levels that are the same but for their room.
+use Rattle.std.specs.Prelude.{◌≡◌, ℕ, zero, suc, ◌+◌, List, [], ◌∷◌, map, refl}
+use Rattle.std.proofs.Common.{◌∙◌, sym, ap, subst, arith}
+use Rattle.level_core.specs.declared.span.Span.{Span}
+use Rattle.level_core.specs.Entries.{IsIn, StandsAt, coord_at, one}
+use Rattle.level_core.specs.Kinds.{properties}
+use Rattle.level_core.specs.Meaning.{Arrays}
+use Rattle.level_rows.specs.Rows.{Rows, StandsFor, RiseIn}
+use Rattle.level_rows.specs.Taken.{Asked, Stores}
+use Rattle.format_spec.specs.declared.format.FormatLevel.{FormatLevel}
 use Rattle.tensor_storage.specs.declared.level.StorageLevel.{StorageLevel}
+use Rattle.tensor_storage.specs.Handed.{AreAlike}
+use Rattle.tensor_storage.specs.Laws.{laws}
 use Rattle.tensor_storage.specs.Levels.{meaning}
-use Rattle.storage_builder.specs.Handed.{AreAlike}
-use Rattle.storage_builder.specs.Made.{Part, level_of, IsReady}
-use Rattle.storage_builder.specs.declared.part.Part.TheVariants.{Missing, Lists, Slots}
-use Rattle.storage_builder.proofs.Parts.{summed_any, single_any}
+use Rattle.tensor_storage.specs.Storages.{IsOpen, IsStorage, storage_of}
+use Rattle.tensor_storage.proofs.Handed.{held_words}
+use Rattle.storage_arrays.specs.Arrays.{positions_in}
+use Rattle.storage_builder.specs.Made.{AllAlike}
 
-abbrev summed_at : Bool → List ℕ → List ℕ → ℕ → ℕ → compressed.CompressedLevel
-summed_at unique numbers coords spare size = compressed.stored size unique Finished (running 0 numbers) coords (length numbers - 1) spare
+-- they have as many positions
+pub alike_positions : (l m : StorageLevel) (parents : ℕ) → AreAlike l m → meaning.has_parents l parents
+    → positions_in parents l ≡ positions_in parents m
+alike_positions l m zero a has = laws.none_without l has ∙ sym (laws.none_without m (a.has_parents zero has))
+alike_positions l m (suc last) a has =
+    let more : last + 1 ≡ suc last = omega arith in
+    sym (laws.last_end l (suc last) last has more) ∙ ap (λ s. s.hi) (sym (a.segments (one last)))
+    ∙ laws.last_end m (suc last) last (a.has_parents (suc last) has) more
 
-abbrev single_at : Bool → List ℕ → ℕ → ℕ → singleton.SingletonLevel
-single_at unique coords spare size = singleton.stored size unique Finished (length coords) coords spare
+-- the same arrays hold them
+pub alike_held : (l m : StorageLevel) (tensor level : ℕ) (arrays : Arrays) → AreAlike l m → meaning.holds l tensor level arrays
+    → meaning.holds m tensor level arrays
+alike_held l m tensor level arrays a held =
+    laws.words_hold m tensor level arrays
+    (λ array words is. held_words l tensor level arrays held array words (sym (a.words array) ∙ is))
 
-pub alike_same : (l : StorageLevel) → meaning.keeps l → AreAlike l l
-alike_same l keeps = record {
-  keeps = keeps;
-  kind = refl;
-  size = refl;
-  width = refl;
-  has_parents = λ parents h. h;
-  allowed = λ s h. h;
-  back = λ s h. h;
-  segments = λ s. refl;
-  entries = λ s. refl;
-}
-
--- compressed levels with the same numbers of positions and coordinates
-pub alike_summed : (l m : compressed.CompressedLevel) → compressed.KeepsRules l → compressed.KeepsRules m → l.size ≡ m.size
-    → l.unique ≡ m.unique → l.log.counts ≡ m.log.counts → l.log.coords ≡ m.log.coords → l.log.stage ≡ Finished → m.log.stage ≡ Finished
-    → AreAlike (OfCompressed l) (OfCompressed m)
-alike_summed l m keeps also size unique counts coords finished done = record {
-  keeps = also;
-  kind = ap_unique unique;
-  size = sym size;
-  width = refl;
-  has_parents = λ parents h. record { keeps = also; finished = done; count = subst (λ ns. length ns ≡ parents) counts h.count };
-  allowed = λ s h. record {
-    keeps = also;
-    finished = done;
-    single = h.single;
-    inside = subst (λ ns. s.lo < length ns) counts h.inside;
-  };
-  back = λ s h. record {
-    keeps = keeps;
-    finished = finished;
-    single = h.single;
-    inside = subst (λ ns. s.lo < length ns) (sym counts) h.inside;
-  };
-  segments = λ s. ap (λ ns. segment_in ns s) (sym counts);
-  entries = λ s. ap (λ ns. entries_between m.log.coords (segment_in ns s)) (sym counts)
-      ∙ ap (λ xs. entries_between xs (segment_in l.log.counts s)) (sym coords);
+-- they store the same
+pub stores_alike : (l m : StorageLevel) (parents positions : ℕ) (rows : Rows) (place : ℕ → ℕ) → AreAlike l m
+    → Stores meaning parents positions rows place l → Stores meaning parents positions rows place m
+stores_alike l m parents positions rows place a s = record {
+  has_parents = a.has_parents parents s.has_parents;
+  stands = subst (λ k. StandsFor (properties k).full (Asked meaning m parents) (meaning.segment_of m) (meaning.entries m) rows place)
+      (sym a.kind) stands_here;
+  ends = λ p last. ap (λ s. s.hi) (a.segments (one p)) ∙ s.ends p last;
+  groups = λ b span lo hi rise.
+      a.allowed span (s.groups (ap (λ k. (properties k).branchless) (sym a.kind) ∙ b) span lo hi
+      (subst (λ k. RiseIn (properties k).unique rows span) a.kind rise));
 }
   where
-    ap_unique : l.unique ≡ m.unique → compressed.letter_of m.unique ≡ compressed.letter_of l.unique
-    ap_unique h = ap compressed.letter_of (sym h)
+    asked : (span : Span) → Asked meaning m parents span → Asked meaning l parents span
+    asked span h = (a.back span h.0, h.1)
 
--- singleton levels with the same coordinates
-pub alike_single : (l m : singleton.SingletonLevel) → singleton.KeepsRules l → singleton.KeepsRules m → l.size ≡ m.size
-    → l.unique ≡ m.unique → l.coords ≡ m.coords → l.parents ≡ m.parents → l.stage ≡ Finished → m.stage ≡ Finished
-    → AreAlike (OfSingleton l) (OfSingleton m)
-alike_single l m keeps also size unique coords parents finished done = record {
-  keeps = also;
-  kind = ap singleton.letter_of (sym unique);
-  size = sym size;
-  width = refl;
-  has_parents = λ n h. record { keeps = also; finished = done; count = sym parents ∙ h.count };
-  allowed = λ s h. record {
-    keeps = also;
-    readable = readable m.stage done;
-    within = subst (λ xs. Within xs s) coords h.within;
-    rise = subst (λ b. Rises b 0 (slice m.coords s)) unique (subst (λ xs. Rises l.unique 0 (slice xs s)) coords h.rise);
-  };
-  back = λ s h. record {
-    keeps = keeps;
-    readable = readable l.stage finished;
-    within = subst (λ xs. Within xs s) (sym coords) h.within;
-    rise = subst (λ b. Rises b 0 (slice l.coords s)) (sym unique)
-        (subst (λ xs. Rises m.unique 0 (slice xs s)) (sym coords) h.rise);
-  };
-  segments = λ s. refl;
-  entries = λ s. ap (λ xs. entries_between xs s) (sym coords);
+    stands_here : StandsFor (properties (meaning.kind l)).full (Asked meaning m parents) (meaning.segment_of m) (meaning.entries m) rows
+        place
+    stands_here = record {
+      has = λ parent i ok h at. ap (λ es. coord_at es (place i)) (a.entries parent) ∙ s.stands.has parent i (asked parent ok) h at;
+      alone = λ parent i ok h at. s.stands.alone parent i (asked parent ok) h (subst (IsIn (place i)) (a.segments parent) at);
+      only = λ full parent pos x ok at is.
+          s.stands.only full parent pos x (asked parent ok) (subst (IsIn pos) (a.segments parent) at)
+          (sym (ap (λ es. coord_at es pos) (a.entries parent)) ∙ is);
+    }
+
+alike_kinds : (ls ms : List StorageLevel) → AllAlike ls ms → map meaning.kind ms ≡ map meaning.kind ls
+alike_kinds [] [] same = refl
+alike_kinds [] (m ∷ ms) same = absurd same
+alike_kinds (l ∷ ls) [] same = absurd same
+alike_kinds (l ∷ ls) (m ∷ ms) same = λ i. same.0.kind i ∷ alike_kinds ls ms same.1 i
+
+alike_open : (ls ms : List StorageLevel) (positions : ℕ) (span : Span) → AllAlike ls ms → IsOpen meaning ls positions span
+    → IsOpen meaning ms positions span
+alike_open [] [] positions span same o = o
+alike_open [] (m ∷ ms) positions span same o = absurd same
+alike_open (l ∷ ls) [] positions span same o = absurd same
+alike_open (l ∷ ls) (m ∷ ms) positions span same o = (
+  same.0.allowed span o.0,
+  λ e at. alike_open ls ms positions e.child same.1 (o.1 e (subst (StandsAt e.child.lo e) (same.0.entries span) at)),
+)
+
+-- levels one below another are a storage with the same values
+pub alike_storage : (format : List FormatLevel) (ls ms : List StorageLevel) (values : List ℕ) → AllAlike ls ms
+    → IsStorage (storage_of format ls values) → IsStorage (storage_of format ms values)
+alike_storage format ls ms values same s = record {
+  format = s.format;
+  letters = alike_kinds ls ms same ∙ s.letters;
+  opened = alike_open ls ms _ (one 0) same s.opened;
 }
-  where
-    readable : (stage : Stage) → stage ≡ Finished → stage ≢ Unfinished
-    readable stage is not = never (sym is ∙ not)
-      where
-        never : Finished ≡ Unfinished → ⊥
-        never e = cc
-
--- what was made is alike whatever its room
-pub made_alike : (letter : Letter) (size parents spare : ℕ) (part : Part) → IsReady letter size parents part
-    → AreAlike (level_of 0 letter size parents part) (level_of spare letter size parents part)
-made_alike Dense size parents spare part r = alike_same (OfDense size) r.has_parents.size
-made_alike Compressed size parents spare Missing r = absurd (cc_kind r.kind)
-  where
-    cc_kind : Dense ≡ Compressed → ⊥
-    cc_kind e = cc
-made_alike Compressed size parents spare (Lists pos crd) r =
-    alike_summed (summed_at true pos.items crd.items 0 size) (summed_at true pos.items crd.items spare size) r.has_parents.keeps
-    (summed_any size true (running 0 pos.items) crd.items (length pos.items - 1) 0 spare r.has_parents.keeps) refl refl refl refl refl refl
-made_alike Compressed size parents spare (Slots wid crd) r = absurd (cc_kind r.kind)
-  where
-    cc_kind : Dense ≡ Compressed → ⊥
-    cc_kind e = cc
-made_alike CompressedGroups size parents spare Missing r = absurd (cc_kind r.kind)
-  where
-    cc_kind : Dense ≡ CompressedGroups → ⊥
-    cc_kind e = cc
-made_alike CompressedGroups size parents spare (Lists pos crd) r =
-    alike_summed (summed_at false pos.items crd.items 0 size) (summed_at false pos.items crd.items spare size) r.has_parents.keeps
-    (summed_any size false (running 0 pos.items) crd.items (length pos.items - 1) 0 spare r.has_parents.keeps) refl refl refl refl refl refl
-made_alike CompressedGroups size parents spare (Slots wid crd) r = absurd (cc_kind r.kind)
-  where
-    cc_kind : Dense ≡ CompressedGroups → ⊥
-    cc_kind e = cc
-made_alike Singleton size parents spare Missing r = absurd (cc_kind r.kind)
-  where
-    cc_kind : Dense ≡ Singleton → ⊥
-    cc_kind e = cc
-made_alike Singleton size parents spare (Lists pos crd) r =
-    alike_single (single_at true crd.items 0 size) (single_at true crd.items spare size) r.has_parents.keeps
-    (single_any size true crd.items (length crd.items) 0 spare r.has_parents.keeps) refl refl refl refl refl refl
-made_alike Singleton size parents spare (Slots wid crd) r = absurd (cc_kind r.kind)
-  where
-    cc_kind : Dense ≡ Singleton → ⊥
-    cc_kind e = cc
-made_alike SingletonGroups size parents spare Missing r = absurd (cc_kind r.kind)
-  where
-    cc_kind : Dense ≡ SingletonGroups → ⊥
-    cc_kind e = cc
-made_alike SingletonGroups size parents spare (Lists pos crd) r =
-    alike_single (single_at false crd.items 0 size) (single_at false crd.items spare size) r.has_parents.keeps
-    (single_any size false crd.items (length crd.items) 0 spare r.has_parents.keeps) refl refl refl refl refl refl
-made_alike SingletonGroups size parents spare (Slots wid crd) r = absurd (cc_kind r.kind)
-  where
-    cc_kind : Dense ≡ SingletonGroups → ⊥
-    cc_kind e = cc
-made_alike Hashed size parents spare Missing r = absurd (cc_kind r.kind)
-  where
-    cc_kind : Dense ≡ Hashed → ⊥
-    cc_kind e = cc
-made_alike Hashed size parents spare (Lists pos crd) r = absurd (cc_kind r.kind)
-  where
-    cc_kind : Dense ≡ Hashed → ⊥
-    cc_kind e = cc
-made_alike Hashed size parents spare (Slots wid crd) r =
-    alike_same (OfHashed (hashed.hashed size crd.items (Some wid) parents)) r.has_parents.rules

@@ -1,9 +1,4 @@
 pub mod Alike
-pub mod Drained
 pub mod Finishing
-pub mod Held
-pub mod Left
 pub mod Making
-pub mod Parts
 pub mod Room
-pub mod Whole

@@ -1,147 +1,136 @@
--- The loops that make levels of what was handed over.
-use Rattle.std.specs.Prelude.{◌≡◌, ℕ, suc, ◌+◌, ◌≤◌, ◌<◌, List, [], ◌∷◌, ◌++◌, length, take, drop, slice_index, slice_set, refl}
+-- The loop that makes levels of what was handed over.
+use Rattle.std.specs.Prelude.{◌≡◌, ℕ, zero, suc, ◌+◌, ◌≤◌, ◌<◌, List, [], ◌∷◌, ◌++◌, length, take, drop, slice_index, slice_set, refl}
 use Rattle.std.proofs.Common.{◌∙◌, sym, ap, subst, arith, get_or, add-one, drop-cons}
-use Rattle.std.proofs.lemmas.List.{append_assoc, append-nil, take_more, drop-set-lt, length-set, length-map, get_or-map}
-use Rattle.std.proofs.Common.{drop_of_length-le}
+use Rattle.std.proofs.lemmas.List.{drop-set-lt, length-set, length-map, get_or-map}
 use Rattle.level_core.specs.declared.letter.Letter.{Letter}
-use Rattle.level_core.specs.Logs.{running, total}
-use Rattle.compressed_level.specs.PartLaws.{totals_within}
 use Rattle.format_spec.specs.declared.format.FormatLevel.{FormatLevel}
 use Rattle.format_spec.specs.Formats.{letters_of}
 use Rattle.tensor_storage.specs.declared.level.StorageLevel.{StorageLevel}
-use Rattle.storage_builder.specs.Made.{Part, IsReady, IsMade, positions_of, AreReady, AreMade}
+use Rattle.tensor_storage.specs.declared.words.LevelWords.{LevelWords}
+use Rattle.tensor_storage.specs.Handed.{IsHandedOver, AreAlike}
+use Rattle.storage_arrays.specs.Arrays.{positions_in}
+use Rattle.storage_builder.specs.Made.{AreHandedOver, AllAlike}
+use Rattle.storage_builder.proofs.Alike.{alike_positions}
 
-pub running_push : (before : ℕ) (xs : List ℕ) (x : ℕ)
-    → running before (xs ++ x ∷ []) ≡ running before xs ++ (before + total xs + x) ∷ []
-running_push before [] x = let same : before + x ≡ before + 0 + x = omega arith in ap (λ n. n ∷ []) same
-running_push before (y ∷ xs) x =
-    let same : before + y + total xs + x ≡ before + (y + total xs) + x = omega arith in
-    ap (λ rest. (before + y) ∷ rest) (running_push (before + y) xs x ∙ ap (λ n. running (before + y) xs ++ n ∷ []) same)
-
-pub total_push : (xs : List ℕ) (x : ℕ) → total (xs ++ x ∷ []) ≡ total xs + x
-total_push [] x = omega arith
-total_push (y ∷ xs) x = let k = total_push xs x in omega (arith, k)
-
--- one number more is summed up
-pub sums_more : (xs : List ℕ) (i : ℕ) → i < length xs
-    → running 0 (take (i + 1) xs) ≡ running 0 (take i xs) ++ (total (take i xs) + slice_index xs i) ∷ []
-sums_more xs i h =
-    let same : 0 + total (take i xs) + slice_index xs i ≡ total (take i xs) + slice_index xs i = omega arith in
-    ap (running 0) (take_more xs i 0 h) ∙ running_push 0 (take i xs) (slice_index xs i)
-    ∙ ap (λ n. running 0 (take i xs) ++ n ∷ []) same
-
-pub sum_more : (xs : List ℕ) (i : ℕ) → i < length xs → total (take (i + 1) xs) ≡ total (take i xs) + slice_index xs i
-sum_more xs i h = ap total (take_more xs i 0 h) ∙ total_push (take i xs) (slice_index xs i)
-
-pub sum_within : (xs : List ℕ) (i : ℕ) → i < length xs → total (take i xs) + slice_index xs i ≤ total xs
-sum_within xs i h = let k = sum_more xs i h in let w = totals_within (i + 1) xs in omega (arith, k, w)
-
--- so many levels are made: the rest may be made, and whatever is made of them follows those that are there
-pub record Making (letters : List Letter) (sizes : List ℕ) (given : List Part) (n parents : ℕ) (parts : List Part)
+-- so many levels are made, alike those that have what was handed over; and below them stand those that have the rest
+pub record Making (letters : List Letter) (sizes : List ℕ) (given : List LevelWords) (n parents : ℕ) (parts : List LevelWords)
     (levels : List StorageLevel) : Type 0 where
-  pub ready : AreReady (drop n letters) (drop n sizes) (drop n given) parents
-  pub made : (rest : List StorageLevel) → AreMade (drop n letters) (drop n sizes) (drop n given) parents rest
-      → AreMade letters sizes given 1 (levels ++ rest)
+  pub alike : (ls : List StorageLevel) → AreHandedOver letters sizes given 1 ls → AllAlike (take n ls) levels
+  pub rest : (ls : List StorageLevel) → AreHandedOver letters sizes given 1 ls
+      → AreHandedOver (drop n letters) (drop n sizes) (drop n given) parents (drop n ls)
   pub left : drop n parts ≡ drop n given
   pub long : length parts ≡ length given
   pub many : length levels ≡ n
 
-pub making_none : (letters : List Letter) (sizes : List ℕ) (given : List Part) → AreReady letters sizes given 1
-    → Making letters sizes given 0 1 given []
-making_none letters sizes given ready = record { ready = ready; made = λ rest m. m; left = refl; long = refl; many = refl }
+pub making_none : (letters : List Letter) (sizes : List ℕ) (given : List LevelWords) → Making letters sizes given 0 1 given []
+making_none letters sizes given = record { alike = λ ls h. tt; rest = λ ls h. h; left = refl; long = refl; many = refl }
 
-module _ (letters : List Letter) (sizes : List ℕ) (given : List Part) (n parents : ℕ) (parts : List Part) (levels : List StorageLevel)
-    (m : Making letters sizes given n parents parts levels) (dl : Letter) (dp : Part) (h : n < length letters) (hs : n < length sizes)
-    (hp : n < length given) where
-  letter_here : drop n letters ≡ get_or letters n dl ∷ drop (suc n) letters
-  letter_here = drop-cons letters n dl h
+handed_long : (letters : List Letter) (sizes : List ℕ) (parts : List LevelWords) (parents : ℕ) (ls : List StorageLevel)
+    → AreHandedOver letters sizes parts parents ls → length ls ≡ length letters
+handed_long [] sizes parts parents [] h = refl
+handed_long [] sizes parts parents (l ∷ ls) h = absurd h
+handed_long (letter ∷ letters) sizes parts parents [] h = absurd h
+handed_long (letter ∷ letters) [] parts parents (l ∷ ls) h = absurd h
+handed_long (letter ∷ letters) (size ∷ sizes) [] parents (l ∷ ls) h = absurd h
+handed_long (letter ∷ letters) (size ∷ sizes) (part ∷ parts) parents (l ∷ ls) h =
+    ap suc (handed_long letters sizes parts (positions_in parents l) ls h.1)
 
-  size_here : drop n sizes ≡ slice_index sizes n ∷ drop (suc n) sizes
-  size_here = drop-cons sizes n 0 hs
+-- the level of a number, and those below it
+handed_at : (n : ℕ) (letters : List Letter) (sizes : List ℕ) (parts : List LevelWords) (ls : List StorageLevel) (parents : ℕ)
+    (dl : Letter) (dp : LevelWords) (d : StorageLevel) → n < length letters → n < length sizes → n < length parts → n < length ls
+    → AreHandedOver (drop n letters) (drop n sizes) (drop n parts) parents (drop n ls)
+    → IsHandedOver (get_or letters n dl) (get_or sizes n 0) parents (get_or parts n dp) (get_or ls n d)
+    × AreHandedOver (drop (suc n) letters) (drop (suc n) sizes) (drop (suc n) parts) (positions_in parents (get_or ls n d)) (drop (suc n) ls)
+handed_at n [] sizes parts ls parents dl dp d a b c e h = absurd (omega (arith, a))
+handed_at n (letter ∷ letters) [] parts ls parents dl dp d a b c e h = absurd (omega (arith, b))
+handed_at n (letter ∷ letters) (size ∷ sizes) [] ls parents dl dp d a b c e h = absurd (omega (arith, c))
+handed_at n (letter ∷ letters) (size ∷ sizes) (part ∷ parts) [] parents dl dp d a b c e h = absurd (omega (arith, e))
+handed_at zero (letter ∷ letters) (size ∷ sizes) (part ∷ parts) (l ∷ ls) parents dl dp d a b c e h = h
+handed_at (suc n) (letter ∷ letters) (size ∷ sizes) (part ∷ parts) (l ∷ ls) parents dl dp d a b c e h =
+    handed_at n letters sizes parts ls parents dl dp d (omega (arith, a)) (omega (arith, b)) (omega (arith, c)) (omega (arith, e)) h
 
-  part_here : drop n given ≡ get_or given n dp ∷ drop (suc n) given
-  part_here = drop-cons given n dp hp
+all_push : (n : ℕ) (ls ms : List StorageLevel) (m d : StorageLevel) → n < length ls → AllAlike (take n ls) ms → AreAlike (get_or ls n d) m
+    → AllAlike (take (suc n) ls) (ms ++ m ∷ [])
+all_push n [] ms m d less same a = absurd (omega (arith, less))
+all_push zero (l ∷ ls) [] m d less same a = (a, tt)
+all_push zero (l ∷ ls) (k ∷ ms) m d less same a = absurd same
+all_push (suc n) (l ∷ ls) [] m d less same a = absurd same
+all_push (suc n) (l ∷ ls) (k ∷ ms) m d less same a = (same.0, all_push n ls ms m d (omega (arith, less)) same.1 a)
 
+a_level : (ls : List StorageLevel) → 0 < length ls → StorageLevel
+a_level [] some = absurd (omega (arith, some))
+a_level (l ∷ ls) some = l
+
+module _ (letters : List Letter) (sizes : List ℕ) (given : List LevelWords) (n parents : ℕ) (parts : List LevelWords)
+    (levels : List StorageLevel) (m : Making letters sizes given n parents parts levels) (dl : Letter) (dp : LevelWords)
+    (h : n < length letters) (hs : n < length sizes) (hp : n < length given) where
   -- the part that is taken is the one that was given
   pub part_is : get_or parts n dp ≡ get_or given n dp
   part_is =
       let long = m.long in
       heads (get_or parts n dp) (get_or given n dp) (drop (suc n) parts) (drop (suc n) given)
-      (sym (drop-cons parts n dp (omega (arith, long, hp))) ∙ m.left ∙ part_here)
+      (sym (drop-cons parts n dp (omega (arith, long, hp))) ∙ m.left ∙ drop-cons given n dp hp)
     where
-      heads : (x y : Part) (xs ys : List Part) → x ∷ xs ≡ y ∷ ys → x ≡ y
+      heads : (x y : LevelWords) (xs ys : List LevelWords) → x ∷ xs ≡ y ∷ ys → x ≡ y
       heads x y xs ys e = cc
 
   tails_here : drop (suc n) parts ≡ drop (suc n) given
   tails_here =
       let long = m.long in
       tails (get_or parts n dp) (get_or given n dp) (drop (suc n) parts) (drop (suc n) given)
-      (sym (drop-cons parts n dp (omega (arith, long, hp))) ∙ m.left ∙ part_here)
+      (sym (drop-cons parts n dp (omega (arith, long, hp))) ∙ m.left ∙ drop-cons given n dp hp)
     where
-      tails : (x y : Part) (xs ys : List Part) → x ∷ xs ≡ y ∷ ys → xs ≡ ys
+      tails : (x y : LevelWords) (xs ys : List LevelWords) → x ∷ xs ≡ y ∷ ys → xs ≡ ys
       tails x y xs ys e = cc
 
-  ready_all : AreReady (get_or letters n dl ∷ drop (suc n) letters) (slice_index sizes n ∷ drop (suc n) sizes)
-      (get_or given n dp ∷ drop (suc n) given) parents
-  ready_all =
-      subst (λ ps. AreReady (get_or letters n dl ∷ drop (suc n) letters) (slice_index sizes n ∷ drop (suc n) sizes) ps parents) part_here
-      (subst (λ ns. AreReady (get_or letters n dl ∷ drop (suc n) letters) ns (drop n given) parents) size_here
-      (subst (λ ls. AreReady ls (drop n sizes) (drop n given) parents) letter_here m.ready))
+  inside : (ls : List StorageLevel) → AreHandedOver letters sizes given 1 ls → n < length ls
+  inside ls handed = let same = handed_long letters sizes given 1 ls handed in omega (arith, same, h)
 
-  pub ready_here : IsReady (get_or letters n dl) (slice_index sizes n) parents (get_or given n dp)
-  ready_here = ready_all.0
+  pub ready_here : (ls : List StorageLevel) → AreHandedOver letters sizes given 1 ls
+      → (l : StorageLevel) × IsHandedOver (get_or letters n dl) (slice_index sizes n) parents (get_or given n dp) l
+  ready_here ls handed =
+      let less = inside ls handed in
+      let d = a_level ls (omega (arith, less)) in
+      (get_or ls n d, (handed_at n letters sizes given ls parents dl dp d h hs hp less (m.rest ls handed)).0)
 
-  pub making_next : (l : StorageLevel) (left : List Part) (pushed : List StorageLevel) (count : ℕ) (x : Part)
-      → IsMade (get_or letters n dl) (slice_index sizes n) parents (get_or given n dp) l
-      → left ≡ slice_set parts n x → pushed ≡ levels ++ l ∷ []
-      → count ≡ positions_of (get_or letters n dl) (slice_index sizes n) parents (get_or given n dp)
+  pub making_next : (made : StorageLevel) (left : List LevelWords) (pushed : List StorageLevel) (count : ℕ) (x : LevelWords)
+      → ((l : StorageLevel) → IsHandedOver (get_or letters n dl) (slice_index sizes n) parents (get_or given n dp) l → AreAlike l made)
+      → left ≡ slice_set parts n x → pushed ≡ levels ++ made ∷ [] → count ≡ positions_in parents made
       → Making letters sizes given (n + 1) count left pushed
-  making_next l left pushed count x made left_is pushed_is count_is =
+  making_next made left pushed count x alike left_is pushed_is count_is =
       subst (λ k. Making letters sizes given k count left pushed) (sym (add-one n))
-      (subst (λ c. Making letters sizes given (suc n) c left pushed) (sym count_is)
-      (subst (λ ls. Making letters sizes given (suc n)
-      (positions_of (get_or letters n dl) (slice_index sizes n) parents (get_or given n dp)) left ls) (sym pushed_is)
-      (subst (λ ps. Making letters sizes given (suc n)
-      (positions_of (get_or letters n dl) (slice_index sizes n) parents (get_or given n dp)) ps (levels ++ l ∷ [])) (sym left_is) next)))
+      (subst (λ ls. Making letters sizes given (suc n) count left ls) (sym pushed_is)
+      (subst (λ ps. Making letters sizes given (suc n) count ps (levels ++ made ∷ [])) (sym left_is) next))
     where
-      made_rest : (rest : List StorageLevel)
-          → AreMade (drop (suc n) letters) (drop (suc n) sizes) (drop (suc n) given)
-          (positions_of (get_or letters n dl) (slice_index sizes n) parents (get_or given n dp)) rest
-          → AreMade letters sizes given 1 ((levels ++ l ∷ []) ++ rest)
-      made_rest rest k =
-          subst (AreMade letters sizes given 1) (sym (append_assoc levels (l ∷ []) rest))
-          (m.made (l ∷ rest)
-          (subst (λ ls. AreMade ls (drop n sizes) (drop n given) parents (l ∷ rest)) (sym letter_here)
-          (subst (λ ns. AreMade (get_or letters n dl ∷ drop (suc n) letters) ns (drop n given) parents (l ∷ rest)) (sym size_here)
-          (subst (λ ps. AreMade (get_or letters n dl ∷ drop (suc n) letters) (slice_index sizes n ∷ drop (suc n) sizes) ps parents
-          (l ∷ rest)) (sym part_here) (made, k)))))
+      at : (ls : List StorageLevel) (handed : AreHandedOver letters sizes given 1 ls)
+          → IsHandedOver (get_or letters n dl) (slice_index sizes n) parents (get_or given n dp) (get_or ls n made)
+          × AreHandedOver (drop (suc n) letters) (drop (suc n) sizes) (drop (suc n) given) (positions_in parents (get_or ls n made))
+          (drop (suc n) ls)
+      at ls handed = handed_at n letters sizes given ls parents dl dp made h hs hp (inside ls handed) (m.rest ls handed)
 
-      next : Making letters sizes given (suc n) (positions_of (get_or letters n dl) (slice_index sizes n) parents (get_or given n dp))
-          (slice_set parts n x) (levels ++ l ∷ [])
+      next : Making letters sizes given (suc n) count (slice_set parts n x) (levels ++ made ∷ [])
       next = record {
-        ready = ready_all.1;
-        made = made_rest;
+        alike = λ ls handed.
+            all_push n ls levels made made (inside ls handed) (m.alike ls handed) (alike (get_or ls n made) (at ls handed).0);
+        rest = λ ls handed.
+            let here = at ls handed in
+            let same = alike_positions (get_or ls n made) made parents (alike (get_or ls n made) here.0) here.0.has_parents in
+            subst (λ k. AreHandedOver (drop (suc n) letters) (drop (suc n) sizes) (drop (suc n) given) k (drop (suc n) ls))
+            (same ∙ sym count_is) here.1;
         left = drop-set-lt (suc n) parts n x (omega arith) ∙ tails_here;
         long = length-set parts n x ∙ m.long;
         many = let many = m.many in let long = length_then levels in omega (arith, many, long);
       }
         where
-          length_then : (ls : List StorageLevel) → length (ls ++ l ∷ []) ≡ length ls + 1
+          length_then : (ls : List StorageLevel) → length (ls ++ made ∷ []) ≡ length ls + 1
           length_then [] = refl
           length_then (k ∷ ls) = let e = length_then ls in omega (arith, e)
 
--- all levels are made
-pub making_done : (letters : List Letter) (sizes : List ℕ) (given : List Part) (n parents : ℕ) (parts : List Part)
-    (levels : List StorageLevel) → Making letters sizes given n parents parts levels → length letters ≤ n
-    → AreMade letters sizes given 1 levels
-making_done letters sizes given n parents parts levels m h =
-    subst (AreMade letters sizes given 1) (append-nil levels)
-    (m.made [] (subst (λ ls. AreMade ls (drop n sizes) (drop n given) parents []) (sym (drop_of_length-le letters {i = n} h)) tt))
-
 -- the same of the levels of a format
-module _ (format : List FormatLevel) (sizes : List ℕ) (given : List Part) (n parents : ℕ) (parts : List Part) (levels : List StorageLevel)
-    (m : Making (letters_of format) sizes given n parents parts levels) (d : FormatLevel) (dp part : Part) (h : n < length format)
-    (hs : length sizes ≡ length format) (hp : length given ≡ length format) (part_taken : part ≡ get_or parts n dp) where
+module _ (format : List FormatLevel) (sizes : List ℕ) (given : List LevelWords) (n parents : ℕ) (parts : List LevelWords)
+    (levels : List StorageLevel) (m : Making (letters_of format) sizes given n parents parts levels) (d : FormatLevel)
+    (dp part : LevelWords) (h : n < length format) (hs : length sizes ≡ length format) (hp : length given ≡ length format)
+    (part_taken : part ≡ get_or parts n dp) where
   many_letters : n < length (letters_of format)
   many_letters = let long = length-map format (λ level. level.letter) in omega (arith, long, h)
 
@@ -154,29 +143,40 @@ module _ (format : List FormatLevel) (sizes : List ℕ) (given : List Part) (n p
       ∙ part_is (letters_of format) sizes given n parents parts levels m d.letter dp many_letters (omega (arith, h, hs))
       (omega (arith, h, hp))
 
-  pub format_ready : IsReady (get_or format n d).letter (slice_index sizes n) parents part
-  format_ready =
-      subst (IsReady (get_or format n d).letter (slice_index sizes n) parents) (sym taken)
-      (subst (λ letter. IsReady letter (slice_index sizes n) parents (get_or given n dp)) letter_is
-      (ready_here (letters_of format) sizes given n parents parts levels m d.letter dp many_letters (omega (arith, h, hs))
-      (omega (arith, h, hp))))
+  handed_to : (l : StorageLevel)
+      → IsHandedOver (get_or (letters_of format) n d.letter) (slice_index sizes n) parents (get_or given n dp) l
+      → IsHandedOver (get_or format n d).letter (slice_index sizes n) parents part l
+  handed_to l handed =
+      subst (λ p. IsHandedOver (get_or format n d).letter (slice_index sizes n) parents p l) (sym taken)
+      (subst (λ k. IsHandedOver k (slice_index sizes n) parents (get_or given n dp) l) letter_is handed)
 
-  pub format_next : (l : StorageLevel) (pushed : List StorageLevel) (count : ℕ) (x : Part)
-      → IsMade (get_or format n d).letter (slice_index sizes n) parents part l → pushed ≡ levels ++ l ∷ []
-      → count ≡ positions_of (get_or format n d).letter (slice_index sizes n) parents part
+  pub format_ready : (ls : List StorageLevel) → AreHandedOver (letters_of format) sizes given 1 ls
+      → (l : StorageLevel) × IsHandedOver (get_or format n d).letter (slice_index sizes n) parents part l
+  format_ready ls handed =
+      let here = ready_here (letters_of format) sizes given n parents parts levels m d.letter dp many_letters (omega (arith, h, hs))
+      (omega (arith, h, hp)) ls handed in
+      (here.0, handed_to here.0 here.1)
+
+  pub format_next : (made : StorageLevel) (pushed : List StorageLevel) (count : ℕ) (x : LevelWords)
+      → ((l : StorageLevel) → IsHandedOver (get_or format n d).letter (slice_index sizes n) parents part l → AreAlike l made)
+      → pushed ≡ levels ++ made ∷ [] → count ≡ positions_in parents made
       → Making (letters_of format) sizes given (n + 1) count (slice_set parts n x) pushed
-  format_next l pushed count x made pushed_is count_is =
+  format_next made pushed count x alike pushed_is count_is =
       making_next (letters_of format) sizes given n parents parts levels m d.letter dp many_letters (omega (arith, h, hs))
-      (omega (arith, h, hp)) l (slice_set parts n x) pushed count x
-      (subst (λ letter. IsMade letter (slice_index sizes n) parents (get_or given n dp) l) (sym letter_is)
-      (subst (λ p. IsMade (get_or format n d).letter (slice_index sizes n) parents p l) taken made))
-      refl pushed_is
-      (count_is ∙ ap (positions_of (get_or format n d).letter (slice_index sizes n) parents) taken
-      ∙ ap (λ letter. positions_of letter (slice_index sizes n) parents (get_or given n dp)) (sym letter_is))
+      (omega (arith, h, hp)) made (slice_set parts n x) pushed count x
+      (λ l handed. alike l (handed_to l handed)) refl pushed_is count_is
 
-pub format_done : (format : List FormatLevel) (sizes : List ℕ) (given : List Part) (n parents : ℕ) (parts : List Part)
+-- all levels are made
+pub format_done : (format : List FormatLevel) (sizes : List ℕ) (given : List LevelWords) (n parents : ℕ) (parts : List LevelWords)
     (levels : List StorageLevel) → Making (letters_of format) sizes given n parents parts levels → length format ≤ n
-    → AreMade (letters_of format) sizes given 1 levels
-format_done format sizes given n parents parts levels m h =
-    making_done (letters_of format) sizes given n parents parts levels m
-    (let long = length-map format (λ level. level.letter) in omega (arith, long, h))
+    → (ls : List StorageLevel) → AreHandedOver (letters_of format) sizes given 1 ls → AllAlike ls levels
+format_done format sizes given n parents parts levels m h ls handed =
+    let long = length-map format (λ level. level.letter) in
+    let same = handed_long (letters_of format) sizes given 1 ls handed in
+    subst (λ ks. AllAlike ks levels) (take_whole n ls (omega (arith, long, same, h))) (m.alike ls handed)
+  where
+    take_whole : (k : ℕ) (ks : List StorageLevel) → length ks ≤ k → take k ks ≡ ks
+    take_whole zero [] less = refl
+    take_whole zero (l ∷ ks) less = absurd (omega (arith, less))
+    take_whole (suc k) [] less = refl
+    take_whole (suc k) (l ∷ ks) less = ap (λ ms. l ∷ ms) (take_whole k ks (omega (arith, less)))

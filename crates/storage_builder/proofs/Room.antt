@@ -14,7 +14,13 @@ use Rattle.format_spec.specs.declared.format.FormatLevel.{FormatLevel}
 use Rattle.format_spec.specs.Formats.{IsFormat, letters_of}
 use Rattle.tensor_storage.specs.Storages.{in_level_order}
 use Rattle.storage_builder.specs.Building.{AreDense, dense_room}
-use Rattle.storage_builder.specs.Made.{Part, IsReady, AreReady, values_for, positions_of}
+use Rattle.tensor_storage.specs.declared.level.StorageLevel.{StorageLevel}
+use Rattle.tensor_storage.specs.declared.words.LevelWords.{LevelWords}
+use Rattle.tensor_storage.specs.Handed.{IsHandedOver}
+use Rattle.tensor_storage.proofs.Handed.{full_positions}
+use Rattle.level_core.specs.Kinds.{properties}
+use Rattle.storage_arrays.specs.Arrays.{positions_in}
+use Rattle.storage_builder.specs.Made.{AreHandedOver, values_for}
 
 within_is : (parents size : ℕ) (rest : List ℕ) → parents * size ≤ greatest_position_count
     → dense_room parents (size ∷ rest) ≡ dense_room (parents * size) rest
@@ -22,27 +28,29 @@ within_is parents size rest h =
     let yes : nat_le (parents * size) greatest_position_count ≡ true = grind (arith, nat_tests, h) in
     ap (λ b. if b then dense_room (parents * size) rest else 0) yes
 
-pub dense_here : (letter : Letter) (size parents : ℕ) (part : Part) → letter ≡ Dense → IsReady letter size parents part
-    → (parents * size ≤ greatest_position_count) × (positions_of letter size parents part ≡ parents * size)
-dense_here letter size parents part is r =
-    (dense_few (subst (λ k. IsReady k size parents part) is r), ap (λ k. positions_of k size parents part) is)
-  where
-    dense_few : IsReady Dense size parents part → parents * size ≤ greatest_position_count
-    dense_few r = r.has_parents.positions
+dense_here : (letter : Letter) (size parents : ℕ) (part : LevelWords) (l : StorageLevel) → letter ≡ Dense
+    → IsHandedOver letter size parents part l
+    → (parents * size ≤ greatest_position_count) × (positions_in parents l ≡ parents * size)
+dense_here letter size parents part l is h =
+    let k = full_positions l parents (ap (λ k. (properties k).full) (h.kind ∙ is)) h.has_parents in (
+      subst (λ n. parents * n ≤ greatest_position_count) h.size_is k.1,
+      k.0 ∙ ap (λ n. parents * n) h.size_is,
+    )
 
-pub room_enough : (format : List FormatLevel) (sizes : List ℕ) (parts : List Part) (parents : ℕ) → length sizes ≡ length format
-    → length parts ≡ length format → AreDense format → AreReady (letters_of format) sizes parts parents
-    → values_for (letters_of format) sizes parts parents ≡ dense_room parents sizes
-room_enough [] [] parts parents long many dense r = refl
-room_enough [] (size ∷ sizes) parts parents long many dense r = absurd (omega (arith, long))
-room_enough (level ∷ format) [] parts parents long many dense r = absurd r
-room_enough (level ∷ format) (size ∷ sizes) [] parents long many dense r = absurd r
-room_enough (level ∷ format) (size ∷ sizes) (part ∷ parts) parents long many dense r =
-    let k = dense_here level.letter size parents part (dense 0 level (omega arith)) r.0 in
-    ap (values_for (letters_of format) sizes parts) k.1
-    ∙ room_enough format sizes parts (parents * size) (omega (arith, long)) (omega (arith, many))
-    (All-tail (λ level. level.letter ≡ Dense) level format dense)
-    (subst (AreReady (letters_of format) sizes parts) k.1 r.1)
+pub room_enough : (format : List FormatLevel) (sizes : List ℕ) (parts : List LevelWords) (parents : ℕ) (ls : List StorageLevel)
+    → length sizes ≡ length format → AreDense format → AreHandedOver (letters_of format) sizes parts parents ls
+    → values_for parents ls ≡ dense_room parents sizes
+room_enough [] [] parts parents [] long dense r = refl
+room_enough [] [] parts parents (l ∷ ls) long dense r = absurd r
+room_enough [] (size ∷ sizes) parts parents ls long dense r = absurd (omega (arith, long))
+room_enough (level ∷ format) sizes parts parents [] long dense r = absurd r
+room_enough (level ∷ format) [] parts parents (l ∷ ls) long dense r = absurd r
+room_enough (level ∷ format) (size ∷ sizes) [] parents (l ∷ ls) long dense r = absurd r
+room_enough (level ∷ format) (size ∷ sizes) (part ∷ parts) parents (l ∷ ls) long dense r =
+    let k = dense_here level.letter size parents part l (dense 0 level (omega arith)) r.0 in
+    room_enough format sizes parts (positions_in parents l) ls (omega (arith, long))
+    (All-tail (λ level. level.letter ≡ Dense) level format dense) r.1
+    ∙ ap (λ n. dense_room n sizes) k.1
     ∙ sym (within_is parents size sizes k.0)
 
 -- a level stores a mode of the tensor

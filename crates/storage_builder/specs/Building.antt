@@ -5,15 +5,17 @@ use Rattle.level_core.specs.declared.letter.Letter.TheVariants.{Dense}
 use Rattle.format_spec.specs.declared.format.FormatLevel.{FormatLevel}
 use Rattle.format_spec.specs.Formats.{letters_of}
 use Rattle.tensor_storage.specs.Storages.{IsStorage, storage_of}
-use Rattle.storage_builder.specs.Made.{Part, AreReady, levels_of, values_for}
+use Rattle.tensor_storage.specs.declared.level.StorageLevel.{StorageLevel}
+use Rattle.tensor_storage.specs.declared.words.LevelWords.{LevelWords}
+use Rattle.storage_builder.specs.Made.{AreHandedOver, values_for}
 
 -- the format, the range of each level, and of each level what was handed over
 pub record Building : Type 0 where
   pub format : List FormatLevel
   pub sizes : List ℕ
-  pub parts : List Part
+  pub parts : List LevelWords
 
-abbrev pub building : List FormatLevel → List ℕ → List Part → Building
+abbrev pub building : List FormatLevel → List ℕ → List LevelWords → Building
 building format sizes parts = record { format = format; sizes = sizes; parts = parts }
 
 -- each level is dense
@@ -27,16 +29,17 @@ dense_room parents (size ∷ sizes) =
     if nat_le (parents * size) greatest_position_count then dense_room (parents * size) sizes else 0
 
 -- the levels have ranges within the limit, and there is room for each of them, and for the values where all are dense
-pub record IsBuilding (format : List FormatLevel) (sizes : List ℕ) (parts : List Part) (levels values : ℕ) : Type 0 where
+pub record IsBuilding (format : List FormatLevel) (sizes : List ℕ) (parts : List LevelWords) (levels values : ℕ) : Type 0 where
   pub sizes_long : length sizes ≡ length format
   pub parts_long : length parts ≡ length format
   pub small : All (λ size. size ≤ greatest_position_count) sizes
   pub levels_room : length format ≤ levels
   pub values_room : AreDense format → dense_room 1 sizes ≤ values
 
--- each level that isn't dense was handed over and keeps its rules, there is one value for each position of the last level, and below
--- each path the next level may be asked
+-- finished levels have what was handed over, there is one value for each position of the last of them, and below each path the next
+-- level may be asked
 pub record MayFinish (b : Building) (values : List ℕ) : Type 0 where
-  pub ready : AreReady (letters_of b.format) b.sizes b.parts 1
-  pub many : length values ≡ values_for (letters_of b.format) b.sizes b.parts 1
-  pub whole : IsStorage (storage_of b.format (levels_of (letters_of b.format) b.sizes b.parts 1) values)
+  pub levels : List StorageLevel
+  pub handed : AreHandedOver (letters_of b.format) b.sizes b.parts 1 levels
+  pub many : length values ≡ values_for 1 levels
+  pub whole : IsStorage (storage_of b.format levels values)

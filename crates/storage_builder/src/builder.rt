@@ -1,25 +1,23 @@
 //! `Builder`: takes the arrays of a tensor's levels, and makes the tensor.
-ghost use Rattle.std.specs.Prelude.{◌≡◌, ◌≤◌, ◌-◌, [], All, Some, length, replicate, slice_set, slice_get, vec_capacity, IfOk, IsOk};
+ghost use Rattle.std.specs.Prelude.{◌≡◌, ◌≤◌, ◌-◌, List, [], All, length, replicate, slice_set, vec_capacity, IfOk, IsOk};
 ghost use Rattle.limits.specs.Limits.{greatest_position_count};
-ghost use Rattle.level_core.specs.declared.letter.Letter.TheVariants.{Dense};
 ghost use Rattle.format_spec.specs.Formats.{IsFormat, letters_of};
+ghost use Rattle.tensor_storage.specs.Handed.{no_words};
 ghost use Rattle.tensor_storage.specs.Storages.{in_level_order};
+ghost use Rattle.tensor_storage.specs.declared.level.StorageLevel.{StorageLevel as Level};
 ghost use Rattle.storage_builder.specs.Building.{AreDense, dense_room, MayFinish};
-ghost use Rattle.storage_builder.specs.Made.{AreReady, AreMade};
-ghost use Rattle.storage_builder.specs.declared.part.Part.TheVariants.{Missing, Lists, Slots};
+ghost use Rattle.storage_builder.specs.Made.{AllAlike, AreHandedOver};
 
-use crate::levels::made_level;
-use crate::part::Part;
 use crate::sizes::level_sizes;
 use format_spec::{Format, FormatLevel};
-use level_core::Letter;
 use limits::greatest_positions;
 use seg_buffer::Segment;
 use std::alloc::{AllocError, Global};
 use std::marker::Model;
 use std::mem;
+use storage_arrays::positions_of;
 use tensor_map::Shape;
-use tensor_storage::{StorageLevel, Tensor};
+use tensor_storage::{LevelWords, StorageLevel, Tensor};
 use trees::Items;
 
 /// How many values dense levels of these ranges have.
@@ -40,22 +38,22 @@ fn room_for(sizes: &[u64]) -> u64
 }
 
 /// So many levels of which nothing was handed over.
-fn missing_parts(alloc: Global, count: usize) -> Result<Vec<Part>, AllocError>
-    ensures { IfOk result (λ parts. parts.items ≡ replicate count Missing) }
+fn no_parts(alloc: Global, count: usize) -> Result<Vec<LevelWords>, AllocError>
+    ensures { IfOk result (λ parts. parts.items ≡ replicate count no_words) }
 {
     let mut parts = Vec::new(alloc);
     for _level in 0..count {
-        parts.push(Part::Missing)?;
+        parts.push(LevelWords::none(alloc))?;
     }
     Ok(parts)
 }
 
-/// The levels of parts.
+/// The levels of the words that were handed over.
 fn make_levels(
     alloc: Global,
     format: &[FormatLevel],
     sizes: &[u64],
-    mut parts: Vec<Part>,
+    mut parts: Vec<LevelWords>,
     mut levels: Vec<StorageLevel>,
 ) -> Result<Vec<StorageLevel>, AllocError>
     requires sizes_long { length sizes.now ≡ length format.now }
@@ -63,19 +61,18 @@ fn make_levels(
     requires small { All (λ size. size ≤ greatest_position_count) sizes.now }
     requires empty { levels.items ≡ [] }
     requires room { length format.now ≤ vec_capacity levels }
-    requires ready { AreReady (letters_of format.now) sizes.now parts.items 1 }
-    ensures made { IfOk result (λ levels. AreMade (letters_of format.now) sizes.now parts.items 1 levels.items) }
+    requires ready { (ls : List Level) × AreHandedOver (letters_of format.now) sizes.now parts.items 1 ls }
+    ensures made { IfOk result (λ levels. (ls : List Level) → AreHandedOver (letters_of format.now) sizes.now parts.items 1 ls
+        → AllAlike ls levels.items) }
     ensures dense { AreDense format.now → IsOk result }
 {
     let mut parents = 1;
     for number in 0..format.len() {
         let letter = format[number].letter;
-        let size = sizes[number];
-        let part = mem::replace(&mut parts[number], Part::Missing);
-        let count = part.positions(letter, size, parents);
-        let level = made_level(alloc, letter, size, parents, part)?;
+        let part = mem::replace(&mut parts[number], LevelWords::none(alloc));
+        let level = part.into_level(alloc, letter, sizes[number], parents)?;
+        parents = positions_of(&level, parents);
         levels.push_reserved(level);
-        parents = count;
     }
     Ok(levels)
 }
@@ -100,7 +97,7 @@ pub struct Builder {
     alloc: Global,
     format: Format,
     sizes: Vec<u64>,
-    parts: Vec<Part>,
+    parts: Vec<LevelWords>,
     /// Room for the levels.
     levels: Vec<StorageLevel>,
     /// Room for the values where all levels are dense.
@@ -126,10 +123,10 @@ impl Builder {
     pub fn new(alloc: Global, format: Format, shape: &Shape) -> Result<Builder, AllocError>
         requires { length shape.now ≡ length format }
         ensures { IfOk result
-            (λ b. b ≡ building format (in_level_order format shape.now) (replicate (length format) Missing)) }
+            (λ b. b ≡ building format (in_level_order format shape.now) (replicate (length format) no_words)) }
     {
         let sizes = level_sizes(alloc, format.levels(), shape.ranges())?;
-        let parts = missing_parts(alloc, format.order())?;
+        let parts = no_parts(alloc, format.order())?;
         let room = if format.is_all_dense() {
             room_for(&sizes)
         } else {
@@ -147,40 +144,21 @@ impl Builder {
         })
     }
 
-    /// The kind of a level, of which the top one is number 1.
-    pub fn letter(&self, level: usize) -> Letter
-        requires first { 1 ≤ level }
-        requires last { level ≤ length self.now.format }
-        ensures { slice_get (letters_of self.now.format) (level - 1) ≡ Some result }
-    {
-        self.format.letter(level)
-    }
-
-    /// Hands over a level that is appended to, of which the top one is number 1: the number of positions of each parent behind a
-    /// zero, no words at a singleton level, and the coordinates. It takes no memory.
-    pub fn append(&mut self, level: usize, pos: Segment<u64>, crd: Segment<u64>)
+    /// Hands over the words of a level, of which the top one is number 1. It takes no memory.
+    pub fn hand_over(&mut self, level: usize, words: LevelWords)
         requires first { 1 ≤ level }
         requires last { level ≤ length self.old.format }
-        ensures { self.new ≡ building self.old.format self.old.sizes (slice_set self.old.parts (level - 1) (Lists pos crd)) }
+        ensures { self.new ≡ building self.old.format self.old.sizes (slice_set self.old.parts (level - 1) words) }
     {
-        self.parts[level - 1] = Part::Lists { pos, crd };
+        self.parts[level - 1] = words;
     }
 
-    /// Hands over a hashed level, of which the top one is number 1: the width of its blocks, and its slots, of which the empty ones
-    /// hold the last word. It takes no memory.
-    pub fn insert(&mut self, level: usize, wid: u64, crd: Segment<u64>)
-        requires first { 1 ≤ level }
-        requires last { level ≤ length self.old.format }
-        ensures { self.new ≡ building self.old.format self.old.sizes (slice_set self.old.parts (level - 1) (Slots wid crd)) }
-    {
-        self.parts[level - 1] = Part::Slots { wid, crd };
-    }
-
-    /// The tensor of what was handed over, and of these values. Its levels have the words that were handed over, the sums of numbers of
-    /// positions as segment ends. Refused for want of memory alone, and never where all levels are dense.
+    /// The tensor of what was handed over, and of these values: its levels are those that have the words, but for their room. Refused
+    /// for want of memory alone, and never where all levels are dense.
     pub fn finish(self, values: Segment<u64>) -> Result<Tensor, AllocError>
         requires { MayFinish self values.items }
-        ensures levels { IfOk result (λ t. AreMade (letters_of self.format) self.sizes self.parts 1 t.levels) }
+        ensures levels { IfOk result (λ t. (ls : List Level) → AreHandedOver (letters_of self.format) self.sizes self.parts 1 ls
+            → AllAlike ls t.levels) }
         ensures others { IfOk result (λ t. (t.format ≡ self.format) × (t.values ≡ values.items)) }
         ensures dense { AreDense self.format → IsOk result }
     {

@@ -1,3 +1,4 @@
+pub mod Alike
 pub mod AppendSteps
 pub mod AppendedRows
 pub mod Arranging
@@ -9,6 +10,7 @@ pub mod EntrySame
 pub mod Few
 pub mod Fills
 pub mod Greatest
+pub mod Handed
 pub mod InsertedRows
 pub mod LevelSame
 pub mod LevelSorts

@@ -45,7 +45,7 @@ pub record IsPackedFrom (zero : ℕ) (format : List FormatLevel) (ranges : List 
   pub packed : IsPacked zero format ranges (table_of format entries numbers) storage
 
 -- the level is the first that would have more positions than may be for these entries, and would have so many
-pub record IsTooLarge (format : List FormatLevel) (ranges : List ℕ) (entries : List Entry) (level count : ℕ) : Type 0 where
+pub record IsFirstTooLarge (format : List FormatLevel) (ranges : List ℕ) (entries : List Entry) (level count : ℕ) : Type 0 where
   pub numbers : List ℕ
   pub arranged : AreArranged format entries numbers
   pub first : IsFirstAbove (positions_of format ranges (table_of format entries numbers)) level count
@@ -53,4 +53,4 @@ pub record IsTooLarge (format : List FormatLevel) (ranges : List ℕ) (entries :
 -- memory was wanted, or the first level is told that would have more positions than may be, and how many
 abbrev pub IsRefusalOf : List FormatLevel → List ℕ → List Entry → PackRefusal → Type 0
 IsRefusalOf format ranges entries Memory = Unit {0}
-IsRefusalOf format ranges entries (SizeLimit level count) = IsTooLarge format ranges entries level count
+IsRefusalOf format ranges entries (SizeLimit level count) = IsFirstTooLarge format ranges entries level count

@@ -5,6 +5,7 @@ pub mod Children
 pub mod Columns
 pub mod Counts
 pub mod EntryOrders
+pub mod Handed
 pub mod Laws
 pub mod Levels
 pub mod New

@@ -16,9 +16,11 @@ mod packing;
 mod reading;
 mod table;
 mod tensor;
+mod words;
 
 pub use kinds::{chain_end, kind_of};
 pub use level::StorageLevel;
 pub use packing::PackRefusal;
 pub use table::RowTable;
 pub use tensor::Tensor;
+pub use words::LevelWords;

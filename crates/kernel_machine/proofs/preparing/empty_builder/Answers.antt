@@ -4,7 +4,7 @@ use Rattle.level_core.specs.declared.letter.Letter.TheVariants.{Dense}
 use Rattle.format_spec.specs.declared.format.FormatLevel.{FormatLevel}
 use Rattle.tensor_storage.specs.Storages.{in_level_order}
 use Rattle.storage_builder.specs.Building.{building}
-use Rattle.storage_builder.specs.declared.part.Part.TheVariants.{Missing}
+use Rattle.tensor_storage.specs.Handed.{no_words}
 use Rattle.kernel_machine.proofs.LevelSizes.{taken_order}
 use Rattle.kernel_machine.proofs.preparing.empty_builder.Goals as goal
 
@@ -19,4 +19,4 @@ returns c =
     c.in-Some.ensures.ranges ∙ ap (λ (f : List FormatLevel). take (length f) ranges) c.levels-order.ensures.value in
     let e : in_level_order format c.in-Some.shape ≡ in_level_order format ranges =
     ap (in_level_order format) cut ∙ taken_order format ranges none c.levels-order.ensures.format in
-    subst (λ sizes. IfOk c.new-2.result (λ b. b ≡ building format sizes (replicate (length format) Missing))) e c.new-2.ensures
+    subst (λ sizes. IfOk c.new-2.result (λ b. b ≡ building format sizes (replicate (length format) no_words))) e c.new-2.ensures

@@ -1,8 +1,0 @@
-use Rattle.std.specs.Prelude.{◌≡◌, ◌≤◌, ◌+◌, length, take}
-use Rattle.level_core.specs.Logs.{running, total}
-use Rattle.storage_builder.proofs.levels.sums_of.Given as goal
-
-abbrev pub invariant-loop-number : goal.invariant-loop-number
-invariant-loop-number l =
-    (l.sums.items ≡ running 0 (take l.number-index l.words)) × (l.sum ≡ total (take l.number-index l.words))
-    × (length l.words ≤ l.sums.spare + l.number-index)
