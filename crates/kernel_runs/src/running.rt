@@ -43,19 +43,19 @@ fn fault_of(refusal: RunRefusal) -> RunFault
 pub(crate) fn run_on<S: Semiring>(
     alloc: Global,
     kernel: &Kernel,
-    format: &Format,
+    format: Format,
     operands: &[Tensor],
     ranges: &[u64],
 ) -> Result<(Tensor, Turns), RunFault>
-    requires enough { length format.now ≤ length ranges.now }
+    requires enough { length format ≤ length ranges.now }
     requires small { All (λ range. range ≤ greatest_position_count) ranges.now }
     requires done { All (λ t. AreDone 1 t.levels) operands.now }
-    requires sound { CanBegin (store_of ranges.now operands.now format.now)
-        → IsSoundOn S.arithmetic kernel.now (store_of ranges.now operands.now format.now) }
-    ensures { MatchResult result (λ r. EndsOn S.arithmetic kernel.now (store_of ranges.now operands.now format.now) r.0 r.1)
-        (RefusedOn S.arithmetic kernel.now (store_of ranges.now operands.now format.now)) }
+    requires sound { CanBegin (store_of ranges.now operands.now format)
+        → IsSoundOn S.arithmetic kernel.now (store_of ranges.now operands.now format) }
+    ensures { MatchResult result (λ r. EndsOn S.arithmetic kernel.now (store_of ranges.now operands.now format) r.0 r.1)
+        (RefusedOn S.arithmetic kernel.now (store_of ranges.now operands.now format)) }
 {
-    let prepared = match prepare::<S>(alloc, kernel, format.copied(), operands, ranges) {
+    let prepared = match prepare::<S>(alloc, kernel, format, operands, ranges) {
         Ok(prepared) => prepared,
         Err(refusal) => return Err(fault_of(refusal)),
     };

@@ -1,7 +1,6 @@
 //! A statement computed by its kernel.
 ghost use Rattle.std.specs.Prelude.{IfOk, IfErr};
 ghost use Rattle.tensor_map.specs.Entries.{AreEntries};
-ghost use Rattle.format_spec.specs.Formats.{IsFormat};
 ghost use Rattle.kernel_stores.specs.Kernels.{IsRightKernel};
 ghost use Rattle.operand_packing.specs.Runnable.{IsRunnable};
 ghost use Rattle.kernel_runs.specs.Runs.{IsRun, MayRefuseRun};
@@ -31,13 +30,6 @@ pub struct KernelRun {
     pub tensor: Tensor,
     /// How often the kernel's loops turned.
     pub turns: Turns,
-}
-
-/// What the type of a format says.
-fn keeps_rules(format: &Format)
-    ensures { IsFormat format.now }
-{
-    let _levels = format.levels();
 }
 
 /// Computes a statement over its operands by a kernel that is right for it and its formats. `formats` has the format of each tensor,
@@ -71,8 +63,7 @@ pub fn run_kernel<S: Semiring>(
     let ranges = ranges(alloc, statement, given, operands.bounds.as_slice())?;
     let entries = operands.entries.as_mut_slice();
     let tensors = pack_operands::<S>(alloc, statement, formats, &ranges, entries)?;
-    let format = &formats[0];
-    keeps_rules(format);
+    let format = formats[0].copied();
     let (tensor, turns) = match run_on::<S>(alloc, kernel, format, &tensors, &ranges) {
         Ok(pair) => pair,
         Err(fault) => return Err(fault),

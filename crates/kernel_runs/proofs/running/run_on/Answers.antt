@@ -2,22 +2,17 @@ use Rattle.std.proofs.Common.{sym, subst}
 use Rattle.kernel_stores.specs.Kernels.{IsSoundOn}
 use Rattle.kernel_machine.specs.Begins.{store_of, IsReadyFor}
 use Rattle.kernel_machine.specs.Runs.{HasRun, IsRunRefusal}
-use Rattle.kernel_runs.specs.Steps.{RefusedOn}
 use Rattle.kernel_runs.proofs.running.run_on.Goals as goal
 
 pub returns-in-Err : goal.returns-in-Err
 returns-in-Err g c =
-    let a = g.S.Semiring.arithmetic in
-    let kernel = c.args.kernel.now in
-    subst (λ f. RefusedOn a kernel (store_of c.args.ranges.now c.args.operands.now f) c.fault_of.result) c.copied.ensures
-    (c.fault_of.ensures.begin a kernel (store_of c.args.ranges.now c.args.operands.now c.copied.result) c.in-Err.ensures)
+    c.fault_of.ensures.begin g.S.Semiring.arithmetic c.args.kernel.now
+    (store_of c.args.ranges.now c.args.operands.now c.args.format) c.in-Err.ensures
 
 pub run-requires : goal.run-requires
 run-requires g c =
-    let store = store_of c.args.ranges.now c.args.operands.now c.args.format.now in
-    let ready =
-    subst (λ f. IsReadyFor g.S.Semiring.arithmetic c.args.kernel.now (store_of c.args.ranges.now c.args.operands.now f) c.in-Ok.prepared)
-    c.copied.ensures c.in-Ok.ensures in (
+    let store = store_of c.args.ranges.now c.args.operands.now c.args.format in
+    let ready = c.in-Ok.ensures in (
       store,
       subst (λ k. IsReadyFor g.S.Semiring.arithmetic k store c.in-Ok.prepared) (sym ready.kernel_is) ready,
       subst (λ k. IsSoundOn g.S.Semiring.arithmetic k store) (sym ready.kernel_is) (c.requires.sound ready.few),
@@ -25,10 +20,8 @@ run-requires g c =
 
 pub returns-in-Ok-run : goal.returns-in-Ok-run
 returns-in-Ok-run g c =
-    let store = store_of c.args.ranges.now c.args.operands.now c.args.format.now in
-    let ready =
-    subst (λ f. IsReadyFor g.S.Semiring.arithmetic c.args.kernel.now (store_of c.args.ranges.now c.args.operands.now f) c.in-Ok.prepared)
-    c.copied.ensures c.in-Ok.ensures in
+    let store = store_of c.args.ranges.now c.args.operands.now c.args.format in
+    let ready = c.in-Ok.ensures in
     let own = subst (λ k. IsReadyFor g.S.Semiring.arithmetic k store c.in-Ok.prepared) (sym ready.kernel_is) ready in
     record {
       few = ready.few;
@@ -40,10 +33,8 @@ returns-in-Ok-run g c =
 
 pub returns-in-Err-run : goal.returns-in-Err-run
 returns-in-Err-run g c =
-    let store = store_of c.args.ranges.now c.args.operands.now c.args.format.now in
-    let ready =
-    subst (λ f. IsReadyFor g.S.Semiring.arithmetic c.args.kernel.now (store_of c.args.ranges.now c.args.operands.now f) c.in-Ok.prepared)
-    c.copied.ensures c.in-Ok.ensures in
+    let store = store_of c.args.ranges.now c.args.operands.now c.args.format in
+    let ready = c.in-Ok.ensures in
     let own = subst (λ k. IsReadyFor g.S.Semiring.arithmetic k store c.in-Ok.prepared) (sym ready.kernel_is) ready in
     c.fault_of-in-Err-run.ensures.run g.S.Semiring.arithmetic c.args.kernel.now store own.starts.given ready.few own.starts.is_given
     (subst (λ k. IsRunRefusal g.S.Semiring.arithmetic k store own.starts.given c.in-Err-run.refusal) ready.kernel_is

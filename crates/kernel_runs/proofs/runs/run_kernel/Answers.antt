@@ -1,5 +1,5 @@
-use Rattle.std.specs.Prelude.{◌≡◌, Ok}
-use Rattle.std.proofs.Common.{◌∙◌, sym, ap, arith, rules}
+use Rattle.std.specs.Prelude.{◌≡◌, Ok, slice_index_or}
+use Rattle.std.proofs.Common.{◌∙◌, sym, ap, subst, arith, rules}
 use Rattle.operand_packing.specs.Runnable.{told_ranges}
 use Rattle.kernel_runs.proofs.Calls.{formats_many, many_lent, may_pack_lent, unpacked_lent, enough_lent, done_lent}
 use Rattle.kernel_runs.proofs.Calls.{sound_lent, refused_lent, run_lent}
@@ -85,8 +85,8 @@ run_on-requires-clause-enough g c =
     ∙ c.in_ok-ranges.ensures.ranges in
     enough_lent a s formats given operands bounds c.requires.runnable ranges told
     c.deref.result.now c.deref.ensures.value c.as_mut_slice-entries.result.now c.as_mut_slice-entries.ensures.value
-    g.met.S.Semiring.laws c.args.kernel.now c.requires.right c.deref-3.result.now c.deref-3.ensures.value c.index-formats-0.result
-    c.index-formats-0.is
+    g.met.S.Semiring.laws c.args.kernel.now c.requires.right c.deref-3.result.now c.deref-3.ensures.value c.copied-format.result
+    (subst (λ f. f ≡ slice_index_or formats 0 f) (sym c.copied-format.ensures.value) c.index-formats-0.is)
 
 pub run_on-requires-clause-done : goal.run_on-requires-clause-done
 run_on-requires-clause-done g c =
@@ -101,9 +101,9 @@ run_on-requires-clause-done g c =
     ∙ c.in_ok-ranges.ensures.ranges in
     done_lent a s formats given operands bounds c.requires.runnable ranges told
     c.deref.result.now c.deref.ensures.value c.as_mut_slice-entries.result.now c.as_mut_slice-entries.ensures.value
-    g.met.S.Semiring.laws c.args.kernel.now c.requires.right c.deref-3.result.now c.deref-3.ensures.value c.index-formats-0.result
-    c.index-formats-0.is
-    c.keeps_rules.ensures c.in_ok-tensors.tensors.items c.in_ok-tensors.ensures c.deref-2.result.now c.deref-2.ensures.value
+    g.met.S.Semiring.laws c.args.kernel.now c.requires.right c.deref-3.result.now c.deref-3.ensures.value c.copied-format.result
+    (subst (λ f. f ≡ slice_index_or formats 0 f) (sym c.copied-format.ensures.value) c.index-formats-0.is)
+    c.copied-format.ensures.format c.in_ok-tensors.tensors.items c.in_ok-tensors.ensures c.deref-2.result.now c.deref-2.ensures.value
 
 pub run_on-requires-clause-sound : goal.run_on-requires-clause-sound
 run_on-requires-clause-sound g c =
@@ -118,9 +118,9 @@ run_on-requires-clause-sound g c =
     ∙ c.in_ok-ranges.ensures.ranges in
     sound_lent a s formats given operands bounds c.requires.runnable ranges told
     c.deref.result.now c.deref.ensures.value c.as_mut_slice-entries.result.now c.as_mut_slice-entries.ensures.value
-    g.met.S.Semiring.laws c.args.kernel.now c.requires.right c.deref-3.result.now c.deref-3.ensures.value c.index-formats-0.result
-    c.index-formats-0.is
-    c.keeps_rules.ensures c.in_ok-tensors.tensors.items c.in_ok-tensors.ensures c.deref-2.result.now c.deref-2.ensures.value
+    g.met.S.Semiring.laws c.args.kernel.now c.requires.right c.deref-3.result.now c.deref-3.ensures.value c.copied-format.result
+    (subst (λ f. f ≡ slice_index_or formats 0 f) (sym c.copied-format.ensures.value) c.index-formats-0.is)
+    c.copied-format.ensures.format c.in_ok-tensors.tensors.items c.in_ok-tensors.ensures c.deref-2.result.now c.deref-2.ensures.value
 
 pub returns-in-Err-clause-refused : goal.returns-in-Err-clause-refused
 returns-in-Err-clause-refused g c =
@@ -135,9 +135,9 @@ returns-in-Err-clause-refused g c =
     ∙ c.in_ok-ranges.ensures.ranges in
     refused_lent a s formats given operands bounds c.requires.runnable ranges told
     c.deref.result.now c.deref.ensures.value c.as_mut_slice-entries.result.now c.as_mut_slice-entries.ensures.value
-    g.met.S.Semiring.laws c.args.kernel.now c.requires.right c.deref-3.result.now c.deref-3.ensures.value c.index-formats-0.result
-    c.index-formats-0.is
-    c.keeps_rules.ensures c.in_ok-tensors.tensors.items c.in_ok-tensors.ensures c.deref-2.result.now c.deref-2.ensures.value
+    g.met.S.Semiring.laws c.args.kernel.now c.requires.right c.deref-3.result.now c.deref-3.ensures.value c.copied-format.result
+    (subst (λ f. f ≡ slice_index_or formats 0 f) (sym c.copied-format.ensures.value) c.index-formats-0.is)
+    c.copied-format.ensures.format c.in_ok-tensors.tensors.items c.in_ok-tensors.ensures c.deref-2.result.now c.deref-2.ensures.value
     c.in-Err.fault c.in-Err.ensures
 
 pub returns-clause-run : goal.returns-clause-run
@@ -153,8 +153,8 @@ returns-clause-run g c =
     ∙ c.in_ok-ranges.ensures.ranges in
     run_lent a s formats given operands bounds c.requires.runnable ranges told
     c.deref.result.now c.deref.ensures.value c.as_mut_slice-entries.result.now c.as_mut_slice-entries.ensures.value
-    g.met.S.Semiring.laws c.args.kernel.now c.requires.right c.deref-3.result.now c.deref-3.ensures.value c.index-formats-0.result
-    c.index-formats-0.is
-    c.keeps_rules.ensures c.in_ok-tensors.tensors.items c.in_ok-tensors.ensures c.deref-2.result.now c.deref-2.ensures.value
+    g.met.S.Semiring.laws c.args.kernel.now c.requires.right c.deref-3.result.now c.deref-3.ensures.value c.copied-format.result
+    (subst (λ f. f ≡ slice_index_or formats 0 f) (sym c.copied-format.ensures.value) c.index-formats-0.is)
+    c.copied-format.ensures.format c.in_ok-tensors.tensors.items c.in_ok-tensors.ensures c.deref-2.result.now c.deref-2.ensures.value
     c.in-Ok.pair.0 c.in-Ok.pair.1 c.in_ok-entries.entries c.in_ok-shape.shape c.deref-4.result.now c.in-Ok.ensures
     c.in_ok-entries.ensures.lists c.in_ok-entries.ensures.entries c.deref-4.ensures.value c.in_ok-shape.ensures
