@@ -28,8 +28,8 @@ use Rattle.tensor_storage.specs.Storages.{in_level_order}
 use Rattle.tensor_storage.specs.Tables.{Table}
 use Rattle.tns_io.specs.Positions.{product, IsBelow, position}
 use Rattle.term_code.specs.DenseSinks.{HasSizes}
-use Rattle.kernel_stores.specs.Stores.{AreHeld, StartsFew}
-use Rattle.kernel_stores.specs.Results.{summed}
+use Rattle.kernel_correctness.specs.Stores.{AreHeld, StartsFew}
+use Rattle.kernel_correctness.specs.Results.{summed}
 
 -- dense levels of these sizes, one below another
 abbrev pub dense_levels : List ℕ → List StorageLevel

@@ -22,8 +22,8 @@ use Rattle.tns_io.specs.Positions.{product, IsBelow, position, coords_at}
 use Rattle.tns_io.proofs.PositionLaws.{position_below, coords_below, coords_of_position, position_of_coords}
 use Rattle.term_code.specs.DenseSinks.{HasSizes, HoldsSums}
 use Rattle.lowering.specs.Right.{HaveValues}
-use Rattle.kernel_stores.specs.Results.{LeavesResult, IsNamedResult, HasRow}
-use Rattle.kernel_stores.specs.Stores.{Store, told_by}
+use Rattle.kernel_correctness.specs.Results.{LeavesResult, IsNamedResult, HasRow}
+use Rattle.kernel_correctness.specs.Stores.{Store, told_by}
 use Rattle.dense_results.specs.Results.{left_ranges, IsDenseStore, SumsAreResults}
 use Rattle.dense_results.proofs.Backwards.{back}
 use Rattle.dense_results.proofs.DenseLevels.{dense_levels, letters_dense, levels_held}

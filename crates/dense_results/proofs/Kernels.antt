@@ -36,12 +36,12 @@ use Rattle.term_code.specs.declared.places.AccessPlace.{AccessPlace}
 use Rattle.term_code.specs.declared.places.Places.{Places}
 use Rattle.term_code.specs.DenseSinks.{HoldsSums, dense_sink}
 use Rattle.term_code.specs.Places.{StartsAt, new_access}
-use Rattle.kernel_stores.specs.CodeEnds.{ToldOf}
-use Rattle.kernel_stores.specs.Kernels.{IsRightOutcome, Ends as EndsSo}
-use Rattle.kernel_stores.specs.Results.{LeavesResult}
-use Rattle.kernel_stores.specs.Stores.{Store, IsStoreOf, IsGiven, told_by}
-use Rattle.kernel_stores.proofs.CodeEnds.{ends_as_code_does}
-use Rattle.kernel_stores.proofs.Starts.{starts_on_store}
+use Rattle.kernel_correctness.specs.CodeEnds.{ToldOf}
+use Rattle.kernel_correctness.specs.Kernels.{IsRightOutcome, Ends as EndsSo}
+use Rattle.kernel_correctness.specs.Results.{LeavesResult}
+use Rattle.kernel_correctness.specs.Stores.{Store, IsStoreOf, IsGiven, told_by}
+use Rattle.kernel_correctness.proofs.CodeEnds.{ends_as_code_does}
+use Rattle.kernel_correctness.proofs.Starts.{starts_on_store}
 use Rattle.operand_arrays.specs.Operands.{stored_in, IsOfOperands}
 use Rattle.dense_results.specs.Kernels.{AreAtBase, StartsAreTops, AddsFromTop, IsForDense, DenseKernelsAreRight}
 use Rattle.dense_results.specs.Operands.{IsReadStore, operands_in}

@@ -14,7 +14,7 @@ use Rattle.expr_terms.specs.Terms.{contains}
 use Rattle.iteration_graph.specs.Edges.{format_of}
 use Rattle.tensor_storage.specs.Storages.{in_level_order}
 use Rattle.term_code.specs.DenseSinks.{by_level, AreModes}
-use Rattle.kernel_stores.specs.Stores.{Store}
+use Rattle.kernel_correctness.specs.Stores.{Store}
 use Rattle.dense_results.specs.Results.{left_ranges, IsDenseStore, HasModes, ResultsHaveModes}
 
 -- a list has the numbers that stand in it

@@ -25,8 +25,8 @@ use Rattle.lowering.specs.Layouts.{levels_of, layout_of}
 use Rattle.lowering.specs.Stored.{levels_stored, values_stored, stored_of, HasStorage}
 use Rattle.lowering.proofs.HeldStorages.{storages_held}
 use Rattle.lowering.proofs.Walked.{storages_tell, storages_zero, storages_words}
-use Rattle.kernel_stores.specs.Stores.{Store, IsOperand, AreOperands, IsHeld, OperandsHeld, IsGiven, level_sizes, operand_of, told_by}
-use Rattle.kernel_stores.specs.Stores as stores
+use Rattle.kernel_correctness.specs.Stores.{Store, IsOperand, AreOperands, IsHeld, OperandsHeld, IsGiven, level_sizes, operand_of, told_by}
+use Rattle.kernel_correctness.specs.Stores as stores
 use Rattle.term_code.specs.declared.places.AccessPlace.{AccessPlace}
 use Rattle.operand_arrays.specs.Operands.{stored_in, HasRanges}
 use Rattle.dense_results.specs.Operands.{values_at, operands_in, IsReadStore, ArePlacesOf, ArraysStandForOperands}

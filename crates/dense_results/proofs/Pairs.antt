@@ -17,7 +17,7 @@ use Rattle.concrete_notation.proofs.Points.{numbers_distinct}
 use Rattle.loop_code.specs.Turns.{count_below}
 use Rattle.loop_code.proofs.Turns.{count_plus, count_none}
 use Rattle.lowering.specs.Right.{count_over, one_if, pairs_of}
-use Rattle.kernel_stores.specs.Kernels.{standing_order}
+use Rattle.kernel_correctness.specs.Kernels.{standing_order}
 use Rattle.dense_results.specs.Loops.{PairsInAnyOrder}
 
 count_same : (n : ℕ) (f g : ℕ → ℕ) → ((x : ℕ) → f x ≡ g x) → count_below n f ≡ count_below n g

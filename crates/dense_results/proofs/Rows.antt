@@ -27,7 +27,7 @@ use Rattle.lowering.specs.Right.{HaveValues, rows_to}
 use Rattle.lowering.specs.Shapes as shapes
 use Rattle.lowering.proofs.RightLoops.{are_right}
 use Rattle.term_code.specs.DenseSinks.{IsWithin}
-use Rattle.kernel_stores.specs.Stores.{Store, told_by}
+use Rattle.kernel_correctness.specs.Stores.{Store, told_by}
 use Rattle.operand_arrays.specs.Operands.{stored_in}
 use Rattle.dense_results.specs.Loops.{RowsAreTaken}
 use Rattle.dense_results.specs.Operands.{operands_in}

@@ -17,7 +17,7 @@ use Rattle.tensor_storage.proofs.PackSteps.{all_same}
 use Rattle.tns_io.specs.Positions.{product, IsBelow, position}
 use Rattle.tns_io.proofs.PositionLaws.{position_below}
 use Rattle.term_code.specs.DenseSinks.{HasSizes, HoldsSums, by_level, place}
-use Rattle.kernel_stores.specs.Stores.{Store, IsGiven, StartsBelow}
+use Rattle.kernel_correctness.specs.Stores.{Store, IsGiven, StartsBelow}
 use Rattle.level_core.specs.Kinds.{parents_below}
 use Rattle.dense_results.specs.Results.{left_ranges, IsDenseStore, StartsWithoutRows}
 use Rattle.dense_results.proofs.DenseLevels.{first_dense, others_dense, parents_dense, product_few}

@@ -18,7 +18,7 @@ use Rattle.tns_io.specs.Positions.{product, position, coords_at}
 use Rattle.tns_io.proofs.PositionLaws.{coords_below, position_of_coords}
 use Rattle.tensor_storage.specs.Standing.{IsThere}
 use Rattle.tensor_storage.proofs.WhereFew.{stands_where_few}
-use Rattle.kernel_stores.specs.Stores.{StartsFew}
+use Rattle.kernel_correctness.specs.Stores.{StartsFew}
 use Rattle.dense_results.proofs.DenseLevels.{dense_levels, levels_dense, dense_path, all_make, last_dense, few_dense}
 use Rattle.dense_results.proofs.Positions.{passing, all_pass, passing_increase, passing_found, StandsIn, table_at}
 use Rattle.dense_results.proofs.Positions.{row_at, rows_increase, below_at}

@@ -17,7 +17,7 @@ use Rattle.iteration_graph.specs.Edges.{format_of, HasFormat}
 use Rattle.lists.specs.Each.{Each}
 use Rattle.concrete_notation.specs.declared.concrete.Concrete.{Concrete}
 use Rattle.concrete_notation.specs.Workspaces.{AreAllDense}
-use Rattle.row_sinks.specs.Sinks.{Adds}
+use Rattle.result_targets.specs.Sinks.{Adds}
 use Rattle.loop_code.specs.declared.loops.LoopCode.{LoopCode}
 use Rattle.loop_code.specs.Loops.{start}
 use Rattle.lowering.specs.Lowered.{AddsRows, IsInOrder}
@@ -26,8 +26,8 @@ use Rattle.term_code.specs.declared.dense_sink.DenseSink.{DenseSink}
 use Rattle.term_code.specs.declared.places.Places.{Places}
 use Rattle.term_code.specs.DenseSinks.{dense_sink}
 use Rattle.term_code.specs.Places.{Keeps, StartsAt, new_access}
-use Rattle.kernel_stores.specs.Kernels.{IsRightKernel}
-use Rattle.kernel_stores.specs.Stores.{Store, IsGiven, told_by}
+use Rattle.kernel_correctness.specs.Kernels.{IsRightKernel}
+use Rattle.kernel_correctness.specs.Stores.{Store, IsGiven, told_by}
 use Rattle.operand_arrays.specs.Apart.{AreFrom}
 use Rattle.operand_arrays.specs.Operands.{stored_in, IsOfOperands}
 use Rattle.dense_results.specs.Operands.{IsReadStore, ArrayStands, operands_in}

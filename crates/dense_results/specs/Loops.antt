@@ -15,8 +15,8 @@ use Rattle.lowering.specs.Lowered.{AddsRows, IsInOrder, concrete_of, plain}
 use Rattle.lowering.specs.Right.{pairs, rows_to}
 use Rattle.lowering.specs.Shapes as shapes
 use Rattle.term_code.specs.DenseSinks.{IsWithin}
-use Rattle.kernel_stores.specs.Kernels.{standing_order}
-use Rattle.kernel_stores.specs.Stores.{Store, told_by}
+use Rattle.kernel_correctness.specs.Kernels.{standing_order}
+use Rattle.kernel_correctness.specs.Stores.{Store, told_by}
 use Rattle.operand_arrays.specs.Operands.{stored_in}
 use Rattle.operand_arrays.specs.Terms.{EachTerm, EachVariable, IsMeant, TargetIsBound}
 use Rattle.dense_results.specs.Operands.{IsReadStore, operands_in}

@@ -14,7 +14,7 @@ use Rattle.loop_code.specs.Loops.{start}
 use Rattle.lowering.specs.Held.{AreHeld}
 use Rattle.lowering.specs.Layouts.{layout_of}
 use Rattle.lowering.specs.Stored.{levels_stored, stored_of}
-use Rattle.kernel_stores.specs.Stores.{Store, IsStoreOf, IsGiven, operand_of, told_by}
+use Rattle.kernel_correctness.specs.Stores.{Store, IsStoreOf, IsGiven, operand_of, told_by}
 use Rattle.term_code.specs.declared.places.AccessPlace.{AccessPlace}
 use Rattle.operand_arrays.specs.Operands.{Operands, stored_in, AreReady, AreOpen, HasRanges, AreOperands}
 

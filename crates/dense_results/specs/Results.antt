@@ -11,8 +11,8 @@ use Rattle.iteration_graph.specs.Edges.{HasFormat}
 use Rattle.concrete_notation.specs.Workspaces.{AreAllDense}
 use Rattle.term_code.specs.DenseSinks.{HoldsSums, AreModes}
 use Rattle.lowering.specs.Right.{HaveValues}
-use Rattle.kernel_stores.specs.Results.{LeavesResult}
-use Rattle.kernel_stores.specs.Stores.{Store, IsStoreOf, IsGiven, told_by}
+use Rattle.kernel_correctness.specs.Results.{LeavesResult}
+use Rattle.kernel_correctness.specs.Stores.{Store, IsStoreOf, IsGiven, told_by}
 
 -- the ranges of the left side's variables, which are those of the result's modes
 abbrev pub left_ranges : Statement → Store → List ℕ

@@ -22,9 +22,9 @@ use Rattle.tensor_storage.specs.Counts.{AreFew, different, positions_from, posit
 use Rattle.tensor_storage.specs.Stands.{row_from}
 use Rattle.tensor_storage.specs.Storages.{in_level_order}
 use Rattle.tensor_storage.specs.Tables.{Table}
-use Rattle.kernel_stores.specs.Kernels.{standing_order}
-use Rattle.kernel_stores.specs.Results.{IsNamedResult}
-use Rattle.kernel_stores.specs.Stores.{Store, StartsFew, told_by}
+use Rattle.kernel_correctness.specs.Kernels.{standing_order}
+use Rattle.kernel_correctness.specs.Results.{IsNamedResult}
+use Rattle.kernel_correctness.specs.Stores.{Store, StartsFew, told_by}
 use Rattle.operand_packing.specs.Operands.{mode_sizes}
 use Rattle.operand_packing.specs.Packed.{FitsLevels, OperandsFit, operand_sizes}
 use Rattle.kernel_runs.specs.declared.fault.RunFault.{RunFault}

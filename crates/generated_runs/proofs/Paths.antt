@@ -21,7 +21,7 @@ use Rattle.tensor_storage.specs.Levels.{meaning}
 use Rattle.tensor_storage.specs.Storages.{Storage, EndsAt, in_level_order, storage_of}
 use Rattle.lowering.specs.Stored.{IsToldBy, inputs_of}
 use Rattle.lowering.proofs.Walked.{storages_tell}
-use Rattle.kernel_stores.specs.Stores.{Store, operand_of, told_by}
+use Rattle.kernel_correctness.specs.Stores.{Store, operand_of, told_by}
 use Rattle.operand_packing.specs.Packed.{AreSummed, IsPackedAt, IsPackedOperand, operand_sizes}
 use Rattle.kernel_runs.specs.Runs.{IsStoreFor}
 use Rattle.generated_runs.specs.Workloads.{by_rows}

@@ -10,7 +10,7 @@ use Rattle.tensor_map.specs.Entries.{Entries, Listed}
 use Rattle.kernel_code.specs.declared.syntax.Kernel.{Kernel}
 use Rattle.kernel_code.specs.declared.syntax.Turns.{Turns}
 use Rattle.kernel_code.specs.Kernels.{Finished, NotFinished}
-use Rattle.kernel_steps.specs.Store.{count_of}
+use Rattle.kernel_interpreter.specs.Store.{count_of}
 use Rattle.format_spec.specs.declared.format.FormatLevel.{FormatLevel}
 use Rattle.format_spec.specs.Formats.{letters_of}
 use Rattle.level_core.specs.declared.letter.Letter.TheVariants.{Dense, Compressed, Hashed}
@@ -26,7 +26,7 @@ use Rattle.tensor_storage.specs.Children.{child_of}
 use Rattle.tensor_storage.specs.Storages.{Storage, in_level_order}
 use Rattle.lowering.specs.Stored.{entries_at, stored_of, walk}
 use Rattle.statement_costs.specs.Costs.{statement_cost}
-use Rattle.kernel_stores.specs.Stores.{Store, operand_of}
+use Rattle.kernel_correctness.specs.Stores.{Store, operand_of}
 use Rattle.operand_packing.specs.Packed.{IsPackedOperand}
 use Rattle.kernel_runs.specs.Runs.{IsStoreFor, RunsKernel}
 use Rattle.kernel_runs.proofs.Outcomes.{outcome_is}

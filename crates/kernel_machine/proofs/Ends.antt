@@ -9,12 +9,12 @@ use Rattle.kernel_code.specs.Kernels.{KernelOutcome, Finished, GotStuck, NotFini
 use Rattle.kernel_code.specs.Meaning.{State, run_list}
 use Rattle.kernel_code.proofs.More.{goes_on}
 use Rattle.level_core.specs.Meaning.{Arrays}
-use Rattle.kernel_steps.specs.declared.machine.Machine.{Machine}
-use Rattle.kernel_steps.specs.declared.ending.Ending.{Ending}
-use Rattle.kernel_steps.specs.Store.{state_of, outcome_of, setting, made}
-use Rattle.kernel_stores.specs.Kernels.{Ends, IsSoundOutcome}
-use Rattle.kernel_stores.specs.Results.{LeavesStorage}
-use Rattle.kernel_stores.specs.Stores.{Store}
+use Rattle.kernel_interpreter.specs.declared.machine.Machine.{Machine}
+use Rattle.kernel_interpreter.specs.declared.ending.Ending.{Ending}
+use Rattle.kernel_interpreter.specs.Store.{state_of, outcome_of, setting, made}
+use Rattle.kernel_correctness.specs.Kernels.{Ends, IsSoundOutcome}
+use Rattle.kernel_correctness.specs.Results.{LeavesStorage}
+use Rattle.kernel_correctness.specs.Stores.{Store}
 use Rattle.kernel_machine.specs.Runs.{most_turns}
 
 -- at the start no turn was made

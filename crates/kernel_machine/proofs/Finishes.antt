@@ -12,8 +12,8 @@ use Rattle.storage_arrays.specs.Arrays.{AreDone, positions_in}
 use Rattle.storage_builder.specs.Building.{building, MayFinish}
 use Rattle.storage_builder.specs.Made.{AllAlike, AreHandedOver, values_for}
 use Rattle.storage_builder.proofs.Alike.{alike_held, alike_positions}
-use Rattle.kernel_stores.specs.Results.{LeavesStorage, positions_below, summed}
-use Rattle.kernel_stores.specs.Stores.{Store, AreHeld, result_sizes}
+use Rattle.kernel_correctness.specs.Results.{LeavesStorage, positions_below, summed}
+use Rattle.kernel_correctness.specs.Stores.{Store, AreHeld, result_sizes}
 use Rattle.kernel_machine.specs.Runs.{WordsLeft}
 use Rattle.kernel_machine.proofs.Parts.{words_left}
 

@@ -3,10 +3,10 @@ use Rattle.std.specs.Prelude.{◌≡◌, List}
 use Rattle.std.proofs.Common.{sym, subst}
 use Rattle.kernel_code.specs.declared.syntax.Kernel.{Kernel}
 use Rattle.kernel_code.specs.declared.syntax.KStmt.{KStmt}
-use Rattle.kernel_steps.specs.declared.machine.Machine.{Machine}
-use Rattle.kernel_steps.specs.Memory.{IsInPlace, SetsBelow, NeedsNone, Through, variable_room}
-use Rattle.kernel_steps.proofs.MemoryLemmas.{both_through}
-use Rattle.kernel_steps.proofs.NoRefusal.{never_too_long}
+use Rattle.kernel_interpreter.specs.declared.machine.Machine.{Machine}
+use Rattle.kernel_interpreter.specs.Memory.{IsInPlace, SetsBelow, NeedsNone, Through, variable_room}
+use Rattle.kernel_interpreter.proofs.MemoryLemmas.{both_through}
+use Rattle.kernel_interpreter.proofs.NoRefusal.{never_too_long}
 use Rattle.kernel_machine.specs.declared.refusal.RunRefusal.TheVariants.{SizeLimit, Memory}
 use Rattle.kernel_machine.specs.Laws.{RefusesNothing}
 use Rattle.kernel_machine.specs.Runs.{most_turns, WorksInPlace}

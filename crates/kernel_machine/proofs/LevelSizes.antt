@@ -10,7 +10,7 @@ use Rattle.format_spec.specs.Formats.{IsFormat, letters_of}
 use Rattle.storage_builder.proofs.Room.{mode_within}
 use Rattle.tensor_storage.specs.Storages.{in_level_order}
 use Rattle.machine_starts.proofs.Steps.{drop_here}
-use Rattle.kernel_stores.specs.Stores.{StartsFew}
+use Rattle.kernel_correctness.specs.Stores.{StartsFew}
 use Rattle.level_core.specs.declared.letter.Letter.{Letter}
 use Rattle.level_core.specs.Kinds.{parents_below, properties}
 use Rattle.kernel_machine.specs.Begins.{IsTooLarge}

@@ -16,7 +16,7 @@ use Rattle.tensor_storage.specs.declared.words.LevelWords.{LevelWords}
 use Rattle.tensor_storage.specs.Handed.{IsHandedOver}
 use Rattle.tensor_storage.specs.Levels.{meaning}
 use Rattle.tensor_storage.proofs.Handed.{held_words}
-use Rattle.kernel_stores.specs.Results.{summed}
+use Rattle.kernel_correctness.specs.Results.{summed}
 use Rattle.kernel_machine.specs.Runs.{WordsLeft}
 
 -- what is left of a level depends on its arrays alone

@@ -26,15 +26,15 @@ use Rattle.tensor_storage.specs.Levels.{meaning}
 use Rattle.lent_arrays.specs.declared.lent.LentArrays.{LentArrays}
 use Rattle.lent_arrays.specs.declared.lent.Operand.{Operand}
 use Rattle.lent_arrays.specs.Lent.{numbered, words_of_level, words_of_operand, values_of_operand, one_word, lent_array}
-use Rattle.kernel_steps.specs.declared.machine.Machine.{Machine}
-use Rattle.kernel_steps.specs.Store.{own_array, by_right, state_of}
+use Rattle.kernel_interpreter.specs.declared.machine.Machine.{Machine}
+use Rattle.kernel_interpreter.specs.Store.{own_array, by_right, state_of}
 use Rattle.machine_starts.specs.Begun.{filled_with, with_zeros, begun, begun_result, with_keys, with_workspaces, with_lists, HasSizes, AreBegun}
 use Rattle.level_core.specs.Kinds.{parents_below, zeros_at_start}
 use Rattle.machine_starts.specs.Begun.{IsFew}
 use Rattle.machine_starts.specs.Lending.{Parts, lent_of, parts_of}
 use Rattle.machine_starts.proofs.Begun.{result_apart, result_begun, IsFrom}
 use Rattle.machine_starts.proofs.NoRows.{NoScratch, scratch_begun}
-use Rattle.kernel_stores.specs.Stores.{AreHeld, OperandsHeld, StartsBelow, StartsFew, IsGiven}
+use Rattle.kernel_correctness.specs.Stores.{AreHeld, OperandsHeld, StartsBelow, StartsFew, IsGiven}
 use Rattle.kernel_machine.specs.Begins.{StartsOn, store_of}
 
 -- what no step changes: variables and turns

@@ -13,8 +13,8 @@ use Rattle.tensor_storage.specs.Storages.{Storage, IsStorage, storage_of}
 use Rattle.storage_builder.specs.Building.{Building, building, MayFinish}
 use Rattle.storage_builder.specs.Made.{AllAlike, AreHandedOver}
 use Rattle.storage_builder.proofs.Alike.{alike_storage}
-use Rattle.kernel_stores.specs.Results.{LeavesStorage, summed}
-use Rattle.kernel_stores.specs.Stores.{Store, result_sizes}
+use Rattle.kernel_correctness.specs.Results.{LeavesStorage, summed}
+use Rattle.kernel_correctness.specs.Stores.{Store, result_sizes}
 use Rattle.kernel_machine.specs.Runs.{WordsLeft, WasHanded, AreThese, IsMadeFrom}
 use Rattle.kernel_machine.proofs.Finishes.{HoldParts, collected, handed_of, may_finish}
 use Rattle.kernel_machine.proofs.Finishes.{alike_are_held, alike_are_done, alike_keep, alike_sizes}

@@ -12,10 +12,10 @@ use Rattle.format_spec.specs.Formats.{letters_of}
 use Rattle.tensor_storage.specs.Handed.{no_words}
 use Rattle.tensor_storage.specs.Storages.{Storage}
 use Rattle.storage_builder.specs.Building.{building}
-use Rattle.kernel_steps.specs.declared.machine.Machine.{Machine}
-use Rattle.kernel_steps.specs.Memory.{SetsBelow, Through, variable_room}
-use Rattle.kernel_steps.specs.Store.{state_of}
-use Rattle.kernel_stores.specs.Stores.{Store, IsGiven, StartsFew, result_sizes}
+use Rattle.kernel_interpreter.specs.declared.machine.Machine.{Machine}
+use Rattle.kernel_interpreter.specs.Memory.{SetsBelow, Through, variable_room}
+use Rattle.kernel_interpreter.specs.Store.{state_of}
+use Rattle.kernel_correctness.specs.Stores.{Store, IsGiven, StartsFew, result_sizes}
 use Rattle.level_core.specs.Kinds.{parents_below}
 use Rattle.kernel_machine.specs.declared.prepared.Prepared.{Prepared}
 use Rattle.kernel_machine.specs.declared.refusal.RunRefusal.{RunRefusal}

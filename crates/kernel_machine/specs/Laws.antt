@@ -5,7 +5,7 @@ use Rattle.kernel_code.specs.declared.syntax.Kernel.{Kernel}
 use Rattle.kernel_code.specs.Kernels.{NotFinished, go}
 use Rattle.level_core.specs.Meaning.{Arrays}
 use Rattle.storage_builder.specs.Building.{AreDense}
-use Rattle.kernel_stores.specs.Stores.{Store}
+use Rattle.kernel_correctness.specs.Stores.{Store}
 use Rattle.kernel_machine.specs.declared.refusal.RunRefusal.{RunRefusal}
 use Rattle.kernel_machine.specs.Runs.{most_turns, WorksInPlace, IsRunRefusal}
 

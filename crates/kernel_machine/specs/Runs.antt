@@ -18,10 +18,10 @@ use Rattle.tensor_storage.specs.Storages.{Storage, IsStorage}
 use Rattle.storage_arrays.specs.Arrays.{AreDone}
 use Rattle.storage_builder.specs.Building.{Building, AreDense}
 use Rattle.storage_builder.specs.Made.{AllAlike}
-use Rattle.kernel_steps.specs.Memory.{IsInPlace, Through}
-use Rattle.kernel_steps.specs.Store.{count_of}
-use Rattle.kernel_stores.specs.Results.{IsLeft, summed}
-use Rattle.kernel_stores.specs.Stores.{Store, AreHeld, result_sizes}
+use Rattle.kernel_interpreter.specs.Memory.{IsInPlace, Through}
+use Rattle.kernel_interpreter.specs.Store.{count_of}
+use Rattle.kernel_correctness.specs.Results.{IsLeft, summed}
+use Rattle.kernel_correctness.specs.Stores.{Store, AreHeld, result_sizes}
 use Rattle.kernel_machine.specs.declared.refusal.RunRefusal.{RunRefusal}
 use Rattle.kernel_machine.specs.declared.refusal.RunRefusal.TheVariants.{SizeLimit, Memory}
 

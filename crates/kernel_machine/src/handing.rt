@@ -3,11 +3,11 @@ ghost use Rattle.std.specs.Prelude.{◌≡◌, ℕ, List, Some, false, true};
 ghost use Rattle.kernel_code.specs.declared.syntax.Arr.{Arr};
 ghost use Rattle.kernel_code.specs.Arrays.{same_arr, may_write};
 ghost use Rattle.level_core.specs.Fragments.{IsOf};
-ghost use Rattle.kernel_steps.specs.Store.{state_of};
+ghost use Rattle.kernel_interpreter.specs.Store.{state_of};
 ghost use Rattle.kernel_machine.specs.Runs.{WordsLeft};
 
 use kernel_code::Arr;
-use kernel_steps::Machine;
+use kernel_interpreter::Machine;
 use seg_buffer::Segment;
 use std::alloc::Global;
 use tensor_storage::LevelWords;

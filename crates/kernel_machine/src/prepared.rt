@@ -1,6 +1,6 @@
 //! `Prepared`: a kernel that is ready to run.
 use kernel_code::Kernel;
-use kernel_steps::Machine;
+use kernel_interpreter::Machine;
 use std::alloc::Global;
 use storage_builder::Builder;
 

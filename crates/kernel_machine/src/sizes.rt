@@ -2,7 +2,7 @@
 ghost use Rattle.std.specs.Prelude.{◌≡◌, ◌≤◌, All, length, MatchOption};
 ghost use Rattle.limits.specs.Limits.{greatest_position_count};
 ghost use Rattle.format_spec.specs.Formats.{letters_of};
-ghost use Rattle.kernel_stores.specs.Stores.{StartsFew};
+ghost use Rattle.kernel_correctness.specs.Stores.{StartsFew};
 ghost use Rattle.kernel_machine.specs.Begins.{IsTooLarge};
 
 use format_spec::FormatLevel;

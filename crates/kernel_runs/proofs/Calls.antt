@@ -13,7 +13,7 @@ use Rattle.iteration_graph.specs.Edges.{format_of}
 use Rattle.expr_terms.specs.declared.bound.Bound.{Bound}
 use Rattle.tensor_storage.specs.Storages.{Storage}
 use Rattle.storage_arrays.specs.Arrays.{AreDone}
-use Rattle.kernel_stores.specs.Kernels.{IsRightKernel, IsSoundOn}
+use Rattle.kernel_correctness.specs.Kernels.{IsRightKernel, IsSoundOn}
 use Rattle.kernel_machine.specs.Begins.{store_of}
 use Rattle.operand_packing.specs.Runnable.{IsRunnable, told_ranges}
 use Rattle.operand_packing.specs.Packed.{ArePackedOperands, MayAllBePacked, MayNotPack}

@@ -29,8 +29,8 @@ use Rattle.tensor_storage.specs.Tables.{Table}
 use Rattle.tensor_storage.proofs.Arranging.{coords_back, level_coord}
 use Rattle.tensor_storage.proofs.Paths.{mode_below}
 use Rattle.lowering.proofs.Walked.{storages_zero}
-use Rattle.kernel_stores.specs.Results.{IsNamedResult}
-use Rattle.kernel_stores.specs.Stores.{Store, operand_of, told_by}
+use Rattle.kernel_correctness.specs.Results.{IsNamedResult}
+use Rattle.kernel_correctness.specs.Stores.{Store, operand_of, told_by}
 use Rattle.operand_packing.specs.Operands.{AreOperands}
 use Rattle.operand_packing.proofs.Below.{below_each, below_length}
 use Rattle.kernel_runs.specs.Runs.{IsStoreFor, IsTensorOf}

@@ -10,7 +10,7 @@ use Rattle.level_core.specs.declared.letter.Letter.{Letter}
 use Rattle.format_spec.specs.declared.format.FormatLevel.{FormatLevel}
 use Rattle.index_notation.specs.declared.syntax.Statement.{Statement}
 use Rattle.tensor_storage.specs.Counts.{AreFew, positions_of}
-use Rattle.kernel_stores.specs.Stores.{StartsFew}
+use Rattle.kernel_correctness.specs.Stores.{StartsFew}
 use Rattle.level_core.specs.Kinds.{parents_below}
 use Rattle.kernel_machine.specs.Begins as begins
 use Rattle.operand_packing.proofs.SizeLaws.{index_small}

@@ -6,7 +6,7 @@ use Rattle.kernel_code.specs.declared.syntax.Kernel.{Kernel}
 use Rattle.kernel_code.specs.Kernels.{KernelOutcome, NotFinished, go}
 use Rattle.kernel_code.proofs.More.{goes_on}
 use Rattle.level_core.specs.Meaning.{Arrays}
-use Rattle.kernel_stores.specs.Kernels.{Ends}
+use Rattle.kernel_correctness.specs.Kernels.{Ends}
 use Rattle.kernel_machine.specs.Runs.{most_turns}
 
 one_first : (n m : ℕ) → (n ≤ m) ⊎ (m ≤ n)

@@ -19,8 +19,8 @@ use Rattle.tensor_storage.specs.Storages.{Storage, in_level_order}
 use Rattle.tensor_storage.specs.Tables.{Table}
 use Rattle.storage_arrays.specs.Arrays.{AreDone}
 use Rattle.storage_arrays.proofs.Packed.{packed_are_done}
-use Rattle.kernel_stores.specs.Stores.{Store, IsOperand, IsStoreOf, level_sizes}
-use Rattle.kernel_stores.specs.Stores as stores
+use Rattle.kernel_correctness.specs.Stores.{Store, IsOperand, IsStoreOf, level_sizes}
+use Rattle.kernel_correctness.specs.Stores as stores
 use Rattle.kernel_machine.specs.Begins.{store_of}
 use Rattle.operand_packing.specs.Operands.{AreOperands, AreRanges}
 use Rattle.operand_packing.specs.Packed.{ArePackedOperands, IsPackedAt}

@@ -20,7 +20,7 @@ use Rattle.tensor_storage.specs.Told.{TellsEntries}
 use Rattle.tensor_storage.proofs.TellLaws.{packed_tell_entries}
 use Rattle.lowering.specs.Stored.{IsToldBy, inputs_of}
 use Rattle.lowering.proofs.Walked.{storages_tell}
-use Rattle.kernel_stores.specs.Stores.{Store, operand_of, told_by}
+use Rattle.kernel_correctness.specs.Stores.{Store, operand_of, told_by}
 use Rattle.operand_packing.specs.Operands.{AreOperands}
 use Rattle.operand_packing.specs.Packed.{IsPackedAt, IsPackedOperand, operand_sizes}
 use Rattle.kernel_runs.specs.Runs.{IsStoreFor}

@@ -20,11 +20,11 @@ use Rattle.concrete_notation.specs.Workspaces.{AreAllDense}
 use Rattle.tensor_storage.specs.Stands.{IsPacked}
 use Rattle.tensor_storage.specs.Storages.{Storage, in_level_order, storage_of}
 use Rattle.storage_arrays.proofs.Packed.{packed_are_done}
-use Rattle.kernel_steps.specs.Store.{count_of}
-use Rattle.kernel_stores.specs.Kernels.{IsRightKernel, IsRightOutcome, IsSoundOn}
-use Rattle.kernel_stores.specs.Results.{LeavesResult}
-use Rattle.kernel_stores.specs.Stores.{told_by}
-use Rattle.kernel_stores.proofs.Sound.{right_is_sound}
+use Rattle.kernel_interpreter.specs.Store.{count_of}
+use Rattle.kernel_correctness.specs.Kernels.{IsRightKernel, IsRightOutcome, IsSoundOn}
+use Rattle.kernel_correctness.specs.Results.{LeavesResult}
+use Rattle.kernel_correctness.specs.Stores.{told_by}
+use Rattle.kernel_correctness.proofs.Sound.{right_is_sound}
 use Rattle.kernel_machine.specs.Begins as begins
 use Rattle.kernel_machine.specs.Begins.{store_of}
 use Rattle.storage_builder.specs.Made.{AllAlike}

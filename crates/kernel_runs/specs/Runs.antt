@@ -21,9 +21,9 @@ use Rattle.tensor_storage.specs.Counts.{AreFew, positions_of}
 use Rattle.tensor_storage.specs.Stands.{IsPacked}
 use Rattle.tensor_storage.specs.Storages.{Storage, in_level_order}
 use Rattle.tensor_storage.specs.Tables.{Table}
-use Rattle.kernel_stores.specs.Kernels.{standing_order}
-use Rattle.kernel_stores.specs.Results.{IsNamedResult, MayPass}
-use Rattle.kernel_stores.specs.Stores.{Store, IsGiven, StartsFew, IsStoreOf, told_by}
+use Rattle.kernel_correctness.specs.Kernels.{standing_order}
+use Rattle.kernel_correctness.specs.Results.{IsNamedResult, MayPass}
+use Rattle.kernel_correctness.specs.Stores.{Store, IsGiven, StartsFew, IsStoreOf, told_by}
 use Rattle.kernel_machine.specs.Begins as begins
 use Rattle.kernel_machine.specs.Runs.{HasRun}
 use Rattle.operand_packing.specs.Runnable.{told_ranges}

@@ -11,7 +11,7 @@ use Rattle.level_core.specs.Meaning.{Arrays}
 use Rattle.format_spec.specs.Formats.{letters_of}
 use Rattle.tensor_storage.specs.Routes.{ListsPaths}
 use Rattle.tensor_storage.specs.Storages.{Storage}
-use Rattle.kernel_stores.specs.Stores.{Store, IsGiven, StartsFew, result_sizes}
+use Rattle.kernel_correctness.specs.Stores.{Store, IsGiven, StartsFew, result_sizes}
 use Rattle.kernel_machine.specs.Begins as begins
 use Rattle.kernel_machine.specs.Runs.{HasRun, most_turns}
 use Rattle.kernel_runs.specs.declared.fault.RunFault.{RunFault}

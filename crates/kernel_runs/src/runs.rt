@@ -1,7 +1,7 @@
 //! A statement computed by its kernel.
 ghost use Rattle.std.specs.Prelude.{IfOk, IfErr};
 ghost use Rattle.tensor_map.specs.Entries.{AreEntries};
-ghost use Rattle.kernel_stores.specs.Kernels.{IsRightKernel};
+ghost use Rattle.kernel_correctness.specs.Kernels.{IsRightKernel};
 ghost use Rattle.operand_packing.specs.Runnable.{IsRunnable};
 ghost use Rattle.kernel_runs.specs.Runs.{IsRun, MayRefuseRun};
 

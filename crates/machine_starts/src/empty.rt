@@ -2,10 +2,10 @@
 ghost use Rattle.std.specs.Prelude.{◌≡◌, [], OnOk, true};
 ghost use Rattle.kernel_code.specs.Arrays.{may_write};
 ghost use Rattle.kernel_code.specs.Meaning.{set_array};
-ghost use Rattle.kernel_steps.specs.Store.{state_of};
+ghost use Rattle.kernel_interpreter.specs.Store.{state_of};
 
 use kernel_code::Arr;
-use kernel_steps::Machine;
+use kernel_interpreter::Machine;
 use seg_buffer::Segment;
 use std::alloc::{AllocError, Global};
 

@@ -3,12 +3,12 @@ ghost use Rattle.std.specs.Prelude.{◌≡◌, ◌≤◌, ◌+◌, ◌^◌, ◌<
 ghost use Rattle.limits.specs.Limits.{greatest_position_count};
 ghost use Rattle.level_core.specs.declared.letter.Letter.{Letter};
 ghost use Rattle.format_spec.specs.Formats.{letters_of};
-ghost use Rattle.kernel_steps.specs.Store.{state_of};
+ghost use Rattle.kernel_interpreter.specs.Store.{state_of};
 ghost use Rattle.machine_starts.specs.Begun.{begun, begun_result, with_zeros, IsFew};
 
 use format_spec::FormatLevel;
 use kernel_code::Arr;
-use kernel_steps::Machine;
+use kernel_interpreter::Machine;
 use level_core::{Letter, LevelArray, positions_at_start, zeros_at_start};
 use seg_buffer::Segment;
 use std::alloc::{AllocError, Global};

@@ -1,11 +1,11 @@
 //! The arrays of workspaces and scratch lists as a run starts.
 ghost use Rattle.std.specs.Prelude.{◌≡◌, OnOk};
-ghost use Rattle.kernel_steps.specs.Store.{state_of};
+ghost use Rattle.kernel_interpreter.specs.Store.{state_of};
 ghost use Rattle.machine_starts.specs.Begun.{with_keys, with_workspaces, with_lists};
 
 use crate::empty::add_empty;
 use kernel_code::Arr;
-use kernel_steps::Machine;
+use kernel_interpreter::Machine;
 use std::alloc::{AllocError, Global};
 
 /// The keys of a workspace, with no words.

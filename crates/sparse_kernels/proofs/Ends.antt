@@ -10,10 +10,10 @@ use Rattle.kernel_code.specs.Meaning.{State}
 use Rattle.level_core.specs.declared.letter.Letter.{Letter}
 use Rattle.level_core.specs.Meaning.{Arrays}
 use Rattle.index_notation.specs.declared.syntax.Statement.{Statement}
-use Rattle.kernel_stores.specs.CodeEnds.{ToldOf}
-use Rattle.kernel_stores.specs.Kernels.{Ends, IsRightOutcome}
-use Rattle.kernel_stores.specs.Results.{LeavesResult}
-use Rattle.kernel_stores.specs.Stores.{Store, told_by}
+use Rattle.kernel_correctness.specs.CodeEnds.{ToldOf}
+use Rattle.kernel_correctness.specs.Kernels.{Ends, IsRightOutcome}
+use Rattle.kernel_correctness.specs.Results.{LeavesResult}
+use Rattle.kernel_correctness.specs.Stores.{Store, told_by}
 use Rattle.sparse_kernels.specs.Turns.{AreTurns, MakesTurns}
 
 -- of a kernel that ends so the less may be said that follows

@@ -22,10 +22,10 @@ use Rattle.index_notation.specs.declared.syntax.Statement.{Statement}
 use Rattle.tensor_map.specs.declared.entries.Entry.{Entry}
 use Rattle.tensor_storage.specs.Storages.{in_level_order}
 use Rattle.term_code.specs.WorkspaceSinks.{HoldsRows, IsOfWorkspace, column, values}
-use Rattle.kernel_stores.specs.Stores.{Store, IsStoreOf, StartsBelow}
-use Rattle.level_drains.specs.Drained.{HoldsTable, MayDrain}
-use Rattle.level_drains.specs.Levels.{IsReady}
-use Rattle.level_drains.proofs.Holding.{stays_other, starts_kept}
+use Rattle.kernel_correctness.specs.Stores.{Store, IsStoreOf, StartsBelow}
+use Rattle.result_assembly.specs.Drained.{HoldsTable, MayDrain}
+use Rattle.result_assembly.specs.Levels.{IsReady}
+use Rattle.result_assembly.proofs.Holding.{stays_other, starts_kept}
 use Rattle.sparse_results.specs.Results.{AreRowsOfResult}
 use Rattle.sparse_results.specs.Tables.{table_of}
 use Rattle.sparse_results.proofs.Loops.{stores_have_small_levels}

@@ -43,17 +43,17 @@ use Rattle.term_code.specs.declared.places.Places.{Places}
 use Rattle.term_code.specs.declared.workspace_sink.WorkspaceSink.{WorkspaceSink}
 use Rattle.term_code.specs.Places.{StartsAt}
 use Rattle.term_code.specs.WorkspaceSinks.{HoldsRows, PassesPairs, values, workspace_sink}
-use Rattle.kernel_stores.specs.Kernels.{IsRightOutcome, Ends as EndsSo}
-use Rattle.kernel_stores.specs.Stores.{Store, IsStoreOf, IsGiven, told_by}
-use Rattle.kernel_stores.proofs.CodeEnds.{ends_as_code_does}
-use Rattle.kernel_stores.proofs.Starts.{starts_on_store}
+use Rattle.kernel_correctness.specs.Kernels.{IsRightOutcome, Ends as EndsSo}
+use Rattle.kernel_correctness.specs.Stores.{Store, IsStoreOf, IsGiven, told_by}
+use Rattle.kernel_correctness.proofs.CodeEnds.{ends_as_code_does}
+use Rattle.kernel_correctness.proofs.Starts.{starts_on_store}
 use Rattle.operand_arrays.specs.Operands.{stored_in}
 use Rattle.dense_results.specs.Kernels.{AreAtBase}
 use Rattle.dense_results.specs.Operands.{IsReadStore, operands_in}
 use Rattle.dense_results.specs.Results.{left_ranges}
-use Rattle.level_drains.specs.Drained.{drain_turns, most_passes}
-use Rattle.level_drains.specs.Levels.{RefusesLevels}
-use Rattle.level_drains.specs.Stored.{DrainsResult, LeavesStored}
+use Rattle.result_assembly.specs.Drained.{drain_turns, most_passes}
+use Rattle.result_assembly.specs.Levels.{RefusesLevels}
+use Rattle.result_assembly.specs.Stored.{DrainsResult, LeavesStored}
 use Rattle.sparse_results.specs.Keys.{HasOrderedResult}
 use Rattle.sparse_results.specs.Results.{AreRowsOfResult}
 use Rattle.sparse_results.specs.Sorting.{LeavesSums}

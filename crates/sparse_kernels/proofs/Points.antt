@@ -16,8 +16,8 @@ use Rattle.concrete_notation.specs.Right.{IsInSupport}
 use Rattle.concrete_notation.proofs.Points.{below_long}
 use Rattle.tensor_storage.specs.Stands.{row_from}
 use Rattle.tensor_storage.specs.Storages.{in_level_order}
-use Rattle.kernel_stores.specs.Results.{HasRow}
-use Rattle.kernel_stores.specs.Stores.{Store, told_by}
+use Rattle.kernel_correctness.specs.Results.{HasRow}
+use Rattle.kernel_correctness.specs.Stores.{Store, told_by}
 use Rattle.dense_results.proofs.Modes.{level_numbers}
 use Rattle.sparse_results.specs.Results.{AreRowsOfResult}
 use Rattle.sparse_results.specs.Tables.{table_of}

@@ -29,7 +29,7 @@ use Rattle.term_code.specs.declared.places.Places.{Places}
 use Rattle.term_code.specs.declared.workspace_sink.WorkspaceSink.{WorkspaceSink}
 use Rattle.term_code.specs.Places.{new_access}
 use Rattle.term_code.specs.WorkspaceSinks.{HoldsRows, IsOfWorkspace}
-use Rattle.kernel_stores.specs.Stores.{Store, IsGiven, StartsBelow}
+use Rattle.kernel_correctness.specs.Stores.{Store, IsGiven, StartsBelow}
 use Rattle.level_core.specs.Kinds.{parents_below}
 use Rattle.operand_arrays.specs.Operands.{IsOfOperands}
 use Rattle.dense_results.specs.Kernels.{AreAtBase}

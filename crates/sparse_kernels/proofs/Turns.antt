@@ -2,7 +2,7 @@
 use Rattle.std.specs.Prelude.{◌≡◌, ℕ, zero, suc, ◌*◌, ◌<◌}
 use Rattle.std.proofs.Common.{arith}
 use Rattle.level_rows.specs.Placing.{times}
-use Rattle.level_drains.specs.Drained.{most_passes}
+use Rattle.result_assembly.specs.Drained.{most_passes}
 
 -- so many times a number
 pub times_is : (p n : ℕ) → times p n ≡ p * n

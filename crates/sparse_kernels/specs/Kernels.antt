@@ -21,7 +21,7 @@ use Rattle.expr_terms.specs.ValueLaws.{HasWords}
 use Rattle.concrete_notation.specs.declared.concrete.Concrete.{Concrete}
 use Rattle.concrete_notation.specs.Nests.{left_in_order}
 use Rattle.concrete_notation.specs.Workspaces.{AreAllDense}
-use Rattle.row_sinks.specs.Sinks.{Adds}
+use Rattle.result_targets.specs.Sinks.{Adds}
 use Rattle.loop_code.specs.declared.loops.LoopCode.{LoopCode}
 use Rattle.loop_code.specs.Loops.{start}
 use Rattle.lowering.specs.Lowered.{AddsRows, IsInOrder}
@@ -31,14 +31,14 @@ use Rattle.term_code.specs.declared.workspace_sink.WorkspaceSink.{WorkspaceSink}
 use Rattle.term_code.specs.declared.places.Places.{Places}
 use Rattle.term_code.specs.WorkspaceSinks.{workspace_sink}
 use Rattle.term_code.specs.Places.{Keeps, StartsAt}
-use Rattle.kernel_stores.specs.Kernels.{Ends, IsRightOutcome}
-use Rattle.kernel_stores.specs.Stores.{Store, IsGiven, IsStoreOf, told_by}
+use Rattle.kernel_correctness.specs.Kernels.{Ends, IsRightOutcome}
+use Rattle.kernel_correctness.specs.Stores.{Store, IsGiven, IsStoreOf, told_by}
 use Rattle.operand_arrays.specs.Apart.{AreFrom}
 use Rattle.operand_arrays.specs.Operands.{stored_in, IsOfOperands}
 use Rattle.dense_results.specs.Kernels.{AreAtBase}
 use Rattle.dense_results.specs.Operands.{IsReadStore, ArrayStands, operands_in}
 use Rattle.dense_results.specs.Results.{left_ranges}
-use Rattle.level_drains.specs.Stored.{DrainsResult}
+use Rattle.result_assembly.specs.Stored.{DrainsResult}
 use Rattle.sparse_kernels.specs.Turns.{MakesTurns}
 
 -- a statement with a format for each tensor, that of its result not dense throughout

@@ -17,9 +17,9 @@ use Rattle.concrete_notation.proofs.Orders.{is_order_of}
 use Rattle.lowering.specs.Right.{rows_to, pairs}
 use Rattle.lowering.proofs.RightLoops.{rows_are}
 use Rattle.term_code.specs.WorkspaceSinks.{IsOfWorkspace}
-use Rattle.kernel_stores.specs.Kernels.{IsRightOutcome, standing_order}
-use Rattle.kernel_stores.specs.Results.{MayPass}
-use Rattle.kernel_stores.specs.Stores.{Store, told_by}
+use Rattle.kernel_correctness.specs.Kernels.{IsRightOutcome, standing_order}
+use Rattle.kernel_correctness.specs.Results.{MayPass}
+use Rattle.kernel_correctness.specs.Stores.{Store, told_by}
 use Rattle.operand_arrays.specs.Operands.{stored_in}
 use Rattle.dense_results.proofs.Operands.{told}
 use Rattle.dense_results.proofs.Pairs.{pairs_in_any_order}

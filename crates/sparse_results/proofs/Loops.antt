@@ -21,7 +21,7 @@ use Rattle.lowering.specs.Lowered.{IsInOrder}
 use Rattle.lowering.specs.Right.{rows_to}
 use Rattle.lowering.proofs.RightLoops.{are_right}
 use Rattle.tensor_storage.specs.Storages.{in_level_order}
-use Rattle.kernel_stores.specs.Stores.{Store, told_by}
+use Rattle.kernel_correctness.specs.Stores.{Store, told_by}
 use Rattle.operand_arrays.specs.Operands.{stored_in}
 use Rattle.dense_results.specs.Operands.{IsReadStore, operands_in}
 use Rattle.dense_results.proofs.Ends.{index_small}

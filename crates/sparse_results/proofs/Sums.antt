@@ -32,8 +32,8 @@ use Rattle.tensor_storage.specs.Storages.{in_level_order}
 use Rattle.tensor_storage.specs.Tables.{AreBelow as RowsBelow}
 use Rattle.tns_io.specs.Positions.{IsBelow}
 use Rattle.lowering.specs.Right.{HaveValues}
-use Rattle.kernel_stores.specs.Results.{HasRow}
-use Rattle.kernel_stores.specs.Stores.{Store, told_by}
+use Rattle.kernel_correctness.specs.Results.{HasRow}
+use Rattle.kernel_correctness.specs.Stores.{Store, told_by}
 use Rattle.dense_results.proofs.Ends.{to_below}
 use Rattle.dense_results.proofs.Modes.{number_at}
 use Rattle.dense_results.proofs.Positions.{row_is, differ, below_at}

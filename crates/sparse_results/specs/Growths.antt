@@ -16,8 +16,8 @@ use Rattle.loop_code.specs.declared.loops.LoopCode.{LoopCode}
 use Rattle.lowering.specs.Lowered.{AddsRows, IsInOrder}
 use Rattle.lowering.specs.Right.{rows_to}
 use Rattle.term_code.specs.WorkspaceSinks.{PassesPairs}
-use Rattle.kernel_stores.specs.Kernels.{IsRightOutcome}
-use Rattle.kernel_stores.specs.Stores.{Store, told_by}
+use Rattle.kernel_correctness.specs.Kernels.{IsRightOutcome}
+use Rattle.kernel_correctness.specs.Stores.{Store, told_by}
 use Rattle.operand_arrays.specs.Operands.{stored_in}
 use Rattle.dense_results.specs.Operands.{IsReadStore, operands_in}
 use Rattle.sparse_results.specs.Results.{AreRowsOfResult}

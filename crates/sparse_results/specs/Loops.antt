@@ -15,7 +15,7 @@ use Rattle.lowering.specs.Lowered.{AddsRows, IsInOrder}
 use Rattle.lowering.specs.Right.{rows_to}
 use Rattle.lowering.specs.Shapes as shapes
 use Rattle.tensor_storage.specs.Storages.{in_level_order}
-use Rattle.kernel_stores.specs.Stores.{Store, IsStoreOf, told_by}
+use Rattle.kernel_correctness.specs.Stores.{Store, IsStoreOf, told_by}
 use Rattle.operand_arrays.specs.Operands.{stored_in}
 use Rattle.dense_results.specs.Operands.{IsReadStore, operands_in}
 use Rattle.sparse_results.specs.Keys.{HasOrderedResult}

@@ -12,8 +12,8 @@ use Rattle.concrete_notation.specs.Contributions.{passed_on, sums_of}
 use Rattle.tensor_storage.specs.Storages.{in_level_order}
 use Rattle.tensor_storage.specs.Tables.{AreBelow}
 use Rattle.lowering.specs.Right.{AreKeys, HaveValues}
-use Rattle.kernel_stores.specs.Results.{IsNamedResult}
-use Rattle.kernel_stores.specs.Stores.{Store, IsStoreOf, told_by}
+use Rattle.kernel_correctness.specs.Results.{IsNamedResult}
+use Rattle.kernel_correctness.specs.Stores.{Store, IsStoreOf, told_by}
 use Rattle.sparse_results.specs.Tables.{table_of, IsRow}
 
 -- a statement with a format for its result, and a store of it

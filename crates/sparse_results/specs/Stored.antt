@@ -11,8 +11,8 @@ use Rattle.tensor_storage.specs.Levels.{meaning}
 use Rattle.tensor_storage.specs.Stands.{IsPacked}
 use Rattle.tensor_storage.specs.Storages.{storage_of}
 use Rattle.term_code.specs.WorkspaceSinks.{column, values}
-use Rattle.kernel_stores.specs.Results.{IsLeft, LeavesResult}
-use Rattle.kernel_stores.specs.Stores.{Store, told_by}
+use Rattle.kernel_correctness.specs.Results.{IsLeft, LeavesResult}
+use Rattle.kernel_correctness.specs.Stores.{Store, told_by}
 use Rattle.sparse_results.specs.Results.{AreRowsOfResult}
 use Rattle.sparse_results.specs.Tables.{table_of}
 

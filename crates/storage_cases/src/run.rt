@@ -2,13 +2,13 @@
 ghost use Rattle.std.specs.Prelude.{◌≡◌, ◌<◌, true, IfOk, IfSome};
 ghost use Rattle.kernel_code.specs.Arrays.{may_write};
 ghost use Rattle.storage_arrays.specs.Arrays.{AreDone};
-ghost use Rattle.kernel_steps.specs.Store.{made};
+ghost use Rattle.kernel_interpreter.specs.Store.{made};
 
 use crate::names::OWN;
 use crate::tensors::{Parts, pack};
 use case_files::Answer;
 use kernel_code::{Arr, KStmt, Turns};
-use kernel_steps::{Ending, Machine, run_statements};
+use kernel_interpreter::{Ending, Machine, run_statements};
 use lent_arrays::{LentArrays, Operand};
 use machine_starts::lent_operands;
 use numbers::Ring;

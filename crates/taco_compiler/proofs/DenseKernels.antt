@@ -32,12 +32,12 @@ use Rattle.term_code.specs.DenseSinks.{dense_sink}
 use Rattle.term_code.specs.Places.{StartsAt}
 use Rattle.operand_arrays.specs.Operands.{stored_in}
 use Rattle.operand_arrays.specs.Terms.{TargetIsBound}
-use Rattle.kernel_stores.specs.CodeEnds.{ToldOf}
-use Rattle.kernel_stores.specs.Kernels.{Ends, IsRightKernel}
-use Rattle.kernel_stores.specs.Stores.{Store, IsStoreOf, IsGiven, told_by}
-use Rattle.kernel_stores.proofs.CodeEnds.{ends_as_code_does}
-use Rattle.kernel_stores.proofs.Sound.{right_is_sound}
-use Rattle.kernel_stores.proofs.Starts.{starts_on_store}
+use Rattle.kernel_correctness.specs.CodeEnds.{ToldOf}
+use Rattle.kernel_correctness.specs.Kernels.{Ends, IsRightKernel}
+use Rattle.kernel_correctness.specs.Stores.{Store, IsStoreOf, IsGiven, told_by}
+use Rattle.kernel_correctness.proofs.CodeEnds.{ends_as_code_does}
+use Rattle.kernel_correctness.proofs.Sound.{right_is_sound}
+use Rattle.kernel_correctness.proofs.Starts.{starts_on_store}
 use Rattle.dense_results.specs.Kernels.{AddsFromTop, AreAtBase, IsForDense}
 use Rattle.dense_results.specs.Operands.{IsReadStore, operands_in}
 use Rattle.dense_results.specs.Results.{IsDenseStore, left_ranges}

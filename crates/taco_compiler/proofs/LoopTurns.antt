@@ -22,7 +22,7 @@ use Rattle.lowering.specs.Layouts.{layout_of, letter_at, levels_of}
 use Rattle.lowering.specs.Lowered.{IsInOrder, plain}
 use Rattle.lowering.specs.Stored.{stored_of}
 use Rattle.operand_arrays.specs.Operands.{stored_in}
-use Rattle.kernel_stores.specs.Stores.{Store, operand_of, told_by}
+use Rattle.kernel_correctness.specs.Stores.{Store, operand_of, told_by}
 use Rattle.dense_results.specs.Operands.{IsReadStore, operands_in}
 use Rattle.dense_results.proofs.Operands.{has_storages, operands_told}
 use Rattle.kernel_emit.specs.Emitted as emitted

@@ -30,9 +30,9 @@ use Rattle.term_code.specs.Places.{StartsAt}
 use Rattle.term_code.specs.WorkspaceSinks.{workspace_sink}
 use Rattle.operand_arrays.specs.Operands.{stored_in}
 use Rattle.operand_arrays.specs.Terms.{TargetIsBound}
-use Rattle.kernel_stores.specs.Kernels.{Ends, IsRightKernel, IsRightOutcome}
-use Rattle.kernel_stores.proofs.Sound.{right_is_sound}
-use Rattle.kernel_stores.specs.Stores.{Store, IsStoreOf, IsGiven, told_by}
+use Rattle.kernel_correctness.specs.Kernels.{Ends, IsRightKernel, IsRightOutcome}
+use Rattle.kernel_correctness.proofs.Sound.{right_is_sound}
+use Rattle.kernel_correctness.specs.Stores.{Store, IsStoreOf, IsGiven, told_by}
 use Rattle.dense_results.specs.Kernels.{AreAtBase}
 use Rattle.dense_results.specs.Operands.{IsReadStore, operands_in}
 use Rattle.dense_results.specs.Results.{left_ranges}

@@ -13,8 +13,8 @@ use Rattle.iteration_graph.specs.Edges.{statement_edges, format_of}
 use Rattle.iteration_graph.specs.Graphs.{IsLoopOrder, NamesCycle}
 use Rattle.concrete_notation.specs.Contributions.{Inputs}
 use Rattle.concrete_notation.specs.Workspaces.{AreAllDense}
-use Rattle.kernel_stores.specs.Kernels.{Ends, IsRightKernel, IsSoundKernel}
-use Rattle.kernel_stores.specs.Stores.{Store, IsStoreOf, IsGiven, operand_of, told_by}
+use Rattle.kernel_correctness.specs.Kernels.{Ends, IsRightKernel, IsSoundKernel}
+use Rattle.kernel_correctness.specs.Stores.{Store, IsStoreOf, IsGiven, operand_of, told_by}
 use Rattle.lists.specs.Each.{Each}
 use Rattle.lowering.specs.Stored.{stored_of}
 use Rattle.simplifier.specs.Folded.{SimpleCode}

@@ -8,7 +8,7 @@ use Rattle.kernel_code.specs.declared.syntax.KStmt.{KStmt}
 use Rattle.concrete_notation.specs.Nests.{left_in_order}
 use Rattle.dense_results.specs.Kernels.{AreAtBase}
 use Rattle.kernel_emit.specs.Emitted.{AddsLoops}
-use Rattle.level_drains.specs.Stored.{DrainsResult}
+use Rattle.result_assembly.specs.Stored.{DrainsResult}
 use Rattle.loop_code.specs.declared.loops.LoopCode.{LoopCode}
 use Rattle.sparse_kernels.specs.Kernels.{sorting_code}
 use Rattle.taco_compiler.specs.Loops.{AreLoopsOf}

@@ -8,7 +8,7 @@ use Rattle.operand_files.specs.Reads.{OnlyReads}
 use Rattle.kernel_code.specs.declared.syntax.Kernel.{Kernel}
 use Rattle.kernel_code.specs.declared.syntax.Turns.{Turns}
 use Rattle.tensor_storage.specs.Storages.{Storage}
-use Rattle.kernel_stores.specs.Stores.{Store}
+use Rattle.kernel_correctness.specs.Stores.{Store}
 use Rattle.taco_compiler.specs.Compiled.{IsOrder, IsCompiled}
 use Rattle.kernel_runs.specs.Runs.{IsStoreFor, RunsKernel}
 use Rattle.result_files.specs.Writes.{PutsAll}

@@ -23,7 +23,7 @@ use Rattle.tensor_map.proofs.Lemmas.{tested, value_append, value_here, value_els
 use Rattle.tns_io.specs.Positions.{product, IsBelow, position}
 use Rattle.tns_io.proofs.PositionLaws as positions
 use Rattle.expr_terms.specs.Terms.{contains}
-use Rattle.row_sinks.specs.Sinks.{AddsTo, VarsAre}
+use Rattle.result_targets.specs.Sinks.{AddsTo, VarsAre}
 use Rattle.term_code.specs.DenseSinks.{DenseSink, by_level, place, HasSizes, AreModes, dense_sink, position_below, position_code}
 
 -- below sizes, none of which is 0

@@ -16,7 +16,7 @@ use Rattle.tensor_map.specs.declared.entries.Entry.{Entry}
 use Rattle.expr_terms.specs.Points.{coords_at}
 use Rattle.expr_terms.specs.Terms.{contains}
 use Rattle.expr_terms.specs.declared.term.Term.{Term}
-use Rattle.row_sinks.specs.Sinks.{Sink, SinkLaws, Adds, AddsTo, VarsAre}
+use Rattle.result_targets.specs.Sinks.{Sink, SinkLaws, Adds, AddsTo, VarsAre}
 use Rattle.loop_code.specs.Loops.{Env, access_values, row_of, term_value}
 use Rattle.loop_code.specs.Places.{EachAccess}
 use Rattle.loop_code.specs.PresentValues.{present_value, signed}

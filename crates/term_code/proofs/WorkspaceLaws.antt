@@ -19,7 +19,7 @@ use Rattle.kernel_code.specs.Keeps.{Leaves, NoVariable, no_turns}
 use Rattle.kernel_code.proofs.Keeps.{this_array, other_array}
 use Rattle.level_core.specs.Fragments.{RefusedWithin}
 use Rattle.tensor_map.specs.declared.entries.Entry.{Entry}
-use Rattle.row_sinks.specs.Sinks.{AddsTo, VarsAre}
+use Rattle.result_targets.specs.Sinks.{AddsTo, VarsAre}
 use Rattle.term_code.specs.WorkspaceSinks.{WorkspaceSink, column, values, IsOfWorkspace, HoldsRows, PassesPairs, workspace_sink, push_code}
 
 length_append : {X : Type 0} (xs ys : List X) → length (xs ++ ys) ≡ length xs + length ys

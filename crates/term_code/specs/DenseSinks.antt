@@ -13,7 +13,7 @@ use Rattle.tensor_map.specs.declared.entries.Entry.{Entry}
 use Rattle.tensor_map.specs.Entries.{value_at}
 use Rattle.tns_io.specs.Positions.{product, IsBelow, position}
 use Rattle.expr_terms.specs.Terms.{contains}
-use Rattle.row_sinks.specs.Sinks.{Sink}
+use Rattle.result_targets.specs.Sinks.{Sink}
 pub use Rattle.term_code.specs.declared.dense_sink.DenseSink.{DenseSink}
 
 -- numbers of the modes, as ranges or coordinates, in the order of the levels

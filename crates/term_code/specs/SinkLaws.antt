@@ -5,7 +5,7 @@ use Rattle.std.proofs.lemmas.List.{length-append}
 use Rattle.kernel_code.specs.declared.syntax.Arr.{Arr}
 use Rattle.kernel_code.specs.declared.syntax.Arr.TheVariants.{Values, Dimension, Key, Sums}
 use Rattle.tns_io.proofs.PositionLaws.{below_long}
-use Rattle.row_sinks.specs.Sinks.{SinkLaws}
+use Rattle.result_targets.specs.Sinks.{SinkLaws}
 use Rattle.term_code.specs.DenseSinks.{HasSizes, by_level, dense_sink}
 use Rattle.term_code.specs.WorkspaceSinks.{workspace_sink}
 

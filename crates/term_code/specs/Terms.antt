@@ -8,7 +8,7 @@ use Rattle.tensor_map.specs.declared.entries.Entry.{Entry}
 use Rattle.expr_terms.specs.Points.{coords_at}
 use Rattle.expr_terms.specs.Terms.{contains}
 use Rattle.expr_terms.specs.declared.term.Term.{Term}
-use Rattle.row_sinks.specs.Sinks.{Sink, Adds}
+use Rattle.result_targets.specs.Sinks.{Sink, Adds}
 use Rattle.loop_code.specs.Loops.{Env, Stored, row_of, term_value}
 use Rattle.loop_code.specs.Places.{EachAccess}
 use Rattle.term_code.specs.Places.{Places, Keeps, HasValues}

@@ -8,7 +8,7 @@ use Rattle.kernel_code.specs.declared.syntax.KExpr.{Var}
 use Rattle.kernel_code.specs.declared.syntax.KStmt.{KStmt, Push}
 use Rattle.kernel_code.specs.Keeps.{NoVariable}
 use Rattle.tensor_map.specs.declared.entries.Entry.{Entry}
-use Rattle.row_sinks.specs.Sinks.{Sink}
+use Rattle.result_targets.specs.Sinks.{Sink}
 pub use Rattle.term_code.specs.declared.workspace_sink.WorkspaceSink.{WorkspaceSink}
 
 -- the coordinates of rows in one mode, and their values

@@ -4,7 +4,7 @@ ghost use Rattle.term_code.specs.DenseSinks.{by_level, dense_sink, position_belo
 ghost use Rattle.term_code.specs.SinkLaws.{dense_laws};
 
 use kernel_code::{Arr, KExpr, KStmt, Op, binary, one_statement, word_at};
-use row_sinks::RowSink;
+use result_targets::RowSink;
 use std::alloc::{AllocError, Global};
 use trees::Items;
 

@@ -13,7 +13,7 @@ use crate::values::{emit_value, negated};
 use expr_terms::{Term, coords_at};
 use kernel_code::{KExpr, KStmt};
 use numbers::Semiring;
-use row_sinks::RowSink;
+use result_targets::RowSink;
 use std::alloc::{AllocError, Global};
 use trees::Items;
 

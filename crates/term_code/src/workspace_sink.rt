@@ -4,7 +4,7 @@ ghost use Rattle.term_code.specs.WorkspaceSinks.{push_code, workspace_sink};
 ghost use Rattle.term_code.specs.SinkLaws.{workspace_laws};
 
 use kernel_code::{Arr, KExpr, KStmt, one_statement};
-use row_sinks::RowSink;
+use result_targets::RowSink;
 use std::alloc::{AllocError, Global};
 use trees::Items;
 

@@ -1,6 +1,6 @@
 use Rattle.std.proofs.Common.{ap}
 use Rattle.kernel_code.specs.Meaning.{State}
-use Rattle.kernel_steps.specs.Store.{state_of}
+use Rattle.kernel_interpreter.specs.Store.{state_of}
 use Rattle.kernel_machine.proofs.HandedParts.{kept}
 use Rattle.kernel_machine.proofs.handing.taken_array.Goals as goal
 

@@ -4,8 +4,8 @@ use Rattle.kernel_code.specs.Meaning.{State}
 use Rattle.lent_arrays.specs.declared.lent.LentArrays.{LentArrays}
 use Rattle.machine_starts.specs.Begun.{begun_result, with_workspaces, with_lists}
 use Rattle.machine_starts.specs.Lending.{lent_of}
-use Rattle.kernel_steps.specs.Memory.{SetsBelow, Through, variable_room}
-use Rattle.kernel_steps.specs.Store.{state_of}
+use Rattle.kernel_interpreter.specs.Memory.{SetsBelow, Through, variable_room}
+use Rattle.kernel_interpreter.specs.Store.{state_of}
 use Rattle.kernel_machine.proofs.Starts.{starts_on}
 use Rattle.kernel_machine.proofs.preparing.started_machine.Goals as goal
 

@@ -1,7 +1,7 @@
 use Rattle.std.proofs.Common.{◌≡◌, ◌∙◌, ◌+◌, ◌-◌, ◌<◌, ◌≤◌, length, sym, ap, subst, arith}
 use Rattle.std.specs.Prelude.{slice_set}
 use Rattle.storage_builder.specs.Building.{Building, building}
-use Rattle.kernel_steps.specs.Store.{state_of}
+use Rattle.kernel_interpreter.specs.Store.{state_of}
 use Rattle.kernel_machine.proofs.HandedParts.{Handing, handing_none, handing_more, handing_done}
 use Rattle.kernel_machine.proofs.running.hand_over.Goals as goal
 

@@ -1,4 +1,4 @@
-use Rattle.kernel_steps.specs.Store.{state_of}
+use Rattle.kernel_interpreter.specs.Store.{state_of}
 use Rattle.kernel_machine.proofs.HandedParts.{Handing}
 use Rattle.kernel_machine.proofs.running.hand_over.Given as goal
 

@@ -5,8 +5,8 @@ use Rattle.tensor_storage.specs.declared.level.StorageLevel.{StorageLevel}
 use Rattle.tensor_storage.specs.Storages.{Storage}
 use Rattle.storage_builder.specs.Building.{AreDense}
 use Rattle.storage_builder.specs.Made.{AllAlike, AreHandedOver}
-use Rattle.kernel_stores.specs.Stores.{result_sizes}
-use Rattle.kernel_steps.specs.Store.{state_of}
+use Rattle.kernel_correctness.specs.Stores.{result_sizes}
+use Rattle.kernel_interpreter.specs.Store.{state_of}
 use Rattle.kernel_machine.specs.Runs.{IsMadeFrom}
 use Rattle.kernel_machine.proofs.Tensors.{parts_long, may, made, both_ok}
 use Rattle.kernel_machine.proofs.running.made_tensor.Goals as goal

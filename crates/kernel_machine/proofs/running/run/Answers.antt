@@ -2,11 +2,11 @@ use Rattle.std.proofs.Common.{inl, inr, ◌≡◌, ◌∙◌, ◌≤◌, ap, sym
 use Rattle.std.specs.Prelude.{length}
 use Rattle.kernel_code.specs.Kernels.{Finished, NotFinished, TooLong, go, told, place_of}
 use Rattle.storage_builder.specs.Building.{Building}
-use Rattle.kernel_steps.specs.declared.ending.Ending.{Ending}
-use Rattle.kernel_steps.specs.Memory.{variable_room}
-use Rattle.kernel_steps.specs.Store.{count_of, outcome_of, state_of}
+use Rattle.kernel_interpreter.specs.declared.ending.Ending.{Ending}
+use Rattle.kernel_interpreter.specs.Memory.{variable_room}
+use Rattle.kernel_interpreter.specs.Store.{count_of, outcome_of, state_of}
 use Rattle.kernel_machine.specs.Runs.{most_turns, AreThese}
-use Rattle.kernel_stores.specs.Results.{summed}
+use Rattle.kernel_correctness.specs.Results.{summed}
 use Rattle.format_spec.specs.Formats.{letters_of}
 use Rattle.kernel_machine.proofs.Ends.{none_made, ends_told, sound_leaves, never_stuck}
 use Rattle.kernel_machine.proofs.InPlace.{spared}

@@ -1,7 +1,7 @@
 use Rattle.std.specs.Prelude.{◌≤◌, ◌+◌, ℕ, drop}
 use Rattle.limits.specs.Limits.{greatest_position_count}
 use Rattle.format_spec.specs.Formats.{letters_of}
-use Rattle.kernel_stores.specs.Stores.{StartsFew}
+use Rattle.kernel_correctness.specs.Stores.{StartsFew}
 use Rattle.kernel_machine.specs.Begins.{IsTooLarge}
 use Rattle.kernel_machine.proofs.sizes.first_too_large.Given as goal
 

@@ -1,5 +1,5 @@
 use Rattle.std.proofs.Common.{sym, subst}
-use Rattle.kernel_stores.specs.Kernels.{IsSoundOn}
+use Rattle.kernel_correctness.specs.Kernels.{IsSoundOn}
 use Rattle.kernel_machine.specs.Begins.{store_of, IsReadyFor}
 use Rattle.kernel_machine.specs.Runs.{HasRun, IsRunRefusal}
 use Rattle.kernel_runs.proofs.running.run_on.Goals as goal

@@ -3,7 +3,7 @@ use Rattle.limits.specs.Limits.{greatest_position_count}
 use Rattle.limits.proofs.Limits.{some_positions, positions_are_small}
 use Rattle.level_core.specs.declared.letter.Letter.TheVariants.{Dense}
 use Rattle.format_spec.specs.declared.format.FormatLevel.{FormatLevel}
-use Rattle.kernel_steps.specs.Store.{state_of}
+use Rattle.kernel_interpreter.specs.Store.{state_of}
 use Rattle.kernel_code.specs.declared.syntax.Arr.TheVariants.{Values}
 use Rattle.kernel_code.specs.Meaning.{set_array}
 use Rattle.machine_starts.proofs.Steps.{few_here, few_next, result_next, result_done}

@@ -1,7 +1,7 @@
 use Rattle.std.proofs.Common.{◌≡◌, ◌+◌, ◌≤◌, drop}
 use Rattle.limits.specs.Limits.{greatest_position_count}
 use Rattle.format_spec.specs.Formats.{letters_of}
-use Rattle.kernel_steps.specs.Store.{state_of}
+use Rattle.kernel_interpreter.specs.Store.{state_of}
 use Rattle.machine_starts.specs.Begun.{begun_result, IsFew}
 use Rattle.machine_starts.proofs.result.begin_result.Given as goal
 

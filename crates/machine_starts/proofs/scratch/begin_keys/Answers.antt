@@ -1,7 +1,7 @@
 use Rattle.std.proofs.Common.{◌≡◌, ◌∙◌, ◌+◌, suc, sym, ap, arith, []}
 use Rattle.kernel_code.specs.declared.syntax.Arr.TheVariants.{Key}
 use Rattle.kernel_code.specs.Meaning.{State, set_array}
-use Rattle.kernel_steps.specs.Store.{state_of}
+use Rattle.kernel_interpreter.specs.Store.{state_of}
 use Rattle.machine_starts.specs.Begun.{with_keys}
 use Rattle.machine_starts.proofs.scratch.begin_keys.Goals as goal
 

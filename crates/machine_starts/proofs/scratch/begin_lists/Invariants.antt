@@ -1,5 +1,5 @@
 use Rattle.std.proofs.Common.{◌≡◌}
-use Rattle.kernel_steps.specs.Store.{state_of}
+use Rattle.kernel_interpreter.specs.Store.{state_of}
 use Rattle.machine_starts.specs.Begun.{with_lists}
 use Rattle.machine_starts.proofs.scratch.begin_lists.Given as goal
 

@@ -1,7 +1,7 @@
 use Rattle.std.proofs.Common.{◌≡◌, ◌∙◌, ◌+◌, suc, sym, ap, arith, [], drop, slice_index_or}
 use Rattle.kernel_code.specs.declared.syntax.Arr.TheVariants.{Sums}
 use Rattle.kernel_code.specs.Meaning.{State, set_array}
-use Rattle.kernel_steps.specs.Store.{state_of}
+use Rattle.kernel_interpreter.specs.Store.{state_of}
 use Rattle.machine_starts.specs.Begun.{with_keys, with_workspaces}
 use Rattle.machine_starts.proofs.Steps.{drop_here}
 use Rattle.machine_starts.proofs.scratch.begin_workspaces.Goals as goal

@@ -1,5 +1,5 @@
 use Rattle.std.proofs.Common.{◌≡◌, drop}
-use Rattle.kernel_steps.specs.Store.{state_of}
+use Rattle.kernel_interpreter.specs.Store.{state_of}
 use Rattle.machine_starts.specs.Begun.{with_workspaces}
 use Rattle.machine_starts.proofs.scratch.begin_workspaces.Given as goal
 

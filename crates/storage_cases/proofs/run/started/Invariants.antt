@@ -1,5 +1,5 @@
 use Rattle.std.proofs.Common.{◌≡◌}
-use Rattle.kernel_steps.specs.Store.{made}
+use Rattle.kernel_interpreter.specs.Store.{made}
 use Rattle.storage_cases.proofs.run.started.Given as goal
 
 -- no turn is made

@@ -1,6 +1,6 @@
 use Rattle.std.proofs.Common.{sym, subst, refl}
 use Rattle.numbers.specs.Ring.{ring}
-use Rattle.kernel_stores.specs.Kernels.{IsRightKernel}
+use Rattle.kernel_correctness.specs.Kernels.{IsRightKernel}
 use Rattle.taco_top.specs.Run.{request_of}
 use Rattle.taco_top.proofs.Reading.{runnable, run_of_request, uncomputed_of_request}
 use Rattle.taco_top.proofs.Prepares.{prepared}

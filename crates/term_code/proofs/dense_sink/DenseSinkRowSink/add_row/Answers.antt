@@ -3,7 +3,7 @@ use Rattle.std.proofs.Common.{◌∙◌, sym, ap, subst}
 use Rattle.kernel_code.specs.declared.syntax.Arr.TheVariants.{Values}
 use Rattle.kernel_code.specs.declared.syntax.KExpr.{Var}
 use Rattle.kernel_code.specs.declared.syntax.KStmt.{AddTo}
-use Rattle.row_sinks.specs.Sinks.{AddsTo}
+use Rattle.result_targets.specs.Sinks.{AddsTo}
 use Rattle.term_code.specs.DenseSinks.{by_level, dense_sink, position_code}
 use Rattle.term_code.proofs.DenseLaws.{adds_in_place}
 use Rattle.term_code.proofs.dense_sink.DenseSinkRowSink.add_row.Goals as goal

@@ -1,5 +1,5 @@
 use Rattle.std.proofs.Common.{sym, subst}
-use Rattle.row_sinks.specs.Sinks.{AddsTo}
+use Rattle.result_targets.specs.Sinks.{AddsTo}
 use Rattle.term_code.specs.WorkspaceSinks.{workspace_sink}
 use Rattle.term_code.proofs.WorkspaceLaws.{pushes}
 use Rattle.term_code.proofs.workspace_sink.WorkspaceSinkRowSink.add_row.Goals as goal

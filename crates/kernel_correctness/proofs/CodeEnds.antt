@@ -1,0 +1,39 @@
+-- A kernel whose code ends so, or is refused a growth, from its start ends so within some number of turns.
+use Rattle.std.specs.Prelude.{◌≡◌, ℕ, ◌+◌, ◌≤◌, nat_le, true, if◌then◌else◌, refl}
+use Rattle.std.proofs.Common.{◌∙◌, ap, arith}
+use Rattle.std.proofs.lemmas.Bool.Decides.{nat_tests}
+use Rattle.kernel_code.specs.Does.{Refusal, OnOutcome}
+use Rattle.kernel_code.specs.Kernels.{all_turns, within, told}
+use Rattle.kernel_code.specs.Meaning.{State, Outcome, Ended, Stuck, Over, More}
+use Rattle.kernel_correctness.specs.CodeEnds.{ToldOf, EndsAsCodeDoes}
+
+abbrev turns_of : Outcome → ℕ
+turns_of (Ended s) = all_turns s.turns
+turns_of (Stuck t) = all_turns t
+turns_of (Over t a count) = all_turns t
+turns_of More = 0
+
+few : (m n : ℕ) → m ≤ n → nat_le m n ≡ true
+few m n h = grind (arith, nat_tests, h)
+
+within_all : (n : ℕ) (o : Outcome) → turns_of o ≤ n → within n o ≡ o
+within_all n (Ended s) h = ap (λ b. if b then Ended s else More) (few (all_turns s.turns) n h)
+within_all n (Stuck t) h = ap (λ b. if b then Stuck t else More) (few (all_turns t) n h)
+within_all n (Over t a count) h = ap (λ b. if b then Over t a count else More) (few (all_turns t) n h)
+within_all n More h = refl
+
+told_of : (order : ℕ) (P : State → Type 0) (R : Refusal) (o : Outcome) → OnOutcome P R o → ToldOf order P R (told order o)
+told_of order P R (Ended s) h = (s, h, refl, refl)
+told_of order P R (Stuck t) h = absurd h
+told_of order P R (Over t a count) h = (t, (a, h, refl))
+told_of order P R More h = absurd h
+
+pub ends_as_code_does : EndsAsCodeDoes
+ends_as_code_does a order kernel arrays P R d =
+    let n : ℕ = d.enough + turns_of d.outcome in
+    record {
+      turns = n;
+      outcome = told order d.outcome;
+      is = ap (λ o. told order (within n o)) (d.reached n (omega arith)) ∙ ap (told order) (within_all n d.outcome (omega arith));
+      so = told_of order P R d.outcome d.kept;
+    }

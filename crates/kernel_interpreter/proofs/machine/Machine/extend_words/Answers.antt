@@ -1,0 +1,29 @@
+use Rattle.std.proofs.Common.{◌≡◌, ◌∙◌, ◌+◌, sym, refl, ap, arith, length, true, false, List, ℕ}
+use Rattle.std.specs.Prelude.{replicate}
+use Rattle.kernel_code.specs.Arrays.{may_have, told_count}
+use Rattle.kernel_code.specs.Meaning.{grown, Over}
+use Rattle.kernel_interpreter.specs.Store.{state_of}
+use Rattle.kernel_interpreter.proofs.StoreLemmas.{grown_at, not_grown_at}
+use Rattle.kernel_interpreter.proofs.machine.Machine.extend_words.Goals as goal
+
+pub returns-in_default-clause-is : goal.returns-in_default-clause-is
+returns-in_default-clause-is c =
+    sym (c.in_default.ensures (λ xs. grown (state_of c.args.self.now) c.args.a (length xs + c.args.n) xs (replicate c.args.n c.args.value)))
+
+pub returns-then-not-may_grow-clause-is : goal.returns-then-not-may_grow-clause-is
+returns-then-not-may_grow-clause-is c =
+    let count = λ (xs : List ℕ). length xs + c.args.n in
+    let n : c.len-length.result + c.args.n ≡ length c.index_mut.result.now.words.items + c.args.n = omega arith in
+    let long : may_have c.args.a (c.len-length.result + c.args.n) ≡ false = cc in
+    ap (Over (state_of c.args.self.now).turns c.args.a) (c.count_told-count.ensures ∙ ap (told_count c.args.a) n)
+    ∙ not_grown_at c.args.self.now c.args.a c.in-Some.place c.index_mut.result.now count (replicate c.args.n c.args.value)
+    (record { writable = c.in-Some.ensures; is = c.index_mut.ensures.value }) (ap (may_have c.args.a) (sym n) ∙ long)
+
+pub returns-clause-is : goal.returns-clause-is
+returns-clause-is c =
+    let count = λ (xs : List ℕ). length xs + c.args.n in
+    let n : c.len-length.result + c.args.n ≡ length c.index_mut.result.now.words.items + c.args.n = omega arith in
+    let long : may_have c.args.a (c.len-length.result + c.args.n) ≡ true = cc in
+    grown_at c.args.self.now c.args.a c.in-Some.place c.index_mut.result.now _ count (replicate c.args.n c.args.value)
+    (record { writable = c.in-Some.ensures; is = c.index_mut.ensures.value }) (ap (may_have c.args.a) (sym n)
+    ∙ long) refl c.in_ok-append_copies.ensures

@@ -1,0 +1,529 @@
+//! The machine: variables, arrays that are lent and arrays of its own, and the turns that loops have made.
+ghost use Rattle.std.specs.Prelude.{◌≡◌, ℕ, ◌+◌, ◌^◌, ◌<◌, ◌≤◌, List, length, MatchOption, IfOk, IsOkAnd, OnOk, OnErr};
+ghost use Rattle.std.specs.Prelude.{◌++◌, ◌∷◌, [], Some, None, take, true, replicate};
+ghost use Rattle.std.specs.Prelude.{slice_get, option_map, unwrap_or, map, IsTrue, ◌↔◌};
+ghost use Rattle.kernel_code.specs.Arrays.{sum_in, may_write};
+ghost use Rattle.kernel_code.specs.declared.syntax.Arr.{Arr};
+ghost use Rattle.kernel_code.specs.declared.syntax.Arr.TheVariants.{ListCoordinates, ListPositions, Key, Sums};
+ghost use Rattle.kernel_code.specs.Meaning.{Ended, Stuck, Outcome, set_array, one_turn, sort_outcome, sort_sum_outcome, key_columns};
+ghost use Rattle.kernel_code.specs.Meaning.{set_columns, with_array, changed, grown, value, word_at, length_of, set_outcome};
+ghost use Rattle.kernel_code.specs.Meaning.{put_outcome, add_outcome, push_outcome, extend_outcome, cut_outcome};
+ghost use Rattle.lent_arrays.specs.Lent.{lent_array};
+ghost use Rattle.machine_parts.specs.Places.{held};
+ghost use Rattle.machine_parts.specs.Rows.{row_of};
+ghost use Rattle.kernel_interpreter.specs.Memory.{variable_room};
+ghost use Rattle.kernel_interpreter.specs.Store.{count_of, state_of, own_array, outcome_of, made, IsPlaceOf, IsWritable};
+
+use crate::ending::Ending;
+use kernel_code::{Arr, KExpr, LoopKind, Turns, apply_to_words, least_operand, width_of_operand};
+use lent_arrays::LentArrays;
+use machine_parts::{
+    OwnArray, PlacedRow, Places, Table, append_copies, append_word, coordinates_of, count_told,
+    decided_by_first, is_same, may_be_written, may_grow, number_of_keys, positions_of,
+    rows_of_list, sort_rows, sum_of_words, sum_rows, values_of, words_at,
+};
+use numbers::Semiring;
+use seg_buffer::Segment;
+use std::alloc::{AllocError, Global};
+use std::mem;
+
+/// What a kernel works on: variables, arrays, and the turns that loops have made.
+#[derive(Drop)]
+pub struct Machine<'a> {
+    alloc: Global,
+    variables: Table,
+    places: Places,
+    arrays: Vec<OwnArray>,
+    lent: LentArrays<'a>,
+    turns: Turns,
+}
+
+const NO_TURNS: Turns = Turns {
+    merge: 0,
+    skip: 0,
+    gather: 0,
+    drain: 0,
+    probe: 0,
+};
+
+/// The value of an expression, or none where it is stuck.
+pub(crate) fn value_of(machine: &Machine, e: &KExpr) -> Option<u64>
+    ensures { result ≡ value e.now (state_of machine.now) }
+{
+    match e {
+        KExpr::Num(n) => Some(*n),
+        KExpr::Var(x) => machine.variable(*x),
+        KExpr::At(a, i) => {
+            let i = value_of(machine, i.get());
+            machine.word(*a, i)
+        }
+        KExpr::Len(a) => machine.length(*a),
+        KExpr::Bin(op, a, b) => {
+            let x = value_of(machine, a.get())?;
+            if let Some(decided) = decided_by_first(*op, x) {
+                return Some(decided);
+            }
+            let y = value_of(machine, b.get())?;
+            Some(apply_to_words(*op, x, y))
+        }
+        KExpr::Min(a, b) => {
+            let x = value_of(machine, a.get());
+            let y = value_of(machine, b.get());
+            least_operand(x, y)
+        }
+        KExpr::Width(e) => {
+            let x = value_of(machine, e.get());
+            width_of_operand(x)
+        }
+    }
+}
+
+impl<'a> Machine<'a> {
+    /// A machine with no variable, no turn made, and no array but those that are lent. It takes no memory.
+    pub fn new(alloc: Global, lent: LentArrays<'a>) -> Machine<'a>
+        ensures vars { (x : ℕ) → (state_of result).vars x ≡ None }
+        ensures own { (a : Arr) → own_array result a ≡ None }
+        ensures lent { result.lent ≡ lent.entry }
+        ensures turns { (k : LoopKind) → (state_of result).turns k ≡ 0 }
+    {
+        Machine {
+            alloc,
+            variables: Table::new(alloc),
+            places: Places::new(alloc),
+            arrays: Vec::new(alloc),
+            lent,
+            turns: NO_TURNS,
+        }
+    }
+
+    /// Gives an array that a kernel may write these words, whether or not it was there. Refused for want of memory, the
+    /// words are dropped.
+    pub fn add_array(&mut self, a: Arr, words: Segment<u64>) -> Result<(), AllocError>
+        requires { may_write a ≡ true }
+        ensures { OnOk result (state_of self.new ≡ set_array (state_of self.old) a words.items) }
+    {
+        self.arrays.reserve(1)?;
+        self.places.set(a, self.arrays.len() as u64)?;
+        self.arrays.push_reserved(OwnArray { name: a, words });
+        Ok(())
+    }
+
+    /// The place of an array of the machine's own.
+    fn find(&self, a: Arr) -> Option<usize>
+        ensures { MatchOption result (own_array self.now a ≡ None) (IsPlaceOf self.now a) }
+    {
+        let Some(place) = self.places.get(a) else {
+            return None;
+        };
+        match self.arrays.get(place as usize) {
+            Some(array) if is_same(array.name, a) => Some(place as usize),
+            _ => None,
+        }
+    }
+
+    /// Takes the words of an array of its own out, which leaves the array empty. It takes no memory.
+    pub fn take_array(&mut self, a: Arr) -> Option<Segment<u64>>
+        requires { may_write a ≡ true }
+        ensures words { option_map (λ words. words.items) result ≡ (state_of self.old).arrays a }
+        ensures left { MatchOption result (state_of self.new ≡ state_of self.old)
+            (λ _. state_of self.new ≡ set_array (state_of self.old) a []) }
+    {
+        let Some(place) = self.find(a) else {
+            return None;
+        };
+        Some(mem::replace(&mut self.arrays[place].words, Segment::new(self.alloc)))
+    }
+
+    /// Gives an array of its own that is there other words.
+    fn replace(&mut self, a: Arr, words: Segment<u64>)
+        requires { may_write a ≡ true }
+        ensures is { (xs : List ℕ) → (state_of self.old).arrays a ≡ Some xs
+            → state_of self.new ≡ set_array (state_of self.old) a words.items }
+        ensures turns { self.new.turns ≡ self.old.turns }
+    {
+        if let Some(place) = self.find(a) {
+            self.arrays[place].words = words;
+        }
+    }
+
+    /// The turns made by the last run.
+    pub fn turns(&self) -> Turns
+        ensures { count_of result ≡ (state_of self.now).turns }
+    {
+        self.turns
+    }
+
+    /// The value of a variable, or none where it has none.
+    pub fn variable(&self, x: u64) -> Option<u64>
+        ensures { result ≡ (state_of self.now).vars x }
+    {
+        self.variables.get(x)
+    }
+
+    /// The words of an array of its own, or none where it doesn't exist.
+    pub fn array(&self, a: Arr) -> Option<&[u64]>
+        requires { may_write a ≡ true }
+        ensures { option_map (λ words. words.now) result ≡ (state_of self.now).arrays a }
+    {
+        match self.find(a) {
+            None => None,
+            Some(place) => Some(self.arrays[place].words.as_slice()),
+        }
+    }
+
+    fn own_word(&self, a: Arr, i: u64) -> Option<u64>
+        requires { may_write a ≡ true }
+        ensures { result ≡ word_at ((state_of self.now).arrays a) (Some i) }
+    {
+        match self.array(a) {
+            None => None,
+            Some(words) => words.get(i as usize).copied(),
+        }
+    }
+
+    fn own_length(&self, a: Arr) -> Option<u64>
+        requires { may_write a ≡ true }
+        ensures { result ≡ length_of ((state_of self.now).arrays a) }
+    {
+        match self.array(a) {
+            None => None,
+            Some(words) => Some(words.len() as u64),
+        }
+    }
+
+    fn word_at(&self, a: Arr, i: u64) -> Option<u64>
+        ensures { result ≡ word_at ((state_of self.now).arrays a) (Some i) }
+    {
+        if may_be_written(a) {
+            self.own_word(a, i)
+        } else {
+            self.lent.word(a, i)
+        }
+    }
+
+    fn word(&self, a: Arr, i: Option<u64>) -> Option<u64>
+        ensures { result ≡ word_at ((state_of self.now).arrays a) i }
+    {
+        match i {
+            None => None,
+            Some(i) => self.word_at(a, i),
+        }
+    }
+
+    fn length(&self, a: Arr) -> Option<u64>
+        ensures { result ≡ length_of ((state_of self.now).arrays a) }
+    {
+        if may_be_written(a) {
+            self.own_length(a)
+        } else {
+            self.lent.length(a)
+        }
+    }
+
+    /// Gives a variable a place, whether or not it has a value. Refused for want of memory alone.
+    pub(crate) fn make_room(&mut self, x: u64) -> Result<(), AllocError>
+        ensures state { OnOk result (state_of self.new ≡ state_of self.old) }
+        ensures more { OnOk result (variable_room self.old ≤ variable_room self.new) }
+        ensures room { OnOk result (x < variable_room self.new) }
+    {
+        self.variables.make_room(x)
+    }
+
+    pub(crate) fn set(&mut self, x: u64, value: Option<u64>) -> Result<Ending, AllocError>
+        ensures is { IfOk result (λ ending. outcome_of ending (state_of self.new) ≡ set_outcome (state_of self.old) x value) }
+        ensures turns { OnOk result (self.new.turns ≡ self.old.turns) }
+        ensures memory { (n : ℕ) → x < n → n ≤ variable_room self.old → IsOkAnd result (λ _. n ≤ variable_room self.new) }
+    {
+        let Some(value) = value else {
+            return Ok(Ending::Stuck);
+        };
+        self.variables.set(x, value)?;
+        Ok(Ending::Ended)
+    }
+
+    /// The place of an array that exists and may be written.
+    fn writable(&self, a: Arr) -> Option<usize>
+        ensures { MatchOption result ((next : List ℕ → Outcome) → with_array (state_of self.now) a next ≡ Stuck (state_of self.now).turns)
+            (IsWritable self.now a) }
+    {
+        if !may_be_written(a) {
+            return None;
+        }
+        self.find(a)
+    }
+
+    fn put_word(&mut self, a: Arr, i: u64, value: u64) -> Ending
+        ensures is { outcome_of result (state_of self.new)
+            ≡ with_array (state_of self.old) a (changed (state_of self.old) a i (λ _. value)) }
+        ensures turns { self.new.turns ≡ self.old.turns }
+        ensures variables { self.new.variables ≡ self.old.variables }
+    {
+        let Some(place) = self.writable(a) else {
+            return Ending::Stuck;
+        };
+        let words = &mut self.arrays[place].words;
+        if i >= words.len() as u64 {
+            return Ending::Stuck;
+        }
+        words.set(i as usize, value);
+        Ending::Ended
+    }
+
+    fn add_word<S: Semiring>(&mut self, a: Arr, i: u64, value: u64) -> Ending
+        ensures is { outcome_of result (state_of self.new)
+            ≡ with_array (state_of self.old) a (changed (state_of self.old) a i (λ old. sum_in S.arithmetic a old value)) }
+        ensures turns { self.new.turns ≡ self.old.turns }
+        ensures variables { self.new.variables ≡ self.old.variables }
+    {
+        let Some(place) = self.writable(a) else {
+            return Ending::Stuck;
+        };
+        let words = &mut self.arrays[place].words;
+        if i >= words.len() as u64 {
+            return Ending::Stuck;
+        }
+        let sum = sum_of_words::<S>(a, words.get(i as usize), value);
+        words.set(i as usize, sum);
+        Ending::Ended
+    }
+
+    fn push_word(&mut self, a: Arr, value: u64) -> Result<Ending, AllocError>
+        ensures is { IfOk result (λ ending. outcome_of ending (state_of self.new)
+            ≡ with_array (state_of self.old) a (λ xs. grown (state_of self.old) a (length xs + 1) xs (value ∷ []))) }
+        ensures turns { OnOk result (self.new.turns ≡ self.old.turns) }
+    {
+        let Some(place) = self.writable(a) else {
+            return Ok(Ending::Stuck);
+        };
+        let words = &mut self.arrays[place].words;
+        let length = words.len() as u64;
+        if !may_grow(a, length, 1) {
+            let count = count_told(a, length, 1);
+            return Ok(Ending::Over { array: a, count });
+        }
+        append_word(words, value)?;
+        Ok(Ending::Ended)
+    }
+
+    fn extend_words(&mut self, a: Arr, n: u64, value: u64) -> Result<Ending, AllocError>
+        ensures is { IfOk result (λ ending. outcome_of ending (state_of self.new)
+            ≡ with_array (state_of self.old) a (λ xs. grown (state_of self.old) a (length xs + n) xs (replicate n value))) }
+        ensures turns { OnOk result (self.new.turns ≡ self.old.turns) }
+    {
+        let Some(place) = self.writable(a) else {
+            return Ok(Ending::Stuck);
+        };
+        let words = &mut self.arrays[place].words;
+        let length = words.len() as u64;
+        if !may_grow(a, length, n) {
+            let count = count_told(a, length, n);
+            return Ok(Ending::Over { array: a, count });
+        }
+        append_copies(words, n, value)?;
+        Ok(Ending::Ended)
+    }
+
+    fn cut_words(&mut self, a: Arr, n: u64) -> Ending
+        ensures is { outcome_of result (state_of self.new)
+            ≡ with_array (state_of self.old) a (λ xs. Ended (set_array (state_of self.old) a (take n xs))) }
+        ensures turns { self.new.turns ≡ self.old.turns }
+        ensures variables { self.new.variables ≡ self.old.variables }
+    {
+        let Some(place) = self.writable(a) else {
+            return Ending::Stuck;
+        };
+        self.arrays[place].words.truncate(n as usize);
+        Ending::Ended
+    }
+
+    pub(crate) fn put(&mut self, a: Arr, i: Option<u64>, value: Option<u64>) -> Ending
+        ensures is { outcome_of result (state_of self.new) ≡ put_outcome (state_of self.old) a i value }
+        ensures turns { self.new.turns ≡ self.old.turns }
+        ensures variables { self.new.variables ≡ self.old.variables }
+    {
+        match (i, value) {
+            (Some(i), Some(value)) => self.put_word(a, i, value),
+            _ => Ending::Stuck,
+        }
+    }
+
+    pub(crate) fn add<S: Semiring>(&mut self, a: Arr, i: Option<u64>, value: Option<u64>) -> Ending
+        ensures is { outcome_of result (state_of self.new) ≡ add_outcome S.arithmetic (state_of self.old) a i value }
+        ensures turns { self.new.turns ≡ self.old.turns }
+        ensures variables { self.new.variables ≡ self.old.variables }
+    {
+        match (i, value) {
+            (Some(i), Some(value)) => self.add_word::<S>(a, i, value),
+            _ => Ending::Stuck,
+        }
+    }
+
+    pub(crate) fn push(&mut self, a: Arr, value: Option<u64>) -> Result<Ending, AllocError>
+        ensures is { IfOk result (λ ending. outcome_of ending (state_of self.new) ≡ push_outcome (state_of self.old) a value) }
+        ensures turns { OnOk result (self.new.turns ≡ self.old.turns) }
+    {
+        match value {
+            Some(value) => self.push_word(a, value),
+            None => Ok(Ending::Stuck),
+        }
+    }
+
+    pub(crate) fn extend(
+        &mut self,
+        a: Arr,
+        n: Option<u64>,
+        value: Option<u64>,
+    ) -> Result<Ending, AllocError>
+        ensures is { IfOk result (λ ending. outcome_of ending (state_of self.new) ≡ extend_outcome (state_of self.old) a n value) }
+        ensures turns { OnOk result (self.new.turns ≡ self.old.turns) }
+    {
+        match (n, value) {
+            (Some(n), Some(value)) => self.extend_words(a, n, value),
+            _ => Ok(Ending::Stuck),
+        }
+    }
+
+    pub(crate) fn cut(&mut self, a: Arr, n: Option<u64>) -> Ending
+        ensures is { outcome_of result (state_of self.new) ≡ cut_outcome (state_of self.old) a n }
+        ensures turns { self.new.turns ≡ self.old.turns }
+        ensures variables { self.new.variables ≡ self.old.variables }
+    {
+        match n {
+            Some(n) => self.cut_words(a, n),
+            None => Ending::Stuck,
+        }
+    }
+
+    /// The turns made, of all kinds.
+    pub(crate) fn turns_made(&self) -> u64
+        requires { made self.now < 2 ^ 64 }
+        ensures { result ≡ made self.now }
+    {
+        let turns = &self.turns;
+        turns.merge + turns.skip + turns.gather + turns.drain + turns.probe
+    }
+
+    /// Counts a turn.
+    pub(crate) fn count_turn(&mut self, kind: LoopKind)
+        requires { made self.old + 1 < 2 ^ 64 }
+        ensures is { state_of self.new ≡ one_turn (state_of self.old) kind }
+        ensures made { made self.new ≡ made self.old + 1 }
+        ensures variables { self.new.variables ≡ self.old.variables }
+    {
+        match kind {
+            LoopKind::Merge => self.turns.merge += 1,
+            LoopKind::Skip => self.turns.skip += 1,
+            LoopKind::Gather => self.turns.gather += 1,
+            LoopKind::Drain => self.turns.drain += 1,
+            LoopKind::Probe => self.turns.probe += 1,
+        }
+    }
+
+    /// Sorts the rows of a scratch list by their coordinates.
+    pub(crate) fn sort(&mut self, list: u64) -> Result<Ending, AllocError>
+        ensures is { IfOk result (λ ending. outcome_of ending (state_of self.new)
+            ≡ sort_outcome (state_of self.old) list ((state_of self.old).arrays (Arr.ListCoordinates list))
+            ((state_of self.old).arrays (Arr.ListPositions list))) }
+        ensures turns { OnOk result (self.new.turns ≡ self.old.turns) }
+        ensures refused { OnErr result (self.new ≡ self.old) }
+    {
+        let Some(coordinates) = self.array(Arr::ListCoordinates(list)) else {
+            return Ok(Ending::Stuck);
+        };
+        let Some(positions) = self.array(Arr::ListPositions(list)) else {
+            return Ok(Ending::Stuck);
+        };
+        if coordinates.len() != positions.len() {
+            return Ok(Ending::Stuck);
+        }
+        let mut rows = rows_of_list(self.alloc, coordinates, positions)?;
+        sort_rows(&mut rows)?;
+        let coordinates = coordinates_of(self.alloc, rows.as_slice())?;
+        let positions = positions_of(self.alloc, rows.as_slice())?;
+        self.replace(Arr::ListCoordinates(list), coordinates);
+        self.replace(Arr::ListPositions(list), positions);
+        Ok(Ending::Ended)
+    }
+
+    /// The words of an array, and no words where it doesn't exist.
+    fn words_of(&self, a: Arr) -> &[u64]
+        requires { may_write a ≡ true }
+        ensures { result.now ≡ unwrap_or ((state_of self.now).arrays a) [] }
+    {
+        match self.array(a) {
+            Some(words) => words,
+            None => &[],
+        }
+    }
+
+    /// The key columns of a workspace, if each has so many words.
+    fn key_columns(
+        &self,
+        workspace: u64,
+        keys: u64,
+        count: usize,
+    ) -> Result<Option<Vec<&[u64]>>, AllocError>
+        ensures { IfOk result (λ columns. option_map (λ cs. map (λ c. c.now) cs.items) columns
+            ≡ key_columns (state_of self.now) workspace count keys) }
+    {
+        let mut columns = Vec::new(self.alloc);
+        for k in 0..keys {
+            let Some(column) = self.array(Arr::Key(workspace, k)) else {
+                return Ok(None);
+            };
+            if column.len() != count {
+                return Ok(None);
+            }
+            columns.push(column)?;
+        }
+        Ok(Some(columns))
+    }
+
+    /// Replaces each key column by its words at the places of rows.
+    fn pick_columns(
+        &mut self,
+        workspace: u64,
+        keys: u64,
+        rows: &[PlacedRow],
+    ) -> Result<(), AllocError>
+        ensures is { OnOk result ((columns : List (List ℕ)) (count : ℕ)
+            → key_columns (state_of self.old) workspace count keys ≡ Some columns
+            → state_of self.new ≡ set_columns (state_of self.old) workspace (map (row_of columns) rows.now) keys) }
+        ensures turns { OnOk result (self.new.turns ≡ self.old.turns) }
+    {
+        for k in 0..keys {
+            let name = Arr::Key(workspace, k);
+            let column = words_at(self.alloc, self.words_of(name), rows)?;
+            self.replace(name, column);
+        }
+        Ok(())
+    }
+
+    /// Sorts the rows of a workspace by their keys, and adds the values of those with equal keys.
+    pub(crate) fn sort_sum<S: Semiring>(
+        &mut self,
+        workspace: u64,
+        workspaces: &[u64],
+    ) -> Result<Ending, AllocError>
+        ensures is { IfOk result (λ ending. outcome_of ending (state_of self.new)
+            ≡ sort_sum_outcome S.arithmetic (state_of self.old) workspace (slice_get workspaces.now workspace)
+            ((state_of self.old).arrays (Arr.Sums workspace))) }
+        ensures turns { OnOk result (self.new.turns ≡ self.old.turns) }
+    {
+        let Some(keys) = number_of_keys(workspaces, workspace) else {
+            return Ok(Ending::Stuck);
+        };
+        let Some(values) = self.array(Arr::Sums(workspace)) else {
+            return Ok(Ending::Stuck);
+        };
+        let Some(columns) = self.key_columns(workspace, keys, values.len())? else {
+            return Ok(Ending::Stuck);
+        };
+        let rows = sum_rows::<S>(self.alloc, columns.as_slice(), values)?;
+        drop(columns);
+        let sums = values_of(self.alloc, rows.as_slice())?;
+        self.pick_columns(workspace, keys, rows.as_slice())?;
+        self.replace(Arr::Sums(workspace), sums);
+        Ok(Ending::Ended)
+    }
+}

@@ -1,0 +1,56 @@
+-- What code reads of a level that is sought.
+use Rattle.std.specs.Prelude.{◌≡◌, ℕ, zero, suc, ◌+◌, ◌-◌, ◌<◌, List, [], ◌∷◌, length, Some, slice_get, slice_index}
+use Rattle.std.specs.Prelude.{slice_index_or, refl}
+use Rattle.std.proofs.Common.{◌∙◌, sym, ap, subst, arith}
+use Rattle.std.proofs.lemmas.Option.{slice_get-get_or}
+use Rattle.format_spec.specs.declared.format.FormatLevel.{FormatLevel}
+use Rattle.format_spec.specs.Formats.{modes_of}
+use Rattle.iteration_graph.specs.Edges.{by_level, format_of, HasFormat}
+use Rattle.index_notation.specs.declared.syntax.Access.{Access}
+use Rattle.index_notation.specs.declared.syntax.Statement.{Statement}
+use Rattle.lists.specs.Each.{Each}
+use Rattle.loop_code.specs.declared.loops.Seek.{Seek}
+use Rattle.lowering.specs.Layouts.{at_level, layout_of, variables_of}
+use Rattle.lowering.proofs.Steps.{format_read, level_variable}
+use Rattle.level_location.specs.Walked.{IsLevel}
+
+-- what is read of a list is an element of it
+pub get_read : {X : Type 0} (xs : List X) (i : ℕ) (x : X) → i < length xs → x ≡ slice_index_or xs i x → slice_get xs i ≡ Some x
+get_read xs i x l read = slice_get-get_or xs i x l ∙ ap Some (sym read)
+
+each_at : {X : Type 0} (P : X → Type 0) (xs : List X) (i : ℕ) (x : X) → Each P xs → i < length xs → x ≡ slice_index_or xs i x → P x
+each_at P [] i x h l read = absurd (omega (arith, l))
+each_at P (y ∷ ys) zero x h l read = subst P (sym read) h.0
+each_at P (y ∷ ys) (suc i) x h l read = each_at P ys i x h.1 (omega (arith, l)) read
+
+-- an access and its format as code reads them
+pub record IsRead (s : Statement) (formats : List (List FormatLevel)) (seek : Seek) (access : Access) (format : List FormatLevel)
+    : Type 0 where
+  pub there : slice_get s.accesses seek.access ≡ Some access
+  pub format_is : format ≡ format_of formats access.tensor
+  pub order : length format ≡ length access.vars
+
+pub is_read : (s : Statement) (formats : List (List FormatLevel)) (seek : Seek) (access : Access) (format : List FormatLevel)
+    → Each (HasFormat formats) s.accesses → IsLevel s formats seek → access ≡ slice_index_or s.accesses seek.access access
+    → format ≡ slice_index_or formats access.tensor format → IsRead s formats seek access format
+is_read s formats seek access format each is read same =
+    let format_is = format_read formats s.accesses seek.access access format each is.access read same in
+    let has = each_at (HasFormat formats) s.accesses seek.access access each is.access read in record {
+      there = get_read s.accesses seek.access access is.access read;
+      format_is = format_is;
+      order = ap length format_is ∙ has.order;
+    }
+
+pub variable_read : (s : Statement) (formats : List (List FormatLevel)) (seek : Seek) (access : Access) (format : List FormatLevel)
+    (mode variable : ℕ) → IsLevel s formats seek → IsRead s formats seek access format
+    → slice_get (modes_of format) (seek.level - 1) ≡ Some mode → variable ≡ slice_index access.vars mode
+    → variable ≡ (layout_of s formats).variable seek.access seek.level
+variable_read s formats seek access format mode variable is r h read =
+    let first = is.first in
+    let level : suc (seek.level - 1) ≡ seek.level = omega (arith, first) in
+    let at : seek.level - 1 + 1 - 1 ≡ seek.level - 1 = omega arith in
+    read
+    ∙ level_variable access.vars (modes_of format) (seek.level - 1) mode 0 0 (ap (slice_get (modes_of format)) at ∙ h) refl
+    ∙ ap (λ n. at_level (by_level format access.vars) n 0) level
+    ∙ ap (λ f. at_level (by_level f access.vars) seek.level 0) r.format_is
+    ∙ ap (λ o. at_level (variables_of formats o) seek.level 0) (sym r.there)

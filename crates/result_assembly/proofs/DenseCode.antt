@@ -1,0 +1,155 @@
+-- The code of a dense level: nothing is stored, but a count of positions that passes the limit is refused.
+use Rattle.std.specs.Prelude.{◌≡◌, ◌⊎◌, ℕ, suc, ◌+◌, ◌*◌, ◌≤◌, ◌<◌, ◌^◌, nat_le, true, false, List, [], ◌∷◌, ◌++◌, drop, length, Some, refl}
+use Rattle.std.specs.Prelude.{slice_index}
+use Rattle.std.proofs.Common.{◌∙◌, sym, ap, subst, arith, inl, inr, lit<}
+use Rattle.std.proofs.Math.Nat.{mul-le-mul}
+use Rattle.std.proofs.lemmas.Bool.{cases_lt}
+use Rattle.std.proofs.lemmas.Bool.Decides.{nat_tests}
+use Rattle.limits.specs.Limits.{greatest_position_count}
+use Rattle.kernel_code.specs.Arrays.{may_have, word_count}
+use Rattle.kernel_code.specs.Does.{Does}
+use Rattle.kernel_code.proofs.Does.{does_weaker, does_nothing, does_set, does_extend, does_if_yes, does_if_no}
+use Rattle.kernel_code.specs.Keeps.{Below, EveryArray}
+use Rattle.kernel_code.proofs.Keeps.{this_var, other_var, value_kept}
+use Rattle.kernel_code.proofs.Words.{product_is, word_is, less_yes, less_no}
+use Rattle.kernel_code.specs.Meaning.{Setting, State, value, set_var}
+use Rattle.kernel_code.specs.Widths.{slot_width}
+use Rattle.kernel_code.specs.declared.syntax.Arr.TheVariants.{Key, Values, Dimension}
+use Rattle.kernel_code.specs.declared.syntax.KExpr.{KExpr, Num, Var, At, Bin}
+use Rattle.kernel_code.specs.declared.syntax.KStmt.{KStmt, Set, Extend}
+use Rattle.kernel_code.specs.declared.syntax.Op.TheVariants.{Mul, Less}
+use Rattle.level_core.specs.declared.letter.Letter.{Letter}
+use Rattle.level_core.specs.declared.letter.Letter.TheVariants.{Dense}
+use Rattle.level_rows.specs.Rows.{Rows}
+use Rattle.level_rows.specs.Placing.{PlacesRows}
+use Rattle.tensor_storage.specs.Chains.{chain_length}
+use Rattle.tensor_storage.specs.Counts.{positions_from}
+use Rattle.tensor_storage.specs.Levels.{meaning}
+use Rattle.tensor_storage.specs.Tables.{Table}
+use Rattle.tensor_storage.proofs.Tables.{apart}
+use Rattle.result_assembly.specs.Drained.{passes_at, MayDrain, AreDrained, LeavesLevel, RefusesLevel}
+use Rattle.result_assembly.specs.Tests.{begins_test, guard_code}
+use Rattle.result_assembly.proofs.HashedCode.{still_drained}
+use Rattle.result_assembly.proofs.Inserted.{inserted, told_level, needed_is}
+use Rattle.result_assembly.proofs.Steps.{size_here, rows_here, small, starts_here}
+use Rattle.result_assembly.proofs.Turns.{times_of, pass_here, none_then_placed, counted_few, counted_above}
+
+-- a product of two counts of positions fits a word
+counts_multiply : greatest_position_count * greatest_position_count < 2 ^ 62
+unfolding greatest_position_count
+counts_multiply = lit< tt
+
+module _ (letters rest : List Letter) (w g d n base : ℕ) (count : KExpr) (insert : List KStmt) (bounded : Below base count)
+    (left : drop d letters ≡ Dense ∷ rest) (through : n ≡ d + chain_length (Dense ∷ rest))
+    (places : PlacesRows meaning Dense (suc d) (base + 1) w g count (Num 0) (begins_test (base + 1) w n)
+    (At (Key w d) (Var (base + 1))) insert)
+    (c : Setting) (nothing : ℕ) (sizes : List ℕ) (table : Table) (may : MayDrain letters sizes table)
+    (s : State) (dr : AreDrained nothing letters sizes table w g d count s) where
+  abbrev rows : Rows
+  rows = rows_here letters rest Dense w g d n count left through nothing sizes table may s dr
+
+  abbrev size : ℕ
+  size = size_here letters rest Dense w g d n count left through nothing sizes table may s dr
+
+  abbrev total : ℕ
+  total = dr.parents * size
+
+  fits_word : total < 2 ^ 64
+  fits_word =
+      let m = mul-le-mul dr.few (small letters rest Dense w g d n count left through nothing sizes table may s dr) in
+      let l = counts_multiply in omega (arith, m, l)
+
+  total_told : value (Bin Mul count (At (Dimension 0 (suc d)) (Num 0))) s ≡ Some total
+  total_told =
+      product_is count (At (Dimension 0 (suc d)) (Num 0)) dr.parents size s dr.told
+      (word_is (Dimension 0 (suc d)) (Num 0) (size ∷ []) 0 size s
+      (starts_here letters rest Dense w g d n count left through nothing sizes table may s dr).0 refl refl) fits_word
+
+  abbrev then : State
+  then = set_var s base total
+
+  drained_then : AreDrained nothing letters sizes table w g d count then
+  drained_then = still_drained nothing letters sizes table w g d count s then dr refl
+      (value_kept (λ y. y < base) EveryArray count s then bounded
+      (λ y less. other_var s base y total (λ e. absurd (omega (arith, e, less)))) (λ a every. refl))
+
+  inserts : total ≤ greatest_position_count
+      → Does c insert then (LeavesLevel nothing letters sizes table w g d base s) (RefusesLevel letters sizes table d s)
+  unfolding drained_then
+  inserts fits =
+      does_weaker c insert then _ _ _ _
+      (inserted letters rest Dense w g d n base count (Num 0) left through refl nothing sizes table may
+      then drained_then 0 (λ sparse. apart sparse) (λ full. refl) total (this_var s base total) (λ h. refl) c insert places refl
+      (omega arith)
+      (λ full. fits))
+      (λ u z. record {
+        drained = z.0;
+        probes = times_of (slot_width 0) rows.count;
+        leaves = record {
+          below = λ y less no. z.1.below y (omega (arith, less)) no ∙ other_var s base y total (λ e. absurd (omega (arith, e, less)));
+          arrays = λ a st. z.1.arrays a st;
+          turns = λ k. none_then_placed (s.turns k) (u.turns k) (passes_at letters d) rows.count (slot_width 0) k
+              (pass_here letters rest Dense d rows.count left) (z.1.turns k);
+        };
+      })
+      (λ turns a k r. (
+        times_of (slot_width 0) rows.count,
+        (
+          (λ j. none_then_placed (s.turns j) (turns j) (passes_at letters d) rows.count (slot_width 0) j
+              (pass_here letters rest Dense d rows.count left) (r.0 j)),
+          r.1,
+        ),
+      ))
+
+  guarded : Does c (guard_code base ++ insert) then (LeavesLevel nothing letters sizes table w g d base s)
+      (RefusesLevel letters sizes table d s)
+  guarded = by_limit (cases_lt greatest_position_count total)
+    where
+      by_limit : (greatest_position_count < total) ⊎ (total ≤ greatest_position_count)
+          → Does c (guard_code base ++ insert) then (LeavesLevel nothing letters sizes table w g d base s)
+          (RefusesLevel letters sizes table d s)
+      by_limit (inl above) =
+          does_if_yes c (Bin Less (Num greatest_position_count) (Var base)) (Extend (Values 0) (Var base) (Num 0) ∷ []) [] insert then 0
+          (λ t. ⊥) _ _ (less_yes (Num greatest_position_count) (Var base) greatest_position_count total
+          then refl (this_var s base total) above)
+          (does_extend c (Values 0) (Var base) (Num 0) [] then total 0 [] (λ t. ⊥) (RefusesLevel letters sizes table d s)
+          (this_var s base total) refl refl dr.values (λ may. too_many may)
+          (λ no. (
+            0,
+            (
+              (λ k. omega arith),
+              record {
+                array = inr refl;
+                above = counted_above total (word_count (0 + total)) none_more above;
+                within = at_most;
+              },
+            ),
+          )))
+          (λ t never. absurd never)
+        where
+          too_many : {A : Type 0} → may_have (Values 0) (length {A = ℕ} [] + total) ≡ true → A
+          too_many e = let is : nat_le (0 + total) greatest_position_count ≡ false = grind (arith, nat_tests) in apart (sym e ∙ is)
+
+          none_more : word_count (0 + total) ≡ word_count total
+          none_more = let same : 0 + total ≡ total = omega arith in ap word_count same
+
+          at_most : word_count (0 + total) ≤ slice_index (positions_from table 0 1 letters sizes) d
+          at_most =
+              let f = counted_few total (word_count (0 + total)) none_more in
+              let told = told_level letters rest Dense w g d n base count (Num 0) left through refl nothing sizes table may
+              s dr 0 (λ sparse. apart sparse) (λ full. refl) in
+              let same = needed_is letters rest Dense w g d n base count (Num 0) left through refl nothing sizes table may
+              s dr 0 (λ sparse. apart sparse) (λ full. refl) in
+              omega (arith, f, told, same)
+      by_limit (inr fits) =
+          does_if_no c (Bin Less (Num greatest_position_count) (Var base)) (Extend (Values 0) (Var base) (Num 0) ∷ []) [] insert then
+          (λ t. t ≡ then) _ _
+          (less_no (Num greatest_position_count) (Var base) greatest_position_count total then refl (this_var s base total) fits)
+          (does_nothing c then _ _ refl)
+          (λ t is. subst (λ u. Does c insert u (LeavesLevel nothing letters sizes table w g d base s)
+          (RefusesLevel letters sizes table d s))
+          (sym is) (inserts fits))
+
+  pub dense : Does c (Set base (Bin Mul count (At (Dimension 0 (suc d)) (Num 0))) ∷ (guard_code base ++ insert)) s
+      (LeavesLevel nothing letters sizes table w g d base s) (RefusesLevel letters sizes table d s)
+  dense = does_set c base (Bin Mul count (At (Dimension 0 (suc d)) (Num 0))) (guard_code base ++ insert) s total _ _ total_told guarded
