@@ -50,10 +50,18 @@ fn tell_copy_in_memory(answer: &mut Answer, text: &[u8]) -> Option<()> {
     answer.quote(folder.bytes(NAME).unwrap_or(b"none"));
     answer.tell(" ");
     answer.quote(sink.written());
-    let added = folder.add_file(NAME, b"other");
-    answer.made(added)?;
+    answer.note(folder.add_file(NAME, b"other"));
     answer.tell(" ");
     answer.quote(folder.bytes(NAME).unwrap_or(b"none"));
+    Some(())
+}
+
+/// Removes the file, and tells what a read answers then.
+fn tell_removed<R: Files, F: Folder>(rt: &R, answer: &mut Answer, folder: &mut F) -> Option<()> {
+    fs::remove_file(rt, NAME).ok()?;
+    answer.tell(", removed ");
+    let mut eaten = Vec::new(answer.alloc());
+    answer.show(read_through(folder, NAME, 100, &mut eaten));
     Some(())
 }
 
@@ -66,11 +74,7 @@ fn tell_real_copy<R: Files + Print + AllocGlobal>(
     let mut folder = RealFolder::new(rt.alloc(), rt);
     let mut sink = StdSink::new(io::writer(rt));
     tell_copy(answer, &mut folder, &mut sink, text)?;
-    fs::remove_file(rt, NAME).ok()?;
-    answer.tell(", removed ");
-    let mut eaten = Vec::new(rt.alloc());
-    answer.show(read_through(&mut folder, NAME, 100, &mut eaten));
-    Some(())
+    tell_removed(rt, answer, &mut folder)
 }
 
 /// Each claim is the contract of a call that does nothing.

@@ -14,19 +14,16 @@ use tensor_map::{Entries, Ring};
 use tns_io::{FileFault, TnsReader, put_tns};
 
 /// The text, behind a comment of as many bytes as the head's second number says.
-fn file_text(answer: &mut Answer, case: Scripted<'_>) -> Option<Vec<u8>> {
+fn file_text(answer: &mut Answer, case: Scripted<'_>) -> Vec<u8> {
     let mut text = Vec::new(answer.alloc());
     if let Some(length) = case.numbers.get(1) {
         for _ in 0..*length {
-            let pushed = text.push(b'#');
-            answer.made(pushed)?;
+            answer.note(text.push(b'#'));
         }
-        let pushed = text.push(b'\n');
-        answer.made(pushed)?;
+        answer.note(text.push(b'\n'));
     }
-    let added = text.extend_from_slice(case.text);
-    answer.made(added)?;
-    Some(text)
+    answer.note(text.extend_from_slice(case.text));
+    text
 }
 
 fn order_of(case: Scripted<'_>) -> Option<usize>
@@ -73,7 +70,7 @@ fn tell_entries(answer: &mut Answer, entries: &Entries) {
     answer.tell(".");
 }
 
-fn tell_read(answer: &mut Answer, read: Result<Entries, FileFault>) -> Option<()> {
+fn tell_read(answer: &mut Answer, read: Result<Entries, FileFault>) {
     match read {
         Ok(entries) => tell_entries(answer, &entries),
         Err(FileFault::Line { line, kind }) => {
@@ -82,23 +79,22 @@ fn tell_read(answer: &mut Answer, read: Result<Entries, FileFault>) -> Option<()
             answer.tell(": ");
             answer.show(kind);
         }
-        Err(FileFault::Memory(error)) => return answer.made(Err(error)),
+        Err(FileFault::Memory(error)) => answer.note(Err(error)),
     }
-    Some(())
 }
 
 /// What is read, which is the same in pieces of one, two and 4,096 bytes.
 fn tell_tns(answer: &mut Answer, case: Scripted<'_>) -> Option<()> {
     let order = order_of(case)?;
-    let text = file_text(answer, case)?;
+    let text = file_text(answer, case);
     let alloc = answer.alloc();
-    tell_read(answer, read_in_pieces(alloc, order, text.as_slice(), 4_096))?;
+    tell_read(answer, read_in_pieces(alloc, order, text.as_slice(), 4_096));
     for length in 1..3 {
         let mut other = Answer::new(alloc);
         tell_read(
             &mut other,
             read_in_pieces(alloc, order, text.as_slice(), length),
-        )?;
+        );
         if other.as_str() != answer.as_str() {
             return None;
         }

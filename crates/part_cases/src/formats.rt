@@ -24,8 +24,7 @@ pub(crate) fn format_of(
 /// The format's text, written in pieces, its levels from the top, and whether all are dense.
 fn tell_levels(answer: &mut Answer, format: &Format) -> Option<()> {
     let mut sink = MemSink::new(answer.alloc());
-    let cut = sink.cut_into(&[1, 4]);
-    answer.made(cut)?;
+    answer.note(sink.cut_into(&[1, 4]));
     let put = format.put_format(&mut sink);
     answer.made(put)?;
     answer.tell(str::from_utf8(sink.written()).ok()?);

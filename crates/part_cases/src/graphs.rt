@@ -14,8 +14,7 @@ fn edges_of(answer: &mut Answer, words: &str) -> Option<Vec<(usize, usize)>> {
     let mut edges = Vec::new(answer.alloc());
     for word in words.split_whitespace() {
         let (from, to) = word.split_once('-')?;
-        let added = edges.push((from.parse::<usize>().ok()?, to.parse::<usize>().ok()?));
-        answer.made(added)?;
+        answer.note(edges.push((from.parse::<usize>().ok()?, to.parse::<usize>().ok()?)));
     }
     Some(edges)
 }
@@ -73,8 +72,8 @@ pub(crate) fn formats_for(
     let mut formats = Vec::new(answer.alloc());
     for word in words.split_whitespace() {
         let word = if word == "-" { "" } else { word };
-        let added = formats.push(format_of(answer, word, None)?.ok()?);
-        answer.made(added)?;
+        let format = format_of(answer, word, None)?.ok()?;
+        answer.note(formats.push(format));
     }
     let are_whole = has_format(formats.as_slice(), &statement.left)
         && have_formats(formats.as_slice(), statement.accesses.as_slice());

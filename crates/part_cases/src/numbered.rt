@@ -3,14 +3,15 @@ use case_files::{Answer, keyword_of};
 use index_notation::{Access, Expr, Name, Operator, Statement, binary};
 use trees::Items;
 
-fn names_of(answer: &mut Answer, count: u64) -> Option<Items<Name>> {
+fn names_of(answer: &mut Answer, count: u64) -> Items<Name> {
     let mut names = Items::new(answer.alloc());
     for _ in 0..count {
-        let bytes = Items::from_slice(answer.alloc(), b"n").ok()?;
-        let added = names.push(Name { bytes });
-        answer.made(added)?;
+        let bytes = Items::from_slice(answer.alloc(), b"n");
+        if let Some(bytes) = answer.made(bytes) {
+            answer.note(names.push(Name { bytes }));
+        }
     }
-    Some(names)
+    names
 }
 
 /// An access `TENSOR VARIABLE ..`.
@@ -18,8 +19,7 @@ fn access_of(answer: &mut Answer, text: &str) -> Option<Access> {
     let (tensor, words) = keyword_of(text.trim());
     let mut vars = Items::new(answer.alloc());
     for word in words.split_whitespace() {
-        let added = vars.push(word.parse::<usize>().ok()?);
-        answer.made(added)?;
+        answer.note(vars.push(word.parse::<usize>().ok()?));
     }
     let tensor = tensor.parse::<usize>().ok()?;
     Some(Access { tensor, vars })
@@ -42,15 +42,15 @@ pub(crate) fn tell_numbered(answer: &mut Answer, text: &str) -> Option<()> {
     let [tensors, vars, factors] = counts.as_slice() else {
         return None;
     };
+    let expr = product_of(answer, *factors)?;
     let left = access_of(answer, parts.next()?)?;
     let mut accesses = Items::new(answer.alloc());
     for part in parts {
-        let added = accesses.push(access_of(answer, part)?);
-        answer.made(added)?;
+        let access = access_of(answer, part)?;
+        answer.note(accesses.push(access));
     }
-    let tensors = names_of(answer, *tensors)?;
-    let vars = names_of(answer, *vars)?;
-    let expr = product_of(answer, *factors)?;
+    let tensors = names_of(answer, *tensors);
+    let vars = names_of(answer, *vars);
     let statement = Statement::new(tensors, vars, left, accesses, expr);
     answer.tell("numbered ");
     answer.show(&statement.is_numbered());

@@ -13,14 +13,10 @@ impl Steps for Items<u64> {
                 if word == "slice" {
                     *self = items;
                 } else {
-                    let appended = self.append(items);
-                    answer.made(appended)?;
+                    answer.note(self.append(items));
                 }
             }
-            "push" => {
-                let pushed = self.push(first);
-                answer.made(pushed)?;
-            }
+            "push" => answer.note(self.push(first)),
             "set" => {
                 if first as usize >= self.len() {
                     return None;
@@ -64,31 +60,26 @@ enum Tree {
 }
 
 /// Adds the numbers of a tree's leaves, from the left.
-fn add_leaves(answer: &mut Answer, tree: &Tree, leaves: &mut Items<u64>) -> Option<()> {
+fn add_leaves(answer: &mut Answer, tree: &Tree, leaves: &mut Items<u64>) {
     match tree {
-        Tree::Leaf(number) => {
-            let pushed = leaves.push(*number);
-            answer.made(pushed)?;
-        }
+        Tree::Leaf(number) => answer.note(leaves.push(*number)),
         Tree::Pair(first, second) => {
-            add_leaves(answer, first.get(), leaves)?;
-            add_leaves(answer, second.get(), leaves)?;
+            add_leaves(answer, first.get(), leaves);
+            add_leaves(answer, second.get(), leaves);
         }
         Tree::Row(row) => {
             for child in row.as_slice() {
-                add_leaves(answer, child, leaves)?;
+                add_leaves(answer, child, leaves);
             }
         }
     }
-    Some(())
 }
 
 /// The row of the last so many trees that wait.
 fn row_of(answer: &mut Answer, waiting: &mut Vec<Tree>, count: u64) -> Option<Tree> {
     let mut children = Vec::new(answer.alloc());
     for _ in 0..count {
-        let pushed = children.push(waiting.pop()?);
-        answer.made(pushed)?;
+        answer.note(children.push(waiting.pop()?));
     }
     children.reverse();
     Some(Tree::Row(Items::from_vec(children)))
@@ -114,11 +105,10 @@ pub(crate) fn tell_tree(answer: &mut Answer, words: &str) -> Option<()> {
     let mut waiting = Vec::new(answer.alloc());
     for word in words.split_whitespace() {
         let tree = tree_of(answer, &mut waiting, word)?;
-        let pushed = waiting.push(tree);
-        answer.made(pushed)?;
+        answer.note(waiting.push(tree));
     }
     let mut leaves = Items::new(answer.alloc());
-    add_leaves(answer, &waiting.pop()?, &mut leaves)?;
+    add_leaves(answer, &waiting.pop()?, &mut leaves);
     answer.tell("leaves ");
     answer.show(leaves.as_slice());
     Some(())

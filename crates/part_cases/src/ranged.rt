@@ -4,24 +4,22 @@ use expr_terms::{Bound, ranges};
 use index_notation::Statement;
 
 /// The range of each variable, where it is given one.
-fn given_of(answer: &mut Answer, words: &str) -> Option<Vec<Option<u64>>> {
+fn given_of(answer: &mut Answer, words: &str) -> Vec<Option<u64>> {
     let mut given = Vec::new(answer.alloc());
     for word in words.split_whitespace() {
-        let added = given.push(word.parse::<u64>().ok());
-        answer.made(added)?;
+        answer.note(given.push(word.parse::<u64>().ok()));
     }
-    Some(given)
+    given
 }
 
 /// Bounds such as `=4 7`: a size, and a greatest coordinate.
 fn bounds_of(answer: &mut Answer, words: &str) -> Option<Vec<Bound>> {
     let mut bounds = Vec::new(answer.alloc());
     for word in words.split_whitespace() {
-        let added = bounds.push(match word.strip_prefix('=') {
+        answer.note(bounds.push(match word.strip_prefix('=') {
             Some(size) => Bound::Exact(size.parse::<u64>().ok()?),
             None => Bound::AtLeast(word.parse::<u64>().ok()?),
-        });
-        answer.made(added)?;
+        }));
     }
     Some(bounds)
 }
@@ -29,11 +27,11 @@ fn bounds_of(answer: &mut Answer, words: &str) -> Option<Vec<Bound>> {
 /// The ranges of a statement's variables, or their fault.
 pub(crate) fn tell_ranges(answer: &mut Answer, statement: &Statement, text: &str) -> Option<()> {
     let mut parts = text.split('|');
-    let given = given_of(answer, parts.next()?)?;
+    let given = given_of(answer, parts.next()?);
     let mut bounds = Vec::new(answer.alloc());
     for part in parts {
-        let added = bounds.push(bounds_of(answer, part)?);
-        answer.made(added)?;
+        let bounds_there = bounds_of(answer, part)?;
+        answer.note(bounds.push(bounds_there));
     }
     let found = ranges(
         answer.alloc(),

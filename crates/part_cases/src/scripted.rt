@@ -18,30 +18,26 @@ impl Scripted<'_> {
     }
 
     /// A folder that cuts and fails as the case says.
-    pub(crate) fn folder(&self, answer: &mut Answer) -> Option<MemFolder> {
+    pub(crate) fn folder(&self, answer: &mut Answer) -> MemFolder {
         let mut folder = MemFolder::new(answer.alloc());
         for length in self.cuts {
-            let cut = folder.cut_into(&[*length as usize]);
-            answer.made(cut)?;
+            answer.note(folder.cut_into(&[*length as usize]));
         }
         for call in self.fails {
-            let fails = folder.fail_at(*call);
-            answer.made(fails)?;
+            answer.note(folder.fail_at(*call));
         }
-        Some(folder)
+        folder
     }
 
     /// A sink that cuts and fails as the case says.
-    pub(crate) fn sink(&self, answer: &mut Answer) -> Option<MemSink> {
+    pub(crate) fn sink(&self, answer: &mut Answer) -> MemSink {
         let mut sink = MemSink::new(answer.alloc());
         for length in self.cuts {
-            let cut = sink.cut_into(&[*length as usize]);
-            answer.made(cut)?;
+            answer.note(sink.cut_into(&[*length as usize]));
         }
         for call in self.fails {
-            let fails = sink.fail_at(*call);
-            answer.made(fails)?;
+            answer.note(sink.fail_at(*call));
         }
-        Some(sink)
+        sink
     }
 }

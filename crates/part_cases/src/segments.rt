@@ -111,9 +111,9 @@ impl<T: Element> Steps for Segment<T> {
             }
             "reserve" => tell_refusal(answer, self.reserve(size)),
             "append" => tell_refusal(answer, append(self, T::of(first))),
-            "push" => push(self, T::of(first))?,
-            "set" => do_at(answer, self, size, Some(second?))?,
-            "get" => do_at(answer, self, size, None)?,
+            "push" => return push(self, T::of(first)),
+            "set" => return do_at(answer, self, size, Some(second?)),
+            "get" => return do_at(answer, self, size, None),
             "turn" => turn(self),
             "truncate" => self.truncate(size),
             "len" => answer.show_all(&[self.len()]),

@@ -22,8 +22,7 @@ fn entries_of(answer: &mut Answer, text: &str, order: usize) -> Option<Entries> 
             if coords.len() != entries.order() {
                 return None;
             }
-            let pushed = entries.push(coords, *value);
-            answer.made(pushed)?;
+            answer.note(entries.push(coords, *value));
         }
     }
     Some(entries)
@@ -91,8 +90,7 @@ fn add_all(answer: &mut Answer, workspace: &mut CoordWorkspace, pairs: &Entries)
         if coords.len() != workspace.keys() {
             return None;
         }
-        let added = workspace.add(coords, pairs.value(i));
-        answer.made(added)?;
+        answer.note(workspace.add(coords, pairs.value(i)));
     }
     Some(())
 }
@@ -120,8 +118,8 @@ fn tell_drains<S: Semiring>(answer: &mut Answer, order: usize, rounds: &str) -> 
 fn operands_of(answer: &mut Answer, statement: &Statement, text: &str) -> Option<Vec<Entries>> {
     let mut operands = Vec::new(answer.alloc());
     for (access, entries) in statement.accesses.as_slice().iter().zip(text.split('/')) {
-        let pushed = operands.push(entries_of(answer, entries, access.vars.len())?);
-        answer.made(pushed)?;
+        let entries = entries_of(answer, entries, access.vars.len())?;
+        answer.note(operands.push(entries));
     }
     Some(operands)
 }

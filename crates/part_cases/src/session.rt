@@ -9,11 +9,10 @@ use crate::ranged::tell_ranges;
 use crate::scripted::Scripted;
 use crate::segments::{tell_segments, tell_twin};
 use crate::semirings::{tell_entries_or_drains, tell_statement_values, tell_words};
-use crate::statements::{tell_groups, tell_statement};
+use crate::statements::{tell_groups, tell_named, tell_statement};
 use crate::{copies, files, streams, tokens};
 use case_files::{Answer, Cases, keyword_of};
-use expr_terms::check_names;
-use index_notation::Statement;
+use index_notation::{NotationFault, Statement};
 use notation_reader::parse;
 use std::rt::Files;
 
@@ -22,6 +21,14 @@ use std::rt::Files;
 pub(crate) struct Session<'a, R> {
     rt: &'a R,
     statement: Option<Statement>,
+}
+
+/// What is read of a text, once its repetitions and escapes are written out.
+fn parsed(answer: &mut Answer, text: &str) -> Option<Result<Statement, NotationFault>> {
+    let text = answer.repeated(text)?;
+    let bytes = answer.bytes(text.as_str())?;
+    let text = str::from_utf8(bytes.as_slice()).ok()?;
+    Some(parse(answer.alloc(), text))
 }
 
 impl<'a, R: Files + Print + AllocGlobal> Session<'a, R> {
@@ -34,9 +41,7 @@ impl<'a, R: Files + Print + AllocGlobal> Session<'a, R> {
 
     /// Tells the statement of a text, which is kept, or its fault.
     fn read_text(&mut self, answer: &mut Answer, text: &str) -> Option<()> {
-        let text = answer.repeated(text)?;
-        let bytes = answer.bytes(text.as_str())?;
-        match parse(answer.alloc(), str::from_utf8(bytes.as_slice()).ok()?) {
+        match parsed(answer, text)? {
             Ok(statement) => {
                 tell_statement(answer, &statement)?;
                 self.statement = Some(statement);
@@ -44,6 +49,16 @@ impl<'a, R: Files + Print + AllocGlobal> Session<'a, R> {
             Err(fault) => answer.show(&fault),
         }
         Some(())
+    }
+
+    /// Tells what comes of the statement that was kept.
+    fn tell_kept(&self, answer: &mut Answer, keyword: &str, rest: &str) -> Option<()> {
+        let statement = self.statement.as_ref()?;
+        match keyword {
+            "ranges" => tell_ranges(answer, statement, rest),
+            "edges" => tell_edges(answer, statement, rest),
+            _ => tell_form(answer, statement, rest),
+        }
     }
 
     /// Tells what comes of a case `HEAD | TEXT`.
@@ -75,15 +90,9 @@ impl<R: Files + Print + AllocGlobal> Cases for Session<'_, R> {
         let (keyword, rest) = keyword_of(line);
         match keyword {
             "text" => self.read_text(answer, rest),
-            "names" => {
-                let statement = parse(answer.alloc(), rest).ok()?;
-                answer.show(&check_names(&statement));
-                Some(())
-            }
-            "groups" => tell_groups(answer, &parse(answer.alloc(), rest).ok()?),
-            "ranges" => tell_ranges(answer, self.statement.as_ref()?, rest),
-            "edges" => tell_edges(answer, self.statement.as_ref()?, rest),
-            "form" => tell_form(answer, self.statement.as_ref()?, rest),
+            "ranges" | "edges" | "form" => self.tell_kept(answer, keyword, rest),
+            "names" => tell_named(answer, rest),
+            "groups" => tell_groups(answer, rest),
             "graph" => tell_graph(answer, rest),
             "format" | "dense" => tell_format(answer, keyword, rest),
             "numbers" => tell_numbered(answer, rest),

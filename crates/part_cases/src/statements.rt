@@ -1,14 +1,15 @@
 //! Statements and their groups, as they are told.
 use case_files::Answer;
-use expr_terms::{Term, groups};
-use index_notation::{Expr, Name, Operator, Statement, copy_access, copy_expr, copy_name};
+use expr_terms::{Term, check_names, groups};
+use index_notation::{Access, Expr, Name, Operator, Statement, copy_access, copy_expr, copy_name};
+use notation_reader::parse;
 
 /// Each name, by way of a copy.
 fn tell_names(answer: &mut Answer, names: &[Name]) -> Option<()> {
     for name in names {
         let name = copy_name(answer.alloc(), name);
         let name = answer.made(name)?;
-        answer.tell(str::from_utf8(name.bytes.as_slice()).ok()?);
+        answer.escape(name.bytes.as_slice());
         answer.tell(" ");
     }
     answer.tell("| ");
@@ -45,21 +46,24 @@ pub(crate) fn tell_expr(answer: &mut Answer, expr: &Expr) {
     }
 }
 
+/// The tensor and the variables of an access, by way of a copy.
+fn tell_access(answer: &mut Answer, access: &Access) -> Option<()> {
+    let access = copy_access(answer.alloc(), access);
+    let access = answer.made(access)?;
+    answer.show(&access.tensor);
+    answer.show(access.vars.as_slice());
+    Some(())
+}
+
 /// The tensors, the variables, the left access, those of the right side, and the expression, all by way of copies.
 pub(crate) fn tell_statement(answer: &mut Answer, statement: &Statement) -> Option<()> {
     tell_names(answer, statement.tensors.as_slice())?;
     tell_names(answer, statement.vars.as_slice())?;
-    let left = copy_access(answer.alloc(), &statement.left);
-    let left = answer.made(left)?;
-    answer.show(&left.tensor);
-    answer.show(left.vars.as_slice());
+    tell_access(answer, &statement.left)?;
     answer.tell(" =");
     for access in statement.accesses.as_slice() {
-        let access = copy_access(answer.alloc(), access);
-        let access = answer.made(access)?;
         answer.tell(" ");
-        answer.show(&access.tensor);
-        answer.show(access.vars.as_slice());
+        tell_access(answer, access)?;
     }
     answer.tell(" | ");
     let expr = copy_expr(answer.alloc(), &statement.expr);
@@ -82,9 +86,17 @@ fn tell_terms(answer: &mut Answer, terms: &[Term]) {
     answer.tell("\n");
 }
 
-/// The groups of a statement, in order.
-pub(crate) fn tell_groups(answer: &mut Answer, statement: &Statement) -> Option<()> {
-    let groups = groups(answer.alloc(), statement);
+/// Whether the names of a text's statement pass, or their fault.
+pub(crate) fn tell_named(answer: &mut Answer, text: &str) -> Option<()> {
+    let statement = parse(answer.alloc(), text).ok()?;
+    answer.show(&check_names(&statement));
+    Some(())
+}
+
+/// The groups of a text's statement, in order.
+pub(crate) fn tell_groups(answer: &mut Answer, text: &str) -> Option<()> {
+    let statement = parse(answer.alloc(), text).ok()?;
+    let groups = groups(answer.alloc(), &statement);
     let groups = answer.made(groups)?;
     for group in groups.list.as_slice() {
         answer.show(group.vars.as_slice());

@@ -23,7 +23,7 @@ fn tell_outcome<T: Debug + Drop>(answer: &mut Answer, outcome: T, bytes: &[u8], 
 }
 
 fn tell_put(answer: &mut Answer, case: Scripted<'_>) -> Option<()> {
-    let mut sink = case.sink(answer)?;
+    let mut sink = case.sink(answer);
     let text = str::from_utf8(case.text).ok()?;
     let outcome = if text.starts_with('-') {
         put_i64(&mut sink, text.parse::<i64>().ok()?)
@@ -35,9 +35,8 @@ fn tell_put(answer: &mut Answer, case: Scripted<'_>) -> Option<()> {
 }
 
 fn tell_read(answer: &mut Answer, case: Scripted<'_>, name: &str) -> Option<()> {
-    let mut folder = case.folder(answer)?;
-    let added = folder.add_file(NAME, case.text);
-    answer.made(added)?;
+    let mut folder = case.folder(answer);
+    answer.note(folder.add_file(NAME, case.text));
     let mut eaten = Vec::new(answer.alloc());
     let outcome = read_through(&mut folder, name, case.number()?, &mut eaten);
     tell_outcome(answer, outcome, eaten.as_slice(), folder.read_faults());
@@ -61,9 +60,8 @@ fn write_file<F: Folder>(folder: &mut F, name: &str, text: &[u8]) -> Result<(), 
 }
 
 fn tell_write(answer: &mut Answer, case: Scripted<'_>) -> Option<()> {
-    let mut folder = case.folder(answer)?;
-    let added = folder.add_file(NAME, b"before");
-    answer.made(added)?;
+    let mut folder = case.folder(answer);
+    answer.note(folder.add_file(NAME, b"before"));
     let outcome = write_file(&mut folder, NAME, case.text);
     let stands = folder.bytes(NAME).unwrap_or(b"none");
     tell_outcome(answer, outcome, stands, folder.write_faults());
@@ -93,7 +91,7 @@ fn put_batched<S: Sink>(sink: &mut S, text: &[u8]) -> Result<(), Refusal>
 }
 
 fn tell_batch(answer: &mut Answer, case: Scripted<'_>) -> Option<()> {
-    let mut lower = Pieces::new(answer.alloc(), case.sink(answer)?);
+    let mut lower = Pieces::new(answer.alloc(), case.sink(answer));
     let outcome = match case.number()? {
         1 => put_batched(&mut lower, case.text),
         times => put_times(&mut lower, case.text, times),
