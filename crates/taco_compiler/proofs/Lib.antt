@@ -5,4 +5,3 @@ pub mod NoLevels
 pub mod Simplified
 pub mod SparseKernels
 pub mod Targets
-pub mod Words

@@ -17,13 +17,13 @@ emit-requires-clause-places g c =
     let modes = c.in_ok-sink.sink.modes in
     let places = c.in_ok-places.places in
     subst (λ target. PlacesFit s formats places target (length modes) 3) (sym c.as_slice-target.ensures)
-    (places_fit s formats places s.left.vars (length modes) c.requires.numbered c.requires.named c.requires.right
+    (places_fit s formats places s.left.vars (length modes) c.requires.ready.numbered c.requires.ready.named c.requires.ready.right
     c.in_ok-places.ensures.variables c.in_ok-places.ensures.accesses
-    (left_is_target s formats modes c.requires.numbered c.requires.left c.in_ok-sink.ensures))
+    (left_is_target s formats modes c.requires.ready.numbered c.requires.ready.left c.in_ok-sink.ensures))
 
 pub emit-requires-clause-loops : goal.emit-requires-clause-loops
 emit-requires-clause-loops g c =
-    loops_fit g.S.Semiring.has_minus c.args.statement.now c.args.formats.now c.args.order.now c.in_ok-loops.loops c.requires.numbered
+    loops_fit g.S.Semiring.has_minus c.args.statement.now c.args.formats.now c.args.order.now c.in_ok-loops.loops c.requires.ready.numbered
     c.requires.meant c.in_ok-loops.ensures
 
 pub returns : goal.returns
@@ -33,12 +33,12 @@ returns g c =
     let sink = c.in_ok-sink.sink in
     let places = c.in_ok-places.places in
     let loops = c.in_ok-loops.loops in
-    let result = c.requires.named.result in
+    let result = c.requires.ready.named.result in
     dense_compiled g.S.Semiring.arithmetic g.met.S.Semiring.laws s formats (record {
-      numbered = c.requires.numbered;
-      named = c.requires.named;
-      left = c.requires.left;
-      read = c.requires.right;
+      numbered = c.requires.ready.numbered;
+      named = c.requires.ready.named;
+      left = c.requires.ready.left;
+      read = c.requires.ready.right;
       dense = subst (λ t. AreAllDense (format_of formats t)) result c.requires.dense;
     }) c.args.order.now loops c.in_ok-loops.ensures sink (c.in_ok-sink.ensures ∙ ap (λ t. modes_of (format_of formats t)) result) places
     c.in_ok-places.ensures.accesses c.in_ok-body.body c.in_ok-code.code c.in_ok-body.ensures 3

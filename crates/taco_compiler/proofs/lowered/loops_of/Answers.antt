@@ -7,12 +7,15 @@ use Rattle.taco_compiler.proofs.lowered.loops_of.Goals as goal
 pub concretize-requires-clause-order : goal.concretize-requires-clause-order
 concretize-requires-clause-order c =
     is_order_of (length c.args.statement.now.vars) (statement_edges c.args.statement.now c.args.formats.now) c.args.order.now
-    c.requires.order
+    c.requires.is_order
+
+pub lower-requires-clause-formed : goal.lower-requires-clause-formed
+lower-requires-clause-formed c = c.requires.formed.1
 
 pub returns : goal.returns
 returns c = record {
   concrete = c.in_ok-concrete.concrete;
-  is_order = c.requires.order;
+  is_order = c.requires.is_order;
   terms = c.in_ok-concrete.ensures.terms;
   shares = c.in_ok-concrete.ensures.shared;
   none = c.in_ok-concrete.ensures.workspaces.none
@@ -22,5 +25,5 @@ returns c = record {
   placed = c.in_ok-loops.ensures.placed;
   found = c.in_ok-loops.ensures.found;
   needed = c.in_ok-loops.ensures.needed;
-  words = c.terms_have_words.ensures;
+  words = c.in_ok-loops.ensures.words;
 }

@@ -17,22 +17,22 @@ emit-requires-clause-places g c =
     let order = c.args.order.now in
     let left = c.in_ok-left.left in
     let places = c.in_ok-places.places in
-    let result = c.requires.named.result in
+    let result = c.requires.ready.named.result in
     subst (λ target. PlacesFit s formats places target (length target) 3) (sym c.as_slice-target.ensures)
-    (places_fit s formats places left (length left) c.requires.numbered c.requires.named c.requires.right
+    (places_fit s formats places left (length left) c.requires.ready.numbered c.requires.ready.named c.requires.ready.right
     c.in_ok-places.ensures.variables c.in_ok-places.ensures.accesses
     (subst (λ keys. IsTarget s keys (length left)) (sym c.in_ok-left.ensures)
     (keys_are_target s formats (record {
-      numbered = c.requires.numbered;
-      named = c.requires.named;
-      left = c.requires.left;
-      format = subst (λ t. IsFormat (format_of formats t)) result c.requires.format;
+      numbered = c.requires.ready.numbered;
+      named = c.requires.ready.named;
+      left = c.requires.ready.left;
+      format = subst (λ t. IsFormat (format_of formats t)) result c.requires.ready.formed.0;
       some = λ dense. c.requires.some (subst (λ t. AreAllDense (format_of formats t)) (sym result) dense);
-    }) order c.requires.order (length left) (ap length (sym c.in_ok-left.ensures)))))
+    }) order c.requires.ready.is_order (length left) (ap length (sym c.in_ok-left.ensures)))))
 
 pub emit-requires-clause-loops : goal.emit-requires-clause-loops
 emit-requires-clause-loops g c =
-    loops_fit g.S.Semiring.has_minus c.args.statement.now c.args.formats.now c.args.order.now c.in_ok-loops.loops c.requires.numbered
+    loops_fit g.S.Semiring.has_minus c.args.statement.now c.args.formats.now c.args.order.now c.in_ok-loops.loops c.requires.ready.numbered
     c.requires.meant c.in_ok-loops.ensures
 
 pub returns : goal.returns

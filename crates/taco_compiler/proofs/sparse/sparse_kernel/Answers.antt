@@ -7,22 +7,19 @@ use Rattle.taco_compiler.specs.Filling.{FillsFromRows}
 use Rattle.taco_compiler.proofs.SparseKernels.{sparse_compiled}
 use Rattle.taco_compiler.proofs.sparse.sparse_kernel.Goals as goal
 
-pub push_rows-requires-clause-format : goal.push_rows-requires-clause-format
-push_rows-requires-clause-format g c = c.in_ok-fill.ensures.keeps
-
 pub returns : goal.returns
 returns g c =
     let s = c.args.statement.now in
     let formats = c.args.formats.now in
-    let result = c.requires.named.result in
+    let result = c.requires.ready.named.result in
     let a = g.S.Semiring.arithmetic in
     let pushes = c.in_ok-code.ensures in
     sparse_compiled a g.met.S.Semiring.laws s formats (record {
-      numbered = c.requires.numbered;
-      named = c.requires.named;
-      left = c.requires.left;
-      read = c.requires.right;
-      format = subst (λ t. IsFormat (format_of formats t)) result c.in_ok-fill.ensures.keeps;
+      numbered = c.requires.ready.numbered;
+      named = c.requires.ready.named;
+      left = c.requires.ready.left;
+      read = c.requires.ready.right;
+      format = subst (λ t. IsFormat (format_of formats t)) result c.requires.ready.formed.0;
       some = λ dense. c.requires.some (subst (λ t. AreAllDense (format_of formats t)) (sym result) dense);
     }) c.args.order.now pushes.loops pushes.are pushes.places pushes.at c.in_ok-body.body c.in_ok-code.code c.in_ok-fill.fill
     c.in_ok-body.ensures 3 pushes.adds
