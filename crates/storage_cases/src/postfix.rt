@@ -1,20 +1,18 @@
 //! Kernels from words that each take what they need from those before. Each call answers none where a word isn't one, where what it
 //! takes is missing, or for want of memory.
 use crate::names::{LOOPS, OPERATORS, array, named};
-use kernel_code::{KExpr, KStmt, Kernel, ValueOp};
+use kernel_code::{Arr, KExpr, KStmt, Kernel, LoopKind, ValueOp};
 use std::alloc::Global;
 use std::mem;
 use trees::{Boxed, Items};
 
-/// A kernel so far: expressions and bodies that wait to be taken, the innermost body that is open, and those around it.
+/// A kernel so far, whose body is the innermost one that is open; those around it; and expressions and bodies that wait to be taken.
 #[derive(Drop)]
 pub(crate) struct Postfix {
     alloc: Global,
-    workspaces: Items<u64>,
-    lists: u64,
+    kernel: Kernel,
     operands: Items<KExpr>,
     bodies: Items<Items<KStmt>>,
-    body: Items<KStmt>,
     outer: Items<Items<KStmt>>,
 }
 
@@ -32,41 +30,30 @@ impl Postfix {
     pub(crate) fn new(alloc: Global) -> Postfix {
         Postfix {
             alloc,
-            workspaces: Items::new(alloc),
-            lists: 0,
+            kernel: Kernel {
+                workspaces: Items::new(alloc),
+                lists: 0,
+                body: Items::new(alloc),
+            },
             operands: Items::new(alloc),
             bodies: Items::new(alloc),
-            body: Items::new(alloc),
             outer: Items::new(alloc),
         }
     }
 
     /// Takes the kernel, where no body is open; a new one begins.
     pub(crate) fn take_kernel(&mut self) -> Kernel {
-        let Postfix {
-            alloc: _alloc,
-            workspaces,
-            lists,
-            operands: _operands,
-            bodies: _bodies,
-            body,
-            outer: _outer,
-        } = mem::replace(self, Postfix::new(self.alloc));
-        Kernel {
-            workspaces,
-            lists,
-            body,
-        }
+        mem::replace(self, Postfix::new(self.alloc)).kernel
     }
 
     /// One more workspace, with so many keys.
     pub(crate) fn add_workspace(&mut self, keys: &str) -> Option<()> {
-        self.workspaces.push(keys.parse().ok()?).ok()
+        self.kernel.workspaces.push(keys.parse().ok()?).ok()
     }
 
     /// One more scratch list.
     pub(crate) fn add_list(&mut self) {
-        self.lists = self.lists.wrapping_add(1);
+        self.kernel.lists = self.kernel.lists.wrapping_add(1);
     }
 
     fn operand(&mut self) -> Option<Boxed<KExpr>> {
@@ -93,31 +80,34 @@ impl Postfix {
     }
 
     // A statement on two expressions.
-    fn pair(&mut self, name: &str, what: &str) -> Option<KStmt> {
+    fn pair(&mut self, name: &str, array: Option<Arr>, number: Option<u64>) -> Option<KStmt> {
         let second = self.operands.pop()?;
         let first = self.operands.pop()?;
-        match name {
-            "plus" => Some(KStmt::Combine(what.parse().ok()?, ValueOp::Plus, first, second)),
-            "times" => Some(KStmt::Combine(what.parse().ok()?, ValueOp::Times, first, second)),
-            "put" => Some(KStmt::Put(array(what)?, first, second)),
-            "add" => Some(KStmt::AddTo(array(what)?, first, second)),
-            "extend" => Some(KStmt::Extend(array(what)?, first, second)),
+        match (name, array, number) {
+            ("plus", _, Some(var)) => Some(KStmt::Combine(var, ValueOp::Plus, first, second)),
+            ("times", _, Some(var)) => Some(KStmt::Combine(var, ValueOp::Times, first, second)),
+            ("put", Some(array), _) => Some(KStmt::Put(array, first, second)),
+            ("add", Some(array), _) => Some(KStmt::AddTo(array, first, second)),
+            ("extend", Some(array), _) => Some(KStmt::Extend(array, first, second)),
             _ => None,
         }
     }
 
+    fn looped(&mut self, kind: LoopKind) -> Option<KStmt> {
+        let test = self.operands.pop()?;
+        Some(KStmt::While(kind, test, self.bodies.pop()?))
+    }
+
     fn statement(&mut self, name: &str, what: &str) -> Option<KStmt> {
-        match name {
-            "set" => Some(KStmt::Set(what.parse().ok()?, self.operands.pop()?)),
-            "push" => Some(KStmt::Push(array(what)?, self.operands.pop()?)),
-            "cut" => Some(KStmt::Cut(array(what)?, self.operands.pop()?)),
-            "sort" => Some(KStmt::Sort(what.parse().ok()?)),
-            "sort_sum" => Some(KStmt::SortSum(what.parse().ok()?)),
-            "while" => {
-                let test = self.operands.pop()?;
-                Some(KStmt::While(named(&LOOPS, what)?, test, self.bodies.pop()?))
-            }
-            _ => self.pair(name, what),
+        let (array, number) = (array(what), what.parse().ok());
+        match (name, array, number) {
+            ("set", _, Some(var)) => Some(KStmt::Set(var, self.operands.pop()?)),
+            ("push", Some(array), _) => Some(KStmt::Push(array, self.operands.pop()?)),
+            ("cut", Some(array), _) => Some(KStmt::Cut(array, self.operands.pop()?)),
+            ("sort", _, Some(list)) => Some(KStmt::Sort(list)),
+            ("sort_sum", _, Some(workspace)) => Some(KStmt::SortSum(workspace)),
+            ("while", _, _) => self.looped(named(&LOOPS, what)?),
+            _ => self.pair(name, array, number),
         }
     }
 
@@ -128,14 +118,18 @@ impl Postfix {
     }
 
     fn begin(&mut self) -> Option<()> {
-        let around = mem::replace(&mut self.body, Items::new(self.alloc));
+        let around = mem::replace(&mut self.kernel.body, Items::new(self.alloc));
         self.outer.push(around).ok()
     }
 
     fn end(&mut self) -> Option<()> {
         let around = self.outer.pop()?;
-        let body = mem::replace(&mut self.body, around);
+        let body = mem::replace(&mut self.kernel.body, around);
         self.bodies.push(body).ok()
+    }
+
+    fn add(&mut self, statement: KStmt) -> Option<()> {
+        self.kernel.body.push(statement).ok()
     }
 
     fn read(&mut self, word: &str) -> Option<()> {
@@ -144,14 +138,14 @@ impl Postfix {
             "]" => return self.end(),
             "if" => {
                 let choice = self.choice()?;
-                return self.body.push(choice).ok();
+                return self.add(choice);
             }
             _ => {}
         }
         match word.split_once(':') {
             Some((name, what)) => {
                 let statement = self.statement(name, what)?;
-                self.body.push(statement).ok()
+                self.add(statement)
             }
             None => {
                 let expression = self.expression(word)?;

@@ -23,8 +23,7 @@ pub(crate) struct Session {
 /// The text of a kernel below a line of its own.
 fn tell_kernel(answer: &mut Answer, line: &str, kernel: &Kernel) -> Option<()> {
     let mut sink = MemSink::new(answer.alloc());
-    let put = put_kernel(&mut sink, kernel);
-    answer.made(put)?;
+    answer.note(put_kernel(&mut sink, kernel));
     answer.tell(line);
     answer.tell("\n");
     answer.tell(str::from_utf8(sink.written()).ok()?);

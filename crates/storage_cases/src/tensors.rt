@@ -55,8 +55,7 @@ pub(crate) fn coords_of(answer: &mut Answer, text: &str, order: usize) -> Option
     let mut coords = Vec::new(answer.alloc());
     for word in text.split_whitespace().take(order) {
         let number = word.parse::<u64>().ok()?;
-        let pushed = coords.push(number.checked_sub(1)?);
-        answer.made(pushed)?;
+        answer.note(coords.push(number.checked_sub(1)?));
     }
     if coords.len() != order {
         return None;
@@ -75,8 +74,7 @@ fn entries_of(answer: &mut Answer, text: &str, order: usize) -> Option<Entries> 
         if let Some(value) = line.split_whitespace().nth(order) {
             let value = value.parse::<i64>().ok()?;
             let coords = coords_of(answer, line, order)?;
-            let pushed = entries.push(coords.as_slice(), value.cast_unsigned());
-            answer.made(pushed)?;
+            answer.note(entries.push(coords.as_slice(), value.cast_unsigned()));
         }
     }
     Some(entries)

@@ -23,8 +23,7 @@ fn coords_at(answer: &mut Answer, ranges: &[u64], number: u64) -> Option<Vec<u64
     let mut coords = Vec::new(answer.alloc());
     let mut rest = number;
     for range in ranges.iter().rev() {
-        let pushed = coords.push(rest.checked_rem(*range)?);
-        answer.made(pushed)?;
+        answer.note(coords.push(rest.checked_rem(*range)?));
         rest = rest.checked_div(*range)?;
     }
     coords.reverse();
@@ -77,8 +76,7 @@ fn tell_store(answer: &mut Answer, tensor: &Tensor) -> Option<()>
     requires { AreDone 1 tensor.now.levels }
 {
     let mut sink = MemSink::new(answer.alloc());
-    let cut = sink.cut_into(&[1, 4]);
-    answer.made(cut)?;
+    answer.note(sink.cut_into(&[1, 4]));
     put_store_text(&mut sink, 1, b"A", tensor).ok()?;
     answer.tell(str::from_utf8(sink.written()).ok()?);
     Some(())

@@ -6,22 +6,20 @@ use outside::{MemFolder, MemSink};
 use refusals::{Fault, put_line};
 
 /// Runs a command line over these files, and answers the status.
-fn run(answer: &mut Answer, files: &[CaseFile], words: &[String], place: &mut Place) -> Option<u8> {
+fn run(answer: &mut Answer, files: &[CaseFile], words: &[String], place: &mut Place) -> u8 {
     for file in files {
         if file.is_there {
-            let added = place
-                .folder
-                .add_file(file.name.as_str(), file.bytes.as_slice());
-            answer.made(added)?;
+            let (name, bytes) = (file.name.as_str(), file.bytes.as_slice());
+            answer.note(place.folder.add_file(name, bytes));
         }
     }
-    Some(taco_top::taco(
+    taco_top::taco(
         answer.alloc(),
         words,
         &mut place.folder,
         &mut place.out,
         &mut place.err,
-    ))
+    )
 }
 
 /// The text that a stream holds, or none if its end is inside a character.
@@ -104,7 +102,7 @@ fn tell_further(answer: &mut Answer, case: &Case, line: &str) -> Option<()> {
     let has_own = keyword == "beside" && !further_own.is_empty();
     let words = further_words(answer, if has_own { "" } else { own }, further)?;
     let mut place = Place::new(answer.alloc());
-    let status = run(answer, case.files.as_slice(), words.as_slice(), &mut place)?;
+    let status = run(answer, case.files.as_slice(), words.as_slice(), &mut place);
     if keyword == "again" {
         answer.tell(line);
         answer.tell("\n");
@@ -137,8 +135,7 @@ fn tell_refused(answer: &mut Answer, text: &str) -> Option<()> {
         _ => return None,
     };
     let mut err = MemSink::new(answer.alloc());
-    let put = put_line(&mut err, &fault);
-    answer.made(put)?;
+    answer.note(put_line(&mut err, &fault));
     answer.tell("refused ");
     answer.tell(text);
     answer.tell("\nstatus ");
@@ -176,6 +173,6 @@ pub(crate) fn tell_case(answer: &mut Answer, case: &mut Case) -> Option<()> {
         case.files.as_slice(),
         case.words.as_slice(),
         &mut case.place,
-    )?;
+    );
     tell_ended(answer, case, status)
 }

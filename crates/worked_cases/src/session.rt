@@ -53,8 +53,9 @@ impl Cases for Session {
         match &mut self.case {
             Some(case) => case.add_line(answer, line),
             None => {
-                let added = writeln!(self.head, "{line}");
-                answer.made(added)
+                answer.note(self.head.push_str(line));
+                answer.note(self.head.push_str("\n"));
+                Some(())
             }
         }
     }
