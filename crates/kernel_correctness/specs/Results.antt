@@ -1,5 +1,5 @@
 -- What a kernel leaves of the result.
-use Rattle.std.specs.Prelude.{◌≡◌, ℕ, ◌==◌, ◌<◌, ◌≤◌, if◌then◌else◌}
+use Rattle.std.specs.Prelude.{◌≡◌, ◌⊎◌, ℕ, ◌+◌, ◌==◌, ◌<◌, ◌≤◌, if◌then◌else◌}
 use Rattle.std.specs.Prelude.{List, [], ◌∷◌, length, map, All, Some, option_map}
 use Rattle.std.specs.Prelude.{slice_index}
 use Rattle.limits.specs.Limits.{greatest_position_count}
@@ -82,12 +82,17 @@ pub record LeavesStorage (nothing : ℕ) (store : Store) (arrays : Arrays) : Typ
   pub zeros : (pos : ℕ) → pos < length values → ((xs : List ℕ) → Path meaning levels (one 0) xs pos → ⊥)
       → slice_index values pos ≡ nothing
 
+-- an array that grows is told as its level's, counted from 1; the values, which are told as the last level's, may also stand for the
+-- positions of a level above it
+abbrev pub IsToldAs : ℕ → ℕ → ℕ → Type 0
+IsToldAs order at level = (at + 1 ≡ level) ⊎ ((level ≡ order) × (at < level))
+
 -- a level may be told to be too large with this count: it passes the limit, and is at most as many positions as the result's storage
--- would have at that level, counted from 1, or at some level above it
+-- would have at that level, or, where the values grow, at some level above the last one
 pub record MayPass (a : Arithmetic) (s : Statement) (inputs : Inputs) (store : Store) (level count : ℕ) : Type 0 where
   pub passes : greatest_position_count < count
   pub table : Table
   pub named : IsNamedResult a s inputs store.format table
   pub at : ℕ
-  pub within : at < level
+  pub told : IsToldAs (length store.format) at level
   pub most : count ≤ slice_index (positions_of store.format store.ranges table) at

@@ -18,7 +18,7 @@ use Rattle.lowering.specs.Right.{rows_to, pairs}
 use Rattle.lowering.proofs.RightLoops.{rows_are}
 use Rattle.term_code.specs.WorkspaceSinks.{IsOfWorkspace}
 use Rattle.kernel_correctness.specs.Kernels.{IsRightOutcome, standing_order}
-use Rattle.kernel_correctness.specs.Results.{MayPass}
+use Rattle.kernel_correctness.specs.Results.{IsToldAs, MayPass}
 use Rattle.kernel_correctness.specs.Stores.{Store, told_by}
 use Rattle.operand_arrays.specs.Operands.{stored_in}
 use Rattle.dense_results.proofs.Operands.{told}
@@ -58,13 +58,14 @@ module _ (a : Arithmetic) (s : Statement) (store : Store) where
   IsRightAt count place = IsRightOutcome a s (told_by a store) store (TooLong place count)
 
   level_passes : (rows : List Entry) → AreRowsOfResult a s store rows → (d : ℕ) (b : Arr) (count : ℕ)
-      → PassesLevel store rows d b count → (level : ℕ) → d < level → MayPass a s (told_by a store) store level count
-  level_passes rows are d b count p level less = record {
+      → PassesLevel store rows d b count → (level : ℕ) → IsToldAs (length store.format) d level
+      → MayPass a s (told_by a store) store level count
+  level_passes rows are d b count p level told = record {
     passes = p.above;
     table = table_of rows;
     named = are.named;
     at = d;
-    within = less;
+    told = told;
     most = p.within;
   }
 
@@ -75,10 +76,10 @@ module _ (a : Arithmetic) (s : Statement) (store : Store) where
       by : IsOf 0 (suc d) b ⊎ (b ≡ Values 0) → IsRightOutcome a s (told_by a store) store (TooLong (place_of (length store.format) b) count)
       by (inl of) =
           subst (IsRightAt count) (sym (level_place (length store.format) d b of))
-          (level_passes rows are d b count p (suc d) (omega arith))
+          (level_passes rows are d b count p (suc d) (inl (omega arith)))
       by (inr is) =
           subst (λ e. IsRightAt count (place_of (length store.format) e)) (sym is)
-          (level_passes rows are d b count p (length store.format) p.inside)
+          (level_passes rows are d b count p (length store.format) (inr (refl, p.inside)))
 
 pub levels_may_pass : LevelsMayPass
 levels_may_pass a s store rows are d b count p = level_may_pass a s store rows are d b count p
