@@ -9,7 +9,7 @@ use Rattle.kernel_code.specs.declared.syntax.KStmt.{While', Row_of-KStmt, end_of
 use Rattle.kernel_code.specs.declared.syntax.KStmt.{items_hidden-the_row-KStmt-0}
 use Rattle.kernel_code.specs.declared.syntax.KStmt.TheBlock.{hidden-the_row-KStmt-0}
 use Rattle.machine_parts.specs.declared.tables.Table.{Table}
-use Rattle.machine_parts.specs.Places.{room_of}
+use Rattle.machine_parts.specs.ArrayPlaces.{room_of}
 use Rattle.kernel_interpreter.specs.Memory.{Throughout, Throughout_row, Through}
 
 row_through : {m : _} (P : KStmt → Type 0) (row : Row_of-KStmt m) → Throughout_row P row → Through P (items-the_row-KStmt m row)

@@ -14,7 +14,7 @@ use Rattle.kernel_code.proofs.ArrayNames.{same_arr_is, same_arr_self}
 use Rattle.lent_arrays.specs.Lent.{lent_array}
 use Rattle.lists.proofs.Tests.{same_number}
 use Rattle.machine_parts.specs.declared.words.OwnArray.{OwnArray}
-use Rattle.machine_parts.specs.Places.{place_in}
+use Rattle.machine_parts.specs.ArrayPlaces.{place_in}
 use Rattle.machine_parts.proofs.ListLemmas.{get_here, get_other, get_within, get_last, get_before, get_beyond, apart}
 use Rattle.machine_parts.proofs.PlaceLemmas.{HasPlace}
 use Rattle.kernel_interpreter.specs.declared.machine.Machine.{Machine}

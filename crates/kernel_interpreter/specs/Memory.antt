@@ -2,7 +2,7 @@
 use Rattle.std.specs.Prelude.{ℕ, ◌<◌, List, [], ◌∷◌}
 use Rattle.kernel_code.specs.declared.syntax.KStmt.{KStmt, Set, Combine, Put, AddTo, Push, Extend, Cut, Sort, SortSum, If', While'}
 use Rattle.kernel_code.specs.declared.syntax.KStmt.{Row_of-KStmt, end_of-KStmt, more_of-KStmt}
-use Rattle.machine_parts.specs.Places.{room_of}
+use Rattle.machine_parts.specs.ArrayPlaces.{room_of}
 use Rattle.kernel_interpreter.specs.declared.machine.Machine.{Machine}
 
 -- a statement that appends no words and sorts no rows

@@ -14,7 +14,7 @@ use Rattle.kernel_interpreter.specs.declared.machine.Machine.{Machine}
 use Rattle.kernel_interpreter.specs.declared.ending.Ending.{Ending}
 use Rattle.kernel_interpreter.specs.declared.ending.Ending.TheVariants as ending
 use Rattle.lent_arrays.specs.Lent.{lent_array}
-use Rattle.machine_parts.specs.Places.{held, place_in}
+use Rattle.machine_parts.specs.ArrayPlaces.{held, place_in}
 
 -- the words of an array, if it has this name
 abbrev pub words_named : Arr → Option OwnArray → Option (List ℕ)

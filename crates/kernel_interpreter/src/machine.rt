@@ -9,7 +9,7 @@ ghost use Rattle.kernel_code.specs.Meaning.{Ended, Stuck, Outcome, set_array, on
 ghost use Rattle.kernel_code.specs.Meaning.{set_columns, with_array, changed, grown, value, word_at, length_of, set_outcome};
 ghost use Rattle.kernel_code.specs.Meaning.{put_outcome, add_outcome, push_outcome, extend_outcome, cut_outcome};
 ghost use Rattle.lent_arrays.specs.Lent.{lent_array};
-ghost use Rattle.machine_parts.specs.Places.{held};
+ghost use Rattle.machine_parts.specs.ArrayPlaces.{held};
 ghost use Rattle.machine_parts.specs.Rows.{row_of};
 ghost use Rattle.kernel_interpreter.specs.Memory.{variable_room};
 ghost use Rattle.kernel_interpreter.specs.Store.{count_of, state_of, own_array, outcome_of, made, IsPlaceOf, IsWritable};
@@ -18,8 +18,8 @@ use crate::ending::Ending;
 use kernel_code::{Arr, KExpr, LoopKind, Turns, apply_to_words, least_operand, width_of_operand};
 use lent_arrays::LentArrays;
 use machine_parts::{
-    OwnArray, PlacedRow, Places, Table, append_copies, append_word, coordinates_of, count_told,
-    decided_by_first, is_same, may_be_written, may_grow, number_of_keys, positions_of,
+    ArrayPlaces, OwnArray, PlacedRow, Table, append_copies, append_word, coordinates_of,
+    count_told, decided_by_first, is_same, may_be_written, may_grow, number_of_keys, positions_of,
     rows_of_list, sort_rows, sum_of_words, sum_rows, values_of, words_at,
 };
 use numbers::Semiring;
@@ -32,7 +32,7 @@ use std::mem;
 pub struct Machine<'a> {
     alloc: Global,
     variables: Table,
-    places: Places,
+    places: ArrayPlaces,
     arrays: Vec<OwnArray>,
     lent: LentArrays<'a>,
     turns: Turns,
@@ -89,7 +89,7 @@ impl<'a> Machine<'a> {
         Machine {
             alloc,
             variables: Table::new(alloc),
-            places: Places::new(alloc),
+            places: ArrayPlaces::new(alloc),
             arrays: Vec::new(alloc),
             lent,
             turns: NO_TURNS,

@@ -10,8 +10,8 @@ use Rattle.kernel_code.specs.declared.syntax.Arr.TheVariants.{ListCoordinates, L
 use Rattle.kernel_code.specs.Arrays.{same_arr}
 use Rattle.machine_parts.specs.declared.tables.Table.{Table}
 use Rattle.machine_parts.specs.declared.tables.PairTable.{PairTable}
-use Rattle.machine_parts.specs.declared.places.Places.{Places}
-use Rattle.machine_parts.specs.Places.{held, held_in, held_pair, place_in}
+use Rattle.machine_parts.specs.declared.array_places.ArrayPlaces.{ArrayPlaces}
+use Rattle.machine_parts.specs.ArrayPlaces.{held, held_in, held_pair, place_in}
 use Rattle.machine_parts.proofs.ListLemmas.{get_here, get_other, get_within, apart}
 
 -- a table with one more number
@@ -45,10 +45,10 @@ row_gains (Ok a) old mid row new x y v same l is gains = λ m n. row_set mid row
     ∙ ap (λ o. if (x == m) && (y == n) then Some v else o) (same m n)
 row_gains (Err e) old mid row new x y v same l is gains = tt
 
-abbrev pub HasPlace : Places → Places → Arr → ℕ → Type 0
+abbrev pub HasPlace : ArrayPlaces → ArrayPlaces → Arr → ℕ → Type 0
 HasPlace old new a v = (b : Arr) → place_in new b ≡ (if same_arr a b then Some v else place_in old b)
 
-pub values_gain : (p : Places) (t : Table) (x v : ℕ) → Gains p.values t x v → HasPlace p (record p { values = t }) (Values x) v
+pub values_gain : (p : ArrayPlaces) (t : Table) (x v : ℕ) → Gains p.values t x v → HasPlace p (record p { values = t }) (Values x) v
 values_gain p t x v h Range = refl
 values_gain p t x v h (Values m) = h m
 values_gain p t x v h (Dimension m n) = refl
@@ -60,7 +60,7 @@ values_gain p t x v h (Sums m) = refl
 values_gain p t x v h (ListCoordinates m) = refl
 values_gain p t x v h (ListPositions m) = refl
 
-pub ends_gain : (p : Places) (t : PairTable) (x y v : ℕ) → GainsPair p.ends t x y v → HasPlace p (record p { ends = t }) (Ends x y) v
+pub ends_gain : (p : ArrayPlaces) (t : PairTable) (x y v : ℕ) → GainsPair p.ends t x y v → HasPlace p (record p { ends = t }) (Ends x y) v
 ends_gain p t x y v h Range = refl
 ends_gain p t x y v h (Values m) = refl
 ends_gain p t x y v h (Dimension m n) = refl
@@ -72,7 +72,7 @@ ends_gain p t x y v h (Sums m) = refl
 ends_gain p t x y v h (ListCoordinates m) = refl
 ends_gain p t x y v h (ListPositions m) = refl
 
-pub coordinates_gain : (p : Places) (t : PairTable) (x y v : ℕ) → GainsPair p.coordinates t x y v
+pub coordinates_gain : (p : ArrayPlaces) (t : PairTable) (x y v : ℕ) → GainsPair p.coordinates t x y v
     → HasPlace p (record p { coordinates = t }) (Coordinates x y) v
 coordinates_gain p t x y v h Range = refl
 coordinates_gain p t x y v h (Values m) = refl
@@ -85,7 +85,7 @@ coordinates_gain p t x y v h (Sums m) = refl
 coordinates_gain p t x y v h (ListCoordinates m) = refl
 coordinates_gain p t x y v h (ListPositions m) = refl
 
-pub widths_gain : (p : Places) (t : PairTable) (x y v : ℕ) → GainsPair p.widths t x y v → HasPlace p (record p { widths = t }) (Width x y) v
+pub widths_gain : (p : ArrayPlaces) (t : PairTable) (x y v : ℕ) → GainsPair p.widths t x y v → HasPlace p (record p { widths = t }) (Width x y) v
 widths_gain p t x y v h Range = refl
 widths_gain p t x y v h (Values m) = refl
 widths_gain p t x y v h (Dimension m n) = refl
@@ -97,7 +97,7 @@ widths_gain p t x y v h (Sums m) = refl
 widths_gain p t x y v h (ListCoordinates m) = refl
 widths_gain p t x y v h (ListPositions m) = refl
 
-pub keys_gain : (p : Places) (t : PairTable) (x y v : ℕ) → GainsPair p.keys t x y v → HasPlace p (record p { keys = t }) (Key x y) v
+pub keys_gain : (p : ArrayPlaces) (t : PairTable) (x y v : ℕ) → GainsPair p.keys t x y v → HasPlace p (record p { keys = t }) (Key x y) v
 keys_gain p t x y v h Range = refl
 keys_gain p t x y v h (Values m) = refl
 keys_gain p t x y v h (Dimension m n) = refl
@@ -109,7 +109,7 @@ keys_gain p t x y v h (Sums m) = refl
 keys_gain p t x y v h (ListCoordinates m) = refl
 keys_gain p t x y v h (ListPositions m) = refl
 
-pub sums_gain : (p : Places) (t : Table) (x v : ℕ) → Gains p.sums t x v → HasPlace p (record p { sums = t }) (Sums x) v
+pub sums_gain : (p : ArrayPlaces) (t : Table) (x v : ℕ) → Gains p.sums t x v → HasPlace p (record p { sums = t }) (Sums x) v
 sums_gain p t x v h Range = refl
 sums_gain p t x v h (Values m) = refl
 sums_gain p t x v h (Dimension m n) = refl
@@ -121,7 +121,7 @@ sums_gain p t x v h (Sums m) = h m
 sums_gain p t x v h (ListCoordinates m) = refl
 sums_gain p t x v h (ListPositions m) = refl
 
-pub list_coordinates_gain : (p : Places) (t : Table) (x v : ℕ) → Gains p.list_coordinates t x v
+pub list_coordinates_gain : (p : ArrayPlaces) (t : Table) (x v : ℕ) → Gains p.list_coordinates t x v
     → HasPlace p (record p { list_coordinates = t }) (ListCoordinates x) v
 list_coordinates_gain p t x v h Range = refl
 list_coordinates_gain p t x v h (Values m) = refl
@@ -134,7 +134,7 @@ list_coordinates_gain p t x v h (Sums m) = refl
 list_coordinates_gain p t x v h (ListCoordinates m) = h m
 list_coordinates_gain p t x v h (ListPositions m) = refl
 
-pub list_positions_gain : (p : Places) (t : Table) (x v : ℕ) → Gains p.list_positions t x v
+pub list_positions_gain : (p : ArrayPlaces) (t : Table) (x v : ℕ) → Gains p.list_positions t x v
     → HasPlace p (record p { list_positions = t }) (ListPositions x) v
 list_positions_gain p t x v h Range = refl
 list_positions_gain p t x v h (Values m) = refl

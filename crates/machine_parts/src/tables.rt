@@ -1,6 +1,6 @@
 //! Tables of numbers that are looked up in constant time: by a number, and by two.
 ghost use Rattle.std.specs.Prelude.{◌≡◌, ◌≤◌, ◌<◌, ℕ, length, OnOk, IsOk, None, Some, if◌then◌else◌, ◌==◌, ◌&&◌};
-ghost use Rattle.machine_parts.specs.Places.{held, held_pair, room_of};
+ghost use Rattle.machine_parts.specs.ArrayPlaces.{held, held_pair, room_of};
 
 use std::alloc::{AllocError, Global};
 

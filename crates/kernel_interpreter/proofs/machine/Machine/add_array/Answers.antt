@@ -1,7 +1,7 @@
 use Rattle.std.proofs.Common.{◌≡◌, ◌∙◌, ◌++◌, ◌∷◌, [], if◌then◌else◌, Some, length, ap, refl, arith}
 use Rattle.kernel_code.specs.Arrays.{same_arr}
 use Rattle.machine_parts.specs.declared.words.OwnArray.{OwnArray}
-use Rattle.machine_parts.specs.Places.{held, place_in}
+use Rattle.machine_parts.specs.ArrayPlaces.{held, place_in}
 use Rattle.machine_parts.proofs.PlaceLemmas.{HasPlace}
 use Rattle.kernel_interpreter.specs.declared.machine.Machine.{Machine}
 use Rattle.kernel_interpreter.specs.Store.{count_of}

@@ -1,5 +1,5 @@
 use Rattle.std.proofs.Common.{◌≡◌, ℕ, ◌≤◌, length}
-use Rattle.machine_parts.specs.Places.{held_pair}
+use Rattle.machine_parts.specs.ArrayPlaces.{held_pair}
 use Rattle.machine_parts.proofs.tables.PairTable.make_room.Given as goal
 
 -- the numbers are as before, and there is a row for each so far

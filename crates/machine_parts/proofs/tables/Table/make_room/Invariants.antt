@@ -1,5 +1,5 @@
 use Rattle.std.proofs.Common.{◌≡◌, ℕ, ◌≤◌, length}
-use Rattle.machine_parts.specs.Places.{held}
+use Rattle.machine_parts.specs.ArrayPlaces.{held}
 use Rattle.machine_parts.proofs.tables.Table.make_room.Given as goal
 
 -- the numbers are as before, and there is a place for each so far and for those that had one

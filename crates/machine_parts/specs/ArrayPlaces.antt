@@ -5,7 +5,7 @@ use Rattle.kernel_code.specs.declared.syntax.Arr.TheVariants.{Range, Values, Dim
 use Rattle.kernel_code.specs.declared.syntax.Arr.TheVariants.{ListCoordinates, ListPositions}
 use Rattle.machine_parts.specs.declared.tables.Table.{Table}
 use Rattle.machine_parts.specs.declared.tables.PairTable.{PairTable}
-use Rattle.machine_parts.specs.declared.places.Places.{Places}
+use Rattle.machine_parts.specs.declared.array_places.ArrayPlaces.{ArrayPlaces}
 
 -- the number that stands at a place, if any
 abbrev pub kept_at : Option (Option ℕ) → Option ℕ
@@ -29,7 +29,7 @@ abbrev pub held_pair : PairTable → ℕ → ℕ → Option ℕ
 held_pair t x y = held_in (slice_get t.rows.items x) y
 
 -- the place of the array of a name
-abbrev pub place_in : Places → Arr → Option ℕ
+abbrev pub place_in : ArrayPlaces → Arr → Option ℕ
 place_in p Range = None
 place_in p (Values n) = held p.values n
 place_in p (Dimension n k) = None

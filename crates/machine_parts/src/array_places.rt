@@ -2,7 +2,7 @@
 ghost use Rattle.std.specs.Prelude.{◌≡◌, OnOk, None, Some, if◌then◌else◌, true};
 ghost use Rattle.kernel_code.specs.Arrays.{same_arr, may_write};
 ghost use Rattle.kernel_code.specs.declared.syntax.Arr.{Arr};
-ghost use Rattle.machine_parts.specs.Places.{place_in};
+ghost use Rattle.machine_parts.specs.ArrayPlaces.{place_in};
 
 use crate::tables::{PairTable, Table};
 use kernel_code::Arr;
@@ -10,7 +10,7 @@ use std::alloc::{AllocError, Global};
 
 /// The place of each array by its name, found in constant time.
 #[derive(Drop)]
-pub struct Places {
+pub struct ArrayPlaces {
     values: Table,
     ends: PairTable,
     coordinates: PairTable,
@@ -21,12 +21,12 @@ pub struct Places {
     list_positions: Table,
 }
 
-impl Places {
+impl ArrayPlaces {
     /// No place for any name. It takes no memory.
-    pub fn new(alloc: Global) -> Places
+    pub fn new(alloc: Global) -> ArrayPlaces
         ensures { (a : Arr) → place_in result a ≡ None }
     {
-        Places {
+        ArrayPlaces {
             values: Table::new(alloc),
             ends: PairTable::new(alloc),
             coordinates: PairTable::new(alloc),
