@@ -20,11 +20,11 @@ use Rattle.kernel_runs.specs.Runs.{IsLargeLevelBy, MayRefuseRun}
 -- a refusal of the ranges, by the bounds as they are lent, is one of the run
 pub range_refusal : (a : Arithmetic) (s : Statement) (formats : List (List FormatLevel)) (given : List (Option ℕ)) (operands : List Entries)
     (bounds lent : List (Vec Bound Global)) (refusal : RangeFault)
-    → lent ≡ bounds → told.MayRefuse (told_ranges s given lent) refusal → MayRefuseRun a s formats given operands bounds (of_ranges refusal)
+    → lent ≡ bounds → told.MayRefuseRanges (told_ranges s given lent) refusal → MayRefuseRun a s formats given operands bounds (of_ranges refusal)
 range_refusal a s formats given operands bounds lent refusal same h =
-    by refusal (subst (λ (bs : List (Vec Bound Global)). told.MayRefuse (told_ranges s given bs) refusal) same h)
+    by refusal (subst (λ (bs : List (Vec Bound Global)). told.MayRefuseRanges (told_ranges s given bs) refusal) same h)
   where
-    by : (refusal : RangeFault) → told.MayRefuse (told_ranges s given bounds) refusal
+    by : (refusal : RangeFault) → told.MayRefuseRanges (told_ranges s given bounds) refusal
         → MayRefuseRun a s formats given operands bounds (of_ranges refusal)
     by (NoRange var) h = h
     by (RangeConflict var first other) h = h
