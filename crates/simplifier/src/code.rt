@@ -31,7 +31,11 @@ fn add_loop<S: Semiring>(
 
 /// Appends what is left of a statement.
 #[cycle(code)]
-fn add_statement<S: Semiring>(alloc: Global, s: &KStmt, out: &mut Items<KStmt>) -> Result<(), AllocError>
+fn add_statement<S: Semiring>(
+    alloc: Global,
+    s: &KStmt,
+    out: &mut Items<KStmt>,
+) -> Result<(), AllocError>
     ensures same { OnOk result (SameRuns S.arithmetic out.new (out.old ++ s.now ∷ [])) }
     ensures simple { SimpleCode S.arithmetic out.old → OnOk result (SimpleCode S.arithmetic out.new) }
 {
@@ -66,7 +70,11 @@ fn add_statement<S: Semiring>(alloc: Global, s: &KStmt, out: &mut Items<KStmt>) 
 
 /// Appends what is left of statements.
 #[cycle(code)]
-fn add_code<S: Semiring>(alloc: Global, code: &[KStmt], out: &mut Items<KStmt>) -> Result<(), AllocError>
+fn add_code<S: Semiring>(
+    alloc: Global,
+    code: &[KStmt],
+    out: &mut Items<KStmt>,
+) -> Result<(), AllocError>
     ensures same { OnOk result (SameRuns S.arithmetic out.new (out.old ++ code.now)) }
     ensures simple { SimpleCode S.arithmetic out.old → OnOk result (SimpleCode S.arithmetic out.new) }
 {
@@ -78,7 +86,10 @@ fn add_code<S: Semiring>(alloc: Global, code: &[KStmt], out: &mut Items<KStmt>) 
 
 /// What is left of statements.
 #[cycle(code)]
-pub(crate) fn simplify_code<S: Semiring>(alloc: Global, code: &[KStmt]) -> Result<Items<KStmt>, AllocError>
+pub(crate) fn simplify_code<S: Semiring>(
+    alloc: Global,
+    code: &[KStmt],
+) -> Result<Items<KStmt>, AllocError>
     ensures same { IfOk result (λ simple. SameRuns S.arithmetic simple code.now) }
     ensures simple { IfOk result (λ simple. SimpleCode S.arithmetic simple) }
 {
