@@ -1,11 +1,11 @@
 -- Which accesses are stored anew where the storage orders of a statement's tensors have a cycle, and in which order of their modes.
-use Rattle.std.specs.Prelude.{◌≡◌, ℕ, ◌==◌, nat_lt, Bool, if◌then◌else◌, List, [], ◌∷◌, ◌++◌, Option, filter_map, position, length}
+use Rattle.std.specs.Prelude.{◌≡◌, ℕ, ◌==◌, nat_lt, Bool, if◌then◌else◌, List, [], ◌∷◌, ◌++◌, Option, filter_map, map, position, length, slice_index, ◌<◌}
 use Rattle.std.specs.List.{list_any}
 use Rattle.format_spec.specs.declared.format.FormatLevel.{FormatLevel}
 use Rattle.index_notation.specs.Statement.{numbers_from}
 use Rattle.index_notation.specs.declared.syntax.Access.{Access}
 use Rattle.index_notation.specs.declared.syntax.Statement.{Statement}
-use Rattle.iteration_graph.specs.Edges.{access_edges, format_of, statement_edges}
+use Rattle.iteration_graph.specs.Edges.{access_edges, format_of, neighbours, statement_edges}
 use Rattle.iteration_graph.specs.Graphs.{IsLoopOrder, NamesCycle}
 use Rattle.mode_planner.specs.declared.plans.Repack.{Repack}
 
@@ -26,6 +26,16 @@ abbrev pub repack_of : ℕ → List FormatLevel → Access → List Repack
 repack_of count levels access =
     if list_any is_back (access_edges levels access.vars)
     then record { access = access; modes = modes_in_order count access.vars } ∷ [] else []
+
+-- an edge from an earlier variable to a later one
+abbrev pub LeadsForward : ℕ × ℕ → Type 0
+LeadsForward edge = edge.0 < edge.1
+
+-- the edges of an access that is stored as its plan tells
+abbrev pub planned_edges : ℕ → List FormatLevel → List ℕ → List (ℕ × ℕ)
+planned_edges count levels vars =
+    if list_any is_back (access_edges levels vars) then neighbours (map (slice_index vars) (modes_in_order count vars))
+    else access_edges levels vars
 
 -- those of some accesses, one after another
 abbrev pub repacks_of : List (List FormatLevel) → ℕ → List Access → List Repack

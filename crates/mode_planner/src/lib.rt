@@ -2,6 +2,8 @@
 //! its loops have an order. `specs/Plans.antt` says it.
 #![tactic(auto)]
 
+mod laws;
 mod plans;
 
+pub use laws::planned_loops_have_an_order;
 pub use plans::{Repack, plan};
