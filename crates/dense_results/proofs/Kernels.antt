@@ -111,7 +111,7 @@ right_told : (a : Arithmetic) (s : Statement) (store : Store) (order : ℕ) (P :
     → (o : KernelOutcome) → ToldOf order P R o → IsRightOutcome a s (told_by a store) store o
 right_told a s store order P R leaves never (Finished arrays turns) h =
     subst (LeavesResult a s (told_by a store) store) h.2 (leaves h.0 h.1)
-right_told a s store order P R leaves never GotStuck h = absurd h
+right_told a s store order P R leaves never (GotStuck statement) h = absurd h
 right_told a s store order P R leaves never (TooLong place count) h = absurd (never h.0 h.1.0 count h.1.1)
 right_told a s store order P R leaves never NotFinished h = absurd h
 

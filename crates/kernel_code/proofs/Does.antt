@@ -1,7 +1,7 @@
 -- Lemmas about what specs/Does.antt defines.
 use Rattle.std.specs.Prelude.{◌≡◌, ℕ, zero, suc, ◌+◌, ◌≤◌, ◌<◌, Bool, true, false, nat_lt, if◌then◌else◌, List, [], ◌∷◌, ◌++◌, length}
 use Rattle.std.specs.Prelude.{take, replicate, Some, slice_get, slice_index, slice_set, refl}
-use Rattle.std.proofs.Common.{◌∙◌, ap, arith}
+use Rattle.std.proofs.Common.{◌∙◌, sym, ap, arith}
 use Rattle.std.proofs.lemmas.Bool.Decides.{nat_tests}
 use Rattle.kernel_code.specs.declared.syntax.Arr.{Arr}
 use Rattle.kernel_code.specs.declared.syntax.Arr.TheVariants.{Sums, ListCoordinates, ListPositions}
@@ -13,14 +13,15 @@ use Rattle.kernel_code.specs.Arrays.{may_write, may_have, told_count, sum_in}
 use Rattle.kernel_code.specs.Meaning.{Setting, State, Outcome, Ended, Stuck, Over, More, value, apply_each, combined, then_run, if_written}
 use Rattle.kernel_code.specs.Meaning.{with_array, set_var, set_array, one_turn, changed, grown, choice, run, run_list, run_turns}
 use Rattle.kernel_code.specs.Meaning.{sort_outcome, sort_sum_outcome, set_outcome, put_outcome, add_outcome, push_outcome, extend_outcome}
-use Rattle.kernel_code.specs.Meaning.{cut_outcome}
+use Rattle.kernel_code.specs.Meaning.{cut_outcome, behind, statements_in, statements_in_list}
+use Rattle.kernel_code.proofs.Behind.{behind_none, behind_then}
 use Rattle.kernel_code.proofs.Equations.{run_if, run_while}
 use Rattle.kernel_code.specs.Does.{Refusal, OnOutcome, Does, Turn, Ends, Goes}
 
 weaker_on : (P Q : State → Type 0) (R T : Refusal) (o : Outcome) → ((s : State) → P s → Q s)
     → ((t : LoopKind → ℕ) (a : Arr) (count : ℕ) → R t a count → T t a count) → OnOutcome P R o → OnOutcome Q T o
 weaker_on P Q R T (Ended s) f g h = f s h
-weaker_on P Q R T (Stuck t) f g h = h
+weaker_on P Q R T (Stuck t statement) f g h = h
 weaker_on P Q R T (Over t a count) f g h = g t a count h
 weaker_on P Q R T More f g h = h
 
@@ -32,36 +33,46 @@ does_weaker c code s P Q R T d f g =
 pub does_nothing : (c : Setting) (s : State) (P : State → Type 0) (R : Refusal) → P s → Does c [] s P R
 does_nothing c s P R h = record { enough = 0; outcome = Ended s; reached = λ m _. refl; kept = h }
 
-then_assoc : (c : Setting) (n : ℕ) (a b : List KStmt) (o : Outcome)
-    → ((s : State) → run_list c n (a ++ b) s ≡ then_run (run_list c n a s) (run_list c n b))
-    → then_run o (run_list c n (a ++ b)) ≡ then_run (then_run o (run_list c n a)) (run_list c n b)
-then_assoc c n a b (Ended s') h = h s'
-then_assoc c n a b (Stuck t) h = refl
-then_assoc c n a b (Over t x count) h = refl
-then_assoc c n a b More h = refl
+on_behind : (P : State → Type 0) (R : Refusal) (n : ℕ) (o : Outcome) → OnOutcome P R o → OnOutcome P R (behind n o)
+on_behind P R n (Ended s) h = h
+on_behind P R n (Stuck t statement) h = h
+on_behind P R n (Over t a count) h = h
+on_behind P R n More h = h
+
+then_assoc : (c : Setting) (n m : ℕ) (a b : List KStmt) (o : Outcome)
+    → ((s : State) → run_list c n (a ++ b) s ≡ then_run (run_list c n a s) (λ s'. behind (statements_in_list a) (run_list c n b s')))
+    → then_run o (λ s. behind m (run_list c n (a ++ b) s))
+    ≡ then_run (then_run o (λ s. behind m (run_list c n a s))) (λ s'. behind (m + statements_in_list a) (run_list c n b s'))
+then_assoc c n m a b (Ended s') h = ap (behind m) (h s') ∙ behind_then m (statements_in_list a) (run_list c n a s') (run_list c n b)
+then_assoc c n m a b (Stuck t statement) h = refl
+then_assoc c n m a b (Over t x count) h = refl
+then_assoc c n m a b More h = refl
 
 -- code and then more code
 pub run_append : (c : Setting) (n : ℕ) (a b : List KStmt) (s : State)
-    → run_list c n (a ++ b) s ≡ then_run (run_list c n a s) (run_list c n b)
-run_append c n [] b s = refl
-run_append c n (k ∷ a) b s = then_assoc c n a b (run c n k s) (run_append c n a b)
+    → run_list c n (a ++ b) s ≡ then_run (run_list c n a s) (λ s'. behind (statements_in_list a) (run_list c n b s'))
+run_append c n [] b s = sym (behind_none (run_list c n b s))
+run_append c n (k ∷ a) b s = then_assoc c n (statements_in k) a b (run c n k s) (run_append c n a b)
 
 then_does : (c : Setting) (a b : List KStmt) (s : State) (P Q : State → Type 0) (R : Refusal) (n : ℕ) (o : Outcome)
     → ((m : ℕ) → n ≤ m → run_list c m a s ≡ o) → OnOutcome P R o → ((s' : State) → P s' → Does c b s' Q R) → Does c (a ++ b) s Q R
 then_does c a b s P Q R n (Ended s') reached h next =
     let d = next s' h in
+    let k = statements_in_list a in
     record {
       enough = n + d.enough;
-      outcome = d.outcome;
-      reached = λ m le. run_append c m a b s ∙ ap (λ o. then_run o (run_list c m b)) (reached m (omega arith)) ∙ d.reached m (omega arith);
-      kept = d.kept;
+      outcome = behind k d.outcome;
+      reached = λ m le. run_append c m a b s ∙ ap (λ o. then_run o (λ st. behind k (run_list c m b st))) (reached m (omega arith))
+          ∙ ap (behind k) (d.reached m (omega arith));
+      kept = on_behind Q R k d.outcome d.kept;
     }
-then_does c a b s P Q R n (Stuck t) reached h next = absurd h
+then_does c a b s P Q R n (Stuck t statement) reached h next = absurd h
 then_does c a b s P Q R n (Over t x count) reached h next =
     record {
       enough = n;
       outcome = Over t x count;
-      reached = λ m le. run_append c m a b s ∙ ap (λ o. then_run o (run_list c m b)) (reached m le);
+      reached = λ m le. run_append c m a b s
+          ∙ ap (λ o. then_run o (λ st. behind (statements_in_list a) (run_list c m b st))) (reached m le);
       kept = h;
     }
 then_does c a b s P Q R n More reached h next = absurd h
@@ -80,9 +91,10 @@ pub does_ended : (c : Setting) (k : KStmt) (rest : List KStmt) (s s' : State) (P
     → ((m : ℕ) → run c m k s ≡ Ended s') → Does c rest s' P R → Does c (k ∷ rest) s P R
 does_ended c k rest s s' P R h d = record {
   enough = d.enough;
-  outcome = d.outcome;
-  reached = λ m le. ap (λ o. then_run o (run_list c m rest)) (h m) ∙ d.reached m le;
-  kept = d.kept;
+  outcome = behind (statements_in k) d.outcome;
+  reached = λ m le. ap (λ o. then_run o (λ st. behind (statements_in k) (run_list c m rest st))) (h m)
+      ∙ ap (behind (statements_in k)) (d.reached m le);
+  kept = on_behind P R (statements_in k) d.outcome d.kept;
 }
 
 -- a statement that is refused a growth whatever the bound
@@ -91,7 +103,7 @@ pub does_over : (c : Setting) (k : KStmt) (rest : List KStmt) (s : State) (t : L
 does_over c k rest s t a count P R h r = record {
   enough = 0;
   outcome = Over t a count;
-  reached = λ m le. ap (λ o. then_run o (run_list c m rest)) (h m);
+  reached = λ m le. ap (λ o. then_run o (λ st. behind (statements_in k) (run_list c m rest st))) (h m);
   kept = r;
 }
 
@@ -102,7 +114,7 @@ with_array_is s a xs next w h = ap (λ b. if_written s b (s.arrays a) next) w �
 pub changed_is : (s : State) (a : Arr) (i : ℕ) (f : ℕ → ℕ) (xs : List ℕ) → i < length xs
     → changed s a i f xs ≡ Ended (set_array s a (slice_set xs i (f (slice_index xs i))))
 changed_is s a i f xs h = let is : nat_lt i (length xs) ≡ true =
-    grind (arith, nat_tests) in ap (λ b. if b then Ended (set_array s a (slice_set xs i (f (slice_index xs i)))) else Stuck s.turns) is
+    grind (arith, nat_tests) in ap (λ b. if b then Ended (set_array s a (slice_set xs i (f (slice_index xs i)))) else Stuck s.turns 1) is
 
 pub grown_is : (s : State) (a : Arr) (count : ℕ) (xs more : List ℕ) → may_have a count ≡ true
     → grown s a count xs more ≡ Ended (set_array s a (xs ++ more))
@@ -191,42 +203,46 @@ does_sort_sum c w rest s s' P R h d = does_ended c (SortSum w) rest s s' P R (λ
 alone : (c : Setting) (m : ℕ) (k : KStmt) (s : State) → run_list c m (k ∷ []) s ≡ run c m k s
 alone c m k s = last (run c m k s)
   where
-    last : (o : Outcome) → then_run o (run_list c m []) ≡ o
+    last : (o : Outcome) → then_run o (λ st. behind (statements_in k) (run_list c m [] st)) ≡ o
     last (Ended s') = refl
-    last (Stuck t) = refl
+    last (Stuck t statement) = refl
     last (Over t a count) = refl
     last More = refl
 
--- a statement that does what some code does
-as_code : (c : Setting) (k : KStmt) (code : List KStmt) (s : State) (P : State → Type 0) (R : Refusal)
-    → ((m : ℕ) → run c m k s ≡ run_list c m code s) → Does c code s P R → Does c (k ∷ []) s P R
-as_code c k code s P R same d = record {
+-- a statement that does what some code in it does
+as_code : (c : Setting) (k : KStmt) (code : List KStmt) (n : ℕ) (s : State) (P : State → Type 0) (R : Refusal)
+    → ((m : ℕ) → run c m k s ≡ behind n (run_list c m code s)) → Does c code s P R → Does c (k ∷ []) s P R
+as_code c k code n s P R same d = record {
   enough = d.enough;
-  outcome = d.outcome;
-  reached = λ m le. alone c m k s ∙ same m ∙ d.reached m le;
-  kept = d.kept;
+  outcome = behind n d.outcome;
+  reached = λ m le. alone c m k s ∙ same m ∙ ap (behind n) (d.reached m le);
+  kept = on_behind P R n d.outcome d.kept;
 }
 
 pub does_if_yes : (c : Setting) (e : KExpr) (first second rest : List KStmt) (s : State) (n : ℕ) (P Q : State → Type 0) (R : Refusal)
     → value e s ≡ Some (suc n) → Does c first s P R → ((s' : State) → P s' → Does c rest s' Q R) → Does c (If e first second ∷ rest) s Q R
 does_if_yes c e first second rest s n P Q R h d next =
     does_then c (If e first second) rest s P Q R
-    (as_code c (If e first second) first s P R (λ m. run_if c m e first second s
-    ∙ ap (λ v. choice s v (run_list c m first s) (run_list c m second s)) h) d) next
+    (as_code c (If e first second) first 1 s P R (λ m. run_if c m e first second s
+    ∙ ap (λ v. choice s v (behind 1 (run_list c m first s)) (behind (1 + statements_in_list first) (run_list c m second s))) h) d) next
 
 pub does_if_no : (c : Setting) (e : KExpr) (first second rest : List KStmt) (s : State) (P Q : State → Type 0) (R : Refusal)
     → value e s ≡ Some 0 → Does c second s P R → ((s' : State) → P s' → Does c rest s' Q R) → Does c (If e first second ∷ rest) s Q R
 does_if_no c e first second rest s P Q R h d next =
     does_then c (If e first second) rest s P Q R
-    (as_code c (If e first second) second s P R (λ m. run_if c m e first second s
-    ∙ ap (λ v. choice s v (run_list c m first s) (run_list c m second s)) h) d) next
+    (as_code c (If e first second) second (1 + statements_in_list first) s P R (λ m. run_if c m e first second s
+    ∙ ap (λ v. choice s v (behind 1 (run_list c m first s)) (behind (1 + statements_in_list first) (run_list c m second s))) h) d) next
+
+-- the body of a loop, which stands behind the loop's own statement
+abbrev body_of : Setting → ℕ → List KStmt → State → Outcome
+body_of c m body s = behind 1 (run_list c m body s)
 
 -- the turns of a loop, of which at most n are made
 record Loops (c : Setting) (k : LoopKind) (e : KExpr) (body : List KStmt) (n : ℕ) (s : State) (P : State
     → Type 0) (R : Refusal) : Type 0 where
   enough : ℕ
   outcome : Outcome
-  reached : (m j : ℕ) → enough ≤ m → n ≤ j → run_turns j k (value e) (run_list c m body) s ≡ outcome
+  reached : (m j : ℕ) → enough ≤ m → n ≤ j → run_turns j k (value e) (body_of c m body) s ≡ outcome
   kept : OnOutcome P R outcome
 
 run_turns_end : (k : LoopKind) (e : KExpr) (body : State → Outcome) (s : State) (j : ℕ) → value e s ≡ Some 0
@@ -249,21 +265,21 @@ after_turn c k e body n s v Less P R h enough (Ended s') reached kept next =
       outcome = d.outcome;
       reached = λ m. elim [
         | zero ↦ λ le lj. absurd (omega arith)
-        | suc j ↦ λ le lj. run_turns_go k e (run_list c m body) s j v h
-            ∙ ap (λ o. then_run o (run_turns j k (value e) (run_list c m body))) (reached m (omega arith))
+        | suc j ↦ λ le lj. run_turns_go k e (body_of c m body) s j v h
+            ∙ ap (λ o. then_run (behind 1 o) (run_turns j k (value e) (body_of c m body))) (reached m (omega arith))
             ∙ d.reached m j (omega arith) (omega arith)
       ];
       kept = d.kept;
     }
-after_turn c k e body n s v Less P R h enough (Stuck t) reached kept next = absurd kept
+after_turn c k e body n s v Less P R h enough (Stuck t statement) reached kept next = absurd kept
 after_turn c k e body n s v Less P R h enough (Over t a count) reached kept next =
     record {
       enough = enough;
       outcome = Over t a count;
       reached = λ m. elim [
         | zero ↦ λ le lj. absurd (omega arith)
-        | suc j ↦ λ le lj. run_turns_go k e (run_list c m body) s j v h
-            ∙ ap (λ o. then_run o (run_turns j k (value e) (run_list c m body))) (reached m le)
+        | suc j ↦ λ le lj. run_turns_go k e (body_of c m body) s j v h
+            ∙ ap (λ o. then_run (behind 1 o) (run_turns j k (value e) (body_of c m body))) (reached m le)
       ];
       kept = kept;
     }
@@ -278,13 +294,13 @@ loops : (c : Setting) (k : LoopKind) (e : KExpr) (body : List KStmt) (Inv : ℕ 
 loops c k e body Inv P R none ends step zero s i = record {
   enough = 0;
   outcome = Ended s;
-  reached = λ m j le lj. run_turns_end k e (run_list c m body) s j (none s i);
+  reached = λ m j le lj. run_turns_end k e (body_of c m body) s j (none s i);
   kept = ends 0 s i (none s i);
 }
 loops c k e body Inv P R none ends step (suc n) s i =
     let again = loops c k e body Inv P R none ends step n in
     elim (step n s i) [
-      | Ends z p ↦ record { enough = 0; outcome = Ended s; reached = λ m j le lj. run_turns_end k e (run_list c m body) s j z; kept = p }
+      | Ends z p ↦ record { enough = 0; outcome = Ended s; reached = λ m j le lj. run_turns_end k e (body_of c m body) s j z; kept = p }
       | Goes v g d ↦ after_turn c k e body n s v (Inv n) P R g d.enough d.outcome d.reached d.kept again
     ]
 

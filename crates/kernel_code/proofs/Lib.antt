@@ -1,4 +1,6 @@
 pub mod ArrayNames
+pub mod Behind
+pub mod Capped
 pub mod Does
 pub mod Equations
 pub mod Keeps

@@ -205,4 +205,4 @@ sort_done s t g cs ps xs ys x y l e =
     ap Ended e ∙ sym (ap (λ xs. sort_outcome s g xs ys) x ∙ ap (sort_outcome s g (Some cs)) y
     ∙ ap (λ b. if b then Ended
     (set_array (set_array s (ListCoordinates g) (map (λ r. r.coordinate) (sorted_rows (list_rows cs ps)))) (ListPositions g)
-    (map (λ r. r.position) (sorted_rows (list_rows cs ps)))) else Stuck s.turns) same)
+    (map (λ r. r.position) (sorted_rows (list_rows cs ps)))) else Stuck s.turns 1) same)

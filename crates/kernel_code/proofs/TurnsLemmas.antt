@@ -14,7 +14,8 @@ use Rattle.kernel_code.specs.Arrays.{may_write, may_have, sum_in}
 use Rattle.kernel_code.specs.Rows.{Row}
 use Rattle.kernel_code.specs.Meaning.{Setting, State, Outcome, Ended, Stuck, Over, More, value, apply_each, combined, one_turn, then_run}
 use Rattle.kernel_code.specs.Meaning.{with_value, if_written, with_array, changed, grown, sort_outcome, sort_sum_outcome, summed}
-use Rattle.kernel_code.specs.Meaning.{key_columns, set_columns, choice, run_turns, run, run_row, run_list}
+use Rattle.kernel_code.specs.Meaning.{key_columns, set_columns, choice, run_turns, run, run_row, run_list, behind}
+use Rattle.kernel_code.specs.Meaning.{statements_in, statements_in_row}
 use Rattle.kernel_code.specs.Kernels.{all_turns, within}
 use Rattle.kernel_code.specs.Turns.{AtLeast}
 use Rattle.lists.proofs.Tests.{test_within, test_beyond}
@@ -76,16 +77,22 @@ at_least_sort_sum arithmetic s w (Some keys) (Some vs) = at_least_summed arithme
 
 at_least_less : (m n : ℕ) (o : Outcome) → m ≤ n → AtLeast n o → AtLeast m o
 at_least_less m n (Ended s) h g = omega arith
-at_least_less m n (Stuck t) h g = omega arith
+at_least_less m n (Stuck t statement) h g = omega arith
 at_least_less m n (Over t a count) h g = omega arith
 at_least_less m n More h g = tt
 
 at_least_then : (n : ℕ) (o : Outcome) (next : State → Outcome) → AtLeast n o → ((s : State) → AtLeast (all_turns s.turns) (next s))
     → AtLeast n (then_run o next)
 at_least_then n (Ended s) next h g = at_least_less n (all_turns s.turns) (next s) h (g s)
-at_least_then n (Stuck t) next h g = h
+at_least_then n (Stuck t statement) next h g = h
 at_least_then n (Over t a count) next h g = h
 at_least_then n More next h g = tt
+
+at_least_behind : (n k : ℕ) (o : Outcome) → AtLeast n o → AtLeast n (behind k o)
+at_least_behind n k (Ended s) h = h
+at_least_behind n k (Stuck t statement) h = h
+at_least_behind n k (Over t a count) h = h
+at_least_behind n k More h = h
 
 at_least_choice : (n : ℕ) (s : State) (v : Option ℕ) (first second : Outcome) → n ≤ all_turns s.turns → AtLeast n first → AtLeast n second
     → AtLeast n (choice s v first second)
@@ -144,24 +151,36 @@ mutual
   at_least_run c n (Sort g) st = at_least_sort st g (st.arrays (ListCoordinates g)) (st.arrays (ListPositions g))
   at_least_run c n (SortSum w) st = at_least_sort_sum c.arithmetic st w (slice_get c.workspaces w) (st.arrays (Sums w))
   at_least_run c n (If' e p first q second) st =
-      at_least_choice (all_turns st.turns) st (value e st) (run_row c n first st) (run_row c n second st) (le_self (all_turns st.turns))
-      (at_least_row c n first st) (at_least_row c n second st)
-  at_least_run c n (While' k e p body) st = at_least_turns n k (value e) (λ s'. run_row c n body s') (at_least_row c n body) st
+      at_least_choice (all_turns st.turns) st (value e st) (behind 1 (run_row c n first st))
+      (behind (1 + statements_in_row first) (run_row c n second st)) (le_self (all_turns st.turns))
+      (at_least_behind (all_turns st.turns) 1 (run_row c n first st) (at_least_row c n first st))
+      (at_least_behind (all_turns st.turns) (1 + statements_in_row first) (run_row c n second st) (at_least_row c n second st))
+  at_least_run c n (While' k e p body) st =
+      at_least_turns n k (value e) (λ s'. behind 1 (run_row c n body s'))
+      (λ s'. at_least_behind (all_turns s'.turns) 1 (run_row c n body s') (at_least_row c n body s')) st
 
   pub at_least_row : {m : _} (c : Setting) (n : ℕ) (row : Row_of-KStmt m) (st : State) → AtLeast (all_turns st.turns) (run_row c n row st)
   at_least_row c n end_of-KStmt st = le_self (all_turns st.turns)
   at_least_row c n (more_of-KStmt s rest) st =
-      at_least_then (all_turns st.turns) (run c n s st) (λ st'. run_row c n rest st') (at_least_run c n s st) (at_least_row c n rest)
+      at_least_then (all_turns st.turns) (run c n s st) (λ st'. behind (statements_in s) (run_row c n rest st')) (at_least_run c n s st)
+      (λ st'. at_least_behind (all_turns st'.turns) (statements_in s) (run_row c n rest st') (at_least_row c n rest st'))
+
+-- what goes on behind a statement
+pub at_least_rest : (c : Setting) (n : ℕ) (s : KStmt) (rest : List KStmt)
+    → ((st : State) → AtLeast (all_turns st.turns) (run_list c n rest st))
+    → (st : State) → AtLeast (all_turns st.turns) (behind (statements_in s) (run_list c n rest st))
+at_least_rest c n s rest h st = at_least_behind (all_turns st.turns) (statements_in s) (run_list c n rest st) (h st)
 
 pub at_least_list : (c : Setting) (n : ℕ) (code : List KStmt) (st : State) → AtLeast (all_turns st.turns) (run_list c n code st)
 at_least_list c n [] st = le_self (all_turns st.turns)
 at_least_list c n (s ∷ rest) st =
-    at_least_then (all_turns st.turns) (run c n s st) (run_list c n rest) (at_least_run c n s st) (at_least_list c n rest)
+    at_least_then (all_turns st.turns) (run c n s st) (λ st'. behind (statements_in s) (run_list c n rest st')) (at_least_run c n s st)
+    (at_least_rest c n s rest (at_least_list c n rest))
 
 -- more than n turns aren't told of
 pub within_beyond : (n m : ℕ) (o : Outcome) → n < m → AtLeast m o → within n o ≡ More
 within_beyond n m (Ended s) h g = ap (λ b. if b then Ended s else More) (test_beyond (all_turns s.turns) n (omega arith))
-within_beyond n m (Stuck t) h g = ap (λ b. if b then Stuck t else More) (test_beyond (all_turns t) n (omega arith))
+within_beyond n m (Stuck t statement) h g = ap (λ b. if b then Stuck t statement else More) (test_beyond (all_turns t) n (omega arith))
 within_beyond n m (Over t a count) h g = ap (λ b. if b then Over t a count else More) (test_beyond (all_turns t) n (omega arith))
 within_beyond n m More h g = refl
 
@@ -175,9 +194,9 @@ within_then n (Ended s) next h = ended (nat_le (all_turns s.turns) n) refl
     ended true e = sym (ap (λ b. then_run (if b then Ended s else More) (λ s. within n (next s))) e)
     ended false e = within_beyond n (all_turns s.turns) (next s) (grind (arith, nat_tests, e)) (h s)
         ∙ sym (ap (λ b. then_run (if b then Ended s else More) (λ s. within n (next s))) e)
-within_then n (Stuck t) next h = stuck (nat_le (all_turns t) n)
+within_then n (Stuck t statement) next h = stuck (nat_le (all_turns t) n)
   where
-    stuck : (b : Bool) → (if b then Stuck t else More) ≡ then_run (if b then Stuck t else More) (λ s. within n (next s))
+    stuck : (b : Bool) → (if b then Stuck t statement else More) ≡ then_run (if b then Stuck t statement else More) (λ s. within n (next s))
     stuck true = refl
     stuck false = refl
 within_then n (Over t a count) next h = over (nat_le (all_turns t) n)
@@ -190,8 +209,8 @@ within_then n More next h = refl
 pub within_ended : (n : ℕ) (s : State) → all_turns s.turns ≤ n → within n (Ended s) ≡ Ended s
 within_ended n s h = ap (λ b. if b then Ended s else More) (test_within (all_turns s.turns) n h)
 
-pub within_stuck : (n : ℕ) (t : LoopKind → ℕ) → all_turns t ≤ n → within n (Stuck t) ≡ Stuck t
-within_stuck n t h = ap (λ b. if b then Stuck t else More) (test_within (all_turns t) n h)
+pub within_stuck : (n : ℕ) (t : LoopKind → ℕ) (statement : ℕ) → all_turns t ≤ n → within n (Stuck t statement) ≡ Stuck t statement
+within_stuck n t statement h = ap (λ b. if b then Stuck t statement else More) (test_within (all_turns t) n h)
 
 pub within_over : (n : ℕ) (t : LoopKind → ℕ) (a : Arr) (count : ℕ) → all_turns t ≤ n → within n (Over t a count) ≡ Over t a count
 within_over n t a count h = ap (λ b. if b then Over t a count else More) (test_within (all_turns t) n h)

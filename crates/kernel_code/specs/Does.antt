@@ -13,7 +13,7 @@ Refusal = (LoopKind → ℕ) → Arr → ℕ → Type 0
 -- P of the state that a run ends in, R of the growth that it is refused; never stuck, never out of turns
 abbrev pub OnOutcome : (State → Type 0) → Refusal → Outcome → Type 0
 OnOutcome P R (Ended s) = P s
-OnOutcome P R (Stuck t) = ⊥
+OnOutcome P R (Stuck t statement) = ⊥
 OnOutcome P R (Over t a count) = R t a count
 OnOutcome P R More = ⊥
 

@@ -18,7 +18,7 @@ all_turns t = t Merge + t Skip + t Gather + t Drain + t Probe
 -- what is told of a run within n turns in all: a run that made more isn't told
 abbrev pub within : ℕ → Outcome → Outcome
 within n (Ended s) = if nat_le (all_turns s.turns) n then Ended s else More
-within n (Stuck t) = if nat_le (all_turns t) n then Stuck t else More
+within n (Stuck t statement) = if nat_le (all_turns t) n then Stuck t statement else More
 within n (Over t a count) = if nat_le (all_turns t) n then Over t a count else More
 within n More = More
 
@@ -55,16 +55,16 @@ place_of order (Sums w) = Workspace
 place_of order (ListCoordinates g) = Workspace
 place_of order (ListPositions g) = Workspace
 
--- how a kernel's run ends
+-- how a kernel's run ends: where it is stuck, at which statement, counted from 1 in order of the first lines of the kernel's text
 pub data KernelOutcome : Type 0 where
   Finished : (arrays : Arr → Option (List ℕ)) (turns : LoopKind → ℕ) → KernelOutcome
-  GotStuck : KernelOutcome
+  GotStuck : (statement : ℕ) → KernelOutcome
   TooLong : (place : Place) (count : ℕ) → KernelOutcome
   NotFinished : KernelOutcome
 
 abbrev pub told : ℕ → Outcome → KernelOutcome
 told order (Ended s) = Finished s.arrays s.turns
-told order (Stuck t) = GotStuck
+told order (Stuck t statement) = GotStuck statement
 told order (Over t a count) = TooLong (place_of order a) count
 told order More = NotFinished
 

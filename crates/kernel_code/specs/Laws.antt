@@ -1,5 +1,5 @@
 -- The laws of the kernel language that the crates above use, as the clauses of functions.
-use Rattle.std.specs.Prelude.{◌≡◌, ℕ, ◌<◌, Bool, true, false, List, [], ◌++◌, Option, None}
+use Rattle.std.specs.Prelude.{◌≡◌, ℕ, ◌+◌, ◌<◌, Bool, true, false, List, [], ◌++◌, Option, None}
 use Rattle.kernel_code.specs.declared.syntax.Arr.{Arr}
 use Rattle.kernel_code.specs.declared.syntax.Arr.TheVariants.{Range, Values, Dimension, Ends, Coordinates, Width, Key, Sums}
 use Rattle.kernel_code.specs.declared.syntax.Arr.TheVariants.{ListCoordinates, ListPositions}
@@ -7,7 +7,7 @@ use Rattle.kernel_code.specs.declared.syntax.Kernel.{Kernel}
 use Rattle.kernel_code.specs.declared.syntax.LoopKind.{LoopKind}
 use Rattle.kernel_code.specs.declared.syntax.KExpr.{KExpr}
 use Rattle.kernel_code.specs.declared.syntax.KStmt.{KStmt, If, While}
-use Rattle.kernel_code.specs.Meaning.{Setting, State, value, choice, then_run, run, run_list, run_turns}
+use Rattle.kernel_code.specs.Meaning.{Setting, State, value, choice, then_run, behind, run, run_list, run_turns, statements_in_list}
 use Rattle.kernel_code.specs.Kernels.{all_turns, start_arrays}
 use Rattle.kernel_code.specs.Turns.{AtLeast}
 use Rattle.kernel_code.specs.Keeps.{Below}
@@ -17,19 +17,21 @@ abbrev pub DependsOnMentioned : Type 0
 DependsOnMentioned = (free : ℕ) (e : KExpr) (s s' : State) → Below free e → ((y : ℕ) → y < free → s'.vars y ≡ s.vars y)
     → ((a : Arr) → s'.arrays a ≡ s.arrays a) → value e s' ≡ value e s
 
--- code and then more code does the one and then the other
+-- code and then more code does the one and then the other, which stands behind the statements of the one
 abbrev pub RunsInOrder : Type 0
-RunsInOrder = (c : Setting) (n : ℕ) (a b : List KStmt) (s : State) → run_list c n (a ++ b) s ≡ then_run (run_list c n a s) (run_list c n b)
+RunsInOrder = (c : Setting) (n : ℕ) (a b : List KStmt) (s : State)
+    → run_list c n (a ++ b) s ≡ then_run (run_list c n a s) (λ s'. behind (statements_in_list a) (run_list c n b s'))
 
--- a choice does one of its bodies, by its test
+-- a choice does one of its bodies, by its test; the second stands behind the first
 abbrev pub ChoosesByTest : Type 0
 ChoosesByTest = (c : Setting) (n : ℕ) (e : KExpr) (first second : List KStmt) (s : State)
-    → run c n (If e first second) s ≡ choice s (value e s) (run_list c n first s) (run_list c n second s)
+    → run c n (If e first second) s
+    ≡ choice s (value e s) (behind 1 (run_list c n first s)) (behind (1 + statements_in_list first) (run_list c n second s))
 
 -- a loop does its body turn by turn
 abbrev pub LoopsByTurns : Type 0
 LoopsByTurns = (c : Setting) (n : ℕ) (k : LoopKind) (e : KExpr) (body : List KStmt) (s : State)
-    → run c n (While k e body) s ≡ run_turns n k (value e) (run_list c n body) s
+    → run c n (While k e body) s ≡ run_turns n k (value e) (λ s'. behind 1 (run_list c n body s')) s
 
 -- a run leaves at least the turns that it starts with
 abbrev pub TurnsNeverFall : Type 0

@@ -17,7 +17,7 @@ use Rattle.kernel_code.specs.declared.syntax.KExpr.{KExpr, Num, Var, At', Len, B
 use Rattle.kernel_code.specs.declared.syntax.KExpr.{more_of-KExpr}
 use Rattle.kernel_code.specs.declared.syntax.KStmt.{KStmt, Set, Combine, Put, AddTo, Push, Extend, Cut, Sort, SortSum, If', While'}
 use Rattle.kernel_code.specs.declared.syntax.KStmt.{Row_of-KStmt, end_of-KStmt, more_of-KStmt}
-use Rattle.kernel_code.specs.Arrays.{same_arr, may_write, may_have, told_count, sum_in}
+use Rattle.kernel_code.specs.Arrays.{same_arr, may_write, may_have, told_count, sum_in, word_count}
 use Rattle.kernel_code.specs.Rows.{sorted_rows, list_rows, Row, summed_rows, rows_from, column_of}
 
 -- how values are added, and the number of keys of each workspace
@@ -31,11 +31,12 @@ pub record State : Type 0 where
   pub arrays : Arr → Option (List ℕ)
   pub turns : LoopKind → ℕ
 
--- how a run ends, each with the turns made: Over names the array and the count that is told of the length that the refused
+-- how a run ends, each with the turns made: Stuck tells which statement can't go on, counted from 1 in the order in which the
+-- statements of the code that is run begin; Over names the array and the count that is told of the length that the refused
 -- growth would have given; More where a loop had no turn left
 pub data Outcome : Type 0 where
   Ended : (s : State) → Outcome
-  Stuck : (turns : LoopKind → ℕ) → Outcome
+  Stuck : (turns : LoopKind → ℕ) (statement : ℕ) → Outcome
   Over : (turns : LoopKind → ℕ) (a : Arr) (count : ℕ) → Outcome
   More : Outcome
 
@@ -129,18 +130,30 @@ abbrev mutual
 -- what follows where a run has ended
 abbrev pub then_run : Outcome → (State → Outcome) → Outcome
 then_run (Ended s) next = next s
-then_run (Stuck t) next = Stuck t
+then_run (Stuck t statement) next = Stuck t statement
 then_run (Over t a count) next = Over t a count
 then_run More next = More
 
+-- a statement's number where so many statements come before the first that was counted; it stays at the last word
+abbrev pub number_behind : ℕ → ℕ → ℕ
+number_behind zero statement = statement
+number_behind (suc n) statement = word_count (suc n + statement)
+
+-- what code does that stands behind so many statements: where it is stuck, they count too
+abbrev pub behind : ℕ → Outcome → Outcome
+behind n (Ended s) = Ended s
+behind n (Stuck t statement) = Stuck t (number_behind n statement)
+behind n (Over t a count) = Over t a count
+behind n More = More
+
 -- what follows where a value is there
 abbrev pub with_value : State → Option ℕ → (ℕ → Outcome) → Outcome
-with_value s None next = Stuck s.turns
+with_value s None next = Stuck s.turns 1
 with_value s (Some v) next = next v
 
 abbrev pub if_written : State → Bool → Option (List ℕ) → (List ℕ → Outcome) → Outcome
-if_written s false xs next = Stuck s.turns
-if_written s true None next = Stuck s.turns
+if_written s false xs next = Stuck s.turns 1
+if_written s true None next = Stuck s.turns 1
 if_written s true (Some xs) next = next xs
 
 -- what follows with the words of an array that is there and may be written
@@ -152,7 +165,7 @@ set_outcome s x v = with_value s v (λ v. Ended (set_var s x v))
 
 -- a word changed at an index, which has to be below the length
 abbrev pub changed : State → Arr → ℕ → (ℕ → ℕ) → List ℕ → Outcome
-changed s a i f xs = if nat_lt i (length xs) then Ended (set_array s a (slice_set xs i (f (slice_index xs i)))) else Stuck s.turns
+changed s a i f xs = if nat_lt i (length xs) then Ended (set_array s a (slice_set xs i (f (slice_index xs i)))) else Stuck s.turns 1
 
 abbrev pub put_outcome : State → Arr → Option ℕ → Option ℕ → Outcome
 put_outcome s a i v = with_value s i (λ i. with_value s v (λ v. with_array s a (changed s a i (λ old. v))))
@@ -176,13 +189,13 @@ cut_outcome s a n = with_value s n (λ n. with_array s a (λ xs. Ended (set_arra
 
 -- the rows of scratch list g, in two arrays that are equally long
 abbrev pub sort_outcome : State → ℕ → Option (List ℕ) → Option (List ℕ) → Outcome
-sort_outcome s g None ps = Stuck s.turns
-sort_outcome s g (Some cs) None = Stuck s.turns
+sort_outcome s g None ps = Stuck s.turns 1
+sort_outcome s g (Some cs) None = Stuck s.turns 1
 sort_outcome s g (Some cs) (Some ps) =
     let rows = sorted_rows (list_rows cs ps) in
     if length cs == length ps
     then Ended (set_array (set_array s (ListCoordinates g) (map (λ r. r.coordinate) rows)) (ListPositions g) (map (λ r. r.position) rows))
-    else Stuck s.turns
+    else Stuck s.turns 1
 
 -- the first n key columns of workspace w, if they are there and each has so many words
 abbrev pub one_more_column : ℕ → Option (List (List ℕ)) → Option (List ℕ) → Option (List (List ℕ))
@@ -200,20 +213,20 @@ set_columns s w rows zero = s
 set_columns s w rows (suc n) = set_array (set_columns s w rows n) (Key w n) (column_of n rows)
 
 abbrev pub summed : Arithmetic → State → ℕ → ℕ → List ℕ → Option (List (List ℕ)) → Outcome
-summed arithmetic s w keys vs None = Stuck s.turns
+summed arithmetic s w keys vs None = Stuck s.turns 1
 summed arithmetic s w keys vs (Some columns) =
     let rows = summed_rows arithmetic (rows_from columns 0 vs) in
     Ended (set_array (set_columns s w rows keys) (Sums w) (map (λ r. r.value) rows))
 
 -- the rows of workspace w, in its key columns and its values, which are equally long
 abbrev pub sort_sum_outcome : Arithmetic → State → ℕ → Option ℕ → Option (List ℕ) → Outcome
-sort_sum_outcome arithmetic s w None vs = Stuck s.turns
-sort_sum_outcome arithmetic s w (Some keys) None = Stuck s.turns
+sort_sum_outcome arithmetic s w None vs = Stuck s.turns 1
+sort_sum_outcome arithmetic s w (Some keys) None = Stuck s.turns 1
 sort_sum_outcome arithmetic s w (Some keys) (Some vs) = summed arithmetic s w keys vs (key_columns s w (length vs) keys)
 
 -- one of two by a test
 abbrev pub choice : State → Option ℕ → Outcome → Outcome → Outcome
-choice s None first second = Stuck s.turns
+choice s None first second = Stuck s.turns 1
 choice s (Some zero) first second = second
 choice s (Some (suc n)) first second = first
 
@@ -223,7 +236,23 @@ run_turns zero k test body s = choice s (test s) More (Ended s)
 run_turns (suc n) k test body s = choice s (test s) (then_run (body (one_turn s k)) (run_turns n k test body)) (Ended s)
 
 abbrev mutual
-  -- a statement, each loop entry for at most n turns
+  -- how many statements begin in a statement: itself and those of its bodies
+  pub statements_in : KStmt → ℕ
+  statements_in (If' e p first q second) = 1 + (statements_in_row first + statements_in_row second)
+  statements_in (While' k e p body) = 1 + statements_in_row body
+  statements_in _ = 1
+
+  pub statements_in_row : {m : _} → Row_of-KStmt m → ℕ
+  statements_in_row end_of-KStmt = 0
+  statements_in_row (more_of-KStmt s rest) = statements_in s + statements_in_row rest
+
+-- how many statements begin in a list of them
+abbrev pub statements_in_list : List KStmt → ℕ
+statements_in_list [] = 0
+statements_in_list (s ∷ rest) = statements_in s + statements_in_list rest
+
+abbrev mutual
+  -- a statement, each loop entry for at most n turns; it is itself the first, the bodies of an `if` or a loop stand behind it
   pub run : Setting → ℕ → KStmt → State → Outcome
   run c n (Set x e) s = set_outcome s x (value e s)
   run c n (Combine x o e f) s = set_outcome s x (apply_each (combined c.arithmetic o) (value e s) (value f s))
@@ -234,15 +263,16 @@ abbrev mutual
   run c n (Cut a e) s = cut_outcome s a (value e s)
   run c n (Sort g) s = sort_outcome s g (s.arrays (ListCoordinates g)) (s.arrays (ListPositions g))
   run c n (SortSum w) s = sort_sum_outcome c.arithmetic s w (slice_get c.workspaces w) (s.arrays (Sums w))
-  run c n (If' e p first q second) s = choice s (value e s) (run_row c n first s) (run_row c n second s)
-  run c n (While' k e p body) s = run_turns n k (value e) (λ s'. run_row c n body s') s
+  run c n (If' e p first q second) s =
+      choice s (value e s) (behind 1 (run_row c n first s)) (behind (1 + statements_in_row first) (run_row c n second s))
+  run c n (While' k e p body) s = run_turns n k (value e) (λ s'. behind 1 (run_row c n body s')) s
 
   -- the statements of a list inside a statement
   pub run_row : {m : _} → Setting → ℕ → Row_of-KStmt m → State → Outcome
   run_row c n end_of-KStmt s = Ended s
-  run_row c n (more_of-KStmt s rest) st = then_run (run c n s st) (λ st'. run_row c n rest st')
+  run_row c n (more_of-KStmt s rest) st = then_run (run c n s st) (λ st'. behind (statements_in s) (run_row c n rest st'))
 
 -- the statements of a list
 abbrev pub run_list : Setting → ℕ → List KStmt → State → Outcome
 run_list c n [] st = Ended st
-run_list c n (s ∷ rest) st = then_run (run c n s st) (run_list c n rest)
+run_list c n (s ∷ rest) st = then_run (run c n s st) (λ st'. behind (statements_in s) (run_list c n rest st'))

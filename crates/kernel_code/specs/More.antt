@@ -9,7 +9,7 @@ use Rattle.kernel_code.specs.Kernels.{go, NotFinished}
 -- a run that more turns don't change
 abbrev pub Settled : Outcome → Type 0
 Settled (Ended s) = Unit {0}
-Settled (Stuck t) = Unit {0}
+Settled (Stuck t statement) = Unit {0}
 Settled (Over t a count) = Unit {0}
 Settled More = ⊥
 

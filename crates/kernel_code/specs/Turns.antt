@@ -7,6 +7,6 @@ use Rattle.kernel_code.specs.Kernels.{all_turns}
 -- a run that leaves at least n turns
 abbrev pub AtLeast : ℕ → Outcome → Type 0
 AtLeast n (Ended s) = n ≤ all_turns s.turns
-AtLeast n (Stuck t) = n ≤ all_turns t
+AtLeast n (Stuck t statement) = n ≤ all_turns t
 AtLeast n (Over t a count) = n ≤ all_turns t
 AtLeast n More = Unit {0}

@@ -9,7 +9,7 @@ use Rattle.kernel_correctness.specs.CodeEnds.{ToldOf, EndsAsCodeDoes}
 
 abbrev turns_of : Outcome → ℕ
 turns_of (Ended s) = all_turns s.turns
-turns_of (Stuck t) = all_turns t
+turns_of (Stuck t statement) = all_turns t
 turns_of (Over t a count) = all_turns t
 turns_of More = 0
 
@@ -18,13 +18,13 @@ few m n h = grind (arith, nat_tests, h)
 
 within_all : (n : ℕ) (o : Outcome) → turns_of o ≤ n → within n o ≡ o
 within_all n (Ended s) h = ap (λ b. if b then Ended s else More) (few (all_turns s.turns) n h)
-within_all n (Stuck t) h = ap (λ b. if b then Stuck t else More) (few (all_turns t) n h)
+within_all n (Stuck t statement) h = ap (λ b. if b then Stuck t statement else More) (few (all_turns t) n h)
 within_all n (Over t a count) h = ap (λ b. if b then Over t a count else More) (few (all_turns t) n h)
 within_all n More h = refl
 
 told_of : (order : ℕ) (P : State → Type 0) (R : Refusal) (o : Outcome) → OnOutcome P R o → ToldOf order P R (told order o)
 told_of order P R (Ended s) h = (s, h, refl, refl)
-told_of order P R (Stuck t) h = absurd h
+told_of order P R (Stuck t statement) h = absurd h
 told_of order P R (Over t a count) h = (t, (a, h, refl))
 told_of order P R More h = absurd h
 

@@ -83,7 +83,7 @@ keeps_rules a s inputs store arrays is_format left = record {
 sound_outcome : (a : Arithmetic) (s : Statement) (inputs : Inputs) (store : Store) (o : KernelOutcome)
     → IsFormat store.format → IsRightOutcome a s inputs store o → IsSoundOutcome a.zero store o
 sound_outcome a s inputs store (Finished arrays turns) is_format r = keeps_rules a s inputs store arrays is_format r
-sound_outcome a s inputs store GotStuck is_format r = absurd r
+sound_outcome a s inputs store (GotStuck statement) is_format r = absurd r
 sound_outcome a s inputs store (TooLong place count) is_format r = tt
 sound_outcome a s inputs store NotFinished is_format r = absurd r
 

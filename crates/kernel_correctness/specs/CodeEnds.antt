@@ -13,7 +13,7 @@ use Rattle.kernel_correctness.specs.Kernels.{Ends}
 -- what is told of code that ends so, or is refused such a growth
 abbrev pub ToldOf : ℕ → (State → Type 0) → Refusal → KernelOutcome → Type 0
 ToldOf order P R (Finished arrays turns) = (s : State) × P s × (s.arrays ≡ arrays) × (s.turns ≡ turns)
-ToldOf order P R GotStuck = ⊥
+ToldOf order P R (GotStuck statement) = ⊥
 ToldOf order P R (TooLong place count) = (t : LoopKind → ℕ) × ((a : Arr) × R t a count × (place_of order a ≡ place))
 ToldOf order P R NotFinished = ⊥
 

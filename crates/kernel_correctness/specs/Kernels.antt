@@ -24,7 +24,7 @@ standing_order s = numbers_from 0 (length s.vars)
 -- are of a term and a point where it is present
 abbrev pub IsRightOutcome : Arithmetic → Statement → Inputs → Store → KernelOutcome → Type 0
 IsRightOutcome a s inputs store (Finished arrays turns) = LeavesResult a s inputs store arrays
-IsRightOutcome a s inputs store GotStuck = ⊥
+IsRightOutcome a s inputs store (GotStuck statement) = ⊥
 IsRightOutcome a s inputs store (TooLong (Level level) count) = MayPass a s inputs store level count
 IsRightOutcome a s inputs store (TooLong Workspace count) =
     (greatest_position_count < count) × (count ≤ pairs s (standing_order s) inputs) × (AreAllDense store.format → ⊥)
@@ -45,7 +45,7 @@ IsRightKernel a s formats kernel = (store : Store) → IsStoreOf s formats store
 -- it finishes with a storage that keeps the rules, or is refused a growth; it is never stuck, and its turns come to an end
 abbrev pub IsSoundOutcome : ℕ → Store → KernelOutcome → Type 0
 IsSoundOutcome nothing store (Finished arrays turns) = LeavesStorage nothing store arrays
-IsSoundOutcome nothing store GotStuck = ⊥
+IsSoundOutcome nothing store (GotStuck statement) = ⊥
 IsSoundOutcome nothing store (TooLong place count) = Unit {0}
 IsSoundOutcome nothing store NotFinished = ⊥
 

@@ -1,6 +1,7 @@
 pub mod ColumnLemmas
 pub mod MemoryLemmas
 pub mod NoRefusal
+pub mod Numbers
 pub mod RunLemmas
 pub mod StoreLemmas
 pub mod ToldLemmas

@@ -122,14 +122,14 @@ changed_at m a i w new j f s l n e =
     ∙ ap (λ xs. Ended (set_array (state_of m) a xs)) e
     ∙ sym (with_array_at m a i w (changed (state_of m) a j f) s
     ∙ ap (λ b. if b then Ended (set_array (state_of m) a (slice_set w.words.items j (f (slice_index w.words.items j)))) else Stuck
-    (state_of m).turns) (test_below j (length w.words.items) l))
+    (state_of m).turns 1) (test_below j (length w.words.items) l))
 
 pub not_changed_at : (m : Machine) (a : Arr) (i : ℕ) (w : OwnArray) (j : ℕ) (f : ℕ → ℕ) → Stands m a i w → length w.words.items ≤ j
-    → Stuck (state_of m).turns ≡ with_array (state_of m) a (changed (state_of m) a j f)
+    → Stuck (state_of m).turns 1 ≡ with_array (state_of m) a (changed (state_of m) a j f)
 not_changed_at m a i w j f s l =
     sym (with_array_at m a i w (changed (state_of m) a j f) s
     ∙ ap (λ b. if b then Ended (set_array (state_of m) a (slice_set w.words.items j (f (slice_index w.words.items j)))) else Stuck
-    (state_of m).turns) (test_not_below j (length w.words.items) l))
+    (state_of m).turns 1) (test_not_below j (length w.words.items) l))
 
 pub grown_at : (m : Machine) (a : Arr) (i : ℕ) (w new : OwnArray) (count : List ℕ → ℕ) (more : List ℕ) → Stands m a i w
     → may_have a (count w.words.items) ≡ true → new.name ≡ w.name → new.words.items ≡ w.words.items ++ more

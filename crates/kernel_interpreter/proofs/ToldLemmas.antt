@@ -12,7 +12,7 @@ use Rattle.kernel_interpreter.specs.Store.{state_of, outcome_of, count_of, made}
 
 told_at : (n : ℕ) (e : Ending) (s : State) → all_turns s.turns ≤ n → within n (outcome_of e s) ≡ outcome_of e s
 told_at n ending.Ended s l = within_ended n s l
-told_at n ending.Stuck s l = within_stuck n s.turns l
+told_at n (ending.Stuck statement) s l = within_stuck n s.turns statement l
 told_at n (ending.Over a count) s l = within_over n s.turns a count l
 told_at n ending.More s l = refl
 

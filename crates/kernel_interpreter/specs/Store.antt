@@ -50,13 +50,13 @@ state_of m = record { vars = held m.variables; arrays = array_of m; turns = coun
 
 abbrev pub outcome_of : Ending → State → Outcome
 outcome_of ending.Ended s = Ended s
-outcome_of ending.Stuck s = Stuck s.turns
+outcome_of (ending.Stuck statement) s = Stuck s.turns statement
 outcome_of (ending.Over a count) s = Over s.turns a count
 outcome_of ending.More s = More
 
 abbrev pub has_ended : Ending → Bool
 has_ended ending.Ended = true
-has_ended ending.Stuck = false
+has_ended (ending.Stuck statement) = false
 has_ended (ending.Over a count) = false
 has_ended ending.More = false
 

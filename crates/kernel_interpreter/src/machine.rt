@@ -14,7 +14,7 @@ ghost use Rattle.machine_parts.specs.Rows.{row_of};
 ghost use Rattle.kernel_interpreter.specs.Memory.{variable_room};
 ghost use Rattle.kernel_interpreter.specs.Store.{count_of, state_of, own_array, outcome_of, made, IsPlaceOf, IsWritable};
 
-use crate::ending::Ending;
+use crate::ending::{Ending, STUCK};
 use kernel_code::{Arr, KExpr, LoopKind, Turns, apply_to_words, least_operand, width_of_operand};
 use lent_arrays::LentArrays;
 use machine_parts::{
@@ -235,7 +235,7 @@ impl<'a> Machine<'a> {
         ensures memory { (n : ℕ) → x < n → n ≤ variable_room self.old → IsOkAnd result (λ _. n ≤ variable_room self.new) }
     {
         let Some(value) = value else {
-            return Ok(Ending::Stuck);
+            return Ok(STUCK);
         };
         self.variables.set(x, value)?;
         Ok(Ending::Ended)
@@ -243,7 +243,7 @@ impl<'a> Machine<'a> {
 
     /// The place of an array that exists and may be written.
     fn writable(&self, a: Arr) -> Option<usize>
-        ensures { MatchOption result ((next : List ℕ → Outcome) → with_array (state_of self.now) a next ≡ Stuck (state_of self.now).turns)
+        ensures { MatchOption result ((next : List ℕ → Outcome) → with_array (state_of self.now) a next ≡ Stuck (state_of self.now).turns 1)
             (IsWritable self.now a) }
     {
         if !may_be_written(a) {
@@ -259,11 +259,11 @@ impl<'a> Machine<'a> {
         ensures variables { self.new.variables ≡ self.old.variables }
     {
         let Some(place) = self.writable(a) else {
-            return Ending::Stuck;
+            return STUCK;
         };
         let words = &mut self.arrays[place].words;
         if i >= words.len() as u64 {
-            return Ending::Stuck;
+            return STUCK;
         }
         words.set(i as usize, value);
         Ending::Ended
@@ -276,11 +276,11 @@ impl<'a> Machine<'a> {
         ensures variables { self.new.variables ≡ self.old.variables }
     {
         let Some(place) = self.writable(a) else {
-            return Ending::Stuck;
+            return STUCK;
         };
         let words = &mut self.arrays[place].words;
         if i >= words.len() as u64 {
-            return Ending::Stuck;
+            return STUCK;
         }
         let sum = sum_of_words::<S>(a, words.get(i as usize), value);
         words.set(i as usize, sum);
@@ -293,7 +293,7 @@ impl<'a> Machine<'a> {
         ensures turns { OnOk result (self.new.turns ≡ self.old.turns) }
     {
         let Some(place) = self.writable(a) else {
-            return Ok(Ending::Stuck);
+            return Ok(STUCK);
         };
         let words = &mut self.arrays[place].words;
         let length = words.len() as u64;
@@ -311,7 +311,7 @@ impl<'a> Machine<'a> {
         ensures turns { OnOk result (self.new.turns ≡ self.old.turns) }
     {
         let Some(place) = self.writable(a) else {
-            return Ok(Ending::Stuck);
+            return Ok(STUCK);
         };
         let words = &mut self.arrays[place].words;
         let length = words.len() as u64;
@@ -330,7 +330,7 @@ impl<'a> Machine<'a> {
         ensures variables { self.new.variables ≡ self.old.variables }
     {
         let Some(place) = self.writable(a) else {
-            return Ending::Stuck;
+            return STUCK;
         };
         self.arrays[place].words.truncate(n as usize);
         Ending::Ended
@@ -343,7 +343,7 @@ impl<'a> Machine<'a> {
     {
         match (i, value) {
             (Some(i), Some(value)) => self.put_word(a, i, value),
-            _ => Ending::Stuck,
+            _ => STUCK,
         }
     }
 
@@ -354,7 +354,7 @@ impl<'a> Machine<'a> {
     {
         match (i, value) {
             (Some(i), Some(value)) => self.add_word::<S>(a, i, value),
-            _ => Ending::Stuck,
+            _ => STUCK,
         }
     }
 
@@ -364,7 +364,7 @@ impl<'a> Machine<'a> {
     {
         match value {
             Some(value) => self.push_word(a, value),
-            None => Ok(Ending::Stuck),
+            None => Ok(STUCK),
         }
     }
 
@@ -379,7 +379,7 @@ impl<'a> Machine<'a> {
     {
         match (n, value) {
             (Some(n), Some(value)) => self.extend_words(a, n, value),
-            _ => Ok(Ending::Stuck),
+            _ => Ok(STUCK),
         }
     }
 
@@ -390,7 +390,7 @@ impl<'a> Machine<'a> {
     {
         match n {
             Some(n) => self.cut_words(a, n),
-            None => Ending::Stuck,
+            None => STUCK,
         }
     }
 
@@ -428,13 +428,13 @@ impl<'a> Machine<'a> {
         ensures refused { OnErr result (self.new ≡ self.old) }
     {
         let Some(coordinates) = self.array(Arr::ListCoordinates(list)) else {
-            return Ok(Ending::Stuck);
+            return Ok(STUCK);
         };
         let Some(positions) = self.array(Arr::ListPositions(list)) else {
-            return Ok(Ending::Stuck);
+            return Ok(STUCK);
         };
         if coordinates.len() != positions.len() {
-            return Ok(Ending::Stuck);
+            return Ok(STUCK);
         }
         let mut rows = rows_of_list(self.alloc, coordinates, positions)?;
         sort_rows(&mut rows)?;
@@ -511,13 +511,13 @@ impl<'a> Machine<'a> {
         ensures turns { OnOk result (self.new.turns ≡ self.old.turns) }
     {
         let Some(keys) = number_of_keys(workspaces, workspace) else {
-            return Ok(Ending::Stuck);
+            return Ok(STUCK);
         };
         let Some(values) = self.array(Arr::Sums(workspace)) else {
-            return Ok(Ending::Stuck);
+            return Ok(STUCK);
         };
         let Some(columns) = self.key_columns(workspace, keys, values.len())? else {
-            return Ok(Ending::Stuck);
+            return Ok(STUCK);
         };
         let rows = sum_rows::<S>(self.alloc, columns.as_slice(), values)?;
         drop(columns);

@@ -1,11 +1,11 @@
 //! Statements and loops, one turn after another.
 ghost use Rattle.std.specs.Prelude.{◌≡◌, ◌≤◌, ℕ, IfOk, IsOkAnd, OnOk};
-ghost use Rattle.kernel_code.specs.Meaning.{Ended, run, run_list, run_turns, value};
+ghost use Rattle.kernel_code.specs.Meaning.{behind, run, run_list, run_turns, value};
 ghost use Rattle.kernel_code.specs.Kernels.{within};
 ghost use Rattle.kernel_interpreter.specs.Memory.{NeedsNone, Through, Throughout, variable_room};
 ghost use Rattle.kernel_interpreter.specs.Store.{state_of, outcome_of, made, setting};
 
-use crate::ending::Ending;
+use crate::ending::{Ending, STUCK};
 use crate::machine::{Machine, value_of};
 use kernel_code::{KExpr, KStmt, LoopKind};
 use machine_parts::combine_operands;
@@ -62,9 +62,15 @@ pub(crate) fn run_statement<S: Semiring>(
         KStmt::Sort(list) => machine.sort(*list),
         KStmt::SortSum(workspace) => machine.sort_sum::<S>(*workspace, workspaces),
         KStmt::If(e, first, second) => match value_of(machine, e) {
-            None => Ok(Ending::Stuck),
-            Some(0) => run_statements::<S>(machine, second.as_slice(), workspaces, limit),
-            Some(_) => run_statements::<S>(machine, first.as_slice(), workspaces, limit),
+            None => Ok(STUCK),
+            Some(0) => {
+                let ending = run_statements::<S>(machine, second.as_slice(), workspaces, limit)?;
+                Ok(ending.behind(first.as_slice()).inside())
+            }
+            Some(_) => {
+                let ending = run_statements::<S>(machine, first.as_slice(), workspaces, limit)?;
+                Ok(ending.inside())
+            }
         },
         KStmt::While(kind, e, body) => {
             run_loop::<S>(machine, body.as_slice(), *kind, e, workspaces, limit)
@@ -86,10 +92,10 @@ pub fn run_statements<S: Semiring>(
     ensures memory { (n : ℕ) → n ≤ variable_room machine.old → Through (NeedsNone n) statements.now
         → IsOkAnd result (λ _. n ≤ variable_room machine.new) }
 {
-    for s in statements {
+    for (i, s) in statements.iter().enumerate() {
         let ending = run_statement::<S>(machine, s, workspaces, limit)?;
         if !ending.has_ended() {
-            return Ok(ending);
+            return Ok(ending.behind(&statements[..i]));
         }
     }
     Ok(Ending::Ended)
@@ -107,14 +113,14 @@ fn run_loop<S: Semiring>(
 ) -> Result<Ending, AllocError>
     requires { made machine.old ≤ limit }
     ensures is { IfOk result (λ ending. outcome_of ending (state_of machine.new)
-        ≡ within limit (run_turns limit kind (value e.now) (run_list (setting S.arithmetic workspaces.now) limit body.now)
-        (state_of machine.old))) }
+        ≡ within limit (run_turns limit kind (value e.now)
+        (λ s. behind 1 (run_list (setting S.arithmetic workspaces.now) limit body.now s)) (state_of machine.old))) }
     ensures memory { (n : ℕ) → n ≤ variable_room machine.old → Through (NeedsNone n) body.now
         → IsOkAnd result (λ _. n ≤ variable_room machine.new) }
 {
     for _ in 0..limit {
         match value_of(machine, e) {
-            None => return Ok(Ending::Stuck),
+            None => return Ok(STUCK),
             Some(0) => return Ok(Ending::Ended),
             Some(_) => {}
         }
@@ -124,11 +130,11 @@ fn run_loop<S: Semiring>(
         machine.count_turn(kind);
         let ending = run_statements::<S>(machine, body, workspaces, limit)?;
         if !ending.has_ended() {
-            return Ok(ending);
+            return Ok(ending.inside());
         }
     }
     match value_of(machine, e) {
-        None => Ok(Ending::Stuck),
+        None => Ok(STUCK),
         Some(0) => Ok(Ending::Ended),
         Some(_) => Ok(Ending::More),
     }

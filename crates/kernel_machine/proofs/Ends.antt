@@ -59,6 +59,6 @@ pub sound_leaves : (a : Arithmetic) (order : ℕ) (kernel : Kernel) (store : Sto
 sound_leaves a order kernel store given arrays turns e f = sound_at a order kernel store given (Finished arrays turns) e f (λ n. cc)
 
 -- and is never stuck
-pub never_stuck : (a : Arithmetic) (order : ℕ) (kernel : Kernel) (store : Store) (given : Arrays)
-    → Ends a order kernel given (IsSoundOutcome a.zero store) → go a order kernel given most_turns ≡ GotStuck → ⊥
-never_stuck a order kernel store given e f = sound_at a order kernel store given GotStuck e f (λ n. cc)
+pub never_stuck : (a : Arithmetic) (order : ℕ) (kernel : Kernel) (store : Store) (given : Arrays) (statement : ℕ)
+    → Ends a order kernel given (IsSoundOutcome a.zero store) → go a order kernel given most_turns ≡ GotStuck statement → ⊥
+never_stuck a order kernel store given statement e f = sound_at a order kernel store given (GotStuck statement) e f (λ n. cc)

@@ -1,7 +1,8 @@
 -- The arrays of a machine that was begun are those with which a kernel's run starts on its store.
-use Rattle.std.specs.Prelude.{◌≡◌, ℕ, zero, suc, ◌+◌, ◌==◌, true, false, List, [], ◌∷◌, map, Option, Some, None, slice_get}
-use Rattle.std.specs.Prelude.{refl}
-use Rattle.std.proofs.Common.{◌∙◌, ap, arith}
+use Rattle.std.specs.Prelude.{◌≡◌, ℕ, zero, suc, ◌+◌, ◌≤◌, ◌<◌, ◌==◌, true, false, List, [], ◌∷◌, map, Option, Some, None, slice_get}
+use Rattle.std.specs.Prelude.{length, refl}
+use Rattle.std.specs.Bool.{then_some}
+use Rattle.std.proofs.Common.{◌∙◌, sym, ap, subst, arith}
 use Rattle.std.proofs.lemmas.Bool.Decides.{nat_tests}
 use Rattle.kernel_code.specs.declared.syntax.Arr.{Arr}
 use Rattle.kernel_code.specs.declared.syntax.Arr.TheVariants.{Range, Values, Dimension, Ends, Coordinates, Width, Key, Sums}
@@ -25,17 +26,18 @@ use Rattle.tensor_storage.specs.Laws.{laws}
 use Rattle.tensor_storage.specs.Levels.{meaning}
 use Rattle.lent_arrays.specs.declared.lent.LentArrays.{LentArrays}
 use Rattle.lent_arrays.specs.declared.lent.Operand.{Operand}
-use Rattle.lent_arrays.specs.Lent.{numbered, words_of_level, words_of_operand, values_of_operand, one_word, lent_array}
+use Rattle.lent_arrays.specs.Lent.{numbered, words_of_level, words_of_operand, values_of_operand, one_word, if_there, size_in, lent_array}
 use Rattle.kernel_interpreter.specs.declared.machine.Machine.{Machine}
 use Rattle.kernel_interpreter.specs.Store.{own_array, by_right, state_of}
 use Rattle.machine_starts.specs.Begun.{filled_with, with_zeros, begun, begun_result, with_keys, with_workspaces, with_lists, HasSizes, AreBegun}
-use Rattle.level_core.specs.Kinds.{parents_below, zeros_at_start}
-use Rattle.machine_starts.specs.Begun.{IsFew}
+use Rattle.level_core.specs.Kinds.{properties, parents_below, zeros_at_start}
+use Rattle.machine_starts.specs.Begun.{IsFew, IsNotMade, sizes_lent}
+use Rattle.machine_starts.proofs.Alone.{result_lacks, result_above, result_behind, no_size}
 use Rattle.machine_starts.specs.Lending.{Parts, lent_of, parts_of}
 use Rattle.machine_starts.proofs.Begun.{result_apart, result_begun, IsFrom}
 use Rattle.machine_starts.proofs.NoRows.{NoScratch, scratch_begun}
 use Rattle.kernel_correctness.specs.Stores.{AreHeld, OperandsHeld, StartsBelow, StartsFew, IsGiven}
-use Rattle.kernel_machine.specs.Begins.{StartsOn, store_of}
+use Rattle.kernel_machine.specs.Begins.{StartsOn, HaveNoMore, Lacks, words_in, stored_words, stored_values, store_of}
 
 -- what no step changes: variables and turns
 abbrev Same : State → State → Type 0
@@ -79,13 +81,16 @@ lists_same : (n : ℕ) (s : State) → Same s (with_lists n s)
 lists_same zero s = (refl, refl)
 lists_same (suc n) s = lists_same n s
 
--- the ranges of the result's levels stand in their arrays
-has_sizes : (all rest : List ℕ) (k : ℕ) (a : Arrays) → ((level : ℕ) → a (Dimension 0 level) ≡ one_word (numbered all level))
-    → ((i : ℕ) → slice_get all (k + i) ≡ slice_get rest i) → HasSizes rest (suc k) a
-has_sizes all [] k a h same = tt
-has_sizes all (size ∷ sizes) k a h same = (
-  h (suc k) ∙ ap (λ j. one_word (slice_get all j)) here ∙ ap one_word (same 0),
-  has_sizes all sizes (suc k) a h (λ i. ap (slice_get all) (next i) ∙ same (suc i)),
+-- the ranges of full levels of the result stand in their arrays
+has_sizes : (all : List (Option ℕ)) (letters : List Letter) (sizes : List ℕ) (k : ℕ) (a : Arrays)
+    → ((level : ℕ) → a (Dimension 0 level) ≡ one_word (size_in all level))
+    → ((i : ℕ) → slice_get all (k + i) ≡ slice_get (sizes_lent letters sizes) i) → HasSizes letters sizes (suc k) a
+has_sizes all [] sizes k a h same = tt
+has_sizes all (letter ∷ letters) [] k a h same = tt
+has_sizes all (letter ∷ letters) (size ∷ sizes) k a h same = (
+  λ full. h (suc k) ∙ ap (λ j. one_word (if_there (slice_get all j))) here ∙ ap (λ o. one_word (if_there o)) (same 0)
+      ∙ ap (λ f. one_word (then_some f size)) full,
+  has_sizes all letters sizes (suc k) a h (λ i. ap (slice_get all) (next i) ∙ same (suc i)),
 )
   where
     here : k ≡ k + 0
@@ -218,10 +223,60 @@ few_same [] (size ∷ sizes) parents h = tt
 few_same (letter ∷ letters) [] parents h = tt
 few_same (letter ∷ letters) (size ∷ sizes) parents h = (h.0, few_same letters sizes (parents_below letter size parents) h.1)
 
+not_made : (letter : Letter) (array : LevelArray) → Lacks letter array → IsNotMade letter array
+not_made letter OfSize lacks = no_size letter
+not_made letter OfEnds lacks = lacks
+not_made letter OfWidth lacks = lacks
+not_made letter OfCoordinates lacks = lacks
+
+-- no range is lent of a level that isn't full, nor of one that isn't there
+size_lacks : (letters : List Letter) (sizes : List ℕ) (i : ℕ) (letter : Letter) → slice_get letters i ≡ Some letter
+    → (properties letter).full ≡ false → size_in (sizes_lent letters sizes) (suc i) ≡ None
+size_lacks [] sizes i letter is lacks = refl
+size_lacks (first ∷ letters) [] i letter is lacks = refl
+size_lacks (first ∷ letters) (size ∷ sizes) zero letter is lacks =
+    ap (λ f. then_some f size) (ap (λ l. (properties l).full) (first_is first letter is) ∙ lacks)
+  where
+    first_is : (x y : Letter) → Some x ≡ Some y → x ≡ y
+    first_is x y e = cc
+size_lacks (first ∷ letters) (size ∷ sizes) (suc i) letter is lacks = size_lacks letters sizes i letter is lacks
+
+sizes_end : (letters : List Letter) (sizes : List ℕ) (k : ℕ) → length letters < k → size_in (sizes_lent letters sizes) k ≡ None
+sizes_end letters sizes zero l = refl
+sizes_end letters sizes (suc k) l = ends letters sizes k (omega (arith, l))
+  where
+    ends : (letters : List Letter) (sizes : List ℕ) (k : ℕ) → length letters ≤ k → if_there (slice_get (sizes_lent letters sizes) k) ≡ None
+    ends [] sizes k l = refl
+    ends (first ∷ letters) [] k l = refl
+    ends (first ∷ letters) (size ∷ sizes) zero l = absurd (omega arith)
+    ends (first ∷ letters) (size ∷ sizes) (suc k) l = ends letters sizes k (omega arith)
+
+-- what is lent of operands is what is stored
+operand_words : (ts : List Storage) (os : List Operand) (i k : ℕ) (array : LevelArray) → map lent_of os ≡ map parts_of ts
+    → words_of_operand array k (slice_get os i) ≡ stored_words (slice_get ts i) k array
+operand_words [] [] i k array same = refl
+operand_words [] (o ∷ os) i k array same = absurd (cc)
+operand_words (t ∷ ts) [] i k array same = absurd (cc)
+operand_words (t ∷ ts) (o ∷ os) zero k array same =
+    ap (λ (p : Parts). words_in p.levels k array) (head_same (lent_of o) (parts_of t) (map lent_of os) (map parts_of ts) same)
+operand_words (t ∷ ts) (o ∷ os) (suc i) k array same =
+    operand_words ts os i k array (tail_same (lent_of o) (parts_of t) (map lent_of os) (map parts_of ts) same)
+
+operand_values : (ts : List Storage) (os : List Operand) (i : ℕ) → map lent_of os ≡ map parts_of ts
+    → values_of_operand (slice_get os i) ≡ stored_values (slice_get ts i)
+operand_values [] [] i same = refl
+operand_values [] (o ∷ os) i same = absurd (cc)
+operand_values (t ∷ ts) [] i same = absurd (cc)
+operand_values (t ∷ ts) (o ∷ os) zero same =
+    ap (λ (p : Parts). Some p.values) (head_same (lent_of o) (parts_of t) (map lent_of os) (map parts_of ts) same)
+operand_values (t ∷ ts) (o ∷ os) (suc i) same =
+    operand_values ts os i (tail_same (lent_of o) (parts_of t) (map lent_of os) (map parts_of ts) same)
+
 -- a machine that was new, and whose arrays were begun, starts on the store
 module _ (m m' : Machine) (lent : LentArrays) (kernel : Kernel) (nothing : ℕ) (format : List FormatLevel) (ranges : List ℕ)
     (operands : List Storage) (new : IsNew m lent) (ranges_is : lent.ranges.now ≡ ranges)
-    (sizes_is : lent.sizes.items ≡ in_level_order format ranges) (operands_is : map lent_of lent.operands.items ≡ map parts_of operands)
+    (sizes_is : lent.sizes.items ≡ sizes_lent (letters_of format) (in_level_order format ranges))
+    (operands_is : map lent_of lent.operands.items ≡ map parts_of operands)
   where
     abbrev sizes : List ℕ
     sizes = in_level_order format ranges
@@ -246,8 +301,8 @@ module _ (m m' : Machine) (lent : LentArrays) (kernel : Kernel) (nothing : ℕ) 
     values : (i : ℕ) → with_result.arrays (Values (suc i)) ≡ values_of_operand (slice_get lent.operands.items i)
     values i = kept (Values (suc i)) (λ f. f.2) (zero_not i) ∙ new_lent m lent (Values (suc i)) new (not_zero i)
 
-    dimensions : (level : ℕ) → (state_of m).arrays (Dimension 0 level) ≡ one_word (numbered sizes level)
-    dimensions level = new_lent m lent (Dimension 0 level) new refl ∙ ap (λ ns. one_word (numbered ns level)) sizes_is
+    dimensions : (level : ℕ) → (state_of m).arrays (Dimension 0 level) ≡ one_word (size_in (sizes_lent (letters_of format) sizes) level)
+    dimensions level = new_lent m lent (Dimension 0 level) new refl ∙ ap (λ ns. one_word (size_in ns level)) sizes_is
 
     one_more : (i : ℕ) → 1 + i ≡ suc i
     one_more i = omega arith
@@ -263,11 +318,41 @@ module _ (m m' : Machine) (lent : LentArrays) (kernel : Kernel) (nothing : ℕ) 
           (λ i. ap (λ j. with_result.arrays (Values j)) (one_more i) ∙ values i);
       result = starts_below nothing (letters_of format) sizes 1 1 with_result.arrays
           (result_begun nothing (letters_of format) sizes 1 1 (state_of m)
-          (has_sizes sizes sizes 0 (state_of m).arrays dimensions (λ i. ap (slice_get sizes) (from_none i))));
+          (has_sizes (sizes_lent (letters_of format) sizes) (letters_of format) sizes 0 (state_of m).arrays dimensions
+          (λ i. ap (slice_get (sizes_lent (letters_of format) sizes)) (from_none i))));
     }
+
+    -- arrays of the result that a new machine doesn't have
+    new_none : (k : ℕ) (array : LevelArray) → (array ≡ OfSize → size_in (sizes_lent (letters_of format) sizes) k ≡ None)
+        → (state_of m).arrays (array_of array 0 k) ≡ None
+    new_none k OfSize none = dimensions k ∙ ap one_word (none refl)
+    new_none k OfEnds none = new.own (Ends 0 k)
+    new_none k OfWidth none = new.own (Width 0 k)
+    new_none k OfCoordinates none = new.own (Coordinates 0 k)
+
+    lacking : (i : ℕ) (letter : Letter) (array : LevelArray) → slice_get (letters_of format) i ≡ Some letter → Lacks letter array
+        → with_result.arrays (array_of array 0 (suc i)) ≡ None
+    lacking i letter array is lacks =
+        ap (λ k. with_result.arrays (array_of array 0 k)) (sym (one_more i))
+        ∙ result_lacks nothing (letters_of format) sizes 1 1 i (state_of m) letter array is (not_made letter array lacks)
+        ∙ ap (λ k. (state_of m).arrays (array_of array 0 k)) (one_more i)
+        ∙ new_none (suc i) array (λ e. size_lacks (letters_of format) sizes i letter is (subst (Lacks letter) e lacks))
 
     no_scratch : NoScratch with_result
     no_scratch b h = kept b (not_from 1 b h) (no_values b h) ∙ new_scratch m lent new b h
+
+    no_more : HaveNoMore (store_of ranges operands format) with_result.arrays
+    no_more = record {
+      lacking = lacking;
+      above = λ array. result_above nothing (letters_of format) sizes 1 1 0 (state_of m) array (omega arith)
+          ∙ new_none 0 array (λ e. refl);
+      behind = λ k array l. result_behind nothing (letters_of format) sizes 1 1 k (state_of m) array (omega arith)
+          ∙ new_none k array (λ e. sizes_end (letters_of format) sizes k l);
+      operands = λ i k array. words array i k
+          ∙ operand_words operands lent.operands.items i k array operands_is;
+      values = λ i. values i ∙ operand_values operands lent.operands.items i operands_is;
+      scratch = no_scratch;
+    }
 
     abbrev with_all : State
     with_all = with_lists kernel.lists (with_workspaces kernel.workspaces 0 with_result)
@@ -286,5 +371,6 @@ module _ (m m' : Machine) (lent : LentArrays) (kernel : Kernel) (nothing : ℕ) 
     starts_on is = record {
       given = with_result.arrays;
       is_given = given;
+      no_more = no_more;
       is = is ∙ (λ i. record { vars = vars_same i; arrays = λ a. scratch_begun kernel with_result no_scratch a i; turns = turns_same i });
     }

@@ -16,7 +16,7 @@ use format_spec::{Format, FormatLevel};
 use kernel_code::{Kernel, Place};
 use kernel_interpreter::{Machine, make_room};
 use lent_arrays::LentArrays;
-use machine_starts::{begin_result, begin_scratch, lent_operands};
+use machine_starts::{begin_result, begin_scratch, lent_operands, sizes_lent};
 use numbers::Semiring;
 use std::alloc::{AllocError, Global};
 use storage_builder::{Builder, level_sizes};
@@ -39,7 +39,7 @@ fn started_machine<'a, S: Semiring>(
 {
     let lent = LentArrays {
         ranges,
-        sizes: Vec::from_slice(alloc, sizes)?,
+        sizes: sizes_lent(alloc, format, sizes)?,
         operands: lent_operands(alloc, operands)?,
     };
     let mut machine = Machine::new(alloc, lent);

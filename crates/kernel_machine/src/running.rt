@@ -116,6 +116,6 @@ pub fn run<S: Semiring>(prepared: Prepared) -> Result<(Tensor, Turns), RunRefusa
             let place = place_of(order, array);
             Err(RunRefusal::SizeLimit { place, count })
         }
-        Ending::Stuck | Ending::More => Err(RunRefusal::Memory),
+        Ending::Stuck { .. } | Ending::More => Err(RunRefusal::Memory),
     }
 }

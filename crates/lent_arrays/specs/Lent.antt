@@ -1,4 +1,4 @@
--- The arrays that a kernel only reads: the ranges, the ranges of the result's levels, and what is stored of each operand.
+-- The arrays that a kernel only reads: the ranges, those ranges of the result's levels that have arrays, and what is stored of each operand.
 use Rattle.std.specs.Prelude.{ℕ, zero, suc, List, [], ◌∷◌, Option, Some, None, slice_get}
 use Rattle.kernel_code.specs.declared.syntax.Arr.{Arr}
 use Rattle.kernel_code.specs.declared.syntax.Arr.TheVariants.{Range, Values, Dimension, Ends, Coordinates, Width, Key, Sums}
@@ -34,9 +34,17 @@ abbrev pub one_word : Option ℕ → Option (List ℕ)
 one_word None = None
 one_word (Some x) = Some (x ∷ [])
 
+abbrev pub if_there : Option (Option ℕ) → Option ℕ
+if_there None = None
+if_there (Some size) = size
+
+-- the range of the level of this number, where the level is there and has an array for it
+abbrev pub size_in : List (Option ℕ) → ℕ → Option ℕ
+size_in sizes level = if_there (numbered sizes level)
+
 -- the range of a level: of the result, which is tensor 0, or of an operand
 abbrev pub dimension_of : LentArrays → ℕ → ℕ → Option (List ℕ)
-dimension_of l zero level = one_word (numbered l.sizes.items level)
+dimension_of l zero level = one_word (size_in l.sizes.items level)
 dimension_of l (suc n) level = words_of_operand OfSize level (slice_get l.operands.items n)
 
 -- the arrays that are read alone

@@ -1,7 +1,7 @@
 //! The arrays that a kernel only reads, lent by those that have them.
 ghost use Rattle.std.specs.Prelude.{◌≡◌, Some, option_map};
 ghost use Rattle.kernel_code.specs.Meaning.{word_at, length_of};
-ghost use Rattle.lent_arrays.specs.Lent.{words_of_operand, values_of_operand, one_word, dimension_of, lent_array, numbered};
+ghost use Rattle.lent_arrays.specs.Lent.{words_of_operand, values_of_operand, one_word, size_in, dimension_of, lent_array, numbered};
 
 use kernel_code::Arr;
 use level_core::{Level, LevelArray};
@@ -44,11 +44,12 @@ impl<'a> Operand<'a> {
     }
 }
 
-/// The arrays that a kernel only reads: the ranges of the variables, the ranges of the result's levels, and the operands.
+/// The arrays that a kernel only reads: the ranges of the variables, the ranges of the result's levels, each where the level has an
+/// array for it, and the operands.
 #[derive(Drop)]
 pub struct LentArrays<'a> {
     pub ranges: &'a [u64],
-    pub sizes: Vec<u64>,
+    pub sizes: Vec<Option<u64>>,
     pub operands: Vec<Operand<'a>>,
 }
 
@@ -63,14 +64,17 @@ impl<'a> LentArrays<'a> {
         self.operands.get(tensor as usize - 1)
     }
 
-    /// The range of a level of the result, of which the top one is 1.
+    /// The range of a level of the result, of which the top one is 1, where the level has an array for it.
     fn size(&self, level: u64) -> Option<u64>
-        ensures { result ≡ numbered self.now.sizes.items level }
+        ensures { result ≡ size_in self.now.sizes.items level }
     {
         if level == 0 {
             return None;
         }
-        self.sizes.get(level as usize - 1).copied()
+        match self.sizes.get(level as usize - 1) {
+            None => None,
+            Some(size) => *size,
+        }
     }
 
     fn level_length(&self, tensor: u64, level: u64, array: LevelArray) -> Option<u64>
@@ -92,7 +96,7 @@ impl<'a> LentArrays<'a> {
     }
 
     fn size_length(&self, level: u64) -> Option<u64>
-        ensures { result ≡ length_of (one_word (numbered self.now.sizes.items level)) }
+        ensures { result ≡ length_of (one_word (size_in self.now.sizes.items level)) }
     {
         match self.size(level) {
             None => None,
@@ -101,7 +105,7 @@ impl<'a> LentArrays<'a> {
     }
 
     fn size_word(&self, level: u64, at: u64) -> Option<u64>
-        ensures { result ≡ word_at (one_word (numbered self.now.sizes.items level)) (Some at) }
+        ensures { result ≡ word_at (one_word (size_in self.now.sizes.items level)) (Some at) }
     {
         match self.size(level) {
             Some(size) if at == 0 => Some(size),

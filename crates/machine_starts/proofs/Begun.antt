@@ -13,7 +13,7 @@ use Rattle.level_core.specs.Fragments.{IsOf}
 use Rattle.level_core.specs.Laws.{AreAtStart}
 use Rattle.level_core.specs.Meaning.{Arrays}
 use Rattle.machine_starts.specs.Begun.{begun, begun_result, HasSizes, AreBegun}
-use Rattle.level_core.specs.Kinds.{parents_below}
+use Rattle.level_core.specs.Kinds.{properties, parents_below}
 
 -- an array that was set has these words, and others stay
 pub set_here : (s : State) (a : Arr) (xs : List ℕ) → (set_array s a xs).arrays a ≡ Some xs
@@ -31,9 +31,10 @@ not_same level a b is h = by (same_arr a b) refl
     by false e = e
 
 -- a level that is begun is as a run starts it
-begun_there : (letter : Letter) (n parents level : ℕ) (s : State) → s.arrays (Dimension 0 level) ≡ Some (n ∷ [])
+begun_there : (letter : Letter) (n parents level : ℕ) (s : State)
+    → ((properties letter).full ≡ true → s.arrays (Dimension 0 level) ≡ Some (n ∷ []))
     → AreAtStart letter n parents 0 level (begun letter parents level s).arrays
-begun_there Dense n parents level s dim = dim
+begun_there Dense n parents level s dim = dim refl
 begun_there Compressed n parents level s dim = (
   set_here s (Ends 0 level) (0 ∷ replicate parents 0),
   set_here (set_array s (Ends 0 level) (0 ∷ replicate parents 0)) (Coordinates 0 level) [],
@@ -76,11 +77,12 @@ begun_size Singleton parents level s k = refl
 begun_size SingletonGroups parents level s k = refl
 begun_size Hashed parents level s k = refl
 
-sizes_kept : (letter : Letter) (parents level : ℕ) (s : State) (sizes : List ℕ) (k : ℕ) → HasSizes sizes k s.arrays
-    → HasSizes sizes k (begun letter parents level s).arrays
-sizes_kept letter parents level s [] k h = tt
-sizes_kept letter parents level s (size ∷ sizes) k h =
-    (begun_size letter parents level s k ∙ h.0, sizes_kept letter parents level s sizes (suc k) h.1)
+sizes_kept : (letter : Letter) (parents level : ℕ) (s : State) (letters : List Letter) (sizes : List ℕ) (k : ℕ)
+    → HasSizes letters sizes k s.arrays → HasSizes letters sizes k (begun letter parents level s).arrays
+sizes_kept letter parents level s [] sizes k h = tt
+sizes_kept letter parents level s (below ∷ letters) [] k h = tt
+sizes_kept letter parents level s (below ∷ letters) (size ∷ sizes) k h =
+    (λ full. begun_size letter parents level s k ∙ h.0 full, sizes_kept letter parents level s letters sizes (suc k) h.1)
 
 -- the level starts as it does in arrays that agree on it
 start_same : (letter : Letter) (n parents level : ℕ) (a b : Arrays) → ((x : Arr) → IsOf 0 level x → b x ≡ a x)
@@ -135,8 +137,8 @@ result_apart nothing (letter ∷ letters) (size ∷ sizes) parents level s b h v
     ∙ begun_apart letter parents level s b (λ is. h (level, omega arith, is))
 
 -- the levels and the values are as a run starts them
-pub result_begun : (nothing : ℕ) (letters : List Letter) (sizes : List ℕ) (parents level : ℕ) (s : State) → HasSizes sizes level s.arrays
-    → AreBegun nothing letters sizes parents level (begun_result nothing letters sizes parents level s).arrays
+pub result_begun : (nothing : ℕ) (letters : List Letter) (sizes : List ℕ) (parents level : ℕ) (s : State)
+    → HasSizes letters sizes level s.arrays → AreBegun nothing letters sizes parents level (begun_result nothing letters sizes parents level s).arrays
 result_begun nothing [] [] parents level s h = set_here s (Values 0) (replicate parents nothing)
 result_begun nothing [] (size ∷ sizes) parents level s h = set_here s (Values 0) (replicate parents nothing)
 result_begun nothing (letter ∷ letters) [] parents level s h = set_here s (Values 0) (replicate parents nothing)
@@ -148,5 +150,5 @@ result_begun nothing (letter ∷ letters) (size ∷ sizes) parents level s h =
           (λ f. let same = one_level x f.0 level f.2 is in omega (arith, same, f.1)) (not_values level x is))
           (begun_there letter size parents level s h.0),
       result_begun nothing letters sizes (parents_below letter size parents) (suc level) next
-          (sizes_kept letter parents level s sizes (suc level) h.1),
+          (sizes_kept letter parents level s letters sizes (suc level) h.1),
     )

@@ -1,3 +1,4 @@
+pub mod Alone
 pub mod Begun
 pub mod NoRows
 pub mod Steps

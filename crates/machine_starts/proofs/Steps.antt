@@ -1,23 +1,24 @@
 -- One step of each list from which arrays are begun.
-use Rattle.std.specs.Prelude.{◌≡◌, ℕ, zero, suc, ◌+◌, ◌<◌, ◌≤◌, true, List, [], ◌∷◌, length, drop, replicate}
+use Rattle.std.specs.Prelude.{◌≡◌, ℕ, zero, suc, ◌+◌, ◌<◌, ◌≤◌, true, List, [], ◌∷◌, ◌++◌, Option, length, drop, replicate}
 use Rattle.std.specs.Prelude.{slice_index_or, Some, refl}
-use Rattle.std.proofs.Common.{◌∙◌, sym, ap, subst, arith}
+use Rattle.std.specs.Bool.{then_some}
+use Rattle.std.proofs.Common.{◌∙◌, sym, ap, subst, arith, append_assoc, append-nil}
 use Rattle.kernel_code.specs.declared.syntax.Arr.TheVariants.{Values}
 use Rattle.kernel_code.specs.Arrays.{may_write}
 use Rattle.kernel_code.specs.Meaning.{State, set_array}
 use Rattle.format_spec.specs.declared.format.FormatLevel.{FormatLevel}
 use Rattle.format_spec.specs.Formats.{letters_of}
-use Rattle.machine_starts.specs.Begun.{begun, begun_result, IsFew}
+use Rattle.machine_starts.specs.Begun.{begun, begun_result, sizes_lent, IsFew}
 use Rattle.level_core.specs.declared.arrays.LevelArray.{LevelArray}
 use Rattle.level_core.specs.declared.arrays.LevelArray.TheVariants.{Dimension as OfSize, Ends as OfEnds}
 use Rattle.level_core.specs.declared.arrays.LevelArray.TheVariants.{Coordinates as OfCoordinates, Width as OfWidth}
 use Rattle.level_core.specs.Arrays.{array_of}
 use Rattle.level_core.specs.declared.letter.Letter.{Letter}
 use Rattle.level_core.specs.declared.letter.Letter.TheVariants.{Dense, Compressed, CompressedGroups, Singleton, SingletonGroups, Hashed}
-use Rattle.level_core.specs.Kinds.{parents_below, zeros_at_start}
+use Rattle.level_core.specs.Kinds.{properties, parents_below, zeros_at_start}
 
 -- no range of a level is made
-no_size : (letter : Letter) (parents count : ℕ) → zeros_at_start letter OfSize parents ≡ Some count → ⊥
+pub no_size : (letter : Letter) (parents count : ℕ) → zeros_at_start letter OfSize parents ≡ Some count → ⊥
 no_size Dense parents count h = cc
 no_size Compressed parents count h = cc
 no_size CompressedGroups parents count h = cc
@@ -95,3 +96,23 @@ pub result_done : (nothing : ℕ) (format : List FormatLevel) (sizes : List ℕ)
     → begun_result nothing (drop i (letters_of format)) sizes parents level s ≡ set_array s (Values 0) (replicate parents nothing)
 result_done nothing format sizes i parents level s l =
     ap (λ ls. begun_result nothing ls sizes parents level s) (drop_none format i l) ∙ no_levels nothing sizes parents level s
+
+-- the range of one more level is lent
+pub lent_next : (format : List FormatLevel) (sizes : List ℕ) (i : ℕ) (d : FormatLevel) (lent : List (Option ℕ)) → i < length format
+    → i < length sizes
+    → (lent ++ then_some (properties (slice_index_or format i d).letter).full (slice_index_or sizes i 0) ∷ [])
+    ++ sizes_lent (drop (i + 1) (letters_of format)) (drop (i + 1) sizes)
+    ≡ lent ++ sizes_lent (drop i (letters_of format)) (drop i sizes)
+lent_next format sizes i d lent l m =
+    let one : i + 1 ≡ suc i = omega arith in
+    let size : Option ℕ = then_some (properties (slice_index_or format i d).letter).full (slice_index_or sizes i 0) in
+    ap (λ n. (lent ++ size ∷ []) ++ sizes_lent (drop n (letters_of format)) (drop n sizes)) one
+    ∙ append_assoc lent (size ∷ []) (sizes_lent (drop (suc i) (letters_of format)) (drop (suc i) sizes))
+    ∙ sym (ap (λ ls. lent ++ sizes_lent ls (drop i sizes)) (drop_letters format i d l)
+    ∙ ap (λ ns. lent ++ sizes_lent ((slice_index_or format i d).letter ∷ drop (suc i) (letters_of format)) ns) (drop_here sizes i 0 m))
+
+-- behind the last level none is
+pub lent_done : (format : List FormatLevel) (sizes : List ℕ) (i : ℕ) (lent : List (Option ℕ)) → length format ≤ i
+    → lent ≡ lent ++ sizes_lent (drop i (letters_of format)) sizes
+lent_done format sizes i lent l =
+    sym (append-nil lent) ∙ ap (λ ls. lent ++ sizes_lent ls sizes) (sym (drop_none format i l))

@@ -1,5 +1,6 @@
 -- The arrays that a run starts with, step by step: of the result's levels, its values, workspaces and scratch lists.
-use Rattle.std.specs.Prelude.{◌≡◌, ℕ, zero, suc, ◌*◌, ◌≤◌, List, [], ◌∷◌, replicate, Option, Some, None}
+use Rattle.std.specs.Prelude.{◌≡◌, ℕ, zero, suc, ◌≤◌, true, List, [], ◌∷◌, replicate, Option, Some, None}
+use Rattle.std.specs.Bool.{then_some}
 use Rattle.limits.specs.Limits.{greatest_position_count}
 use Rattle.kernel_code.specs.declared.syntax.Arr.TheVariants.{Values, Dimension, Key, Sums, ListCoordinates}
 use Rattle.kernel_code.specs.declared.syntax.Arr.TheVariants.{ListPositions}
@@ -8,7 +9,7 @@ use Rattle.level_core.specs.declared.letter.Letter.{Letter}
 use Rattle.level_core.specs.declared.arrays.LevelArray.{LevelArray}
 use Rattle.level_core.specs.declared.arrays.LevelArray.TheVariants.{Ends as OfEnds, Coordinates as OfCoordinates, Width as OfWidth}
 use Rattle.level_core.specs.Arrays.{array_of}
-use Rattle.level_core.specs.Kinds.{parents_below, zeros_at_start}
+use Rattle.level_core.specs.Kinds.{properties, parents_below, zeros_at_start}
 use Rattle.level_core.specs.Laws.{AreAtStart}
 use Rattle.level_core.specs.Meaning.{Arrays}
 
@@ -20,6 +21,10 @@ filled_with (Some count) array level s = set_array s (array_of array 0 level) (r
 -- an array of a level of this kind, below so many parents, as it starts, if it is one that the run makes
 abbrev pub with_zeros : Letter → LevelArray → ℕ → ℕ → State → State
 with_zeros letter array parents level s = filled_with (zeros_at_start letter array parents) array level s
+
+-- a run makes no such array of a level of this kind
+abbrev pub IsNotMade : Letter → LevelArray → Type 0
+IsNotMade letter array = (parents : ℕ) → zeros_at_start letter array parents ≡ None
 
 -- a level of the result with its arrays as they start
 abbrev pub begun : Letter → ℕ → ℕ → State → State
@@ -53,10 +58,16 @@ abbrev pub with_lists : ℕ → State → State
 with_lists zero s = s
 with_lists (suc n) s = set_array (set_array (with_lists n s) (ListCoordinates n) []) (ListPositions n) []
 
--- the ranges of levels of the result from this number on stand in their arrays
-abbrev pub HasSizes : List ℕ → ℕ → Arrays → Type 0
-HasSizes [] level a = Unit {0}
-HasSizes (size ∷ sizes) level a = (a (Dimension 0 level) ≡ Some (size ∷ [])) × HasSizes sizes (suc level) a
+-- the ranges of levels of the result, each where a run has an array of it: of full levels alone
+abbrev pub sizes_lent : List Letter → List ℕ → List (Option ℕ)
+sizes_lent (letter ∷ letters) (size ∷ sizes) = then_some (properties letter).full size ∷ sizes_lent letters sizes
+sizes_lent _ _ = []
+
+-- the ranges of full levels of the result from this number on stand in their arrays
+abbrev pub HasSizes : List Letter → List ℕ → ℕ → Arrays → Type 0
+HasSizes (letter ∷ letters) (size ∷ sizes) level a =
+    ((properties letter).full ≡ true → a (Dimension 0 level) ≡ Some (size ∷ [])) × HasSizes letters sizes (suc level) a
+HasSizes _ _ level a = Unit {0}
 
 -- each level from this number on is as a run starts it, and there is a value for each parent behind the last one
 abbrev pub AreBegun : ℕ → List Letter → List ℕ → ℕ → ℕ → Arrays → Type 0

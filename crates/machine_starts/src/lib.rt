@@ -1,4 +1,5 @@
-//! The arrays with which a kernel's run starts: operands are lent, the arrays of the result's levels are begun, and workspaces and scratch
+//! The arrays with which a kernel's run starts: operands and the ranges of full levels of the result are
+//! lent, the arrays of the result's levels are begun, and workspaces and scratch
 //! lists are empty. `specs/Begun.antt` says which arrays each step makes, and the laws tell what a machine holds then.
 #![tactic(auto)]
 
@@ -8,5 +9,5 @@ mod result;
 mod scratch;
 
 pub use operands::lent_operands;
-pub use result::begin_result;
+pub use result::{begin_result, sizes_lent};
 pub use scratch::begin_scratch;

@@ -1,15 +1,15 @@
 //! The arrays of the result as a run starts.
-ghost use Rattle.std.specs.Prelude.{◌≡◌, ◌≤◌, ◌+◌, ◌^◌, ◌<◌, OnOk, length};
+ghost use Rattle.std.specs.Prelude.{◌≡◌, ◌≤◌, ◌+◌, ◌^◌, ◌<◌, IfOk, OnOk, length};
 ghost use Rattle.limits.specs.Limits.{greatest_position_count};
 ghost use Rattle.level_core.specs.declared.letter.Letter.{Letter};
 ghost use Rattle.format_spec.specs.Formats.{letters_of};
 ghost use Rattle.kernel_interpreter.specs.Store.{state_of};
-ghost use Rattle.machine_starts.specs.Begun.{begun, begun_result, with_zeros, IsFew};
+ghost use Rattle.machine_starts.specs.Begun.{begun, begun_result, sizes_lent, with_zeros, IsFew};
 
 use format_spec::FormatLevel;
 use kernel_code::Arr;
 use kernel_interpreter::Machine;
-use level_core::{Letter, LevelArray, positions_at_start, zeros_at_start};
+use level_core::{Letter, LevelArray, positions_at_start, props_of, zeros_at_start};
 use seg_buffer::Segment;
 use std::alloc::{AllocError, Global};
 
@@ -57,6 +57,23 @@ fn begin_level(
         parents,
     )?;
     Ok(())
+}
+
+/// The ranges of a result's levels, each where a run has an array of it: of full levels alone. Refused for want of memory alone.
+pub fn sizes_lent(
+    alloc: Global,
+    format: &[FormatLevel],
+    sizes: &[u64],
+) -> Result<Vec<Option<u64>>, AllocError>
+    requires { length sizes.now ≡ length format.now }
+    ensures { IfOk result (λ lent. lent.items ≡ sizes_lent (letters_of format.now) sizes.now) }
+{
+    let mut lent = Vec::with_capacity(alloc, format.len())?;
+    for number in 0..format.len() {
+        let full = props_of(format[number].letter).full;
+        lent.push(full.then_some(sizes[number]))?;
+    }
+    Ok(lent)
 }
 
 /// The arrays of a result of these levels and their ranges, and its values, each of which is nothing. Refused for want of memory alone.

@@ -13,17 +13,18 @@ use Rattle.kernel_code.specs.declared.syntax.KExpr.{KExpr, Bin}
 use Rattle.kernel_code.specs.declared.syntax.KStmt.{KStmt, Set, Combine, Put, AddTo, Push, Extend, Cut, If, While}
 use Rattle.kernel_code.specs.Meaning.{Setting, State, Outcome, Ended, Stuck, Over, More, value, apply_each, apply_both, combined, one_turn, then_run}
 use Rattle.kernel_code.specs.Meaning.{choice, run_turns, run, run_list, set_outcome, put_outcome, add_outcome, push_outcome, extend_outcome}
-use Rattle.kernel_code.specs.Meaning.{cut_outcome}
-use Rattle.kernel_code.proofs.Does.{run_append}
-use Rattle.kernel_code.proofs.Equations.{run_if, run_while, value_bin}
-use Rattle.kernel_code.proofs.RunLemmas.{if_no, if_yes, turns_end}
+use Rattle.kernel_code.specs.Meaning.{cut_outcome, behind, statements_in}
+use Rattle.kernel_code.proofs.Behind.{then_same}
+use Rattle.kernel_code.proofs.Equations.{value_bin}
+use Rattle.kernel_code.proofs.RunLemmas.{turns_end}
 use Rattle.simplifier.specs.Folded.{FoldedStep, FoldedCode, SimpleCode, number_of, is_zero, operator_for}
-use Rattle.simplifier.specs.Same.{SameValue, SameRuns}
+use Rattle.simplifier.specs.Same.{SameValue, SameRuns, unnumbered}
 use Rattle.simplifier.proofs.ExprLemmas.{number_is, zero_is}
+use Rattle.simplifier.proofs.Unnumbered.{plain_append, plain_if, plain_while, plain_no, plain_yes}
 
 -- two statements do the same
 pub record SameStep (over : Arithmetic) (s t : KStmt) : Type 0 where
-  pub from : (c : Setting) → c.arithmetic ≡ over → (n : ℕ) (st : State) → run c n s st ≡ run c n t st
+  pub from : (c : Setting) → c.arithmetic ≡ over → (n : ℕ) (st : State) → unnumbered (run c n s st) ≡ unnumbered (run c n t st)
 
 -- over the ring a sum or product of values is that of words
 words_of : (c : Setting) → c.arithmetic ≡ ring → (o : ValueOp) (v w : Option ℕ)
@@ -38,57 +39,53 @@ words_of c is Times (Some v) (Some w) = ap (λ m. Some (m.times v w)) is
 
 module _ (over : Arithmetic) where
   pub step_same : (s t : KStmt) → s ≡ t → SameStep over s t
-  step_same s t is = record { from = λ c q n st. ap (λ s. run c n s st) is }
+  step_same s t is = record { from = λ c q n st. ap (λ s. unnumbered (run c n s st)) is }
 
   pub step_then : (s t u : KStmt) → SameStep over s t → SameStep over t u → SameStep over s u
   step_then s t u h g = record { from = λ c q n st. h.from c q n st ∙ g.from c q n st }
 
   pub same_set : (x : ℕ) (e f : KExpr) → SameValue e f → SameStep over (Set x e) (Set x f)
-  same_set x e f h = record { from = λ c q n st. ap (set_outcome st x) (h.at st) }
+  same_set x e f h = record { from = λ c q n st. ap (λ v. unnumbered (set_outcome st x v)) (h.at st) }
 
   pub same_combine : (x : ℕ) (o : ValueOp) (e f e' f' : KExpr) → SameValue e e' → SameValue f f'
       → SameStep over (Combine x o e f) (Combine x o e' f')
   same_combine x o e f e' f' h g = record {
-    from = λ c q n st. ap (λ v. set_outcome st x (apply_each (combined c.arithmetic o) v (value f st))) (h.at st)
-        ∙ ap (λ v. set_outcome st x (apply_each (combined c.arithmetic o) (value e' st) v)) (g.at st);
+    from = λ c q n st. ap (λ v. unnumbered (set_outcome st x (apply_each (combined c.arithmetic o) v (value f st)))) (h.at st)
+        ∙ ap (λ v. unnumbered (set_outcome st x (apply_each (combined c.arithmetic o) (value e' st) v))) (g.at st);
   }
 
   pub same_words : (x : ℕ) (o : ValueOp) (e f r e' f' : KExpr) → over ≡ ring → SameValue r (Bin (operator_for o) e f) → SameValue e e'
       → SameValue f f' → SameStep over (Set x r) (Combine x o e' f')
   same_words x o e f r e' f' ring_is h g k = step_then (Set x r) (Combine x o e f) (Combine x o e' f')
       (record {
-        from = λ c q n st. ap (set_outcome st x) (h.at st ∙ value_bin (operator_for o) e f st
+        from = λ c q n st. ap (λ v. unnumbered (set_outcome st x v)) (h.at st ∙ value_bin (operator_for o) e f st
             ∙ sym (words_of c (q ∙ ring_is) o (value e st) (value f st)));
       })
       (same_combine x o e f e' f' g k)
 
   pub same_put : (a : Arr) (i e i' e' : KExpr) → SameValue i i' → SameValue e e' → SameStep over (Put a i e) (Put a i' e')
   same_put a i e i' e' h g = record {
-    from = λ c q n st. ap (λ v. put_outcome st a v (value e st)) (h.at st) ∙ ap (put_outcome st a (value i' st)) (g.at st);
+    from = λ c q n st. ap (λ v. unnumbered (put_outcome st a v (value e st))) (h.at st)
+        ∙ ap (λ v. unnumbered (put_outcome st a (value i' st) v)) (g.at st);
   }
 
   pub same_add_to : (a : Arr) (i e i' e' : KExpr) → SameValue i i' → SameValue e e' → SameStep over (AddTo a i e) (AddTo a i' e')
   same_add_to a i e i' e' h g = record {
-    from = λ c q n st. ap (λ v. add_outcome c.arithmetic st a v (value e st)) (h.at st)
-        ∙ ap (add_outcome c.arithmetic st a (value i' st)) (g.at st);
+    from = λ c q n st. ap (λ v. unnumbered (add_outcome c.arithmetic st a v (value e st))) (h.at st)
+        ∙ ap (λ v. unnumbered (add_outcome c.arithmetic st a (value i' st) v)) (g.at st);
   }
 
   pub same_push : (a : Arr) (e f : KExpr) → SameValue e f → SameStep over (Push a e) (Push a f)
-  same_push a e f h = record { from = λ c q n st. ap (push_outcome st a) (h.at st) }
+  same_push a e f h = record { from = λ c q n st. ap (λ v. unnumbered (push_outcome st a v)) (h.at st) }
 
   pub same_extend : (a : Arr) (i e i' e' : KExpr) → SameValue i i' → SameValue e e' → SameStep over (Extend a i e) (Extend a i' e')
   same_extend a i e i' e' h g = record {
-    from = λ c q n st. ap (λ v. extend_outcome st a v (value e st)) (h.at st) ∙ ap (extend_outcome st a (value i' st)) (g.at st);
+    from = λ c q n st. ap (λ v. unnumbered (extend_outcome st a v (value e st))) (h.at st)
+        ∙ ap (λ v. unnumbered (extend_outcome st a (value i' st) v)) (g.at st);
   }
 
   pub same_cut : (a : Arr) (e f : KExpr) → SameValue e f → SameStep over (Cut a e) (Cut a f)
-  same_cut a e f h = record { from = λ c q n st. ap (cut_outcome st a) (h.at st) }
-
-  then_same : (o : Outcome) (f g : State → Outcome) → ((s : State) → f s ≡ g s) → then_run o f ≡ then_run o g
-  then_same (Ended s) f g h = h s
-  then_same (Stuck t) f g h = refl
-  then_same (Over t a count) f g h = refl
-  then_same More f g h = refl
+  same_cut a e f h = record { from = λ c q n st. ap (λ v. unnumbered (cut_outcome st a v)) (h.at st) }
 
   turns_same : (n : ℕ) (k : LoopKind) (test test' : State → Option ℕ) (body body' : State → Outcome) → ((s : State) → test s ≡ test' s)
       → ((s : State) → body s ≡ body' s) → (s : State) → run_turns n k test body s ≡ run_turns n k test' body' s
@@ -101,17 +98,20 @@ module _ (over : Arithmetic) where
   pub same_if : (e e' : KExpr) (first second first' second' : List KStmt) → SameValue e e' → SameRuns over first first'
       → SameRuns over second second' → SameStep over (If e first second) (If e' first' second')
   same_if e e' first second first' second' h f g = record {
-    from = λ c q n st. run_if c n e first second st ∙ ap (λ v. choice st v (run_list c n first st) (run_list c n second st)) (h.at st)
-        ∙ ap (λ o. choice st (value e' st) o (run_list c n second st)) (f.from c q n st)
-        ∙ ap (λ o. choice st (value e' st) (run_list c n first' st) o) (g.from c q n st) ∙ sym (run_if c n e' first' second' st);
+    from = λ c q n st.
+        let plain : List KStmt → Outcome = λ code. unnumbered (run_list c n code st) in
+        plain_if c n e first second st ∙ ap (λ v. choice st v (plain first) (plain second)) (h.at st)
+        ∙ ap (λ o. choice st (value e' st) o (plain second)) (f.from c q n st)
+        ∙ ap (λ o. choice st (value e' st) (plain first') o) (g.from c q n st) ∙ sym (plain_if c n e' first' second' st);
   }
 
   pub same_while : (k : LoopKind) (e e' : KExpr) (body body' : List KStmt) → SameValue e e' → SameRuns over body body'
       → SameStep over (While k e body) (While k e' body')
   same_while k e e' body body' h f = record {
-    from = λ c q n st. run_while c n k e body st
-        ∙ turns_same n k (value e) (value e') (run_list c n body) (run_list c n body') h.at (f.from c q n) st
-        ∙ sym (run_while c n k e' body' st);
+    from = λ c q n st. plain_while c n k e body st
+        ∙ turns_same n k (value e) (value e') (λ s. unnumbered (run_list c n body s)) (λ s. unnumbered (run_list c n body' s)) h.at
+        (f.from c q n) st
+        ∙ sym (plain_while c n k e' body' st);
   }
 
   pub runs_same : (a : List KStmt) → SameRuns over a a
@@ -126,38 +126,43 @@ module _ (over : Arithmetic) where
   -- more code behind
   pub runs_more : (a b more : List KStmt) → SameRuns over a b → SameRuns over (a ++ more) (b ++ more)
   runs_more a b more h = record {
-    from = λ c q n s. run_append c n a more s ∙ ap (λ o. then_run o (run_list c n more)) (h.from c q n s) ∙ sym (run_append c n b more s);
+    from = λ c q n s. plain_append c n a more s ∙ ap (λ o. then_run o (λ s'. unnumbered (run_list c n more s'))) (h.from c q n s)
+        ∙ sym (plain_append c n b more s);
   }
 
-  last : (c : Setting) (n : ℕ) (o : Outcome) → then_run o (run_list c n []) ≡ o
-  last c n (Ended s) = refl
-  last c n (Stuck t) = refl
-  last c n (Over t a count) = refl
-  last c n More = refl
+  alone : (c : Setting) (n : ℕ) (s : KStmt) (st : State) → run_list c n (s ∷ []) st ≡ run c n s st
+  alone c n s st = last (run c n s st)
+    where
+      last : (o : Outcome) → then_run o (λ st. behind (statements_in s) (run_list c n [] st)) ≡ o
+      last (Ended s) = refl
+      last (Stuck t statement) = refl
+      last (Over t a count) = refl
+      last More = refl
 
   -- code in place of a statement at the end
   pub runs_behind : (out code : List KStmt) (s : KStmt)
-      → ((c : Setting) → c.arithmetic ≡ over → (n : ℕ) (st : State) → run_list c n code st ≡ run c n s st)
+      → ((c : Setting) → c.arithmetic ≡ over → (n : ℕ) (st : State) → unnumbered (run_list c n code st) ≡ unnumbered (run c n s st))
       → SameRuns over (out ++ code) (out ++ s ∷ [])
   runs_behind out code s h = record {
-    from = λ c q n st. run_append c n out code st
-        ∙ then_same (run_list c n out st) (run_list c n code) (run_list c n (s ∷ [])) (λ st. h c q n st ∙ sym (last c n (run c n s st)))
-        ∙ sym (run_append c n out (s ∷ []) st);
+    from = λ c q n st. plain_append c n out code st
+        ∙ then_same (unnumbered (run_list c n out st)) (λ st. unnumbered (run_list c n code st)) (λ st. unnumbered (run_list c n (s ∷ []) st))
+        (λ st. h c q n st ∙ sym (ap unnumbered (alone c n s st)))
+        ∙ sym (plain_append c n out (s ∷ []) st);
   }
 
   pub pushed : (out : List KStmt) (s t : KStmt) → SameStep over s t → SameRuns over (out ++ s ∷ []) (out ++ t ∷ [])
-  pushed out s t h = runs_behind out (s ∷ []) t (λ c q n st. last c n (run c n s st) ∙ h.from c q n st)
+  pushed out s t h = runs_behind out (s ∷ []) t (λ c q n st. ap unnumbered (alone c n s st) ∙ h.from c q n st)
 
   -- one body in place of a choice by a number
   pub takes_second : (out : List KStmt) (e : KExpr) (first second : List KStmt) → number_of e ≡ Some 0
       → SameRuns over (out ++ second) (out ++ If e first second ∷ [])
   takes_second out e first second h =
-      runs_behind out second (If e first second) (λ c q n st. if_no c n e first second st (number_is e 0 h st))
+      runs_behind out second (If e first second) (λ c q n st. plain_no c n e first second st (number_is e 0 h st))
 
   pub takes_first : (out : List KStmt) (e : KExpr) (first second : List KStmt) (v : ℕ) → number_of e ≡ Some v → 0 < v
       → SameRuns over (out ++ first) (out ++ If e first second ∷ [])
   takes_first out e first second v h l =
-      runs_behind out first (If e first second) (λ c q n st. if_yes c n e first second st v (number_is e v h st) l)
+      runs_behind out first (If e first second) (λ c q n st. plain_yes c n e first second st v (number_is e v h st) l)
 
   -- nothing in place of a loop on 0
   pub no_loop : (out : List KStmt) (k : LoopKind) (e : KExpr) (body : List KStmt) → is_zero e ≡ true
@@ -165,7 +170,8 @@ module _ (over : Arithmetic) where
   no_loop out k e body h =
       subst (λ code. SameRuns over code (out ++ While k e body ∷ [])) (append-nil out)
       (runs_behind out [] (While k e body)
-      (λ c q n st. sym (run_while c n k e body st ∙ turns_end n k (value e) (run_list c n body) st (number_is e 0 (zero_is e h) st))))
+      (λ c q n st. sym (plain_while c n k e body st
+      ∙ turns_end n k (value e) (λ s. unnumbered (run_list c n body s)) st (number_is e 0 (zero_is e h) st))))
 
   -- a choice whose test is a number once it is simple, in place of the statement that it was
   choice_now : (out : List KStmt) (e e' : KExpr) (first second : List KStmt) (s : KStmt) → SameValue e' e → s ≡ If e first second

@@ -1,3 +1,4 @@
 pub mod CodeLemmas
 pub mod Equations
 pub mod ExprLemmas
+pub mod Unnumbered

@@ -37,7 +37,7 @@ module _ (a : Arithmetic) (s : Statement) (store : Store) (letters : List Letter
     subst (LeavesResult a s (told_by a store) store) h.2 h.1.0,
     subst (AreTurns s (told_by a store) letters most) h.3 h.1.1,
   )
-  done_told GotStuck h = absurd h
+  done_told (GotStuck statement) h = absurd h
   done_told (TooLong place count) h =
       let r = h.1 in
       (subst (λ p. IsRightOutcome a s (told_by a store) store (TooLong p count)) r.2 r.1, tt)

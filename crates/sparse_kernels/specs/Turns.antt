@@ -27,6 +27,6 @@ pub record AreTurns (s : Statement) (inputs : Inputs) (letters : List Letter) (m
 -- so it is of a run that finishes
 abbrev pub MakesTurns : Statement → Inputs → List Letter → (LoopKind → ℕ) → KernelOutcome → Type 0
 MakesTurns s inputs letters most (Finished arrays turns) = AreTurns s inputs letters most turns
-MakesTurns s inputs letters most GotStuck = ⊥
+MakesTurns s inputs letters most (GotStuck statement) = ⊥
 MakesTurns s inputs letters most (TooLong place count) = Unit {0}
 MakesTurns s inputs letters most NotFinished = ⊥

@@ -43,7 +43,7 @@
 //!
 //! Each run has the same arrays but for those of tensor 1: `range` has 6 and 7; the result has one value, 0, two segment ends and no
 //! coordinates at level 1, and no width at level 2; there is one workspace of one key and one scratch list. Behind the name come how
-//! the run ended, the turns of each kind, and the arrays that have words, with these.
+//! the run ended, where it is stuck the number of the statement, the turns of each kind, and the arrays that have words, with these.
 #![tactic(auto)]
 
 mod kinds;

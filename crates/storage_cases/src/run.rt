@@ -59,11 +59,15 @@ fn started<'a>(
     Ok(machine)
 }
 
-/// How a run ended, and its turns. Where a growth was refused, its count is told.
+/// How a run ended, and its turns. Where it is stuck, the number of the statement is told, and where a growth was refused, its count.
 fn tell_ending(answer: &mut Answer, ending: Ending, turns: Turns) {
     match ending {
         Ending::Ended => answer.tell("ended\n"),
-        Ending::Stuck => answer.tell("stuck\n"),
+        Ending::Stuck { statement } => {
+            answer.tell("stuck at");
+            answer.show_all(&[statement]);
+            answer.tell("\n");
+        }
         Ending::More => answer.tell("more turns\n"),
         Ending::Over { array, count } => {
             answer.tell("over\n    ");

@@ -133,13 +133,13 @@ module _ (a : Arithmetic) (laws : Laws a) (s : Statement) (formats : List (List 
 
       abbrev ToldTurns : KernelOutcome → Type 0
       ToldTurns (Finished left turns) = AreMost turns
-      ToldTurns GotStuck = ⊥
+      ToldTurns (GotStuck statement) = ⊥
       ToldTurns (TooLong place count) = Unit {0}
       ToldTurns NotFinished = ⊥
 
       told_turns : (o : KernelOutcome) → ToldOf (length store.format) (λ u. AreMost u.turns) Never o → ToldTurns o
       told_turns (Finished left turns) h = subst AreMost h.3 h.1
-      told_turns GotStuck h = absurd h
+      told_turns (GotStuck statement) h = absurd h
       told_turns (TooLong place count) h = tt
       told_turns NotFinished h = absurd h
 
@@ -154,7 +154,7 @@ module _ (a : Arithmetic) (laws : Laws a) (s : Statement) (formats : List (List 
       few_turns none (Finished left turns) h =
           within_cost a laws s formats order loops l store (read_store store is) none (from_top.most store)
           (e.few (operands_in s store) (slice_index store.ranges) start) turns (h Merge) (h Skip)
-      few_turns none GotStuck h = absurd h
+      few_turns none (GotStuck statement) h = absurd h
       few_turns none (TooLong place count) h = tt
       few_turns none NotFinished h = absurd h
 
@@ -163,7 +163,7 @@ module _ (a : Arithmetic) (laws : Laws a) (s : Statement) (formats : List (List 
           let most = h Drain in
           let none = (e.few (operands_in s store) (slice_index store.ranges) start).drains in
           record { none = λ dense. omega (arith, most, none); within = λ some. absurd (some dense_store.dense) }
-      no_drains GotStuck h = absurd h
+      no_drains (GotStuck statement) h = absurd h
       no_drains (TooLong place count) h = tt
       no_drains NotFinished h = absurd h
 

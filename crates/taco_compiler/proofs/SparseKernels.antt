@@ -159,7 +159,7 @@ module _ (a : Arithmetic) (laws : Laws a) (s : Statement) (formats : List (List 
       few_turns none (Finished left turns) h =
           within_cost a laws s formats order loops l store (read_store store is) none (pushes.most store)
           (e.few (operands_in s store) (slice_index store.ranges) start) turns h.1.merges h.1.skips
-      few_turns none GotStuck h = absurd h.1
+      few_turns none (GotStuck statement) h = absurd h.1
       few_turns none (TooLong place count) h = tt
       few_turns none NotFinished h = absurd h.1
 
@@ -168,7 +168,7 @@ module _ (a : Arithmetic) (laws : Laws a) (s : Statement) (formats : List (List 
           few_drains s store a (pushes.most store) turns
           (λ dense. f.some (subst AreAllDense is.format_is dense))
           (e.few (operands_in s store) (slice_index store.ranges) start).drains h.1
-      drains_few GotStuck h = absurd h.1
+      drains_few (GotStuck statement) h = absurd h.1
       drains_few (TooLong place count) h = tt
       drains_few NotFinished h = absurd h.1
 

@@ -50,7 +50,7 @@ AreWithinCost s formats order store turns =
 -- so are those of a run that finishes
 abbrev pub AreFewTurns : Statement → List (List FormatLevel) → List ℕ → Store → KernelOutcome → Type 0
 AreFewTurns s formats order store (Finished arrays turns) = AreWithinCost s formats order store turns
-AreFewTurns s formats order store GotStuck = ⊥
+AreFewTurns s formats order store (GotStuck statement) = ⊥
 AreFewTurns s formats order store (TooLong place count) = Unit {0}
 AreFewTurns s formats order store NotFinished = ⊥
 
@@ -74,7 +74,7 @@ pub record AreFewDrains (s : Statement) (inputs : Inputs) (format : List FormatL
 -- so are the drain turns of a run that finishes
 abbrev pub DrainsFew : Statement → Inputs → List FormatLevel → KernelOutcome → Type 0
 DrainsFew s inputs format (Finished arrays turns) = AreFewDrains s inputs format (turns Drain)
-DrainsFew s inputs format GotStuck = ⊥
+DrainsFew s inputs format (GotStuck statement) = ⊥
 DrainsFew s inputs format (TooLong place count) = Unit {0}
 DrainsFew s inputs format NotFinished = ⊥
 

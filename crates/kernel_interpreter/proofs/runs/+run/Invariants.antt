@@ -1,5 +1,5 @@
-use Rattle.std.proofs.Common.{◌≡◌, ℕ, ◌-◌, ◌≤◌, drop}
-use Rattle.kernel_code.specs.Meaning.{value, run_list, run_turns}
+use Rattle.std.proofs.Common.{◌≡◌, ℕ, ◌-◌, ◌≤◌, drop, take}
+use Rattle.kernel_code.specs.Meaning.{value, run_list, run_turns, behind, statements_in_list}
 use Rattle.kernel_code.specs.Kernels.{within}
 use Rattle.kernel_interpreter.specs.Memory.{NeedsNone, Through, variable_room}
 use Rattle.kernel_interpreter.specs.Store.{state_of, made, setting}
@@ -9,15 +9,16 @@ use Rattle.kernel_interpreter.proofs.runs.+run.Given as goal
 abbrev pub invariant-run_loop-loop : goal.invariant-run_loop-loop
 invariant-run_loop-loop g l = (made l.machine ≤ l.limit)
     × (within l.limit (run_turns (l.limit - l.counter) l.kind (value l.e)
-    (run_list (setting g.S.Semiring.arithmetic l.workspaces) l.limit l.body) (state_of l.machine)) ≡ within l.limit
-    (run_turns l.limit l.kind (value l.e) (run_list (setting g.S.Semiring.arithmetic l.workspaces) l.limit l.body)
+    (λ s. behind 1 (run_list (setting g.S.Semiring.arithmetic l.workspaces) l.limit l.body s)) (state_of l.machine)) ≡ within l.limit
+    (run_turns l.limit l.kind (value l.e) (λ s. behind 1 (run_list (setting g.S.Semiring.arithmetic l.workspaces) l.limit l.body s))
     (state_of l.fn.machine)))
     × ((n : ℕ) → n ≤ variable_room l.fn.machine → Through (NeedsNone n) l.body → n ≤ variable_room l.machine)
 
--- what is left of the list does the rest, and needs no memory if the list needs none
-abbrev pub invariant-run_statements-loop-s : goal.invariant-run_statements-loop-s
-invariant-run_statements-loop-s g l = (made l.machine ≤ l.limit)
-    × (within l.limit (run_list (setting g.S.Semiring.arithmetic l.workspaces) l.limit (drop l.s-index l.statements) (state_of l.machine))
+-- what is left of the list does the rest, behind what was run, and needs no memory if the list needs none
+abbrev pub invariant-run_statements-loop-i : goal.invariant-run_statements-loop-i
+invariant-run_statements-loop-i g l = (made l.machine ≤ l.limit)
+    × (behind (statements_in_list (take l.i l.statements)) (within l.limit
+    (run_list (setting g.S.Semiring.arithmetic l.workspaces) l.limit (drop l.i l.statements) (state_of l.machine)))
     ≡ within l.limit (run_list (setting g.S.Semiring.arithmetic l.workspaces) l.limit l.statements (state_of l.fn.machine)))
     × ((n : ℕ) → n ≤ variable_room l.fn.machine → Through (NeedsNone n) l.statements
-    → (n ≤ variable_room l.machine) × Through (NeedsNone n) (drop l.s-index l.statements))
+    → (n ≤ variable_room l.machine) × Through (NeedsNone n) (drop l.i l.statements))

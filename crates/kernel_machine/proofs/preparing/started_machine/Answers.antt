@@ -2,7 +2,7 @@ use Rattle.std.proofs.Common.{◌∙◌, ap, subst, refl, map, arith}
 use Rattle.format_spec.specs.Formats.{letters_of}
 use Rattle.kernel_code.specs.Meaning.{State}
 use Rattle.lent_arrays.specs.declared.lent.LentArrays.{LentArrays}
-use Rattle.machine_starts.specs.Begun.{begun_result, with_workspaces, with_lists}
+use Rattle.machine_starts.specs.Begun.{begun_result, sizes_lent, with_workspaces, with_lists}
 use Rattle.machine_starts.specs.Lending.{lent_of}
 use Rattle.kernel_interpreter.specs.Memory.{SetsBelow, Through, variable_room}
 use Rattle.kernel_interpreter.specs.Store.{state_of}
@@ -24,7 +24,7 @@ returns-clause-starts g c =
       turns = c.new-machine.ensures.turns;
     })
     (ap (λ (l : LentArrays). l.ranges.now) lent)
-    (ap (λ (l : LentArrays). l.sizes.items) lent ∙ c.in_ok-from_slice.ensures.items ∙ c.requires.sizes)
+    (ap (λ (l : LentArrays). l.sizes.items) lent ∙ c.in_ok-sizes_lent.ensures ∙ ap (sizes_lent letters) c.requires.sizes)
     (ap (λ (l : LentArrays). map lent_of l.operands.items) lent ∙ c.in_ok-lent_operands.ensures)
     (c.in_ok-make_room.ensures.state ∙ c.in_ok-begin_scratch.ensures
     ∙ ap (λ ws. with_lists kernel.lists (with_workspaces ws 0 (state_of c.begin_result.new.machine))) c.as_slice.ensures

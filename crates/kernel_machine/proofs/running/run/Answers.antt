@@ -96,11 +96,11 @@ returns-in-Stuck g c =
     let new = state_of c.run_statements.new.machine in
     λ other ready works dense.
     elim c.in-Stuck.is as (λ _. go a (length other.format) kernel ready.starts.given most_turns ≡ NotFinished) [
-      | inl stuck ↦ absurd (never_stuck a order kernel store begun.given (c.requires.2 begun.given begun.is_given)
+      | inl stuck ↦ absurd (never_stuck a order kernel store begun.given stuck.0 (c.requires.2 begun.given begun.is_given)
           (ends_told a order kernel begun.given c.args.prepared.machine c.run_statements.new.machine c.in-Ok.ending c.as_slice.result.now
           c.as_slice-2.result.now c.most_turns.result c.as_slice.ensures c.as_slice-2.ensures c.most_turns.ensures begun.is
           c.in-Ok.ensures.is
-          ∙ ap (λ (e : Ending). told order (outcome_of e new)) stuck))
+          ∙ ap (λ (e : Ending). told order (outcome_of e new)) stuck.1))
       | inr more ↦ ends_told a (length other.format) kernel ready.starts.given c.args.prepared.machine c.run_statements.new.machine
           c.in-Ok.ending c.as_slice.result.now c.as_slice-2.result.now c.most_turns.result c.as_slice.ensures c.as_slice-2.ensures
           c.most_turns.ensures ready.starts.is c.in-Ok.ensures.is

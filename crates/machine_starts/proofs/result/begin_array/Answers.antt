@@ -1,11 +1,10 @@
-use Rattle.std.specs.Prelude.{◌≡◌, suc, ◌<◌, ◌^◌, true, Some}
+use Rattle.std.specs.Prelude.{◌≡◌, true}
 use Rattle.std.proofs.Common.{◌∙◌, sym, ap, subst, arith}
 use Rattle.limits.proofs.Limits.{positions_are_small}
 use Rattle.kernel_code.specs.Arrays.{may_write}
 use Rattle.kernel_code.specs.Meaning.{set_array}
 use Rattle.kernel_interpreter.specs.Store.{state_of}
 use Rattle.level_core.specs.Arrays.{array_of}
-use Rattle.level_core.specs.Kinds.{zeros_at_start}
 use Rattle.machine_starts.specs.Begun.{filled_with}
 use Rattle.machine_starts.proofs.Steps.{writable}
 use Rattle.machine_starts.proofs.result.begin_array.Goals as goal
