@@ -4,8 +4,8 @@ use Rattle.kernel_code.specs.Kernels.{all_turns, within}
 use Rattle.kernel_code.specs.Meaning.{State, Outcome, run_list}
 use Rattle.kernel_interpreter.specs.declared.ending.Ending.{Ending}
 use Rattle.kernel_interpreter.specs.declared.machine.Machine.{Machine}
-use Rattle.kernel_interpreter.specs.Memory.{IsInPlace, NeedsNone, SetsBelow, Through, variable_room}
-use Rattle.kernel_interpreter.specs.Store.{IsTold, made, outcome_of, setting, state_of}
+use Rattle.kernel_interpreter.specs.Memory.{IsInPlace, SetsBelow}
+use Rattle.kernel_interpreter.specs.Store.{IsTold, outcome_of, setting, state_of}
 use Rattle.kernel_interpreter.proofs.MemoryLemmas.{parts_through, through_wider}
 use Rattle.kernel_interpreter.proofs.runs.run_statements.Goals as goal
 
