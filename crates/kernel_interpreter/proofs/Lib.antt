@@ -1,4 +1,5 @@
 pub mod ColumnLemmas
+pub mod Heights
 pub mod MemoryLemmas
 pub mod NoRefusal
 pub mod Numbers

@@ -1,4 +1,4 @@
--- What holds throughout statements that are made of others, and the room of a table.
+-- What holds throughout statements that are made of others.
 use Rattle.std.specs.Prelude.{◌≡◌, ℕ, zero, suc, ◌+◌, ◌<◌, ◌≤◌, List, [], ◌∷◌, length, drop, slice_index_or, Result, Ok, Err, OnOk}
 use Rattle.std.proofs.Common.{subst, sym, arith}
 use Rattle.std.proofs.Math.Seq.{drop-cons}
@@ -8,9 +8,7 @@ use Rattle.kernel_code.specs.declared.syntax.KStmt.{KStmt, Set, Combine, Put, Ad
 use Rattle.kernel_code.specs.declared.syntax.KStmt.{While', Row_of-KStmt, end_of-KStmt, more_of-KStmt, items-the_row-KStmt}
 use Rattle.kernel_code.specs.declared.syntax.KStmt.{items_hidden-the_row-KStmt-0}
 use Rattle.kernel_code.specs.declared.syntax.KStmt.TheBlock.{hidden-the_row-KStmt-0}
-use Rattle.machine_parts.specs.declared.tables.Table.{Table}
-use Rattle.machine_parts.specs.ArrayPlaces.{room_of}
-use Rattle.kernel_interpreter.specs.Memory.{Throughout, Throughout_row, Through}
+use Rattle.kernel_interpreter.specs.Memory.{SetsBelow, Throughout, Throughout_row, Through}
 
 row_through : {m : _} (P : KStmt → Type 0) (row : Row_of-KStmt m) → Throughout_row P row → Through P (items-the_row-KStmt m row)
 row_through P end_of-KStmt h = tt
@@ -61,6 +59,62 @@ mutual
   both_row P Q end_of-KStmt h g = tt
   both_row P Q (more_of-KStmt s rest) h g = (both_throughout P Q s h.0 g.0, both_row P Q rest h.1 g.1)
 
+mutual
+  wider_throughout : (m n : ℕ) (s : KStmt) → m ≤ n → Throughout (SetsBelow m) s → Throughout (SetsBelow n) s
+  wider_throughout m n (Set x e) l h = omega (arith, h)
+  wider_throughout m n (Combine x o e f) l h = omega (arith, h)
+  wider_throughout m n (Put a i e) l h = tt
+  wider_throughout m n (AddTo a i e) l h = tt
+  wider_throughout m n (Push a e) l h = tt
+  wider_throughout m n (Extend a count e) l h = tt
+  wider_throughout m n (Cut a e) l h = tt
+  wider_throughout m n (Sort g) l h = tt
+  wider_throughout m n (SortSum w) l h = tt
+  wider_throughout m n (If' e p first q second) l h = (wider_row m n first l h.0, wider_row m n second l h.1)
+  wider_throughout m n (While' k e p body) l h = wider_row m n body l h
+
+  wider_row : {k : _} (m n : ℕ) (row : Row_of-KStmt k) → m ≤ n → Throughout_row (SetsBelow m) row → Throughout_row (SetsBelow n) row
+  wider_row m n end_of-KStmt l h = tt
+  wider_row m n (more_of-KStmt s rest) l h = (wider_throughout m n s l h.0, wider_row m n rest l h.1)
+
+-- what sets no variable from m on sets none from a greater number on
+pub through_wider : (m n : ℕ) (code : List KStmt) → m ≤ n → Through (SetsBelow m) code → Through (SetsBelow n) code
+through_wider m n [] l h = tt
+through_wider m n (s ∷ rest) l h = (wider_throughout m n s l h.0, through_wider m n rest l h.1)
+
+mutual
+  parts_throughout : (P Q : KStmt → Type 0) (s : KStmt) → Throughout (λ s. P s × Q s) s → Throughout P s × Throughout Q s
+  parts_throughout P Q (Set x e) h = h
+  parts_throughout P Q (Combine x o e f) h = h
+  parts_throughout P Q (Put a i e) h = h
+  parts_throughout P Q (AddTo a i e) h = h
+  parts_throughout P Q (Push a e) h = h
+  parts_throughout P Q (Extend a count e) h = h
+  parts_throughout P Q (Cut a e) h = h
+  parts_throughout P Q (Sort g) h = h
+  parts_throughout P Q (SortSum w) h = h
+  parts_throughout P Q (If' e p first q second) h =
+      let f = parts_row P Q first h.0 in
+      let s = parts_row P Q second h.1 in
+      ((f.0, s.0), (f.1, s.1))
+  parts_throughout P Q (While' k e p body) h = parts_row P Q body h
+
+  parts_row : {m : _} (P Q : KStmt → Type 0) (row : Row_of-KStmt m) → Throughout_row (λ s. P s × Q s) row
+      → Throughout_row P row × Throughout_row Q row
+  parts_row P Q end_of-KStmt h = (tt, tt)
+  parts_row P Q (more_of-KStmt s rest) h =
+      let first = parts_throughout P Q s h.0 in
+      let others = parts_row P Q rest h.1 in
+      ((first.0, others.0), (first.1, others.1))
+
+-- what is so both ways is so in each
+pub parts_through : (P Q : KStmt → Type 0) (code : List KStmt) → Through (λ s. P s × Q s) code → Through P code × Through Q code
+parts_through P Q [] h = (tt, tt)
+parts_through P Q (s ∷ rest) h =
+    let first = parts_throughout P Q s h.0 in
+    let others = parts_through P Q rest h.1 in
+    ((first.0, others.0), (first.1, others.1))
+
 -- what is so in two ways
 pub both_through : (P Q : KStmt → Type 0) (code : List KStmt) → Through P code → Through Q code → Through (λ s. P s × Q s) code
 both_through P Q [] h g = tt
@@ -94,10 +148,6 @@ if_ok (Err e) P Q p h = p
 pub if_both_ok : {X E : Type 0} (r : Result X E) (P Q R : Type 0) → OnOk r P → OnOk r Q → (P → Q → R) → OnOk r R
 if_both_ok (Ok x) P Q R p q h = h p q
 if_both_ok (Err e) P Q R p q h = p
-
--- a table that is as it was has its places
-pub kept_room : (n : ℕ) (t u : Table) → u ≡ t → n ≤ room_of t → n ≤ room_of u
-kept_room n t u same l = subst (λ (v : Table). n ≤ room_of v) (sym same) l
 
 -- nothing stands behind the last statement
 pub none_left : (P : KStmt → Type 0) (code : List KStmt) (i : ℕ) → length code ≤ i → Through P (drop i code)

@@ -1,4 +1,4 @@
--- How a run ends, as an outcome.
+-- How a step ends, as an outcome.
 use Rattle.std.specs.Prelude.{◌≡◌, ℕ, suc, ◌+◌, ◌<◌, true, false, List, [], ◌∷◌, ◌++◌, length, take, drop, slice_index_or, refl}
 use Rattle.std.proofs.Common.{◌∙◌, ap, sym, arith, add-zero}
 use Rattle.std.proofs.Math.Seq.{drop-cons}
@@ -10,23 +10,36 @@ use Rattle.kernel_code.proofs.TurnsLemmas.{at_least_list}
 use Rattle.kernel_code.proofs.Behind.{behind_on, within_behind}
 use Rattle.kernel_code.proofs.Equations.{statements_in_append}
 use Rattle.kernel_code.proofs.RunLemmas.{first_then}
-use Rattle.kernel_interpreter.specs.declared.ending.Ending.{Ending}
-use Rattle.kernel_interpreter.specs.declared.ending.Ending.TheVariants as ending
+use Rattle.kernel_interpreter.specs.declared.machine.Machine.{Machine}
+use Rattle.kernel_interpreter.specs.declared.ending.Step.{Step}
+use Rattle.kernel_interpreter.specs.declared.ending.Step.TheVariants as step
 use Rattle.kernel_code.specs.Meaning.{Setting, State, Outcome, Ended, Stuck, Over, More, then_run, behind, run, run_list, statements_in, statements_in_list}
-use Rattle.kernel_interpreter.specs.Store.{outcome_of, has_ended}
+use Rattle.kernel_interpreter.specs.Store.{state_of, outcome_at, has_ended, IsTold}
 
 -- what hasn't ended stops what follows
-pub not_ended : (e : Ending) (s : State) (next : State → Outcome) → has_ended e ≡ false → outcome_of e s ≡ then_run (outcome_of e s) next
-not_ended ending.Ended s next h = cc
-not_ended (ending.Stuck statement) s next h = refl
-not_ended (ending.Over a count) s next h = refl
-not_ended ending.More s next h = refl
+pub not_ended : (e : Step) (m : Machine) (next : State → Outcome) → has_ended e ≡ false → outcome_at e m ≡ then_run (outcome_at e m) next
+not_ended step.Ended m next h = cc
+not_ended step.Stuck m next h = refl
+not_ended step.StuckInside m next h = refl
+not_ended step.Over m next h = refl
+not_ended step.More m next h = refl
+not_ended step.Memory m next h = refl
 
-pub is_ended : (e : Ending) (s : State) → has_ended e ≡ true → outcome_of e s ≡ Ended s
-is_ended ending.Ended s h = refl
-is_ended (ending.Stuck statement) s h = cc
-is_ended (ending.Over a count) s h = cc
-is_ended ending.More s h = cc
+pub is_ended : (e : Step) (m : Machine) → has_ended e ≡ true → outcome_at e m ≡ Ended (state_of m)
+is_ended step.Ended m h = refl
+is_ended step.Stuck m h = cc
+is_ended step.StuckInside m h = cc
+is_ended step.Over m h = cc
+is_ended step.More m h = cc
+is_ended step.Memory m h = cc
+
+pub told_ended : (e : Step) → has_ended e ≡ true → IsTold e
+told_ended step.Ended h = tt
+told_ended step.Stuck h = tt
+told_ended step.StuckInside h = tt
+told_ended step.Over h = tt
+told_ended step.More h = tt
+told_ended step.Memory h = cc
 
 at_least_behind : (m n : ℕ) (o : Outcome) → AtLeast m o → AtLeast m (behind n o)
 at_least_behind m n (Ended s) h = h
@@ -35,12 +48,14 @@ at_least_behind m n (Over t a count) h = h
 at_least_behind m n More h = h
 
 -- so does what hasn't ended behind other statements
-pub stopped_behind : (n : ℕ) (e : Ending) (s : State) (told : Outcome) (next : State → Outcome) → has_ended e ≡ false
-    → told ≡ behind n (outcome_of e s) → told ≡ then_run told next
-stopped_behind n ending.Ended s told next stop h = cc
-stopped_behind n (ending.Stuck statement) s told next stop h = h ∙ ap (λ o. then_run o next) (sym h)
-stopped_behind n (ending.Over a count) s told next stop h = h ∙ ap (λ o. then_run o next) (sym h)
-stopped_behind n ending.More s told next stop h = h ∙ ap (λ o. then_run o next) (sym h)
+pub stopped_behind : (n : ℕ) (e : Step) (m : Machine) (told : Outcome) (next : State → Outcome) → has_ended e ≡ false
+    → told ≡ behind n (outcome_at e m) → told ≡ then_run told next
+stopped_behind n step.Ended m told next stop h = cc
+stopped_behind n step.Stuck m told next stop h = h ∙ ap (λ o. then_run o next) (sym h)
+stopped_behind n step.StuckInside m told next stop h = h ∙ ap (λ o. then_run o next) (sym h)
+stopped_behind n step.Over m told next stop h = h ∙ ap (λ o. then_run o next) (sym h)
+stopped_behind n step.More m told next stop h = h ∙ ap (λ o. then_run o next) (sym h)
+stopped_behind n step.Memory m told next stop h = h ∙ ap (λ o. then_run o next) (sym h)
 
 -- turns are only added in a body
 pub at_least_body : (c : Setting) (n : ℕ) (body : List KStmt) (s : State) → AtLeast (all_turns s.turns) (behind 1 (run_list c n body s))
@@ -55,21 +70,21 @@ module _ (c : Setting) (limit : ℕ) (code : List KStmt) (i : ℕ) (this : KStmt
     (left : behind (statements_in_list (take i code)) (within limit (run_list c limit (drop i code) st)) ≡ total)
   where
     -- the next statement, and the rest
-    step : (o : Outcome) → o ≡ within limit (run c limit this st)
+    first : (o : Outcome) → o ≡ within limit (run c limit this st)
         → within limit (run_list c limit (drop i code) st)
         ≡ then_run o (λ s. behind (statements_in this) (within limit (run_list c limit (drop (suc i) code) s)))
-    step o did =
+    first o did =
         ap (λ code. within limit (run_list c limit code st)) (drop-cons code i this here)
         ∙ ap (λ s. within limit (run_list c limit (s ∷ drop (suc i) code) st)) (sym is)
         ∙ first_then c limit this (drop (suc i) code) st o did
 
     -- a statement that doesn't end stops the code
-    pub stopped : (e : Ending) (new : State) (told : Outcome) → has_ended e ≡ false → outcome_of e new ≡ within limit (run c limit this st)
-        → told ≡ behind (statements_in_list (take i code)) (outcome_of e new) → told ≡ total
+    pub stopped : (e : Step) (new : Machine) (told : Outcome) → has_ended e ≡ false → outcome_at e new ≡ within limit (run c limit this st)
+        → told ≡ behind (statements_in_list (take i code)) (outcome_at e new) → told ≡ total
     stopped e new told stop did h =
         h ∙ ap (behind (statements_in_list (take i code)))
         (not_ended e new (λ s. behind (statements_in this) (within limit (run_list c limit (drop (suc i) code) s))) stop
-        ∙ sym (step (outcome_of e new) did)) ∙ left
+        ∙ sym (first (outcome_at e new) did)) ∙ left
 
     counted : statements_in_list (take i code) + statements_in this ≡ statements_in_list (take (i + 1) code)
     counted =
@@ -86,4 +101,4 @@ module _ (c : Setting) (limit : ℕ) (code : List KStmt) (i : ℕ) (this : KStmt
         ap (λ j. behind (statements_in_list (take (i + 1) code)) (within limit (run_list c limit (drop j code) new))) next
         ∙ ap (λ n. behind n (within limit (run_list c limit (drop (suc i) code) new))) (sym counted)
         ∙ sym (behind_on (statements_in_list (take i code)) (statements_in this) (within limit (run_list c limit (drop (suc i) code) new)))
-        ∙ ap (behind (statements_in_list (take i code))) (sym (step (Ended new) did)) ∙ left
+        ∙ ap (behind (statements_in_list (take i code))) (sym (first (Ended new) did)) ∙ left

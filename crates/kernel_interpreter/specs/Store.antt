@@ -13,6 +13,8 @@ use Rattle.machine_parts.specs.declared.words.OwnArray.{OwnArray}
 use Rattle.kernel_interpreter.specs.declared.machine.Machine.{Machine}
 use Rattle.kernel_interpreter.specs.declared.ending.Ending.{Ending}
 use Rattle.kernel_interpreter.specs.declared.ending.Ending.TheVariants as ending
+use Rattle.kernel_interpreter.specs.declared.ending.Step.{Step}
+use Rattle.kernel_interpreter.specs.declared.ending.Step.TheVariants as step
 use Rattle.lent_arrays.specs.Lent.{lent_array}
 use Rattle.machine_parts.specs.ArrayPlaces.{held, place_in}
 
@@ -54,11 +56,31 @@ outcome_of (ending.Stuck statement) s = Stuck s.turns statement
 outcome_of (ending.Over a count) s = Over s.turns a count
 outcome_of ending.More s = More
 
-abbrev pub has_ended : Ending → Bool
-has_ended ending.Ended = true
-has_ended (ending.Stuck statement) = false
-has_ended (ending.Over a count) = false
-has_ended ending.More = false
+-- the outcome that a step stands for, with what the machine keeps of it; none where memory is wanted
+abbrev pub outcome_at : Step → Machine → Outcome
+outcome_at step.Ended m = Ended (state_of m)
+outcome_at step.Stuck m = Stuck (state_of m).turns 1
+outcome_at step.StuckInside m = Stuck (state_of m).turns m.stuck_inside
+outcome_at step.Over m = Over (state_of m).turns m.refused.array m.refused.count
+outcome_at step.More m = More
+outcome_at step.Memory m = More
+
+-- a step that stands for an outcome: no memory is wanted
+abbrev pub IsTold : Step → Type 0
+IsTold step.Memory = ⊥
+IsTold step.Ended = Unit {0}
+IsTold step.Stuck = Unit {0}
+IsTold step.StuckInside = Unit {0}
+IsTold step.Over = Unit {0}
+IsTold step.More = Unit {0}
+
+abbrev pub has_ended : Step → Bool
+has_ended step.Ended = true
+has_ended step.Stuck = false
+has_ended step.StuckInside = false
+has_ended step.Over = false
+has_ended step.More = false
+has_ended step.Memory = false
 
 -- the array of this name stands at place i
 pub record IsPlaceOf (m : Machine) (a : Arr) (i : ℕ) : Type 0 where

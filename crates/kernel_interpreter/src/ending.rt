@@ -1,9 +1,8 @@
 //! How a run ends.
 ghost use Rattle.std.specs.Prelude.{◌≡◌};
-ghost use Rattle.kernel_code.specs.Meaning.{State, behind, statements_in_list};
-ghost use Rattle.kernel_interpreter.specs.Store.{has_ended, outcome_of};
+ghost use Rattle.kernel_interpreter.specs.Store.{has_ended};
 
-use kernel_code::{Arr, KStmt, count_statements};
+use kernel_code::Arr;
 
 /// How a run ends.
 #[derive(Clone, Copy, Debug, PartialEq, Eq, Drop)]
@@ -22,44 +21,33 @@ pub enum Ending {
     More,
 }
 
-/// The ending of a statement that can't go on itself.
-pub(crate) const STUCK: Ending = Ending::Stuck { statement: 1 };
+/// How a statement ends, in one byte: each statement of a loop answers one. The machine keeps what else is to be told.
+#[derive(Clone, Copy, Debug, PartialEq, Eq, Drop)]
+pub(crate) enum Step {
+    Ended,
+    /// The statement itself can't go on.
+    Stuck,
+    /// A statement inside can't go on; the machine keeps its number.
+    StuckInside,
+    /// A growth was refused; the machine keeps the array and the count.
+    Over,
+    More,
+    /// Memory is wanted.
+    Memory,
+}
 
-impl Ending {
+impl Step {
+    #[inline(always)]
     pub(crate) fn has_ended(self) -> bool
         ensures { result ≡ has_ended self }
     {
-        matches!(self, Ending::Ended)
+        matches!(self, Step::Ended)
     }
-    /// The ending of code that stands behind so many statements.
-    fn behind_so_many(self, count: u64) -> Ending
-        ensures { (s : State) → outcome_of result s ≡ behind count (outcome_of self s) }
-    {
-        if count == 0 {
-            return self;
-        }
-        match self {
-            Ending::Stuck { statement } => Ending::Stuck {
-                statement: count.saturating_add(statement),
-            },
-            ending => ending,
-        }
-    }
+}
 
-    /// The ending of code that stands in a statement, behind its first line.
-    pub(crate) fn inside(self) -> Ending
-        ensures { (s : State) → outcome_of result s ≡ behind 1 (outcome_of self s) }
-    {
-        self.behind_so_many(1)
-    }
-
-    /// The ending of code that stands behind statements. They are counted where it is stuck alone.
-    pub(crate) fn behind(self, before: &[KStmt]) -> Ending
-        ensures { (s : State) → outcome_of result s ≡ behind (statements_in_list before.now) (outcome_of self s) }
-    {
-        match self {
-            Ending::Stuck { .. } => self.behind_so_many(count_statements(before)),
-            ending => ending,
-        }
-    }
+/// The growth that was refused last.
+#[derive(Clone, Copy, Debug, Drop)]
+pub(crate) struct Refused {
+    pub(crate) array: Arr,
+    pub(crate) count: u64,
 }

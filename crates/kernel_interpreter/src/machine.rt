@@ -1,5 +1,5 @@
 //! The machine: variables, arrays that are lent and arrays of its own, and the turns that loops have made.
-ghost use Rattle.std.specs.Prelude.{◌≡◌, ℕ, ◌+◌, ◌^◌, ◌<◌, ◌≤◌, List, length, MatchOption, IfOk, IsOkAnd, OnOk, OnErr};
+ghost use Rattle.std.specs.Prelude.{◌≡◌, ℕ, ◌+◌, ◌^◌, ◌<◌, ◌≤◌, List, length, MatchOption, IfOk, IsOk, OnOk, OnErr};
 ghost use Rattle.std.specs.Prelude.{◌++◌, ◌∷◌, [], Some, None, take, true, replicate};
 ghost use Rattle.std.specs.Prelude.{slice_get, option_map, unwrap_or, map, IsTrue, ◌↔◌};
 ghost use Rattle.kernel_code.specs.Arrays.{sum_in, may_write};
@@ -7,15 +7,18 @@ ghost use Rattle.kernel_code.specs.declared.syntax.Arr.{Arr};
 ghost use Rattle.kernel_code.specs.declared.syntax.Arr.TheVariants.{ListCoordinates, ListPositions, Key, Sums};
 ghost use Rattle.kernel_code.specs.Meaning.{Ended, Stuck, Outcome, set_array, one_turn, sort_outcome, sort_sum_outcome, key_columns};
 ghost use Rattle.kernel_code.specs.Meaning.{set_columns, with_array, changed, grown, value, word_at, length_of, set_outcome};
-ghost use Rattle.kernel_code.specs.Meaning.{put_outcome, add_outcome, push_outcome, extend_outcome, cut_outcome};
+ghost use Rattle.kernel_code.specs.Meaning.{put_outcome, add_outcome, push_outcome, extend_outcome, cut_outcome, behind, statements_in_list};
 ghost use Rattle.lent_arrays.specs.Lent.{lent_array};
 ghost use Rattle.machine_parts.specs.ArrayPlaces.{held};
 ghost use Rattle.machine_parts.specs.Rows.{row_of};
 ghost use Rattle.kernel_interpreter.specs.Memory.{variable_room};
-ghost use Rattle.kernel_interpreter.specs.Store.{count_of, state_of, own_array, outcome_of, made, IsPlaceOf, IsWritable};
+ghost use Rattle.kernel_interpreter.specs.Store.{count_of, state_of, own_array, outcome_at, outcome_of, made, IsPlaceOf, IsTold, IsWritable};
 
-use crate::ending::{Ending, STUCK};
-use kernel_code::{Arr, KExpr, LoopKind, Turns, apply_to_words, least_operand, width_of_operand};
+use crate::ending::{Ending, Refused, Step};
+use kernel_code::{
+    Arr, KExpr, KStmt, LoopKind, Turns, apply_to_words, count_statements, least_operand,
+    width_of_operand,
+};
 use lent_arrays::LentArrays;
 use machine_parts::{
     ArrayPlaces, OwnArray, PlacedRow, Table, append_copies, append_word, coordinates_of,
@@ -36,6 +39,10 @@ pub struct Machine<'a> {
     arrays: Vec<OwnArray>,
     lent: LentArrays<'a>,
     turns: Turns,
+    /// What a step that answers `Over` leaves aside.
+    refused: Refused,
+    /// The number of the statement where a step answers `StuckInside`.
+    stuck_inside: u64,
 }
 
 const NO_TURNS: Turns = Turns {
@@ -46,33 +53,52 @@ const NO_TURNS: Turns = Turns {
     probe: 0,
 };
 
+const NOTHING_REFUSED: Refused = Refused {
+    array: Arr::Range,
+    count: 0,
+};
+
+/// The value of an operand. A variable or a number is read where it stands.
+#[cycle(value)]
+#[inline(always)]
+pub(crate) fn operand(machine: &Machine, e: &KExpr) -> Option<u64>
+    ensures { result ≡ value e.now (state_of machine.now) }
+{
+    match e {
+        KExpr::Num(n) => Some(*n),
+        KExpr::Var(x) => machine.variable(*x),
+        _ => value_of(machine, e),
+    }
+}
+
 /// The value of an expression, or none where it is stuck.
-pub(crate) fn value_of(machine: &Machine, e: &KExpr) -> Option<u64>
+#[cycle(value)]
+fn value_of(machine: &Machine, e: &KExpr) -> Option<u64>
     ensures { result ≡ value e.now (state_of machine.now) }
 {
     match e {
         KExpr::Num(n) => Some(*n),
         KExpr::Var(x) => machine.variable(*x),
         KExpr::At(a, i) => {
-            let i = value_of(machine, i.get());
+            let i = operand(machine, i.get());
             machine.word(*a, i)
         }
         KExpr::Len(a) => machine.length(*a),
         KExpr::Bin(op, a, b) => {
-            let x = value_of(machine, a.get())?;
+            let x = operand(machine, a.get())?;
             if let Some(decided) = decided_by_first(*op, x) {
                 return Some(decided);
             }
-            let y = value_of(machine, b.get())?;
+            let y = operand(machine, b.get())?;
             Some(apply_to_words(*op, x, y))
         }
         KExpr::Min(a, b) => {
-            let x = value_of(machine, a.get());
-            let y = value_of(machine, b.get());
+            let x = operand(machine, a.get());
+            let y = operand(machine, b.get());
             least_operand(x, y)
         }
         KExpr::Width(e) => {
-            let x = value_of(machine, e.get());
+            let x = operand(machine, e.get());
             width_of_operand(x)
         }
     }
@@ -93,6 +119,8 @@ impl<'a> Machine<'a> {
             arrays: Vec::new(alloc),
             lent,
             turns: NO_TURNS,
+            refused: NOTHING_REFUSED,
+            stuck_inside: 0,
         }
     }
 
@@ -140,6 +168,7 @@ impl<'a> Machine<'a> {
         ensures is { (xs : List ℕ) → (state_of self.old).arrays a ≡ Some xs
             → state_of self.new ≡ set_array (state_of self.old) a words.items }
         ensures turns { self.new.turns ≡ self.old.turns }
+        ensures variables { self.new.variables ≡ self.old.variables }
     {
         if let Some(place) = self.find(a) {
             self.arrays[place].words = words;
@@ -154,6 +183,7 @@ impl<'a> Machine<'a> {
     }
 
     /// The value of a variable, or none where it has none.
+    #[inline(always)]
     pub fn variable(&self, x: u64) -> Option<u64>
         ensures { result ≡ (state_of self.now).vars x }
     {
@@ -220,25 +250,103 @@ impl<'a> Machine<'a> {
         }
     }
 
-    /// Gives a variable a place, whether or not it has a value. Refused for want of memory alone.
+    /// Gives a variable a place, whether or not it has a value. Refused for want of memory alone, and never where it has one.
     pub(crate) fn make_room(&mut self, x: u64) -> Result<(), AllocError>
         ensures state { OnOk result (state_of self.new ≡ state_of self.old) }
         ensures more { OnOk result (variable_room self.old ≤ variable_room self.new) }
         ensures room { OnOk result (x < variable_room self.new) }
+        ensures enough { x < variable_room self.old → IsOk result }
     {
         self.variables.make_room(x)
     }
 
-    pub(crate) fn set(&mut self, x: u64, value: Option<u64>) -> Result<Ending, AllocError>
-        ensures is { IfOk result (λ ending. outcome_of ending (state_of self.new) ≡ set_outcome (state_of self.old) x value) }
-        ensures turns { OnOk result (self.new.turns ≡ self.old.turns) }
-        ensures memory { (n : ℕ) → x < n → n ≤ variable_room self.old → IsOkAnd result (λ _. n ≤ variable_room self.new) }
+    /// Gives a variable that has a place a value.
+    #[inline(always)]
+    pub(crate) fn set(&mut self, x: u64, value: Option<u64>) -> Step
+        requires { x < variable_room self.old }
+        ensures is { outcome_at result self.new ≡ set_outcome (state_of self.old) x value }
+        ensures turns { self.new.turns ≡ self.old.turns }
+        ensures room { variable_room self.new ≡ variable_room self.old }
+        ensures told { IsTold result }
     {
         let Some(value) = value else {
-            return Ok(STUCK);
+            return Step::Stuck;
         };
-        self.variables.set(x, value)?;
-        Ok(Ending::Ended)
+        self.variables.put(x, value);
+        Step::Ended
+    }
+
+    /// How a run ends where its last step answers so.
+    pub(crate) fn ending(&self, step: Step) -> Result<Ending, AllocError>
+        ensures is { IfOk result (λ ending. outcome_of ending (state_of self.now) ≡ outcome_at step self.now) }
+        ensures told { OnOk result (IsTold step) }
+        ensures ok { IsTold step → IsOk result }
+    {
+        match step {
+            Step::Ended => Ok(Ending::Ended),
+            Step::Stuck => Ok(Ending::Stuck { statement: 1 }),
+            Step::StuckInside => Ok(Ending::Stuck {
+                statement: self.stuck_inside,
+            }),
+            Step::Over => Ok(Ending::Over {
+                array: self.refused.array,
+                count: self.refused.count,
+            }),
+            Step::More => Ok(Ending::More),
+            Step::Memory => Err(AllocError),
+        }
+    }
+
+    /// What code answers that stands behind so many statements: where it is stuck, they count too.
+    #[cold]
+    fn behind_so_many(&mut self, step: Step, count: u64) -> Step
+        ensures is { outcome_at result self.new ≡ behind count (outcome_at step self.old) }
+        ensures told { IsTold step ↔ IsTold result }
+        ensures state { state_of self.new ≡ state_of self.old }
+        ensures variables { self.new.variables ≡ self.old.variables }
+    {
+        if count == 0 {
+            return step;
+        }
+        match step {
+            Step::Stuck => {
+                self.stuck_inside = count.saturating_add(1);
+                Step::StuckInside
+            }
+            Step::StuckInside => {
+                self.stuck_inside = count.saturating_add(self.stuck_inside);
+                Step::StuckInside
+            }
+            Step::Ended | Step::Over | Step::More | Step::Memory => step,
+        }
+    }
+
+    /// What code answers that stands in a statement, behind its first line.
+    #[inline(always)]
+    pub(crate) fn inside(&mut self, step: Step) -> Step
+        ensures is { outcome_at result self.new ≡ behind 1 (outcome_at step self.old) }
+        ensures told { IsTold step ↔ IsTold result }
+        ensures state { state_of self.new ≡ state_of self.old }
+        ensures variables { self.new.variables ≡ self.old.variables }
+    {
+        match step {
+            Step::Stuck | Step::StuckInside => self.behind_so_many(step, 1),
+            Step::Ended | Step::Over | Step::More | Step::Memory => step,
+        }
+    }
+
+    /// What code answers that stands behind statements. They are counted where it is stuck alone.
+    #[inline(always)]
+    pub(crate) fn behind(&mut self, step: Step, before: &[KStmt]) -> Step
+        ensures is { outcome_at result self.new ≡ behind (statements_in_list before.now) (outcome_at step self.old) }
+        ensures told { IsTold step ↔ IsTold result }
+        ensures state { state_of self.new ≡ state_of self.old }
+        ensures variables { self.new.variables ≡ self.old.variables }
+    {
+        match step {
+            Step::Stuck | Step::StuckInside => self.behind_so_many(step, count_statements(before)),
+            Step::Ended | Step::Over | Step::More | Step::Memory => step,
+        }
     }
 
     /// The place of an array that exists and may be written.
@@ -252,145 +360,156 @@ impl<'a> Machine<'a> {
         self.find(a)
     }
 
-    fn put_word(&mut self, a: Arr, i: u64, value: u64) -> Ending
-        ensures is { outcome_of result (state_of self.new)
+    fn put_word(&mut self, a: Arr, i: u64, value: u64) -> Step
+        ensures is { outcome_at result self.new
             ≡ with_array (state_of self.old) a (changed (state_of self.old) a i (λ _. value)) }
         ensures turns { self.new.turns ≡ self.old.turns }
         ensures variables { self.new.variables ≡ self.old.variables }
+        ensures told { IsTold result }
     {
         let Some(place) = self.writable(a) else {
-            return STUCK;
+            return Step::Stuck;
         };
         let words = &mut self.arrays[place].words;
         if i >= words.len() as u64 {
-            return STUCK;
+            return Step::Stuck;
         }
         words.set(i as usize, value);
-        Ending::Ended
+        Step::Ended
     }
 
-    fn add_word<S: Semiring>(&mut self, a: Arr, i: u64, value: u64) -> Ending
-        ensures is { outcome_of result (state_of self.new)
+    fn add_word<S: Semiring>(&mut self, a: Arr, i: u64, value: u64) -> Step
+        ensures is { outcome_at result self.new
             ≡ with_array (state_of self.old) a (changed (state_of self.old) a i (λ old. sum_in S.arithmetic a old value)) }
+        ensures turns { self.new.turns ≡ self.old.turns }
+        ensures variables { self.new.variables ≡ self.old.variables }
+        ensures told { IsTold result }
+    {
+        let Some(place) = self.writable(a) else {
+            return Step::Stuck;
+        };
+        let words = &mut self.arrays[place].words;
+        if i >= words.len() as u64 {
+            return Step::Stuck;
+        }
+        let sum = sum_of_words::<S>(a, words.get(i as usize), value);
+        words.set(i as usize, sum);
+        Step::Ended
+    }
+
+    fn push_word(&mut self, a: Arr, value: u64) -> Step
+        ensures is { IsTold result → outcome_at result self.new
+            ≡ with_array (state_of self.old) a (λ xs. grown (state_of self.old) a (length xs + 1) xs (value ∷ [])) }
         ensures turns { self.new.turns ≡ self.old.turns }
         ensures variables { self.new.variables ≡ self.old.variables }
     {
         let Some(place) = self.writable(a) else {
-            return STUCK;
-        };
-        let words = &mut self.arrays[place].words;
-        if i >= words.len() as u64 {
-            return STUCK;
-        }
-        let sum = sum_of_words::<S>(a, words.get(i as usize), value);
-        words.set(i as usize, sum);
-        Ending::Ended
-    }
-
-    fn push_word(&mut self, a: Arr, value: u64) -> Result<Ending, AllocError>
-        ensures is { IfOk result (λ ending. outcome_of ending (state_of self.new)
-            ≡ with_array (state_of self.old) a (λ xs. grown (state_of self.old) a (length xs + 1) xs (value ∷ []))) }
-        ensures turns { OnOk result (self.new.turns ≡ self.old.turns) }
-    {
-        let Some(place) = self.writable(a) else {
-            return Ok(STUCK);
+            return Step::Stuck;
         };
         let words = &mut self.arrays[place].words;
         let length = words.len() as u64;
         if !may_grow(a, length, 1) {
             let count = count_told(a, length, 1);
-            return Ok(Ending::Over { array: a, count });
+            self.refused = Refused { array: a, count };
+            return Step::Over;
         }
-        append_word(words, value)?;
-        Ok(Ending::Ended)
+        match append_word(words, value) {
+            Ok(()) => Step::Ended,
+            Err(_) => Step::Memory,
+        }
     }
 
-    fn extend_words(&mut self, a: Arr, n: u64, value: u64) -> Result<Ending, AllocError>
-        ensures is { IfOk result (λ ending. outcome_of ending (state_of self.new)
-            ≡ with_array (state_of self.old) a (λ xs. grown (state_of self.old) a (length xs + n) xs (replicate n value))) }
-        ensures turns { OnOk result (self.new.turns ≡ self.old.turns) }
+    fn extend_words(&mut self, a: Arr, n: u64, value: u64) -> Step
+        ensures is { IsTold result → outcome_at result self.new
+            ≡ with_array (state_of self.old) a (λ xs. grown (state_of self.old) a (length xs + n) xs (replicate n value)) }
+        ensures turns { self.new.turns ≡ self.old.turns }
+        ensures variables { self.new.variables ≡ self.old.variables }
     {
         let Some(place) = self.writable(a) else {
-            return Ok(STUCK);
+            return Step::Stuck;
         };
         let words = &mut self.arrays[place].words;
         let length = words.len() as u64;
         if !may_grow(a, length, n) {
             let count = count_told(a, length, n);
-            return Ok(Ending::Over { array: a, count });
+            self.refused = Refused { array: a, count };
+            return Step::Over;
         }
-        append_copies(words, n, value)?;
-        Ok(Ending::Ended)
+        match append_copies(words, n, value) {
+            Ok(()) => Step::Ended,
+            Err(_) => Step::Memory,
+        }
     }
 
-    fn cut_words(&mut self, a: Arr, n: u64) -> Ending
-        ensures is { outcome_of result (state_of self.new)
+    fn cut_words(&mut self, a: Arr, n: u64) -> Step
+        ensures is { outcome_at result self.new
             ≡ with_array (state_of self.old) a (λ xs. Ended (set_array (state_of self.old) a (take n xs))) }
         ensures turns { self.new.turns ≡ self.old.turns }
         ensures variables { self.new.variables ≡ self.old.variables }
+        ensures told { IsTold result }
     {
         let Some(place) = self.writable(a) else {
-            return STUCK;
+            return Step::Stuck;
         };
         self.arrays[place].words.truncate(n as usize);
-        Ending::Ended
+        Step::Ended
     }
 
-    pub(crate) fn put(&mut self, a: Arr, i: Option<u64>, value: Option<u64>) -> Ending
-        ensures is { outcome_of result (state_of self.new) ≡ put_outcome (state_of self.old) a i value }
+    pub(crate) fn put(&mut self, a: Arr, i: Option<u64>, value: Option<u64>) -> Step
+        ensures is { outcome_at result self.new ≡ put_outcome (state_of self.old) a i value }
         ensures turns { self.new.turns ≡ self.old.turns }
         ensures variables { self.new.variables ≡ self.old.variables }
+        ensures told { IsTold result }
     {
         match (i, value) {
             (Some(i), Some(value)) => self.put_word(a, i, value),
-            _ => STUCK,
+            _ => Step::Stuck,
         }
     }
 
-    pub(crate) fn add<S: Semiring>(&mut self, a: Arr, i: Option<u64>, value: Option<u64>) -> Ending
-        ensures is { outcome_of result (state_of self.new) ≡ add_outcome S.arithmetic (state_of self.old) a i value }
+    pub(crate) fn add<S: Semiring>(&mut self, a: Arr, i: Option<u64>, value: Option<u64>) -> Step
+        ensures is { outcome_at result self.new ≡ add_outcome S.arithmetic (state_of self.old) a i value }
         ensures turns { self.new.turns ≡ self.old.turns }
         ensures variables { self.new.variables ≡ self.old.variables }
+        ensures told { IsTold result }
     {
         match (i, value) {
             (Some(i), Some(value)) => self.add_word::<S>(a, i, value),
-            _ => STUCK,
+            _ => Step::Stuck,
         }
     }
 
-    pub(crate) fn push(&mut self, a: Arr, value: Option<u64>) -> Result<Ending, AllocError>
-        ensures is { IfOk result (λ ending. outcome_of ending (state_of self.new) ≡ push_outcome (state_of self.old) a value) }
-        ensures turns { OnOk result (self.new.turns ≡ self.old.turns) }
-    {
-        match value {
-            Some(value) => self.push_word(a, value),
-            None => Ok(STUCK),
-        }
-    }
-
-    pub(crate) fn extend(
-        &mut self,
-        a: Arr,
-        n: Option<u64>,
-        value: Option<u64>,
-    ) -> Result<Ending, AllocError>
-        ensures is { IfOk result (λ ending. outcome_of ending (state_of self.new) ≡ extend_outcome (state_of self.old) a n value) }
-        ensures turns { OnOk result (self.new.turns ≡ self.old.turns) }
-    {
-        match (n, value) {
-            (Some(n), Some(value)) => self.extend_words(a, n, value),
-            _ => Ok(STUCK),
-        }
-    }
-
-    pub(crate) fn cut(&mut self, a: Arr, n: Option<u64>) -> Ending
-        ensures is { outcome_of result (state_of self.new) ≡ cut_outcome (state_of self.old) a n }
+    pub(crate) fn push(&mut self, a: Arr, value: Option<u64>) -> Step
+        ensures is { IsTold result → outcome_at result self.new ≡ push_outcome (state_of self.old) a value }
         ensures turns { self.new.turns ≡ self.old.turns }
         ensures variables { self.new.variables ≡ self.old.variables }
     {
+        match value {
+            Some(value) => self.push_word(a, value),
+            None => Step::Stuck,
+        }
+    }
+
+    pub(crate) fn extend(&mut self, a: Arr, n: Option<u64>, value: Option<u64>) -> Step
+        ensures is { IsTold result → outcome_at result self.new ≡ extend_outcome (state_of self.old) a n value }
+        ensures turns { self.new.turns ≡ self.old.turns }
+        ensures variables { self.new.variables ≡ self.old.variables }
+    {
+        match (n, value) {
+            (Some(n), Some(value)) => self.extend_words(a, n, value),
+            _ => Step::Stuck,
+        }
+    }
+
+    pub(crate) fn cut(&mut self, a: Arr, n: Option<u64>) -> Step
+        ensures is { outcome_at result self.new ≡ cut_outcome (state_of self.old) a n }
+        ensures turns { self.new.turns ≡ self.old.turns }
+        ensures variables { self.new.variables ≡ self.old.variables }
+        ensures told { IsTold result }
+    {
         match n {
             Some(n) => self.cut_words(a, n),
-            None => STUCK,
+            None => Step::Stuck,
         }
     }
 
@@ -420,21 +539,22 @@ impl<'a> Machine<'a> {
     }
 
     /// Sorts the rows of a scratch list by their coordinates.
-    pub(crate) fn sort(&mut self, list: u64) -> Result<Ending, AllocError>
-        ensures is { IfOk result (λ ending. outcome_of ending (state_of self.new)
+    pub(crate) fn sort(&mut self, list: u64) -> Result<Step, AllocError>
+        ensures is { IfOk result (λ step. outcome_at step self.new
             ≡ sort_outcome (state_of self.old) list ((state_of self.old).arrays (Arr.ListCoordinates list))
             ((state_of self.old).arrays (Arr.ListPositions list))) }
-        ensures turns { OnOk result (self.new.turns ≡ self.old.turns) }
+        ensures turns { self.new.turns ≡ self.old.turns }
+        ensures variables { self.new.variables ≡ self.old.variables }
         ensures refused { OnErr result (self.new ≡ self.old) }
     {
         let Some(coordinates) = self.array(Arr::ListCoordinates(list)) else {
-            return Ok(STUCK);
+            return Ok(Step::Stuck);
         };
         let Some(positions) = self.array(Arr::ListPositions(list)) else {
-            return Ok(STUCK);
+            return Ok(Step::Stuck);
         };
         if coordinates.len() != positions.len() {
-            return Ok(STUCK);
+            return Ok(Step::Stuck);
         }
         let mut rows = rows_of_list(self.alloc, coordinates, positions)?;
         sort_rows(&mut rows)?;
@@ -442,7 +562,7 @@ impl<'a> Machine<'a> {
         let positions = positions_of(self.alloc, rows.as_slice())?;
         self.replace(Arr::ListCoordinates(list), coordinates);
         self.replace(Arr::ListPositions(list), positions);
-        Ok(Ending::Ended)
+        Ok(Step::Ended)
     }
 
     /// The words of an array, and no words where it doesn't exist.
@@ -489,7 +609,8 @@ impl<'a> Machine<'a> {
         ensures is { OnOk result ((columns : List (List ℕ)) (count : ℕ)
             → key_columns (state_of self.old) workspace count keys ≡ Some columns
             → state_of self.new ≡ set_columns (state_of self.old) workspace (map (row_of columns) rows.now) keys) }
-        ensures turns { OnOk result (self.new.turns ≡ self.old.turns) }
+        ensures turns { self.new.turns ≡ self.old.turns }
+        ensures variables { self.new.variables ≡ self.old.variables }
     {
         for k in 0..keys {
             let name = Arr::Key(workspace, k);
@@ -504,26 +625,27 @@ impl<'a> Machine<'a> {
         &mut self,
         workspace: u64,
         workspaces: &[u64],
-    ) -> Result<Ending, AllocError>
-        ensures is { IfOk result (λ ending. outcome_of ending (state_of self.new)
+    ) -> Result<Step, AllocError>
+        ensures is { IfOk result (λ step. outcome_at step self.new
             ≡ sort_sum_outcome S.arithmetic (state_of self.old) workspace (slice_get workspaces.now workspace)
             ((state_of self.old).arrays (Arr.Sums workspace))) }
-        ensures turns { OnOk result (self.new.turns ≡ self.old.turns) }
+        ensures turns { self.new.turns ≡ self.old.turns }
+        ensures variables { self.new.variables ≡ self.old.variables }
     {
         let Some(keys) = number_of_keys(workspaces, workspace) else {
-            return Ok(STUCK);
+            return Ok(Step::Stuck);
         };
         let Some(values) = self.array(Arr::Sums(workspace)) else {
-            return Ok(STUCK);
+            return Ok(Step::Stuck);
         };
         let Some(columns) = self.key_columns(workspace, keys, values.len())? else {
-            return Ok(STUCK);
+            return Ok(Step::Stuck);
         };
         let rows = sum_rows::<S>(self.alloc, columns.as_slice(), values)?;
         drop(columns);
         let sums = values_of(self.alloc, rows.as_slice())?;
         self.pick_columns(workspace, keys, rows.as_slice())?;
         self.replace(Arr::Sums(workspace), sums);
-        Ok(Ending::Ended)
+        Ok(Step::Ended)
     }
 }

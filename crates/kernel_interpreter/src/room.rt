@@ -1,5 +1,5 @@
 //! Room for the variables of code, so that a run takes no memory for them.
-ghost use Rattle.std.specs.Prelude.{◌≡◌, ◌≤◌, ℕ, OnOk};
+ghost use Rattle.std.specs.Prelude.{◌≡◌, ◌≤◌, ℕ, IsOk, OnOk};
 ghost use Rattle.kernel_interpreter.specs.Memory.{SetsBelow, Through, Throughout, variable_room};
 ghost use Rattle.kernel_interpreter.specs.Store.{state_of};
 
@@ -13,6 +13,7 @@ fn make_room_of(machine: &mut Machine, s: &KStmt) -> Result<(), AllocError>
     ensures state { OnOk result (state_of machine.new ≡ state_of machine.old) }
     ensures more { OnOk result (variable_room machine.old ≤ variable_room machine.new) }
     ensures room { OnOk result ((n : ℕ) → variable_room machine.new ≤ n → Throughout (SetsBelow n) s.now) }
+    ensures enough { Throughout (SetsBelow (variable_room machine.old)) s.now → IsOk result }
 {
     match s {
         KStmt::Set(x, _) => machine.make_room(*x),
@@ -33,12 +34,13 @@ fn make_room_of(machine: &mut Machine, s: &KStmt) -> Result<(), AllocError>
 }
 
 /// Gives each variable that statements set a place, whether or not they are run. No variable gets a value. Refused for want of memory
-/// alone.
+/// alone, and never where each has one.
 #[cycle(room)]
 pub fn make_room(machine: &mut Machine, statements: &[KStmt]) -> Result<(), AllocError>
     ensures state { OnOk result (state_of machine.new ≡ state_of machine.old) }
     ensures more { OnOk result (variable_room machine.old ≤ variable_room machine.new) }
     ensures room { OnOk result ((n : ℕ) → variable_room machine.new ≤ n → Through (SetsBelow n) statements.now) }
+    ensures enough { Through (SetsBelow (variable_room machine.old)) statements.now → IsOk result }
 {
     for s in statements {
         make_room_of(machine, s)?;

@@ -1,75 +1,84 @@
 //! Statements and loops, one turn after another.
-ghost use Rattle.std.specs.Prelude.{◌≡◌, ◌≤◌, ℕ, IfOk, IsOkAnd, OnOk};
+ghost use Rattle.std.specs.Prelude.{◌≡◌, ◌≤◌, ℕ, IfOk, IsOkAnd};
 ghost use Rattle.kernel_code.specs.Meaning.{behind, run, run_list, run_turns, value};
 ghost use Rattle.kernel_code.specs.Kernels.{within};
-ghost use Rattle.kernel_interpreter.specs.Memory.{NeedsNone, Through, Throughout, variable_room};
-ghost use Rattle.kernel_interpreter.specs.Store.{state_of, outcome_of, made, setting};
+ghost use Rattle.kernel_interpreter.specs.Memory.{IsInPlace, NeedsNone, SetsBelow, Through, Throughout, variable_room};
+ghost use Rattle.kernel_interpreter.specs.Store.{state_of, outcome_of, outcome_at, made, setting, IsTold};
 
-use crate::ending::{Ending, STUCK};
-use crate::machine::{Machine, value_of};
+use crate::ending::{Ending, Step};
+use crate::machine::{Machine, operand};
+use crate::room::make_room;
 use kernel_code::{KExpr, KStmt, LoopKind};
 use machine_parts::combine_operands;
 use numbers::Semiring;
 use std::alloc::AllocError;
 
-/// Runs a statement, until `limit` turns are made in all.
+/// Runs a statement whose variables have places, until `limit` turns are made in all.
 #[cycle(run)]
-pub(crate) fn run_statement<S: Semiring>(
+fn run_statement<S: Semiring>(
     machine: &mut Machine,
     s: &KStmt,
     workspaces: &[u64],
     limit: u64,
-) -> Result<Ending, AllocError>
-    requires { made machine.old ≤ limit }
-    ensures is { IfOk result (λ ending. outcome_of ending (state_of machine.new)
-        ≡ within limit (run (setting S.arithmetic workspaces.now) limit s.now (state_of machine.old))) }
-    ensures memory { (n : ℕ) → n ≤ variable_room machine.old → Throughout (NeedsNone n) s.now
-        → IsOkAnd result (λ _. n ≤ variable_room machine.new) }
+) -> Step
+    requires few { made machine.old ≤ limit }
+    requires room { Throughout (SetsBelow (variable_room machine.old)) s.now }
+    ensures is { IsTold result → outcome_at result machine.new
+        ≡ within limit (run (setting S.arithmetic workspaces.now) limit s.now (state_of machine.old)) }
+    ensures room { variable_room machine.new ≡ variable_room machine.old }
+    ensures memory { Throughout IsInPlace s.now → IsTold result }
 {
     match s {
         KStmt::Set(x, e) => {
-            let value = value_of(machine, e);
+            let value = operand(machine, e);
             machine.set(*x, value)
         }
         KStmt::Combine(x, op, e, f) => {
-            let first = value_of(machine, e);
-            let second = value_of(machine, f);
+            let first = operand(machine, e);
+            let second = operand(machine, f);
             machine.set(*x, combine_operands::<S>(*op, first, second))
         }
         KStmt::Put(a, i, e) => {
-            let i = value_of(machine, i);
-            let value = value_of(machine, e);
-            Ok(machine.put(*a, i, value))
+            let i = operand(machine, i);
+            let value = operand(machine, e);
+            machine.put(*a, i, value)
         }
         KStmt::AddTo(a, i, e) => {
-            let i = value_of(machine, i);
-            let value = value_of(machine, e);
-            Ok(machine.add::<S>(*a, i, value))
+            let i = operand(machine, i);
+            let value = operand(machine, e);
+            machine.add::<S>(*a, i, value)
         }
         KStmt::Push(a, e) => {
-            let value = value_of(machine, e);
+            let value = operand(machine, e);
             machine.push(*a, value)
         }
         KStmt::Extend(a, count, e) => {
-            let n = value_of(machine, count);
-            let value = value_of(machine, e);
+            let n = operand(machine, count);
+            let value = operand(machine, e);
             machine.extend(*a, n, value)
         }
         KStmt::Cut(a, e) => {
-            let n = value_of(machine, e);
-            Ok(machine.cut(*a, n))
+            let n = operand(machine, e);
+            machine.cut(*a, n)
         }
-        KStmt::Sort(list) => machine.sort(*list),
-        KStmt::SortSum(workspace) => machine.sort_sum::<S>(*workspace, workspaces),
-        KStmt::If(e, first, second) => match value_of(machine, e) {
-            None => Ok(STUCK),
+        KStmt::Sort(list) => match machine.sort(*list) {
+            Ok(step) => step,
+            Err(_) => Step::Memory,
+        },
+        KStmt::SortSum(workspace) => match machine.sort_sum::<S>(*workspace, workspaces) {
+            Ok(step) => step,
+            Err(_) => Step::Memory,
+        },
+        KStmt::If(e, first, second) => match operand(machine, e) {
+            None => Step::Stuck,
             Some(0) => {
-                let ending = run_statements::<S>(machine, second.as_slice(), workspaces, limit)?;
-                Ok(ending.behind(first.as_slice()).inside())
+                let step = run_in_order::<S>(machine, second.as_slice(), workspaces, limit);
+                let step = machine.behind(step, first.as_slice());
+                machine.inside(step)
             }
             Some(_) => {
-                let ending = run_statements::<S>(machine, first.as_slice(), workspaces, limit)?;
-                Ok(ending.inside())
+                let step = run_in_order::<S>(machine, first.as_slice(), workspaces, limit);
+                machine.inside(step)
             }
         },
         KStmt::While(kind, e, body) => {
@@ -78,8 +87,72 @@ pub(crate) fn run_statement<S: Semiring>(
     }
 }
 
-/// Runs statements in order, until `limit` turns are made in all.
+/// Runs statements in order.
 #[cycle(run)]
+fn run_in_order<S: Semiring>(
+    machine: &mut Machine,
+    statements: &[KStmt],
+    workspaces: &[u64],
+    limit: u64,
+) -> Step
+    requires few { made machine.old ≤ limit }
+    requires room { Through (SetsBelow (variable_room machine.old)) statements.now }
+    ensures is { IsTold result → outcome_at result machine.new
+        ≡ within limit (run_list (setting S.arithmetic workspaces.now) limit statements.now (state_of machine.old)) }
+    ensures room { variable_room machine.new ≡ variable_room machine.old }
+    ensures memory { Through IsInPlace statements.now → IsTold result }
+{
+    for (i, s) in statements.iter().enumerate() {
+        let step = run_statement::<S>(machine, s, workspaces, limit);
+        if !step.has_ended() {
+            return machine.behind(step, &statements[..i]);
+        }
+    }
+    Step::Ended
+}
+
+/// Runs a loop from its test on, until `limit` turns are made in all.
+#[cycle(run)]
+fn run_loop<S: Semiring>(
+    machine: &mut Machine,
+    body: &[KStmt],
+    kind: LoopKind,
+    e: &KExpr,
+    workspaces: &[u64],
+    limit: u64,
+) -> Step
+    requires few { made machine.old ≤ limit }
+    requires room { Through (SetsBelow (variable_room machine.old)) body.now }
+    ensures is { IsTold result → outcome_at result machine.new
+        ≡ within limit (run_turns limit kind (value e.now)
+        (λ s. behind 1 (run_list (setting S.arithmetic workspaces.now) limit body.now s)) (state_of machine.old)) }
+    ensures room { variable_room machine.new ≡ variable_room machine.old }
+    ensures memory { Through IsInPlace body.now → IsTold result }
+{
+    for _ in 0..limit {
+        match operand(machine, e) {
+            None => return Step::Stuck,
+            Some(0) => return Step::Ended,
+            Some(_) => {}
+        }
+        if machine.turns_made() >= limit {
+            return Step::More;
+        }
+        machine.count_turn(kind);
+        let step = run_in_order::<S>(machine, body, workspaces, limit);
+        if !step.has_ended() {
+            return machine.inside(step);
+        }
+    }
+    match operand(machine, e) {
+        None => Step::Stuck,
+        Some(0) => Step::Ended,
+        Some(_) => Step::More,
+    }
+}
+
+/// Runs statements in order, until `limit` turns are made in all. Each variable that they set gets a place first, so that no
+/// loop takes memory for one.
 pub fn run_statements<S: Semiring>(
     machine: &mut Machine,
     statements: &[KStmt],
@@ -92,50 +165,7 @@ pub fn run_statements<S: Semiring>(
     ensures memory { (n : ℕ) → n ≤ variable_room machine.old → Through (NeedsNone n) statements.now
         → IsOkAnd result (λ _. n ≤ variable_room machine.new) }
 {
-    for (i, s) in statements.iter().enumerate() {
-        let ending = run_statement::<S>(machine, s, workspaces, limit)?;
-        if !ending.has_ended() {
-            return Ok(ending.behind(&statements[..i]));
-        }
-    }
-    Ok(Ending::Ended)
-}
-
-/// Runs a loop from its test on, until `limit` turns are made in all.
-#[cycle(run)]
-fn run_loop<S: Semiring>(
-    machine: &mut Machine,
-    body: &[KStmt],
-    kind: LoopKind,
-    e: &KExpr,
-    workspaces: &[u64],
-    limit: u64,
-) -> Result<Ending, AllocError>
-    requires { made machine.old ≤ limit }
-    ensures is { IfOk result (λ ending. outcome_of ending (state_of machine.new)
-        ≡ within limit (run_turns limit kind (value e.now)
-        (λ s. behind 1 (run_list (setting S.arithmetic workspaces.now) limit body.now s)) (state_of machine.old))) }
-    ensures memory { (n : ℕ) → n ≤ variable_room machine.old → Through (NeedsNone n) body.now
-        → IsOkAnd result (λ _. n ≤ variable_room machine.new) }
-{
-    for _ in 0..limit {
-        match value_of(machine, e) {
-            None => return Ok(STUCK),
-            Some(0) => return Ok(Ending::Ended),
-            Some(_) => {}
-        }
-        if machine.turns_made() >= limit {
-            return Ok(Ending::More);
-        }
-        machine.count_turn(kind);
-        let ending = run_statements::<S>(machine, body, workspaces, limit)?;
-        if !ending.has_ended() {
-            return Ok(ending.inside());
-        }
-    }
-    match value_of(machine, e) {
-        None => Ok(STUCK),
-        Some(0) => Ok(Ending::Ended),
-        Some(_) => Ok(Ending::More),
-    }
+    make_room(machine, statements)?;
+    let step = run_in_order::<S>(machine, statements, workspaces, limit);
+    machine.ending(step)
 }

@@ -21,6 +21,7 @@ impl Table {
     }
 
     /// The number for x, if there is one.
+    #[inline(always)]
     pub fn get(&self, x: u64) -> Option<u64>
         ensures { result ≡ held self.now x }
     {
@@ -53,8 +54,18 @@ impl Table {
         ensures enough { x < room_of self.old → IsOk result }
     {
         self.make_room(x)?;
-        self.items[x as usize] = Some(value);
+        self.put(x, value);
         Ok(())
+    }
+
+    /// Gives x, which has a place, a number. It takes no memory.
+    #[inline(always)]
+    pub fn put(&mut self, x: u64, value: u64)
+        requires { x < room_of self.old }
+        ensures value { (y : ℕ) → held self.new y ≡ (if x == y then Some value else held self.old y) }
+        ensures room { room_of self.new ≡ room_of self.old }
+    {
+        self.items[x as usize] = Some(value);
     }
 
     /// Takes every number out, and keeps the room.

@@ -8,3 +8,5 @@ abbrev pub invariant-make_room-loop-s : goal.invariant-make_room-loop-s
 invariant-make_room-loop-s l = (state_of l.machine ≡ state_of l.fn.machine)
     × (variable_room l.fn.machine ≤ variable_room l.machine)
     × ((n : ℕ) → variable_room l.machine ≤ n → Through (SetsBelow n) (drop l.s-index l.statements) → Through (SetsBelow n) l.statements)
+    × (Through (SetsBelow (variable_room l.fn.machine)) l.statements
+    → Through (SetsBelow (variable_room l.machine)) (drop l.s-index l.statements))

@@ -1,24 +1,35 @@
-use Rattle.std.proofs.Common.{◌≡◌, ℕ, ◌-◌, ◌≤◌, drop, take}
-use Rattle.kernel_code.specs.Meaning.{value, run_list, run_turns, behind, statements_in_list}
+use Rattle.std.proofs.Common.{◌≡◌, ◌+◌, ◌-◌, ◌*◌, ◌≤◌, drop, take}
+use Rattle.kernel_code.specs.Meaning.{value, run_list, run_turns, behind, statements_in, statements_in_list}
 use Rattle.kernel_code.specs.Kernels.{within}
-use Rattle.kernel_interpreter.specs.Memory.{NeedsNone, Through, variable_room}
+use Rattle.kernel_interpreter.specs.Memory.{IsInPlace, SetsBelow, Through, variable_room}
 use Rattle.kernel_interpreter.specs.Store.{state_of, made, setting}
 use Rattle.kernel_interpreter.proofs.runs.+run.Given as goal
 
--- what is left of the turns does the rest, and variables that had a place have it still, if the body needs no memory
+-- fewer statements begin in a body than in its statement, and no more in a statement than in its list
+abbrev pub decreases-run_statement : goal.decreases-run_statement
+decreases-run_statement g l = 3 * statements_in l.s.now
+
+abbrev pub decreases-run_in_order : goal.decreases-run_in_order
+decreases-run_in_order g l = 3 * statements_in_list l.statements.now + 1
+
+abbrev pub decreases-run_loop : goal.decreases-run_loop
+decreases-run_loop g l = 3 * statements_in_list l.body.now + 2
+
+-- what is left of the turns does the rest, and variables have the places that they had
 abbrev pub invariant-run_loop-loop : goal.invariant-run_loop-loop
 invariant-run_loop-loop g l = (made l.machine ≤ l.limit)
     × (within l.limit (run_turns (l.limit - l.counter) l.kind (value l.e)
     (λ s. behind 1 (run_list (setting g.S.Semiring.arithmetic l.workspaces) l.limit l.body s)) (state_of l.machine)) ≡ within l.limit
     (run_turns l.limit l.kind (value l.e) (λ s. behind 1 (run_list (setting g.S.Semiring.arithmetic l.workspaces) l.limit l.body s))
     (state_of l.fn.machine)))
-    × ((n : ℕ) → n ≤ variable_room l.fn.machine → Through (NeedsNone n) l.body → n ≤ variable_room l.machine)
+    × (variable_room l.machine ≡ variable_room l.fn.machine)
 
--- what is left of the list does the rest, behind what was run, and needs no memory if the list needs none
-abbrev pub invariant-run_statements-loop-i : goal.invariant-run_statements-loop-i
-invariant-run_statements-loop-i g l = (made l.machine ≤ l.limit)
+-- what is left of the list does the rest, behind what was run, sets variables that have places, and works in place if the list does
+abbrev pub invariant-run_in_order-loop-i : goal.invariant-run_in_order-loop-i
+invariant-run_in_order-loop-i g l = (made l.machine ≤ l.limit)
     × (behind (statements_in_list (take l.i l.statements)) (within l.limit
     (run_list (setting g.S.Semiring.arithmetic l.workspaces) l.limit (drop l.i l.statements) (state_of l.machine)))
     ≡ within l.limit (run_list (setting g.S.Semiring.arithmetic l.workspaces) l.limit l.statements (state_of l.fn.machine)))
-    × ((n : ℕ) → n ≤ variable_room l.fn.machine → Through (NeedsNone n) l.statements
-    → (n ≤ variable_room l.machine) × Through (NeedsNone n) (drop l.i l.statements))
+    × (variable_room l.machine ≡ variable_room l.fn.machine)
+    × Through (SetsBelow (variable_room l.machine)) (drop l.i l.statements)
+    × (Through IsInPlace l.statements → Through IsInPlace (drop l.i l.statements))

@@ -7,11 +7,11 @@ use Rattle.kernel_interpreter.proofs.StoreLemmas.{grown_at, not_grown_at}
 use Rattle.kernel_interpreter.proofs.machine.Machine.extend_words.Goals as goal
 
 pub returns-in_default-clause-is : goal.returns-in_default-clause-is
-returns-in_default-clause-is c =
+returns-in_default-clause-is c = λ t.
     sym (c.in_default.ensures (λ xs. grown (state_of c.args.self.now) c.args.a (length xs + c.args.n) xs (replicate c.args.n c.args.value)))
 
 pub returns-then-not-may_grow-clause-is : goal.returns-then-not-may_grow-clause-is
-returns-then-not-may_grow-clause-is c =
+returns-then-not-may_grow-clause-is c = λ t.
     let count = λ (xs : List ℕ). length xs + c.args.n in
     let n : c.len-length.result + c.args.n ≡ length c.index_mut.result.now.words.items + c.args.n = omega arith in
     let long : may_have c.args.a (c.len-length.result + c.args.n) ≡ false = cc in
@@ -19,11 +19,11 @@ returns-then-not-may_grow-clause-is c =
     ∙ not_grown_at c.args.self.now c.args.a c.in-Some.place c.index_mut.result.now count (replicate c.args.n c.args.value)
     (record { writable = c.in-Some.ensures; is = c.index_mut.ensures.value }) (ap (may_have c.args.a) (sym n) ∙ long)
 
-pub returns-clause-is : goal.returns-clause-is
-returns-clause-is c =
+pub returns-in-Ok-clause-is : goal.returns-in-Ok-clause-is
+returns-in-Ok-clause-is c = λ t.
     let count = λ (xs : List ℕ). length xs + c.args.n in
     let n : c.len-length.result + c.args.n ≡ length c.index_mut.result.now.words.items + c.args.n = omega arith in
     let long : may_have c.args.a (c.len-length.result + c.args.n) ≡ true = cc in
     grown_at c.args.self.now c.args.a c.in-Some.place c.index_mut.result.now _ count (replicate c.args.n c.args.value)
     (record { writable = c.in-Some.ensures; is = c.index_mut.ensures.value }) (ap (may_have c.args.a) (sym n)
-    ∙ long) refl c.in_ok-append_copies.ensures
+    ∙ long) refl c.in-Ok.ensures

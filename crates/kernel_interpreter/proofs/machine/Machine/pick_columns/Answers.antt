@@ -35,6 +35,7 @@ loop-k-preserved c =
           ∙ ap (set_array (set_columns s w rows k) (Key w k)) picked
           ∙ ap (set_columns s w rows) (sym next),
       c.replace.ensures.turns ∙ c.loop-k.invariant.1,
+      c.replace.ensures.variables ∙ c.loop-k.invariant.2,
     )
 
 pub returns-clause-is : goal.returns-clause-is

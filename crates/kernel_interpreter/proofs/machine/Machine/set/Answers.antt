@@ -6,7 +6,7 @@ use Rattle.kernel_interpreter.proofs.machine.Machine.set.Goals as goal
 pub returns-clause-is : goal.returns-clause-is
 returns-clause-is c =
     ap Ended (λ i. record {
-      vars = λ y. c.in_ok-set.ensures.value y i;
+      vars = λ y. c.put.ensures.value y i;
       arrays = λ a. array_of c.args.self.now a;
       turns = count_of c.args.self.now.turns;
     })
