@@ -41,9 +41,12 @@ fn coordinate(format: &[FormatLevel], entries: &Entries, level: usize, number: u
     if level >= format.len() {
         return 0;
     }
-    let coords = entries.coords(number);
     let mode = format[level].mode;
-    if mode < coords.len() { coords[mode] } else { 0 }
+    if mode < entries.order() {
+        entries.coordinate(number, mode)
+    } else {
+        0
+    }
 }
 
 /// How two entries stand to one another by their coordinates, level by level.
