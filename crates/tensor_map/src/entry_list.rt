@@ -218,7 +218,13 @@ fn push_row(
 fn rows_of(alloc: Global, columns: &Columns) -> Result<Vec<Entry>, AllocError>
     ensures { IfOk result (λ rows. rows.items ≡ columns.now.list) }
 {
-    let mut rows = Vec::with_capacity(alloc, columns.len())?;
+    // As much as pushes of whole entries would have come to, so that the next ones want no more than they would.
+    let room = columns
+        .len()
+        .saturating_add(1)
+        .checked_next_power_of_two()
+        .unwrap_or(0);
+    let mut rows = Vec::with_capacity(alloc, room)?;
     for i in 0..columns.len() {
         rows.push(Entry {
             coords: columns.coords(i),
