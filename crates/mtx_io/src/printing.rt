@@ -88,7 +88,8 @@ fn put_if_nonzero<S: Semiring, K: Sink>(
         return Ok(());
     }
     let coords = entries.coords(i);
-    match coords {
+    let numbers = coords.as_slice();
+    match numbers {
         [row, column] => put_entry(sink, *row + 1, *column + 1, value),
         [row, ..] => put_entry(sink, *row + 1, 1, value),
         [] => Ok(()),

@@ -62,7 +62,7 @@ fn read_in_pieces(
 /// Each entry with its coordinates, counted from 0, and its value.
 fn tell_entries(answer: &mut Answer, entries: &Entries) {
     for i in 0..entries.len() {
-        answer.show(entries.coords(i));
+        answer.show(entries.coords(i).as_slice());
         answer.tell(" ");
         answer.show(entries.value(i));
         answer.tell(" ");

@@ -32,7 +32,7 @@ fn entries_of(answer: &mut Answer, text: &str, order: usize) -> Option<Entries> 
 fn tell_entries(answer: &mut Answer, entries: &Entries) {
     for i in 0..entries.len() {
         answer.tell(if i > 0 { ";" } else { "" });
-        answer.show_all(entries.coords(i));
+        answer.show_all(entries.coords(i).as_slice());
         answer.tell(" ");
         answer.show(entries.value(i));
     }
@@ -90,7 +90,7 @@ fn add_all(answer: &mut Answer, workspace: &mut CoordWorkspace, pairs: &Entries)
         if coords.len() != workspace.keys() {
             return None;
         }
-        answer.note(workspace.add(coords, pairs.value(i)));
+        answer.note(workspace.add(coords.as_slice(), pairs.value(i)));
     }
     Some(())
 }

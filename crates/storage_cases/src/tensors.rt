@@ -100,7 +100,8 @@ fn are_inside(ranges: &[u64], entries: &Entries) -> bool
     ensures { result ≡ true → AreInside ranges.now entries.now.list }
 {
     for i in 0..entries.len() {
-        if !is_inside(ranges, entries.coords(i)) {
+        let coords = entries.coords(i);
+        if !is_inside(ranges, coords.as_slice()) {
             return false;
         }
     }

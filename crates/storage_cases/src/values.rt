@@ -63,7 +63,8 @@ fn tell_entries(answer: &mut Answer, entries: &Entries) {
     answer.tell("entries");
     for i in 0..entries.len() {
         answer.tell(if i > 0 { ";" } else { "" });
-        for coordinate in entries.coords(i) {
+        let coords = entries.coords(i);
+        for coordinate in coords.as_slice() {
             answer.show_all(&[*coordinate as u128 + 1]);
         }
         answer.show_all(&[signed(entries.value(i))]);

@@ -1,3 +1,5 @@
+pub mod ColumnRows
+pub mod Kept
 pub mod Lemmas
 pub mod Neighbours
 pub mod Noted

@@ -1,6 +1,6 @@
--- What is noted beside a row of entries: the greatest coordinate of each mode, and whether the row increases.
+-- What is noted beside a row of entries: the greatest coordinate of each mode; and how a row that increases goes on.
 use Rattle.std.specs.Prelude.{◌≡◌, ℕ, suc, ◌-◌, ◌<◌, ◌≤◌, Bool, true, false, cond, List, [], ◌∷◌, ◌++◌, length, max, filter, All}
-use Rattle.std.specs.Prelude.{◌↔◌, Some, IsTrue, refl, slice_index, slice_index_or, slice_get}
+use Rattle.std.specs.Prelude.{◌↔◌, IsTrue, refl, slice_index, slice_index_or}
 use Rattle.std.specs.declared.cmp.Ordering.{Ordering}
 use Rattle.std.specs.declared.cmp.Ordering.TheVariants.{Less, Equal, Greater}
 use Rattle.std.specs.Ordering.{nat_cmp, is_lt}
@@ -8,13 +8,14 @@ use Rattle.std.specs.Cmp.Lexicographic.{slice_cmp}
 use Rattle.std.proofs.Common.{arith, ap, subst, sym, ◌∙◌, inl, inr}
 use Rattle.std.proofs.Math.Nat.{le-max_left, le-max_right, max-le, max-eq_left, max-eq_right, max-zero}
 use Rattle.std.proofs.lemmas.Bool.{cases_lt}
-use Rattle.std.proofs.lemmas.List.Elements.{All-filter}
+use Rattle.std.proofs.lemmas.List.Elements.{All-filter, All-push}
 use Rattle.std.proofs.lemmas.List.Recursion.{max_bounds}
 use Rattle.std.proofs.lemmas.List.Sums.{length-filter, count_by-le-length}
-use Rattle.std.proofs.lemmas.Option.{get_or_from_slice_get, slice_get_within}
 use Rattle.numbers.specs.Arithmetic.{Arithmetic, Laws}
 use Rattle.tensor_map.specs.Order.{IsBefore}
-use Rattle.tensor_map.specs.Entries.{Entry, IsEntry, AreEntries, AreNoted, coords_of, Listed, SameListed, SameValues, StrictlyIncreasing}
+use Rattle.limits.specs.Limits.{greatest_order}
+use Rattle.tensor_map.specs.Entries.{Entry, Entries, IsEntry, AreEntries, AreNoted}
+use Rattle.tensor_map.specs.Entries.{coords_of, Listed, SameListed, SameValues, StrictlyIncreasing}
 use Rattle.tensor_map.specs.Entries.{IsGreatest, ComeLast, NoneIsZero, is_nonzero, value_at, greatest_in}
 use Rattle.tensor_map.proofs.Lemmas.{value_nonzero, increasing_filter, none_zero_filter}
 use Rattle.tensor_map.proofs.OrderLaws.{before_irreflexive, before_trans, before_all_trans, compared_as}
@@ -86,22 +87,21 @@ before_tested xs ys Greater e = (
   λ before. absurd (before_irreflexive xs (before_trans xs ys xs before (compared_as xs ys Greater e))),
 )
 
--- of the last entry that was read
-pub last_tested : (entries : List Entry) (last : Entry) (coords : List ℕ) (b : Bool) → slice_get entries (length entries - 1) ≡ Some last
-    → (IsTrue b ↔ IsBefore last.coords coords) → (IsTrue b ↔ ComeLast entries coords)
-last_tested entries last coords b is tested = (forth, back)
+-- of the last entry's coordinates
+pub last_tested : (entries : List Entry) (last coords : List ℕ) (count : ℕ) (b : Bool) → count ≡ length entries → 0 < count
+    → ((d : Entry) → last ≡ (slice_index_or entries (count - 1) d).coords)
+    → (IsTrue b ↔ IsBefore last coords) → (IsTrue b ↔ ComeLast entries coords)
+last_tested entries last coords count b long some is tested = (forth, back)
   where
     forth : IsTrue b → ComeLast entries coords
     forth holds k d e =
-        let k_is : length entries - 1 ≡ k = omega arith in
-        let there : slice_get entries k ≡ Some last = rw (← k_is) is in
-        subst (λ (entry : Entry). IsBefore entry.coords coords) (sym (get_or_from_slice_get entries k last d there)) (tested.0 holds)
+        let k_is : count - 1 ≡ k = omega arith in
+        subst (λ xs. IsBefore xs coords) (is d ∙ ap (λ n. (slice_index_or entries n d).coords) k_is) (tested.0 holds)
 
     back : ComeLast entries coords → IsTrue b
     back after =
-        let within : length entries - 1 < length entries = slice_get_within entries (length entries - 1) last is in
-        tested.1 (subst (λ (entry : Entry). IsBefore entry.coords coords)
-        (get_or_from_slice_get entries (length entries - 1) last last is) (after (length entries - 1) last (omega arith)))
+        let blank : Entry = record { coords = coords; value = 0 } in
+        tested.1 (subst (λ xs. IsBefore xs coords) (sym (is blank)) (after (count - 1) blank (omega arith)))
 
 -- an increasing row stays one with an entry after its last
 pub increasing_more : (entries : List Entry) (entry : Entry) → StrictlyIncreasing entries → ComeLast entries entry.coords
@@ -124,49 +124,42 @@ filter_all p (entry ∷ entries) h = by (p entry) h (filter_all p entries)
     by true long rest = ap (λ es. entry ∷ es) (rest (omega arith))
     by false long rest = absurd (omega (arith, length-filter p entries, count_by-le-length p entries))
 
--- one more entry, after the others or not
-pub noted_more : (order v : ℕ) (old new : List Entry) (coords xs greatest raised : List ℕ) (increases still : Bool)
-    → AreNoted (record { order = order; list = old }) increases greatest
-    → AreEntries (record { order = order; list = new })
-    → new ≡ old ++ record { coords = coords; value = v } ∷ []
-    → coords ≡ xs
-    → (IsTrue still → IsTrue increases × ComeLast old xs)
-    → ((mode : ℕ) → slice_index raised mode ≡ max (slice_index xs mode) (slice_index greatest mode))
-    → AreNoted (record { order = order; list = new }) still raised
-noted_more order v old new coords xs greatest raised increases still noted row is coords_is follows raises =
+-- one more entry
+pub noted_more : (v : ℕ) (old new : Entries) (coords greatest raised : List ℕ)
+    → AreNoted old greatest
+    → new.order ≡ old.order
+    → new.list ≡ old.list ++ record { coords = coords; value = v } ∷ []
+    → IsEntry old.order (record { coords = coords; value = v })
+    → ((mode : ℕ) → slice_index raised mode ≡ max (slice_index coords mode) (slice_index greatest mode))
+    → AreNoted new raised
+noted_more v old new coords greatest raised noted order_is is is_entry raises =
     let entry : Entry = record { coords = coords; value = v } in
     record {
-      row = row;
-      increasing = λ holds. subst StrictlyIncreasing (sym is) (increasing_more old entry (noted.increasing ((follows holds).0))
-          (subst (ComeLast old) (sym coords_is) ((follows holds).1)));
-      most = λ mode. raises mode ∙ ap (max (slice_index xs mode)) (noted.most mode)
-          ∙ ap (λ cs. max (slice_index cs mode) (greatest_in old mode)) (sym coords_is)
-          ∙ sym (greatest_more old entry mode) ∙ ap (λ es. greatest_in es mode) (sym is);
+      row = record {
+        short = subst (λ n. n ≤ greatest_order) (sym order_is) noted.row.short;
+        each = subst (λ n. All (IsEntry n) new.list) (sym order_is) (subst (All (IsEntry old.order)) (sym is)
+            (All-push (IsEntry old.order) old.list entry noted.row.each is_entry));
+      };
+      most = λ mode. raises mode ∙ ap (max (slice_index coords mode)) (noted.most mode)
+          ∙ sym (greatest_more old.list entry mode) ∙ ap (λ es. greatest_in es mode) (sym is);
     }
 
 -- the entries whose value isn't zero
-pub record LeavesNonzero (a : Arithmetic) (order : ℕ) (increases : Bool) (old new : List Entry) : Type 0 where
-  pub row : AreEntries (record { order = order; list = new })
-  pub noted : (most : List ℕ) → ((mode : ℕ) → slice_index most mode ≡ greatest_in new mode)
-      → AreNoted (record { order = order; list = new }) increases most
-  pub none : NoneIsZero a new
-  pub values : SameValues a old new
-  pub increasing : StrictlyIncreasing old → StrictlyIncreasing new
+pub record LeavesNonzero (a : Arithmetic) (old new : Entries) : Type 0 where
+  pub row : AreEntries new
+  pub none : NoneIsZero a new.list
+  pub values : SameValues a old.list new.list
+  pub increasing : StrictlyIncreasing old.list → StrictlyIncreasing new.list
 
-pub leaves_nonzero : (a : Arithmetic) → Laws a → (order : ℕ) (increases : Bool) (greatest : List ℕ) (old new : List Entry)
-    → AreNoted (record { order = order; list = old }) increases greatest → new ≡ filter (is_nonzero a) old
-    → LeavesNonzero a order increases old new
-leaves_nonzero a laws order increases greatest old new noted kept =
-    let row : AreEntries (record { order = order; list = new }) = record {
-      short = noted.row.short;
-      each = subst (All (IsEntry order)) (sym kept) (All-filter (is_nonzero a) (IsEntry order) old noted.row.each);
-    } in
-    let up : StrictlyIncreasing old → StrictlyIncreasing new =
-    λ rising. subst StrictlyIncreasing (sym kept) (increasing_filter (is_nonzero a) old rising) in
-    record {
-      row = row;
-      noted = λ most is. record { row = row; increasing = λ holds. up (noted.increasing holds); most = is };
-      none = subst (NoneIsZero a) (sym kept) (none_zero_filter a old);
-      values = λ coords. ap (λ es. value_at a es coords) kept ∙ value_nonzero a laws coords old;
-      increasing = up;
-    }
+pub leaves_nonzero : (a : Arithmetic) → Laws a → (old new : Entries) → AreEntries old → new.order ≡ old.order
+    → new.list ≡ filter (is_nonzero a) old.list → LeavesNonzero a old new
+leaves_nonzero a laws old new row order_is kept = record {
+  row = record {
+    short = subst (λ n. n ≤ greatest_order) (sym order_is) row.short;
+    each = subst (λ n. All (IsEntry n) new.list) (sym order_is)
+        (subst (All (IsEntry old.order)) (sym kept) (All-filter (is_nonzero a) (IsEntry old.order) old.list row.each));
+  };
+  none = subst (NoneIsZero a) (sym kept) (none_zero_filter a old.list);
+  values = λ coords. ap (λ es. value_at a es coords) kept ∙ value_nonzero a laws coords old.list;
+  increasing = λ rising. subst StrictlyIncreasing (sym kept) (increasing_filter (is_nonzero a) old.list rising);
+}

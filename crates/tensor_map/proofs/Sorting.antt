@@ -17,7 +17,7 @@ use Rattle.tensor_map.proofs.OrderLaws.{compared_as}
 use Rattle.tensor_map.specs.Entries.{Entry, IsEntry, value_at, Listed, StrictlyIncreasing}
 use Rattle.tensor_map.specs.Laws.{same, other}
 use Rattle.tensor_map.proofs.Lemmas.{tested}
-use Rattle.tensor_map.specs.Summed.{joined, summed_from, summed}
+use Rattle.tensor_map.specs.Summed.{joined, summed_from, summed, SortsAndAdds}
 use Rattle.tensor_map.proofs.Permutations.{value_permutation, listed_permutation}
 use Rattle.tensor_map.proofs.Summed.{IsNotAfterAll, NeverFalls, summed_same, summed_other, value_summed, listed_summed, increasing_summed}
 
@@ -78,13 +78,6 @@ module _ (a : Arithmetic) (laws : Laws a) (order : ℕ) where
 -- the front of a slice that was written back into its vector
 pub front_written : {X : Type 0} (kept len : ℕ) (ws rest : List X) → length ws ≡ len → take kept (take len (ws ++ rest)) ≡ take kept ws
 front_written kept len ws rest e = ap (take kept) (take_at ws rest len e)
-
--- what sorting and adding make of a row
-pub record SortsAndAdds (a : Arithmetic) (old new : List Entry) : Type 0 where
-  pub values : (coords : List ℕ) → value_at a new coords ≡ value_at a old coords
-  pub listed : (coords : List ℕ) → Listed new coords ↔ Listed old coords
-  pub increasing : StrictlyIncreasing new
-  pub each : (order : ℕ) → All (IsEntry order) old → All (IsEntry order) new
 
 both_ways : {A B C : Type 0} → (A ↔ B) → (B ↔ C) → (A ↔ C)
 both_ways p q = (λ x. q.0 (p.0 x), λ z. p.1 (q.1 z))

@@ -1,7 +1,7 @@
 -- Entries of a tensor in a row, and the tensor that they stand for: at a coordinate list the sum of the values
 -- of all entries that have it, and beside that the coordinate lists that some entry has. This is how the FROSTT
 -- page and NISTIR 5935 (section 'Coordinate Format') read a list of entries.
-use Rattle.std.specs.Prelude.{◌≡◌, ◌≢◌, ℕ, ◌+◌, ◌^◌, ◌<◌, ◌≤◌, Bool, IsTrue, max, nat_eq, not, List}
+use Rattle.std.specs.Prelude.{◌≡◌, ◌≢◌, ℕ, ◌+◌, ◌^◌, ◌<◌, ◌≤◌, Bool, max, nat_eq, not, List}
 use Rattle.std.specs.Prelude.{[], ◌∷◌, length, map, filter, All, ◌⊎◌, ◌↔◌, slice_index}
 use Rattle.std.specs.Prelude.{slice_index_or}
 use Rattle.std.specs.Cmp.Lexicographic.{pointwise}
@@ -83,7 +83,6 @@ greatest_in [] mode = 0
 greatest_in (entry ∷ entries) mode = max (slice_index entry.coords mode) (greatest_in entries mode)
 
 -- what is noted beside a row of entries is true of them
-pub record AreNoted (entries : Entries) (increases : Bool) (greatest : List ℕ) : Type 0 where
+pub record AreNoted (entries : Entries) (greatest : List ℕ) : Type 0 where
   pub row : AreEntries entries
-  pub increasing : IsTrue increases → StrictlyIncreasing entries.list
   pub most : (mode : ℕ) → slice_index greatest mode ≡ greatest_in entries.list mode

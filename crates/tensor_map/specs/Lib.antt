@@ -1,5 +1,7 @@
+pub mod Columns
 pub mod Coords
 pub mod Entries
+pub mod EntryLists
 pub mod Laws
 pub mod Order
 pub mod Permutations

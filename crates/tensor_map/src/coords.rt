@@ -44,6 +44,14 @@ impl Coords {
         Coords { numbers }
     }
 
+    /// The same coordinates once more.
+    #[tactic(auto, unfolding(limits::specs::Limits::greatest_order))]
+    pub fn copied(&self) -> Coords
+        ensures { result ≡ self.now }
+    {
+        Coords::from_slice(*self.numbers.allocator(), self.as_slice())
+    }
+
     /// Appends a coordinate.
     #[tactic(auto, unfolding(limits::specs::Limits::greatest_order))]
     pub fn push(&mut self, coordinate: u64)

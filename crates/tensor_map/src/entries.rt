@@ -1,30 +1,26 @@
 ghost use Rattle.std.specs.Prelude.{◌≡◌, ℕ, ◌≤◌, ◌<◌, ◌↔◌, [], ◌∷◌, ◌++◌};
 ghost use Rattle.std.specs.Prelude.{length, IsTrue, IsOk, IfOk, OnOk, OnErr, MatchOption};
-ghost use Rattle.std.specs.Prelude.{slice_index, slice_index_or, slice_set, nat_eq, max, List, take, filter};
+ghost use Rattle.std.specs.Prelude.{slice_index, slice_index_or, max, filter};
 ghost use Rattle.limits.specs.Limits.{greatest_order};
-ghost use Rattle.tensor_map.specs.Summed.{joined, summed};
-ghost use Rattle.tensor_map.specs.Entries.{Entry, ComeLast, greatest_in};
-ghost use Rattle.std.specs.Cmp.Lexicographic.{pointwise};
+ghost use Rattle.tensor_map.specs.Entries.{Entry, greatest_in};
 
 use crate::Coords;
+use crate::entry_list::EntryList;
 use numbers::Semiring;
 use std::alloc::{AllocError, Global};
 use std::marker::Model;
 
 /// Coordinates and the value there.
 #[derive(Debug, Drop)]
-struct Entry {
-    coords: Coords,
-    value: u64,
+pub(crate) struct Entry {
+    pub(crate) coords: Coords,
+    pub(crate) value: u64,
 }
 
-/// Entries of a tensor in a row, which may repeat coordinates. What a caller asks of all of them is noted as each is pushed.
+/// Entries of a tensor in a row, which may repeat coordinates. The greatest coordinates are noted as each is pushed.
 #[derive(Debug, Drop)]
 pub struct Entries {
-    order: usize,
-    list: Vec<Entry>,
-    /// Whether each entry's coordinates are before the next one's, so that there is nothing to sort.
-    increases: bool,
+    list: EntryList,
     /// The greatest coordinate of each mode, and 0 where there is no entry.
     greatest: [u64; 6],
 }
@@ -34,9 +30,9 @@ impl Model for Entries {
 
     ghost Value = { Row };
 
-    ghost view = { λ e. record { order = e.order; list = e.list.items } };
+    ghost view = { λ e. e.list };
 
-    ghost invariant = { λ e. AreNoted (record { order = e.order; list = e.list.items }) e.increases e.greatest };
+    ghost invariant = { λ e. AreNoted e.list e.greatest };
 }
 
 impl Entries {
@@ -50,9 +46,7 @@ impl Entries {
         ensures succeeds { IsOk result }
     {
         Ok(Entries {
-            order,
-            list: Vec::new(alloc),
-            increases: true,
+            list: EntryList::new(alloc, order),
             greatest: [0; 6],
         })
     }
@@ -65,25 +59,28 @@ impl Entries {
         ensures ok { OnOk result (self.new.list ≡ self.old.list ++ record { coords = coords.now; value = v } ∷ []) }
         ensures err { OnErr result (self.new ≡ self.old) }
     {
-        let alloc = *self.list.allocator();
-        let entry = Entry {
-            coords: Coords::from_slice(alloc, coords),
-            value: v,
-        };
-        let increases = self.increases && come_last(self.list.as_slice(), coords);
-        self.list.push(entry)?;
-        self.increases = increases;
+        self.list.push(coords, v)?;
         raise(&mut self.greatest, coords);
         Ok(())
     }
 
-    /// The coordinates of an entry, counted from 0, one a mode.
-    pub fn coords(&self, i: usize) -> &[u64]
+    /// The coordinates of an entry, counted from 0, one a mode. It takes no memory.
+    pub fn coords(&self, i: usize) -> Coords
         requires { i < length self.now.list }
-        ensures value { (d : Entry) → result.now ≡ (slice_index_or self.now.list i d).coords }
-        ensures long { length result.now ≡ self.now.order }
+        ensures value { (d : Entry) → result ≡ (slice_index_or self.now.list i d).coords }
+        ensures long { length result ≡ self.now.order }
     {
-        self.list[i].coords.as_slice()
+        self.list.coords(i)
+    }
+
+    /// The coordinate of an entry in a mode, both counted from 0.
+    pub fn coordinate(&self, i: usize, mode: usize) -> u64
+        requires entry { i < length self.now.list }
+        requires mode { mode < self.now.order }
+        ensures { (d : Entry) → result ≡ slice_index (slice_index_or self.now.list i d).coords mode }
+    {
+        let _ = &self.greatest;
+        self.list.coordinate(i, mode)
     }
 
     /// The value of an entry.
@@ -91,7 +88,7 @@ impl Entries {
         requires { i < length self.now.list }
         ensures { (d : Entry) → result ≡ (slice_index_or self.now.list i d).value }
     {
-        self.list[i].value
+        self.list.value(i)
     }
 
     /// The number of entries.
@@ -99,6 +96,7 @@ impl Entries {
         ensures value { result ≡ length self.now.list }
         ensures entries { AreEntries self.now }
     {
+        let _ = &self.greatest;
         self.list.len()
     }
 
@@ -106,7 +104,7 @@ impl Entries {
     pub fn is_empty(&self) -> bool
         ensures { IsTrue result ↔ (self.now.list ≡ []) }
     {
-        self.list.is_empty()
+        self.list.len() == 0
     }
 
     /// The number of modes of the tensor.
@@ -114,7 +112,8 @@ impl Entries {
         ensures value { result ≡ self.now.order }
         ensures short { result ≤ greatest_order }
     {
-        self.order
+        let _ = &self.greatest;
+        self.list.order()
     }
 
     /// Puts the entries in increasing lexicographic order of their coordinates, and adds the values of equal ones, as
@@ -129,16 +128,7 @@ impl Entries {
         ensures shorter { length self.new.list ≤ length self.old.list }
         ensures succeeds { IsOk result }
     {
-        if self.increases {
-            return Ok(());
-        }
-        self.list.sort_unstable_by(|left, right| left
-            .coords
-            .as_slice()
-            .cmp(&right.coords.as_slice()));
-        let kept = add_neighbours::<S>(self.list.as_mut_slice());
-        self.list.truncate(kept);
-        self.increases = true;
+        self.list.sort_sum::<S>();
         Ok(())
     }
 
@@ -152,9 +142,9 @@ impl Entries {
         ensures entries { AreEntries self.new }
     {
         let before = self.list.len();
-        self.list.retain(|entry| entry.value != S::zero());
+        self.list.nonzero::<S>();
         if self.list.len() < before {
-            self.greatest = greatest_of(self.list.as_slice());
+            self.greatest = greatest_of(&self.list);
         }
     }
 
@@ -164,20 +154,10 @@ impl Entries {
         requires { mode < self.now.order }
         ensures { MatchOption result (self.now.list ≡ []) (IsGreatest self.now.list mode) }
     {
-        if self.list.is_empty() {
+        if self.list.len() == 0 {
             return None;
         }
         Some(self.greatest[mode])
-    }
-}
-
-/// Whether the coordinates are after those of the last entry.
-fn come_last(entries: &[Entry], coords: &[u64]) -> bool
-    ensures { IsTrue result ↔ ComeLast entries.now coords.now }
-{
-    match entries.last() {
-        Some(last) => last.coords.as_slice().cmp(&coords).is_lt(),
-        None => true,
     }
 }
 
@@ -193,55 +173,13 @@ fn raise(greatest: &mut [u64], coords: &[u64])
 
 /// The greatest coordinate of each mode, and 0 where there is no entry.
 #[tactic(auto, unfolding(limits::specs::Limits::greatest_order))]
-fn greatest_of(entries: &[Entry]) -> [u64; 6]
-    ensures { (mode : ℕ) → slice_index result mode ≡ greatest_in entries.now mode }
+fn greatest_of(entries: &EntryList) -> [u64; 6]
+    ensures { (mode : ℕ) → slice_index result mode ≡ greatest_in entries.now.list mode }
 {
     let mut greatest = [0; 6];
-    for entry in entries {
-        raise(&mut greatest, entry.coords.as_slice());
+    for i in 0..entries.len() {
+        let coords = entries.coords(i);
+        raise(&mut greatest, coords.as_slice());
     }
     greatest
-}
-
-/// Adds entries that follow one another with equal coordinates, and moves what is left to the front.
-fn add_neighbours<S: Semiring>(entries: &mut [Entry]) -> usize
-    ensures within { result ≤ length entries.old }
-    ensures front { take result entries.new ≡ summed S.arithmetic entries.old }
-{
-    if entries.is_empty() {
-        return 0;
-    }
-    let mut last = 0;
-    for next in 1..entries.len() {
-        if have_equal_coords(entries, next, last) {
-            join::<S>(entries, last, next);
-        } else {
-            last += 1;
-            if last != next {
-                entries.swap(last, next);
-            }
-        }
-    }
-    last + 1
-}
-
-/// Whether two entries have the same coordinates.
-fn have_equal_coords(entries: &[Entry], i: usize, j: usize) -> bool
-    requires first { i < length entries.now }
-    requires second { j < length entries.now }
-    ensures { (d : Entry) → result ≡ pointwise nat_eq (slice_index_or entries.now i d).coords (slice_index_or entries.now j d).coords }
-{
-    entries[i].coords.as_slice() == entries[j].coords.as_slice()
-}
-
-/// Adds the value of one entry to that of another.
-fn join<S: Semiring>(entries: &mut [Entry], into: usize, from: usize)
-    requires first { into < length entries.old }
-    requires second { from < length entries.old }
-    ensures { (d : Entry) → entries.new
-        ≡ slice_set entries.old into (joined S.arithmetic (slice_index_or entries.old into d) (slice_index_or entries.old from d)) }
-{
-    let value = entries[from].value;
-    let entry = &mut entries[into];
-    entry.value = S::plus(entry.value, value);
 }

@@ -4,9 +4,12 @@
 //! `Semiring` says; the calls of `numbers` stand here too.
 #![tactic(auto)]
 
+mod columns;
 mod coords;
 mod entries;
+mod entry_list;
 mod shape;
+mod sorted_rows;
 
 pub use coords::Coords;
 pub use entries::Entries;

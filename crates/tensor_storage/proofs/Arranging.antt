@@ -26,8 +26,8 @@ use Rattle.level_rows.specs.Tables.{IsBefore, Increase}
 use Rattle.tensor_map.specs.Order.{IsBefore as IsListBefore}
 use Rattle.tensor_map.specs.declared.entries.Entry.{Entry}
 use Rattle.tensor_map.specs.Entries.{IsEntry, StrictlyIncreasing}
-use Rattle.tensor_map.proofs.OrderLaws.{compared_as}
-use Rattle.tensor_map.proofs.Lemmas.{apart_at}
+use Rattle.tensor_map.proofs.OrderLaws.{before_irreflexive, before_trans, compared_as}
+use Rattle.tensor_map.proofs.Lemmas.{apart_at, before_at}
 use Rattle.tensor_storage.specs.declared.packing.PackRefusal.{PackRefusal}
 use Rattle.tensor_storage.specs.declared.packing.PackRefusal.TheVariants.{Memory, SizeLimit}
 use Rattle.tensor_storage.specs.Arranged.{no_entry, level_coords, table_of, AreArranged, AreInside, IsRefusalOf}
@@ -265,6 +265,45 @@ sorted_range before n each k d low high =
     let here : get_or (range_with_len 0 n) k d ≡ k = get_or-range_with_len 0 n k d (omega arith) ∙ omega arith in
     let next : get_or (range_with_len 0 n) (k + 1) d ≡ k + 1 = get_or-range_with_len 0 n (k + 1) d within ∙ omega arith in
     ap (λ x. before x (get_or (range_with_len 0 n) k d)) next ∙ ap (before (k + 1)) here ∙ each k within
+
+-- coordinates in the order of the levels, where these store the modes in their order
+own_coords : (format : List FormatLevel) (coords : List ℕ) → length coords ≡ length format
+    → ((level : ℕ) → level < length format → slice_index (modes_of format) level ≡ level) → in_level_order format coords ≡ coords
+own_coords format coords long in_order =
+    let as_many : length (in_level_order format coords) ≡ length format = length-map format (λ level. slice_index coords level.mode) in
+    same_number_lists (in_level_order format coords) coords (as_many ∙ sym long) (λ level h.
+    let within : level < length format = omega (arith, as_many, h) in
+    level_coord format coords level none within
+    ∙ ap (slice_index coords) (sym (get_or-map (λ (stored : FormatLevel). stored.mode) format level none 0 within) ∙ in_order level within))
+
+-- a coordinate list doesn't stand behind one that it comes before
+behind : (xs ys : List ℕ) (r : Ordering) → slice_cmp nat_cmp ys xs ≡ r → IsListBefore xs ys → is_lt r ≡ false
+behind xs ys Less e before = absurd (before_irreflexive xs (before_trans xs ys xs before (compared_as ys xs Less e)))
+behind xs ys Equal e before = refl
+behind xs ys Greater e before = refl
+
+before_places : (entries : List Entry) (i j : ℕ) (d : Entry) → StrictlyIncreasing entries → i < j → j < length entries
+    → IsListBefore (get_or entries i d).coords (get_or entries j d).coords
+before_places [] i j d up less h = absurd (omega (arith, h))
+before_places (entry ∷ entries) zero zero d up less h = absurd (omega (arith, less))
+before_places (entry ∷ entries) zero (suc j) d up less h = before_at entry.coords entries j d up.0 (omega (arith, h))
+before_places (entry ∷ entries) (suc i) zero d up less h = absurd (omega (arith, less))
+before_places (entry ∷ entries) (suc i) (suc j) d up less h = before_places entries i j d up.1 (omega (arith, less)) (omega (arith, h))
+
+-- increasing entries stand in the order of levels that store the modes in theirs
+pub own_order : (format : List FormatLevel) (entries : List Entry) → All (IsEntry (length format)) entries → StrictlyIncreasing entries
+    → ((level : ℕ) → level < length format → slice_index (modes_of format) level ≡ level)
+    → IsSortedBy (is_before format entries) (range_with_len 0 (length entries))
+own_order format entries each up in_order = sorted_range (is_before format entries) (length entries) (λ k h.
+    let first : k < length entries = omega arith in
+    let here : level_coords format entries k ≡ (get_or entries k no_entry).coords =
+    own_coords format (get_or entries k no_entry).coords (each k no_entry first).long in_order in
+    let next : level_coords format entries (k + 1) ≡ (get_or entries (k + 1) no_entry).coords =
+    own_coords format (get_or entries (k + 1) no_entry).coords (each (k + 1) no_entry h).long in_order in
+    (λ i. is_lt (slice_cmp nat_cmp (next i) (here i)))
+    ∙ behind (get_or entries k no_entry).coords (get_or entries (k + 1) no_entry).coords
+    (slice_cmp nat_cmp (get_or entries (k + 1) no_entry).coords (get_or entries k no_entry).coords) refl
+    (before_places entries k (k + 1) no_entry up (omega arith) h))
 
 -- entries are arranged for a format that is read anew as well
 pub same_arranged : (given format : List FormatLevel) (entries : List Entry) (numbers : List ℕ) → given ≡ format

@@ -1,10 +1,10 @@
 // The entries of a tensor as rows for the levels of a format.
-ghost use Rattle.std.specs.Prelude.{◌≡◌, ◌<◌, length, slice_index, IfOk, OnOk, true};
+ghost use Rattle.std.specs.Prelude.{◌≡◌, ◌<◌, ℕ, length, slice_index, IfOk, IsTrue, OnOk, true};
 ghost use Rattle.std.specs.Ordering.{nat_cmp, is_lt};
 ghost use Rattle.std.specs.Cmp.Lexicographic.{slice_cmp};
 ghost use Rattle.std.specs.List.{range_with_len};
 ghost use Rattle.std.specs.List.Sorted.{IsPermutation, IsSortedBy};
-ghost use Rattle.format_spec.specs.Formats.{IsFormat};
+ghost use Rattle.format_spec.specs.Formats.{IsFormat, modes_of};
 ghost use Rattle.tensor_map.specs.Entries.{StrictlyIncreasing};
 ghost use Rattle.tensor_storage.specs.Arranged.{level_coords, table_of, AreArranged};
 ghost use Rattle.tensor_storage.specs.Columns.{column_of, AreColumns};
@@ -41,9 +41,12 @@ fn coordinate(format: &[FormatLevel], entries: &Entries, level: usize, number: u
     if level >= format.len() {
         return 0;
     }
-    let coords = entries.coords(number);
     let mode = format[level].mode;
-    if mode < coords.len() { coords[mode] } else { 0 }
+    if mode < entries.order() {
+        entries.coordinate(number, mode)
+    } else {
+        0
+    }
 }
 
 /// How two entries stand to one another by their coordinates, level by level.
@@ -61,6 +64,18 @@ fn compare_entries(format: &[FormatLevel], entries: &Entries, left: usize, right
     Ordering::Equal
 }
 
+/// Whether the levels store the modes in their order.
+fn are_modes_in_order(format: &[FormatLevel]) -> bool
+    ensures { IsTrue result → (level : ℕ) → level < length format.now → slice_index (modes_of format.now) level ≡ level }
+{
+    for level in 0..format.len() {
+        if format[level].mode != level {
+            return false;
+        }
+    }
+    true
+}
+
 /// Whether no entry stands behind the next by the coordinates, level by level.
 fn are_in_order(format: &[FormatLevel], entries: &Entries) -> bool
     ensures { result ≡ true → IsSortedBy (λ left right. is_lt (slice_cmp nat_cmp (level_coords format.now entries.now.list left)
@@ -72,6 +87,21 @@ fn are_in_order(format: &[FormatLevel], entries: &Entries) -> bool
         }
     }
     true
+}
+
+/// Whether entries that increase mode by mode stand in order level by level. Where the levels store the modes in their order, no
+/// entry is read for it.
+fn stand_in_order(format: &[FormatLevel], entries: &Entries) -> bool
+    requires order { entries.now.order ≡ length format.now }
+    requires increasing { StrictlyIncreasing entries.now.list }
+    ensures { result ≡ true → IsSortedBy (λ left right. is_lt (slice_cmp nat_cmp (level_coords format.now entries.now.list left)
+        (level_coords format.now entries.now.list right))) (range_with_len 0 (length entries.now.list)) }
+{
+    let _ = entries.len();
+    if are_modes_in_order(format) {
+        return true;
+    }
+    are_in_order(format, entries)
 }
 
 /// The numbers from 0 on, so many. Refused for want of memory alone.
@@ -149,7 +179,7 @@ pub(crate) fn arrange(
     ensures columns { IfOk result (HasColumns format.now entries.now.list) }
 {
     let count = entries.len();
-    if are_in_order(format, entries) {
+    if stand_in_order(format, entries) {
         return Ok(EntryOrder::Own);
     }
     let mut numbers = numbers_below(alloc, count)?;

@@ -136,7 +136,9 @@ fn are_increasing(entries: &Entries) -> bool
     ensures entries { AreEntries entries.now }
 {
     for next in 1..entries.len() {
-        if entries.coords(next - 1).cmp(&entries.coords(next)) != Ordering::Less {
+        let earlier = entries.coords(next - 1);
+        let later = entries.coords(next);
+        if earlier.as_slice().cmp(&later.as_slice()) != Ordering::Less {
             return false;
         }
     }

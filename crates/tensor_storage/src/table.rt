@@ -23,17 +23,18 @@ pub trait RowTable {
         ensures { result ≡ (table self.now).values row };
 }
 
-/// Whether two rows have the same coordinates at the first levels.
+/// Whether two rows have the same coordinates at the first levels. Rows in order mostly differ at the last of these.
 fn rows_agree<T: RowTable>(table: &T, levels: usize, row: usize, other: usize) -> bool
     requires row { row < (T.table table.now).count }
     requires other { other < (T.table table.now).count }
     ensures { result ≡ agree (T.table table.now).coords levels row other }
 {
-    let mut same = true;
-    for level in 0..levels {
-        same = same && table.coord(level, row) == table.coord(level, other);
+    for level in (0..levels).rev() {
+        if table.coord(level, row) != table.coord(level, other) {
+            return false;
+        }
     }
-    same
+    true
 }
 
 /// The rows of a table as a level takes them: its number, and how many of the first levels tell rows apart that begin positions.

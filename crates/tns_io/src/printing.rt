@@ -21,7 +21,8 @@ pub fn put_tns<S: Semiring, K: Sink>(sink: &mut K, entries: &Entries) -> Result<
     ensures part { IfErr result (AppendsPart (K.state sink.old) (K.state sink.new) (entries_text S.arithmetic entries.now.list)) }
 {
     for i in 0..entries.len() {
-        put_entry::<S, K>(sink, entries.coords(i), entries.value(i))?;
+        let coords = entries.coords(i);
+        put_entry::<S, K>(sink, coords.as_slice(), entries.value(i))?;
     }
     Ok(())
 }

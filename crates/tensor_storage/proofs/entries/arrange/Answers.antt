@@ -7,11 +7,11 @@ use Rattle.tensor_storage.specs.Columns.{AreColumns}
 use Rattle.tensor_storage.proofs.Arranging.{arranged}
 use Rattle.tensor_storage.proofs.entries.arrange.Goals as goal
 
-pub returns-then-are_in_order-clause-arranged : goal.returns-then-are_in_order-clause-arranged
-returns-then-are_in_order-clause-arranged c =
+pub returns-then-stand_in_order-clause-arranged : goal.returns-then-stand_in_order-clause-arranged
+returns-then-stand_in_order-clause-arranged c =
     arranged c.args.format.now c.args.entries.now.list (range_with_len 0 (length c.args.entries.now.list)) c.requires.format
     (subst (λ n. All (IsEntry n) c.args.entries.now.list) c.requires.order c.len-count.ensures.entries.each) c.requires.increasing
-    (IsPermutation-refl (range_with_len 0 (length c.args.entries.now.list))) (c.are_in_order.ensures c.if-are_in_order.true)
+    (IsPermutation-refl (range_with_len 0 (length c.args.entries.now.list))) (c.stand_in_order.ensures c.if-stand_in_order.true)
 
 pub returns-clause-arranged : goal.returns-clause-arranged
 returns-clause-arranged c =

@@ -9,14 +9,14 @@ use Rattle.tensor_storage.proofs.AppendSteps.{increasing_from, is_less}
 use Rattle.tensor_storage.proofs.listing.are_increasing.Goals as goal
 
 -- the entries that were compared
-before_next : (c : goal.Else-ne) → IsBefore c.coords.result.now c.coords-in-loop-next.result.now
-before_next c = compared_as c.coords.result.now c.coords-in-loop-next.result.now Less
+before_next : (c : goal.Else-ne) → IsBefore c.as_slice.result.now c.as_slice-in-loop-next.result.now
+before_next c = compared_as c.as_slice.result.now c.as_slice-in-loop-next.result.now Less
     (sym c.cmp.ensures ∙ is_less c.cmp.result (sym c.ne.ensures ∙ c.if-ne.false))
 
 pub loop-next-preserved : goal.loop-next-preserved
 loop-next-preserved c = λ k d less. by_order k d less (before_next c) (cases_lt (suc k) c.loop-next.next)
   where
-    by_order : (k : ℕ) (d : Entry) → suc k < c.loop-next.next + 1 → IsBefore c.coords.result.now c.coords-in-loop-next.result.now
+    by_order : (k : ℕ) (d : Entry) → suc k < c.loop-next.next + 1 → IsBefore c.as_slice.result.now c.as_slice-in-loop-next.result.now
         → (suc k < c.loop-next.next) ⊎ (c.loop-next.next ≤ suc k)
         → IsBefore (slice_index_or c.args.entries.now.list k d).coords (slice_index_or c.args.entries.now.list (suc k) d).coords
     by_order k d less here (inl before) = c.loop-next.invariant k d before
@@ -27,8 +27,8 @@ loop-next-preserved c = λ k d less. by_order k d less (before_next c) (cases_lt
         (slice_index_or c.args.entries.now.list n d).coords in
         subst (λ m. P m (suc k)) last (subst (P (c.loop-next.next - 1)) next
         (subst (λ ys. IsBefore (slice_index_or c.args.entries.now.list (c.loop-next.next - 1) d).coords ys)
-        (c.coords-in-loop-next.ensures.value d)
-        (subst (λ xs. IsBefore xs c.coords-in-loop-next.result.now) (c.coords.ensures.value d) here)))
+        (c.as_slice-in-loop-next.ensures.value ∙ c.coords-later.ensures.value d)
+        (subst (λ xs. IsBefore xs c.as_slice-in-loop-next.result.now) (c.as_slice.ensures.value ∙ c.coords-earlier.ensures.value d) here)))
 
 pub returns-clause-increasing : goal.returns-clause-increasing
 returns-clause-increasing c = λ _. increasing_from c.args.entries.now.list

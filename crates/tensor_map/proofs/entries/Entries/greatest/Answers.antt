@@ -6,6 +6,6 @@ use Rattle.tensor_map.proofs.entries.Entries.greatest.Goals as goal
 
 pub returns : goal.returns
 returns c =
-    let some : 0 < length c.self.inside.list.items = grind (arith, common_steps) in
-    rw (← c.self.view_is) (subst (IsGreatest c.self.inside.list.items c.args.mode) (sym (c.self.invariant.most c.args.mode))
-    (is_greatest c.self.inside.list.items c.args.mode some))
+    let some : 0 < length c.self.inside.list.list = grind (arith, common_steps) in
+    rw (← c.self.view_is) (subst (IsGreatest c.self.inside.list.list c.args.mode) (sym (c.self.invariant.most c.args.mode))
+    (is_greatest c.self.inside.list.list c.args.mode some))

@@ -1,8 +1,8 @@
 use Rattle.std.proofs.Common.{◌<◌, length, sym, ◌∙◌, arith}
 use Rattle.tensor_map.proofs.Neighbours.{adds_same, adds_other, adds_here, adds_all}
-use Rattle.tensor_map.proofs.entries.add_neighbours.Goals as goal
-use Rattle.tensor_map.proofs.entries.add_neighbours.Goals.{then-have_equal_coords}
-use Rattle.tensor_map.proofs.entries.add_neighbours.Goals.{else-have_equal_coords+then-last-next, else-have_equal_coords+else-last-next}
+use Rattle.tensor_map.proofs.sorted_rows.add_neighbours.Goals as goal
+use Rattle.tensor_map.proofs.sorted_rows.add_neighbours.Goals.{then-have_equal_coords}
+use Rattle.tensor_map.proofs.sorted_rows.add_neighbours.Goals.{else-have_equal_coords+then-last-next, else-have_equal_coords+else-last-next}
 
 pub loop-next-preserved : goal.loop-next-preserved
 loop-next-preserved g c =

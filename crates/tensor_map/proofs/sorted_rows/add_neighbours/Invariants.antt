@@ -1,5 +1,5 @@
 use Rattle.tensor_map.proofs.Neighbours.{Adds}
-use Rattle.tensor_map.proofs.entries.add_neighbours.Given as goal
+use Rattle.tensor_map.proofs.sorted_rows.add_neighbours.Given as goal
 
 abbrev pub invariant-loop-next : goal.invariant-loop-next
 invariant-loop-next g l = Adds g.S.Semiring.arithmetic l.fn.entries l.entries l.last l.next

@@ -1,0 +1,160 @@
+// Entries as columns: few bytes an entry, and the coordinates of a mode stand next to one another.
+ghost use Rattle.std.specs.Prelude.{◌≡◌, ℕ, ◌<◌, ◌≤◌, ◌^◌, ◌+◌, [], ◌∷◌, ◌++◌, length, slice_index, slice_index_or};
+ghost use Rattle.std.specs.Prelude.{All, IfOk, OnOk, OnErr, take, slice_set};
+ghost use Rattle.limits.specs.Limits.{greatest_order};
+ghost use Rattle.tensor_map.specs.Entries.{Entry};
+ghost use Rattle.tensor_map.specs.Columns.{AreLong, KeepsBelow};
+
+use crate::Coords;
+use std::alloc::{AllocError, Global};
+use std::marker::Model;
+
+/// Entries whose coordinates fit 32 bits, as a list of coordinates for each mode and a list of values. A list of coordinates may
+/// be longer than there are entries, where a push was refused.
+#[derive(Debug, Drop)]
+pub(crate) struct Columns {
+    order: usize,
+    modes: [Vec<u32>; 6],
+    values: Vec<u64>,
+}
+
+impl Model for Columns {
+    ghost use Rattle.std.specs.Prelude.{take, ◌≡◌, ◌≤◌, length};
+    ghost use Rattle.limits.specs.Limits.{greatest_order};
+    ghost use Rattle.tensor_map.specs.Entries.{Entries as Row};
+    ghost use Rattle.tensor_map.specs.Columns.{rows_of, AreLong};
+
+    ghost Value = { Row };
+
+    ghost view = { λ c. record { order = c.order; list = rows_of (λ column. column.items) (take c.order c.modes) c.values.items } };
+
+    ghost invariant = { λ c. (c.order ≤ greatest_order) × AreLong (λ column. column.items) (take c.order c.modes) (length c.values.items)
+        × (length c.modes ≡ 6) };
+}
+
+impl Columns {
+    /// No entries, of a tensor of this order. It takes no memory.
+    pub(crate) fn new(alloc: Global, order: usize) -> Columns
+        requires { order ≤ greatest_order }
+        ensures order { result.order ≡ order }
+        ensures empty { result.list ≡ [] }
+    {
+        Columns {
+            order,
+            modes: [
+                Vec::new(alloc),
+                Vec::new(alloc),
+                Vec::new(alloc),
+                Vec::new(alloc),
+                Vec::new(alloc),
+                Vec::new(alloc),
+            ],
+            values: Vec::new(alloc),
+        }
+    }
+
+    /// The number of entries.
+    pub(crate) fn len(&self) -> usize
+        ensures { result ≡ length self.now.list }
+    {
+        self.values.len()
+    }
+
+    /// The coordinates of an entry.
+    #[tactic(auto, unfolding(limits::specs::Limits::greatest_order))]
+    pub(crate) fn coords(&self, i: usize) -> Coords
+        requires { i < length self.now.list }
+        ensures { (d : Entry) → result ≡ (slice_index_or self.now.list i d).coords }
+    {
+        let mut coords = Coords::new(*self.values.allocator());
+        for column in &self.modes[..self.order] {
+            coords.push(column[i] as u64);
+        }
+        coords
+    }
+
+    /// The coordinate of an entry in a mode.
+    #[tactic(auto, unfolding(limits::specs::Limits::greatest_order))]
+    pub(crate) fn coordinate(&self, i: usize, mode: usize) -> u64
+        requires entry { i < length self.now.list }
+        requires mode { mode < self.now.order }
+        ensures { (d : Entry) → result ≡ slice_index (slice_index_or self.now.list i d).coords mode }
+    {
+        let columns = &self.modes[..self.order];
+        columns[mode][i] as u64
+    }
+
+    /// The value of an entry.
+    pub(crate) fn value(&self, i: usize) -> u64
+        requires { i < length self.now.list }
+        ensures { (d : Entry) → result ≡ (slice_index_or self.now.list i d).value }
+    {
+        self.values[i]
+    }
+
+    /// Puts an entry over another one.
+    #[tactic(auto, unfolding(limits::specs::Limits::greatest_order))]
+    pub(crate) fn overwrite(&mut self, to: usize, from: usize)
+        requires first { to < length self.old.list }
+        requires second { from < length self.old.list }
+        ensures order { self.new.order ≡ self.old.order }
+        ensures list { (d : Entry) → self.new.list ≡ slice_set self.old.list to (slice_index_or self.old.list from d) }
+    {
+        copy_coordinates(&mut self.modes[..self.order], to, from);
+        self.values[to] = self.values[from];
+    }
+
+    /// Drops the entries from the one numbered `count` on.
+    pub(crate) fn truncate(&mut self, count: usize)
+        ensures order { self.new.order ≡ self.old.order }
+        ensures list { self.new.list ≡ take count self.old.list }
+    {
+        self.values.truncate(count);
+    }
+
+    /// Appends an entry. Refused for want of memory, the entries are as before.
+    #[tactic(auto, unfolding(limits::specs::Limits::greatest_order))]
+    pub(crate) fn push(&mut self, coords: &[u64], value: u64) -> Result<(), AllocError>
+        requires long { length coords.now ≡ self.old.order }
+        requires narrow { All (λ coordinate. coordinate < 2 ^ 32) coords.now }
+        ensures order { self.new.order ≡ self.old.order }
+        ensures ok { OnOk result (self.new.list ≡ self.old.list ++ record { coords = coords.now; value = value } ∷ []) }
+        ensures err { OnErr result (self.new ≡ self.old) }
+    {
+        append(&mut self.modes[..self.order], self.values.len(), coords)?;
+        self.values.push(value)?;
+        Ok(())
+    }
+}
+
+/// Appends a coordinate to each column, after its first `count` ones. Refused for want of memory, those stay.
+fn append(columns: &mut [Vec<u32>], count: usize, coords: &[u64]) -> Result<(), AllocError>
+    requires long { length coords.now ≡ length columns.old }
+    requires narrow { All (λ coordinate. coordinate < 2 ^ 32) coords.now }
+    requires kept { AreLong (λ column. column.items) columns.old count }
+    ensures kept { (mode : ℕ) (d : _) → mode < length columns.old
+        → KeepsBelow count (slice_index_or columns.old mode d).items (slice_index_or columns.new mode d).items }
+    ensures ok { OnOk result ((mode : ℕ) (d : _) → mode < length columns.old
+        → (slice_index_or columns.new mode d).items
+        ≡ take count (slice_index_or columns.old mode d).items ++ slice_index coords.now mode ∷ []) }
+{
+    for (mode, coordinate) in coords.iter().enumerate() {
+        let column = &mut columns[mode];
+        column.truncate(count);
+        column.push(*coordinate as u32)?;
+    }
+    Ok(())
+}
+
+/// Puts the coordinate at a place of each column over the one at another place.
+fn copy_coordinates(columns: &mut [Vec<u32>], to: usize, from: usize)
+    requires first { AreLong (λ column. column.items) columns.old (to + 1) }
+    requires second { AreLong (λ column. column.items) columns.old (from + 1) }
+    ensures { (mode : ℕ) (d : _) → mode < length columns.old → (slice_index_or columns.new mode d).items
+        ≡ slice_set (slice_index_or columns.old mode d).items to (slice_index (slice_index_or columns.old mode d).items from) }
+{
+    for mode in 0..columns.len() {
+        let column = &mut columns[mode];
+        column[to] = column[from];
+    }
+}

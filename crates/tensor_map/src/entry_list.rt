@@ -1,0 +1,253 @@
+// A row of entries in one of two forms: as columns while they increase and are narrow, and else whole, so that they can be sorted.
+ghost use Rattle.std.specs.Prelude.{◌≡◌, ◌≤◌, ◌<◌, ◌^◌, ◌↔◌, [], ◌∷◌, ◌++◌, length, slice_index, slice_index_or, take, filter};
+ghost use Rattle.std.specs.Prelude.{All, IsTrue, IfOk, OnOk, OnErr, IfSome};
+ghost use Rattle.limits.specs.Limits.{greatest_order};
+ghost use Rattle.tensor_map.specs.Entries.{Entry, IsEntry, ComeLast, is_nonzero};
+ghost use Rattle.tensor_map.specs.Summed.{SortsAndAdds};
+
+use crate::Coords;
+use crate::columns::Columns;
+use crate::entries::Entry;
+use crate::sorted_rows::sort_rows;
+use numbers::Semiring;
+use std::alloc::{AllocError, Global};
+use std::marker::Model;
+
+/// How entries stand in memory.
+#[derive(Debug, Drop)]
+pub(crate) enum EntryForm {
+    /// As columns: they increase, and their coordinates fit 32 bits.
+    Columns(Columns),
+    /// Each whole.
+    Rows(Vec<Entry>),
+}
+
+/// Entries in a row.
+#[derive(Debug, Drop)]
+pub(crate) struct EntryList {
+    alloc: Global,
+    order: usize,
+    form: EntryForm,
+}
+
+impl Model for EntryList {
+    ghost use Rattle.tensor_map.specs.Entries.{Entries as Row};
+
+    ghost Value = { Row };
+
+    ghost use Rattle.tensor_map.specs.EntryLists.{listed_in, IsForm};
+
+    ghost view = { λ l. record { order = l.order; list = listed_in l.form } };
+
+    ghost invariant = { λ l. IsForm l.order l.form };
+}
+
+impl EntryList {
+    /// No entries, of a tensor of this order. It takes no memory.
+    pub(crate) fn new(alloc: Global, order: usize) -> EntryList
+        requires { order ≤ greatest_order }
+        ensures order { result.order ≡ order }
+        ensures empty { result.list ≡ [] }
+    {
+        EntryList {
+            alloc,
+            order,
+            form: EntryForm::Columns(Columns::new(alloc, order)),
+        }
+    }
+
+    /// The number of entries.
+    pub(crate) fn len(&self) -> usize
+        ensures { result ≡ length self.now.list }
+    {
+        match &self.form {
+            EntryForm::Columns(columns) => columns.len(),
+            EntryForm::Rows(rows) => rows.len(),
+        }
+    }
+
+    /// The number of modes.
+    pub(crate) fn order(&self) -> usize
+        ensures { result ≡ self.now.order }
+    {
+        self.order
+    }
+
+    /// The coordinates of an entry.
+    pub(crate) fn coords(&self, i: usize) -> Coords
+        requires { i < length self.now.list }
+        ensures { (d : Entry) → result ≡ (slice_index_or self.now.list i d).coords }
+    {
+        match &self.form {
+            EntryForm::Columns(columns) => columns.coords(i),
+            EntryForm::Rows(rows) => rows[i].coords.copied(),
+        }
+    }
+
+    /// The coordinate of an entry in a mode.
+    pub(crate) fn coordinate(&self, i: usize, mode: usize) -> u64
+        requires entry { i < length self.now.list }
+        requires mode { mode < self.now.order }
+        requires entries { All (IsEntry self.now.order) self.now.list }
+        ensures { (d : Entry) → result ≡ slice_index (slice_index_or self.now.list i d).coords mode }
+    {
+        match &self.form {
+            EntryForm::Columns(columns) => columns.coordinate(i, mode),
+            EntryForm::Rows(rows) => rows[i].coords.as_slice()[mode],
+        }
+    }
+
+    /// The value of an entry.
+    pub(crate) fn value(&self, i: usize) -> u64
+        requires { i < length self.now.list }
+        ensures { (d : Entry) → result ≡ (slice_index_or self.now.list i d).value }
+    {
+        match &self.form {
+            EntryForm::Columns(columns) => columns.value(i),
+            EntryForm::Rows(rows) => rows[i].value,
+        }
+    }
+
+    /// Appends an entry. Refused for want of memory, the entries are as before.
+    #[tactic(auto, unfolding(limits::specs::Limits::greatest_order))]
+    pub(crate) fn push(&mut self, coords: &[u64], value: u64) -> Result<(), AllocError>
+        requires { length coords.now ≡ self.old.order }
+        ensures order { self.new.order ≡ self.old.order }
+        ensures ok { OnOk result (self.new.list ≡ self.old.list ++ record { coords = coords.now; value = value } ∷ []) }
+        ensures err { OnErr result (self.new ≡ self.old) }
+    {
+        match &mut self.form {
+            EntryForm::Rows(rows) => push_row(self.alloc, rows, coords, value)?,
+            EntryForm::Columns(columns) => {
+                if are_narrow(coords) && come_last(columns, coords) {
+                    columns.push(coords, value)?;
+                } else {
+                    let mut rows = rows_of(self.alloc, columns)?;
+                    push_row(self.alloc, &mut rows, coords, value)?;
+                    self.form = EntryForm::Rows(rows);
+                }
+            }
+        }
+        Ok(())
+    }
+
+    /// Puts the entries in increasing lexicographic order of their coordinates, and adds the values of equal ones, as `S`
+    /// says. Nothing is refused: columns increase already, and whole entries are sorted where they stand. They become columns
+    /// then, unless memory for these is wanted.
+    pub(crate) fn sort_sum<S: Semiring>(&mut self)
+        requires { All (IsEntry self.old.order) self.old.list }
+        ensures order { self.new.order ≡ self.old.order }
+        ensures sorts { SortsAndAdds S.arithmetic self.old.list self.new.list }
+        ensures shorter { length self.new.list ≤ length self.old.list }
+    {
+        if let EntryForm::Rows(rows) = &mut self.form {
+            sort_rows::<S>(rows);
+            if let Some(columns) = columns_of(self.alloc, self.order, rows) {
+                self.form = EntryForm::Columns(columns);
+            }
+        }
+    }
+
+    /// Drops the entries whose value is the zero of `S`, and keeps the others in their order. It takes no memory.
+    pub(crate) fn nonzero<S: Semiring>(&mut self)
+        ensures order { self.new.order ≡ self.old.order }
+        ensures kept { self.new.list ≡ filter (is_nonzero S.arithmetic) self.old.list }
+    {
+        match &mut self.form {
+            EntryForm::Columns(columns) => keep_nonzero::<S>(columns),
+            EntryForm::Rows(rows) => rows.retain(|entry| entry.value != S::zero()),
+        }
+    }
+}
+
+/// Drops the entries whose value is the zero of `S`, and keeps the others in their order.
+fn keep_nonzero<S: Semiring>(columns: &mut Columns)
+    ensures order { columns.new.order ≡ columns.old.order }
+    ensures kept { columns.new.list ≡ filter (is_nonzero S.arithmetic) columns.old.list }
+{
+    let mut kept = 0;
+    for next in 0..columns.len() {
+        if columns.value(next) != S::zero() {
+            if kept < next {
+                columns.overwrite(kept, next);
+            }
+            kept += 1;
+        }
+    }
+    columns.truncate(kept);
+}
+
+/// Whether the coordinates are after those of the last entry.
+fn come_last(columns: &Columns, coords: &[u64]) -> bool
+    ensures { IsTrue result ↔ ComeLast columns.now.list coords.now }
+{
+    let count = columns.len();
+    if count == 0 {
+        return true;
+    }
+    let last = columns.coords(count - 1);
+    last.as_slice().cmp(&coords).is_lt()
+}
+
+/// Whether each coordinate fits 32 bits.
+fn are_narrow(coords: &[u64]) -> bool
+    ensures { IsTrue result ↔ All (λ coordinate. coordinate < 2 ^ 32) coords.now }
+{
+    coords
+        .iter()
+        .all(|coordinate| *coordinate <= u32::MAX as u64)
+}
+
+/// Appends an entry. Refused for want of memory, the entries are as before.
+fn push_row(
+    alloc: Global,
+    rows: &mut Vec<Entry>,
+    coords: &[u64],
+    value: u64,
+) -> Result<(), AllocError>
+    requires { length coords.now ≤ greatest_order }
+    ensures ok { OnOk result (rows.new.items ≡ rows.old.items ++ record { coords = coords.now; value = value } ∷ []) }
+    ensures err { OnErr result (rows.new.items ≡ rows.old.items) }
+{
+    let coords = Coords::from_slice(alloc, coords);
+    rows.push(Entry { coords, value })?;
+    Ok(())
+}
+
+/// The entries, each whole. Refused for want of memory alone.
+fn rows_of(alloc: Global, columns: &Columns) -> Result<Vec<Entry>, AllocError>
+    ensures { IfOk result (λ rows. rows.items ≡ columns.now.list) }
+{
+    // As much as pushes of whole entries would have come to, so that the next ones want no more than they would.
+    let room = columns
+        .len()
+        .saturating_add(1)
+        .checked_next_power_of_two()
+        .unwrap_or(0);
+    let mut rows = Vec::with_capacity(alloc, room)?;
+    for i in 0..columns.len() {
+        rows.push(Entry {
+            coords: columns.coords(i),
+            value: columns.value(i),
+        })?;
+    }
+    Ok(rows)
+}
+
+/// The entries as columns: none where a coordinate doesn't fit, or memory is wanted.
+fn columns_of(alloc: Global, order: usize, rows: &[Entry]) -> Option<Columns>
+    requires short { order ≤ greatest_order }
+    requires long { All (λ row. length row.coords ≡ order) rows.now }
+    ensures order { IfSome result (λ columns. columns.order ≡ order) }
+    ensures list { IfSome result (λ columns. columns.list ≡ rows.now) }
+{
+    let mut columns = Columns::new(alloc, order);
+    for row in rows {
+        let coords = row.coords.as_slice();
+        if !are_narrow(coords) {
+            return None;
+        }
+        columns.push(coords, row.value).ok()?;
+    }
+    Some(columns)
+}
