@@ -200,8 +200,8 @@ finishes l parents tensor level before after k may held sums = record {
 starts_empty : (unique : Bool) (n parents tensor level : ℕ) (arrays : Arrays)
     → AreAtStart (letter_of unique) n parents tensor level arrays → (arrays (Ends tensor level) ≡ Some (0 ∷ replicate parents 0))
     × (arrays (Coordinates tensor level) ≡ Some [])
-starts_empty true n parents tensor level arrays at = at
-starts_empty false n parents tensor level arrays at = at
+starts_empty true n parents tensor level arrays at = (at.zeros OfEnds (suc parents) refl, at.zeros OfCoordinates 0 refl)
+starts_empty false n parents tensor level arrays at = (at.zeros OfEnds (suc parents) refl, at.zeros OfCoordinates 0 refl)
 
 -- a level as a kernel begins it
 starts : (l : CompressedLevel) (n parents tensor level : ℕ) (arrays : Arrays) → n ≤ greatest_position_count

@@ -171,7 +171,7 @@ laws = record {
     size = refl;
     width = refl;
     log = λ no. true_is_false (sym no);
-    held = at;
+    held = at.size refl;
   };
   finishes = λ n parents tensor level before after keeps may. finished_apart may.unfinished;
   same_arrays = λ n m parents tensor level arrays has also agree held. held ∙ ap (λ k. Some (k ∷ [])) (sym agree.size);

@@ -5,7 +5,7 @@ use Rattle.std.proofs.Common.{◌∙◌, sym, ap, subst, arith, inl, inr}
 use Rattle.std.proofs.lemmas.List.Elements.{All-nil, All-cons}
 use Rattle.limits.specs.Limits.{greatest_position_count}
 use Rattle.level_core.specs.declared.letter.Letter.{Letter}
-use Rattle.level_core.specs.declared.letter.Letter.TheVariants.{Dense, Hashed}
+use Rattle.level_core.specs.declared.letter.Letter.TheVariants.{Dense}
 use Rattle.level_core.specs.declared.span.Span.{Span}
 use Rattle.level_core.specs.declared.span.Entry.{Entry}
 use Rattle.level_core.specs.Entries.{StandsAt, one}
@@ -15,17 +15,15 @@ use Rattle.level_rows.specs.Stacks.{Path}
 use Rattle.format_spec.specs.declared.format.FormatLevel.{FormatLevel}
 use Rattle.format_spec.specs.Formats.{letters_of}
 use Rattle.concrete_notation.specs.Workspaces.{AreAllDense}
-use Rattle.compressed_level.specs.Compressed as compressed
-use Rattle.singleton_level.specs.Singleton as singleton
 use Rattle.dense_level.specs.Dense as dense
 use Rattle.tensor_storage.specs.Counts.{positions_at, positions_from, last_of, AreFew}
 use Rattle.tensor_storage.specs.declared.level.StorageLevel.{StorageLevel}
-use Rattle.tensor_storage.specs.declared.level.StorageLevel.TheVariants.{Dense as OfDense, Compressed as OfCompressed}
-use Rattle.tensor_storage.specs.declared.level.StorageLevel.TheVariants.{Singleton as OfSingleton, Hashed as OfHashed}
+use Rattle.tensor_storage.specs.declared.level.StorageLevel.TheVariants.{Dense as OfDense}
 use Rattle.tensor_storage.specs.Levels.{meaning}
 use Rattle.tensor_storage.specs.Stands.{MakesPath}
 use Rattle.tensor_storage.specs.Storages.{in_level_order}
 use Rattle.tensor_storage.specs.Tables.{Table}
+use Rattle.tensor_storage.proofs.KindArms.{dense_is}
 use Rattle.tns_io.specs.Positions.{product, IsBelow, position}
 use Rattle.term_code.specs.DenseSinks.{HasSizes}
 use Rattle.kernel_correctness.specs.Stores.{AreHeld, StartsFew}
@@ -41,24 +39,6 @@ first_dense l ls dense = dense 0 l (omega arith)
 
 pub others_dense : (l : FormatLevel) (ls : List FormatLevel) → AreAllDense (l ∷ ls) → AreAllDense ls
 others_dense l ls dense = λ k d h. dense (suc k) d (omega (arith, h))
-
--- a level of the dense kind is a dense level
-dense_is : (l : StorageLevel) → meaning.kind l ≡ Dense → l ≡ OfDense (meaning.size l)
-dense_is (OfDense n) h = refl
-dense_is (OfCompressed l) h = absurd (not_compressed l.unique h)
-  where
-    not_compressed : (b : Bool) → compressed.letter_of b ≡ Dense → ⊥
-    not_compressed true e = cc
-    not_compressed false e = cc
-dense_is (OfSingleton l) h = absurd (not_singleton l.unique h)
-  where
-    not_singleton : (b : Bool) → singleton.letter_of b ≡ Dense → ⊥
-    not_singleton true e = cc
-    not_singleton false e = cc
-dense_is (OfHashed l) h = absurd (not_hashed h)
-  where
-    not_hashed : Hashed ≡ Dense → ⊥
-    not_hashed e = cc
 
 -- levels of the kinds of a dense format are dense levels
 pub levels_dense : (format : List FormatLevel) (levels : List StorageLevel) → AreAllDense format

@@ -6,7 +6,7 @@ use Rattle.limits.specs.Limits.{greatest_position_count}
 use Rattle.limits.proofs.Limits.{some_positions}
 use Rattle.numbers.specs.Arithmetic.{Arithmetic}
 use Rattle.kernel_code.specs.declared.syntax.Arr.TheVariants.{Values}
-use Rattle.level_core.specs.Laws.{AreAtStart}
+use Rattle.level_core.specs.Kinds.{properties, parents_below}
 use Rattle.level_core.specs.Meaning.{Arrays}
 use Rattle.format_spec.specs.declared.format.FormatLevel.{FormatLevel}
 use Rattle.format_spec.specs.Formats.{letters_of, modes_of}
@@ -18,7 +18,6 @@ use Rattle.tns_io.specs.Positions.{product, IsBelow, position}
 use Rattle.tns_io.proofs.PositionLaws.{position_below}
 use Rattle.term_code.specs.DenseSinks.{HasSizes, HoldsSums, by_level, place}
 use Rattle.kernel_correctness.specs.Stores.{Store, IsGiven, StartsBelow}
-use Rattle.level_core.specs.Kinds.{parents_below}
 use Rattle.dense_results.specs.Results.{left_ranges, IsDenseStore, StartsWithoutRows}
 use Rattle.dense_results.proofs.DenseLevels.{first_dense, others_dense, parents_dense, product_few}
 use Rattle.dense_results.proofs.Modes.{level_numbers, ranges_same, ranges_many}
@@ -29,7 +28,7 @@ sizes_start : (format : List FormatLevel) (ranges : List ℕ) (nothing parents l
     → HasSizes level (in_level_order format ranges) arrays
 sizes_start [] ranges nothing parents level arrays dense h = tt
 sizes_start (l ∷ ls) ranges nothing parents level arrays dense h = (
-  subst (λ k. AreAtStart k (slice_index ranges l.mode) parents 0 level arrays) (first_dense l ls dense) h.0,
+  h.0.size (ap (λ k. (properties k).full) (first_dense l ls dense)),
   subst (λ k. HasSizes k (in_level_order ls ranges) arrays) (omega arith)
       (sizes_start ls ranges nothing (parents_below l.letter (slice_index ranges l.mode) parents) (suc level) arrays
       (others_dense l ls dense) h.1),

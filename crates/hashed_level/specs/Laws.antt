@@ -331,7 +331,7 @@ laws = record {
     size = refl;
     width = refl;
     log = λ no. never_appended no;
-    held = record { width = at.0; slots = at.1 };
+    held = record { width = at.zeros OfWidth 0 refl; slots = at.zeros OfCoordinates 0 refl };
   };
   finishes = λ l parents tensor level before after keeps may. finished_apart may.unfinished;
   same_arrays = λ l m parents tensor level arrays has also agree held. record {

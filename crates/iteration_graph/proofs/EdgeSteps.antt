@@ -6,19 +6,11 @@ use Rattle.std.proofs.Common.{◌∙◌, sym, ap, arith}
 use Rattle.std.proofs.lemmas.List.{length-map}
 use Rattle.std.proofs.lemmas.List.Sums.{AllPass-from_list_all, list_all-from_AllPass}
 use Rattle.level_core.specs.Kinds.{properties}
-use Rattle.level_core.specs.declared.letter.Letter.{Letter}
-use Rattle.level_core.specs.declared.letter.Letter.TheVariants.{Dense, Compressed, CompressedGroups, Singleton, SingletonGroups, Hashed}
+use Rattle.level_core.specs.declared.letter.Letter.TheVariants.{Dense}
+use Rattle.level_core.proofs.KindLaws.{full_is_dense}
 use Rattle.format_spec.specs.declared.format.FormatLevel.{FormatLevel}
 use Rattle.format_spec.specs.Formats.{modes_of}
 use Rattle.iteration_graph.specs.Edges.{neighbours, by_level, access_edges}
-
-dense_is : (letter : Letter) → (properties letter).full ≡ true → letter ≡ Dense
-dense_is Dense h = refl
-dense_is Compressed h = cc
-dense_is CompressedGroups h = cc
-dense_is Singleton h = cc
-dense_is SingletonGroups h = cc
-dense_is Hashed h = cc
 
 -- one neighbour more
 more : (vars : List ℕ) (k d : ℕ) → suc k < length vars
@@ -71,6 +63,6 @@ sparse_gives_all levels vars some = by_test (list_all (λ level. (properties lev
     by_test : (t : Bool) → list_all (λ level. (properties level.letter).full) levels ≡ t
         → access_edges levels vars ≡ neighbours (by_level levels vars)
     by_test true is = absurd
-        (some (λ k d h. dense_is (slice_index_or levels k d).letter
+        (some (λ k d h. full_is_dense (slice_index_or levels k d).letter
         (AllPass-from_list_all (λ level. (properties level.letter).full) levels is k d h)))
     by_test false is = ap (λ t. if t then [] else neighbours (by_level levels vars)) is

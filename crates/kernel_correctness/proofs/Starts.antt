@@ -6,10 +6,10 @@ use Rattle.kernel_code.specs.declared.syntax.Arr.TheVariants.{ListCoordinates, L
 use Rattle.kernel_code.specs.declared.syntax.Kernel.{Kernel}
 use Rattle.kernel_code.specs.Kernels.{start_arrays}
 use Rattle.level_core.specs.declared.letter.Letter.{Letter}
-use Rattle.level_core.specs.declared.letter.Letter.TheVariants.{Dense, Compressed, CompressedGroups, Singleton, SingletonGroups, Hashed}
 use Rattle.level_core.specs.Fragments.{IsOf}
 use Rattle.level_core.specs.Laws.{AreAtStart}
 use Rattle.level_core.specs.Meaning.{Arrays}
+use Rattle.level_core.proofs.KindLaws.{starts_there}
 use Rattle.tensor_storage.specs.Laws.{laws}
 use Rattle.tensor_storage.specs.declared.level.StorageLevel.{StorageLevel}
 use Rattle.tensor_storage.specs.Storages.{Storage}
@@ -48,12 +48,8 @@ operands_held kernel arrays (operand ∷ operands) tensor h = (
 
 at_start : (kernel : Kernel) (arrays : Arrays) (letter : Letter) (n parents level : ℕ) → AreAtStart letter n parents 0 level arrays
     → AreAtStart letter n parents 0 level (start_arrays kernel arrays)
-at_start kernel arrays Dense n parents level h = h
-at_start kernel arrays Compressed n parents level h = h
-at_start kernel arrays CompressedGroups n parents level h = h
-at_start kernel arrays Singleton n parents level h = h
-at_start kernel arrays SingletonGroups n parents level h = h
-at_start kernel arrays Hashed n parents level h = h
+at_start kernel arrays letter n parents level h =
+    starts_there letter n parents 0 level arrays (start_arrays kernel arrays) (given_of kernel arrays 0 level) h
 
 starts_below : (kernel : Kernel) (arrays : Arrays) (nothing : ℕ) (letters : List Letter) (sizes : List ℕ) (parents level : ℕ)
     → StartsBelow nothing letters sizes parents level arrays → StartsBelow nothing letters sizes parents level (start_arrays kernel arrays)

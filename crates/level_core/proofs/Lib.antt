@@ -2,6 +2,7 @@ pub mod EdgeLaws
 pub mod EntryLaws
 pub mod FragmentLaws
 pub mod GroupLaws
+pub mod KindLaws
 pub mod Orders
 pub mod ParentLaws
 mod Walks

@@ -4,11 +4,12 @@ use Rattle.std.specs.Prelude.{Some, None, refl}
 use Rattle.std.proofs.Common.{◌∙◌, sym, ap, subst, arith, inl, inr}
 use Rattle.std.proofs.lemmas.Bool.Decides.{nat_tests, eqb_tells}
 use Rattle.level_core.specs.Entries.{Span, Entry, Placed, Lacks, Distinct, Single, FirstFree, Gains, one, coord_at, position_of, sought_at}
-use Rattle.level_core.specs.Kinds.{Letter, Dense, Compressed, CompressedGroups, Singleton, SingletonGroups, Hashed, properties}
+use Rattle.level_core.specs.Kinds.{Letter, properties}
 use Rattle.level_core.specs.Meaning.{Meaning}
 use Rattle.level_core.specs.Laws.{Laws}
 use Rattle.level_core.specs.Orders.{IsAfterSmaller, KeepsOrder}
 use Rattle.level_core.proofs.EntryLaws.{coord_here, coord_past}
+use Rattle.level_core.proofs.KindLaws.{are_of_a_kind}
 
 none_some : {A : Type 0} (q : ℕ) → None ≡ Some q → A
 none_some q h = absurd (apart h)
@@ -80,18 +81,8 @@ there None h = absurd (h refl)
 there (Some y) h = (y, refl)
 
 unique_without_order : (letter : Letter) → (properties letter).ordered ≡ false → (properties letter).unique ≡ true
-unique_without_order Dense h = refl
-unique_without_order Compressed h = refl
-unique_without_order CompressedGroups h = absurd (apart h)
-  where
-    apart : true ≡ false → ⊥
-    apart e = cc
-unique_without_order Singleton h = refl
-unique_without_order SingletonGroups h = absurd (apart h)
-  where
-    apart : true ≡ false → ⊥
-    apart e = cc
-unique_without_order Hashed h = refl
+unique_without_order letter unordered =
+    (are_of_a_kind letter).inserted_unique ((are_of_a_kind letter).unordered_inserted unordered)
 
 -- what has a coordinate still has it where another is gained
 still_there : (x slot y pos lo hi : ℕ) (es fs : List Entry) → Distinct es → Single es → Placed lo hi fs → Gains x slot es fs → y ≢ x

@@ -45,14 +45,34 @@ pub record AreEntries (p : Properties) (n : ℕ) (parent segment : Span) (es : L
   pub placed : Placed segment.lo segment.hi es
   pub properties : HaveProperties p n parent segment es
 
+-- what the properties and capabilities of every kind keep: code that asks for these alone serves each kind, and rests on them
+pub record AreOfAKind (p : Properties) (c : Capabilities) : Type 0 where
+  -- a full level stores no coordinates: they are gone over and found in order, and each position is a parent by itself
+  pub full_ordered : p.full ≡ true → p.ordered ≡ true
+  pub full_branches : p.full ≡ true → p.branchless ≡ false
+  pub full_located : p.full ≡ true → c.locate ≡ true
+  pub full_inserted : p.full ≡ true → c.insert ≡ true
+  -- every other level is gone over by its positions
+  pub stored : p.full ≡ false → c.position_iteration ≡ true
+  pub unstored : p.full ≡ true → c.position_iteration ≡ false
+  -- coordinates in order leave no position free; without order they are inserted and found
+  pub ordered_compact : p.ordered ≡ true → p.compact ≡ true
+  pub unordered_inserted : p.ordered ≡ false → c.insert ≡ true
+  pub unordered_located : p.ordered ≡ false → c.locate ≡ true
+  -- coordinates are appended to a level or inserted into it
+  pub appended : c.insert ≡ false → c.append ≡ true
+  pub not_both : c.insert ≡ true → c.append ≡ false
+  -- what is inserted or found has one position, below one position, and what is inserted stands in order only where it isn't stored
+  pub inserted_unique : c.insert ≡ true → p.unique ≡ true
+  pub inserted_branches : c.insert ≡ true → p.branchless ≡ false
+  pub inserted_unordered : c.insert ≡ true → p.full ≡ false → p.ordered ≡ false
+  pub located_unique : c.locate ≡ true → p.unique ≡ true
+  pub located_branches : c.locate ≡ true → p.branchless ≡ false
+
 -- how many positions so many parents have once they are prepared for at most `most` coordinates each: of a mode of range n
 abbrev pub positions_for : Letter → ℕ → ℕ → ℕ → ℕ
-positions_for Dense n parents most = parents * n
-positions_for Hashed n parents most = parents * slot_width most
-positions_for Compressed n parents most = 0
-positions_for CompressedGroups n parents most = 0
-positions_for Singleton n parents most = 0
-positions_for SingletonGroups n parents most = 0
+positions_for letter n parents most =
+    if (properties letter).full then parents * n else if (capabilities letter).insert then parents * slot_width most else 0
 
 -- how many positions a level of a kernel's result has as the run starts, below so many parents: a dense one all of them, any other none
 abbrev pub parents_below : Letter → ℕ → ℕ → ℕ

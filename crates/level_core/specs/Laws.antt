@@ -2,27 +2,21 @@
 use Rattle.std.specs.Prelude.{◌≡◌, ℕ, ◌+◌, ◌≤◌, ◌<◌, true, false, List, [], ◌∷◌, Some, None, replicate}
 use Rattle.limits.specs.Limits.{greatest_position_count}
 use Rattle.kernel_code.specs.declared.syntax.Arr.{Arr}
-use Rattle.kernel_code.specs.declared.syntax.Arr.TheVariants.{Dimension, Ends, Coordinates, Width}
+use Rattle.kernel_code.specs.declared.syntax.Arr.TheVariants.{Dimension, Ends}
 use Rattle.kernel_code.specs.Arrays.{same_arr}
 use Rattle.level_core.specs.Arrays.{LevelArray, array_of}
 use Rattle.level_core.specs.Entries.{Span, AreInRow, one}
-use Rattle.level_core.specs.Kinds.{Letter, Dense, Compressed, CompressedGroups, Singleton, SingletonGroups, Hashed, properties}
-use Rattle.level_core.specs.Kinds.{capabilities, positions_for, AreEntries, MayPrepare, MayInsert}
+use Rattle.level_core.specs.Kinds.{Letter, properties, capabilities, positions_for, zeros_at_start, AreEntries, MayPrepare, MayInsert}
 use Rattle.level_core.specs.Logs.{IsLog, MayFinish, nothing_reserved, with_parents, running}
 use Rattle.level_core.specs.Fragments.{IsOf}
 use Rattle.level_core.specs.Meaning.{Arrays, Meaning, Prepares, Inserts, Finishes, AgreeBelow}
 
--- the arrays of a level of range n and so many parents as the run of a kernel starts: the size of a dense level, a zero for
--- each parent's positions behind another zero, and else no words
-abbrev pub AreAtStart : Letter → ℕ → ℕ → ℕ → ℕ → Arrays → Type 0
-AreAtStart Dense n parents tensor level a = a (Dimension tensor level) ≡ Some (n ∷ [])
-AreAtStart Compressed n parents tensor level a = (a (Ends tensor level) ≡ Some (0 ∷ replicate parents 0))
-    × (a (Coordinates tensor level) ≡ Some [])
-AreAtStart CompressedGroups n parents tensor level a = (a (Ends tensor level) ≡ Some (0 ∷ replicate parents 0))
-    × (a (Coordinates tensor level) ≡ Some [])
-AreAtStart Singleton n parents tensor level a = a (Coordinates tensor level) ≡ Some []
-AreAtStart SingletonGroups n parents tensor level a = a (Coordinates tensor level) ≡ Some []
-AreAtStart Hashed n parents tensor level a = (a (Width tensor level) ≡ Some []) × (a (Coordinates tensor level) ≡ Some [])
+-- the arrays of a level of range n and so many parents as the run of a kernel starts: the size of a full level, which is lent, and as
+-- many zeros as its kind says in each array that the run makes
+pub record AreAtStart (letter : Letter) (n parents tensor level : ℕ) (arrays : Arrays) : Type 0 where
+  pub size : (properties letter).full ≡ true → arrays (Dimension tensor level) ≡ Some (n ∷ [])
+  pub zeros : (array : LevelArray) (count : ℕ) → zeros_at_start letter array parents ≡ Some count
+      → arrays (array_of array tensor level) ≡ Some (replicate count 0)
 
 -- the numbers of positions in the array of segment ends are summed up, and every other array stays
 pub record SumsUp (tensor level : ℕ) (before after : Arrays) : Type 0 where

@@ -14,12 +14,12 @@ use Rattle.kernel_code.proofs.Keeps.{this_var, other_var}
 use Rattle.kernel_code.proofs.Words.{sum_is}
 use Rattle.level_core.specs.Entries.{one, position_of}
 use Rattle.level_core.specs.declared.letter.Letter.{Letter}
-use Rattle.level_core.specs.declared.letter.Letter.TheVariants.{Dense, Compressed, CompressedGroups, Singleton, SingletonGroups, Hashed}
 use Rattle.level_core.specs.Kinds.{properties, capabilities}
 use Rattle.level_core.specs.Fragments.{Reads, OptionLeft, probe_turns}
 use Rattle.level_core.specs.Codes.{LocateCode}
 use Rattle.level_core.specs.Meaning.{Meaning}
 use Rattle.level_core.specs.Laws.{Laws}
+use Rattle.level_core.proofs.KindLaws.{are_of_a_kind}
 use Rattle.tensor_storage.specs.Children.{child_of}
 use Rattle.level_cursors.specs.Children.{ChildLeft, one_of}
 use Rattle.level_cursors.specs.Located.{Locates, locate_code}
@@ -79,15 +79,6 @@ leave base c s t most (Some p) small k h =
     ))))
     (λ u h. does_nothing c u _ Never h))
 
--- a kind that locates has one position for each coordinate, and one for each parent
-unique_too : (letter : Letter) → (capabilities letter).locate ≡ true → (properties letter).unique ≡ true
-unique_too Dense h = refl
-unique_too Compressed h = refl
-unique_too CompressedGroups h = cc
-unique_too Singleton h = refl
-unique_too SingletonGroups h = cc
-unique_too Hashed h = refl
-
 pub located : {L : Type 0} (means : Meaning L) → Laws means
     → (letter : Letter) (tensor level base : ℕ) (flag : KExpr) (args : List KExpr) (locate : List KStmt)
     → (capabilities letter).locate ≡ true → LocateCode means letter tensor level args (base + 3) locate
@@ -104,7 +95,7 @@ located means laws letter tensor level base flag args locate able law = record {
       let es = means.entries l (one p) in
       let segment = means.segment_of l (one p) in
       let are = laws.entries l (one p) ok in
-      let single = are.properties.unique (ap (λ k. (properties k).unique) kind ∙ unique_too letter able) in
+      let single = are.properties.unique (ap (λ k. (properties k).unique) kind ∙ (are_of_a_kind letter).located_unique able) in
       let turns : LoopKind → ℕ = probe_turns letter segment in
       let found = subst (λ k. Reads c locate (base + 3) (probe_turns k segment) s (OptionLeft (base + 3) (position_of es x))) kind
       (law able c l kind p ok x s held values) in

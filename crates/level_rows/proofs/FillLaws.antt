@@ -1,25 +1,14 @@
 -- What the number of positions that a level needs tells of rows.
-use Rattle.std.specs.Prelude.{◌≡◌, ◌⊎◌, ℕ, ◌*◌, ◌^◌, ◌≤◌, ◌<◌, true, false, refl}
-use Rattle.std.proofs.Common.{arith, inl, inr}
+use Rattle.std.specs.Prelude.{◌≡◌, ◌⊎◌, ℕ, ◌*◌, ◌^◌, ◌≤◌, ◌<◌, Bool, true, false, refl}
+use Rattle.std.proofs.Common.{◌∙◌, arith, inl, inr}
 use Rattle.std.proofs.Math.Nat.{mul-le-mul_right}
 use Rattle.kernel_code.specs.Widths.{slot_width}
 use Rattle.kernel_code.proofs.Widths.{slot_width_enough}
 use Rattle.level_core.specs.declared.letter.Letter.{Letter}
-use Rattle.level_core.specs.declared.letter.Letter.TheVariants.{Dense, Compressed, CompressedGroups, Singleton, SingletonGroups, Hashed}
-use Rattle.level_core.specs.Kinds.{capabilities}
+use Rattle.level_core.specs.Kinds.{properties, capabilities}
+use Rattle.level_core.proofs.KindLaws.{inserted_else, stored_positions}
 use Rattle.level_rows.specs.Rows.{Rows, begun_below, IsGreatestBelow}
 use Rattle.level_rows.specs.Filling.{AreNeeded}
-
-apart : true ≡ false → ⊥
-apart e = cc
-
-pub inserts_else : (letter : Letter) → (capabilities letter).append ≡ false → (capabilities letter).insert ≡ true
-inserts_else Dense h = refl
-inserts_else Compressed h = absurd (apart h)
-inserts_else CompressedGroups h = absurd (apart h)
-inserts_else Singleton h = absurd (apart h)
-inserts_else SingletonGroups h = absurd (apart h)
-inserts_else Hashed h = refl
 
 -- at most half as many coordinates stand below one parent as a level has positions
 half : (rows : Rows) (parents most positions : ℕ) → most ≤ 2 ^ 62 → ((i : ℕ) → i < rows.count → rows.parent i < parents)
@@ -38,11 +27,10 @@ half rows parents most positions small within g is = by_reached g.reached
 pub few_below : (letter : Letter) (size parents : ℕ) (rows : Rows) (positions most : ℕ) → (capabilities letter).append ≡ false
     → ((i : ℕ) → i < rows.count → rows.parent i < parents) → most ≤ 2 ^ 62 → AreNeeded letter size parents rows positions most
     → most ≤ positions
-few_below Dense size parents rows positions most h within small need = let k = need.full refl in omega (arith, k)
-few_below Compressed size parents rows positions most h within small need = absurd (apart h)
-few_below CompressedGroups size parents rows positions most h within small need = absurd (apart h)
-few_below Singleton size parents rows positions most h within small need = absurd (apart h)
-few_below SingletonGroups size parents rows positions most h within small need = absurd (apart h)
-few_below Hashed size parents rows positions most h within small need =
-    let g = need.greatest refl refl in
-    half rows parents most positions small within g (need.inserted refl)
+few_below letter size parents rows positions most none within small need = by_full (properties letter).full refl
+  where
+    by_full : (full : Bool) → (properties letter).full ≡ full → most ≤ positions
+    by_full true is = let zero = need.full is in omega (arith, zero)
+    by_full false is =
+        half rows parents most positions small within (need.greatest none is)
+        (need.inserted none ∙ stored_positions letter size parents most is (inserted_else letter none))

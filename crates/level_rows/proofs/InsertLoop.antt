@@ -7,13 +7,13 @@ use Rattle.std.proofs.lemmas.List.{get_or-set_same, get_or-set_other, length-set
 use Rattle.limits.specs.Limits.{greatest_position_count}
 use Rattle.kernel_code.specs.Widths.{slot_width}
 use Rattle.level_core.specs.declared.letter.Letter.{Letter}
-use Rattle.level_core.specs.declared.letter.Letter.TheVariants.{Dense, Compressed, CompressedGroups, Singleton, SingletonGroups, Hashed}
 use Rattle.level_core.specs.declared.span.Span.{Span}
 use Rattle.level_core.specs.Entries.{one, span}
 use Rattle.level_core.specs.Kinds.{properties, capabilities, positions_for, AreEntries, MayPrepare, MayInsert}
 use Rattle.level_core.specs.Meaning.{Meaning, Inserts}
 use Rattle.level_core.specs.Laws.{Laws}
 use Rattle.level_core.specs.Orders.{InOrder}
+use Rattle.level_core.proofs.KindLaws.{are_of_a_kind, unordered_stored}
 use Rattle.level_core.proofs.Orders.{keeps_order}
 use Rattle.level_rows.specs.Rows.{Rows, begun_below, MayInsertRows, StandsFor}
 use Rattle.level_rows.specs.Taken.{Asked, InsertsRows}
@@ -22,31 +22,6 @@ use Rattle.level_rows.proofs.InsertLaws.{Inserted, IsParent, may_insert, insert_
 
 apart : true ≡ false → ⊥
 apart e = cc
-
--- the kinds that coordinates are inserted into
-unique_inserted : (letter : Letter) → (capabilities letter).insert ≡ true → (properties letter).unique ≡ true
-unique_inserted Dense h = refl
-unique_inserted Compressed h = refl
-unique_inserted CompressedGroups h = absurd (apart (sym h))
-unique_inserted Singleton h = refl
-unique_inserted SingletonGroups h = absurd (apart (sym h))
-unique_inserted Hashed h = refl
-
-branching_inserted : (letter : Letter) → (capabilities letter).insert ≡ true → (properties letter).branchless ≡ false
-branching_inserted Dense h = refl
-branching_inserted Compressed h = refl
-branching_inserted CompressedGroups h = refl
-branching_inserted Singleton h = absurd (apart (sym h))
-branching_inserted SingletonGroups h = absurd (apart (sym h))
-branching_inserted Hashed h = refl
-
-pub not_full : (letter : Letter) → (properties letter).ordered ≡ false → (properties letter).full ≡ false
-not_full Dense h = absurd (apart h)
-not_full Compressed h = refl
-not_full CompressedGroups h = refl
-not_full Singleton h = refl
-not_full SingletonGroups h = refl
-not_full Hashed h = refl
 
 -- while rows are inserted: the level, the last position and the list of positions after so many rows
 pub record Inserting {L : Type 0} (means : Meaning L) (parents most done at : ℕ) (rows : Rows) (positions : List ℕ)
@@ -86,7 +61,7 @@ module _ {L : Type 0} (means : Meaning L) (laws : Laws means) (parents most : �
         width = p.width;
         room = p.room;
         inserted = insert_none (properties (means.kind old)).full parents rows (slice_index positions) (means.entries l) p.empty;
-        order = λ unordered q h. (keeps_order means laws).starts old l parents most q p (not_full (means.kind old) unordered) h;
+        order = λ unordered q h. (keeps_order means laws).starts old l parents most q p (unordered_stored (means.kind old) unordered) h;
         last = λ i h. absurd (omega (arith, h));
         many = many;
         ahead = λ i from h. parents_are i h;
@@ -174,7 +149,7 @@ module _ {L : Type 0} (means : Meaning L) (laws : Laws means) (parents most : �
             → InOrder means m p
         by_parent unordered p inside true same =
             let at_parent : p ≡ rows.parent done = grind (arith, nat_tests, same) in
-            let full = not_full (means.kind old) unordered in
+            let full = unordered_stored (means.kind old) unordered in
             subst (InOrder means m) (sym at_parent)
             ((keeps_order means laws).greater l m (rows.parent done) (rows.coord done) slot
             (ap (λ j. (properties j).ordered) f.kind ∙ unordered) (allowed_at (rows.parent done) (may.within done h))
@@ -249,7 +224,7 @@ module _ {L : Type 0} (means : Meaning L) (laws : Laws means) (parents most : �
             (stands_along (properties (means.kind old)).full (IsParent parents) (Asked means l parents) (means.segment_of l)
             (means.entries l) rows (slice_index positions) (slice_index positions) single (λ i h. refl)
             (inserted_stands (means.kind old) (means.size old) parents rows (slice_index positions) (means.allowed l) (means.segment_of l)
-            (means.entries l) (unique_inserted (means.kind old) f.able) may.within (laws.in_row l) allowed_at
+            (means.entries l) ((are_of_a_kind (means.kind old)).inserted_unique f.able) may.within (laws.in_row l) allowed_at
             (λ s ok. subst (λ k. AreEntries (properties k) (means.size old) s (means.segment_of l s) (means.entries l s)) f.kind
             (subst (λ n. AreEntries (properties (means.kind l)) n s (means.segment_of l s) (means.entries l s)) f.size
             (laws.entries l s ok)))
@@ -257,7 +232,7 @@ module _ {L : Type 0} (means : Meaning L) (laws : Laws means) (parents most : �
         ends = f.ends;
         groups =
             λ branches. absurd (apart (sym branches ∙ ap (λ k. (properties k).branchless) f.kind
-            ∙ branching_inserted (means.kind old) f.able));
+            ∙ (are_of_a_kind (means.kind old)).inserted_branches f.able));
       };
     };
     width = f.width;
@@ -269,6 +244,6 @@ module _ {L : Type 0} (means : Meaning L) (laws : Laws means) (parents most : �
 
       single : (s : Span) → Asked means l parents s → IsParent parents s
       single s ok =
-          let alone = laws.one_parent l s ok.0 (ap (λ k. (properties k).branchless) f.kind ∙ branching_inserted (means.kind old) f.able) in
+          let alone = laws.one_parent l s ok.0 (ap (λ k. (properties k).branchless) f.kind ∙ (are_of_a_kind (means.kind old)).inserted_branches f.able) in
           let within = ok.1 in
           (s.lo, omega (arith, alone, within), ap (span s.lo) alone)

@@ -26,12 +26,13 @@ use Rattle.level_core.specs.Fragments.{turns_of, probe_turns}
 use Rattle.level_core.specs.Codes.{PrepareCode, InsertCode}
 use Rattle.level_core.specs.Meaning.{Meaning}
 use Rattle.level_core.specs.Laws.{Laws}
+use Rattle.level_core.proofs.KindLaws.{unordered_stored}
 use Rattle.level_rows.specs.Rows.{Rows, begun_below, MayInsertRows}
 use Rattle.level_rows.specs.Draining.{Stays, TellsFirst, TellsCoord}
 use Rattle.level_rows.specs.Placing.{insert_code, store_code, insert_row_code, insert_rows_code, times, insert_turns, LeavesPlaced}
 use Rattle.level_rows.specs.Placing.{PlacesRows}
 use Rattle.level_rows.proofs.DrainSteps.{list_apart}
-use Rattle.level_rows.proofs.InsertLoop.{Inserting, not_full, begins, allowed_next, may_insert_next, inserts_next, inserts}
+use Rattle.level_rows.proofs.InsertLoop.{Inserting, begins, allowed_next, may_insert_next, inserts_next, inserts}
 
 -- a drain turn more than probes were sought for
 abbrev turned_turns : ℕ → ℕ → LoopKind → ℕ
@@ -138,7 +139,7 @@ module _ {L : Type 0} (means : Meaning L) (laws : Laws means) (c : Setting) (let
           ≤ turns_of Probe (slot_width most) k) (sym is) (omega arith)
       by_order false is =
           let unordered = sym (ap (λ j. (properties j).ordered) f.kind) ∙ is in
-          let wide = laws.wide l (slot_width most) (one p) (f.width (not_full (means.kind old) unordered)) ok in
+          let wide = laws.wide l (slot_width most) (one p) (f.width (unordered_stored (means.kind old) unordered)) ok in
           let same : (means.segment_of l (one p)).hi - (means.segment_of l (one p)).lo ≡ slot_width most = omega (arith, wide) in
           subst (λ b. (if b then no_turns else turns_of Probe ((means.segment_of l (one p)).hi - (means.segment_of l (one p)).lo)) k
           ≤ turns_of Probe (slot_width most) k) (sym is)

@@ -4,7 +4,6 @@ use Rattle.std.proofs.Common.{◌∙◌, sym, ap, subst, arith, inl, inr}
 use Rattle.std.proofs.lemmas.Bool.{cases_lt}
 use Rattle.std.proofs.lemmas.Option.{same_Some}
 use Rattle.level_core.specs.declared.letter.Letter.{Letter}
-use Rattle.level_core.specs.declared.letter.Letter.TheVariants.{Dense, Compressed, CompressedGroups, Singleton, SingletonGroups, Hashed}
 use Rattle.level_core.specs.declared.span.Span.{Span}
 use Rattle.level_core.specs.declared.span.Entry.{Entry}
 use Rattle.level_core.specs.Entries.{IsIn, StandsAt, one, span}
@@ -13,6 +12,7 @@ use Rattle.level_core.specs.Meaning.{Meaning}
 use Rattle.level_core.specs.Laws.{Laws}
 use Rattle.level_core.specs.ParentLaws.{Askable}
 use Rattle.level_core.proofs.EntryLaws.{placed_within}
+use Rattle.level_core.proofs.KindLaws.{are_of_a_kind}
 use Rattle.level_core.proofs.ParentLaws.{segments_apart}
 use Rattle.level_core.proofs.GroupLaws.{single_at}
 use Rattle.level_rows.specs.Rows.{StandsFor}
@@ -79,15 +79,6 @@ apart {A} e = absurd (no_way e)
     no_way : true ≡ false → ⊥
     no_way e = cc
 
--- a full level has one parent at a time
-full_branches : (letter : Letter) → (properties letter).full ≡ true → (properties letter).branchless ≡ false
-full_branches Dense h = refl
-full_branches Compressed h = apart (sym h)
-full_branches CompressedGroups h = apart (sym h)
-full_branches Singleton h = apart (sym h)
-full_branches SingletonGroups h = apart (sym h)
-full_branches Hashed h = apart (sym h)
-
 not_true : (b : Bool) → not b ≡ false → b ≡ true
 not_true true h = refl
 not_true false h = apart h
@@ -153,7 +144,7 @@ module _ {L : Type 0} (means : Meaning L) (laws : Laws means) (count : ℕ) wher
 
         by_full : (b : Bool) → (properties (means.kind l)).full ≡ b → (e.child.lo < e.child.hi) × (e.child.hi ≤ column.positions)
         by_full true is =
-            let alone = laws.one_parent l s ok.0 (full_branches (means.kind l) is) in
+            let alone = laws.one_parent l s ok.0 ((are_of_a_kind (means.kind l)).full_branches is) in
             let same : s ≡ one s.lo = ap (span s.lo) alone in
             let upto = ok.1 in
             let ends = ends_by s.lo (omega (arith, alone, upto)) in

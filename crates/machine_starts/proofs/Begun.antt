@@ -1,5 +1,5 @@
 -- What begun levels leave in the arrays.
-use Rattle.std.specs.Prelude.{◌≡◌, ℕ, suc, ◌≤◌, Bool, true, false, if◌then◌else◌, List, [], ◌∷◌, Some, replicate, refl}
+use Rattle.std.specs.Prelude.{◌≡◌, ◌≢◌, ℕ, suc, ◌≤◌, Bool, true, false, if◌then◌else◌, List, [], ◌∷◌, Option, Some, None, replicate, refl}
 use Rattle.std.proofs.Common.{◌∙◌, sym, ap, subst, arith}
 use Rattle.kernel_code.specs.declared.syntax.Arr.{Arr}
 use Rattle.kernel_code.specs.declared.syntax.Arr.TheVariants.{Range, Values, Dimension, Ends, Coordinates, Width, Key, Sums}
@@ -8,12 +8,17 @@ use Rattle.kernel_code.specs.Arrays.{same_arr}
 use Rattle.kernel_code.specs.Meaning.{State, set_array}
 use Rattle.kernel_code.proofs.ArrayNames.{same_arr_is, same_arr_self}
 use Rattle.level_core.specs.declared.letter.Letter.{Letter}
-use Rattle.level_core.specs.declared.letter.Letter.TheVariants.{Dense, Compressed, CompressedGroups, Singleton, SingletonGroups, Hashed}
 use Rattle.level_core.specs.Fragments.{IsOf}
 use Rattle.level_core.specs.Laws.{AreAtStart}
 use Rattle.level_core.specs.Meaning.{Arrays}
-use Rattle.machine_starts.specs.Begun.{begun, begun_result, HasSizes, AreBegun}
-use Rattle.level_core.specs.Kinds.{properties, parents_below}
+use Rattle.level_core.specs.declared.arrays.LevelArray.{LevelArray}
+use Rattle.level_core.specs.declared.arrays.LevelArray.TheVariants.{Dimension as OfSize, Ends as OfEnds}
+use Rattle.level_core.specs.declared.arrays.LevelArray.TheVariants.{Coordinates as OfCoordinates, Width as OfWidth}
+use Rattle.level_core.specs.Arrays.{array_of}
+use Rattle.level_core.specs.Kinds.{properties, parents_below, zeros_at_start}
+use Rattle.level_core.proofs.KindLaws.{of_level, starts_there}
+use Rattle.machine_starts.specs.Begun.{filled_with, with_zeros, begun, begun_result, HasSizes, AreBegun}
+use Rattle.machine_starts.proofs.Steps.{no_size}
 
 -- an array that was set has these words, and others stay
 pub set_here : (s : State) (a : Arr) (xs : List ℕ) → (set_array s a xs).arrays a ≡ Some xs
@@ -30,52 +35,76 @@ not_same level a b is h = by (same_arr a b) refl
     by true e = absurd (h (subst (IsOf 0 level) (same_arr_is a b e) is))
     by false e = e
 
--- a level that is begun is as a run starts it
-begun_there : (letter : Letter) (n parents level : ℕ) (s : State)
-    → ((properties letter).full ≡ true → s.arrays (Dimension 0 level) ≡ Some (n ∷ []))
-    → AreAtStart letter n parents 0 level (begun letter parents level s).arrays
-begun_there Dense n parents level s dim = dim refl
-begun_there Compressed n parents level s dim = (
-  set_here s (Ends 0 level) (0 ∷ replicate parents 0),
-  set_here (set_array s (Ends 0 level) (0 ∷ replicate parents 0)) (Coordinates 0 level) [],
-)
-begun_there CompressedGroups n parents level s dim = (
-  set_here s (Ends 0 level) (0 ∷ replicate parents 0),
-  set_here (set_array s (Ends 0 level) (0 ∷ replicate parents 0)) (Coordinates 0 level) [],
-)
-begun_there Singleton n parents level s dim = set_here s (Coordinates 0 level) []
-begun_there SingletonGroups n parents level s dim = set_here s (Coordinates 0 level) []
-begun_there Hashed n parents level s dim =
-    (set_here s (Width 0 level) [], set_here (set_array s (Width 0 level) []) (Coordinates 0 level) [])
+-- what is made of one array leaves the others
+filled_apart : (count : Option ℕ) (array : LevelArray) (level : ℕ) (s : State) (b : Arr) → same_arr (array_of array 0 level) b ≡ false
+    → (filled_with count array level s).arrays b ≡ s.arrays b
+filled_apart None array level s b h = refl
+filled_apart (Some n) array level s b h = set_apart s (array_of array 0 level) b (replicate n 0) h
+
+filled_here : (count : Option ℕ) (array : LevelArray) (level n : ℕ) (s : State) → count ≡ Some n
+    → (filled_with count array level s).arrays (array_of array 0 level) ≡ Some (replicate n 0)
+filled_here None array level n s h = absurd (none_some h)
+  where
+    none_some : None ≡ Some n → ⊥
+    none_some h = cc
+filled_here (Some m) array level n s h =
+    set_here s (array_of array 0 level) (replicate m 0) ∙ ap (λ k. Some (replicate k 0)) (same m n h)
+  where
+    same : (x y : ℕ) → Some x ≡ Some y → x ≡ y
+    same x y h = cc
+
+-- and so does what is made of a level
+begun_apart : (letter : Letter) (parents level : ℕ) (s : State) (b : Arr) → ((array : LevelArray) → array ≢ OfSize
+    → same_arr (array_of array 0 level) b ≡ false) → (begun letter parents level s).arrays b ≡ s.arrays b
+begun_apart letter parents level s b h =
+    let ends = with_zeros letter OfEnds parents level s in
+    let widths = with_zeros letter OfWidth parents level ends in
+    filled_apart (zeros_at_start letter OfCoordinates parents) OfCoordinates level widths b (h OfCoordinates (λ e. cc))
+    ∙ filled_apart (zeros_at_start letter OfWidth parents) OfWidth level ends b (h OfWidth (λ e. cc))
+    ∙ filled_apart (zeros_at_start letter OfEnds parents) OfEnds level s b (h OfEnds (λ e. cc))
 
 -- it leaves the arrays of other levels
-begun_apart : (letter : Letter) (parents level : ℕ) (s : State) (b : Arr) → (IsOf 0 level b → ⊥)
+begun_beside : (letter : Letter) (parents level : ℕ) (s : State) (b : Arr) → (IsOf 0 level b → ⊥)
     → (begun letter parents level s).arrays b ≡ s.arrays b
-begun_apart Dense parents level s b h = refl
-begun_apart Compressed parents level s b h =
-    set_apart (set_array s (Ends 0 level) (0 ∷ replicate parents 0)) (Coordinates 0 level) b []
-    (not_same level (Coordinates 0 level) b (refl, refl) h)
-    ∙ set_apart s (Ends 0 level) b (0 ∷ replicate parents 0) (not_same level (Ends 0 level) b (refl, refl) h)
-begun_apart CompressedGroups parents level s b h =
-    set_apart (set_array s (Ends 0 level) (0 ∷ replicate parents 0)) (Coordinates 0 level) b []
-    (not_same level (Coordinates 0 level) b (refl, refl) h)
-    ∙ set_apart s (Ends 0 level) b (0 ∷ replicate parents 0) (not_same level (Ends 0 level) b (refl, refl) h)
-begun_apart Singleton parents level s b h = set_apart s (Coordinates 0 level) b [] (not_same level (Coordinates 0 level) b (refl, refl) h)
-begun_apart SingletonGroups parents level s b h =
-    set_apart s (Coordinates 0 level) b [] (not_same level (Coordinates 0 level) b (refl, refl) h)
-begun_apart Hashed parents level s b h =
-    set_apart (set_array s (Width 0 level) []) (Coordinates 0 level) b [] (not_same level (Coordinates 0 level) b (refl, refl) h)
-    ∙ set_apart s (Width 0 level) b [] (not_same level (Width 0 level) b (refl, refl) h)
+begun_beside letter parents level s b h = begun_apart letter parents level s b (λ array _.
+    not_same level (array_of array 0 level) b (of_level array 0 level) h)
 
 -- and the ranges of all levels
 begun_size : (letter : Letter) (parents level : ℕ) (s : State) (k : ℕ)
     → (begun letter parents level s).arrays (Dimension 0 k) ≡ s.arrays (Dimension 0 k)
-begun_size Dense parents level s k = refl
-begun_size Compressed parents level s k = refl
-begun_size CompressedGroups parents level s k = refl
-begun_size Singleton parents level s k = refl
-begun_size SingletonGroups parents level s k = refl
-begun_size Hashed parents level s k = refl
+begun_size letter parents level s k = begun_apart letter parents level s (Dimension 0 k) other
+  where
+    other : (array : LevelArray) → array ≢ OfSize → same_arr (array_of array 0 level) (Dimension 0 k) ≡ false
+    other OfSize h = absurd (h refl)
+    other OfEnds h = refl
+    other OfWidth h = refl
+    other OfCoordinates h = refl
+
+-- a level that is begun is as a run starts it
+begun_there : (letter : Letter) (n parents level : ℕ) (s : State)
+    → ((properties letter).full ≡ true → s.arrays (Dimension 0 level) ≡ Some (n ∷ []))
+    → AreAtStart letter n parents 0 level (begun letter parents level s).arrays
+begun_there letter n parents level s dim =
+    record { size = λ full. begun_size letter parents level s level ∙ dim full; zeros = zeros }
+  where
+    ends : State
+    ends = with_zeros letter OfEnds parents level s
+
+    widths : State
+    widths = with_zeros letter OfWidth parents level ends
+
+    zeros : (array : LevelArray) (count : ℕ) → zeros_at_start letter array parents ≡ Some count
+        → (begun letter parents level s).arrays (array_of array 0 level) ≡ Some (replicate count 0)
+    zeros OfSize count is = absurd (no_size letter parents count is)
+    zeros OfEnds count is =
+        filled_apart (zeros_at_start letter OfCoordinates parents) OfCoordinates level widths (Ends 0 level) refl
+        ∙ filled_apart (zeros_at_start letter OfWidth parents) OfWidth level ends (Ends 0 level) refl
+        ∙ filled_here (zeros_at_start letter OfEnds parents) OfEnds level count s is
+    zeros OfWidth count is =
+        filled_apart (zeros_at_start letter OfCoordinates parents) OfCoordinates level widths (Width 0 level) refl
+        ∙ filled_here (zeros_at_start letter OfWidth parents) OfWidth level count ends is
+    zeros OfCoordinates count is =
+        filled_here (zeros_at_start letter OfCoordinates parents) OfCoordinates level count widths is
 
 sizes_kept : (letter : Letter) (parents level : ℕ) (s : State) (letters : List Letter) (sizes : List ℕ) (k : ℕ)
     → HasSizes letters sizes k s.arrays → HasSizes letters sizes k (begun letter parents level s).arrays
@@ -83,19 +112,6 @@ sizes_kept letter parents level s [] sizes k h = tt
 sizes_kept letter parents level s (below ∷ letters) [] k h = tt
 sizes_kept letter parents level s (below ∷ letters) (size ∷ sizes) k h =
     (λ full. begun_size letter parents level s k ∙ h.0 full, sizes_kept letter parents level s letters sizes (suc k) h.1)
-
--- the level starts as it does in arrays that agree on it
-start_same : (letter : Letter) (n parents level : ℕ) (a b : Arrays) → ((x : Arr) → IsOf 0 level x → b x ≡ a x)
-    → AreAtStart letter n parents 0 level a → AreAtStart letter n parents 0 level b
-start_same Dense n parents level a b same h = same (Dimension 0 level) (refl, refl) ∙ h
-start_same Compressed n parents level a b same h =
-    (same (Ends 0 level) (refl, refl) ∙ h.0, same (Coordinates 0 level) (refl, refl) ∙ h.1)
-start_same CompressedGroups n parents level a b same h =
-    (same (Ends 0 level) (refl, refl) ∙ h.0, same (Coordinates 0 level) (refl, refl) ∙ h.1)
-start_same Singleton n parents level a b same h = same (Coordinates 0 level) (refl, refl) ∙ h
-start_same SingletonGroups n parents level a b same h = same (Coordinates 0 level) (refl, refl) ∙ h
-start_same Hashed n parents level a b same h =
-    (same (Width 0 level) (refl, refl) ∙ h.0, same (Coordinates 0 level) (refl, refl) ∙ h.1)
 
 -- arrays of a level of the result from this number on
 abbrev pub IsFrom : ℕ → Arr → Type 0
@@ -134,7 +150,7 @@ result_apart nothing (letter ∷ letters) [] parents level s b h v = set_apart s
 result_apart nothing (letter ∷ letters) (size ∷ sizes) parents level s b h v =
     result_apart nothing letters sizes (parents_below letter size parents) (suc level) (begun letter parents level s) b
     (λ f. h (f.0, omega (arith, f.1), f.2)) v
-    ∙ begun_apart letter parents level s b (λ is. h (level, omega arith, is))
+    ∙ begun_beside letter parents level s b (λ is. h (level, omega arith, is))
 
 -- the levels and the values are as a run starts them
 pub result_begun : (nothing : ℕ) (letters : List Letter) (sizes : List ℕ) (parents level : ℕ) (s : State)
@@ -145,7 +161,7 @@ result_begun nothing (letter ∷ letters) [] parents level s h = set_here s (Val
 result_begun nothing (letter ∷ letters) (size ∷ sizes) parents level s h =
     let next : State = begun letter parents level s in
     let done : State = begun_result nothing letters sizes (parents_below letter size parents) (suc level) next in (
-      start_same letter size parents level next.arrays done.arrays
+      starts_there letter size parents 0 level next.arrays done.arrays
           (λ x is. result_apart nothing letters sizes (parents_below letter size parents) (suc level) next x
           (λ f. let same = one_level x f.0 level f.2 is in omega (arith, same, f.1)) (not_values level x is))
           (begun_there letter size parents level s h.0),

@@ -1,6 +1,6 @@
 -- One step of each list from which arrays are begun.
 use Rattle.std.specs.Prelude.{◌≡◌, ℕ, zero, suc, ◌+◌, ◌<◌, ◌≤◌, true, List, [], ◌∷◌, ◌++◌, Option, length, drop, replicate}
-use Rattle.std.specs.Prelude.{slice_index_or, Some, refl}
+use Rattle.std.specs.Prelude.{slice_index_or, Some, None, refl}
 use Rattle.std.specs.Bool.{then_some}
 use Rattle.std.proofs.Common.{◌∙◌, sym, ap, subst, arith, append_assoc, append-nil}
 use Rattle.kernel_code.specs.declared.syntax.Arr.TheVariants.{Values}
@@ -14,17 +14,15 @@ use Rattle.level_core.specs.declared.arrays.LevelArray.TheVariants.{Dimension as
 use Rattle.level_core.specs.declared.arrays.LevelArray.TheVariants.{Coordinates as OfCoordinates, Width as OfWidth}
 use Rattle.level_core.specs.Arrays.{array_of}
 use Rattle.level_core.specs.declared.letter.Letter.{Letter}
-use Rattle.level_core.specs.declared.letter.Letter.TheVariants.{Dense, Compressed, CompressedGroups, Singleton, SingletonGroups, Hashed}
 use Rattle.level_core.specs.Kinds.{properties, parents_below, zeros_at_start}
+use Rattle.level_core.proofs.KindLaws.{no_size as no_array}
 
 -- no range of a level is made
 pub no_size : (letter : Letter) (parents count : ℕ) → zeros_at_start letter OfSize parents ≡ Some count → ⊥
-no_size Dense parents count h = cc
-no_size Compressed parents count h = cc
-no_size CompressedGroups parents count h = cc
-no_size Singleton parents count h = cc
-no_size SingletonGroups parents count h = cc
-no_size Hashed parents count h = cc
+no_size letter parents count made = some_none (sym made ∙ no_array letter parents)
+  where
+    some_none : Some count ≡ None → ⊥
+    some_none h = cc
 
 -- what is made may be written
 pub writable : (letter : Letter) (array : LevelArray) (parents level count : ℕ) → zeros_at_start letter array parents ≡ Some count

@@ -1,5 +1,5 @@
 -- The code of a level that is appended to.
-use Rattle.std.specs.Prelude.{◌≡◌, ℕ, suc, ◌+◌, ◌*◌, ◌≤◌, true, false, if◌then◌else◌, List, [], ◌∷◌, ◌++◌, drop, refl}
+use Rattle.std.specs.Prelude.{◌≡◌, ℕ, suc, ◌+◌, ◌*◌, ◌≤◌, true, if◌then◌else◌, List, [], ◌∷◌, ◌++◌, drop, refl}
 use Rattle.std.proofs.Common.{◌∙◌, sym, ap, subst, arith, inl}
 use Rattle.limits.specs.Limits.{greatest_position_count}
 use Rattle.kernel_code.specs.Does.{Does}
@@ -14,33 +14,26 @@ use Rattle.kernel_code.specs.declared.syntax.KStmt.{KStmt, Set}
 use Rattle.kernel_code.specs.declared.syntax.LoopKind.{LoopKind}
 use Rattle.kernel_code.specs.declared.syntax.LoopKind.TheVariants.{Drain}
 use Rattle.level_core.specs.declared.letter.Letter.{Letter}
-use Rattle.level_core.specs.declared.letter.Letter.TheVariants.{Dense, Compressed, CompressedGroups, Singleton, SingletonGroups, Hashed}
 use Rattle.level_core.specs.Fragments.{PassesLimitWithin, RefusedWithin, turns_of}
-use Rattle.level_core.specs.Kinds.{properties, capabilities}
+use Rattle.level_core.specs.Kinds.{capabilities}
 use Rattle.level_core.specs.Laws.{HoldsStart, HoldsFinished}
 use Rattle.level_rows.specs.Rows.{Rows, begun, MayAppendRows}
 use Rattle.level_rows.specs.Draining.{Stays, IsGiven, LeavesDrained, DrainsRows}
 use Rattle.level_rows.specs.Filling.{AreNeeded, FillsRows}
 use Rattle.level_rows.proofs.RowLaws.{begun_few}
+use Rattle.level_core.proofs.KindLaws.{appended_stored}
 use Rattle.tensor_storage.specs.Chains.{chain_length}
 use Rattle.tensor_storage.specs.Levels.{meaning}
 use Rattle.tensor_storage.specs.Tables.{Table}
+use Rattle.tensor_storage.proofs.Steps.{new_is, new_level}
 use Rattle.tensor_storage.proofs.Tables.{apart}
 use Rattle.kernel_correctness.specs.Results.{summed}
 use Rattle.result_assembly.specs.Drained.{passes_at, MayDrain, AreDrained, LeavesLevel, RefusesLevel}
 use Rattle.result_assembly.specs.Tests.{begins_test}
-use Rattle.result_assembly.proofs.Holding.{finished_summed, is_new, new_of}
+use Rattle.result_assembly.proofs.Holding.{finished_summed}
 use Rattle.result_assembly.proofs.Steps.{size_here, rows_here, few_rows, few_words, begun_here, fill_here, first_told, coord_told}
 use Rattle.result_assembly.proofs.Steps.{told_here, packed_here, drained_here}
 use Rattle.result_assembly.proofs.Turns.{pass_here, counted_at_most, counted_few, counted_above}
-
-appended_sparse : (letter : Letter) → (capabilities letter).append ≡ true → (properties letter).full ≡ false
-appended_sparse Dense h = apart (sym h)
-appended_sparse Compressed h = refl
-appended_sparse CompressedGroups h = refl
-appended_sparse Singleton h = refl
-appended_sparse SingletonGroups h = refl
-appended_sparse Hashed h = apart (sym h)
 
 module _ (letters rest : List Letter) (letter : Letter) (w g d n base : ℕ) (count : KExpr) (code : List KStmt)
     (left : drop d letters ≡ letter ∷ rest) (through : n ≡ d + chain_length (letter ∷ rest)) (able : (capabilities letter).append ≡ true)
@@ -64,7 +57,7 @@ module _ (letters rest : List Letter) (letter : Letter) (w g d n base : ℕ) (co
     appended = λ is. (refl, refl);
     inserted = λ no. apart (sym able_here ∙ no);
     greatest = λ no sparse. apart (sym able_here ∙ no);
-    full = λ is. apart (sym is ∙ appended_sparse (meaning.kind start.start) able_here);
+    full = λ is. apart (sym is ∙ appended_stored (meaning.kind start.start) able_here);
   }
     where
       able_here : (capabilities (meaning.kind start.start)).append ≡ true
@@ -93,12 +86,12 @@ module _ (letters rest : List Letter) (letter : Letter) (w g d n base : ℕ) (co
 
   may_append : MayAppendRows letter (meaning.size start.start) dr.parents rows
   may_append =
-      let new = is_new letter size in
+      let new = new_is letter size in
       let f = (fill_here letters rest letter w g d n count left through nothing sizes table may s dr).appends
       (ap (λ k. (capabilities k).append) new.kind ∙ able) in
       subst (λ m. MayAppendRows letter m dr.parents rows) (sym start.size)
       (subst (λ m. MayAppendRows letter m dr.parents rows) new.size_is
-      (subst (λ k. MayAppendRows k (meaning.size (new_of letter size)) dr.parents rows) new.kind f.0))
+      (subst (λ k. MayAppendRows k (meaning.size (new_level letter size)) dr.parents rows) new.kind f.0))
 
   -- the state that is left, once the number of positions stands in its variable
   after : (t : State) → LeavesDrained meaning start.start (suc d) g (base + 1) dr.parents rows s t
@@ -109,7 +102,7 @@ module _ (letters rest : List Letter) (letter : Letter) (w g d n base : ℕ) (co
         (packed_here letters rest letter w g d n count left through nothing sizes table may s dr start.start start.kind start.size needed
         needed need l.positions done.done few fills)
         few (this_var t base needed) done.held l.places
-        (subst (λ b. (if b then dr.starts * size else 0) ≤ needed) (sym (appended_sparse letter able)) (omega arith));
+        (subst (λ b. (if b then dr.starts * size else 0) ≤ needed) (sym (appended_stored letter able)) (omega arith));
     probes = 0;
     leaves = record {
       below = λ y less no. (leaves_set NoVariable (Stays (suc d) g) base (turns_of Drain rows.count) s t base needed

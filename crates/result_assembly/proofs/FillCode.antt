@@ -1,5 +1,5 @@
 -- The code of a hashed level that is the last, and of the values.
-use Rattle.std.specs.Prelude.{◌≡◌, ◌≢◌, ℕ, zero, suc, ◌+◌, ◌*◌, ◌≤◌, ◌<◌, nat_le, Bool, true, false, List, [], ◌∷◌, ◌++◌, length, drop}
+use Rattle.std.specs.Prelude.{◌≡◌, ◌≢◌, ℕ, zero, suc, ◌+◌, ◌*◌, ◌≤◌, ◌<◌, nat_le, Bool, true, false, if◌then◌else◌, List, [], ◌∷◌, ◌++◌, length, drop}
 use Rattle.std.specs.Prelude.{replicate, slice_index, not, Some, refl}
 use Rattle.std.proofs.Common.{◌∙◌, sym, ap, subst, arith}
 use Rattle.std.proofs.lemmas.Bool.Decides.{nat_tests}
@@ -20,11 +20,11 @@ use Rattle.kernel_code.specs.declared.syntax.KStmt.{KStmt, Set, Extend}
 use Rattle.kernel_code.specs.declared.syntax.LoopKind.{LoopKind}
 use Rattle.kernel_code.specs.declared.syntax.Op.TheVariants.{Mul}
 use Rattle.level_core.specs.declared.letter.Letter.{Letter}
-use Rattle.level_core.specs.declared.letter.Letter.TheVariants.{Hashed}
 use Rattle.level_core.specs.Codes.{PrepareCode, InsertCode, HoldsPrepared}
 use Rattle.level_core.specs.Fragments.{IsOutside}
-use Rattle.level_core.specs.Kinds.{properties, capabilities, MayPrepare}
+use Rattle.level_core.specs.Kinds.{properties, capabilities, positions_for, MayPrepare}
 use Rattle.level_core.specs.Laws.{HoldsStart}
+use Rattle.level_core.proofs.KindLaws.{are_of_a_kind}
 use Rattle.level_rows.specs.Counting.{LeavesGreatest, FindsGreatest}
 use Rattle.level_rows.specs.Draining.{Stays}
 use Rattle.level_rows.specs.Placing.{insert_turns, LeavesPlaced}
@@ -40,30 +40,36 @@ use Rattle.tensor_storage.specs.Laws.{laws}
 use Rattle.tensor_storage.specs.Levels.{meaning}
 use Rattle.tensor_storage.specs.Tables.{Table, agree}
 use Rattle.tensor_storage.proofs.Tables.{apart, agree_tells}
-use Rattle.result_assembly.specs.Drained.{HasWords, MayDrain, AreDrained, RefusesLevel, passes_at}
+use Rattle.result_assembly.specs.Drained.{IsCounted, HasWords, MayDrain, AreDrained, RefusesLevel, passes_at}
 use Rattle.result_assembly.specs.Filling.{fill_rows_code, without_values, LeavesFilled}
 use Rattle.result_assembly.specs.Tests.{begins_test}
 use Rattle.result_assembly.proofs.FillSteps.{LeavesRows, rows_filled}
-use Rattle.result_assembly.proofs.HashedCode.{rows, counts, total, few_most, total_told, counted, drained_then}
+use Rattle.result_assembly.proofs.CountedCode.{rows, counts, total, few_most, total_told, counted, slots, drained_then}
 use Rattle.result_assembly.proofs.Holding.{level_beside}
+use Rattle.result_assembly.proofs.KindLaws.{counted_never, counted_unordered}
 use Rattle.result_assembly.proofs.Inserted.{start, needed, needed_is, refused_at, may_insert, after}
 use Rattle.result_assembly.proofs.Lists.{drop_rest}
 use Rattle.result_assembly.proofs.Steps.{few_words}
 use Rattle.result_assembly.proofs.Stepwise.{values_upto, upto_stored}
 use Rattle.result_assembly.proofs.Turns.{times_of, two_here, counted_then_placed}
 
+-- the last level is a chain by itself, where each coordinate stands once
+pub one_chain : (letter : Letter) → IsCounted letter → chain_length (letter ∷ []) ≡ 1
+one_chain letter counted =
+    ap (λ unique. if unique then 1 else chain_length [] + 1) ((are_of_a_kind letter).inserted_unique counted.inserted)
+
 some_same : {X : Type 0} (x y : X) → Some x ≡ Some y → x ≡ y
 some_same x y h = cc
 
-module _ (letters : List Letter) (w g d n base : ℕ) (count : KExpr) (bounded : Below base count)
-    (left : drop d letters ≡ Hashed ∷ []) (through : n ≡ d + chain_length (Hashed ∷ [])) (nothing : ℕ) (sizes : List ℕ) (table : Table)
+module _ (letters : List Letter) (letter : Letter) (slotted : IsCounted letter) (w g d n base : ℕ) (count : KExpr)
+    (bounded : Below base count) (left : drop d letters ≡ letter ∷ []) (through : n ≡ d + chain_length (letter ∷ [])) (nothing : ℕ) (sizes : List ℕ) (table : Table)
     (may : MayDrain letters sizes table) (s : State) (dr : AreDrained nothing letters sizes table w g d count s) where
   abbrev rows_now : Rows
-  rows_now = rows letters [] w g d n base count bounded left through nothing sizes table may s dr
+  rows_now = rows letters [] letter slotted w g d n base count bounded left through nothing sizes table may s dr
 
   all_levels : length letters ≡ suc d
   all_levels =
-      let r = drop_rest letters d Hashed [] left in
+      let r = drop_rest letters d letter [] left in
       let less = r.0 in
       let none = ap length r.1 in
       let there = rest_many letters d less in
@@ -85,7 +91,8 @@ module _ (letters : List Letter) (w g d n base : ℕ) (count : KExpr) (bounded :
           let inside = b.1 in
           let all = all_levels in
           let less = b.3 in
-          let equal = agree_tells table.coords n i (suc i) same b.0 (omega (arith, inside, all, through)) in
+          let alone = one_chain letter slotted in
+          let equal = agree_tells table.coords n i (suc i) same b.0 (omega (arith, inside, all, through, alone)) in
           omega (arith, less, equal)
 
       by : (b : Bool) → agree table.coords n i (suc i) ≡ b → not (agree table.coords n i (suc i)) ≡ true
@@ -94,36 +101,43 @@ module _ (letters : List Letter) (w g d n base : ℕ) (count : KExpr) (bounded :
 
   module _ (t : State) (l : LeavesGreatest (base + 1) rows_now s t) where
     abbrev width_all : ℕ
-    width_all = total letters [] w g d n base count bounded left through nothing sizes table may s dr t l
+    width_all = total letters [] letter slotted w g d n base count bounded left through nothing sizes table may s dr t l
 
     abbrev sized : State
     sized = set_var t base width_all
 
     abbrev drained_now : AreDrained nothing letters sizes table w g d count sized
-    drained_now = drained_then letters [] w g d n base count bounded left through nothing sizes table may s dr t l
+    drained_now = drained_then letters [] letter slotted w g d n base count bounded left through nothing sizes table may s dr t l
 
     abbrev most_is : KExpr
     most_is = Var (base + 1 + 2)
 
-    start_now : HoldsStart meaning Hashed (slice_index sizes d) drained_now.starts 0 (suc d) sized.arrays
-    start_now = start letters [] Hashed w g d n base count most_is left through refl nothing sizes table may sized drained_now l.most
+    start_now : HoldsStart meaning letter (slice_index sizes d) drained_now.starts 0 (suc d) sized.arrays
+    start_now = start letters [] letter w g d n base count most_is left through (counted_never letter slotted) nothing sizes table may sized drained_now l.most
 
     abbrev old : StorageLevel
-    old = (start letters [] Hashed w g d n base count most_is left through refl nothing sizes table may sized drained_now l.most).start
+    old = (start letters [] letter w g d n base count most_is left through (counted_never letter slotted) nothing sizes table may sized drained_now l.most).start
 
-    old_kind : meaning.kind old ≡ Hashed
-    old_kind = (start letters [] Hashed w g d n base count most_is left through refl nothing sizes table may sized drained_now l.most).kind
+    old_kind : meaning.kind old ≡ letter
+    old_kind = (start letters [] letter w g d n base count most_is left through (counted_never letter slotted) nothing sizes table may sized drained_now l.most).kind
 
     abbrev needed_now : ℕ
-    needed_now = needed letters [] Hashed w g d n base count most_is left through refl nothing sizes table may sized drained_now l.most
-        (λ sparse. l.greatest) (λ full. apart (sym full))
+    needed_now = needed letters [] letter w g d n base count most_is left through (counted_never letter slotted) nothing sizes table may sized drained_now l.most
+        (λ sparse. l.greatest) (λ full. apart (sym full ∙ slotted.stored))
 
     needed_told : needed_now ≡ dr.parents * slot_width l.most
-    needed_told = needed_is letters [] Hashed w g d n base count most_is left through refl nothing sizes table may sized drained_now l.most
-        (λ sparse. l.greatest) (λ full. apart (sym full))
+    needed_told = needed_is letters [] letter w g d n base count most_is left through (counted_never letter slotted) nothing sizes table may sized drained_now l.most
+        (λ sparse. l.greatest) (λ full. apart (sym full ∙ slotted.stored))
+        ∙ slots letters [] letter slotted w g d n base count bounded left through nothing sizes table may s dr t l
 
     counted_now : dr.parents * slot_width l.most ≤ greatest_position_count → width_all ≡ dr.parents * slot_width l.most
-    counted_now = counted letters [] w g d n base count bounded left through nothing sizes table may s dr t l
+    counted_now = counted letters [] letter slotted w g d n base count bounded left through nothing sizes table may s dr t l
+
+    counted_of_kind : positions_for letter (slice_index sizes d) dr.parents l.most ≤ greatest_position_count
+        → width_all ≡ positions_for letter (slice_index sizes d) dr.parents l.most
+    counted_of_kind h =
+        let as_many = slots letters [] letter slotted w g d n base count bounded left through nothing sizes table may s dr t l in
+        counted_now (subst (λ k. k ≤ greatest_position_count) as_many h) ∙ sym as_many
 
     stands : sized.vars base ≡ Some width_all
     stands = this_var t base width_all
@@ -136,15 +150,15 @@ module _ (letters : List Letter) (w g d n base : ℕ) (count : KExpr) (bounded :
     enough sparse p less = l.greatest.upto p
 
     may_fill_rows : MayInsertRows (meaning.size old) dr.parents rows_now
-    may_fill_rows = may_insert letters [] Hashed w g d n base count most_is left through refl nothing sizes table may sized drained_now
-        l.most (λ sparse. l.greatest) (λ full. apart (sym full))
+    may_fill_rows = may_insert letters [] letter w g d n base count most_is left through (counted_never letter slotted) nothing sizes table may sized drained_now
+        l.most (λ sparse. l.greatest) (λ full. apart (sym full ∙ slotted.stored))
 
     can : MayPrepare (meaning.kind old) (meaning.width old) l.most
     can = record {
-      able = ap (λ k. (capabilities k).insert) old_kind;
-      unprepared = (start letters [] Hashed w g d n base count most_is left through refl nothing sizes table may sized drained_now
+      able = ap (λ k. (capabilities k).insert) old_kind ∙ slotted.inserted;
+      unprepared = (start letters [] letter w g d n base count most_is left through (counted_never letter slotted) nothing sizes table may sized drained_now
           l.most).width;
-      coordinates = few_most letters [] w g d n base count bounded left through nothing sizes table may s dr t l;
+      coordinates = few_most letters [] letter slotted w g d n base count bounded left through nothing sizes table may s dr t l;
     }
 
     -- once the level is prepared
@@ -169,7 +183,7 @@ module _ (letters : List Letter) (w g d n base : ℕ) (count : KExpr) (bounded :
 
       begun : Inserting meaning dr.parents l.most 0 0 rows_now dr.positions old h.left
       begun = begins meaning laws dr.parents l.most rows_now old may_fill_rows enough dr.positions h.left
-          (start letters [] Hashed w g d n base count most_is left through refl nothing sizes table may sized drained_now l.most).keeps
+          (start letters [] letter w g d n base count most_is left through (counted_never letter slotted) nothing sizes table may sized drained_now l.most).keeps
           can fits h.prepared dr.packed.many (λ i less. refl)
 
       held_now : meaning.holds h.left 0 (suc d) zeroed.arrays
@@ -180,12 +194,12 @@ module _ (letters : List Letter) (w g d n base : ℕ) (count : KExpr) (bounded :
       key_words = dr.rows.key d (let all = all_levels in omega (arith, all))
 
       fills : (insert : List KStmt)
-          → InsertCode meaning Hashed 0 (suc d) (Var (base + 1 + 4) ∷ At (Key w d) (Var (base + 1)) ∷ []) (base + 1 + 6) insert
+          → InsertCode meaning letter 0 (suc d) (Var (base + 1 + 4) ∷ At (Key w d) (Var (base + 1)) ∷ []) (base + 1 + 6) insert
           → (c : Setting)
           → Does c (fill_rows_code (base + 1) w g insert) zeroed
           (LeavesRows old (suc d) g (base + 1) dr.parents l.most nothing width_all rows_now table.values zeroed) Never
       fills insert code c =
-          rows_filled c (suc d) d (base + 1) w g dr.parents l.most nothing width_all insert rows_now table.values old zeroed code old_kind
+          rows_filled c (suc d) d (base + 1) w g dr.parents l.most nothing width_all insert rows_now table.values old zeroed letter slotted code old_kind
           may_fill_rows enough each_first
           (record {
             words = key_words.words;
@@ -199,7 +213,7 @@ module _ (letters : List Letter) (w g d n base : ℕ) (count : KExpr) (bounded :
             many = dr.rows.sums.many;
             are = dr.rows.sums.are;
           })
-          (few_words letters [] Hashed w g d n count left through nothing sizes table may s dr) total_is h.left dr.positions begun held_now
+          (few_words letters [] letter w g d n count left through nothing sizes table may s dr) total_is h.left dr.positions begun held_now
           (kept_here (ListPositions g) (λ of. of) refl ∙ dr.places)
           (this_array v (Values 0) (Values 0) (replicate width_all nothing) (same_arr_self (Values 0)))
 
@@ -235,8 +249,8 @@ module _ (letters : List Letter) (w g d n base : ℕ) (count : KExpr) (bounded :
 
         abbrev drained_all : AreDrained nothing letters sizes table w g (suc d) (Var base) (without_values u)
         drained_all =
-            after letters [] Hashed w g d n base count most_is left through refl nothing sizes table may sized drained_now l.most
-            (λ sparse. l.greatest) (λ full. apart (sym full)) width_all stands counted_now (without_values u) placed
+            after letters [] letter w g d n base count most_is left through (counted_never letter slotted) nothing sizes table may sized drained_now l.most
+            (λ sparse. l.greatest) (λ full. apart (sym full ∙ slotted.stored)) width_all stands counted_of_kind (without_values u) placed
 
         positions_same : r.positions ≡ drained_all.positions
         positions_same = some_same r.positions drained_all.positions (sym placed.places ∙ drained_all.places)
@@ -248,7 +262,7 @@ module _ (letters : List Letter) (w g d n base : ℕ) (count : KExpr) (bounded :
         distinct : (i j : ℕ) → i < j → j < table.count → slice_index drained_all.positions i ≢ slice_index drained_all.positions j
         distinct =
             let p = drained_all.packed in
-            let behind : drop (suc d) letters ≡ [] = sym (drop_rest letters d Hashed [] left).1 in
+            let behind : drop (suc d) letters ≡ [] = sym (drop_rest letters d letter [] left).1 in
             let ended : p.groups ≡ false = subst (Chained p.groups) behind p.chained in
             let all = all_levels in
             places_apart table.coords (length letters) table.count drained_all.parents (slice_index drained_all.positions) may.order
@@ -279,7 +293,7 @@ module _ (letters : List Letter) (w g d n base : ℕ) (count : KExpr) (bounded :
             arrays = λ a st. r.leaves.arrays a st ∙ other_array v (Values 0) a (replicate width_all nothing) st.1
                 ∙ kept.arrays a st.0.0 ∙ l.leaves.arrays a tt;
             turns = λ k. counted_then_placed (s.turns k) (t.turns k) (u.turns k) (passes_at letters d) table.count
-                (slot_width l.most) k (two_here letters [] d table.count left) (l.leaves.turns k) (turns_made k);
+                (slot_width l.most) k (two_here letters [] letter d table.count (counted_unordered letter slotted) left) (l.leaves.turns k) (turns_made k);
           };
         }
 
@@ -292,7 +306,7 @@ module _ (letters : List Letter) (w g d n base : ℕ) (count : KExpr) (bounded :
           apart (sym is ∙ e)
 
       fills_all : (insert : List KStmt)
-          → InsertCode meaning Hashed 0 (suc d) (Var (base + 1 + 4) ∷ At (Key w d) (Var (base + 1)) ∷ []) (base + 1 + 6) insert
+          → InsertCode meaning letter 0 (suc d) (Var (base + 1 + 4) ∷ At (Key w d) (Var (base + 1)) ∷ []) (base + 1 + 6) insert
           → (c : Setting)
           → Does c (Extend (Values 0) (Var base) (Num nothing) ∷ fill_rows_code (base + 1) w g insert) v
           (LeavesFilled nothing letters sizes table w g d base s) (RefusesLevel letters sizes table d s)
@@ -303,8 +317,8 @@ module _ (letters : List Letter) (w g d n base : ℕ) (count : KExpr) (bounded :
           (λ no. too_many no)
 
     prepared : (prepare insert : List KStmt)
-        → PrepareCode meaning Hashed 0 (suc d) (count ∷ most_is ∷ []) (base + 1 + 6) prepare
-        → InsertCode meaning Hashed 0 (suc d) (Var (base + 1 + 4) ∷ At (Key w d) (Var (base + 1)) ∷ []) (base + 1 + 6) insert
+        → PrepareCode meaning letter 0 (suc d) (count ∷ most_is ∷ []) (base + 1 + 6) prepare
+        → InsertCode meaning letter 0 (suc d) (Var (base + 1 + 4) ∷ At (Key w d) (Var (base + 1)) ∷ []) (base + 1 + 6) insert
         → (c : Setting)
         → Does c (prepare ++ Extend (Values 0) (Var base) (Num nothing) ∷ fill_rows_code (base + 1) w g insert) sized
         (LeavesFilled nothing letters sizes table w g d base s) (RefusesLevel letters sizes table d s)
@@ -312,27 +326,27 @@ module _ (letters : List Letter) (w g d n base : ℕ) (count : KExpr) (bounded :
         does_append c prepare _ sized _ _ _
         (does_weaker c prepare sized _ _ _ _
         (prepares c old old_kind
-        (start letters [] Hashed w g d n base count most_is left through refl nothing sizes table may sized drained_now l.most).keeps
-        dr.parents l.most can (λ full. apart (sym full ∙ ap (λ k. (properties k).full) old_kind)) sized
-        (start letters [] Hashed w g d n base count most_is left through refl nothing sizes table may sized drained_now l.most).held
+        (start letters [] letter w g d n base count most_is left through (counted_never letter slotted) nothing sizes table may sized drained_now l.most).keeps
+        dr.parents l.most can (λ full. apart (sym full ∙ ap (λ k. (properties k).full) old_kind ∙ slotted.stored)) sized
+        (start letters [] letter w g d n base count most_is left through (counted_never letter slotted) nothing sizes table may sized drained_now l.most).held
         (drained_now.told, (most_told, tt)))
         (λ v z. z)
         (λ turns a k z. (
           times_of (slot_width l.most) table.count,
           (
             (λ j. counted_then_placed (s.turns j) (t.turns j) (turns j) (passes_at letters d) table.count (slot_width l.most) j
-                (two_here letters [] d table.count left) (l.leaves.turns j)
+                (two_here letters [] letter d table.count (counted_unordered letter slotted) left) (l.leaves.turns j)
                 (let none = z.0 j in omega (arith, none))),
-            refused_at letters [] Hashed w g d n base count most_is left through refl nothing sizes table may sized drained_now l.most
-                (λ sparse. l.greatest) (λ full. apart (sym full)) a k z.1,
+            refused_at letters [] letter w g d n base count most_is left through (counted_never letter slotted) nothing sizes table may sized drained_now l.most
+                (λ sparse. l.greatest) (λ full. apart (sym full ∙ slotted.stored)) a k z.1,
           ),
         )))
         (λ v z. fills_all v z.0 z.1.0 z.1.1 insert code c)
 
   pub last_filled : (greatest prepare insert : List KStmt)
       → FindsGreatest (base + 1) w g (suc d) (begins_test (base + 1) w n) greatest
-      → PrepareCode meaning Hashed 0 (suc d) (count ∷ Var (base + 1 + 2) ∷ []) (base + 1 + 6) prepare
-      → InsertCode meaning Hashed 0 (suc d) (Var (base + 1 + 4) ∷ At (Key w d) (Var (base + 1)) ∷ []) (base + 1 + 6) insert
+      → PrepareCode meaning letter 0 (suc d) (count ∷ Var (base + 1 + 2) ∷ []) (base + 1 + 6) prepare
+      → InsertCode meaning letter 0 (suc d) (Var (base + 1 + 4) ∷ At (Key w d) (Var (base + 1)) ∷ []) (base + 1 + 6) insert
       → (c : Setting)
       → Does c (greatest ++ Set base (Bin Mul count (Width (Var (base + 1 + 2))))
       ∷ (prepare ++ Extend (Values 0) (Var base) (Num nothing) ∷ fill_rows_code (base + 1) w g insert)) s
@@ -340,8 +354,8 @@ module _ (letters : List Letter) (w g d n base : ℕ) (count : KExpr) (bounded :
   last_filled greatest prepare insert finds prepares code c =
       does_append c greatest _ s (LeavesGreatest (base + 1) rows_now s) _ _
       (does_weaker c greatest s _ _ _ _
-      (finds c rows_now s (counts letters [] w g d n base count bounded left through nothing sizes table may s dr)) (λ t l. l)
+      (finds c rows_now s (counts letters [] letter slotted w g d n base count bounded left through nothing sizes table may s dr)) (λ t l. l)
       (λ turns a k never. absurd never))
       (λ t l. does_set c base (Bin Mul count (Width (Var (base + 1 + 2)))) _ t (width_all t l) _ _
-      (total_told letters [] w g d n base count bounded left through nothing sizes table may s dr t l)
+      (total_told letters [] letter slotted w g d n base count bounded left through nothing sizes table may s dr t l)
       (prepared t l prepare insert prepares code c))

@@ -1,12 +1,12 @@
 -- The loop that inserts the rows of a workspace into a hashed level, each at a position of its own, and stores their values.
-use Rattle.std.specs.Prelude.{◌≡◌, ℕ, zero, suc, ◌+◌, ◌-◌, ◌≤◌, ◌<◌, ◌^◌, true, false, List, [], ◌∷◌, length, replicate, Some}
+use Rattle.std.specs.Prelude.{◌≡◌, ℕ, zero, suc, ◌+◌, ◌-◌, ◌≤◌, ◌<◌, ◌^◌, Bool, true, false, if◌then◌else◌, List, [], ◌∷◌, length, replicate, Some}
 use Rattle.std.specs.Prelude.{slice_index, slice_set, refl}
 use Rattle.std.proofs.Common.{◌∙◌, sym, ap, subst, arith}
 use Rattle.std.proofs.lemmas.List.{get_or-set_same, get_or-set_other, length-replicate}
 use Rattle.std.proofs.lemmas.Option.{slice_get-get_or, same_Some}
 use Rattle.kernel_code.specs.Does.{Does, Never, Goes}
 use Rattle.kernel_code.proofs.Does.{does_append, does_nothing, does_put, does_set, does_while}
-use Rattle.kernel_code.specs.Keeps.{Leaves, NoVariable}
+use Rattle.kernel_code.specs.Keeps.{Leaves, NoVariable, no_turns}
 use Rattle.kernel_code.proofs.ArrayNames.{same_arr_self}
 use Rattle.kernel_code.proofs.Keeps.{this_var, other_var, this_array, other_array}
 use Rattle.kernel_code.proofs.Words.{word_is, sum_is, less_yes, less_no}
@@ -19,7 +19,7 @@ use Rattle.kernel_code.specs.declared.syntax.KStmt.{KStmt, Set, Put}
 use Rattle.kernel_code.specs.declared.syntax.LoopKind.{LoopKind}
 use Rattle.kernel_code.specs.declared.syntax.LoopKind.TheVariants.{Drain, Probe}
 use Rattle.kernel_code.specs.declared.syntax.Op.TheVariants.{Add, Less}
-use Rattle.level_core.specs.declared.letter.Letter.TheVariants.{Hashed}
+use Rattle.level_core.specs.declared.letter.Letter.{Letter}
 use Rattle.level_core.specs.Codes.{InsertCode, HoldsInserted}
 use Rattle.level_core.specs.Entries.{one}
 use Rattle.level_core.specs.Fragments.{IsOutside, probe_turns, turns_of}
@@ -32,7 +32,7 @@ use Rattle.level_rows.proofs.InsertLoop.{Inserting, allowed_next, may_insert_nex
 use Rattle.tensor_storage.specs.declared.level.StorageLevel.{StorageLevel}
 use Rattle.tensor_storage.specs.Laws.{laws}
 use Rattle.tensor_storage.specs.Levels.{meaning}
-use Rattle.result_assembly.specs.Drained.{HasWords}
+use Rattle.result_assembly.specs.Drained.{HasWords, IsCounted}
 use Rattle.result_assembly.specs.Filling.{fill_row_code, fill_rows_code}
 use Rattle.result_assembly.specs.Stored.{IsNoValue}
 use Rattle.result_assembly.proofs.Holding.{level_beside}
@@ -73,8 +73,8 @@ apart e = cc
 
 module _ (c : Setting) (level d base w g parents most nothing total : ℕ) (insert : List KStmt) (rows : Rows) (value_of : ℕ → ℕ)
     (old : StorageLevel) (s0 : State)
-    (code : InsertCode meaning Hashed 0 level (Var (base + 4) ∷ At (Key w d) (Var base) ∷ []) (base + 6) insert)
-    (kind : meaning.kind old ≡ Hashed) (may : MayInsertRows (meaning.size old) parents rows)
+    (letter : Letter) (slotted : IsCounted letter) (code : InsertCode meaning letter 0 level (Var (base + 4) ∷ At (Key w d) (Var base) ∷ []) (base + 6) insert)
+    (kind : meaning.kind old ≡ letter) (may : MayInsertRows (meaning.size old) parents rows)
     (enough : (properties (meaning.kind old)).full ≡ false → (p : ℕ) → p < parents → begun_below rows p rows.count ≤ most)
     (first : (i : ℕ) → i < rows.count → rows.first i ≡ true) (key : HasWords (Key w d) rows.count rows.coord s0.arrays)
     (sums : HasWords (Sums w) rows.count value_of s0.arrays) (few : rows.count < 2 ^ 63)
@@ -86,7 +86,7 @@ module _ (c : Setting) (level d base w g parents most nothing total : ℕ) (inse
   At_row n s = Filling old level g base parents most nothing total rows value_of s0 n s
 
   not_full : (properties (meaning.kind old)).full ≡ false
-  not_full = ap (λ k. (properties k).full) kind
+  not_full = ap (λ k. (properties k).full) kind ∙ slotted.stored
 
   rows_told : (n : ℕ) (t : State) → At_row n t → value (Len (Sums w)) t ≡ Some rows.count
   rows_told n t i = ap length_of (i.leaves.arrays (Sums w) ((λ of. of, refl), refl) ∙ sums.held) ∙ ap Some sums.many
@@ -182,9 +182,13 @@ module _ (c : Setting) (level d base w g parents most nothing total : ℕ) (inse
         let w_here = wide parent (may.within i.done inside) in
         let same : (meaning.segment_of i.l (one parent)).hi - (meaning.segment_of i.l (one parent)).lo ≡ slot_width most =
         omega (arith, w_here) in
-        subst (λ x. probe_turns x (meaning.segment_of i.l (one parent)) k ≤ turns_of Probe (slot_width most) k)
-        (sym (i.inserting.kind ∙ kind))
-        (subst (λ m. turns_of Probe m k ≤ turns_of Probe (slot_width most) k) (sym same) (omega arith))
+        subst (λ m. probe_turns (meaning.kind i.l) (meaning.segment_of i.l (one parent)) k ≤ turns_of Probe m k) same
+        (at_most ((meaning.segment_of i.l (one parent)).hi - (meaning.segment_of i.l (one parent)).lo)
+        (properties (meaning.kind i.l)).ordered)
+      where
+        at_most : (slots : ℕ) (ordered : Bool) → (if ordered then no_turns else turns_of Probe slots) k ≤ turns_of Probe slots k
+        at_most slots true = omega arith
+        at_most slots false = omega arith
 
     module _ (u : State) (kept : Leaves NoVariable (IsOutside 0 level) (base + 6)
         (probe_turns (meaning.kind i.l) (meaning.segment_of i.l (one parent))) asked u)

@@ -1,5 +1,5 @@
 -- Arrays that hold the levels of a result, and what else they hold, while one level changes.
-use Rattle.std.specs.Prelude.{◌≡◌, ◌≢◌, ℕ, suc, ◌+◌, ◌==◌, ◌≤◌, ◌<◌, Bool, true, false, if◌then◌else◌, List, [], ◌∷◌, ◌++◌, length, None}
+use Rattle.std.specs.Prelude.{◌≡◌, ◌≢◌, ℕ, suc, ◌+◌, ◌==◌, ◌≤◌, ◌<◌, true, false, if◌then◌else◌, List, [], ◌∷◌, ◌++◌, length}
 use Rattle.std.specs.Prelude.{option_map, refl}
 use Rattle.std.proofs.Common.{◌∙◌, sym, ap, subst, arith}
 use Rattle.limits.specs.Limits.{greatest_position_count}
@@ -9,23 +9,18 @@ use Rattle.kernel_code.specs.declared.syntax.Arr.{Arr}
 use Rattle.kernel_code.specs.declared.syntax.Arr.TheVariants.{Range, Values, Dimension, Ends, Coordinates, Width, Key, Sums}
 use Rattle.kernel_code.specs.declared.syntax.Arr.TheVariants.{ListCoordinates, ListPositions}
 use Rattle.level_core.specs.declared.letter.Letter.{Letter}
-use Rattle.level_core.specs.declared.letter.Letter.TheVariants.{Dense, Compressed, CompressedGroups, Singleton, SingletonGroups, Hashed}
 use Rattle.level_core.specs.Fragments.{IsOf}
 use Rattle.level_core.specs.Kinds.{capabilities, parents_below}
 use Rattle.level_core.specs.Laws.{AreAtStart, SumsUp, HoldsStart, HoldsFinished}
 use Rattle.level_core.specs.Logs.{MayFinish, running}
 use Rattle.level_core.specs.Meaning.{Arrays}
+use Rattle.level_core.proofs.KindLaws.{starts_there}
 use Rattle.level_rows.specs.Draining.{Stays}
 use Rattle.tensor_storage.specs.declared.level.StorageLevel.{StorageLevel}
-use Rattle.tensor_storage.specs.declared.level.StorageLevel.TheVariants.{Dense as OfDense, Compressed as OfCompressed}
-use Rattle.tensor_storage.specs.declared.level.StorageLevel.TheVariants.{Singleton as OfSingleton, Hashed as OfHashed}
-use Rattle.compressed_level.specs.Compressed as compressed
-use Rattle.singleton_level.specs.Singleton as singleton
-use Rattle.hashed_level.specs.Hashed as hashed
 use Rattle.tensor_storage.specs.Levels.{meaning}
 use Rattle.tensor_storage.specs.Laws.{laws}
-use Rattle.tensor_storage.specs.New.{IsNew}
-use Rattle.tensor_storage.proofs.Tables.{apart}
+use Rattle.tensor_storage.proofs.Steps.{new_level, new_is}
+use Rattle.tensor_storage.proofs.KindArms.{held_without_ends}
 use Rattle.kernel_correctness.specs.Results.{summed}
 use Rattle.kernel_correctness.specs.Stores.{AreHeld, StartsBelow}
 
@@ -105,15 +100,6 @@ held_push (n ∷ ns) k l arrays h g =
       held_push ns (suc k) l arrays h.1 (subst (λ m. meaning.holds l 0 m arrays) same g),
     )
 
-start_kept : (letter : Letter) (n parents k : ℕ) (a b : Arrays) → ((x : Arr) → IsOf 0 k x → b x ≡ a x)
-    → AreAtStart letter n parents 0 k a → AreAtStart letter n parents 0 k b
-start_kept Dense n parents k a b same h = same (Dimension 0 k) (refl, refl) ∙ h
-start_kept Compressed n parents k a b same h = (same (Ends 0 k) (refl, refl) ∙ h.0, same (Coordinates 0 k) (refl, refl) ∙ h.1)
-start_kept CompressedGroups n parents k a b same h = (same (Ends 0 k) (refl, refl) ∙ h.0, same (Coordinates 0 k) (refl, refl) ∙ h.1)
-start_kept Singleton n parents k a b same h = same (Coordinates 0 k) (refl, refl) ∙ h
-start_kept SingletonGroups n parents k a b same h = same (Coordinates 0 k) (refl, refl) ∙ h
-start_kept Hashed n parents k a b same h = (same (Width 0 k) (refl, refl) ∙ h.0, same (Coordinates 0 k) (refl, refl) ∙ h.1)
-
 -- the levels below one that changes stay as they are begun
 pub starts_kept : (nothing : ℕ) (letters : List Letter) (sizes : List ℕ) (parents k : ℕ) (a b : Arrays)
     → ((j : ℕ) (x : Arr) → k ≤ j → IsOf 0 j x → b x ≡ a x) → b (Values 0) ≡ a (Values 0)
@@ -122,7 +108,7 @@ starts_kept nothing [] [] parents k a b same values h = values ∙ h
 starts_kept nothing [] (size ∷ sizes) parents k a b same values h = values ∙ h
 starts_kept nothing (letter ∷ letters) [] parents k a b same values h = values ∙ h
 starts_kept nothing (letter ∷ letters) (size ∷ sizes) parents k a b same values h = (
-  start_kept letter size parents k a b (λ x of. same k x (omega arith) of) h.0,
+  starts_there letter size parents 0 k a b (λ x of. same k x (omega arith) of) h.0,
   starts_kept nothing letters sizes (parents_below letter size parents) (suc k) a b
       (λ j x from of. same j x (omega (arith, from)) of) values h.1,
 )
@@ -165,49 +151,17 @@ finished_summed l parents k a keeps may held =
       held = laws.held_there f.done 0 k (one_summed k a) (summed a) (summed_at k a) f.held;
     }
 
-compressed_appends : (unique : Bool) → (capabilities (compressed.letter_of unique)).append ≡ true
-compressed_appends true = refl
-compressed_appends false = refl
-
-singleton_appends : (unique : Bool) → (capabilities (singleton.letter_of unique)).append ≡ true
-singleton_appends true = refl
-singleton_appends false = refl
-
 -- a level that coordinates are inserted into has no numbers of positions
 pub inserted_summed : (l : StorageLevel) (k : ℕ) (a : Arrays) → (capabilities (meaning.kind l)).append ≡ false
     → meaning.holds l 0 k a → meaning.holds l 0 k (summed a)
-inserted_summed (OfDense n) k a never h = h
-inserted_summed (OfCompressed l) k a never h = apart (sym (compressed_appends l.unique) ∙ never)
-inserted_summed (OfSingleton l) k a never h = apart (sym (singleton_appends l.unique) ∙ never)
-inserted_summed (OfHashed l) k a never h = record { width = h.width; slots = h.slots }
+inserted_summed l k a never h =
+    held_without_ends l 0 k a (summed a) never (λ x of no. summed_at k a x of ∙ (sums_up k a).others x no) h
 
 -- a kernel begins with a level of each kind
 pub begun_level : (letter : Letter) (size parents k : ℕ) (a : Arrays) → size ≤ greatest_position_count
     → parents ≤ greatest_position_count → AreAtStart letter size parents 0 k a → HoldsStart meaning letter size parents 0 k a
-begun_level Dense size parents k a small few at = laws.starts (OfDense 0) size parents 0 k a small few at
-begun_level Compressed size parents k a small few at =
-    laws.starts (OfCompressed (compressed.fresh 0 true)) size parents 0 k a small few at
-begun_level CompressedGroups size parents k a small few at =
-    laws.starts (OfCompressed (compressed.fresh 0 false)) size parents 0 k a small few at
-begun_level Singleton size parents k a small few at =
-    laws.starts (OfSingleton (singleton.fresh 0 true)) size parents 0 k a small few at
-begun_level SingletonGroups size parents k a small few at =
-    laws.starts (OfSingleton (singleton.fresh 0 false)) size parents 0 k a small few at
-begun_level Hashed size parents k a small few at = laws.starts (OfHashed (hashed.hashed 0 [] None 0)) size parents 0 k a small few at
-
--- a level of each kind and range that is given nothing
-abbrev pub new_of : Letter → ℕ → StorageLevel
-new_of Dense n = OfDense n
-new_of Compressed n = OfCompressed (compressed.fresh n true)
-new_of CompressedGroups n = OfCompressed (compressed.fresh n false)
-new_of Singleton n = OfSingleton (singleton.fresh n true)
-new_of SingletonGroups n = OfSingleton (singleton.fresh n false)
-new_of Hashed n = OfHashed (hashed.hashed n [] None 0)
-
-pub is_new : (letter : Letter) (n : ℕ) → IsNew meaning letter n (new_of letter n)
-is_new Dense n = record { kind = refl; size_is = refl; log = λ is. apart (sym is); width = λ is. refl }
-is_new Compressed n = record { kind = refl; size_is = refl; log = λ is. refl; width = λ is. refl }
-is_new CompressedGroups n = record { kind = refl; size_is = refl; log = λ is. refl; width = λ is. refl }
-is_new Singleton n = record { kind = refl; size_is = refl; log = λ is. refl; width = λ is. refl }
-is_new SingletonGroups n = record { kind = refl; size_is = refl; log = λ is. refl; width = λ is. refl }
-is_new Hashed n = record { kind = refl; size_is = refl; log = λ is. apart (sym is); width = λ is. refl }
+begun_level letter size parents k a small few at =
+    let is = (new_is letter 0).kind in
+    subst (λ kind. HoldsStart meaning kind size parents 0 k a) is
+    (laws.starts (new_level letter 0) size parents 0 k a small few
+    (subst (λ kind. AreAtStart kind size parents 0 k a) (sym is) at))

@@ -2,7 +2,6 @@
 use Rattle.std.specs.Prelude.{◌≡◌, ◌⊎◌, ℕ, zero, suc, ◌+◌, ◌≤◌, ◌<◌, ◌==◌, ◌&&◌, Bool, true, false, if◌then◌else◌, List, ◌∷◌}
 use Rattle.std.specs.Prelude.{drop, slice_index, Some, refl}
 use Rattle.std.proofs.Common.{◌∙◌, sym, ap, subst, arith, inl, inr}
-use Rattle.std.proofs.Math.Nat.{mul-le-mul_right}
 use Rattle.limits.specs.Limits.{greatest_position_count}
 use Rattle.kernel_code.specs.Does.{Does}
 use Rattle.kernel_code.proofs.Does.{does_weaker}
@@ -14,47 +13,28 @@ use Rattle.kernel_code.specs.declared.syntax.Arr.TheVariants.{Key}
 use Rattle.kernel_code.specs.declared.syntax.KExpr.{KExpr, Var, At}
 use Rattle.kernel_code.specs.declared.syntax.KStmt.{KStmt}
 use Rattle.level_core.specs.declared.letter.Letter.{Letter}
-use Rattle.level_core.specs.declared.letter.Letter.TheVariants.{Dense, Compressed, CompressedGroups, Singleton, SingletonGroups, Hashed}
 use Rattle.level_core.specs.Entries.{one}
 use Rattle.level_core.specs.Fragments.{PassesLimitWithin, RefusedWithin}
-use Rattle.level_core.specs.Kinds.{properties, capabilities, positions_for, parents_below}
+use Rattle.level_core.specs.Kinds.{properties, capabilities, positions_for}
 use Rattle.level_core.specs.Laws.{HoldsStart}
 use Rattle.level_rows.specs.Rows.{Rows, begun_below, IsGreatestBelow, MayInsertRows}
 use Rattle.level_rows.specs.Draining.{Stays}
 use Rattle.level_rows.specs.Placing.{insert_turns, MayPlace, LeavesPlaced, PlacesRows}
 use Rattle.level_rows.specs.Filling.{AreNeeded, FillsRows}
+use Rattle.level_core.proofs.KindLaws.{inserted_else, no_positions, starts_within}
 use Rattle.tensor_storage.specs.Chains.{chain_length}
 use Rattle.tensor_storage.specs.Counts.{positions_from}
 use Rattle.tensor_storage.specs.Laws.{laws}
 use Rattle.tensor_storage.specs.Levels.{meaning}
 use Rattle.tensor_storage.specs.Tables.{Table}
+use Rattle.tensor_storage.proofs.Steps.{new_is}
 use Rattle.tensor_storage.proofs.Tables.{apart}
 use Rattle.result_assembly.specs.Drained.{MayDrain, AreDrained, PassesAt}
 use Rattle.result_assembly.specs.Tests.{begins_test}
-use Rattle.result_assembly.proofs.Holding.{inserted_summed, is_new}
-use Rattle.result_assembly.proofs.KindLaws.{inserted_able}
+use Rattle.result_assembly.proofs.Holding.{inserted_summed}
 use Rattle.result_assembly.proofs.Steps.{size_here, rows_here, few_words, begun_here, fill_here, first_told, coord_told}
 use Rattle.result_assembly.proofs.Steps.{told_here, packed_here, drained_here}
 use Rattle.result_assembly.proofs.Turns.{counted_few, counted_above}
-
--- where there are no parents there are no positions
-no_parents : (letter : Letter) (size most : ℕ) → positions_for letter size 0 most ≡ 0
-no_parents Dense size most = omega arith
-no_parents Compressed size most = refl
-no_parents CompressedGroups size most = refl
-no_parents Singleton size most = refl
-no_parents SingletonGroups size most = refl
-no_parents Hashed size most = omega arith
-
--- the positions with which a kernel begins are among those that the rows need
-begun_within : (letter : Letter) (size starts parents most : ℕ) → starts ≤ parents
-    → parents_below letter size starts ≤ positions_for letter size parents most
-begun_within Dense size starts parents most h = mul-le-mul_right size h
-begun_within Compressed size starts parents most h = omega arith
-begun_within CompressedGroups size starts parents most h = omega arith
-begun_within Singleton size starts parents most h = omega arith
-begun_within SingletonGroups size starts parents most h = omega arith
-begun_within Hashed size starts parents most h = omega arith
 
 one_more_at_most : (b : Bool) (x n : ℕ) → x ≤ n → (if b then x + 1 else x) ≤ suc n
 one_more_at_most true x n h = omega (arith, h)
@@ -119,7 +99,7 @@ module _ (letters rest : List Letter) (letter : Letter) (w g d n base : ℕ) (co
 
     pub may_insert : MayInsertRows (meaning.size start.start) dr.parents rows
     may_insert =
-        let new = is_new letter size in
+        let new = new_is letter size in
         let f = (fill_here letters rest letter w g d n count left through nothing sizes table may s dr).inserts
         (ap (λ k. (capabilities k).append) new.kind ∙ able) in
         subst (λ m. MayInsertRows m dr.parents rows) (sym start.size)
@@ -157,7 +137,7 @@ module _ (letters rest : List Letter) (letter : Letter) (w g d n base : ℕ) (co
             ∙ ap Some (counted (let same = needed_is in let f = fits in omega (arith, same, f)) ∙ sym needed_is))
             (inserted_summed l.left (suc d) t.arrays (ap (λ k. (capabilities k).append) l.inserted.takes.kind ∙ unable) l.held)
             l.places
-            (let b = begun_within letter size dr.starts dr.parents most dr.begun in let same = needed_is in omega (arith, b, same))
+            (let b = starts_within letter size dr.starts dr.parents most dr.begun in let same = needed_is in omega (arith, b, same))
           where
             -- each parent's positions are within the limit
             fits : needed ≤ greatest_position_count
@@ -166,7 +146,7 @@ module _ (letters rest : List Letter) (letter : Letter) (w g d n base : ℕ) (co
                 by_parents : (p : ℕ) → dr.parents ≡ p → needed ≤ greatest_position_count
                 by_parents zero is =
                     let empty = ap (λ p. positions_for (meaning.kind start.start) (meaning.size start.start) p most) is
-                    ∙ no_parents (meaning.kind start.start) (meaning.size start.start) most in omega (arith, empty)
+                    ∙ no_positions (meaning.kind start.start) (meaning.size start.start) most in omega (arith, empty)
                 by_parents (suc q) is =
                     let stored = l.inserted.takes.stored in
                     let end = stored.ends q (omega (arith, is)) in
@@ -189,7 +169,7 @@ module _ (letters rest : List Letter) (letter : Letter) (w g d n base : ℕ) (co
             does_weaker c code s _ _ _ _
             (places c start.start start.kind start.keeps rows dr.parents most
             (record {
-              able = ap (λ k. (capabilities k).insert) start.kind ∙ inserted_able letter able;
+              able = ap (λ k. (capabilities k).insert) start.kind ∙ inserted_else letter able;
               unprepared = start.width;
               coordinates = few;
             })

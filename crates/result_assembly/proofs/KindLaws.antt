@@ -1,47 +1,35 @@
--- What the table of kinds says of the kinds that coordinates are inserted into: one is full, and the coordinates of the others are
+-- What the tables of kinds say of the kinds that coordinates are inserted into: some are full, and the coordinates of the others are
 -- counted.
-use Rattle.std.specs.Prelude.{◌≡◌, ℕ, zero, suc, true, false, List, [], ◌∷◌, length, Some, refl}
-use Rattle.std.proofs.Common.{sym, ap, subst, arith, get_or}
+use Rattle.std.specs.Prelude.{◌≡◌, ℕ, zero, suc, true, false, List, [], ◌∷◌, length, Some}
+use Rattle.std.proofs.Common.{◌∙◌, sym, ap, subst, arith, get_or}
 use Rattle.format_spec.specs.declared.format.FormatLevel.{FormatLevel}
 use Rattle.format_spec.specs.Formats.{letters_of}
 use Rattle.level_core.specs.declared.letter.Letter.{Letter}
-use Rattle.level_core.specs.declared.letter.Letter.TheVariants.{Dense, Compressed, CompressedGroups, Singleton, SingletonGroups, Hashed}
 use Rattle.level_core.specs.Kinds.{properties, capabilities}
-use Rattle.tensor_storage.proofs.Tables.{apart}
+use Rattle.level_core.proofs.KindLaws.{are_of_a_kind, inserted_is_hashed, unordered_stored}
 use Rattle.result_assembly.specs.Drained.{IsCounted, IsAboveLast}
 
-pub counted_is : (letter : Letter) → IsCounted letter → letter ≡ Hashed
-counted_is Dense c = apart c.stored
-counted_is Compressed c = apart (sym c.inserted)
-counted_is CompressedGroups c = apart (sym c.inserted)
-counted_is Singleton c = apart (sym c.inserted)
-counted_is SingletonGroups c = apart (sym c.inserted)
-counted_is Hashed c = refl
+-- coordinates that are counted aren't appended, and have no order
+pub counted_never : (letter : Letter) → IsCounted letter → (capabilities letter).append ≡ false
+counted_never letter counted = (are_of_a_kind letter).not_both counted.inserted
 
-pub full_is : (letter : Letter) → (properties letter).full ≡ true → letter ≡ Dense
-full_is Dense h = refl
-full_is Compressed h = apart (sym h)
-full_is CompressedGroups h = apart (sym h)
-full_is Singleton h = apart (sym h)
-full_is SingletonGroups h = apart (sym h)
-full_is Hashed h = apart (sym h)
+pub counted_unordered : (letter : Letter) → IsCounted letter → (properties letter).ordered ≡ false
+counted_unordered letter counted = (are_of_a_kind letter).inserted_unordered counted.inserted counted.stored
 
-pub inserted_able : (letter : Letter) → (capabilities letter).append ≡ false → (capabilities letter).insert ≡ true
-inserted_able Dense h = refl
-inserted_able Compressed h = apart h
-inserted_able CompressedGroups h = apart h
-inserted_able Singleton h = apart h
-inserted_able SingletonGroups h = apart h
-inserted_able Hashed h = refl
+pub full_never : (letter : Letter) → (properties letter).full ≡ true → (capabilities letter).append ≡ false
+full_never letter full = (are_of_a_kind letter).not_both ((are_of_a_kind letter).full_inserted full)
+
+-- one kind alone is counted
+pub one_counted : (letter other : Letter) → IsCounted letter → IsCounted other → letter ≡ other
+one_counted letter other counted too =
+    inserted_is_hashed letter counted.inserted counted.stored ∙ sym (inserted_is_hashed other too.inserted too.stored)
 
 -- the coordinates of levels without order are counted
 pub unordered_counted : (letter : Letter) → (properties letter).ordered ≡ false → IsCounted letter
-unordered_counted Dense h = apart h
-unordered_counted Compressed h = apart h
-unordered_counted CompressedGroups h = apart h
-unordered_counted Singleton h = apart h
-unordered_counted SingletonGroups h = apart h
-unordered_counted Hashed h = record { inserted = refl; stored = refl }
+unordered_counted letter unordered = record {
+  inserted = (are_of_a_kind letter).unordered_inserted unordered;
+  stored = unordered_stored letter unordered;
+}
 
 -- the coordinates of the last level are counted
 pub counted_last : (format : List FormatLevel) (d : ℕ) (none : FormatLevel) → IsAboveLast (letters_of format) (Some d)

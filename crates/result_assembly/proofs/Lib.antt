@@ -6,8 +6,8 @@ pub mod Turns
 pub mod Steps
 pub mod Appended
 pub mod Inserted
-pub mod HashedCode
-pub mod DenseCode
+pub mod CountedCode
+pub mod FullCode
 pub mod Codes
 pub mod AllLevels
 pub mod ValueCode

@@ -30,7 +30,8 @@ use Rattle.kernel_correctness.specs.Stores.{AreHeld, StartsBelow}
 use Rattle.level_core.specs.Kinds.{parents_below}
 use Rattle.result_assembly.specs.Drained.{HasWords, HoldsTable, MayDrain, AreDrained}
 use Rattle.result_assembly.specs.Tests.{begins_test}
-use Rattle.result_assembly.proofs.Holding.{stays_other, held_along, held_push, starts_kept, begun_level, new_of, is_new}
+use Rattle.result_assembly.proofs.Holding.{stays_other, held_along, held_push, starts_kept, begun_level}
+use Rattle.tensor_storage.proofs.Steps.{new_level, new_is}
 use Rattle.result_assembly.proofs.Lists.{drop_is, drop_rest, left_long, slice_at, chain_within, as_many_columns}
 use Rattle.result_assembly.proofs.Telling.{tells_first, tells_coord}
 
@@ -86,12 +87,12 @@ module _ (letters rest : List Letter) (letter : Letter) (w g d n : ℕ) (count :
   through_as old kind = through ∙ ap (λ k. d + chain_length (k ∷ rest)) (sym kind)
 
   -- the level may be given the rows
-  pub fill_here : MayFill meaning dr.parents rows_here (new_of letter size_here)
+  pub fill_here : MayFill meaning dr.parents rows_here (new_level letter size_here)
   fill_here =
-      let new = is_new letter size_here in
+      let new = new_is letter size_here in
       may_fill meaning laws letters sizes (length letters) table may.order d n dr.levels dr.positions dr.parents size_here
-      (new_of letter size_here) rest dr.packed (left_as (new_of letter size_here) new.kind) (through_as (new_of letter size_here) new.kind)
-      below_here (subst (λ k. IsNew meaning k size_here (new_of letter size_here)) (sym new.kind) new)
+      (new_level letter size_here) rest dr.packed (left_as (new_level letter size_here) new.kind) (through_as (new_level letter size_here) new.kind)
+      below_here (subst (λ k. IsNew meaning k size_here (new_level letter size_here)) (sym new.kind) new)
 
   n_within : n ≤ length letters
   n_within =

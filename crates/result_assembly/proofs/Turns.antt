@@ -1,5 +1,5 @@
 -- Turns and counts, of whatever kind.
-use Rattle.std.specs.Prelude.{◌≡◌, ◌⊎◌, ◌*◌, ℕ, zero, suc, ◌+◌, ◌-◌, ◌≤◌, ◌<◌, true, if◌then◌else◌, List, [], ◌∷◌, length, drop}
+use Rattle.std.specs.Prelude.{◌≡◌, ◌⊎◌, ◌*◌, ℕ, zero, suc, ◌+◌, ◌-◌, ◌≤◌, ◌<◌, Bool, true, false, if◌then◌else◌, List, [], ◌∷◌, length, drop}
 use Rattle.std.specs.Prelude.{None, refl}
 use Rattle.std.proofs.Common.{◌∙◌, sym, ap, subst, arith, inl, inr}
 use Rattle.std.proofs.lemmas.Bool.{cases_lt}
@@ -9,7 +9,6 @@ use Rattle.kernel_code.specs.Arrays.{word_count}
 use Rattle.kernel_code.specs.declared.syntax.LoopKind.{LoopKind}
 use Rattle.kernel_code.specs.declared.syntax.LoopKind.TheVariants.{Merge, Skip, Gather, Drain, Probe}
 use Rattle.level_core.specs.declared.letter.Letter.{Letter}
-use Rattle.level_core.specs.declared.letter.Letter.TheVariants.{Dense, Compressed, CompressedGroups, Singleton, SingletonGroups, Hashed}
 use Rattle.level_core.specs.Fragments.{turns_of}
 use Rattle.level_core.specs.Kinds.{properties}
 use Rattle.level_rows.specs.Placing.{times, insert_turns}
@@ -24,12 +23,11 @@ passes_here (first ∷ letters) rest letter zero h = ap (λ ls. passes_at ls 0) 
 passes_here (first ∷ letters) rest letter (suc d) h = passes_here letters rest letter d h
 
 one_pass : (letter : Letter) (rows : ℕ) → rows ≤ times (passes letter) rows
-one_pass Dense rows = omega arith
-one_pass Compressed rows = omega arith
-one_pass CompressedGroups rows = omega arith
-one_pass Singleton rows = omega arith
-one_pass SingletonGroups rows = omega arith
-one_pass Hashed rows = omega arith
+one_pass letter rows = by (properties letter).ordered
+  where
+    by : (ordered : Bool) → rows ≤ times (if ordered then 1 else 2) rows
+    by true = omega arith
+    by false = omega arith
 
 -- each level has a pass
 pub pass_here : (letters rest : List Letter) (letter : Letter) (d rows : ℕ) → drop d letters ≡ letter ∷ rest
@@ -37,12 +35,14 @@ pub pass_here : (letters rest : List Letter) (letter : Letter) (d rows : ℕ) �
 pass_here letters rest letter d rows left =
     subst (λ p. rows ≤ times p rows) (sym (passes_here letters rest letter d left)) (one_pass letter rows)
 
--- a hashed one has two
-pub two_here : (letters rest : List Letter) (d rows : ℕ) → drop d letters ≡ Hashed ∷ rest → rows + rows ≤ times (passes_at letters d) rows
-two_here letters rest d rows left =
-    subst (λ p. rows + rows ≤ times p rows) (sym (passes_here letters rest Hashed d left)) two
+-- one without order has two
+pub two_here : (letters rest : List Letter) (letter : Letter) (d rows : ℕ) → (properties letter).ordered ≡ false
+    → drop d letters ≡ letter ∷ rest → rows + rows ≤ times (passes_at letters d) rows
+two_here letters rest letter d rows unordered left =
+    subst (λ p. rows + rows ≤ times p rows) (sym (passes_here letters rest letter d left))
+    (subst (λ ordered. rows + rows ≤ times (if ordered then 1 else 2) rows) (sym unordered) two)
   where
-    two : rows + rows ≤ times (passes Hashed) rows
+    two : rows + rows ≤ times 2 rows
     two = omega arith
 
 -- a drain turn for each row is within what a level may take
@@ -114,12 +114,11 @@ fewer_turns before after each also rows probes Probe h = omega (arith, h)
 
 two_at_most : (letters : List Letter) (d : ℕ) → passes_at letters d ≤ 2
 two_at_most [] d = omega arith
-two_at_most (Dense ∷ letters) zero = omega arith
-two_at_most (Compressed ∷ letters) zero = omega arith
-two_at_most (CompressedGroups ∷ letters) zero = omega arith
-two_at_most (Singleton ∷ letters) zero = omega arith
-two_at_most (SingletonGroups ∷ letters) zero = omega arith
-two_at_most (Hashed ∷ letters) zero = omega arith
+two_at_most (letter ∷ letters) zero = by (properties letter).ordered
+  where
+    by : (ordered : Bool) → (if ordered then 1 else 2) ≤ 2
+    by true = omega arith
+    by false = omega arith
 two_at_most (letter ∷ letters) (suc d) = two_at_most letters d
 
 pub passes_at_most : (letters : List Letter) (d : ℕ) → passes_of letters d ≤ 2 * d

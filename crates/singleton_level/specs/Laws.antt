@@ -173,8 +173,8 @@ fresh_keeps n unique small = record { small = small; few = omega arith; below = 
 
 starts_empty : (unique : Bool) (n parents tensor level : ℕ) (arrays : Arrays)
     → AreAtStart (letter_of unique) n parents tensor level arrays → arrays (Coordinates tensor level) ≡ Some []
-starts_empty true n parents tensor level arrays at = at
-starts_empty false n parents tensor level arrays at = at
+starts_empty true n parents tensor level arrays at = at.zeros OfCoordinates 0 refl
+starts_empty false n parents tensor level arrays at = at.zeros OfCoordinates 0 refl
 
 starts : (l : SingletonLevel) (n parents tensor level : ℕ) (arrays : Arrays) → n ≤ greatest_position_count
     → AreAtStart (letter_of l.unique) n parents tensor level arrays → HoldsStart meaning (letter_of l.unique) n parents tensor level arrays

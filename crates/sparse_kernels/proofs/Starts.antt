@@ -1,5 +1,5 @@
 -- What a run starts with: the loops are at their top, and the result has no value yet.
-use Rattle.std.specs.Prelude.{◌≡◌, ℕ, suc, ◌<◌, nat_lt, true, List, [], ◌∷◌, length, map, Option, Some, None, option_map}
+use Rattle.std.specs.Prelude.{◌≡◌, ℕ, suc, ◌<◌, nat_lt, Bool, true, false, List, [], ◌∷◌, length, map, Option, Some, None, option_map}
 use Rattle.std.specs.Prelude.{slice_get, slice_index, refl}
 use Rattle.std.proofs.Common.{◌∙◌, sym, ap, subst, arith}
 use Rattle.std.proofs.lemmas.Bool.Decides.{nat_tests}
@@ -13,7 +13,8 @@ use Rattle.kernel_code.specs.declared.syntax.Kernel.{Kernel}
 use Rattle.kernel_code.specs.Kernels.{empty_if, start_arrays}
 use Rattle.kernel_code.specs.Meaning.{State}
 use Rattle.level_core.specs.declared.letter.Letter.{Letter}
-use Rattle.level_core.specs.declared.letter.Letter.TheVariants.{Dense, Compressed, CompressedGroups, Singleton, SingletonGroups, Hashed}
+use Rattle.level_core.specs.declared.letter.Letter.TheVariants.{Dense}
+use Rattle.level_core.proofs.KindLaws.{full_is_dense, no_parents_below, stored_none_below}
 use Rattle.level_core.specs.Entries.{one}
 use Rattle.level_core.specs.Fragments.{IsOf}
 use Rattle.level_core.specs.Meaning.{Arrays}
@@ -30,7 +31,7 @@ use Rattle.term_code.specs.declared.workspace_sink.WorkspaceSink.{WorkspaceSink}
 use Rattle.term_code.specs.Places.{new_access}
 use Rattle.term_code.specs.WorkspaceSinks.{HoldsRows, IsOfWorkspace}
 use Rattle.kernel_correctness.specs.Stores.{Store, IsGiven, StartsBelow}
-use Rattle.level_core.specs.Kinds.{parents_below}
+use Rattle.level_core.specs.Kinds.{properties, parents_below}
 use Rattle.operand_arrays.specs.Operands.{IsOfOperands}
 use Rattle.dense_results.specs.Kernels.{AreAtBase}
 use Rattle.dense_results.specs.Operands.{IsReadStore}
@@ -139,14 +140,6 @@ list_starts_empty kernel arrays g h = ap empty_if there
     there : nat_lt g kernel.lists ≡ true
     there = grind (arith, nat_tests)
 
-none_below : (letter : Letter) (size : ℕ) → parents_below letter size 0 ≡ 0
-none_below Dense size = omega arith
-none_below Compressed size = refl
-none_below CompressedGroups size = refl
-none_below Singleton size = refl
-none_below SingletonGroups size = refl
-none_below Hashed size = refl
-
 -- below no parents there is no value
 values_none : (letters : List Letter) (sizes : List ℕ) (nothing level : ℕ) (arrays : Arrays)
     → StartsBelow nothing letters sizes 0 level arrays → arrays (Values 0) ≡ Some []
@@ -155,30 +148,23 @@ values_none [] (size ∷ sizes) nothing level arrays h = h
 values_none (letter ∷ letters) [] nothing level arrays h = h
 values_none (letter ∷ letters) (size ∷ sizes) nothing level arrays h =
     values_none letters sizes nothing (suc level) arrays
-    (subst (λ n. StartsBelow nothing letters sizes n (suc level) arrays) (none_below letter size) h.1)
+    (subst (λ n. StartsBelow nothing letters sizes n (suc level) arrays) (no_parents_below letter size) h.1)
 
 -- a result that isn't dense throughout starts without values
 pub values_start : (format : List FormatLevel) (ranges : List ℕ) (nothing parents level : ℕ) (arrays : Arrays) → (AreAllDense format → ⊥)
     → StartsBelow nothing (letters_of format) (in_level_order format ranges) parents level arrays → arrays (Values 0) ≡ Some []
 values_start [] ranges nothing parents level arrays some h = absurd (some (All-nil (λ (l : FormatLevel). l.letter ≡ Dense)))
 values_start (l ∷ ls) ranges nothing parents level arrays some h =
-    by l.letter refl
+    by (properties l.letter).full refl
     (values_start ls ranges nothing (parents_below l.letter (slice_index ranges l.mode) parents) (suc level) arrays)
   where
-    none_there : (letter : Letter) → l.letter ≡ letter → parents_below letter (slice_index ranges l.mode) parents ≡ 0
-        → arrays (Values 0) ≡ Some []
-    none_there letter e none =
-        values_none (letters_of ls) (in_level_order ls ranges) nothing (suc level) arrays
-        (subst (λ n. StartsBelow nothing (letters_of ls) (in_level_order ls ranges) n (suc level) arrays)
-        (ap (λ x. parents_below x (slice_index ranges l.mode) parents) e ∙ none) h.1)
-
-    by : (letter : Letter) → l.letter ≡ letter
+    by : (full : Bool) → (properties l.letter).full ≡ full
         → ((AreAllDense ls → ⊥) → StartsBelow nothing (letters_of ls) (in_level_order ls ranges)
         (parents_below l.letter (slice_index ranges l.mode) parents) (suc level) arrays → arrays (Values 0) ≡ Some [])
         → arrays (Values 0) ≡ Some []
-    by Dense e again = again (λ rest. some (All-cons (λ (x : FormatLevel). x.letter ≡ Dense) l ls e rest)) h.1
-    by Compressed e again = none_there Compressed e refl
-    by CompressedGroups e again = none_there CompressedGroups e refl
-    by Singleton e again = none_there Singleton e refl
-    by SingletonGroups e again = none_there SingletonGroups e refl
-    by Hashed e again = none_there Hashed e refl
+    by true full again =
+        again (λ rest. some (All-cons (λ (x : FormatLevel). x.letter ≡ Dense) l ls (full_is_dense l.letter full) rest)) h.1
+    by false stored again =
+        values_none (letters_of ls) (in_level_order ls ranges) nothing (suc level) arrays
+        (subst (λ n. StartsBelow nothing (letters_of ls) (in_level_order ls ranges) n (suc level) arrays)
+        (stored_none_below l.letter (slice_index ranges l.mode) parents stored) h.1)

@@ -1,21 +1,19 @@
 -- The levels of packed tensors are finished.
 use Rattle.std.specs.Prelude.{◌≡◌, ℕ, zero, suc, ◌+◌, ◌<◌, List, [], ◌∷◌, Some, refl}
 use Rattle.std.proofs.Common.{◌∙◌, sym, ap, subst, arith}
-use Rattle.std.proofs.Math.Nat.{zero-mul}
-use Rattle.kernel_code.specs.Widths.{slot_width}
 use Rattle.level_core.specs.declared.letter.Letter.{Letter}
-use Rattle.level_core.specs.declared.letter.Letter.TheVariants.{Dense, Compressed, CompressedGroups, Singleton, SingletonGroups, Hashed}
 use Rattle.level_rows.specs.Stacks.{Column}
 use Rattle.level_rows.proofs.StackLaws.{place_within}
 use Rattle.format_spec.specs.Formats.{letters_of}
 use Rattle.tensor_storage.specs.Built.{counts_of, IsBuilt, AreBuilt}
 use Rattle.tensor_storage.specs.Chains.{chain_length}
-use Rattle.tensor_storage.specs.Counts.{different, greatest_below, positions_at, positions_from}
+use Rattle.tensor_storage.specs.Counts.{positions_at, positions_from}
 use Rattle.tensor_storage.specs.declared.level.StorageLevel.{StorageLevel}
 use Rattle.tensor_storage.specs.Levels.{meaning}
 use Rattle.tensor_storage.specs.Laws.{laws}
 use Rattle.tensor_storage.specs.Storages.{in_level_order}
 use Rattle.tensor_storage.specs.Tables.{Table}
+use Rattle.tensor_storage.proofs.Few.{none_at}
 use Rattle.storage_arrays.specs.Arrays.{positions_in, AreDone}
 use Rattle.storage_arrays.specs.Done.{PackedAreDone}
 
@@ -28,16 +26,6 @@ tails x y xs ys h = cc
 no_rows : (count : ℕ) (parent : ℕ → ℕ) (parents : ℕ) → parents ≡ 0 → ((i : ℕ) → i < count → parent i < parents) → count ≡ 0
 no_rows zero parent parents none within = refl
 no_rows (suc n) parent parents none within = let first = within 0 (omega arith) in absurd (omega (arith, first, none))
-
--- without rows and parents there are no positions
-none_at : (table : Table) (d : ℕ) (letter : Letter) (letters : List Letter) (size : ℕ) → table.count ≡ 0
-    → positions_at table d 0 letter letters size ≡ 0
-none_at table d Dense letters size none = zero-mul size
-none_at table d Compressed letters size none = ap (different table.coords (d + chain_length (Compressed ∷ letters))) none
-none_at table d CompressedGroups letters size none = ap (different table.coords (d + chain_length (CompressedGroups ∷ letters))) none
-none_at table d Singleton letters size none = ap (different table.coords (d + chain_length (Singleton ∷ letters))) none
-none_at table d SingletonGroups letters size none = ap (different table.coords (d + chain_length (SingletonGroups ∷ letters))) none
-none_at table d Hashed letters size none = zero-mul (slot_width (greatest_below table.coords d table.count table.count))
 
 module _ (table : Table) where
   pub positions_same : (l : StorageLevel) (d n : ℕ) (parent : ℕ → ℕ) (parents : ℕ) (column : Column) (letter : Letter)

@@ -1,13 +1,12 @@
 -- Where levels stand for a table, none has more positions than may be.
-use Rattle.std.specs.Prelude.{◌≡◌, ℕ, zero, suc, ◌+◌, ◌≤◌, ◌<◌, List, [], ◌∷◌, refl}
+use Rattle.std.specs.Prelude.{◌≡◌, ℕ, zero, suc, ◌+◌, ◌≤◌, ◌<◌, Bool, true, false, if◌then◌else◌, List, [], ◌∷◌, refl}
 use Rattle.std.proofs.Common.{sym, ap, subst, arith}
-use Rattle.std.proofs.Math.Nat.{zero-mul}
 use Rattle.std.proofs.lemmas.List.Elements.{All-nil, All-cons}
 use Rattle.limits.specs.Limits.{greatest_position_count}
-use Rattle.kernel_code.specs.Widths.{slot_width}
 use Rattle.level_core.specs.declared.letter.Letter.{Letter}
-use Rattle.level_core.specs.declared.letter.Letter.TheVariants.{Dense, Compressed, CompressedGroups, Singleton, SingletonGroups, Hashed}
 use Rattle.level_core.specs.Entries.{one}
+use Rattle.level_core.specs.Kinds.{capabilities, positions_for}
+use Rattle.level_core.proofs.KindLaws.{no_positions}
 use Rattle.level_rows.specs.Stacks.{Column}
 use Rattle.level_rows.proofs.StackLaws.{place_within}
 use Rattle.tensor_storage.specs.Built.{counts_of, IsBuilt, AreBuilt}
@@ -30,14 +29,14 @@ no_rows zero parent within = refl
 no_rows (suc n) parent within = let first = within 0 (omega arith) in absurd (omega (arith, first))
 
 -- without rows and parents there are no positions
-none_at : (table : Table) (d : ℕ) (letter : Letter) (letters : List Letter) (size : ℕ) → table.count ≡ 0
+pub none_at : (table : Table) (d : ℕ) (letter : Letter) (letters : List Letter) (size : ℕ) → table.count ≡ 0
     → positions_at table d 0 letter letters size ≡ 0
-none_at table d Dense letters size none = zero-mul size
-none_at table d Compressed letters size none = ap (different table.coords (d + chain_length (Compressed ∷ letters))) none
-none_at table d CompressedGroups letters size none = ap (different table.coords (d + chain_length (CompressedGroups ∷ letters))) none
-none_at table d Singleton letters size none = ap (different table.coords (d + chain_length (Singleton ∷ letters))) none
-none_at table d SingletonGroups letters size none = ap (different table.coords (d + chain_length (SingletonGroups ∷ letters))) none
-none_at table d Hashed letters size none = zero-mul (slot_width (greatest_below table.coords d table.count table.count))
+none_at table d letter letters size none = by_append (capabilities letter).append
+  where
+    by_append : (append : Bool) → (if append then different table.coords (d + chain_length (letter ∷ letters)) table.count
+        else positions_for letter size 0 (greatest_below table.coords d table.count table.count)) ≡ 0
+    by_append true = ap (different table.coords (d + chain_length (letter ∷ letters))) none
+    by_append false = no_positions letter size (greatest_below table.coords d table.count table.count)
 
 module _ (table : Table) where
   -- the positions of a level are few

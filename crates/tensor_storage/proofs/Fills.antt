@@ -3,13 +3,11 @@ use Rattle.std.specs.Prelude.{◌≡◌, ℕ, ◌≤◌, Bool, true, false, List
 use Rattle.std.proofs.Common.{◌∙◌, sym, ap, subst, arith, inl, inr}
 use Rattle.limits.specs.Limits.{greatest_position_count}
 use Rattle.level_core.specs.declared.letter.Letter.{Letter}
-use Rattle.level_core.specs.declared.letter.Letter.TheVariants.{Dense, Compressed, CompressedGroups, Singleton, SingletonGroups, Hashed}
 use Rattle.level_core.specs.Kinds.{properties, capabilities, positions_for}
+use Rattle.level_core.proofs.KindLaws.{inserted_else, unordered_stored, appended_ordered}
 use Rattle.level_rows.specs.Rows.{Rows, Keys, rows_at, IsGreatestBelow, MayAppendRows, MayInsertRows}
 use Rattle.level_rows.specs.Taken.{Stores}
 use Rattle.level_rows.specs.Filling.{AreNeeded, MayFill, FillsRows}
-use Rattle.level_rows.proofs.FillLaws.{inserts_else}
-use Rattle.level_rows.proofs.InsertLoop.{not_full}
 use Rattle.tensor_storage.specs.declared.level.StorageLevel.{StorageLevel}
 use Rattle.tensor_storage.specs.Levels.{meaning}
 use Rattle.tensor_storage.specs.New.{IsNew}
@@ -59,7 +57,7 @@ module _ (parents needed most : ℕ) (keys : Keys) (above : List ℕ) (old : Sto
       let count = need.inserted is in
       let i = rows_inserted parents most (rows_at keys above) old m.0 (λ sparse p h. (need.greatest is sparse).upto p) above keeps
       (record {
-        able = inserts_else (meaning.kind old) is;
+        able = inserted_else (meaning.kind old) is;
         unprepared = m.2;
         coordinates = most_small (meaning.kind old) (meaning.size old) parents (rows_at keys above) needed most is small m.0 need;
       })
@@ -74,12 +72,7 @@ module _ (parents needed most : ℕ) (keys : Keys) (above : List ℕ) (old : Sto
       by_case false is = by_insert is
 
 ordered_appended : (letter : Letter) → (capabilities letter).append ≡ true → (properties letter).ordered ≡ false → ⊥
-ordered_appended Dense h o = apart o
-ordered_appended Compressed h o = apart o
-ordered_appended CompressedGroups h o = apart o
-ordered_appended Singleton h o = apart o
-ordered_appended SingletonGroups h o = apart o
-ordered_appended Hashed h o = apart (sym h)
+ordered_appended letter appends unordered = apart (sym (appended_ordered letter appends) ∙ unordered)
 
 module _ (letter : Letter) (size parents : ℕ) (keys : Keys) (above : List ℕ) (old : StorageLevel) (new : IsNew meaning letter size old)
     (needed most : ℕ) (need : AreNeeded letter size parents (rows_at keys above) needed most)
@@ -122,7 +115,7 @@ module _ (letter : Letter) (size parents : ℕ) (keys : Keys) (above : List ℕ)
             many = i.takes.many;
             stores = subst (λ n. Stores meaning parents n (rows_at keys above) (slice_index f.places) f.level) count i.takes.stored;
             numbered = λ yes. apart (sym yes ∙ is);
-            width = λ o. i.width (not_full (meaning.kind old) (before o));
+            width = λ o. i.width (unordered_stored (meaning.kind old) (before o));
             order = λ o. i.order (before o);
           }
 

@@ -4,8 +4,8 @@ use Rattle.std.proofs.Common.{◌∙◌, sym, ap, arith, inl, inr}
 use Rattle.std.proofs.lemmas.Bool.{cases_lt}
 use Rattle.std.proofs.lemmas.Bool.Decides.{nat_tests}
 use Rattle.level_core.specs.declared.letter.Letter.{Letter}
-use Rattle.level_core.specs.declared.letter.Letter.TheVariants.{Dense, Compressed, CompressedGroups, Singleton, SingletonGroups, Hashed}
-use Rattle.level_core.specs.Kinds.{positions_for}
+use Rattle.level_core.specs.Kinds.{properties, capabilities, positions_for}
+use Rattle.level_core.proofs.KindLaws.{appended_stored}
 use Rattle.level_rows.specs.Rows.{Rows, begun, begun_below, IsGreatestBelow, MayInsertRows}
 use Rattle.level_rows.specs.Filling.{AreNeeded}
 use Rattle.tensor_storage.proofs.Steps.{apart}
@@ -109,33 +109,41 @@ module _ (rows : Rows) where
 
   -- how many positions a level needs for the rows
   pub needs : (letter : Letter) (size parents : ℕ) → (needed : ℕ) × (most : ℕ) × AreNeeded letter size parents rows needed most
-  needs Dense size parents = (
-    positions_for Dense size parents 0,
-    0,
-    record { appended = λ h. apart (sym h); inserted = λ h. refl; greatest = λ h full. apart full; full = λ h. refl },
-  )
-  needs Compressed size parents = (
-    begun rows.first rows.count,
-    begun rows.first rows.count,
-    record { appended = λ h. (refl, refl); inserted = λ h. apart h; greatest = λ h. apart h; full = λ h. apart (sym h) },
-  )
-  needs CompressedGroups size parents = (
-    begun rows.first rows.count,
-    begun rows.first rows.count,
-    record { appended = λ h. (refl, refl); inserted = λ h. apart h; greatest = λ h. apart h; full = λ h. apart (sym h) },
-  )
-  needs Singleton size parents = (
-    begun rows.first rows.count,
-    begun rows.first rows.count,
-    record { appended = λ h. (refl, refl); inserted = λ h. apart h; greatest = λ h. apart h; full = λ h. apart (sym h) },
-  )
-  needs SingletonGroups size parents = (
-    begun rows.first rows.count,
-    begun rows.first rows.count,
-    record { appended = λ h. (refl, refl); inserted = λ h. apart h; greatest = λ h. apart h; full = λ h. apart (sym h) },
-  )
-  needs Hashed size parents = (
-    positions_for Hashed size parents greatest.0,
-    greatest.0,
-    record { appended = λ h. apart (sym h); inserted = λ h. refl; greatest = λ h full. greatest.1; full = λ h. apart (sym h) },
-  )
+  needs letter size parents = by_append (capabilities letter).append refl
+    where
+      by_full : (capabilities letter).append ≡ false → (full : Bool) → (properties letter).full ≡ full
+          → (needed : ℕ) × (most : ℕ) × AreNeeded letter size parents rows needed most
+      by_full never true full = (
+        positions_for letter size parents 0,
+        0,
+        record {
+          appended = λ appends. apart (sym appends ∙ never);
+          inserted = λ _. refl;
+          greatest = λ _ stored. apart (sym full ∙ stored);
+          full = λ _. refl;
+        },
+      )
+      by_full never false stored = (
+        positions_for letter size parents greatest.0,
+        greatest.0,
+        record {
+          appended = λ appends. apart (sym appends ∙ never);
+          inserted = λ _. refl;
+          greatest = λ _ _. greatest.1;
+          full = λ full. apart (sym full ∙ stored);
+        },
+      )
+
+      by_append : (append : Bool) → (capabilities letter).append ≡ append
+          → (needed : ℕ) × (most : ℕ) × AreNeeded letter size parents rows needed most
+      by_append true appends = (
+        begun rows.first rows.count,
+        begun rows.first rows.count,
+        record {
+          appended = λ _. (refl, refl);
+          inserted = λ never. apart (sym appends ∙ never);
+          greatest = λ never. apart (sym appends ∙ never);
+          full = λ full. apart (sym full ∙ appended_stored letter appends);
+        },
+      )
+      by_append false never = by_full never (properties letter).full refl

@@ -4,13 +4,13 @@ use Rattle.std.proofs.Common.{◌∙◌, sym, ap, subst, arith, inl, inr}
 use Rattle.std.proofs.lemmas.Bool.{cases_order}
 use Rattle.kernel_code.specs.Widths.{slot_width}
 use Rattle.level_core.specs.declared.letter.Letter.{Letter}
-use Rattle.level_core.specs.declared.letter.Letter.TheVariants.{Dense, Compressed, CompressedGroups, Singleton, SingletonGroups, Hashed}
 use Rattle.level_core.specs.Entries.{IsIn, Placed, coord_at, position_of, one, span as the_span}
 use Rattle.level_core.specs.Orders.{IsAfterSmaller}
 use Rattle.level_core.specs.Kinds.{properties, capabilities, AreEntries}
 use Rattle.level_core.specs.Meaning.{Meaning, AgreeBelow}
 use Rattle.level_core.specs.Laws.{Laws}
 use Rattle.level_core.proofs.EntryLaws.{placed_within}
+use Rattle.level_core.proofs.KindLaws.{are_of_a_kind, appended_ordered, appended_stored, inserted_else}
 use Rattle.level_core.proofs.Orders.{position_coord, coord_position}
 use Rattle.level_rows.specs.Rows.{place}
 use Rattle.level_rows.specs.Stacks.{Column}
@@ -23,38 +23,25 @@ use Rattle.tensor_storage.proofs.EntrySame.{entries_same, tiles_coord, coord_ins
 
 compact_kinds : (letter : Letter) → (capabilities letter).append ≡ true
     → ((properties letter).compact ≡ true) × ((properties letter).full ≡ false) × ((properties letter).ordered ≡ true)
-compact_kinds Dense h = apart (sym h)
-compact_kinds Compressed h = (refl, refl, refl)
-compact_kinds CompressedGroups h = (refl, refl, refl)
-compact_kinds Singleton h = (refl, refl, refl)
-compact_kinds SingletonGroups h = (refl, refl, refl)
-compact_kinds Hashed h = apart (sym h)
+compact_kinds letter appends =
+    let ordered = appended_ordered letter appends in
+    ((are_of_a_kind letter).ordered_compact ordered, appended_stored letter appends, ordered)
 
 full_kinds : (letter : Letter) → (properties letter).full ≡ true
     → ((properties letter).ordered ≡ true) × ((properties letter).unique ≡ true) × ((properties letter).compact ≡ true)
-full_kinds Dense h = (refl, refl, refl)
-full_kinds Compressed h = apart (sym h)
-full_kinds CompressedGroups h = apart (sym h)
-full_kinds Singleton h = apart (sym h)
-full_kinds SingletonGroups h = apart (sym h)
-full_kinds Hashed h = apart (sym h)
+full_kinds letter full =
+    let kind = are_of_a_kind letter in
+    let ordered = kind.full_ordered full in
+    (ordered, kind.inserted_unique (kind.full_inserted full), kind.ordered_compact ordered)
 
 slot_kinds : (letter : Letter) → (capabilities letter).append ≡ false → (properties letter).full ≡ false
     → ((properties letter).ordered ≡ false) × ((properties letter).unique ≡ true)
-slot_kinds Dense h k = apart k
-slot_kinds Compressed h k = apart h
-slot_kinds CompressedGroups h k = apart h
-slot_kinds Singleton h k = apart h
-slot_kinds SingletonGroups h k = apart h
-slot_kinds Hashed h k = (refl, refl)
+slot_kinds letter never stored =
+    let inserts = inserted_else letter never in
+    ((are_of_a_kind letter).inserted_unordered inserts stored, (are_of_a_kind letter).inserted_unique inserts)
 
 inserted_kinds : (letter : Letter) → (capabilities letter).append ≡ false → (properties letter).unique ≡ true
-inserted_kinds Dense h = refl
-inserted_kinds Compressed h = apart h
-inserted_kinds CompressedGroups h = apart h
-inserted_kinds Singleton h = apart h
-inserted_kinds SingletonGroups h = apart h
-inserted_kinds Hashed h = refl
+inserted_kinds letter never = (are_of_a_kind letter).inserted_unique (inserted_else letter never)
 
 same_some : (a b : ℕ) → Some a ≡ Some b → a ≡ b
 same_some a b e = cc

@@ -12,6 +12,7 @@ pub mod Fills
 pub mod Greatest
 pub mod Handed
 pub mod InsertedRows
+pub mod KindArms
 pub mod LevelSame
 pub mod LevelSorts
 pub mod ListLaws

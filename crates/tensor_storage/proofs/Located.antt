@@ -2,12 +2,11 @@
 use Rattle.std.specs.Prelude.{◌≡◌, ℕ, ◌+◌, ◌<◌, ◌^◌, true, false, Option, Some, None, refl}
 use Rattle.std.proofs.Common.{◌∙◌, sym, ap, subst, arith}
 use Rattle.level_core.specs.declared.span.Span.{Span}
-use Rattle.level_core.specs.declared.letter.Letter.{Letter}
-use Rattle.level_core.specs.declared.letter.Letter.TheVariants.{Dense, Compressed, CompressedGroups, Singleton, SingletonGroups, Hashed}
 use Rattle.level_core.specs.Entries.{one, span, position_of}
-use Rattle.level_core.specs.Kinds.{properties, capabilities}
+use Rattle.level_core.specs.Kinds.{capabilities}
 use Rattle.level_core.specs.Meaning.{Meaning}
 use Rattle.level_core.specs.Laws.{Laws}
+use Rattle.level_core.proofs.KindLaws.{are_of_a_kind}
 use Rattle.level_core.proofs.Orders.{position_coord}
 use Rattle.level_rows.proofs.Entries.{coord_from, stands_within}
 use Rattle.limits.proofs.Limits.{positions_are_small}
@@ -20,26 +19,10 @@ apart {A} e = absurd (no_way e)
     no_way : true ≡ false → ⊥
     no_way e = cc
 
-branches : (letter : Letter) → (capabilities letter).locate ≡ true → (properties letter).branchless ≡ false
-branches Dense h = refl
-branches Compressed h = apart (sym h)
-branches CompressedGroups h = apart (sym h)
-branches Singleton h = apart (sym h)
-branches SingletonGroups h = apart (sym h)
-branches Hashed h = refl
-
-single : (letter : Letter) → (capabilities letter).locate ≡ true → (properties letter).unique ≡ true
-single Dense h = refl
-single Compressed h = refl
-single CompressedGroups h = apart (sym h)
-single Singleton h = refl
-single SingletonGroups h = apart (sym h)
-single Hashed h = refl
-
 module _ {L : Type 0} (means : Meaning L) (laws : Laws means) (l : L) (parent : Span) (ok : means.allowed l parent)
     (locates : (capabilities (means.kind l)).locate ≡ true) where
   pub parent_is : parent ≡ one parent.lo
-  parent_is = ap (λ hi. span parent.lo hi) (laws.one_parent l parent ok (branches (means.kind l) locates))
+  parent_is = ap (λ hi. span parent.lo hi) (laws.one_parent l parent ok ((are_of_a_kind (means.kind l)).located_branches locates))
 
   pub parent_asked : means.allowed l (one parent.lo)
   parent_asked = subst (means.allowed l) parent_is ok
@@ -48,7 +31,7 @@ module _ {L : Type 0} (means : Meaning L) (laws : Laws means) (l : L) (parent : 
       → child_of (means.entries l parent) x ≡ (elim o [ None ↦ None | Some p ↦ Some (span p (p + 1)) ])
   located_is x o is = ap (λ s. child_of (means.entries l s) x) parent_is
       ∙ child_located x (means.entries l (one parent.lo))
-      ((laws.entries l (one parent.lo) parent_asked).properties.unique (single (means.kind l) locates)) o (sym is)
+      ((laws.entries l (one parent.lo) parent_asked).properties.unique ((are_of_a_kind (means.kind l)).located_unique locates)) o (sym is)
 
   pub located_within : (x p : ℕ) → Some p ≡ position_of (means.entries l (one parent.lo)) x → p < 2 ^ 62
   located_within x p is =

@@ -8,11 +8,12 @@ use Rattle.std.proofs.lemmas.List.Elements.{All-nil, All-push}
 use Rattle.limits.specs.Limits.{greatest_position_count}
 use Rattle.kernel_code.specs.Widths.{slot_width}
 use Rattle.level_core.specs.declared.letter.Letter.{Letter}
-use Rattle.level_core.specs.declared.letter.Letter.TheVariants.{Dense, Compressed, CompressedGroups, Singleton, SingletonGroups, Hashed}
 use Rattle.level_core.specs.Kinds.{properties, capabilities, positions_for}
 use Rattle.level_core.specs.Meaning.{Meaning}
 use Rattle.level_core.specs.Laws.{Laws}
 use Rattle.level_core.specs.Orders.{InOrder}
+use Rattle.level_core.proofs.KindLaws.{are_of_a_kind, inserted_else, appended_ordered, unordered_stored, never_inserted, full_positions}
+use Rattle.level_core.proofs.KindLaws.{unordered_is_hashed}
 use Rattle.level_rows.specs.Rows.{rows_at, begun, place, IsGreatestBelow, MayAppendRows, MayInsertRows}
 use Rattle.level_rows.specs.Taken.{Takes}
 use Rattle.level_rows.specs.declared.filling.FillRefusal.TheVariants.{TooMany}
@@ -41,31 +42,10 @@ one_more f xs x y rest left all h l is =
     ap (λ m. m ++ rest) (map-append f xs (x ∷ [])) ∙ append_assoc (map f xs) (f x ∷ []) rest ∙ ap (λ z. map f xs ++ z ∷ rest) is
     ∙ ap (λ m. map f xs ++ m) (sym l) ∙ h
 
-appended_ordered : (letter : Letter) → (capabilities letter).append ≡ true → (properties letter).ordered ≡ true
-appended_ordered Dense h = refl
-appended_ordered Compressed h = refl
-appended_ordered CompressedGroups h = refl
-appended_ordered Singleton h = refl
-appended_ordered SingletonGroups h = refl
-appended_ordered Hashed h = apart (sym h)
-
-unordered_sparse : (letter : Letter) → (properties letter).ordered ≡ false → (properties letter).full ≡ false
-unordered_sparse Dense h = apart h
-unordered_sparse Compressed h = refl
-unordered_sparse CompressedGroups h = refl
-unordered_sparse Singleton h = refl
-unordered_sparse SingletonGroups h = refl
-unordered_sparse Hashed h = refl
-
 -- a full level has as many positions whatever is the greatest number below one parent
 full_any : (letter : Letter) (size parents most other : ℕ) → (properties letter).full ≡ true
     → positions_for letter size parents most ≡ positions_for letter size parents other
-full_any Dense size parents most other h = refl
-full_any Compressed size parents most other h = apart (sym h)
-full_any CompressedGroups size parents most other h = apart (sym h)
-full_any Singleton size parents most other h = apart (sym h)
-full_any SingletonGroups size parents most other h = apart (sym h)
-full_any Hashed size parents most other h = apart (sym h)
+full_any letter size parents most other is = full_positions letter size parents most is ∙ sym (full_positions letter size parents other is)
 
 yes_is : (b : Bool) (x y : ℕ) → b ≡ true → x ≡ (if b then x else y)
 yes_is true x y h = refl
@@ -116,12 +96,9 @@ as_many_built means table (letter ∷ letters) (l ∷ ls) (c ∷ columns) d pare
 
 inserted_unique : (letter : Letter) → (capabilities letter).append ≡ false
     → ((properties letter).unique ≡ true) × ((properties letter).branchless ≡ false)
-inserted_unique Dense h = (refl, refl)
-inserted_unique Compressed h = apart h
-inserted_unique CompressedGroups h = apart h
-inserted_unique Singleton h = apart h
-inserted_unique SingletonGroups h = apart h
-inserted_unique Hashed h = (refl, refl)
+inserted_unique letter is =
+    let able = inserted_else letter is in
+    ((are_of_a_kind letter).inserted_unique able, (are_of_a_kind letter).inserted_branches able)
 
 module _ {L : Type 0} (means : Meaning L) (laws : Laws means) (letters : List Letter) (sizes : List ℕ) (order : ℕ) (table : Table)
     (up : Increase table.coords order table.count)
@@ -308,26 +285,9 @@ module _ {L : Type 0} (means : Meaning L) (laws : Laws means) (letters : List Le
               (inserted_unique (means.kind old) is).0 (both p.ordered (properties (means.kind old)).ordered) are t)
               t
               (built_here t (λ yes. apart (sym yes ∙ ap (λ k. (capabilities k).append) t.kind ∙ is))
-              (λ o. let sparse = unordered_sparse (means.kind old) (before o) in
+              (λ o. let sparse = unordered_stored (means.kind old) (before o) in
               f.width sparse ∙ ap (λ m. Some (slot_width m)) (greatest_is is sparse))
               (λ o. f.order (before o)))
-
--- levels that are appended to and inserted into
-not_both : (letter : Letter) → (capabilities letter).append ≡ true → (capabilities letter).insert ≡ true → ⊥
-not_both Dense a i = apart (sym a)
-not_both Compressed a i = apart (sym i)
-not_both CompressedGroups a i = apart (sym i)
-not_both Singleton a i = apart (sym i)
-not_both SingletonGroups a i = apart (sym i)
-not_both Hashed a i = apart (sym a)
-
-only_hashed : (letter : Letter) → (properties letter).ordered ≡ false → letter ≡ Hashed
-only_hashed Dense h = apart h
-only_hashed Compressed h = apart h
-only_hashed CompressedGroups h = apart h
-only_hashed Singleton h = apart h
-only_hashed SingletonGroups h = apart h
-only_hashed Hashed h = refl
 
 follows : (ordered : Bool) (letters : List Letter) → InsertedBelowHashed letters
     → (ordered ≡ false → (k : ℕ) (d : Letter) → k < length letters → (capabilities (get_or letters k d)).insert ≡ true)
@@ -342,12 +302,12 @@ follows ordered (letter ∷ letters) pairs none = (
   where
     first : (b : Bool) → ordered ≡ b → (capabilities letter).append ≡ true → ordered ≡ true
     first true is a = is
-    first false is a = absurd (not_both letter a (none is 0 letter (omega arith)))
+    first false is a = absurd (never_inserted letter a (none is 0 letter (omega arith)))
 
     later : (b c : Bool) → ordered ≡ b → (properties letter).ordered ≡ c → (ordered && (properties letter).ordered) ≡ false
         → (k : ℕ) (d : Letter) → k < length letters → (capabilities (get_or letters k d)).insert ≡ true
     later false c is po h k d within = none is (suc k) d (omega (arith, within))
-    later true false is po h k d within = pairs 0 (suc k) d (omega arith) (omega (arith, within)) (only_hashed letter po)
+    later true false is po h k d within = pairs 0 (suc k) d (omega arith) (omega (arith, within)) (unordered_is_hashed letter po)
     later true true is po h k d within = apart (sym (joined ordered (properties letter).ordered is po) ∙ h)
 
 pub all_same : (n i x : ℕ) → i < n → slice_index (replicate n x) i ≡ x

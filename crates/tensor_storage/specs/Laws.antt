@@ -5,7 +5,7 @@ use Rattle.limits.specs.Limits.{greatest_position_count}
 use Rattle.level_core.specs.declared.letter.Letter.{Letter}
 use Rattle.level_core.specs.declared.letter.Letter.TheVariants.{Dense, Compressed, CompressedGroups, Singleton, SingletonGroups, Hashed}
 use Rattle.level_core.specs.Entries.{one}
-use Rattle.level_core.specs.Kinds.{positions_for, MayPrepare, MayInsert}
+use Rattle.level_core.specs.Kinds.{capabilities, positions_for, MayPrepare, MayInsert}
 use Rattle.level_core.specs.Logs.{MayFinish}
 use Rattle.level_core.specs.Meaning.{Arrays, Prepares, Inserts, Finishes, AgreeBelow}
 use Rattle.level_core.specs.Laws.{AreAtStart, SumsUp, HoldsStart, HoldsFinished, Laws}
@@ -39,6 +39,15 @@ compressed_family false = refl
 singleton_family : (unique : Bool) → family (singleton.letter_of unique) ≡ 2
 singleton_family true = refl
 singleton_family false = refl
+
+-- neither is inserted into
+compressed_appended : (unique : Bool) → (capabilities (compressed.letter_of unique)).insert ≡ true → ⊥
+compressed_appended true inserts = cc
+compressed_appended false inserts = cc
+
+singleton_appended : (unique : Bool) → (capabilities (singleton.letter_of unique)).insert ≡ true → ⊥
+singleton_appended true inserts = cc
+singleton_appended false inserts = cc
 
 abbrev pub family_of : StorageLevel → ℕ
 family_of (OfDense n) = 0
@@ -268,14 +277,8 @@ prepares (OfDense l) (OfDense m) parents most keeps may within is =
 prepares (OfDense l) (OfCompressed m) parents most keeps may within is = absurd is
 prepares (OfDense l) (OfSingleton m) parents most keeps may within is = absurd is
 prepares (OfDense l) (OfHashed m) parents most keeps may within is = absurd is
-prepares (OfCompressed l) (OfDense m) parents most keeps may within is = absurd is
-prepares (OfCompressed l) (OfCompressed m) parents most keeps may within is = absurd is
-prepares (OfCompressed l) (OfSingleton m) parents most keeps may within is = absurd is
-prepares (OfCompressed l) (OfHashed m) parents most keeps may within is = absurd is
-prepares (OfSingleton l) (OfDense m) parents most keeps may within is = absurd is
-prepares (OfSingleton l) (OfCompressed m) parents most keeps may within is = absurd is
-prepares (OfSingleton l) (OfSingleton m) parents most keeps may within is = absurd is
-prepares (OfSingleton l) (OfHashed m) parents most keeps may within is = absurd is
+prepares (OfCompressed l) m parents most keeps may within is = absurd (compressed_appended l.unique may.able)
+prepares (OfSingleton l) m parents most keeps may within is = absurd (singleton_appended l.unique may.able)
 prepares (OfHashed l) (OfDense m) parents most keeps may within is = absurd is
 prepares (OfHashed l) (OfCompressed m) parents most keeps may within is = absurd is
 prepares (OfHashed l) (OfSingleton m) parents most keeps may within is = absurd is
@@ -289,14 +292,8 @@ inserts (OfDense l) (OfDense m) parent x slot ok may is = dense_inserts l m pare
 inserts (OfDense l) (OfCompressed m) parent x slot ok may is = absurd is
 inserts (OfDense l) (OfSingleton m) parent x slot ok may is = absurd is
 inserts (OfDense l) (OfHashed m) parent x slot ok may is = absurd is
-inserts (OfCompressed l) (OfDense m) parent x slot ok may is = absurd is
-inserts (OfCompressed l) (OfCompressed m) parent x slot ok may is = absurd is
-inserts (OfCompressed l) (OfSingleton m) parent x slot ok may is = absurd is
-inserts (OfCompressed l) (OfHashed m) parent x slot ok may is = absurd is
-inserts (OfSingleton l) (OfDense m) parent x slot ok may is = absurd is
-inserts (OfSingleton l) (OfCompressed m) parent x slot ok may is = absurd is
-inserts (OfSingleton l) (OfSingleton m) parent x slot ok may is = absurd is
-inserts (OfSingleton l) (OfHashed m) parent x slot ok may is = absurd is
+inserts (OfCompressed l) m parent x slot ok may is = absurd (compressed_appended l.unique may.able)
+inserts (OfSingleton l) m parent x slot ok may is = absurd (singleton_appended l.unique may.able)
 inserts (OfHashed l) (OfDense m) parent x slot ok may is = absurd is
 inserts (OfHashed l) (OfCompressed m) parent x slot ok may is = absurd is
 inserts (OfHashed l) (OfSingleton m) parent x slot ok may is = absurd is

@@ -2,7 +2,8 @@ use Rattle.std.specs.Prelude.{◌≡◌, false}
 use Rattle.level_core.specs.Kinds.{capabilities}
 use Rattle.std.proofs.Common.{◌∙◌, sym, ap, arith}
 use Rattle.level_rows.specs.Rows.{rows_at}
-use Rattle.level_rows.proofs.FillLaws.{inserts_else, few_below}
+use Rattle.level_core.proofs.KindLaws.{inserted_else}
+use Rattle.level_rows.proofs.FillLaws.{few_below}
 use Rattle.level_rows.proofs.filling.fill_level.Goals as goal
 
 pub insert_rows-given-requires-clause-may : goal.insert_rows-given-requires-clause-may
@@ -16,4 +17,4 @@ insert_rows-given-requires-clause-may g c =
     c.count_positions-need.ensures.needed in
     let within = c.if-need-greatest_positions.false in
     let limit = c.greatest_positions.ensures in
-    record { able = inserts_else kind none; unprepared = may.2; coordinates = omega (arith, few, within, limit) }
+    record { able = inserted_else kind none; unprepared = may.2; coordinates = omega (arith, few, within, limit) }

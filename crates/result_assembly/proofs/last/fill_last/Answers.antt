@@ -4,10 +4,8 @@ use Rattle.kernel_code.specs.Keeps.{Below}
 use Rattle.kernel_code.specs.declared.syntax.Arr.TheVariants.{Values}
 use Rattle.kernel_code.specs.declared.syntax.KExpr.{Num, Var}
 use Rattle.kernel_code.specs.declared.syntax.KStmt.{Extend}
-use Rattle.level_core.specs.Codes.{PrepareCode, InsertCode}
 use Rattle.tensor_storage.specs.Levels.{meaning}
 use Rattle.result_assembly.proofs.Codes.{below_more, key_below}
-use Rattle.result_assembly.proofs.KindLaws.{counted_is}
 use Rattle.result_assembly.proofs.LastCode.{filled_of}
 use Rattle.result_assembly.proofs.last.fill_last.Goals as goal
 
@@ -49,14 +47,10 @@ returns c =
     let insert = c.in_ok-insert.insert in
     let prepare = c.in_ok-prepare.prepare in
     let fill = c.in_ok-fill.fill in
-    let is = counted_is (meaning.kind c.args.level.now) c.requires.counted in
-    filled_of at site c.args.parents c.in_ok-first.first c.in_ok-coord.coord c.args.zero c.in_ok-total.total
-    c.in_ok-code.code prepare insert fill c.append-2.new.self c.requires.parents
+    filled_of (meaning.kind c.args.level.now) c.requires.counted at site c.args.parents c.in_ok-first.first c.in_ok-coord.coord
+    c.args.zero c.in_ok-total.total c.in_ok-code.code prepare insert fill c.append-2.new.self c.requires.parents
     c.rows_site-rows.ensures c.in_ok-first.ensures c.in_ok-coord.ensures c.in_ok-total.ensures c.in_ok-code.ensures
-    (subst (λ k. PrepareCode meaning k 0 at.level (c.args.parents ∷ Var (site.base + 2) ∷ []) (site.base + 6) prepare) is
-    c.in_ok-prepare.ensures)
-    (subst (λ k. InsertCode meaning k 0 at.level (Var (site.base + 4) ∷ c.in_ok-coord.coord ∷ []) (site.base + 6) insert) is
-    c.in_ok-insert.ensures)
+    c.in_ok-prepare.ensures c.in_ok-insert.ensures
     c.in_ok-fill.ensures
     (c.in_ok-append-2.ensures.ok ∙ ap (λ k. k ++ fill)
     (c.in_ok-push-2.ensures.ok ∙ ap (λ k. k ++ Extend (Values 0) (Var at.base) (Num c.args.zero) ∷ [])

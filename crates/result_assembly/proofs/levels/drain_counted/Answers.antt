@@ -1,12 +1,8 @@
 use Rattle.std.specs.Prelude.{◌+◌, ◌-◌, ◌++◌}
 use Rattle.std.proofs.Common.{◌∙◌, sym, ap, subst, arith}
 use Rattle.kernel_code.specs.Keeps.{Below}
-use Rattle.kernel_code.specs.declared.syntax.KExpr.{Var}
-use Rattle.level_rows.specs.Placing.{PlacesRows}
 use Rattle.tensor_storage.specs.Levels.{meaning}
-use Rattle.result_assembly.specs.Drained.{DrainsOf}
-use Rattle.result_assembly.proofs.Codes.{below_more, key_below, hashed_of}
-use Rattle.result_assembly.proofs.KindLaws.{counted_is}
+use Rattle.result_assembly.proofs.Codes.{below_more, key_below, counted_of}
 use Rattle.result_assembly.proofs.levels.drain_counted.Goals as goal
 
 pub emit_insert_rows-requires-clause-parents : goal.emit_insert_rows-requires-clause-parents
@@ -21,13 +17,8 @@ emit_insert_rows-requires-clause-coord c =
 
 pub returns : goal.returns
 returns c =
-    let site = c.rows_site-rows.result in
-    let is = counted_is (meaning.kind c.args.level.now) c.requires.counted in
-    subst (λ k. DrainsOf k c.args.at.level c.args.through c.args.at.workspace c.args.at.list c.args.at.base c.args.parents
-    c.append.new.self) (sym is)
-    (hashed_of c.args.at site c.args.through c.args.parents c.in_ok-first.first c.in_ok-again.again c.in_ok-coord.coord
-    c.in_ok-total.total c.in_ok-code.code c.in_ok-insert.insert c.append.new.self c.requires.parents c.rows_site-rows.ensures
-    c.in_ok-first.ensures c.in_ok-again.ensures c.in_ok-coord.ensures c.in_ok-total.ensures c.in_ok-code.ensures
-    (subst (λ k. PlacesRows meaning k site.level site.base site.workspace site.list c.args.parents (Var (site.base + 2))
-    c.in_ok-again.again c.in_ok-coord.coord c.in_ok-insert.insert) is c.in_ok-insert.ensures)
-    (c.in_ok-append.ensures.ok ∙ ap (λ code. code ++ c.in_ok-insert.insert) c.in_ok-push.ensures.ok))
+    counted_of (meaning.kind c.args.level.now) c.requires.counted c.args.at c.rows_site-rows.result c.args.through c.args.parents
+    c.in_ok-first.first c.in_ok-again.again c.in_ok-coord.coord c.in_ok-total.total c.in_ok-code.code c.in_ok-insert.insert
+    c.append.new.self c.requires.parents c.rows_site-rows.ensures c.in_ok-first.ensures c.in_ok-again.ensures c.in_ok-coord.ensures
+    c.in_ok-total.ensures c.in_ok-code.ensures c.in_ok-insert.ensures
+    (c.in_ok-append.ensures.ok ∙ ap (λ code. code ++ c.in_ok-insert.insert) c.in_ok-push.ensures.ok)

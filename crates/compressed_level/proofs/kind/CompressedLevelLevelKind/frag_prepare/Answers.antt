@@ -1,4 +1,4 @@
-use Rattle.coordinate_lists.proofs.Letters.{never_inserted}
+use Rattle.level_core.proofs.KindLaws.{never_inserted}
 use Rattle.compressed_level.specs.Compressed.{letter_of}
 use Rattle.compressed_level.proofs.Laws.{appends}
 use Rattle.compressed_level.proofs.kind.CompressedLevelLevelKind.frag_prepare.Goals as goal

@@ -1,7 +1,7 @@
+use Rattle.std.specs.Prelude.{refl}
+use Rattle.level_core.specs.declared.letter.Letter.TheVariants.{Compressed, CompressedGroups}
 use Rattle.coordinate_lists.proofs.Letters.{never_located}
-use Rattle.compressed_level.specs.Compressed.{letter_of}
-use Rattle.compressed_level.proofs.Laws.{appends}
 use Rattle.compressed_level.proofs.reading.CompressedLevelLevel.locate.Goals as goal
 
 pub returns : goal.returns
-returns c = λ can. absurd (never_located (letter_of c.args.self.now.unique) (appends c.args.self.now.unique) can)
+returns c = λ can. absurd (never_located Compressed CompressedGroups c.args.self.now.unique refl refl can)

@@ -1,4 +1,4 @@
-use Rattle.coordinate_lists.proofs.Letters.{never_inserted}
+use Rattle.level_core.proofs.KindLaws.{never_inserted}
 use Rattle.singleton_level.specs.Singleton.{letter_of}
 use Rattle.singleton_level.proofs.Laws.{appends}
 use Rattle.singleton_level.proofs.kind.SingletonLevelLevelKind.frag_insert.Goals as goal

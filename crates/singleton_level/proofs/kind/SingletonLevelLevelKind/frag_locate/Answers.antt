@@ -1,7 +1,7 @@
+use Rattle.std.specs.Prelude.{refl}
+use Rattle.level_core.specs.declared.letter.Letter.TheVariants.{Singleton, SingletonGroups}
 use Rattle.coordinate_lists.proofs.Letters.{never_located}
-use Rattle.singleton_level.specs.Singleton.{letter_of}
-use Rattle.singleton_level.proofs.Laws.{appends}
 use Rattle.singleton_level.proofs.kind.SingletonLevelLevelKind.frag_locate.Goals as goal
 
 pub returns : goal.returns
-returns c = λ can. absurd (never_located (letter_of c.args.self.now.unique) (appends c.args.self.now.unique) can)
+returns c = λ can. absurd (never_located Singleton SingletonGroups c.args.self.now.unique refl refl can)

@@ -1,4 +1,4 @@
--- The code of a dense level: nothing is stored, but a count of positions that passes the limit is refused.
+-- The code of a full level: nothing is stored, but a count of positions that passes the limit is refused.
 use Rattle.std.specs.Prelude.{◌≡◌, ◌⊎◌, ℕ, suc, ◌+◌, ◌*◌, ◌≤◌, ◌<◌, ◌^◌, nat_le, true, false, List, [], ◌∷◌, ◌++◌, drop, length, Some, refl}
 use Rattle.std.specs.Prelude.{slice_index}
 use Rattle.std.proofs.Common.{◌∙◌, sym, ap, subst, arith, inl, inr, lit<}
@@ -19,7 +19,8 @@ use Rattle.kernel_code.specs.declared.syntax.KExpr.{KExpr, Num, Var, At, Bin}
 use Rattle.kernel_code.specs.declared.syntax.KStmt.{KStmt, Set, Extend}
 use Rattle.kernel_code.specs.declared.syntax.Op.TheVariants.{Mul, Less}
 use Rattle.level_core.specs.declared.letter.Letter.{Letter}
-use Rattle.level_core.specs.declared.letter.Letter.TheVariants.{Dense}
+use Rattle.level_core.specs.Kinds.{properties, positions_for}
+use Rattle.level_core.proofs.KindLaws.{full_positions}
 use Rattle.level_rows.specs.Rows.{Rows}
 use Rattle.level_rows.specs.Placing.{PlacesRows}
 use Rattle.tensor_storage.specs.Chains.{chain_length}
@@ -29,7 +30,8 @@ use Rattle.tensor_storage.specs.Tables.{Table}
 use Rattle.tensor_storage.proofs.Tables.{apart}
 use Rattle.result_assembly.specs.Drained.{passes_at, MayDrain, AreDrained, LeavesLevel, RefusesLevel}
 use Rattle.result_assembly.specs.Tests.{begins_test, guard_code}
-use Rattle.result_assembly.proofs.HashedCode.{still_drained}
+use Rattle.result_assembly.proofs.CountedCode.{still_drained}
+use Rattle.result_assembly.proofs.KindLaws.{full_never}
 use Rattle.result_assembly.proofs.Inserted.{inserted, told_level, needed_is}
 use Rattle.result_assembly.proofs.Steps.{size_here, rows_here, small, starts_here}
 use Rattle.result_assembly.proofs.Turns.{times_of, pass_here, none_then_placed, counted_few, counted_above}
@@ -39,31 +41,35 @@ counts_multiply : greatest_position_count * greatest_position_count < 2 ^ 62
 unfolding greatest_position_count
 counts_multiply = lit< tt
 
-module _ (letters rest : List Letter) (w g d n base : ℕ) (count : KExpr) (insert : List KStmt) (bounded : Below base count)
-    (left : drop d letters ≡ Dense ∷ rest) (through : n ≡ d + chain_length (Dense ∷ rest))
-    (places : PlacesRows meaning Dense (suc d) (base + 1) w g count (Num 0) (begins_test (base + 1) w n)
+module _ (letters rest : List Letter) (letter : Letter) (full : (properties letter).full ≡ true) (w g d n base : ℕ) (count : KExpr)
+    (insert : List KStmt) (bounded : Below base count) (left : drop d letters ≡ letter ∷ rest) (through : n ≡ d + chain_length (letter ∷ rest))
+    (places : PlacesRows meaning letter (suc d) (base + 1) w g count (Num 0) (begins_test (base + 1) w n)
     (At (Key w d) (Var (base + 1))) insert)
     (c : Setting) (nothing : ℕ) (sizes : List ℕ) (table : Table) (may : MayDrain letters sizes table)
     (s : State) (dr : AreDrained nothing letters sizes table w g d count s) where
   abbrev rows : Rows
-  rows = rows_here letters rest Dense w g d n count left through nothing sizes table may s dr
+  rows = rows_here letters rest letter w g d n count left through nothing sizes table may s dr
 
   abbrev size : ℕ
-  size = size_here letters rest Dense w g d n count left through nothing sizes table may s dr
+  size = size_here letters rest letter w g d n count left through nothing sizes table may s dr
 
   abbrev total : ℕ
   total = dr.parents * size
 
+  -- as many as the kind says
+  needs : positions_for letter size dr.parents 0 ≡ total
+  needs = full_positions letter size dr.parents 0 full
+
   fits_word : total < 2 ^ 64
   fits_word =
-      let m = mul-le-mul dr.few (small letters rest Dense w g d n count left through nothing sizes table may s dr) in
+      let m = mul-le-mul dr.few (small letters rest letter w g d n count left through nothing sizes table may s dr) in
       let l = counts_multiply in omega (arith, m, l)
 
   total_told : value (Bin Mul count (At (Dimension 0 (suc d)) (Num 0))) s ≡ Some total
   total_told =
       product_is count (At (Dimension 0 (suc d)) (Num 0)) dr.parents size s dr.told
       (word_is (Dimension 0 (suc d)) (Num 0) (size ∷ []) 0 size s
-      (starts_here letters rest Dense w g d n count left through nothing sizes table may s dr).0 refl refl) fits_word
+      ((starts_here letters rest letter w g d n count left through nothing sizes table may s dr).0.size full) refl refl) fits_word
 
   abbrev then : State
   then = set_var s base total
@@ -78,10 +84,10 @@ module _ (letters rest : List Letter) (w g d n base : ℕ) (count : KExpr) (inse
   unfolding drained_then
   inserts fits =
       does_weaker c insert then _ _ _ _
-      (inserted letters rest Dense w g d n base count (Num 0) left through refl nothing sizes table may
-      then drained_then 0 (λ sparse. apart sparse) (λ full. refl) total (this_var s base total) (λ h. refl) c insert places refl
+      (inserted letters rest letter w g d n base count (Num 0) left through (full_never letter full) nothing sizes table may
+      then drained_then 0 (λ stored. apart (sym full ∙ stored)) (λ _. refl) total (this_var s base total) (λ h. sym needs) c insert places refl
       (omega arith)
-      (λ full. fits))
+      (λ _. subst (λ k. k ≤ greatest_position_count) (sym needs) fits))
       (λ u z. record {
         drained = z.0;
         probes = times_of (slot_width 0) rows.count;
@@ -89,14 +95,14 @@ module _ (letters rest : List Letter) (w g d n base : ℕ) (count : KExpr) (inse
           below = λ y less no. z.1.below y (omega (arith, less)) no ∙ other_var s base y total (λ e. absurd (omega (arith, e, less)));
           arrays = λ a st. z.1.arrays a st;
           turns = λ k. none_then_placed (s.turns k) (u.turns k) (passes_at letters d) rows.count (slot_width 0) k
-              (pass_here letters rest Dense d rows.count left) (z.1.turns k);
+              (pass_here letters rest letter d rows.count left) (z.1.turns k);
         };
       })
       (λ turns a k r. (
         times_of (slot_width 0) rows.count,
         (
           (λ j. none_then_placed (s.turns j) (turns j) (passes_at letters d) rows.count (slot_width 0) j
-              (pass_here letters rest Dense d rows.count left) (r.0 j)),
+              (pass_here letters rest letter d rows.count left) (r.0 j)),
           r.1,
         ),
       ))
@@ -136,11 +142,11 @@ module _ (letters rest : List Letter) (w g d n base : ℕ) (count : KExpr) (inse
           at_most : word_count (0 + total) ≤ slice_index (positions_from table 0 1 letters sizes) d
           at_most =
               let f = counted_few total (word_count (0 + total)) none_more in
-              let told = told_level letters rest Dense w g d n base count (Num 0) left through refl nothing sizes table may
-              s dr 0 (λ sparse. apart sparse) (λ full. refl) in
-              let same = needed_is letters rest Dense w g d n base count (Num 0) left through refl nothing sizes table may
-              s dr 0 (λ sparse. apart sparse) (λ full. refl) in
-              omega (arith, f, told, same)
+              let told = told_level letters rest letter w g d n base count (Num 0) left through (full_never letter full) nothing sizes table may
+              s dr 0 (λ stored. apart (sym full ∙ stored)) (λ _. refl) in
+              let same = needed_is letters rest letter w g d n base count (Num 0) left through (full_never letter full) nothing sizes table may
+              s dr 0 (λ stored. apart (sym full ∙ stored)) (λ _. refl) in
+              let as_many = needs in omega (arith, f, told, same, as_many)
       by_limit (inr fits) =
           does_if_no c (Bin Less (Num greatest_position_count) (Var base)) (Extend (Values 0) (Var base) (Num 0) ∷ []) [] insert then
           (λ t. t ≡ then) _ _
@@ -150,6 +156,6 @@ module _ (letters rest : List Letter) (w g d n base : ℕ) (count : KExpr) (inse
           (RefusesLevel letters sizes table d s))
           (sym is) (inserts fits))
 
-  pub dense : Does c (Set base (Bin Mul count (At (Dimension 0 (suc d)) (Num 0))) ∷ (guard_code base ++ insert)) s
+  pub full_level : Does c (Set base (Bin Mul count (At (Dimension 0 (suc d)) (Num 0))) ∷ (guard_code base ++ insert)) s
       (LeavesLevel nothing letters sizes table w g d base s) (RefusesLevel letters sizes table d s)
-  dense = does_set c base (Bin Mul count (At (Dimension 0 (suc d)) (Num 0))) (guard_code base ++ insert) s total _ _ total_told guarded
+  full_level = does_set c base (Bin Mul count (At (Dimension 0 (suc d)) (Num 0))) (guard_code base ++ insert) s total _ _ total_told guarded
