@@ -27,6 +27,8 @@ pub enum Task {
     Kernel,
     /// To run it, and print its kernel, the turns of its loops and the storage of its tensors.
     Report,
+    /// To print which accesses have to be stored in another order of their modes. No file is read.
+    Plan,
 }
 
 /// What a command line says.
@@ -90,6 +92,7 @@ fn taco_command<'a>(alloc: Global) -> Result<Command<'a>, AllocError>
     let run = statement_command(alloc, "run")?;
     let kernel = statement_command(alloc, "kernel")?;
     let report = statement_command(alloc, "report")?;
+    let plan = statement_command(alloc, "plan")?;
     let workload = workload_command(alloc)?;
     let command = Command::new(alloc, "taco")
         .disable_help_flag(true)
@@ -98,6 +101,7 @@ fn taco_command<'a>(alloc: Global) -> Result<Command<'a>, AllocError>
         .subcommand(run)?
         .subcommand(kernel)?
         .subcommand(report)?
+        .subcommand(plan)?
         .subcommand(workload)?;
     Ok(command)
 }
@@ -160,6 +164,7 @@ fn task_named(name: &str) -> Option<Task>
         "run" => Some(Task::Run),
         "kernel" => Some(Task::Kernel),
         "report" => Some(Task::Report),
+        "plan" => Some(Task::Plan),
         _ => None,
     }
 }

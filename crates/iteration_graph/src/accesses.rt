@@ -27,6 +27,20 @@ fn put_edges(
     Ok(())
 }
 
+/// The edges of an access of these variables to a tensor of this format. Refused only for want of memory.
+pub fn edges_of_access(
+    alloc: Global,
+    format: &Format,
+    vars: &[usize],
+) -> Result<Items<(usize, usize)>, AllocError>
+    requires { length format.now ≡ length vars.now }
+    ensures { IfOk result (λ edges. edges ≡ access_edges format.now vars.now) }
+{
+    let mut edges = Items::new(alloc);
+    put_edges(&mut edges, format, vars)?;
+    Ok(edges)
+}
+
 /// The edges between the variables of a statement under the formats of its tensors: each access, the result's included,
 /// gives one between the variables of each two consecutive levels, from the upper to the lower, and none where all its
 /// levels are dense. Refused only for want of memory.

@@ -7,6 +7,6 @@ mod first;
 mod laws;
 mod loops;
 
-pub use accesses::edges;
+pub use accesses::{edges, edges_of_access};
 pub use laws::{edges_lead_forward, edges_lead_round_a_cycle};
 pub use loops::{OrderFault, order};

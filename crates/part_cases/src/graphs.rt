@@ -1,13 +1,15 @@
-//! Graphs, and the edges of statements.
+//! Graphs, and the edges and lattices of statements.
 ghost use Rattle.std.specs.Prelude.{◌↔◌, IfSome, IsTrue};
 ghost use Rattle.lists.specs.Each.{Each};
 ghost use Rattle.iteration_graph.specs.Edges.{HasFormat};
 
 use crate::formats::format_of;
+use crate::statements::tell_expr;
 use case_files::{Answer, keyword_of};
 use format_spec::Format;
 use index_notation::{Access, Statement};
 use iteration_graph::{OrderFault, edges, order};
+use merge_lattice::lattice;
 
 /// The edges that words `FROM-TO` stand for.
 fn edges_of(answer: &mut Answer, words: &str) -> Option<Vec<(usize, usize)>> {
@@ -86,5 +88,33 @@ pub(crate) fn tell_edges(answer: &mut Answer, statement: &Statement, words: &str
     let edges = edges(answer.alloc(), statement, formats.as_slice());
     let edges = answer.made(edges)?;
     answer.show(edges.as_slice());
+    Some(())
+}
+
+/// The points of the lattice of a statement's right side at a variable, under the formats of words: of each its accesses, what is left,
+/// and the places of the points below it.
+pub(crate) fn tell_lattice(answer: &mut Answer, statement: &Statement, text: &str) -> Option<()> {
+    let (var, words) = keyword_of(text);
+    let var = var.parse::<usize>().ok()?;
+    let formats = formats_for(answer, statement, words)?;
+    let made = lattice(
+        answer.alloc(),
+        statement,
+        &statement.expr,
+        var,
+        formats.as_slice(),
+    );
+    let lattice = answer.made(made)?;
+    answer.tell("points");
+    for (place, point) in lattice.points.as_slice().iter().enumerate() {
+        let below = lattice.below(answer.alloc(), place);
+        let below = answer.made(below)?;
+        answer.show_all(point.iterators.as_slice());
+        answer.tell(" ");
+        tell_expr(answer, &point.expr);
+        answer.tell(" over");
+        answer.show_all(below.as_slice());
+        answer.tell(";");
+    }
     Some(())
 }

@@ -66,6 +66,8 @@
 //! ranges 3 - | =4 7 | 9            The ranges of the statement that was kept, or their fault: of each variable its range, if it is given
 //!                                  one, and behind a `|` what an operand tells of each mode: a size, behind `=`, or a greatest coordinate.
 //! edges ds ds:1,0 d                The edges of the statement that was kept, under a format for each tensor; a scalar's is `-`.
+//! lattice 0 d s s                  The points of the lattice of its right side at a loop over variable 0, under a format for each tensor:
+//!                                  the accesses of each, what is left, and the places of the points below it.
 //! form ds ds:1,0                   The loop order of the statement that was kept, and its concrete form, under a format for each tensor.
 //! graph 3 2-0 0-1                  The order of so many variables with these edges, or their cycle.
 //! format 2 ds:1,0                  The format of a word, for a tensor of this order, or its fault.

@@ -1,7 +1,7 @@
 //! The lines of case files, one after another.
 use crate::formats::tell_format;
 use crate::forms::tell_form;
-use crate::graphs::{tell_edges, tell_graph};
+use crate::graphs::{tell_edges, tell_graph, tell_lattice};
 use crate::memory::{tell_blocks, tell_refusals};
 use crate::numbered::tell_numbered;
 use crate::owners::{tell_box, tell_items, tell_tree};
@@ -57,6 +57,7 @@ impl<'a, R: Files + Print + AllocGlobal> Session<'a, R> {
         match keyword {
             "ranges" => tell_ranges(answer, statement, rest),
             "edges" => tell_edges(answer, statement, rest),
+            "lattice" => tell_lattice(answer, statement, rest),
             _ => tell_form(answer, statement, rest),
         }
     }
@@ -90,7 +91,7 @@ impl<R: Files + Print + AllocGlobal> Cases for Session<'_, R> {
         let (keyword, rest) = keyword_of(line);
         match keyword {
             "text" => self.read_text(answer, rest),
-            "ranges" | "edges" | "form" => self.tell_kept(answer, keyword, rest),
+            "ranges" | "edges" | "lattice" | "form" => self.tell_kept(answer, keyword, rest),
             "names" => tell_named(answer, rest),
             "groups" => tell_groups(answer, rest),
             "graph" => tell_graph(answer, rest),

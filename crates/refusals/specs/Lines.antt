@@ -193,7 +193,7 @@ abbrev pub bad_line_text : List ℕ → ℕ → LineKind → List ℕ
 bad_line_text path number kind = of_name path (codes ": line " ∷ decimal number ∷ kind_text kind ∷ [])
 
 abbrev pub line_of : Fault → List ℕ
-line_of fault.Usage = codes "usage: taco run EXPR WORD.. | taco kernel EXPR WORD.. | taco report EXPR WORD.. | taco gen N\n"
+line_of fault.Usage = codes "usage: taco run EXPR WORD.. | taco kernel EXPR WORD.. | taco report EXPR WORD.. | taco plan EXPR WORD.. | taco gen N\n"
 line_of (fault.Notation why) = notation_line why
 line_of (fault.Named s why) = named_line s why
 line_of (fault.WorkspaceLimit count) = workspace_text count

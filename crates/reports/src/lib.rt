@@ -4,12 +4,14 @@
 
 mod heading;
 mod kernels;
+mod plans;
 mod runs;
 mod turns;
 mod workload;
 mod workloads;
 
 pub use kernels::print_kernel_report;
+pub use plans::print_plan;
 pub use runs::print_run_report;
 pub use turns::put_turns;
 pub use workload::Workload;

@@ -24,6 +24,9 @@ use Rattle.refusals.specs.declared.fault.Fault.{Fault}
 use Rattle.refusals.specs.declared.fault.Fault.TheVariants as fault
 use Rattle.taco_top.specs.Asked.{IsRefusedByWords}
 use Rattle.taco_top.specs.Written.{HasOperands, result_ranges, result_value, IsAccepted}
+use Rattle.mode_planner.specs.Plans.{IsPlan}
+use Rattle.mode_planner.specs.declared.plans.Repack.{Repack}
+use Rattle.reports.specs.Plans.{plan_text}
 use Rattle.taco_top.specs.Told.{IsKernelOf, IsWrittenIn, Tells}
 use Rattle.taco_top.specs.Refused.{OpensOperands, Stops, IsUnwritten, IsUnprinted, Refuses}
 use Rattle.operand_packing.specs.Runnable.{told_ranges}
@@ -34,7 +37,7 @@ use Rattle.reports.specs.declared.workload.Workload.{Workload}
 use Rattle.generated_runs.specs.Workloads.{IsWorkload}
 use Rattle.reports.specs.Reports.{workload_line, kernel_report, run_report}
 use Rattle.taco_top.specs.Ends.{Cause, PutsLine}
-use Rattle.taco_top.specs.Run.{Request}
+use Rattle.taco_top.specs.Run.{Request, AsksFor}
 use Rattle.taco_top.specs.declared.computing.Computed.{Computed}
 use Rattle.taco_top.specs.declared.ending.Done.{Done}
 use Rattle.taco_top.specs.Prepared.{IsPrepared, IsUncomputed, end_of, end_of_printing}
@@ -240,7 +243,7 @@ tells_run words old new kept is told formats told_is formats_are =
 pub tells_workload : (words : List (List ℕ)) (files : FolderState) (size : ℕ) (workload : Workload)
     → command_line_of words ≡ Some (WorkloadLine size) → IsWorkload size workload → workload.turns.merge ≤ workload.cost
     → Tells words files files (workload_line workload)
-tells_workload words files size workload line is few = inr (inr (record {
+tells_workload words files size workload line is few = inr (inr (inl (record {
   size = size;
   line = line;
   workload = workload;
@@ -248,7 +251,21 @@ tells_workload words files size workload line is few = inr (inr (record {
   few = few;
   folder_is = refl;
   text_is = refl;
-}))
+})))
+
+-- the lines of a plan
+pub tells_plan : (words : List (List ℕ)) (files : FolderState) (r : Request) (plan : List Repack) → AsksFor words r → r.task ≡ task.Plan
+    → (formats : List (List FormatLevel)) → formats ≡ r.formats → IsPlan r.statement formats plan
+    → Tells words files files (plan_text r.statement plan)
+tells_plan words files r plan asks task_is formats formats_are is = inr (inr (inr (record {
+  request = r;
+  asks = asks;
+  task_is = task_is;
+  plan = plan;
+  is_plan = subst (λ layouts. IsPlan r.statement layouts plan) formats_are is;
+  folder_is = refl;
+  text_is = refl;
+})))
 
 -- a line that was put, or a part of it
 module _ {A : Type 0} where

@@ -1,4 +1,4 @@
--- Where a kernel or a workload is asked for, a command ends with its text.
+-- Where a kernel, a plan or a workload is asked for, a command ends with its text.
 use Rattle.std.specs.Prelude.{◌≡◌, ℕ, ◌⊎◌, List, Option, None, Some, true, length, map, String, string_bytes, refl}
 use Rattle.std.specs.Option.{option_map}
 use Rattle.std.proofs.Common.{◌∙◌, sym, ap, subst, inl, inr}
@@ -20,7 +20,7 @@ use Rattle.refusals.specs.Lines.{status_of}
 use Rattle.refusals.specs.declared.fault.NamedFault.TheVariants as named
 use Rattle.refusals.specs.declared.fault.Fault.{Fault}
 use Rattle.refusals.specs.declared.fault.Fault.TheVariants as fault
-use Rattle.taco_top.specs.Asked.{IsRefusedByWords, IsWant, needs_files}
+use Rattle.taco_top.specs.Asked.{IsRefusedByWords, IsWant, needs_files, needs_kernel}
 use Rattle.taco_top.proofs.OneRequest as request
 use Rattle.taco_top.specs.Run.{Request, AsksFor}
 use Rattle.taco_top.specs.Written.{IsAccepted}
@@ -28,61 +28,88 @@ use Rattle.taco_top.specs.Refused.{HasCycleFault, FailsToWrite, Refuses}
 use Rattle.taco_top.specs.Ends.{Ends, Ending, Written, Printed, Refused, Cause, status_of_end}
 use Rattle.taco_top.proofs.WholeLaws.{one_request}
 
--- ---- a kernel
-module _ (words : List (List ℕ)) (files files' : FolderState) (out out' : SinkState) (r : Request) (accepted : IsAccepted words r)
-    (task_is : r.task ≡ task.Kernel) (no_out : Rose out.faults out'.faults → ⊥) where
-  -- no other task is asked for
-  same_task : (q : Request) → AsksFor words q → q.task ≡ task.Kernel
-  same_task q asks = ap (λ x. x.task) (one_request words q r asks accepted.asks) ∙ task_is
+-- ---- a kernel or a plan: what is asked for reads no file, and no cycle refuses it
+module _ (words : List (List ℕ)) (files files' : FolderState) (out out' : SinkState) (r : Request) (asks : AsksFor words r)
+    (no_files : needs_files r.task ≡ true → ⊥) (no_run : r.task ≡ task.Run → ⊥)
+    (no_cycle : (s : Statement) (cycle : List ℕ) → HasCycleFault words s cycle → ⊥) (no_out : Rose out.faults out'.faults → ⊥) where
+  -- nothing else is asked for
+  reads_none : (q : Request) → AsksFor words q → needs_files q.task ≡ true → ⊥
+  reads_none q asks' reads = no_files (sym (ap (λ x. needs_files x.task) (one_request words q r asks' asks)) ∙ reads)
 
-  no_files : {t : Task} → t ≡ task.Kernel → needs_files t ≡ true → ⊥
-  no_files is reads = never (sym (ap needs_files is) ∙ reads)
+  runs_none : (q : Request) → AsksFor words q → q.task ≡ task.Run → ⊥
+  runs_none q asks' runs = no_run (sym (ap (λ x. x.task) (one_request words q r asks' asks)) ∙ runs)
+
+  never_by_words : (why : Fault) → IsRefusedByWords words why → IsWant why
+  never_by_words why is = request.never_both words r.task r.statement r.formats r.files r.given why asks is
+
+  not_failed : (path : Option (List ℕ)) → FailsToWrite words files files' out out' path → ⊥
+  not_failed path (inl is) = runs_none is.values.request is.values.operands.accepted.asks is.task_is
+  not_failed path (inr is) = no_out is.1.puts.cause.0.rose
+
+  text_refused : (why : Fault) → Refuses words files files' out out' why → why ≡ fault.Memory
+  text_refused fault.Usage is = absurd (never_by_words fault.Usage is.stops.refused)
+  text_refused (fault.Notation why) is = absurd (never_by_words (fault.Notation why) is.stops.refused)
+  text_refused (fault.Named s (named.Name why)) is = absurd (never_by_words (fault.Named s (named.Name why)) is.stops.refused)
+  text_refused (fault.Named s (named.Binding why)) is = absurd (never_by_words (fault.Named s (named.Binding why)) is.stops.refused)
+  text_refused (fault.Named s (named.Cycle cycle)) is = absurd (no_cycle s cycle is.stops.1)
+  text_refused (fault.Named s (named.Range why)) is =
+      absurd (reads_none is.stops.request is.stops.operands.accepted.asks is.stops.operands.reads)
+  text_refused (fault.Named s (named.SizeLimit large)) is =
+      absurd (reads_none is.stops.request is.stops.operands.accepted.asks is.stops.operands.reads)
+  text_refused (fault.WorkspaceLimit count) is =
+      absurd (reads_none is.stops.request is.stops.operands.accepted.asks is.stops.operands.reads)
+  text_refused (fault.ReadFault path) is = absurd (reads_none is.stops.request is.stops.accepted.asks is.stops.reads)
+  text_refused (fault.FileBytes path) is = absurd (reads_none is.stops.request is.stops.accepted.asks is.stops.reads)
+  text_refused (fault.BadFile path line kind) is = absurd (reads_none is.stops.request is.stops.accepted.asks is.stops.reads)
+  text_refused (fault.WriteFault path) is = absurd (not_failed (option_map (λ p. p.now) path) is)
+  text_refused fault.Memory is = refl
+
+  text_ends_well : (ended : Ending) → Cause words files files' out out' ended → (status_of_end ended ≡ 0) ⊎ (status_of_end ended ≡ 5)
+  text_ends_well (Written turns) cause = inl refl
+  text_ends_well Printed cause = inl refl
+  text_ends_well (Refused why) cause = inr (ap status_of (text_refused why cause))
+
+-- a kernel whose statement has a loop order
+module _ (words : List (List ℕ)) (r : Request) (accepted : IsAccepted words r) (task_is : r.task ≡ task.Kernel) where
+  kernel_reads_none : needs_files r.task ≡ true → ⊥
+  kernel_reads_none reads = never (sym (ap needs_files task_is) ∙ reads)
     where
       never : needs_files task.Kernel ≡ true → ⊥
       never e = cc
 
-  apart : {t : Task} → t ≡ task.Kernel → t ≡ task.Run → ⊥
-  apart is other = never (sym is ∙ other)
+  kernel_is_no_run : r.task ≡ task.Run → ⊥
+  kernel_is_no_run runs = never (sym task_is ∙ runs)
     where
       never : task.Kernel ≡ task.Run → ⊥
       never e = cc
 
-  never_by_words : (why : Fault) → IsRefusedByWords words why → IsWant why
-  never_by_words why is = request.never_both words r.task r.statement r.formats r.files r.given why accepted.asks is
-
-  no_cycle : (s : Statement) (cycle : List ℕ) → HasCycleFault words s cycle → ⊥
-  no_cycle s cycle is =
+  kernel_has_no_cycle : (s : Statement) (cycle : List ℕ) → HasCycleFault words s cycle → ⊥
+  kernel_has_no_cycle s cycle is =
       no_order (length r.statement.vars) (statement_edges r.statement r.formats) cycle accepted.order
       (subst (λ q. HasCycle q.statement q.formats cycle) (one_request words is.request r is.asks accepted.asks)
       (subst (λ u. HasCycle u is.request.formats cycle) (sym is.statement_is) is.is))
       accepted.is_order
 
-  not_failed : (path : Option (List ℕ)) → FailsToWrite words files files' out out' path → ⊥
-  not_failed path (inl is) = apart (same_task is.values.request is.values.operands.accepted.asks) is.task_is
-  not_failed path (inr is) = no_out is.1.puts.cause.0.rose
+-- a plan
+module _ (words : List (List ℕ)) (r : Request) (asks : AsksFor words r) (task_is : r.task ≡ task.Plan) where
+  plan_reads_none : needs_files r.task ≡ true → ⊥
+  plan_reads_none reads = never (sym (ap needs_files task_is) ∙ reads)
+    where
+      never : needs_files task.Plan ≡ true → ⊥
+      never e = cc
 
-  kernel_refused : (why : Fault) → Refuses words files files' out out' why → why ≡ fault.Memory
-  kernel_refused fault.Usage is = absurd (never_by_words fault.Usage is.stops.refused)
-  kernel_refused (fault.Notation why) is = absurd (never_by_words (fault.Notation why) is.stops.refused)
-  kernel_refused (fault.Named s (named.Name why)) is = absurd (never_by_words (fault.Named s (named.Name why)) is.stops.refused)
-  kernel_refused (fault.Named s (named.Binding why)) is = absurd (never_by_words (fault.Named s (named.Binding why)) is.stops.refused)
-  kernel_refused (fault.Named s (named.Cycle cycle)) is = absurd (no_cycle s cycle is.stops.1)
-  kernel_refused (fault.Named s (named.Range why)) is =
-      absurd (no_files (same_task is.stops.request is.stops.operands.accepted.asks) is.stops.operands.reads)
-  kernel_refused (fault.Named s (named.SizeLimit large)) is =
-      absurd (no_files (same_task is.stops.request is.stops.operands.accepted.asks) is.stops.operands.reads)
-  kernel_refused (fault.WorkspaceLimit count) is =
-      absurd (no_files (same_task is.stops.request is.stops.operands.accepted.asks) is.stops.operands.reads)
-  kernel_refused (fault.ReadFault path) is = absurd (no_files (same_task is.stops.request is.stops.accepted.asks) is.stops.reads)
-  kernel_refused (fault.FileBytes path) is = absurd (no_files (same_task is.stops.request is.stops.accepted.asks) is.stops.reads)
-  kernel_refused (fault.BadFile path line kind) is = absurd (no_files (same_task is.stops.request is.stops.accepted.asks) is.stops.reads)
-  kernel_refused (fault.WriteFault path) is = absurd (not_failed (option_map (λ p. p.now) path) is)
-  kernel_refused fault.Memory is = refl
+  plan_is_no_run : r.task ≡ task.Run → ⊥
+  plan_is_no_run runs = never (sym task_is ∙ runs)
+    where
+      never : task.Plan ≡ task.Run → ⊥
+      never e = cc
 
-  kernel_ends_well : (ended : Ending) → Cause words files files' out out' ended → (status_of_end ended ≡ 0) ⊎ (status_of_end ended ≡ 5)
-  kernel_ends_well (Written turns) cause = inl refl
-  kernel_ends_well Printed cause = inl refl
-  kernel_ends_well (Refused why) cause = inr (ap status_of (kernel_refused why cause))
+  plan_has_no_cycle : (s : Statement) (cycle : List ℕ) → HasCycleFault words s cycle → ⊥
+  plan_has_no_cycle s cycle is =
+      never (sym (ap (λ x. needs_kernel x.task) (one_request words is.request r is.asks asks) ∙ ap needs_kernel task_is) ∙ is.needs)
+    where
+      never : needs_kernel task.Plan ≡ true → ⊥
+      never e = cc
 
 -- ---- a workload
 module _ (words : List (List ℕ)) (files files' : FolderState) (out out' : SinkState) (size : ℕ)
@@ -139,8 +166,19 @@ pub kernel_ends : (words : List (String Global)) (request : Request) (files file
     (status : ℕ) → IsAccepted (map string_bytes words) request → request.task ≡ task.Kernel → (Rose out.faults out'.faults → ⊥)
     → Ends words files files' out out' err err' status → (status ≡ 0) ⊎ (status ≡ 5)
 kernel_ends words request files files' out out' err err' status accepted task_is no_out ends =
+    let ws = map string_bytes words in
     subst (λ n. (n ≡ 0) ⊎ (n ≡ 5)) (sym ends.status_is)
-    (kernel_ends_well (map string_bytes words) files files' out out' request accepted task_is no_out ends.ended ends.cause)
+    (text_ends_well ws files files' out out' request accepted.asks (kernel_reads_none ws request accepted task_is)
+    (kernel_is_no_run ws request accepted task_is) (kernel_has_no_cycle ws request accepted task_is) no_out ends.ended ends.cause)
+
+pub plan_ends : (words : List (String Global)) (request : Request) (files files' : FolderState) (out out' err err' : SinkState)
+    (status : ℕ) → AsksFor (map string_bytes words) request → request.task ≡ task.Plan → (Rose out.faults out'.faults → ⊥)
+    → Ends words files files' out out' err err' status → (status ≡ 0) ⊎ (status ≡ 5)
+plan_ends words request files files' out out' err err' status asks task_is no_out ends =
+    let ws = map string_bytes words in
+    subst (λ n. (n ≡ 0) ⊎ (n ≡ 5)) (sym ends.status_is)
+    (text_ends_well ws files files' out out' request asks (plan_reads_none ws request asks task_is)
+    (plan_is_no_run ws request asks task_is) (plan_has_no_cycle ws request asks task_is) no_out ends.ended ends.cause)
 
 pub workload_ends : (words : List (String Global)) (size : ℕ) (files files' : FolderState) (out out' err err' : SinkState)
     (status : ℕ) → command_line_of (map string_bytes words) ≡ Some (WorkloadLine size) → (Rose out.faults out'.faults → ⊥)

@@ -76,7 +76,8 @@ module _ (words : List (List ℕ)) (files files' : FolderState) (out out' : Sink
     nothing_told : {text : List ℕ} → Tells words files files' text → ⊥
     nothing_told (inl is) = never is.accepted.asks.names.line
     nothing_told (inr (inl is)) = never is.values.operands.accepted.asks.names.line
-    nothing_told (inr (inr is)) = never is.line
+    nothing_told (inr (inr (inl is))) = never is.line
+    nothing_told (inr (inr (inr is))) = never is.asks.names.line
 
     found : (ended : Ending) → Cause words files files' out out' ended
         → (status_of_end ended ≡ 2) ⊎ (status_of_end ended ≡ 5)

@@ -25,11 +25,19 @@ use Rattle.taco_top.specs.declared.asked.Work.TheVariants as work
 abbrev pub texts_in : List (Bor (List ℕ)) → List (List ℕ)
 texts_in words = map (λ word. word.now) words
 
--- a kernel is printed without a look at files
+-- a kernel and a plan are printed without a look at files
 abbrev pub needs_files : Task → Bool
 needs_files task.Run = true
 needs_files task.Kernel = false
 needs_files task.Report = true
+needs_files task.Plan = false
+
+-- a plan asks for no kernel, and so for no order of loops
+abbrev pub needs_kernel : Task → Bool
+needs_kernel task.Run = true
+needs_kernel task.Kernel = true
+needs_kernel task.Report = true
+needs_kernel task.Plan = false
 
 -- the command line asks this task for a statement of this text
 abbrev pub AsksOf : List (List ℕ) → Task → List ℕ → List (List ℕ) → Type 0

@@ -23,7 +23,7 @@ use Rattle.refusals.specs.declared.fault.NamedFault.TheVariants as named
 use Rattle.refusals.specs.declared.fault.Fault.{Fault}
 use Rattle.refusals.specs.declared.fault.Fault.TheVariants as fault
 use Rattle.command_line.specs.declared.Task.TheVariants as task
-use Rattle.taco_top.specs.Asked.{IsRefusedByWords, needs_files}
+use Rattle.taco_top.specs.Asked.{IsRefusedByWords, needs_files, needs_kernel}
 use Rattle.taco_top.specs.Run.{Request, AsksFor, path_of}
 use Rattle.taco_top.specs.Written.{means, IsAccepted, asked_orders, asked_paths, HasOperands, HasResult, result_ranges, result_value}
 use Rattle.taco_top.specs.Told.{IsComputed, Tells}
@@ -36,11 +36,12 @@ pub record OpensOperands (words : List (List ℕ)) (old new : FolderState) : Typ
   pub opens : OpensFirst old new (asked_paths request)
   pub no_fault : NoReadFails old new
 
--- the storage orders of the tensors have this cycle
+-- a kernel is asked for, and the storage orders of the tensors have this cycle
 pub record HasCycleFault (words : List (List ℕ)) (s : Statement) (cycle : List ℕ) : Type 0 where
   pub request : Request
   pub statement_is : request.statement ≡ s
   pub asks : AsksFor words request
+  pub needs : needs_kernel request.task ≡ true
   pub is : HasCycle s request.formats cycle
 
 -- why the operands of what the words ask for aren't read

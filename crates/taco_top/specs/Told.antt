@@ -16,8 +16,11 @@ use Rattle.command_line.specs.CommandLine.{Workload as WorkloadLine, command_lin
 use Rattle.command_line.specs.declared.Task.TheVariants as task
 use Rattle.reports.specs.declared.workload.Workload.{Workload}
 use Rattle.generated_runs.specs.Workloads.{IsWorkload}
+use Rattle.mode_planner.specs.Plans.{IsPlan}
+use Rattle.mode_planner.specs.declared.plans.Repack.{Repack}
+use Rattle.reports.specs.Plans.{plan_text}
 use Rattle.reports.specs.Reports.{workload_line, kernel_report, run_report}
-use Rattle.taco_top.specs.Run.{Request}
+use Rattle.taco_top.specs.Run.{Request, AsksFor}
 use Rattle.taco_top.specs.Written.{IsAccepted, HasResult, IsWritten}
 
 -- a kernel that is right for the statement and its formats, in their loop order
@@ -62,6 +65,16 @@ pub record TellsRun (words : List (List ℕ)) (old new : FolderState) (text : Li
   pub text_is : text ≡ run_report values.request.statement computed.order values.request.formats computed.kernel computed.turns
       computed.tensor
 
+-- `plan`: the accesses of the statement that have to be stored in another order of their modes; no file is opened
+pub record TellsPlan (words : List (List ℕ)) (old new : FolderState) (text : List ℕ) : Type 0 where
+  pub request : Request
+  pub asks : AsksFor words request
+  pub task_is : request.task ≡ task.Plan
+  pub plan : List Repack
+  pub is_plan : IsPlan request.statement request.formats plan
+  pub folder_is : new ≡ old
+  pub text_is : text ≡ plan_text request.statement plan
+
 -- `gen`: the line of the generated workload of this size, whose merged loops turn no more often than it costs; no file is opened
 pub record TellsWorkload (words : List (List ℕ)) (old new : FolderState) (text : List ℕ) : Type 0 where
   pub size : ℕ
@@ -73,7 +86,8 @@ pub record TellsWorkload (words : List (List ℕ)) (old new : FolderState) (text
   pub text_is : text ≡ workload_line workload
 
 abbrev pub Tells : List (List ℕ) → FolderState → FolderState → List ℕ → Type 0
-Tells words old new text = TellsKernel words old new text ⊎ TellsRun words old new text ⊎ TellsWorkload words old new text
+Tells words old new text =
+    TellsKernel words old new text ⊎ TellsRun words old new text ⊎ TellsWorkload words old new text ⊎ TellsPlan words old new text
 
 -- the text was printed; no file is written
 pub record IsPrinted (words : List (List ℕ)) (files files' : FolderState) (out out' : SinkState) : Type 0 where

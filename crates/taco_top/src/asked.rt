@@ -47,13 +47,13 @@ fn read_words<'a>(alloc: Global, words: &'a [String]) -> Result<Request<'a>, Fau
     }
 }
 
-/// Whether a task reads the operands' files. A kernel is printed without a look at them.
+/// Whether a task reads the operands' files. A kernel and a plan are printed without a look at them.
 fn reads_files(task: Task) -> bool
     ensures { result ≡ needs_files task }
 {
     match task {
         Task::Run | Task::Report => true,
-        Task::Kernel => false,
+        Task::Kernel | Task::Plan => false,
     }
 }
 

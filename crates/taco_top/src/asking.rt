@@ -1,10 +1,11 @@
 //! What the words ask for, with its kernel.
-ghost use Rattle.std.specs.Prelude.{◌≡◌, ℕ, List, IfOk, IfErr};
+ghost use Rattle.std.specs.Prelude.{◌≡◌, ℕ, List, IfOk, IfErr, true};
 ghost use Rattle.index_notation.specs.Statement.{IsNumbered};
 ghost use Rattle.outside.specs.Folder.{FolderState};
 ghost use Rattle.taco_top.specs.Written.{IsAccepted};
 ghost use Rattle.taco_top.specs.Told.{IsKernelOf};
 ghost use Rattle.taco_top.specs.Refused.{Stops};
+ghost use Rattle.taco_top.specs.Asked.{needs_kernel};
 ghost use Rattle.taco_top.specs.Run.{AsksFor, request_of};
 
 use crate::asked::Asked;
@@ -24,6 +25,7 @@ pub(crate) struct Accepted<'a> {
 pub(crate) fn accept<'a>(alloc: Global, asked: Asked<'a>) -> Result<Accepted<'a>, Fault<'a>>
     requires asked { (words : List (List ℕ)) × AsksFor words (request_of asked) }
     requires numbered { IsNumbered asked.statement }
+    requires needs { needs_kernel asked.task ≡ true }
     ensures accepted { IfOk result (λ accepted. (words : List (List ℕ)) → AsksFor words (request_of asked.entry)
         → IsAccepted words (request_of accepted.asked)) }
     ensures kernel { IfOk result (λ accepted. IsKernelOf (request_of accepted.asked) accepted.compiled.order accepted.compiled.kernel) }

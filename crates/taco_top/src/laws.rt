@@ -14,7 +14,7 @@ ghost use Rattle.command_line.specs.declared.Task.TheVariants as task;
 ghost use Rattle.taco_top.specs.Asked.{Asks, IsRefusedByWords, IsWant};
 ghost use Rattle.taco_top.specs.Written.{IsAccepted, IsWritten};
 ghost use Rattle.taco_top.specs.Ends.{Ends};
-ghost use Rattle.taco_top.specs.Run.{Request};
+ghost use Rattle.taco_top.specs.Run.{AsksFor, Request};
 ghost use Rattle.taco_top.specs.Whole.{IsWhole};
 
 /// Claim: a command line asks for one task of one statement, with one list of formats, of files and of ranges; or it asks for a workload,
@@ -58,11 +58,14 @@ pub fn whole_input_is_computed()
         → first.writes.text ≡ second.writes.text }
 {}
 
-/// Claim: where the words ask for a kernel and pass, and where they ask for a generated workload, a call ends with status 0, and so with
-/// its text, unless the output failed, or with want of memory.
+/// Claim: where the words ask for a kernel and pass, where they ask for a plan, and where they ask for a generated workload, a call ends
+/// with status 0, and so with its text, unless the output failed, or with want of memory. So no cycle refuses a plan.
 pub fn texts_are_printed()
     ensures kernels { (words : List (String Global)) (request : Request) (files files' : FolderState) (out out' err err' : SinkState)
         (status : ℕ) → IsAccepted (map string_bytes words) request → request.task ≡ task.Kernel → (Rose out.faults out'.faults → ⊥)
+        → Ends words files files' out out' err err' status → (status ≡ 0) ⊎ (status ≡ 5) }
+    ensures plans { (words : List (String Global)) (request : Request) (files files' : FolderState) (out out' err err' : SinkState)
+        (status : ℕ) → AsksFor (map string_bytes words) request → request.task ≡ task.Plan → (Rose out.faults out'.faults → ⊥)
         → Ends words files files' out out' err err' status → (status ≡ 0) ⊎ (status ≡ 5) }
     ensures workloads { (words : List (String Global)) (size : ℕ) (files files' : FolderState) (out out' err err' : SinkState)
         (status : ℕ) → command_line_of (map string_bytes words) ≡ Some (Workload size) → (Rose out.faults out'.faults → ⊥)

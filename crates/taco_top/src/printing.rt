@@ -1,6 +1,7 @@
 //! The texts of the commands that write no file.
 ghost use Rattle.std.specs.Prelude.{◌≡◌, ◌≤◌, ℕ, List, Some};
 ghost use Rattle.limits.specs.Limits.{greatest_workload};
+ghost use Rattle.index_notation.specs.Statement.{IsNumbered};
 ghost use Rattle.outside.specs.Folder.{FolderState};
 ghost use Rattle.command_line.specs.CommandLine.{Workload as WorkloadLine, command_line_of};
 ghost use Rattle.command_line.specs.declared.Task.TheVariants as task;
@@ -8,16 +9,18 @@ ghost use Rattle.operand_files.specs.Reads.{OnlyReads};
 ghost use Rattle.taco_top.specs.Written.{IsAccepted};
 ghost use Rattle.taco_top.specs.Told.{IsKernelOf};
 ghost use Rattle.taco_top.specs.Ends.{Cause};
-ghost use Rattle.taco_top.specs.Run.{request_of};
+ghost use Rattle.taco_top.specs.Run.{AsksFor, request_of};
 ghost use Rattle.taco_top.specs.Prepared.{IsPrepared, end_of};
 
+use crate::asked::Asked;
 use crate::asking::Accepted;
 use crate::computing::Computed;
 use crate::ending::{Done, printed};
 use generated_runs::run_workload;
+use mode_planner::plan;
 use outside::Sink;
 use refusals::Fault;
-use reports::{print_kernel_report, print_run_report, print_workload};
+use reports::{print_kernel_report, print_plan, print_run_report, print_workload};
 use std::alloc::Global;
 
 /// Prints the kernel of what the words ask for.
@@ -60,6 +63,25 @@ pub(crate) fn tell_run<'a, O: Sink>(out: &mut O, computed: &Computed<'a>) -> Res
         &result.turns,
         &result.tensor,
     ))
+}
+
+/// Prints the accesses of what the words ask for that have to be stored in another order of their modes.
+pub(crate) fn tell_plan<'a, O: Sink>(
+    alloc: Global,
+    out: &mut O,
+    asked: &Asked<'a>,
+) -> Result<Done, Fault<'a>>
+    requires asked { (words : List (List ℕ)) × AsksFor words (request_of asked.now) }
+    requires numbered { IsNumbered asked.now.statement }
+    requires task { asked.now.task ≡ task.Plan }
+    ensures { (words : List (List ℕ)) (files : FolderState) → AsksFor words (request_of asked.now)
+        → Cause words files files (O.state out.old) (O.state out.new) (end_of result) }
+{
+    let statement = &asked.statement;
+    match plan(alloc, statement, asked.bindings.formats.as_slice()) {
+        Ok(plan) => printed(print_plan(out, statement, plan.as_slice())),
+        Err(_) => Err(Fault::Memory),
+    }
 }
 
 /// Runs the generated workload of this size, and prints its line.

@@ -2,18 +2,17 @@
 ghost use Rattle.std.specs.Prelude.{◌≡◌, ℕ, List, map, string_bytes};
 ghost use Rattle.command_line.specs.declared.Task.TheVariants as task;
 ghost use Rattle.index_notation.specs.Statement.{IsNumbered};
-ghost use Rattle.taco_top.specs.Written.{IsAccepted};
-ghost use Rattle.taco_top.specs.Told.{IsKernelOf};
+ghost use Rattle.outside.specs.Folder.{FolderState};
 ghost use Rattle.refusals.specs.Lines.{status_of, line_of};
 ghost use Rattle.taco_top.specs.Ends.{Cause, Ends, PutsLine};
 ghost use Rattle.taco_top.specs.Run.{AsksFor, request_of};
 ghost use Rattle.taco_top.specs.Prepared.{end_of};
 
 use crate::asked::{Asked, Work, ask};
-use crate::asking::{Accepted, accept};
+use crate::asking::accept;
 use crate::computing::compute;
 use crate::ending::Done;
-use crate::printing::{tell_kernel, tell_run, tell_workload};
+use crate::printing::{tell_kernel, tell_plan, tell_run, tell_workload};
 use crate::writing::write;
 use command_line::Task;
 use outside::{Folder, Sink};
@@ -24,19 +23,36 @@ use std::alloc::Global;
 /// Writes the result of what the words ask for.
 fn run<'a, F: Folder, O: Sink>(
     alloc: Global,
-    accepted: Accepted<'a>,
+    asked: Asked<'a>,
     files: &mut F,
     out: &mut O,
 ) -> Result<Done, Fault<'a>>
-    requires accepted { (words : List (List ℕ)) × IsAccepted words (request_of accepted.asked) }
-    requires kernel { IsKernelOf (request_of accepted.asked) accepted.compiled.order accepted.compiled.kernel }
-    requires numbered { IsNumbered accepted.asked.statement }
-    requires task { accepted.asked.task ≡ task.Run }
-    ensures { (words : List (List ℕ)) → IsAccepted words (request_of accepted.entry.asked)
+    requires asked { (words : List (List ℕ)) × AsksFor words (request_of asked) }
+    requires numbered { IsNumbered asked.statement }
+    requires task { asked.task ≡ task.Run }
+    ensures { (words : List (List ℕ)) → AsksFor words (request_of asked.entry)
         → Cause words (F.state files.old) (F.state files.new) (O.state out.old) (O.state out.new) (end_of result) }
 {
+    let accepted = match accept(alloc, asked) {
+        Ok(accepted) => accepted,
+        Err(fault) => return Err(fault),
+    };
     match compute(alloc, accepted, files) {
         Ok(computed) => write(files, out, &computed),
+        Err(fault) => Err(fault),
+    }
+}
+
+/// Prints the kernel of what the words ask for.
+fn kernel<'a, O: Sink>(alloc: Global, asked: Asked<'a>, out: &mut O) -> Result<Done, Fault<'a>>
+    requires asked { (words : List (List ℕ)) × AsksFor words (request_of asked) }
+    requires numbered { IsNumbered asked.statement }
+    requires task { asked.task ≡ task.Kernel }
+    ensures { (words : List (List ℕ)) (files : FolderState) → AsksFor words (request_of asked.entry)
+        → Cause words files files (O.state out.old) (O.state out.new) (end_of result) }
+{
+    match accept(alloc, asked) {
+        Ok(accepted) => tell_kernel(out, &accepted),
         Err(fault) => Err(fault),
     }
 }
@@ -44,17 +60,20 @@ fn run<'a, F: Folder, O: Sink>(
 /// Prints a report of the run of what the words ask for.
 fn report<'a, F: Folder, O: Sink>(
     alloc: Global,
-    accepted: Accepted<'a>,
+    asked: Asked<'a>,
     files: &mut F,
     out: &mut O,
 ) -> Result<Done, Fault<'a>>
-    requires accepted { (words : List (List ℕ)) × IsAccepted words (request_of accepted.asked) }
-    requires kernel { IsKernelOf (request_of accepted.asked) accepted.compiled.order accepted.compiled.kernel }
-    requires numbered { IsNumbered accepted.asked.statement }
-    requires task { accepted.asked.task ≡ task.Report }
-    ensures { (words : List (List ℕ)) → IsAccepted words (request_of accepted.entry.asked)
+    requires asked { (words : List (List ℕ)) × AsksFor words (request_of asked) }
+    requires numbered { IsNumbered asked.statement }
+    requires task { asked.task ≡ task.Report }
+    ensures { (words : List (List ℕ)) → AsksFor words (request_of asked.entry)
         → Cause words (F.state files.old) (F.state files.new) (O.state out.old) (O.state out.new) (end_of result) }
 {
+    let accepted = match accept(alloc, asked) {
+        Ok(accepted) => accepted,
+        Err(fault) => return Err(fault),
+    };
     match compute(alloc, accepted, files) {
         Ok(computed) => tell_run(out, &computed),
         Err(fault) => Err(fault),
@@ -73,14 +92,11 @@ fn answer_statement<'a, F: Folder, O: Sink>(
     ensures { (words : List (List ℕ)) → AsksFor words (request_of asked.entry)
         → Cause words (F.state files.old) (F.state files.new) (O.state out.old) (O.state out.new) (end_of result) }
 {
-    let accepted = match accept(alloc, asked) {
-        Ok(accepted) => accepted,
-        Err(fault) => return Err(fault),
-    };
-    match accepted.asked.task {
-        Task::Run => run(alloc, accepted, files, out),
-        Task::Kernel => tell_kernel(out, &accepted),
-        Task::Report => report(alloc, accepted, files, out),
+    match asked.task {
+        Task::Run => run(alloc, asked, files, out),
+        Task::Kernel => kernel(alloc, asked, out),
+        Task::Report => report(alloc, asked, files, out),
+        Task::Plan => tell_plan(alloc, out, &asked),
     }
 }
 

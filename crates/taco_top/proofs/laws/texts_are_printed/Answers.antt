@@ -1,4 +1,4 @@
-use Rattle.taco_top.proofs.TextLaws.{kernel_ends, workload_ends}
+use Rattle.taco_top.proofs.TextLaws.{kernel_ends, plan_ends, workload_ends}
 use Rattle.taco_top.proofs.laws.texts_are_printed.Goals as goal
 
 pub returns-clause-kernels : goal.returns-clause-kernels
@@ -6,3 +6,6 @@ returns-clause-kernels c = kernel_ends
 
 pub returns-clause-workloads : goal.returns-clause-workloads
 returns-clause-workloads c = workload_ends
+
+pub returns-clause-plans : goal.returns-clause-plans
+returns-clause-plans c = plan_ends

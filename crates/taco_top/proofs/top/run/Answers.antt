@@ -1,23 +1,34 @@
-use Rattle.std.proofs.Common.{subst}
+use Rattle.std.proofs.Common.{◌∙◌, subst}
 use Rattle.taco_top.specs.Prepared.{IsPrepared}
-use Rattle.taco_top.proofs.Stopped.{stopped}
+use Rattle.taco_top.proofs.Stopped.{stopped, reads_nothing}
 use Rattle.taco_top.proofs.top.run.Goals as goal
+
+pub returns-in-Err : goal.returns-in-Err
+returns-in-Err g c = λ words asks.
+    stopped words (g.F.Folder.state c.args.files.now) (g.F.Folder.state c.args.files.now) (g.O.Sink.state c.args.out.now)
+    c.in-Err.fault (reads_nothing (g.F.Folder.state c.args.files.now))
+    (c.in-Err.ensures.refused words asks (g.F.Folder.state c.args.files.now))
+
+pub compute-requires-clause-accepted : goal.compute-requires-clause-accepted
+compute-requires-clause-accepted g c = (c.requires.asked.0, c.in-Ok.ensures.accepted c.requires.asked.0 c.requires.asked.1)
 
 pub write-requires : goal.write-requires
 write-requires g c = (
-  c.requires.accepted.0,
+  c.requires.asked.0,
   g.F.Folder.state c.args.files.now,
-  subst (λ t. IsPrepared c.requires.accepted.0 t (g.F.Folder.state c.args.files.now) (g.F.Folder.state c.compute.new.files)
-      c.in-Ok.computed) c.requires.task (c.in-Ok.ensures.computed c.requires.accepted.0 c.requires.accepted.1),
+  subst (λ t. IsPrepared c.requires.asked.0 t (g.F.Folder.state c.args.files.now) (g.F.Folder.state c.compute.new.files)
+      c.in-Ok-compute.computed) (c.in-Ok.ensures.task ∙ c.requires.task)
+      (c.in-Ok-compute.ensures.computed c.requires.asked.0 (c.in-Ok.ensures.accepted c.requires.asked.0 c.requires.asked.1)),
 )
 
-pub returns-in-Ok : goal.returns-in-Ok
-returns-in-Ok g c = λ words accepted.
-    c.write.ensures words (g.F.Folder.state c.args.files.now) c.in-Ok.ensures.only_reads
-    (subst (λ t. IsPrepared words t (g.F.Folder.state c.args.files.now) (g.F.Folder.state c.compute.new.files) c.in-Ok.computed)
-    c.requires.task (c.in-Ok.ensures.computed words accepted))
+pub returns-in-Ok-compute : goal.returns-in-Ok-compute
+returns-in-Ok-compute g c = λ words asks.
+    c.write.ensures words (g.F.Folder.state c.args.files.now) c.in-Ok-compute.ensures.only_reads
+    (subst (λ t. IsPrepared words t (g.F.Folder.state c.args.files.now) (g.F.Folder.state c.compute.new.files) c.in-Ok-compute.computed)
+    (c.in-Ok.ensures.task ∙ c.requires.task) (c.in-Ok-compute.ensures.computed words (c.in-Ok.ensures.accepted words asks)))
 
-pub returns-in-Err : goal.returns-in-Err
-returns-in-Err g c = λ words accepted.
+pub returns-in-Err-compute : goal.returns-in-Err-compute
+returns-in-Err-compute g c = λ words asks.
     stopped words (g.F.Folder.state c.args.files.now) (g.F.Folder.state c.compute.new.files) (g.O.Sink.state c.args.out.now)
-    c.in-Err.fault c.in-Err.ensures.only_reads (c.in-Err.ensures.stops words accepted)
+    c.in-Err-compute.fault c.in-Err-compute.ensures.only_reads
+    (c.in-Err-compute.ensures.stops words (c.in-Ok.ensures.accepted words asks))

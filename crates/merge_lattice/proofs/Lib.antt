@@ -1,0 +1,4 @@
+pub mod Bools
+pub mod LeftParts
+pub mod Sets
+pub mod Complete

@@ -1,0 +1,4 @@
+pub mod Iterators
+pub mod Lattices
+pub mod Parts
+pub mod Points
