@@ -1,5 +1,6 @@
 -- How a kernel is made ready: the level at which a result can't be begun, and the state from which the kernel runs.
-use Rattle.std.specs.Prelude.{◌≡◌, ◌⊎◌, ℕ, suc, ◌<◌, ◌≤◌, true, false, List, ◌∷◌, length, replicate, Option, Some, None, slice_get}
+use Rattle.std.specs.Prelude.{◌≡◌, ◌⊎◌, ℕ, suc, ◌<◌, ◌≤◌, true, false}
+use Rattle.std.specs.Prelude.{List, ◌∷◌, length, replicate, slice_get, Option, Some, None}
 use Rattle.limits.specs.Limits.{greatest_position_count}
 use Rattle.numbers.specs.Arithmetic.{Arithmetic}
 use Rattle.kernel_code.specs.declared.syntax.Kernel.{Kernel}
@@ -67,11 +68,12 @@ stored_values (Some t) = Some t.values
 -- no array is there but those of the store: of each level of the result those that its kind has, of each operand those that its levels
 -- have, and its values
 pub record HaveNoMore (store : Store) (arrays : Arrays) : Type 0 where
-  pub lacking : (i : ℕ) (letter : Letter) (array : LevelArray) → slice_get (letters_of store.format) i ≡ Some letter → Lacks letter array
-      → arrays (array_of array 0 (suc i)) ≡ None
+  pub lacking : (i : ℕ) (letter : Letter) (array : LevelArray) → slice_get (letters_of store.format) i ≡ Some letter
+      → Lacks letter array → arrays (array_of array 0 (suc i)) ≡ None
   pub above : (array : LevelArray) → arrays (array_of array 0 0) ≡ None
   pub behind : (k : ℕ) (array : LevelArray) → length (letters_of store.format) < k → arrays (array_of array 0 k) ≡ None
-  pub operands : (i k : ℕ) (array : LevelArray) → arrays (array_of array (suc i) k) ≡ stored_words (slice_get store.operands i) k array
+  pub operands : (i k : ℕ) (array : LevelArray)
+      → arrays (array_of array (suc i) k) ≡ stored_words (slice_get store.operands i) k array
   pub values : (i : ℕ) → arrays (Values (suc i)) ≡ stored_values (slice_get store.operands i)
   pub scratch : (a : Arr) → is_scratch a ≡ true → arrays a ≡ None
 

@@ -1,5 +1,6 @@
 -- Which accesses are stored anew where the storage orders of a statement's tensors have a cycle, and in which order of their modes.
-use Rattle.std.specs.Prelude.{◌≡◌, ℕ, ◌==◌, nat_lt, Bool, if◌then◌else◌, List, [], ◌∷◌, ◌++◌, Option, filter_map, map, position, length, slice_index, ◌<◌}
+use Rattle.std.specs.Prelude.{◌≡◌, ℕ, ◌==◌, nat_lt, ◌<◌, Bool, if◌then◌else◌, Option}
+use Rattle.std.specs.Prelude.{List, [], ◌∷◌, ◌++◌, filter_map, map, position, length, slice_index}
 use Rattle.std.specs.List.{list_any}
 use Rattle.format_spec.specs.declared.format.FormatLevel.{FormatLevel}
 use Rattle.index_notation.specs.Statement.{numbers_from}

@@ -7,11 +7,12 @@ ghost use Rattle.iteration_graph.specs.Graphs.{NamesCycle};
 ghost use Rattle.lists.specs.Each.{Each};
 ghost use Rattle.mode_planner.specs.Plans.{LeadsForward, planned_edges};
 
-/// Claim: where an access is stored as its plan tells, in the standing order of its variables, and as before where it isn't named, each of
-/// its edges leads from an earlier variable of the standing order to a later one; and where each edge of a graph does, no cycle is named.
-/// So a statement whose accesses are all stored so has a loop order.
+/// Claim: where an access is stored as its plan tells, in the standing order of its variables, and as before where it isn't named,
+/// each of its edges leads from an earlier variable of the standing order to a later one; and where each edge of a graph does, no
+/// cycle is named. So a statement whose accesses are all stored so has a loop order.
 pub fn planned_loops_have_an_order()
     ensures forward { (count : ℕ) (levels : List FormatLevel) (vars : List ℕ) → IsFormat levels → length levels ≡ length vars
         → IsDistinct vars → Each LeadsForward (planned_edges count levels vars) }
-    ensures no_cycle { (n : ℕ) (edges : List (ℕ × ℕ)) (cycle : List ℕ) → Each LeadsForward edges → NamesCycle n edges cycle → ⊥ }
+    ensures no_cycle { (n : ℕ) (edges : List (ℕ × ℕ)) (cycle : List ℕ) → Each LeadsForward edges
+        → NamesCycle n edges cycle → ⊥ }
 {}

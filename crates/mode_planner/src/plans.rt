@@ -80,7 +80,8 @@ fn repacks(
 ) -> Result<Items<Repack>, AllocError>
     requires left { HasFormat formats.now statement.now.left }
     requires right { Each (HasFormat formats.now) statement.now.accesses }
-    ensures { IfOk result (λ repacks. repacks ≡ repacks_of formats.now (length statement.now.vars) (statement.now.left ∷ statement.now.accesses)) }
+    ensures { IfOk result (λ repacks. repacks
+        ≡ repacks_of formats.now (length statement.now.vars) (statement.now.left ∷ statement.now.accesses)) }
 {
     let count = statement.vars.len();
     let left = &statement.left;

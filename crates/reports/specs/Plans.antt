@@ -29,7 +29,8 @@ modes_text (mode ∷ modes) = decimal mode ++ flat_map next_mode modes
 -- a tensor of this name, the variables of its access, by their numbers, and modes
 abbrev pub access_line : List ℕ → List Name → List ℕ → List ℕ → List ℕ
 access_line name names numbers modes =
-    joined (codes "repack " ∷ name ∷ codes "(" ∷ []) ++ (variables_text names numbers ++ (codes ") " ++ (modes_text modes ++ codes "\n")))
+    joined (codes "repack " ∷ name ∷ codes "(" ∷ [])
+    ++ (variables_text names numbers ++ (codes ") " ++ (modes_text modes ++ codes "\n")))
 
 -- an access, and the order of modes in which its tensor is stored anew
 abbrev pub repack_line : Statement → Repack → List ℕ

@@ -80,8 +80,10 @@ fn put_modes<S: Sink>(sink: &mut S, modes: &[usize]) -> Result<(), Refusal>
 
 /// Appends what the line of an access begins with.
 fn put_title<S: Sink>(sink: &mut S, name: &[u8]) -> Result<(), Refusal>
-    ensures whole { OnOk result (Appends (S.state sink.old) (S.state sink.new) (joined (codes "repack " ∷ name.now ∷ codes "(" ∷ []))) }
-    ensures part { IfErr result (AppendsPart (S.state sink.old) (S.state sink.new) (joined (codes "repack " ∷ name.now ∷ codes "(" ∷ []))) }
+    ensures whole { OnOk result (Appends (S.state sink.old) (S.state sink.new)
+        (joined (codes "repack " ∷ name.now ∷ codes "(" ∷ []))) }
+    ensures part { IfErr result (AppendsPart (S.state sink.old) (S.state sink.new)
+        (joined (codes "repack " ∷ name.now ∷ codes "(" ∷ []))) }
 {
     put_pieces(
         sink,

@@ -30,7 +30,8 @@ unnumbered_end NotFinished = NotFinished
 -- alike: both with the same variables, arrays and turns of each kind, both stuck after the same turns, at whichever statement, both
 -- refused the same growth of the same array after the same turns, or both without a turn left.
 pub record SameRuns (arithmetic : Arithmetic) (a b : List KStmt) : Type 0 where
-  pub from : (c : Setting) → c.arithmetic ≡ arithmetic → (n : ℕ) (s : State) → unnumbered (run_list c n a s) ≡ unnumbered (run_list c n b s)
+  pub from : (c : Setting) → c.arithmetic ≡ arithmetic → (n : ℕ) (s : State)
+      → unnumbered (run_list c n a s) ≡ unnumbered (run_list c n b s)
 
 -- Two kernels have the same workspaces and scratch lists, and over an arithmetic of values, on the same arrays, within the same
 -- number of turns in all, their runs end alike: they finish with the same arrays and as many turns of each kind, are stuck, at

@@ -85,7 +85,8 @@ KeepsDrains a s formats kernel =
     → Ends a (length store.format) kernel arrays (DrainsFew s (told_by a store) store.format)
 
 -- the kernel is right and sound, its loops turn within the cost, and the rows of its workspace are gone over no more often than that
-pub record IsCompiled (a : Arithmetic) (s : Statement) (formats : List (List FormatLevel)) (order : List ℕ) (kernel : Kernel) : Type 0 where
+pub record IsCompiled (a : Arithmetic) (s : Statement) (formats : List (List FormatLevel)) (order : List ℕ) (kernel : Kernel)
+    : Type 0 where
   pub right : IsRightKernel a s formats kernel
   pub sound : IsSoundKernel a s formats kernel
   pub few : KeepsCost a s formats order kernel

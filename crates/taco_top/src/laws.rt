@@ -62,8 +62,8 @@ pub fn whole_input_is_computed()
 /// with status 0, and so with its text, unless the output failed, or with want of memory. So no cycle refuses a plan.
 pub fn texts_are_printed()
     ensures kernels { (words : List (String Global)) (request : Request) (files files' : FolderState) (out out' err err' : SinkState)
-        (status : ℕ) → IsAccepted (map string_bytes words) request → request.task ≡ task.Kernel → (Rose out.faults out'.faults → ⊥)
-        → Ends words files files' out out' err err' status → (status ≡ 0) ⊎ (status ≡ 5) }
+        (status : ℕ) → IsAccepted (map string_bytes words) request → request.task ≡ task.Kernel
+        → (Rose out.faults out'.faults → ⊥) → Ends words files files' out out' err err' status → (status ≡ 0) ⊎ (status ≡ 5) }
     ensures plans { (words : List (String Global)) (request : Request) (files files' : FolderState) (out out' err err' : SinkState)
         (status : ℕ) → AsksFor (map string_bytes words) request → request.task ≡ task.Plan → (Rose out.faults out'.faults → ⊥)
         → Ends words files files' out out' err err' status → (status ≡ 0) ⊎ (status ≡ 5) }
