@@ -1,11 +1,12 @@
 -- Dense levels of the modes in their own order.
-use Rattle.std.specs.Prelude.{◌≡◌, ℕ, zero, suc, ◌+◌, ◌≤◌, false, [], ◌∷◌, ◌++◌, length, replicate, refl}
+use Rattle.std.specs.Prelude.{◌≡◌, ℕ, zero, suc, ◌+◌, ◌≤◌, true, false, [], ◌∷◌, ◌++◌, length, replicate, refl}
 use Rattle.std.proofs.Common.{◌∙◌, sym, ap, subst, arith}
 use Rattle.std.proofs.lemmas.List.{get_or-replicate, length-replicate, length-append, map-append}
 use Rattle.limits.specs.Limits.{greatest_order}
 use Rattle.smallvec.specs.SmallVec.{SmallVec}
-use Rattle.level_core.specs.declared.letter.Letter.TheVariants.{Dense, Hashed}
-use Rattle.format_spec.specs.Formats.{FormatLevel, IsStored, IsOrder, Chained, InsertedBelowHashed, letters_of, modes_of, standing}
+use Rattle.level_core.specs.declared.letter.Letter.TheVariants.{Dense}
+use Rattle.level_core.specs.Kinds.{properties}
+use Rattle.format_spec.specs.Formats.{FormatLevel, IsStored, IsOrder, Chained, InsertedBelowUnordered, letters_of, modes_of, standing}
 use Rattle.format_spec.proofs.Counting.{standing_append, standing_is_order}
 
 pub record DenseSoFar (count : ℕ) (levels : SmallVec FormatLevel) : Type 0 where
@@ -18,12 +19,13 @@ dense_chained : (n : ℕ) → Chained false (replicate n Dense)
 dense_chained zero = refl
 dense_chained (suc n) = (refl, dense_chained n)
 
-dense_inserted : (n : ℕ) → InsertedBelowHashed (replicate n Dense)
+dense_inserted : (n : ℕ) → InsertedBelowUnordered (replicate n Dense)
 dense_inserted n i j d before end is =
     let count = length-replicate n Dense in
-    absurd (apart (sym (get_or-replicate n i Dense d (omega (arith, before, end, count))) ∙ is))
+    absurd (apart (ap (λ letter. (properties letter).ordered)
+    (sym (get_or-replicate n i Dense d (omega (arith, before, end, count)))) ∙ is))
   where
-    apart : Dense ≡ Hashed → ⊥
+    apart : true ≡ false → ⊥
     apart h = cc
 
 -- the levels are those of a format
@@ -34,7 +36,7 @@ dense_format n levels short d = record {
     order = subst (λ count. IsOrder count (modes_of levels.items)) (sym d.length_is)
         (subst (IsOrder n) (sym d.modes) (standing_is_order n));
     chained = subst (Chained false) (sym d.letters) (dense_chained n);
-    inserted = subst InsertedBelowHashed (sym d.letters) (dense_inserted n);
+    inserted = subst InsertedBelowUnordered (sym d.letters) (dense_inserted n);
   };
   inline = d.inline;
 }

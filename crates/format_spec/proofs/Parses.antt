@@ -4,7 +4,7 @@ use Rattle.std.proofs.Common.{◌∙◌, sym, ap, subst, inl, inr}
 use Rattle.std.proofs.lemmas.List.{length-map}
 use Rattle.format_spec.specs.declared.fault.FormatFault.{FormatFault}
 use Rattle.format_spec.specs.declared.fault.FormatFault.TheVariants.{BadChain, BelowHashed}
-use Rattle.format_spec.specs.Formats.{FormatLevel, IsOrder, letters_of, modes_of, Chained, InsertedBelowHashed}
+use Rattle.format_spec.specs.Formats.{FormatLevel, IsOrder, letters_of, modes_of, Chained, InsertedBelowUnordered}
 use Rattle.format_spec.specs.Words.{HasOrder, Reads, Answers}
 use Rattle.format_spec.proofs.Counting.{standing_is_order}
 
@@ -23,9 +23,9 @@ level_order n levels modes are order =
 
 abbrev pub Stands : List FormatLevel → Result (List FormatLevel) FormatFault → Type 0
 Stands levels r = MatchResult r
-    (λ format. (format ≡ levels) × Chained false (letters_of levels) × InsertedBelowHashed (letters_of levels))
+    (λ format. (format ≡ levels) × Chained false (letters_of levels) × InsertedBelowUnordered (letters_of levels))
     (λ fault. ((fault ≡ BadChain) × (Chained false (letters_of levels) → ⊥)) ⊎ ((fault ≡ BelowHashed) × Chained false (letters_of levels)
-    × (InsertedBelowHashed (letters_of levels) → ⊥)))
+    × (InsertedBelowUnordered (letters_of levels) → ⊥)))
 
 pub answered : (letters : List ℕ) (order : Option (List ℕ)) (n : ℕ) (levels : List FormatLevel)
     (r : Result (List FormatLevel) FormatFault) → Reads letters order n (letters_of levels) (modes_of levels) → Stands levels r

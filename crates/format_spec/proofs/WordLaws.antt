@@ -8,7 +8,7 @@ use Rattle.level_core.specs.declared.letter.Letter.{Letter}
 use Rattle.level_core.specs.declared.letter.Letter.TheVariants.{Dense, Compressed, CompressedGroups, Singleton, SingletonGroups, Hashed}
 use Rattle.format_spec.specs.declared.fault.FormatFault.{FormatFault}
 use Rattle.format_spec.specs.declared.fault.FormatFault.TheVariants.{BadLetter, BadLength, BadOrder, BadChain, BelowHashed}
-use Rattle.format_spec.specs.Formats.{FormatLevel, IsFormat, letters_of, modes_of, Chained, InsertedBelowHashed}
+use Rattle.format_spec.specs.Formats.{FormatLevel, IsFormat, letters_of, modes_of, Chained, InsertedBelowUnordered}
 use Rattle.format_spec.specs.Words.{letter_byte, more_modes, mode_text, AreLetters, HasOrder, Answers}
 
 -- the kind of a letter, or any where there is none
@@ -96,7 +96,7 @@ record Good (letters : List ℕ) (order : Option (List ℕ)) (n place : ℕ) : T
   count : 1 < place → length kinds ≡ n
   modes : 2 < place → (modes : List ℕ) × HasOrder order n modes
   chained : 3 < place → Chained false kinds
-  inserted : 4 < place → InsertedBelowHashed kinds
+  inserted : 4 < place → InsertedBelowUnordered kinds
 
 no_less : {P : Type 0} (a b : ℕ) → b ≤ a → a < b → P
 no_less a b h g = absurd (omega (arith, h, g))
@@ -167,7 +167,7 @@ not_before letters order n place BadOrder x h g = let modes = g.modes h in x.3 m
 not_before letters order n place BadChain x h g =
     x.3 (subst (Chained false) (one_list_of_kinds letters g.kinds x.0 g.letters_are x.2.letters_are) (g.chained h))
 not_before letters order n place BelowHashed x h g =
-    x.4 (subst InsertedBelowHashed (one_list_of_kinds letters g.kinds x.0 g.letters_are x.2.letters_are) (g.inserted h))
+    x.4 (subst InsertedBelowUnordered (one_list_of_kinds letters g.kinds x.0 g.letters_are x.2.letters_are) (g.inserted h))
 
 below_five : (fault : FormatFault) → rank fault < 5
 below_five BadLetter = omega arith

@@ -4,7 +4,6 @@ use Rattle.std.specs.List.{range_with_len}
 use Rattle.limits.specs.Limits.{greatest_order}
 use Rattle.smallvec.specs.SmallVec.{SmallVec}
 pub use Rattle.level_core.specs.declared.letter.Letter.{Letter}
-use Rattle.level_core.specs.declared.letter.Letter.TheVariants.{Hashed}
 use Rattle.level_core.specs.Kinds.{properties, capabilities}
 pub use Rattle.format_spec.specs.declared.format.FormatLevel.{FormatLevel}
 
@@ -25,16 +24,16 @@ abbrev pub Chained : Bool → List Letter → Type 0
 Chained groups [] = groups ≡ false
 Chained groups (letter ∷ letters) = ((properties letter).branchless ≡ groups) × Chained (not (properties letter).unique) letters
 
--- each level below a hashed one can be inserted into
-abbrev pub InsertedBelowHashed : List Letter → Type 0
-InsertedBelowHashed letters = AllPairs (λ letter below. letter ≡ Hashed → (capabilities below).insert ≡ true) letters
+-- each level below one without order can be inserted into
+abbrev pub InsertedBelowUnordered : List Letter → Type 0
+InsertedBelowUnordered letters = AllPairs (λ letter below. (properties letter).ordered ≡ false → (capabilities below).insert ≡ true) letters
 
 -- what a check of the rule finds of a level
-abbrev pub IsHashed : FormatLevel → Type 0
-IsHashed level = level.letter ≡ Hashed
+abbrev pub IsUnordered : FormatLevel → Type 0
+IsUnordered level = (properties level.letter).ordered ≡ false
 
-abbrev pub IsOther : FormatLevel → Type 0
-IsOther level = level.letter ≢ Hashed
+abbrev pub IsOrdered : FormatLevel → Type 0
+IsOrdered level = (properties level.letter).ordered ≡ true
 
 abbrev pub Inserts : FormatLevel → Type 0
 Inserts level = (capabilities level.letter).insert ≡ true
@@ -44,7 +43,7 @@ pub record IsFormat (levels : List FormatLevel) : Type 0 where
   pub short : length levels ≤ greatest_order
   pub order : IsOrder (length levels) (modes_of levels)
   pub chained : Chained false (letters_of levels)
-  pub inserted : InsertedBelowHashed (letters_of levels)
+  pub inserted : InsertedBelowUnordered (letters_of levels)
 
 -- the levels stand in the value itself
 pub record IsStored (levels : SmallVec FormatLevel) : Type 0 where

@@ -5,7 +5,7 @@ use Rattle.level_core.specs.declared.letter.Letter.{Letter}
 use Rattle.level_core.specs.declared.letter.Letter.TheVariants.{Dense, Compressed, CompressedGroups, Singleton, SingletonGroups, Hashed}
 pub use Rattle.format_spec.specs.declared.fault.FormatFault.{FormatFault}
 use Rattle.format_spec.specs.declared.fault.FormatFault.TheVariants.{BadLetter, BadLength, BadOrder, BadChain, BelowHashed}
-use Rattle.format_spec.specs.Formats.{FormatLevel, letters_of, modes_of, IsOrder, Chained, InsertedBelowHashed, standing}
+use Rattle.format_spec.specs.Formats.{FormatLevel, letters_of, modes_of, IsOrder, Chained, InsertedBelowUnordered, standing}
 
 -- the byte of a kind's letter: `d`, `s`, `u`, `q`, `c` or `h`
 abbrev pub letter_byte : Letter → ℕ
@@ -48,7 +48,7 @@ pub record Reads (letters : List ℕ) (order : Option (List ℕ)) (n : ℕ) (kin
 -- the answer to letters and an order for a tensor of order n: the format, or the first fault
 abbrev pub Answers : List ℕ → Option (List ℕ) → ℕ → Result (List FormatLevel) FormatFault → Type 0
 Answers letters order n (Ok levels) = Reads letters order n (letters_of levels) (modes_of levels) ×
-    Chained false (letters_of levels) × InsertedBelowHashed (letters_of levels)
+    Chained false (letters_of levels) × InsertedBelowUnordered (letters_of levels)
 Answers letters order n (Err BadLetter) = (kinds : List Letter) → AreLetters letters kinds → ⊥
 Answers letters order n (Err BadLength) = (kinds : List Letter) × AreLetters letters kinds × (length kinds ≢ n)
 Answers letters order n (Err BadOrder) = (kinds : List Letter) × AreLetters letters kinds × (length kinds ≡ n) ×
@@ -56,4 +56,4 @@ Answers letters order n (Err BadOrder) = (kinds : List Letter) × AreLetters let
 Answers letters order n (Err BadChain) = (kinds : List Letter) × (modes : List ℕ) × Reads letters order n kinds modes ×
     (Chained false kinds → ⊥)
 Answers letters order n (Err BelowHashed) = (kinds : List Letter) × (modes : List ℕ) × Reads letters order n kinds modes ×
-    Chained false kinds × (InsertedBelowHashed kinds → ⊥)
+    Chained false kinds × (InsertedBelowUnordered kinds → ⊥)

@@ -3,13 +3,13 @@ ghost use Rattle.std.specs.Prelude.{false, List, length, IsTrue, MatchOption, Ma
 ghost use Rattle.std.specs.Option.{option_map};
 ghost use Rattle.limits.specs.Limits.{greatest_order};
 ghost use Rattle.format_spec.specs.declared.fault.FormatFault.TheVariants.{BadChain, BelowHashed};
-ghost use Rattle.format_spec.specs.Formats.{Letter, IsOrder, letters_of, modes_of, Chained, InsertedBelowHashed};
+ghost use Rattle.format_spec.specs.Formats.{Letter, IsOrder, letters_of, modes_of, Chained, InsertedBelowUnordered};
 ghost use Rattle.format_spec.specs.Words.{letter_byte, AreLetters, Answers};
 
 use crate::fault::FormatFault;
 use crate::format::{Format, FormatLevel};
 use crate::modes::order_of;
-use crate::rules::{is_chained, is_inserted_below_hashed};
+use crate::rules::{is_chained, is_inserted_below_unordered};
 use level_core::Letter;
 use smallvec::SmallVec;
 use std::alloc::Global;
@@ -62,14 +62,14 @@ fn format_of(levels: SmallVec<FormatLevel, 6>) -> Result<Format, FormatFault>
     requires order { IsOrder (length levels.items) (modes_of levels.items) }
     requires inline { levels.capacity ≡ 6 }
     ensures { MatchResult result
-        (λ format. (format ≡ levels.items) × Chained false (letters_of levels.items) × InsertedBelowHashed (letters_of levels.items))
+        (λ format. (format ≡ levels.items) × Chained false (letters_of levels.items) × InsertedBelowUnordered (letters_of levels.items))
         (λ fault. ((fault ≡ BadChain) × (Chained false (letters_of levels.items) → ⊥)) ⊎
-        ((fault ≡ BelowHashed) × Chained false (letters_of levels.items) × (InsertedBelowHashed (letters_of levels.items) → ⊥))) }
+        ((fault ≡ BelowHashed) × Chained false (letters_of levels.items) × (InsertedBelowUnordered (letters_of levels.items) → ⊥))) }
 {
     if !is_chained(levels.as_slice()) {
         return Err(FormatFault::BadChain);
     }
-    if !is_inserted_below_hashed(levels.as_slice()) {
+    if !is_inserted_below_unordered(levels.as_slice()) {
         return Err(FormatFault::BelowHashed);
     }
     Ok(Format::from_levels(levels))

@@ -1,5 +1,5 @@
 -- What the tables of kinds say: the one place that goes kind by kind, with a line for each in every list.
-use Rattle.std.specs.Prelude.{◌≡◌, ◌≢◌, ℕ, ◌*◌, ◌≤◌, not, Bool, true, false, if◌then◌else◌, None, refl}
+use Rattle.std.specs.Prelude.{◌≡◌, ℕ, ◌*◌, ◌≤◌, not, Bool, true, false, if◌then◌else◌, None, refl}
 use Rattle.std.proofs.Common.{◌∙◌, ap, arith}
 use Rattle.std.proofs.Math.Nat.{zero-mul, mul-le-mul_right}
 use Rattle.kernel_code.specs.Widths.{slot_width}
@@ -134,18 +134,6 @@ unordered_stored letter is = by (properties letter).full refl
     by : (b : Bool) → (properties letter).full ≡ b → (properties letter).full ≡ false
     by true e = clash (properties letter).ordered ((are_of_a_kind letter).full_ordered e) is
     by false e = e
-
--- the hashed kind alone has no order
-pub unordered_is_hashed : (letter : Letter) → (properties letter).ordered ≡ false → letter ≡ Hashed
-unordered_is_hashed letter is =
-    inserted_is_hashed letter ((are_of_a_kind letter).unordered_inserted is) (unordered_stored letter is)
-
-pub ordered_unless_hashed : (letter : Letter) → letter ≢ Hashed → (properties letter).ordered ≡ true
-ordered_unless_hashed letter other = by (properties letter).ordered refl
-  where
-    by : (b : Bool) → (properties letter).ordered ≡ b → (properties letter).ordered ≡ true
-    by true e = e
-    by false e = absurd (other (unordered_is_hashed letter e))
 
 -- the positions of prepared parents, of a full level, and of one that stores coordinates
 pub full_positions : (letter : Letter) (n parents most : ℕ) → (properties letter).full ≡ true

@@ -1,5 +1,4 @@
 pub mod CursorFacts
-pub mod HashedLaws
 pub mod Kept
 pub mod Levels
 pub mod Opened

@@ -6,10 +6,8 @@
 mod cursor;
 mod cursors;
 mod finding;
-mod hashed;
 mod reading;
 
 pub use cursor::SeekCursor;
-pub use cursors::{SeekCursors, cursors_of};
+pub use cursors::{SeekCursors, cursors_of, walked};
 pub use finding::{Found, find_rest};
-pub use hashed::has_hashed;

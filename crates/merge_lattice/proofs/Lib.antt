@@ -1,4 +1,5 @@
 pub mod Bools
 pub mod LeftParts
 pub mod Sets
+pub mod TextOrder
 pub mod Complete

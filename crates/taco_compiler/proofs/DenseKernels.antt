@@ -46,7 +46,7 @@ use Rattle.dense_results.proofs.Loops.{lowered_loops_go_through}
 use Rattle.dense_results.proofs.Rows.{rows_are_taken}
 use Rattle.kernel_emit.specs.Emitted.{AddsLoops}
 use Rattle.sparse_kernels.proofs.Ends.{ends_weaker}
-use Rattle.taco_compiler.specs.Compiled.{AreFewTurns, DrainsFew, IsCompiled, NoneHashed}
+use Rattle.taco_compiler.specs.Compiled.{AreFewTurns, DrainsFew, IsCompiled, AreOrdered}
 use Rattle.taco_compiler.specs.Loops.{AreLoopsOf}
 use Rattle.taco_compiler.proofs.LoopTurns.{in_order_of, within_cost}
 
@@ -150,7 +150,7 @@ module _ (a : Arithmetic) (laws : Laws a) (s : Statement) (formats : List (List 
           (subst (λ (b : List KStmt). Does setting b begin (λ u. AreMost u.turns) Never) (sym body)
           (does_append setting top code begin HasTop (λ u. AreMost u.turns) Never (tops setting begin) behind)))
 
-      few_turns : NoneHashed s formats → (o : KernelOutcome) → ToldTurns o → AreFewTurns s formats order store o
+      few_turns : AreOrdered s formats → (o : KernelOutcome) → ToldTurns o → AreFewTurns s formats order store o
       few_turns none (Finished left turns) h =
           within_cost a laws s formats order loops l store (read_store store is) none (from_top.most store)
           (e.few (operands_in s store) (slice_index store.ranges) start) turns (h Merge) (h Skip)

@@ -1,11 +1,13 @@
 -- The turns of the loops that a statement is lowered to are within its cost.
-use Rattle.std.specs.Prelude.{◌≡◌, ◌≢◌, ℕ, zero, suc, ◌≤◌, List, [], ◌∷◌, All, slice_get, slice_index}
+use Rattle.std.specs.Prelude.{◌≡◌, ℕ, zero, suc, ◌≤◌, true, List, [], ◌∷◌, All, slice_get, slice_index, refl}
 use Rattle.std.specs.Prelude.{slice_index_or}
 use Rattle.std.proofs.Common.{sym, subst, arith}
 use Rattle.numbers.specs.Arithmetic.{Arithmetic, Laws}
 use Rattle.kernel_code.specs.declared.syntax.LoopKind.{LoopKind}
 use Rattle.kernel_code.specs.declared.syntax.LoopKind.TheVariants.{Merge, Skip}
-use Rattle.level_core.specs.declared.letter.Letter.TheVariants.{Dense, Hashed}
+use Rattle.level_core.specs.declared.letter.Letter.{Letter}
+use Rattle.level_core.specs.declared.letter.Letter.TheVariants.{Dense}
+use Rattle.level_core.specs.Kinds.{properties}
 use Rattle.format_spec.specs.declared.format.FormatLevel.{FormatLevel}
 use Rattle.format_spec.specs.Formats.{letters_of}
 use Rattle.index_notation.specs.declared.syntax.Access.{Access}
@@ -30,32 +32,32 @@ use Rattle.statement_costs.specs.Costs.{statement_cost, statement_repeats}
 use Rattle.statement_costs.proofs.NoMore.{loops_cost_no_more, loops_repeat_no_more}
 use Rattle.statement_costs.proofs.Packed.{packed_groups}
 use Rattle.statement_costs.proofs.SharedLoops.{shared_plain}
-use Rattle.taco_compiler.specs.Compiled.{AreWithinCost, NoneHashed}
+use Rattle.taco_compiler.specs.Compiled.{AreWithinCost, AreOrdered}
 use Rattle.taco_compiler.specs.Loops.{AreLoopsOf}
 
 through : (m n o : ℕ) → m ≤ n → n ≤ o → m ≤ o
 through m n o l k = omega (arith, l, k)
 
--- formats without a hashed level name none at any level
-none_hashed : (s : Statement) (formats : List (List FormatLevel)) → NoneHashed s formats → emitted.NoneHashed s formats
-none_hashed s formats none k level = by_access s.accesses k none
-  where
-    dense_is_other : Dense ≢ Hashed
-    dense_is_other h = cc
+abbrev IsOrdered : Letter → Type 0
+IsOrdered letter = (properties letter).ordered ≡ true
 
-    by_letter : (levels : List FormatLevel) (depth : ℕ) → All (λ (l : FormatLevel). l.letter ≢ Hashed) levels
-        → slice_index_or (letters_of levels) depth Dense ≢ Hashed
-    by_letter [] depth all = dense_is_other
+-- where all levels of the operands are ordered, so is each that an access names
+all_ordered : (s : Statement) (formats : List (List FormatLevel)) → AreOrdered s formats → emitted.AreOrdered s formats
+all_ordered s formats none k level = by_access s.accesses k none
+  where
+    by_letter : (levels : List FormatLevel) (depth : ℕ) → All (λ (l : FormatLevel). IsOrdered l.letter) levels
+        → IsOrdered (slice_index_or (letters_of levels) depth Dense)
+    by_letter [] depth all = refl
     by_letter (l ∷ levels) zero all = all 0 l (omega arith)
     by_letter (l ∷ levels) (suc depth) all = by_letter levels depth (λ i d h. all (suc i) d (omega (arith, h)))
 
-    by_level : (levels : List FormatLevel) (n : ℕ) → All (λ (l : FormatLevel). l.letter ≢ Hashed) levels → letter_at levels n ≢ Hashed
-    by_level levels zero all = dense_is_other
+    by_level : (levels : List FormatLevel) (n : ℕ) → All (λ (l : FormatLevel). IsOrdered l.letter) levels → IsOrdered (letter_at levels n)
+    by_level levels zero all = refl
     by_level levels (suc depth) all = by_letter levels depth all
 
     by_access : (accesses : List Access) (k : ℕ)
-        → Each (λ (a : Access). All (λ (l : FormatLevel). l.letter ≢ Hashed) (format_of formats a.tensor)) accesses
-        → letter_at (levels_of formats (slice_get accesses k)) level ≢ Hashed
+        → Each (λ (a : Access). All (λ (l : FormatLevel). IsOrdered l.letter) (format_of formats a.tensor)) accesses
+        → IsOrdered (letter_at (levels_of formats (slice_get accesses k)) level)
     by_access [] k each = by_level [] level (λ i d h. absurd (omega (arith, h)))
     by_access (a ∷ accesses) zero each = by_level (format_of formats a.tensor) level each.0
     by_access (a ∷ accesses) (suc k) each = by_access accesses k each.1
@@ -105,7 +107,7 @@ module _ (a : Arithmetic) (laws : Laws a) (s : Statement) (formats : List (List 
       (statement_repeats s formats order stored ranges) turns costs)
 
   -- so are turns that are no more than those of the loops' code
-  pub within_cost : NoneHashed s formats → (most : LoopKind → ℕ)
+  pub within_cost : AreOrdered s formats → (most : LoopKind → ℕ)
       → emitted.AreFew s formats loops (operands_in s store) (slice_index store.ranges) start most
       → (turns : LoopKind → ℕ) → turns Merge ≤ most Merge → turns Skip ≤ most Skip → AreWithinCost s formats order store turns
   within_cost none most few turns merges skips = (
@@ -113,10 +115,10 @@ module _ (a : Arithmetic) (laws : Laws a) (s : Statement) (formats : List (List 
         (statement_cost s formats order (stored_of s (operand_of store)) (slice_index store.ranges)) merges
         (through (most Merge) (merge_turns (layout_of s formats) (stored_in (operands_in s store)) (slice_index store.ranges) loops start)
         (statement_cost s formats order (stored_of s (operand_of store)) (slice_index store.ranges))
-        (few.merges (none_hashed s formats none)) merges_most),
+        (few.merges (all_ordered s formats none)) merges_most),
     through (turns Skip) (most Skip)
         (statement_repeats s formats order (stored_of s (operand_of store)) (slice_index store.ranges)) skips
         (through (most Skip) (skip_turns (layout_of s formats) (stored_in (operands_in s store)) (slice_index store.ranges) loops start)
         (statement_repeats s formats order (stored_of s (operand_of store)) (slice_index store.ranges))
-        (few.skips (none_hashed s formats none)) skips_most),
+        (few.skips (all_ordered s formats none)) skips_most),
   )

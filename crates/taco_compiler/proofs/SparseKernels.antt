@@ -45,7 +45,7 @@ use Rattle.sparse_kernels.specs.Kernels.{IsForSparse, PushesFromTop, sorting_cod
 use Rattle.sparse_kernels.specs.Turns.{AreTurns, MakesTurns}
 use Rattle.sparse_kernels.proofs.Ends.{ends_weaker}
 use Rattle.sparse_kernels.proofs.Kernels.{sparse_kernels_are_right}
-use Rattle.taco_compiler.specs.Compiled.{AreFewDrains, AreFewTurns, DrainsFew, IsCompiled, NoneHashed}
+use Rattle.taco_compiler.specs.Compiled.{AreFewDrains, AreFewTurns, DrainsFew, IsCompiled, AreOrdered}
 use Rattle.taco_compiler.specs.Filling.{FillsFromRows}
 use Rattle.taco_compiler.specs.Loops.{AreLoopsOf}
 use Rattle.taco_compiler.proofs.LoopTurns.{in_order_of, within_cost}
@@ -155,7 +155,7 @@ module _ (a : Arithmetic) (laws : Laws a) (s : Statement) (formats : List (List 
           sparse_kernels_are_right a laws s formats f c in_order loops l.rows l.words k many 0 places at top code fills.drain
           tops pushes 0 0 fills.drains kernel has_keys has_list body_is store is arrays given
 
-      few_turns : NoneHashed s formats → (o : KernelOutcome) → IsTold o → AreFewTurns s formats order store o
+      few_turns : AreOrdered s formats → (o : KernelOutcome) → IsTold o → AreFewTurns s formats order store o
       few_turns none (Finished left turns) h =
           within_cost a laws s formats order loops l store (read_store store is) none (pushes.most store)
           (e.few (operands_in s store) (slice_index store.ranges) start) turns h.1.merges h.1.skips

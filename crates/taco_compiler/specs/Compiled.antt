@@ -1,11 +1,11 @@
 -- What is promised of the answer to a statement and formats.
-use Rattle.std.specs.Prelude.{◌≡◌, ◌≢◌, ℕ, ◌*◌, ◌≤◌, List, length, All, Result, Ok, Err, slice_index}
+use Rattle.std.specs.Prelude.{◌≡◌, ℕ, ◌*◌, ◌≤◌, true, List, length, All, Result, Ok, Err, slice_index}
 use Rattle.numbers.specs.Arithmetic.{Arithmetic}
 use Rattle.kernel_code.specs.declared.syntax.Kernel.{Kernel}
 use Rattle.kernel_code.specs.declared.syntax.LoopKind.{LoopKind}
 use Rattle.kernel_code.specs.declared.syntax.LoopKind.TheVariants.{Merge, Skip, Drain}
 use Rattle.kernel_code.specs.Kernels.{KernelOutcome, Finished, GotStuck, TooLong, NotFinished}
-use Rattle.level_core.specs.declared.letter.Letter.TheVariants.{Hashed}
+use Rattle.level_core.specs.Kinds.{properties}
 use Rattle.level_core.specs.Meaning.{Arrays}
 use Rattle.format_spec.specs.declared.format.FormatLevel.{FormatLevel}
 use Rattle.index_notation.specs.declared.syntax.Statement.{Statement}
@@ -37,9 +37,9 @@ HasOrder s formats (Ok order) = IsOrder s formats order
 HasOrder s formats (Err (Cycle cycle)) = HasCycle s formats cycle
 HasOrder s formats (Err (Memory error)) = Unit {0}
 
--- no level of an operand is hashed
-abbrev pub NoneHashed : Statement → List (List FormatLevel) → Type 0
-NoneHashed s formats = Each (λ a. All (λ level. level.letter ≢ Hashed) (format_of formats a.tensor)) s.accesses
+-- each level of an operand has its coordinates in order
+abbrev pub AreOrdered : Statement → List (List FormatLevel) → Type 0
+AreOrdered s formats = Each (λ a. All (λ level. (properties level.letter).ordered ≡ true) (format_of formats a.tensor)) s.accesses
 
 -- no more merge turns than the statement's cost, nor skip turns than coordinates are repeated in groups
 abbrev pub AreWithinCost : Statement → List (List FormatLevel) → List ℕ → Store → (LoopKind → ℕ) → Type 0
@@ -54,10 +54,10 @@ AreFewTurns s formats order store (GotStuck statement) = ⊥
 AreFewTurns s formats order store (TooLong place count) = Unit {0}
 AreFewTurns s formats order store NotFinished = ⊥
 
--- so it is on every store whose operands have no hashed level
+-- so it is on every store, where all levels of the operands are ordered
 abbrev pub KeepsCost : Arithmetic → Statement → List (List FormatLevel) → List ℕ → Kernel → Type 0
 KeepsCost a s formats order kernel =
-    NoneHashed s formats → (store : Store) → IsStoreOf s formats store → (arrays : Arrays) → IsGiven a.zero store arrays
+    AreOrdered s formats → (store : Store) → IsStoreOf s formats store → (arrays : Arrays) → IsGiven a.zero store arrays
     → Ends a (length store.format) kernel arrays (AreFewTurns s formats order store)
 
 -- so many points the support has, and there are two drain turns for each level and point at most

@@ -13,7 +13,6 @@ use Rattle.level_core.specs.Meaning.{Meaning}
 use Rattle.level_core.specs.Laws.{Laws}
 use Rattle.level_core.specs.Orders.{InOrder}
 use Rattle.level_core.proofs.KindLaws.{are_of_a_kind, inserted_else, appended_ordered, unordered_stored, never_inserted, full_positions}
-use Rattle.level_core.proofs.KindLaws.{unordered_is_hashed}
 use Rattle.level_rows.specs.Rows.{rows_at, begun, place, IsGreatestBelow, MayAppendRows, MayInsertRows}
 use Rattle.level_rows.specs.Taken.{Takes}
 use Rattle.level_rows.specs.declared.filling.FillRefusal.TheVariants.{TooMany}
@@ -23,7 +22,7 @@ use Rattle.level_rows.specs.Tables.{Increase, ShareBy, AreRowsOf}
 use Rattle.level_rows.specs.Growing.{column_of, Growing, IsNext, Grows}
 use Rattle.level_rows.proofs.Growing.{levels_grow}
 use Rattle.format_spec.specs.declared.format.FormatLevel.{FormatLevel}
-use Rattle.format_spec.specs.Formats.{letters_of, Chained, InsertedBelowHashed, IsFormat}
+use Rattle.format_spec.specs.Formats.{letters_of, Chained, InsertedBelowUnordered, IsFormat}
 use Rattle.tensor_storage.specs.Storages.{in_level_order}
 use Rattle.tensor_storage.specs.Built.{counts_of, IsBuilt, AreBuilt}
 use Rattle.tensor_storage.specs.Chains.{chain_length}
@@ -289,7 +288,7 @@ module _ {L : Type 0} (means : Meaning L) (laws : Laws means) (letters : List Le
               f.width sparse ∙ ap (λ m. Some (slot_width m)) (greatest_is is sparse))
               (λ o. f.order (before o)))
 
-follows : (ordered : Bool) (letters : List Letter) → InsertedBelowHashed letters
+follows : (ordered : Bool) (letters : List Letter) → InsertedBelowUnordered letters
     → (ordered ≡ false → (k : ℕ) (d : Letter) → k < length letters → (capabilities (get_or letters k d)).insert ≡ true)
     → MayFollow ordered letters
 follows ordered [] pairs none = tt
@@ -307,7 +306,7 @@ follows ordered (letter ∷ letters) pairs none = (
     later : (b c : Bool) → ordered ≡ b → (properties letter).ordered ≡ c → (ordered && (properties letter).ordered) ≡ false
         → (k : ℕ) (d : Letter) → k < length letters → (capabilities (get_or letters k d)).insert ≡ true
     later false c is po h k d within = none is (suc k) d (omega (arith, within))
-    later true false is po h k d within = pairs 0 (suc k) d (omega arith) (omega (arith, within)) (unordered_is_hashed letter po)
+    later true false is po h k d within = pairs 0 (suc k) d (omega arith) (omega (arith, within)) po
     later true true is po h k d within = apart (sym (joined ordered (properties letter).ordered is po) ∙ h)
 
 pub all_same : (n i x : ℕ) → i < n → slice_index (replicate n x) i ≡ x

@@ -1,4 +1,4 @@
-use crate::level::StorageLevel;
+use crate::level::{StorageLevel, of_each_kind};
 use kernel_code::{KExpr, KStmt};
 use level_core::{Letter, LevelKind};
 use std::alloc::{AllocError, Global};
@@ -13,12 +13,7 @@ impl LevelKind for StorageLevel {
     ghost laws = { level_laws };
 
     fn letter(&self) -> Letter {
-        match self {
-            StorageLevel::Dense(it) => it.letter(),
-            StorageLevel::Compressed(it) => it.letter(),
-            StorageLevel::Singleton(it) => it.letter(),
-            StorageLevel::Hashed(it) => it.letter(),
-        }
+        of_each_kind!(self, it => it.letter())
     }
 
     fn frag_segment(
@@ -29,12 +24,7 @@ impl LevelKind for StorageLevel {
         args: &[KExpr],
         free: u64,
     ) -> Result<Items<KStmt>, AllocError> {
-        match self {
-            StorageLevel::Dense(it) => it.frag_segment(alloc, tensor, level, args, free),
-            StorageLevel::Compressed(it) => it.frag_segment(alloc, tensor, level, args, free),
-            StorageLevel::Singleton(it) => it.frag_segment(alloc, tensor, level, args, free),
-            StorageLevel::Hashed(it) => it.frag_segment(alloc, tensor, level, args, free),
-        }
+        of_each_kind!(self, it => it.frag_segment(alloc, tensor, level, args, free))
     }
 
     fn frag_coord(
@@ -45,12 +35,7 @@ impl LevelKind for StorageLevel {
         args: &[KExpr],
         free: u64,
     ) -> Result<Items<KStmt>, AllocError> {
-        match self {
-            StorageLevel::Dense(it) => it.frag_coord(alloc, tensor, level, args, free),
-            StorageLevel::Compressed(it) => it.frag_coord(alloc, tensor, level, args, free),
-            StorageLevel::Singleton(it) => it.frag_coord(alloc, tensor, level, args, free),
-            StorageLevel::Hashed(it) => it.frag_coord(alloc, tensor, level, args, free),
-        }
+        of_each_kind!(self, it => it.frag_coord(alloc, tensor, level, args, free))
     }
 
     fn frag_child(
@@ -61,12 +46,7 @@ impl LevelKind for StorageLevel {
         args: &[KExpr],
         free: u64,
     ) -> Result<Items<KStmt>, AllocError> {
-        match self {
-            StorageLevel::Dense(it) => it.frag_child(alloc, tensor, level, args, free),
-            StorageLevel::Compressed(it) => it.frag_child(alloc, tensor, level, args, free),
-            StorageLevel::Singleton(it) => it.frag_child(alloc, tensor, level, args, free),
-            StorageLevel::Hashed(it) => it.frag_child(alloc, tensor, level, args, free),
-        }
+        of_each_kind!(self, it => it.frag_child(alloc, tensor, level, args, free))
     }
 
     fn frag_locate(
@@ -77,12 +57,7 @@ impl LevelKind for StorageLevel {
         args: &[KExpr],
         free: u64,
     ) -> Result<Items<KStmt>, AllocError> {
-        match self {
-            StorageLevel::Dense(it) => it.frag_locate(alloc, tensor, level, args, free),
-            StorageLevel::Compressed(it) => it.frag_locate(alloc, tensor, level, args, free),
-            StorageLevel::Singleton(it) => it.frag_locate(alloc, tensor, level, args, free),
-            StorageLevel::Hashed(it) => it.frag_locate(alloc, tensor, level, args, free),
-        }
+        of_each_kind!(self, it => it.frag_locate(alloc, tensor, level, args, free))
     }
 
     fn frag_reserve(
@@ -93,12 +68,7 @@ impl LevelKind for StorageLevel {
         args: &[KExpr],
         free: u64,
     ) -> Result<Items<KStmt>, AllocError> {
-        match self {
-            StorageLevel::Dense(it) => it.frag_reserve(alloc, tensor, level, args, free),
-            StorageLevel::Compressed(it) => it.frag_reserve(alloc, tensor, level, args, free),
-            StorageLevel::Singleton(it) => it.frag_reserve(alloc, tensor, level, args, free),
-            StorageLevel::Hashed(it) => it.frag_reserve(alloc, tensor, level, args, free),
-        }
+        of_each_kind!(self, it => it.frag_reserve(alloc, tensor, level, args, free))
     }
 
     fn frag_append(
@@ -109,12 +79,7 @@ impl LevelKind for StorageLevel {
         args: &[KExpr],
         free: u64,
     ) -> Result<Items<KStmt>, AllocError> {
-        match self {
-            StorageLevel::Dense(it) => it.frag_append(alloc, tensor, level, args, free),
-            StorageLevel::Compressed(it) => it.frag_append(alloc, tensor, level, args, free),
-            StorageLevel::Singleton(it) => it.frag_append(alloc, tensor, level, args, free),
-            StorageLevel::Hashed(it) => it.frag_append(alloc, tensor, level, args, free),
-        }
+        of_each_kind!(self, it => it.frag_append(alloc, tensor, level, args, free))
     }
 
     fn frag_edges(
@@ -125,12 +90,7 @@ impl LevelKind for StorageLevel {
         args: &[KExpr],
         free: u64,
     ) -> Result<Items<KStmt>, AllocError> {
-        match self {
-            StorageLevel::Dense(it) => it.frag_edges(alloc, tensor, level, args, free),
-            StorageLevel::Compressed(it) => it.frag_edges(alloc, tensor, level, args, free),
-            StorageLevel::Singleton(it) => it.frag_edges(alloc, tensor, level, args, free),
-            StorageLevel::Hashed(it) => it.frag_edges(alloc, tensor, level, args, free),
-        }
+        of_each_kind!(self, it => it.frag_edges(alloc, tensor, level, args, free))
     }
 
     fn frag_prepare(
@@ -141,12 +101,7 @@ impl LevelKind for StorageLevel {
         args: &[KExpr],
         free: u64,
     ) -> Result<Items<KStmt>, AllocError> {
-        match self {
-            StorageLevel::Dense(it) => it.frag_prepare(alloc, tensor, level, args, free),
-            StorageLevel::Compressed(it) => it.frag_prepare(alloc, tensor, level, args, free),
-            StorageLevel::Singleton(it) => it.frag_prepare(alloc, tensor, level, args, free),
-            StorageLevel::Hashed(it) => it.frag_prepare(alloc, tensor, level, args, free),
-        }
+        of_each_kind!(self, it => it.frag_prepare(alloc, tensor, level, args, free))
     }
 
     fn frag_insert(
@@ -157,11 +112,6 @@ impl LevelKind for StorageLevel {
         args: &[KExpr],
         free: u64,
     ) -> Result<Items<KStmt>, AllocError> {
-        match self {
-            StorageLevel::Dense(it) => it.frag_insert(alloc, tensor, level, args, free),
-            StorageLevel::Compressed(it) => it.frag_insert(alloc, tensor, level, args, free),
-            StorageLevel::Singleton(it) => it.frag_insert(alloc, tensor, level, args, free),
-            StorageLevel::Hashed(it) => it.frag_insert(alloc, tensor, level, args, free),
-        }
+        of_each_kind!(self, it => it.frag_insert(alloc, tensor, level, args, free))
     }
 }

@@ -13,3 +13,17 @@ pub enum StorageLevel {
     Singleton(SingletonLevel),
     Hashed(HashedLevel),
 }
+
+/// What a call answers of the level in it, whichever kind that is of.
+macro_rules! of_each_kind {
+    ($level:expr, $it:ident => $answer:expr) => {
+        match $level {
+            StorageLevel::Dense($it) => $answer,
+            StorageLevel::Compressed($it) => $answer,
+            StorageLevel::Singleton($it) => $answer,
+            StorageLevel::Hashed($it) => $answer,
+        }
+    };
+}
+
+pub(crate) use of_each_kind;
