@@ -7,6 +7,7 @@ pub mod Keeps
 pub mod Lemmas
 pub mod More
 pub mod RunLemmas
+pub mod SemiringNames
 pub mod SortLemmas
 pub mod SumLemmas
 pub mod TurnsLemmas

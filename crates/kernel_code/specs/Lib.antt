@@ -7,5 +7,6 @@ pub mod Meaning
 pub mod More
 pub mod Pieces
 pub mod Rows
+pub mod Semirings
 pub mod Turns
 pub mod Widths

@@ -8,10 +8,11 @@ mod builders;
 mod copies;
 mod counts;
 mod operators;
+mod semirings;
 mod syntax;
 
 pub use builders::{binary, one_statement, position_and_next, word_at};
 pub use copies::{copy_expr, copy_statement, copy_statements};
 pub use counts::count_statements;
 pub use operators::{apply_to_words, least_operand, width_of_operand};
-pub use syntax::{Arr, KExpr, KStmt, Kernel, LoopKind, Op, Place, Turns, ValueOp};
+pub use syntax::{Arr, KExpr, KStmt, Kernel, KernelSemiring, LoopKind, Op, Place, Turns, ValueOp};

@@ -58,7 +58,7 @@ pub enum Op {
     Or,
 }
 
-/// An operator of two values: their sum or their product, by the arithmetic of the values.
+/// An operator of two values: their sum or their product, by the kernel's semiring.
 #[derive(Clone, Copy, Debug, PartialEq, Eq, Drop)]
 pub enum ValueOp {
     Plus,
@@ -90,7 +90,7 @@ pub enum KExpr {
 pub enum KStmt {
     /// Gives a variable a value.
     Set(u64, KExpr),
-    /// Gives a variable the sum or the product of two values.
+    /// Gives a variable the sum or the product of two values. It stands in kernels over another semiring than the ring alone.
     Combine(u64, ValueOp, KExpr, KExpr),
     /// Stores at an index, given first, a word.
     Put(Arr, KExpr, KExpr),
@@ -113,9 +113,19 @@ pub enum KStmt {
     While(LoopKind, KExpr, Items<KStmt>),
 }
 
-/// A kernel: the number of keys of each workspace, the number of scratch lists, and the code.
+/// The semiring that a kernel's values are of. It tells by which sums and products `Combine`, `AddTo` of values and `SortSum` go.
+#[derive(Debug, Drop)]
+pub enum KernelSemiring {
+    /// The whole numbers modulo 2^64: values are added and multiplied as words are.
+    Ring,
+    /// Another one, of this name, in small letters.
+    Named(Items<u8>),
+}
+
+/// A kernel: the semiring of its values, the number of keys of each workspace, the number of scratch lists, and the code.
 #[derive(Debug, Drop)]
 pub struct Kernel {
+    pub semiring: KernelSemiring,
     pub workspaces: Items<u64>,
     pub lists: u64,
     pub body: Items<KStmt>,

@@ -1,4 +1,5 @@
 pub mod Arithmetic
+pub mod Names
 pub mod OnWords
 pub mod Ring
 pub mod RingLaws

@@ -1,6 +1,7 @@
 // How values are added and multiplied: the trait that all computing with values goes through.
-ghost use Rattle.std.specs.Prelude.{◌≡◌, ◌≢◌, ℕ, Option, Some, None, Bool, true, false, refl};
+ghost use Rattle.std.specs.Prelude.{◌≡◌, ◌≢◌, ℕ, List, Option, Some, None, Bool, true, false, codes, refl};
 ghost use Rattle.numbers.specs.Arithmetic.{Arithmetic, WordLaws, Laws, MinusLaws, IfMinus, on_words};
+ghost use Rattle.numbers.specs.Names.{IsName, ring_is_named};
 ghost use Rattle.numbers.specs.Ring.{ring};
 ghost use Rattle.numbers.specs.RingLaws.{ring_laws, ring_minus_laws, ring_word_laws, ring_on_words, true_is_not_false};
 
@@ -22,8 +23,12 @@ pub trait Semiring {
     /// Whether a value is written as a signed number; else it is written as the word itself.
     ghost is_signed: { Bool };
 
-    /// The semiring's name, as a kernel's text and a command line have it.
-    const NAME: &'static str;
+    /// The letters of the name.
+    ghost name: { List ℕ };
+
+    /// The semiring's name, in small letters, as a kernel's text and a command line have it.
+    fn name() -> &'static str
+        ensures { result.now ≡ name };
 
     /// Whether these are the whole numbers modulo 2^64: code adds and multiplies them as it does words.
     fn is_ring() -> bool
@@ -59,6 +64,9 @@ pub trait Semiring {
     /// Nothing else is.
     ghost ring_alone: { is_ring ≡ false → arithmetic ≢ ring };
 
+    /// A name has letters, and nothing else.
+    ghost is_named: { IsName name };
+
     /// Sums and products of words keep the laws.
     ghost word_laws: { WordLaws of_words };
 
@@ -87,7 +95,11 @@ impl Semiring for Ring {
 
     ghost is_signed = { true };
 
-    const NAME: &'static str = "ring";
+    ghost name = { codes "ring" };
+
+    fn name() -> &'static str {
+        "ring"
+    }
 
     fn is_ring() -> bool {
         true
@@ -121,6 +133,8 @@ impl Semiring for Ring {
     ghost ring_is = { λ _. refl };
 
     ghost ring_alone = { true_is_not_false };
+
+    ghost is_named = { ring_is_named };
 
     ghost word_laws = { ring_word_laws };
 

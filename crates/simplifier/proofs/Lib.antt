@@ -2,3 +2,4 @@ pub mod CodeLemmas
 pub mod Equations
 pub mod ExprLemmas
 pub mod Unnumbered
+pub mod WordsAlone

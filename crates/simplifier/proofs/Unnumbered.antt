@@ -3,6 +3,7 @@ use Rattle.std.specs.Prelude.{◌≡◌, ℕ, zero, suc, ◌+◌, ◌<◌, Bool,
 use Rattle.std.proofs.Common.{◌∙◌, ap, sym}
 use Rattle.numbers.specs.Arithmetic.{Arithmetic}
 use Rattle.kernel_code.specs.declared.syntax.Kernel.{Kernel}
+use Rattle.kernel_code.specs.declared.syntax.KernelSemiring.TheVariants.{Ring}
 use Rattle.kernel_code.specs.declared.syntax.LoopKind.{LoopKind}
 use Rattle.kernel_code.specs.declared.syntax.KExpr.{KExpr}
 use Rattle.kernel_code.specs.declared.syntax.KStmt.{KStmt, If, While}
@@ -87,15 +88,16 @@ told_plain order n (Over t a count) = told_either order (nat_le (all_turns t) n)
 told_plain order n More = refl
 
 -- kernels whose code does the same are the same
-pub same_kernel : (a : Arithmetic) (j k : Kernel) → j.workspaces ≡ k.workspaces → j.lists ≡ k.lists → SameRuns a j.body k.body
-    → SameKernel a j k
-same_kernel a j k ws ls h = record {
+pub same_kernel : (a : Arithmetic) (j k : Kernel) → j.semiring ≡ k.semiring → j.workspaces ≡ k.workspaces → j.lists ≡ k.lists
+    → SameRuns a j.body k.body → SameKernel a j k
+same_kernel a j k semiring ws ls h = record {
+  semiring = semiring;
   workspaces = ws;
   lists = ls;
   runs = λ order given n.
       let run_on : List ℕ → ℕ → List KStmt → Outcome = λ w l code.
       run_list (record { arithmetic = a; workspaces = w }) n code
-      (start_state (record { workspaces = w; lists = l; body = [] }) given) in
+      (start_state (record { semiring = Ring; workspaces = w; lists = l; body = [] }) given) in
       let tell : Outcome → KernelOutcome = λ o. told order (within n (unnumbered o)) in
       told_plain order n (run_on j.workspaces j.lists j.body)
       ∙ ap (λ o. told order (within n o)) (h.from (record { arithmetic = a; workspaces = j.workspaces }) refl n (start_state j given))

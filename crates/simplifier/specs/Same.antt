@@ -33,10 +33,11 @@ pub record SameRuns (arithmetic : Arithmetic) (a b : List KStmt) : Type 0 where
   pub from : (c : Setting) → c.arithmetic ≡ arithmetic → (n : ℕ) (s : State)
       → unnumbered (run_list c n a s) ≡ unnumbered (run_list c n b s)
 
--- Two kernels have the same workspaces and scratch lists, and over an arithmetic of values, on the same arrays, within the same
--- number of turns in all, their runs end alike: they finish with the same arrays and as many turns of each kind, are stuck, at
+-- Two kernels have the same semiring, workspaces and scratch lists, and over an arithmetic of values, on the same arrays, within the
+-- same number of turns in all, their runs end alike: they finish with the same arrays and as many turns of each kind, are stuck, at
 -- whichever statement, are refused a growth at the same place with the same count, or don't finish.
 pub record SameKernel (arithmetic : Arithmetic) (j k : Kernel) : Type 0 where
+  pub semiring : j.semiring ≡ k.semiring
   pub workspaces : j.workspaces ≡ k.workspaces
   pub lists : j.lists ≡ k.lists
   pub runs : (order : ℕ) (given : Arr → Option (List ℕ)) (n : ℕ)
