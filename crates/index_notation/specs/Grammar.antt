@@ -1,13 +1,13 @@
 -- The grammar of statements, as the symbols of a syntax tree, each with its role.
---   statement = access "=" sum end
+--   statement = access ("=" | "+=") sum end
 --   sum       = product { ("+" | "-") product }, grouped to the left
 --   product   = factor { "*" factor }, grouped to the left
 --   factor    = number | access | "(" sum ")" | "-" factor
 --   access    = name [ "(" variable { "," variable } ")" ]
-use Rattle.std.specs.Prelude.{◌≡◌, ℕ, suc, List, [], ◌∷◌, ◌++◌}
+use Rattle.std.specs.Prelude.{◌≡◌, ℕ, suc, Bool, true, false, List, [], ◌∷◌, ◌++◌}
 use Rattle.index_notation.specs.declared.syntax.Name.{Name}
 use Rattle.index_notation.specs.declared.token.Mark.{Mark}
-use Rattle.index_notation.specs.declared.token.Mark.TheVariants.{Equals, Plus, Minus, Times, Open, Close, Comma}
+use Rattle.index_notation.specs.declared.token.Mark.TheVariants.{Equals, PlusEquals, Plus, Minus, Times, Open, Close, Comma}
 use Rattle.index_notation.specs.declared.token.Token.{Token}
 use Rattle.index_notation.specs.declared.token.Token.TheVariants.{Name as NameToken, Number as NumberToken, Mark as MarkToken}
 use Rattle.index_notation.specs.declared.token.WrittenAccess.{WrittenAccess}
@@ -31,8 +31,13 @@ mutual
     Added : Sum → Product → Sum
     Taken : Sum → Product → Sum
 
+-- an access, and whether the right side is added to its old tensor
+pub record LeftSide : Type 0 where
+  pub access : WrittenAccess
+  pub accumulate : Bool
+
 pub record Tree : Type 0 where
-  pub left : WrittenAccess
+  pub left : LeftSide
   pub right : Sum
 
 -- what a symbol does in its sentence: it names an access of the left or right side, is the n-th variable of its
@@ -89,9 +94,14 @@ abbrev mutual
   sum_of n (Added sum product) = sum_of n sum ++ (plain Plus ∷ product_of n product)
   sum_of n (Taken sum product) = sum_of n sum ++ (plain Minus ∷ product_of n product)
 
--- the left side and its `=`
-abbrev pub left_of : WrittenAccess → List Written
-left_of access = access_of NamesLeft access ++ (plain Equals ∷ [])
+-- the mark behind the left side
+abbrev pub assigning : Bool → Mark
+assigning false = Equals
+assigning true = PlusEquals
+
+-- the left side and its mark
+abbrev pub left_of : LeftSide → List Written
+left_of left = access_of NamesLeft left.access ++ (plain (assigning left.accumulate) ∷ [])
 
 abbrev pub sentence_of : Tree → List Written
 sentence_of tree = (left_of tree.left ++ sum_of 0 tree.right) ++ (the_end ∷ [])

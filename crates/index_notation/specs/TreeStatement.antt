@@ -1,6 +1,6 @@
 -- The statement of a syntax tree. Brackets only group; names, tensors and variables apart, are numbered by first
 -- appearance, and accesses of the right side in text order.
-use Rattle.std.specs.Prelude.{ℕ, ◌+◌, List, [], ◌∷◌, ◌++◌, map}
+use Rattle.std.specs.Prelude.{ℕ, ◌+◌, Bool, List, [], ◌∷◌, ◌++◌, map}
 use Rattle.index_notation.specs.declared.syntax.Expr.{Expr, Num, Access as AccessOf, Binary, Neg}
 use Rattle.index_notation.specs.declared.operator.Operator.TheVariants as op
 use Rattle.index_notation.specs.declared.syntax.Statement.{Statement}
@@ -63,20 +63,23 @@ abbrev mutual
 
 -- all accesses, the left one first
 abbrev pub accesses_of_tree : Tree → List WrittenAccess
-accesses_of_tree tree = tree.left ∷ accesses_of_sum tree.right
+accesses_of_tree tree = tree.left.access ∷ accesses_of_sum tree.right
 
--- the statement of a left access, the accesses of the right side and an expression over them
-abbrev pub numbered_statement : WrittenAccess → List WrittenAccess → Expr → Statement
-numbered_statement left right expr =
+-- the statement of a left access, whether the right side is added to its old tensor, the accesses of the right side and an
+-- expression over them
+abbrev pub numbered_statement : WrittenAccess → Bool → List WrittenAccess → Expr → Statement
+numbered_statement left accumulate right expr =
     let tensors = distinct (map name_of (left ∷ right)) in
     let vars = distinct (variables_of (left ∷ right)) in
     record {
       tensors = tensors;
       vars = vars;
       left = numbered tensors vars left;
+      accumulate = accumulate;
       accesses = map (numbered tensors vars) right;
       expr = expr;
     }
 
 abbrev pub statement_of_tree : Tree → Statement
-statement_of_tree tree = numbered_statement tree.left (accesses_of_sum tree.right) (sum_expr 0 tree.right)
+statement_of_tree tree =
+    numbered_statement tree.left.access tree.left.accumulate (accesses_of_sum tree.right) (sum_expr 0 tree.right)

@@ -1,10 +1,11 @@
 use crate::syntax::Name;
 use trees::Items;
 
-/// A token of one byte: `=`, `+`, `-`, `*`, `(`, `)` or `,`.
+/// A token that is no name and no number: `=`, `+=`, `+`, `-`, `*`, `(`, `)` or `,`.
 #[derive(Clone, Copy, Debug, PartialEq, Eq)]
 pub enum Mark {
     Equals,
+    PlusEquals,
     Plus,
     Minus,
     Times,

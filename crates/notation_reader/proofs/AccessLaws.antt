@@ -1,9 +1,9 @@
 -- Each step adds to the accesses what its symbol says.
-use Rattle.std.specs.Prelude.{◌≡◌, Option, Some, List, [], ◌∷◌, ◌++◌, refl}
+use Rattle.std.specs.Prelude.{◌≡◌, true, false, Option, Some, List, [], ◌∷◌, ◌++◌, refl}
 use Rattle.std.proofs.Common.{sym, ◌∙◌, ap, append_assoc}
 use Rattle.index_notation.specs.declared.syntax.Name.{Name}
 use Rattle.index_notation.specs.declared.token.WrittenAccess.{WrittenAccess}
-use Rattle.index_notation.specs.declared.token.Mark.TheVariants.{Equals, Plus, Minus, Times, Open, Close, Comma}
+use Rattle.index_notation.specs.declared.token.Mark.TheVariants.{Equals, PlusEquals, Plus, Minus, Times, Open, Close, Comma}
 use Rattle.index_notation.specs.declared.token.Token.TheVariants.{Name as NameToken, Number as NumberToken, Mark as MarkToken}
 use Rattle.index_notation.specs.declared.symbol.Symbol.{Symbol}
 use Rattle.index_notation.specs.declared.symbol.Symbol.TheVariants.{Lexeme, End}
@@ -12,7 +12,7 @@ use Rattle.index_notation.specs.TreeStatement.{accesses_of_factor, accesses_of_p
 use Rattle.notation_reader.specs.Machine.{SumPlace, OnTheRight, InBrackets, ProductPlace, First, BehindPlus, BehindMinus}
 use Rattle.notation_reader.specs.Machine.{FactorPlace, FirstFactor, BehindTimes, BehindSign, its_product, product_with, its_sum, sum_with}
 use Rattle.notation_reader.specs.Machine.{behind_factor, closed, ended, step_behind, step, Side, Left, Right}
-use Rattle.notation_reader.specs.Machine.{State, Start, Named, WantsVariable, BehindVariable, BehindLeft, WantsFactor, Behind, Ended}
+use Rattle.notation_reader.specs.Machine.{behind_mark, State, Start, Named, WantsVariable, BehindVariable, BehindLeft, WantsFactor, Behind, Ended}
 use Rattle.notation_reader.specs.Leads.{lead_of}
 use Rattle.notation_reader.specs.Shown.{show}
 use Rattle.notation_reader.specs.Accesses.{accesses_to_sum, accesses_to_product, accesses_to, access_to, accesses_so_far, Mentions}
@@ -84,7 +84,9 @@ start_says _ next new e w = nothing_leads next e
 left_name_says : (name : Name) → Says (Named Left name)
 left_name_says name (Lexeme (MarkToken Open)) next new e w = from_equal (WantsVariable Left name []) next new e (sym w)
 left_name_says name (Lexeme (MarkToken Equals)) next new e w =
-    from_equal (WantsFactor (FirstFactor (First (OnTheRight (access_to name []))))) next new e (sym w)
+    from_equal (behind_mark (access_to name []) false) next new e (sym w)
+left_name_says name (Lexeme (MarkToken PlusEquals)) next new e w =
+    from_equal (behind_mark (access_to name []) true) next new e (sym w)
 left_name_says name _ next new e w = nothing_leads next e
 
 right_name_says : (place : FactorPlace) (name : Name) → Says (Named (Right place) name)
@@ -119,7 +121,9 @@ variable_says (Right place) name vars var _ next new e w = nothing_leads next e
 
 left_says : (access : WrittenAccess) → Says (BehindLeft access)
 left_says access (Lexeme (MarkToken Equals)) next new e w =
-    from_equal (WantsFactor (FirstFactor (First (OnTheRight access)))) next new e (sym w)
+    from_equal (behind_mark access false) next new e (sym w)
+left_says access (Lexeme (MarkToken PlusEquals)) next new e w =
+    from_equal (behind_mark access true) next new e (sym w)
 left_says access _ next new e w = nothing_leads next e
 
 wants_says : (place : FactorPlace) → Says (WantsFactor place)

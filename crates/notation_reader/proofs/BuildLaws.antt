@@ -1,5 +1,5 @@
 -- What a factor, and a bracket that closes, build.
-use Rattle.std.specs.Prelude.{◌≡◌, ℕ, suc, ◌+◌, ◌-◌, Option, Some, None, List, [], ◌∷◌, ◌++◌, refl}
+use Rattle.std.specs.Prelude.{◌≡◌, true, false, ℕ, suc, ◌+◌, ◌-◌, Option, Some, None, List, [], ◌∷◌, ◌++◌, refl}
 use Rattle.std.proofs.Common.{sym, ◌∙◌, ap, arith}
 use Rattle.index_notation.specs.declared.syntax.Name.{Name}
 use Rattle.index_notation.specs.declared.token.WrittenAccess.{WrittenAccess}
@@ -9,7 +9,7 @@ use Rattle.index_notation.specs.declared.syntax.Expr.{Expr, Access as AccessOf}
 use Rattle.notation_reader.specs.declared.builder.Joined.{Joined}
 use Rattle.notation_reader.specs.declared.builder.Frame.{Frame}
 use Rattle.notation_reader.specs.declared.builder.Builder.{Builder}
-use Rattle.index_notation.specs.declared.token.Mark.TheVariants.{Equals, Plus, Minus, Times, Open, Close, Comma}
+use Rattle.index_notation.specs.declared.token.Mark.TheVariants.{Equals, PlusEquals, Plus, Minus, Times, Open, Close, Comma}
 use Rattle.index_notation.specs.declared.token.Token.TheVariants.{Name as NameToken, Number as NumberToken, Mark as MarkToken}
 use Rattle.index_notation.specs.declared.symbol.Symbol.{Symbol}
 use Rattle.index_notation.specs.declared.symbol.Symbol.TheVariants.{Lexeme, End}
@@ -18,7 +18,7 @@ use Rattle.notation_reader.specs.declared.position.Lead.TheVariants as lead
 use Rattle.index_notation.specs.Grammar.{Factor, Digits, Read, Bracketed, Negated, Product}
 use Rattle.notation_reader.specs.Machine.{SumPlace, OnTheRight, InBrackets, ProductPlace, First, BehindPlus, BehindMinus, FactorPlace}
 use Rattle.notation_reader.specs.Machine.{FirstFactor, BehindTimes, BehindSign, its_product, product_with, its_sum, sum_with}
-use Rattle.notation_reader.specs.Machine.{behind_factor, closed, ended, step_behind, step, Side, Left, Right, State, Start, Named}
+use Rattle.notation_reader.specs.Machine.{behind_factor, behind_mark, closed, ended, step_behind, step, Side, Left, Right, State, Start, Named}
 use Rattle.notation_reader.specs.Machine.{WantsVariable, BehindVariable, BehindLeft, WantsFactor, Behind, Ended}
 use Rattle.notation_reader.proofs.MachineLaws.{some_is, nothing_leads}
 use Rattle.notation_reader.specs.Leads.{lead_of}
@@ -228,7 +228,9 @@ start_equal _ next new e w = nothing_leads next e
 left_name_equal : (name : Name) → Equal (Named Left name)
 left_name_equal name (Lexeme (MarkToken Open)) next new e w = from_equal (WantsVariable Left name []) next new e (sym w)
 left_name_equal name (Lexeme (MarkToken Equals)) next new e w =
-    from_equal (WantsFactor (FirstFactor (First (OnTheRight (record { name = name; vars = [] }))))) next new e (sym w)
+    from_equal (behind_mark (record { name = name; vars = [] }) false) next new e (sym w)
+left_name_equal name (Lexeme (MarkToken PlusEquals)) next new e w =
+    from_equal (behind_mark (record { name = name; vars = [] }) true) next new e (sym w)
 left_name_equal name _ next new e w = nothing_leads next e
 
 right_name_equal : (place : FactorPlace) (name : Name) → Equal (Named (Right place) name)
@@ -263,7 +265,9 @@ variable_equal (Right place) name vars var _ next new e w = nothing_leads next e
 
 left_equal : (access : WrittenAccess) → Equal (BehindLeft access)
 left_equal access (Lexeme (MarkToken Equals)) next new e w =
-    from_equal (WantsFactor (FirstFactor (First (OnTheRight access)))) next new e (sym w)
+    from_equal (behind_mark access false) next new e (sym w)
+left_equal access (Lexeme (MarkToken PlusEquals)) next new e w =
+    from_equal (behind_mark access true) next new e (sym w)
 left_equal access _ next new e w = nothing_leads next e
 
 wants_equal : (place : FactorPlace) → Equal (WantsFactor place)

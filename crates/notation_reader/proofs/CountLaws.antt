@@ -1,8 +1,8 @@
 -- The reader's counts are those of what it has read.
-use Rattle.std.specs.Prelude.{◌≡◌, ℕ, suc, ◌+◌, Option, Some, None, List, [], ◌∷◌, ◌++◌, length, refl}
+use Rattle.std.specs.Prelude.{◌≡◌, true, false, ℕ, suc, ◌+◌, Option, Some, None, List, [], ◌∷◌, ◌++◌, length, refl}
 use Rattle.std.proofs.Common.{sym, ◌∙◌, ap, subst, arith, append_assoc, length-append}
 use Rattle.index_notation.specs.declared.syntax.Name.{Name}
-use Rattle.index_notation.specs.declared.token.Mark.TheVariants.{Equals, Plus, Minus, Times, Open, Close, Comma}
+use Rattle.index_notation.specs.declared.token.Mark.TheVariants.{Equals, PlusEquals, Plus, Minus, Times, Open, Close, Comma}
 use Rattle.index_notation.specs.declared.token.Token.TheVariants.{Name as NameToken, Number as NumberToken, Mark as MarkToken}
 use Rattle.index_notation.specs.declared.token.WrittenAccess.{WrittenAccess}
 use Rattle.index_notation.specs.declared.symbol.Symbol.{Symbol}
@@ -12,7 +12,7 @@ use Rattle.index_notation.specs.Grammar.{Plain, Written}
 use Rattle.notation_reader.specs.Machine.{SumPlace, OnTheRight, InBrackets, ProductPlace, First, BehindPlus, BehindMinus, FactorPlace}
 use Rattle.notation_reader.specs.Machine.{FirstFactor, BehindTimes, BehindSign, levels, its_product, product_with, its_sum, sum_with, Side}
 use Rattle.notation_reader.specs.Machine.{Left, Right, State, Start, Named, WantsVariable, BehindVariable, BehindLeft, WantsFactor, Behind}
-use Rattle.notation_reader.specs.Machine.{Ended, behind_factor, closed, ended, step_behind, step, count_on, before, role, read}
+use Rattle.notation_reader.specs.Machine.{Ended, behind_factor, behind_mark, closed, ended, step_behind, step, count_on, before, role, read}
 use Rattle.limits.specs.Limits.{greatest_order, greatest_variables, greatest_accesses, greatest_operands, greatest_literal}
 use Rattle.index_notation.specs.Numbering.{distinct}
 use Rattle.index_notation.specs.declared.fault.Counted.TheVariants.{Order, Variables, Accesses, Operands}
@@ -91,7 +91,9 @@ start_order _ next n e h = nothing_leads next e
 left_name_order : (name : Name) → Ordered (Named Left name)
 left_name_order name (Lexeme (MarkToken Open)) next n e h = order_to n (WantsVariable Left name []) next e h
 left_name_order name (Lexeme (MarkToken Equals)) next n e h =
-    order_to n (WantsFactor (FirstFactor (First (OnTheRight (record { name = name; vars = [] }))))) next e tt
+    order_to n (behind_mark (record { name = name; vars = [] }) false) next e tt
+left_name_order name (Lexeme (MarkToken PlusEquals)) next n e h =
+    order_to n (behind_mark (record { name = name; vars = [] }) true) next e tt
 left_name_order name _ next n e h = nothing_leads next e
 
 right_name_order : (place : FactorPlace) (name : Name) → Ordered (Named (Right place) name)
@@ -141,7 +143,8 @@ behind_variable_order (Right place) name vars var (Lexeme (MarkToken Close)) nex
 behind_variable_order (Right place) name vars var _ next n e h = nothing_leads next e
 
 left_order : (access : WrittenAccess) → Ordered (BehindLeft access)
-left_order access (Lexeme (MarkToken Equals)) next n e h = order_to n (WantsFactor (FirstFactor (First (OnTheRight access)))) next e tt
+left_order access (Lexeme (MarkToken Equals)) next n e h = order_to n (behind_mark access false) next e tt
+left_order access (Lexeme (MarkToken PlusEquals)) next n e h = order_to n (behind_mark access true) next e tt
 left_order access _ next n e h = nothing_leads next e
 
 wants_order : (place : FactorPlace) → Ordered (WantsFactor place)

@@ -13,5 +13,7 @@ pub mod AccessLaws
 pub mod ReadingSteps
 pub mod Bytes
 pub mod Scanning
+pub mod Marks
+pub mod TreeMarks
 pub mod NotationLaws
 pub mod TreeNumbers

@@ -1,9 +1,9 @@
 -- What a reader has read grows by each symbol that leads on; each state can be led to an end; a sentence is read to its
 -- end. So some sentence begins with the symbols exactly where a reader takes them all, and their roles are its own.
-use Rattle.std.specs.Prelude.{◌≡◌, ℕ, suc, Option, Some, None, List, [], ◌∷◌, ◌++◌, refl}
+use Rattle.std.specs.Prelude.{◌≡◌, true, false, ℕ, suc, Option, Some, None, List, [], ◌∷◌, ◌++◌, refl}
 use Rattle.std.proofs.Common.{sym, ◌∙◌, ap, subst, append_assoc}
 use Rattle.index_notation.specs.declared.syntax.Name.{Name}
-use Rattle.index_notation.specs.declared.token.Mark.TheVariants.{Equals, Plus, Minus, Times, Open, Close, Comma}
+use Rattle.index_notation.specs.declared.token.Mark.TheVariants.{Equals, PlusEquals, Plus, Minus, Times, Open, Close, Comma}
 use Rattle.index_notation.specs.declared.token.Token.TheVariants.{Name as NameToken, Number as NumberToken, Mark as MarkToken}
 use Rattle.index_notation.specs.declared.token.WrittenAccess.{WrittenAccess}
 use Rattle.index_notation.specs.declared.symbol.Symbol.{Symbol}
@@ -15,7 +15,7 @@ use Rattle.notation_reader.specs.Machine.{SumPlace, OnTheRight, InBrackets, Prod
 use Rattle.notation_reader.specs.Machine.{FirstFactor, BehindTimes, BehindSign, sum_levels, product_levels, levels, before_sum}
 use Rattle.notation_reader.specs.Machine.{before_product, before_factor, its_product, product_with, its_sum, sum_with, Side, Left, Right}
 use Rattle.notation_reader.specs.Machine.{State, Start, Named, WantsVariable, BehindVariable, BehindLeft, WantsFactor, Behind, Ended}
-use Rattle.notation_reader.specs.Machine.{behind_factor, behind_access, closed, ended, step_behind, step, count_on, with_commas, named}
+use Rattle.notation_reader.specs.Machine.{behind_factor, behind_mark, behind_access, closed, ended, step_behind, step, count_on, with_commas, named}
 use Rattle.notation_reader.specs.Machine.{before, read}
 
 pub append_none : {A : Type 0} (xs : List A) → xs ++ [] ≡ xs
@@ -128,7 +128,9 @@ behind_grows place p _ next e = nothing_leads next e
 left_grows : (access : WrittenAccess) (t : Symbol) (next : State) → step (BehindLeft access) t ≡ Some next
     → Grows (BehindLeft access) t next
 left_grows access (Lexeme (MarkToken Equals)) next e =
-    leads (BehindLeft access) (Lexeme (MarkToken Equals)) (WantsFactor (FirstFactor (First (OnTheRight access)))) next e refl
+    leads (BehindLeft access) (Lexeme (MarkToken Equals)) (behind_mark access false) next e refl
+left_grows access (Lexeme (MarkToken PlusEquals)) next e =
+    leads (BehindLeft access) (Lexeme (MarkToken PlusEquals)) (behind_mark access true) next e refl
 left_grows access _ next e = nothing_leads next e
 
 abbrev scalar : Name → WrittenAccess

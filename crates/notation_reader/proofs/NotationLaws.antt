@@ -1,5 +1,5 @@
 -- A text has one list of symbols, and one answer: a statement or a fault.
-use Rattle.std.specs.Prelude.{◌≡◌, ℕ, ◌<◌, ◌≤◌, List, [], ◌∷◌, length, refl}
+use Rattle.std.specs.Prelude.{Bool, ◌≡◌, ℕ, ◌<◌, ◌≤◌, List, [], ◌∷◌, length, refl}
 use Rattle.std.proofs.Common.{sym, ◌∙◌, ap, subst, arith}
 use Rattle.limits.specs.Limits.{greatest_text_bytes}
 use Rattle.index_notation.specs.declared.symbol.Symbol.{Symbol}
@@ -17,6 +17,8 @@ use Rattle.notation_reader.specs.declared.reader.Reading.{Reading}
 use Rattle.notation_reader.specs.Reading.{IsReadingOf}
 use Rattle.index_notation.specs.Notation.{IsNotationOf, at_byte, HasFaultySymbol, IsFaultOf}
 use Rattle.index_notation.proofs.TokenLaws.{next_once, token_full}
+use Rattle.notation_reader.specs.Assigning.{accumulates}
+use Rattle.notation_reader.proofs.TreeMarks.{tree_assigns}
 use Rattle.notation_reader.proofs.ReadingLaws.{one_tree}
 use Rattle.notation_reader.proofs.AnswerLaws.{first_once, tree_or_fault}
 
@@ -99,16 +101,20 @@ pub never_both : (text : List ℕ) (s : Statement) (f : NotationFault) → IsNot
 never_both text s f h k = never_told text s f h (told text f k)
 
 -- the statement of what was read is the text's
-pub parsed : (text bytes : List ℕ) (ps slice : List PlacedSymbol) (reading : Reading) (accesses : List WrittenAccess) (s : Statement)
+pub parsed : (text bytes : List ℕ) (ps slice : List PlacedSymbol) (reading : Reading) (accesses : List WrittenAccess) (flag : Bool) (s : Statement)
     → bytes ≡ text → length bytes ≤ greatest_text_bytes → AreSymbols (length bytes) bytes ps → slice ≡ ps
     → (tree : Tree) × IsTreeOf (symbols_of slice) tree × IsReadingOf tree reading → accesses ≡ reading.accesses
-    → ((left : WrittenAccess) (right : List WrittenAccess) → accesses ≡ left ∷ right
-    → s ≡ numbered_statement left right reading.expr) → IsNotationOf text s
-parsed text bytes ps slice reading accesses s same short are e h a n = record {
+    → flag ≡ accumulates (symbols_of slice) → ((left : WrittenAccess) (right : List WrittenAccess) → accesses ≡ left ∷ right
+    → s ≡ numbered_statement left flag right reading.expr) → IsNotationOf text s
+parsed text bytes ps slice reading accesses flag s same short are e h a f n = record {
   placed = ps;
   tree = h.0;
   short = subst (λ (t : List ℕ). length t ≤ greatest_text_bytes) same short;
   are_symbols = subst (λ (t : List ℕ). AreSymbols (length t) t ps) same are;
   is_tree = subst (λ (qs : List PlacedSymbol). IsTreeOf (symbols_of qs) h.0) e h.1;
-  is = n h.0.left (accesses_of_sum h.0.right) (a ∙ h.2.accesses) ∙ ap (numbered_statement h.0.left (accesses_of_sum h.0.right)) h.2.expr;
+  is = n h.0.left.access (accesses_of_sum h.0.right) (a ∙ h.2.accesses)
+      ∙ (λ i. numbered_statement h.0.left.access (mark i) (accesses_of_sum h.0.right) (h.2.expr i));
 }
+  where
+    mark : flag ≡ h.0.left.accumulate
+    mark = f ∙ ap accumulates h.1.is ∙ tree_assigns h.0

@@ -1,20 +1,20 @@
 -- A sentence is read to its end, and each state can be led to an end. So some sentence begins with the symbols exactly where
 -- a reader takes them all, and then their roles are the reader's.
-use Rattle.std.specs.Prelude.{◌≡◌, ℕ, suc, Option, Some, None, option_and_then, List, [], ◌∷◌, ◌++◌, refl}
+use Rattle.std.specs.Prelude.{◌≡◌, ℕ, suc, Bool, true, false, Option, Some, None, option_and_then, List, [], ◌∷◌, ◌++◌, refl}
 use Rattle.std.proofs.Common.{sym, ◌∙◌, ap, append_assoc}
 use Rattle.index_notation.specs.declared.syntax.Name.{Name}
-use Rattle.index_notation.specs.declared.token.Mark.TheVariants.{Equals, Plus, Minus, Times, Open, Close}
+use Rattle.index_notation.specs.declared.token.Mark.TheVariants.{Equals, PlusEquals, Plus, Minus, Times, Open, Close}
 use Rattle.index_notation.specs.declared.token.Token.TheVariants.{Name as NameToken, Number as NumberToken, Mark as MarkToken}
 use Rattle.index_notation.specs.declared.token.WrittenAccess.{WrittenAccess}
 use Rattle.index_notation.specs.declared.symbol.Symbol.{Symbol}
 use Rattle.index_notation.specs.declared.symbol.Symbol.TheVariants.{Lexeme, End}
 use Rattle.index_notation.specs.Grammar.{Factor, Digits, Read, Bracketed, Negated, Product, Lone, Multiplied, Sum, Alone, Added, Taken}
-use Rattle.index_notation.specs.Grammar.{Tree, NamesLeft, Written, plain, the_end, access_of, factor_of, product_of, sum_of, left_of}
+use Rattle.index_notation.specs.Grammar.{Tree, NamesLeft, Written, plain, the_end, assigning, access_of, factor_of, product_of, sum_of, left_of}
 use Rattle.index_notation.specs.Grammar.{sentence_of, more_variables, in_brackets, symbols, Begins}
 use Rattle.notation_reader.specs.Machine.{SumPlace, OnTheRight, InBrackets, ProductPlace, First, BehindPlus, BehindMinus, FactorPlace}
 use Rattle.notation_reader.specs.Machine.{FirstFactor, BehindTimes, BehindSign, its_sum, sum_with, Side, Left, Right, State, Start, Named}
 use Rattle.notation_reader.specs.Machine.{WantsVariable, BehindVariable, BehindLeft, WantsFactor, Behind, Ended, behind_factor}
-use Rattle.notation_reader.specs.Machine.{behind_access, closed, ended, step, run, before, read}
+use Rattle.notation_reader.specs.Machine.{behind_mark, behind_access, closed, ended, step, run, before, read}
 use Rattle.notation_reader.proofs.MachineLaws.{grows}
 
 -- a symbol follows, and opens no bracket
@@ -134,12 +134,19 @@ mutual
       ∙ product_read p n (BehindMinus place s) rest h
 
 -- a sentence is read to its end
+behind_left : (access : WrittenAccess) (accumulate : Bool) (rest : List Written)
+    → run Start (symbols (access_of NamesLeft access ++ (plain (assigning accumulate) ∷ rest)))
+    ≡ run (behind_mark access accumulate) (symbols rest)
+behind_left access false rest = access_read Left access (plain Equals ∷ rest) tt
+behind_left access true rest = access_read Left access (plain PlusEquals ∷ rest) tt
+
 pub sentence_read : (w : Tree) → run Start (symbols (sentence_of w)) ≡ Some (Ended w)
 sentence_read w =
+    let right = sum_of 0 w.right ++ (the_end ∷ []) in
     ap (read_on Start) (
     append_assoc (left_of w.left) (sum_of 0 w.right) (the_end ∷ [])
-    ∙ append_assoc (access_of NamesLeft w.left) (plain Equals ∷ []) (sum_of 0 w.right ++ (the_end ∷ [])))
-    ∙ access_read Left w.left (plain Equals ∷ (sum_of 0 w.right ++ (the_end ∷ []))) tt
+    ∙ append_assoc (access_of NamesLeft w.left.access) (plain (assigning w.left.accumulate) ∷ []) right)
+    ∙ behind_left w.left.access w.left.accumulate right
     ∙ sum_read w.right 0 (OnTheRight w.left) (the_end ∷ []) tt
     ∙ stepped (behind_sum (OnTheRight w.left) w.right) End (Some (Ended w)) [] (sum_ends (OnTheRight w.left) w.right)
 
@@ -181,8 +188,8 @@ abbrev a_name : Name
 a_name = record { bytes = 97 ∷ [] }
 
 ends_left : (access : WrittenAccess) → Ends (BehindLeft access)
-ends_left access = ends_from (BehindLeft access) (Lexeme (MarkToken Equals)) (WantsFactor (FirstFactor (First (OnTheRight access)))) refl
-    (ends_place (FirstFactor (First (OnTheRight access))))
+ends_left access = ends_from (BehindLeft access) (Lexeme (MarkToken Equals)) (behind_mark access false) refl
+    (ends_place (FirstFactor (First (OnTheRight (record { access = access; accumulate = false })))))
 
 ends_access : (side : Side) (access : WrittenAccess) → Ends (behind_access side access)
 ends_access Left access = ends_left access

@@ -1,8 +1,8 @@
 -- Each step of a state is what the reader's lead says.
-use Rattle.std.specs.Prelude.{◌≡◌, ℕ, suc, ◌+◌, ◌-◌, List, [], ◌∷◌, ◌++◌, refl}
+use Rattle.std.specs.Prelude.{◌≡◌, true, false, ℕ, suc, ◌+◌, ◌-◌, List, [], ◌∷◌, ◌++◌, refl}
 use Rattle.std.proofs.Common.{sym, ◌∙◌, ap, arith}
 use Rattle.index_notation.specs.declared.syntax.Name.{Name}
-use Rattle.index_notation.specs.declared.token.Mark.TheVariants.{Equals, Plus, Minus, Times, Open, Close, Comma}
+use Rattle.index_notation.specs.declared.token.Mark.TheVariants.{Equals, PlusEquals, Plus, Minus, Times, Open, Close, Comma}
 use Rattle.index_notation.specs.declared.token.Token.TheVariants.{Name as NameToken, Number as NumberToken, Mark as MarkToken}
 use Rattle.index_notation.specs.declared.token.WrittenAccess.{WrittenAccess}
 use Rattle.index_notation.specs.declared.symbol.Symbol.{Symbol}
@@ -11,7 +11,7 @@ use Rattle.index_notation.specs.Grammar.{Factor, Digits, Read, Bracketed, Produc
 use Rattle.notation_reader.specs.Machine.{SumPlace, OnTheRight, InBrackets, ProductPlace, First, BehindPlus, BehindMinus, FactorPlace}
 use Rattle.notation_reader.specs.Machine.{FirstFactor, BehindTimes, BehindSign, sum_levels, product_levels, levels, its_product}
 use Rattle.notation_reader.specs.Machine.{product_with, its_sum, sum_with, Side, Left, Right, State, Start, Named, WantsVariable}
-use Rattle.notation_reader.specs.Machine.{BehindVariable, BehindLeft, WantsFactor, Behind, Ended, behind_factor, closed, ended}
+use Rattle.notation_reader.specs.Machine.{BehindVariable, BehindLeft, WantsFactor, Behind, Ended, behind_factor, behind_mark, closed, ended}
 use Rattle.notation_reader.specs.Machine.{step_behind, step, count_on, role}
 use Rattle.notation_reader.specs.declared.position.Stand.{Stand}
 use Rattle.notation_reader.specs.declared.position.Stand.TheVariants as stand
@@ -150,7 +150,9 @@ start_does _ = refl
 left_name_does : (name : Name) (t : Symbol) → DoesAs (Named Left name) t
 left_name_does name (Lexeme (MarkToken Open)) = ((WantsVariable Left name [], refl, refl), tt)
 left_name_does name (Lexeme (MarkToken Equals)) =
-    ((WantsFactor (FirstFactor (First (OnTheRight (record { name = name; vars = [] })))), refl, refl), tt)
+    ((behind_mark (record { name = name; vars = [] }) false, refl, refl), tt)
+left_name_does name (Lexeme (MarkToken PlusEquals)) =
+    ((behind_mark (record { name = name; vars = [] }) true, refl, refl), tt)
 left_name_does name _ = refl
 
 right_name_does : (place : FactorPlace) (name : Name) (t : Symbol) → DoesAs (Named (Right place) name) t
@@ -188,7 +190,8 @@ variable_does (Right place) name vars var (Lexeme (MarkToken Close)) = (
 variable_does (Right place) name vars var _ = refl
 
 left_does : (access : WrittenAccess) (t : Symbol) → DoesAs (BehindLeft access) t
-left_does access (Lexeme (MarkToken Equals)) = ((WantsFactor (FirstFactor (First (OnTheRight access))), refl, refl), tt)
+left_does access (Lexeme (MarkToken Equals)) = ((behind_mark access false, refl, refl), tt)
+left_does access (Lexeme (MarkToken PlusEquals)) = ((behind_mark access true, refl, refl), tt)
 left_does access _ = refl
 
 wants_does : (place : FactorPlace) (t : Symbol) → DoesAs (WantsFactor place) t

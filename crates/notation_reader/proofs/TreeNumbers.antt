@@ -16,7 +16,7 @@ use Rattle.index_notation.specs.declared.fault.SymbolFault.{SymbolFault}
 use Rattle.index_notation.specs.declared.fault.SymbolFault.TheVariants.{TooMany}
 use Rattle.index_notation.specs.declared.fault.Counted.TheVariants.{Order, Variables}
 use Rattle.index_notation.specs.Grammar.{Factor, Digits, Read, Bracketed, Negated, Product, Lone, Multiplied, Sum, Alone, Added, Taken}
-use Rattle.index_notation.specs.Grammar.{Tree}
+use Rattle.index_notation.specs.Grammar.{LeftSide, Tree}
 use Rattle.index_notation.specs.Grammar.{Role, NamesLeft, NamesRight, IsVariable, IsNumber, Opens, Plain, Written, plain, the_end}
 use Rattle.index_notation.specs.Grammar.{more_variables, in_brackets, access_of, factor_of, product_of, sum_of, left_of, sentence_of}
 use Rattle.index_notation.specs.Grammar.{symbols}
@@ -134,8 +134,8 @@ tree_orders : (w : Tree) → OrdersWithin (sentence_of w) → Each HasOrder (acc
 tree_orders w h =
     let whole = parts (left_of w.left ++ sum_of 0 w.right) (the_end ∷ []) h in
     let sides = parts (left_of w.left) (sum_of 0 w.right) whole.0 in
-    let left = parts (access_of NamesLeft w.left) _ sides.0 in
-    (bracket_orders w.left.vars left.0.1, sum_orders 0 w.right sides.1)
+    let left = parts (access_of NamesLeft w.left.access) _ sides.0 in
+    (bracket_orders w.left.access.vars left.0.1, sum_orders 0 w.right sides.1)
 
 -- the variables that are written are those of the accesses
 variables_join : (ms ns : List Written) → variables_in (ms ++ ns) ≡ variables_in ms ++ variables_in ns
@@ -178,9 +178,10 @@ mutual
   sum_written n (Added s p) = joined (sum_of n s) _ (accesses_of_sum s) (accesses_of_product p) (sum_written n s) (product_written n p)
   sum_written n (Taken s p) = joined (sum_of n s) _ (accesses_of_sum s) (accesses_of_product p) (sum_written n s) (product_written n p)
 
-left_written : (access : WrittenAccess) → variables_in (left_of access) ≡ access.vars
-left_written access = variables_join (access_of NamesLeft access) _ ∙ append_none (variables_in (access_of NamesLeft access))
-    ∙ bracket_written access.vars
+left_written : (left : LeftSide) → variables_in (left_of left) ≡ left.access.vars
+left_written left =
+    variables_join (access_of NamesLeft left.access) _ ∙ append_none (variables_in (access_of NamesLeft left.access))
+    ∙ bracket_written left.access.vars
 
 sentence_written : (w : Tree) → variables_in (sentence_of w) ≡ variables_of (accesses_of_tree w)
 sentence_written w =

@@ -14,7 +14,7 @@ use Rattle.notation_reader.specs.Machine.{State, Start, Named, WantsVariable, Be
 
 abbrev mutual
   pub accesses_to_sum : SumPlace → List WrittenAccess
-  accesses_to_sum (OnTheRight left) = left ∷ []
+  accesses_to_sum (OnTheRight left) = left.access ∷ []
   accesses_to_sum (InBrackets place) = accesses_to place
 
   pub accesses_to_product : ProductPlace → List WrittenAccess

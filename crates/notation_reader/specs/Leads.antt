@@ -1,6 +1,6 @@
 -- What a symbol does at a stand of the reader.
 use Rattle.index_notation.specs.declared.token.Mark.{Mark}
-use Rattle.index_notation.specs.declared.token.Mark.TheVariants.{Equals, Plus, Minus, Times, Open, Close, Comma}
+use Rattle.index_notation.specs.declared.token.Mark.TheVariants.{Equals, PlusEquals, Plus, Minus, Times, Open, Close, Comma}
 use Rattle.index_notation.specs.declared.token.Token.TheVariants.{Name as NameToken, Number as NumberToken, Mark as MarkToken}
 use Rattle.index_notation.specs.declared.symbol.Symbol.{Symbol}
 use Rattle.index_notation.specs.declared.symbol.Symbol.TheVariants.{Lexeme, End, Stray}
@@ -12,6 +12,7 @@ use Rattle.notation_reader.specs.declared.position.Lead.TheVariants as lead
 abbrev pub left_name_leads : Mark → Lead
 left_name_leads Open = lead.To stand.LeftOpen
 left_name_leads Equals = lead.To stand.Operator
+left_name_leads PlusEquals = lead.To stand.Operator
 left_name_leads _ = lead.Nowhere
 
 abbrev pub left_variable_leads : Mark → Lead
@@ -21,6 +22,7 @@ left_variable_leads _ = lead.Nowhere
 
 abbrev pub left_access_leads : Mark → Lead
 left_access_leads Equals = lead.To stand.Operator
+left_access_leads PlusEquals = lead.To stand.Operator
 left_access_leads _ = lead.Nowhere
 
 abbrev pub operator_leads : Mark → Lead

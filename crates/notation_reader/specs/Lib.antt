@@ -8,3 +8,4 @@ pub mod Accesses
 pub mod Building
 pub mod Judging
 pub mod Reading
+pub mod Assigning

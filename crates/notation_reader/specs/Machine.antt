@@ -1,19 +1,19 @@
 -- Where a reader stands in a sentence: what it has read, as places in the grammar, and where each symbol leads.
-use Rattle.std.specs.Prelude.{ℕ, suc, Option, Some, None, option_and_then, List, [], ◌∷◌, ◌++◌}
+use Rattle.std.specs.Prelude.{ℕ, suc, Bool, true, false, Option, Some, None, option_and_then, List, [], ◌∷◌, ◌++◌}
 use Rattle.index_notation.specs.declared.syntax.Name.{Name}
-use Rattle.index_notation.specs.declared.token.Mark.TheVariants.{Equals, Plus, Minus, Times, Open, Close, Comma}
+use Rattle.index_notation.specs.declared.token.Mark.TheVariants.{Equals, PlusEquals, Plus, Minus, Times, Open, Close, Comma}
 use Rattle.index_notation.specs.declared.token.Token.TheVariants.{Name as NameToken, Number as NumberToken, Mark as MarkToken}
 use Rattle.index_notation.specs.declared.token.WrittenAccess.{WrittenAccess}
 use Rattle.index_notation.specs.declared.symbol.Symbol.{Symbol}
 use Rattle.index_notation.specs.declared.symbol.Symbol.TheVariants.{Lexeme, End}
 use Rattle.index_notation.specs.Grammar.{Factor, Digits, Read, Bracketed, Negated, Product, Lone, Multiplied, Sum, Alone, Added, Taken}
-use Rattle.index_notation.specs.Grammar.{Tree, Role, NamesLeft, NamesRight, IsVariable, IsNumber, Opens, Plain, Written, written}
+use Rattle.index_notation.specs.Grammar.{LeftSide, Tree, Role, NamesLeft, NamesRight, IsVariable, IsNumber, Opens, Plain, Written, written}
 use Rattle.index_notation.specs.Grammar.{plain, access_of, product_of, sum_of, left_of, sentence_of}
 
 -- a place where a sum, a product or a factor is wanted, with all that stands before it
 mutual
   pub data SumPlace : Type 0 where
-    OnTheRight : WrittenAccess → SumPlace
+    OnTheRight : LeftSide → SumPlace
     InBrackets : FactorPlace → SumPlace
 
   pub data ProductPlace : Type 0 where
@@ -110,8 +110,13 @@ abbrev pub ended : SumPlace → Sum → Option State
 ended (OnTheRight left) sum = Some (Ended (record { left = left; right = sum }))
 ended (InBrackets place) sum = None
 
+-- behind the left side's mark
+abbrev pub behind_mark : WrittenAccess → Bool → State
+behind_mark access accumulate = WantsFactor (FirstFactor (First (OnTheRight (record { access = access; accumulate = accumulate }))))
+
 abbrev pub step_behind_left : WrittenAccess → Symbol → Option State
-step_behind_left access (Lexeme (MarkToken Equals)) = Some (WantsFactor (FirstFactor (First (OnTheRight access))))
+step_behind_left access (Lexeme (MarkToken Equals)) = Some (behind_mark access false)
+step_behind_left access (Lexeme (MarkToken PlusEquals)) = Some (behind_mark access true)
 step_behind_left access _ = None
 
 abbrev pub step_behind : ProductPlace → Product → Symbol → Option State

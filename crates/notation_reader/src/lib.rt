@@ -6,6 +6,7 @@
 #![tactic(auto)]
 
 mod accesses;
+mod assigning;
 mod builder;
 mod counts;
 mod laws;

@@ -3,6 +3,7 @@ ghost use Rattle.std.specs.Prelude.{◌≡◌, IfOk, IfErr};
 ghost use Rattle.index_notation.specs.Statement.{IsNumbered};
 ghost use Rattle.index_notation.specs.Notation.{IsNotationOf, MayRefuseText, at_byte as fault_at_byte};
 
+use crate::assigning::accumulates;
 use crate::numbering::number_statement;
 use crate::reader::{Reading, read};
 use crate::scanner::symbols_of;
@@ -21,7 +22,7 @@ fn at_byte(at: usize, fault: SymbolFault) -> NotationFault
     }
 }
 
-/// The statement of a text: `left = right`, where the right side is made of accesses and numbers by `+`, `-`, `*`,
+/// The statement of a text: `left = right` or `left += right`, where the right side is made of accesses and numbers by `+`, `-`, `*`,
 /// brackets and prefix minuses, which group to the left and bind as usual. Names and numbers are taken as long as
 /// possible, and spaces and tabs may stand between them.
 ///
@@ -36,11 +37,13 @@ pub fn parse(alloc: Global, text: &str) -> Result<Statement, NotationFault>
     if bytes.len() as u64 > limits::greatest_bytes_of_text() {
         return Err(NotationFault::TextLength);
     }
-    let symbols = symbols_of(alloc, bytes)?;
-    match read(alloc, symbols.as_slice())? {
+    let placed = symbols_of(alloc, bytes)?;
+    let symbols = placed.as_slice();
+    match read(alloc, symbols)? {
         Ok(reading) => {
             let Reading { accesses, expr } = reading;
-            Ok(number_statement(alloc, accesses.as_slice(), expr)?)
+            let accumulate = accumulates(symbols);
+            Ok(number_statement(alloc, accesses.as_slice(), accumulate, expr)?)
         }
         Err((at, fault)) => Err(at_byte(at, fault)),
     }

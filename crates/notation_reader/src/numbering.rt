@@ -66,15 +66,16 @@ fn number_accesses(
     Ok(found)
 }
 
-/// The statement of accesses, the left one first, and the right side's expression.
+/// The statement of accesses, the left one first, and the right side's expression, which may be added to the old tensor.
 pub fn number_statement(
     alloc: Global,
     accesses: &[WrittenAccess],
+    accumulate: bool,
     expr: Expr,
 ) -> Result<Statement, AllocError>
     requires { (left : WrittenAccess) × (right : List WrittenAccess) × (accesses.now ≡ left ∷ right) }
     ensures { IfOk result (λ s. (left : WrittenAccess) (right : List WrittenAccess) → accesses.now ≡ left ∷ right →
-        s ≡ numbered_statement left right expr) }
+        s ≡ numbered_statement left accumulate right expr) }
 {
     let tensors = tensor_names(alloc, accesses)?;
     let vars = variable_names(alloc, accesses)?;
@@ -83,5 +84,5 @@ pub fn number_statement(
     };
     let left = number_access(alloc, tensors.as_slice(), vars.as_slice(), left)?;
     let accesses = number_accesses(alloc, tensors.as_slice(), vars.as_slice(), right)?;
-    Ok(Statement::new(tensors, vars, left, accesses, expr))
+    Ok(Statement::new(tensors, vars, left, accumulate, accesses, expr))
 }

@@ -18,7 +18,7 @@ pub enum Stand {
     LeftVariable,
     /// The whole left access.
     LeftAccess,
-    /// `=`, an operator, a prefix minus or an open bracket, so a factor is wanted.
+    /// `=` or `+=`, an operator, a prefix minus or an open bracket, so a factor is wanted.
     Operator,
     /// The name of an access of the right side.
     Name,
@@ -76,7 +76,7 @@ fn lead_of_mark(stand: Stand, mark: Mark) -> Lead
     match stand {
         Stand::LeftName => match mark {
             Mark::Open => Lead::To(Stand::LeftOpen),
-            Mark::Equals => Lead::To(Stand::Operator),
+            Mark::Equals | Mark::PlusEquals => Lead::To(Stand::Operator),
             _ => Lead::Nowhere,
         },
         Stand::LeftVariable => match mark {
@@ -85,7 +85,7 @@ fn lead_of_mark(stand: Stand, mark: Mark) -> Lead
             _ => Lead::Nowhere,
         },
         Stand::LeftAccess => match mark {
-            Mark::Equals => Lead::To(Stand::Operator),
+            Mark::Equals | Mark::PlusEquals => Lead::To(Stand::Operator),
             _ => Lead::Nowhere,
         },
         Stand::Operator => match mark {

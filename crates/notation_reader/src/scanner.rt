@@ -1,7 +1,7 @@
 // The symbols of a text.
 ghost use Rattle.std.specs.Prelude.{◌≡◌, ◌<◌, ◌≤◌, ◌∷◌, ℕ, false, List, length, take, drop, MatchOption, IfOk};
 ghost use Rattle.std.specs.Char.{is_ascii_digit};
-ghost use Rattle.index_notation.specs.Tokens.{goes_on, behind_blanks, mark_at, EachPasses, StopsAt, IsNext};
+ghost use Rattle.index_notation.specs.Tokens.{goes_on, behind_blanks, bytes_of, plus_before as plus_mark, mark_at, EachPasses, StopsAt, IsNext};
 ghost use Rattle.lists.specs.Blanks.{is_blank};
 ghost use Rattle.index_notation.specs.Symbols.{AreSymbols};
 ghost use Rattle.index_notation.specs.declared.token.Token.{Token};
@@ -57,13 +57,26 @@ fn number_length(text: &[u8]) -> usize
     text.len()
 }
 
-/// The mark that a byte is.
-fn mark_of(byte: u8) -> Option<Mark>
-    ensures { result ≡ mark_at byte }
+/// The mark behind whose `+` a text stands.
+fn plus_before(text: &[u8]) -> Mark
+    ensures { result ≡ plus_mark text.now }
 {
-    match byte {
+    match text.split_first() {
+        Some((byte, _)) if *byte == b'=' => Mark::PlusEquals,
+        _ => Mark::Plus,
+    }
+}
+
+/// The mark at the front of a text, taken as long as possible.
+fn mark_of(text: &[u8]) -> Option<Mark>
+    ensures { result ≡ mark_at text.now }
+{
+    let Some((first, behind)) = text.split_first() else {
+        return None;
+    };
+    match *first {
         b'=' => Some(Mark::Equals),
-        b'+' => Some(Mark::Plus),
+        b'+' => Some(plus_before(behind)),
         b'-' => Some(Mark::Minus),
         b'*' => Some(Mark::Times),
         b'(' => Some(Mark::Open),
@@ -73,7 +86,18 @@ fn mark_of(byte: u8) -> Option<Mark>
     }
 }
 
+/// The number of bytes of a mark.
+fn mark_length(mark: Mark) -> usize
+    ensures { result ≡ length (bytes_of mark) }
+{
+    match mark {
+        Mark::PlusEquals => 2,
+        _ => 1,
+    }
+}
+
 /// The token at the front of a text that begins with no blank, and the number of its bytes.
+#[tactic(auto, using(crate::proofs::Marks::mark_stands, crate::proofs::Marks::no_token, crate::proofs::Bytes::no_blank_first))]
 fn front_token(alloc: Global, first: u8, text: &[u8]) -> Result<Option<(Token, usize)>, AllocError>
     requires front { (rest : List ℕ) × (text.now ≡ first ∷ rest) }
     requires no_blank { is_blank first ≡ false }
@@ -90,7 +114,10 @@ fn front_token(alloc: Global, first: u8, text: &[u8]) -> Result<Option<(Token, u
         let digits = Items::from_slice(alloc, &text[..used])?;
         Ok(Some((Token::Number(digits), used)))
     } else {
-        Ok(mark_of(first).map(|mark| (Token::Mark(mark), 1)))
+        match mark_of(text) {
+            Some(mark) => Ok(Some((Token::Mark(mark), mark_length(mark)))),
+            None => Ok(None),
+        }
     }
 }
 

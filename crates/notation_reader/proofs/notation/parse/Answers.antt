@@ -10,24 +10,24 @@ use Rattle.notation_reader.proofs.notation.parse.Goals as goal
 
 pub read-requires : goal.read-requires
 read-requires c =
-    subst (λ (ps : List PlacedSymbol). HasLast (symbols_of ps)) (sym c.as_slice.ensures)
-    (symbols_end (length c.as_bytes-bytes.result.now) c.as_bytes-bytes.result.now c.in_ok-symbols.symbols c.in_ok-symbols.ensures)
+    subst (λ (ps : List PlacedSymbol). HasLast (symbols_of ps)) (sym c.as_slice-symbols.ensures)
+    (symbols_end (length c.as_bytes-bytes.result.now) c.as_bytes-bytes.result.now c.in_ok-placed.placed c.in_ok-placed.ensures)
 
 pub returns-in-Ok-clause-statement : goal.returns-in-Ok-clause-statement
 returns-in-Ok-clause-statement c =
     let short : length c.as_bytes-bytes.result.now ≤ greatest_text_bytes =
     omega (arith, c.if-bytes-greatest_bytes_of_text.false, c.greatest_bytes_of_text.ensures) in
-    parsed c.args.text.now c.as_bytes-bytes.result.now c.in_ok-symbols.symbols c.as_slice.result.now c.in-Ok.reading
-    c.as_slice-in-Ok.result.now c.in_ok-number_statement-in-Ok.field-0
-    c.as_bytes-bytes.ensures.value short c.in_ok-symbols.ensures c.as_slice.ensures
-    (rw c.in-Ok.is at c.in_ok-reading.ensures) c.as_slice-in-Ok.ensures c.in_ok-number_statement-in-Ok.ensures
+    parsed c.args.text.now c.as_bytes-bytes.result.now c.in_ok-placed.placed c.as_slice-symbols.result.now c.in-Ok.reading
+    c.as_slice.result.now c.accumulates-accumulate.result c.in_ok-number_statement-in-Ok.field-0
+    c.as_bytes-bytes.ensures.value short c.in_ok-placed.ensures c.as_slice-symbols.ensures
+    (rw c.in-Ok.is at c.in_ok-reading.ensures) c.as_slice.ensures c.accumulates-accumulate.ensures c.in_ok-number_statement-in-Ok.ensures
 
 pub returns-in-Ok-clause-numbered : goal.returns-in-Ok-clause-numbered
 returns-in-Ok-clause-numbered c =
     let short : length c.as_bytes-bytes.result.now ≤ greatest_text_bytes =
     omega (arith, c.if-bytes-greatest_bytes_of_text.false, c.greatest_bytes_of_text.ensures) in
     notation_is_numbered c.args.text.now c.in_ok-number_statement-in-Ok.field-0
-    (parsed c.args.text.now c.as_bytes-bytes.result.now c.in_ok-symbols.symbols c.as_slice.result.now c.in-Ok.reading
-    c.as_slice-in-Ok.result.now c.in_ok-number_statement-in-Ok.field-0
-    c.as_bytes-bytes.ensures.value short c.in_ok-symbols.ensures c.as_slice.ensures
-    (rw c.in-Ok.is at c.in_ok-reading.ensures) c.as_slice-in-Ok.ensures c.in_ok-number_statement-in-Ok.ensures)
+    (parsed c.args.text.now c.as_bytes-bytes.result.now c.in_ok-placed.placed c.as_slice-symbols.result.now c.in-Ok.reading
+    c.as_slice.result.now c.accumulates-accumulate.result c.in_ok-number_statement-in-Ok.field-0
+    c.as_bytes-bytes.ensures.value short c.in_ok-placed.ensures c.as_slice-symbols.ensures
+    (rw c.in-Ok.is at c.in_ok-reading.ensures) c.as_slice.ensures c.accumulates-accumulate.ensures c.in_ok-number_statement-in-Ok.ensures)
