@@ -24,7 +24,7 @@ behind_digits (byte ∷ text) = if is_ascii_digit byte then behind_digits text e
 abbrev pub number_in : List ℕ → ℕ
 number_in text = digits_value 10 (digits_in text)
 
-first_true : (a b : Bool) → (a && b) ≡ true → (a ≡ true) × (b ≡ true)
+pub first_true : (a b : Bool) → (a && b) ≡ true → (a ≡ true) × (b ≡ true)
 first_true true b h = (refl, h)
 first_true false b h = absurd (cc)
 

@@ -1,13 +1,16 @@
 -- Kernels told by their texts: a left inverse of the text of a kernel.
 use Rattle.std.specs.Prelude.{◌≡◌, ℕ, zero, suc, ◌+◌, ◌≤◌, ◌==◌, Bool, true, false, if◌then◌else◌, List, [], ◌∷◌, ◌++◌, codes, drop}
 use Rattle.std.specs.Prelude.{length, map, refl}
-use Rattle.std.specs.Char.{is_ascii_digit}
+use Rattle.std.specs.Char.{is_ascii_digit, is_ascii_lowercase}
 use Rattle.std.specs.Fmt.{decimal}
+use Rattle.std.specs.List.{list_all}
 use Rattle.std.proofs.Common.{◌∙◌, ap, sym, subst, append_assoc, arith}
 use Rattle.std.proofs.lemmas.Fmt.{digits_decimal, decimal_nonempty}
 use Rattle.kernel_code.specs.declared.syntax.Arr.{Arr}
 use Rattle.kernel_code.specs.declared.syntax.Arr.TheVariants as array
 use Rattle.kernel_code.specs.declared.syntax.Kernel.{Kernel}
+use Rattle.kernel_code.specs.declared.syntax.KernelSemiring.{KernelSemiring}
+use Rattle.kernel_code.specs.declared.syntax.KernelSemiring.TheVariants.{Ring, Named}
 use Rattle.kernel_code.specs.declared.syntax.KStmt.{KStmt, map-KStmt, Set, Combine, Put, AddTo, Push, Extend, Cut, Sort, SortSum}
 use Rattle.kernel_code.specs.declared.syntax.KStmt.{If', While'}
 use Rattle.kernel_code.specs.declared.syntax.KStmt.TheVariants.{rolls-Set, rolls-Combine, rolls-Put, rolls-AddTo, rolls-Push, rolls-Extend}
@@ -15,12 +18,14 @@ use Rattle.kernel_code.specs.declared.syntax.KStmt.TheVariants.{rolls-Cut, rolls
 use Rattle.kernel_code.specs.declared.syntax.KStmt.TheFolds.{ind-KStmt}
 use Rattle.kernel_code.specs.declared.syntax.KStmt.TheViews.{roll-KStmt}
 use Rattle.kernel_code.specs.declared.syntax.KStmt.TheOpen as view
+use Rattle.kernel_code.specs.Semirings.{HasName}
 use Rattle.text_lines.proofs.NumberLaws.{digits_model}
 use Rattle.kernel_print.specs.ArrayNames.{IsWord, HasWords}
 use Rattle.kernel_print.specs.KernelTexts.{StatementHasWords, CodeHasWords, AreWords, KernelHasWords, TextsTellKernels}
-use Rattle.kernel_print.specs.Text.{array_text, expr_text, statement_text, statements_text, workspaces_text, lists_text, kernel_text}
-use Rattle.kernel_print.proofs.ArrayNames.{number_in, behind_digits, second_byte}
-use Rattle.kernel_print.proofs.StatementTexts.{first_byte, first_digit, digit_isnt, numbered, code_told, code_size, StatementTold, CodeTold}
+use Rattle.kernel_print.specs.Text.{array_text, expr_text, statement_text, statements_text, workspaces_text, lists_text}
+use Rattle.kernel_print.specs.Text.{head_text, kernel_text}
+use Rattle.kernel_print.proofs.ArrayNames.{first_true, number_in, behind_digits, second_byte}
+use Rattle.kernel_print.proofs.StatementTexts.{first_byte, first_digit, byte_isnt, digit_isnt, numbered, code_told, code_size, StatementTold, CodeTold}
 use Rattle.kernel_print.proofs.StatementTexts.{nothing_told, more_told, set_case, combine_case, put_case, add_case, push_case, extend_case}
 use Rattle.kernel_print.proofs.StatementTexts.{cut_case, sort_case, sum_case, if_case, while_case}
 
@@ -187,18 +192,62 @@ lists_other (suc more) behind other = refl
 from_zero : (n : ℕ) → IsWord n → IsWord (0 + n)
 from_zero n word = omega (arith, word)
 
+-- the small letters in front, and what stands behind them
+abbrev letters_in : List ℕ → List ℕ
+letters_in [] = []
+letters_in (byte ∷ text) = if is_ascii_lowercase byte then byte ∷ letters_in text else []
+
+abbrev behind_letters : List ℕ → List ℕ
+behind_letters [] = []
+behind_letters (byte ∷ text) = if is_ascii_lowercase byte then behind_letters text else byte ∷ text
+
+cut_letters : (name behind : List ℕ) → list_all is_ascii_lowercase name ≡ true
+    → (letters_in (name ++ (32 ∷ behind)) ≡ name) × (behind_letters (name ++ (32 ∷ behind)) ≡ 32 ∷ behind)
+cut_letters [] behind all = (refl, refl)
+cut_letters (byte ∷ name) behind all =
+    let both = first_true (is_ascii_lowercase byte) (list_all is_ascii_lowercase name) all in
+    let rest = cut_letters name behind both.1 in (
+      ap (λ (b : Bool). if b then byte ∷ letters_in (name ++ (32 ∷ behind)) else []) both.0 ∙ ap (λ (t : List ℕ). byte ∷ t) rest.0,
+      ap (λ (b : Bool). if b then behind_letters (name ++ (32 ∷ behind)) else byte ∷ (name ++ (32 ∷ behind))) both.0 ∙ rest.1,
+    )
+
+-- what the first line tells, behind the word that all kernels begin with
+abbrev named_told : List ℕ → KernelSemiring × List ℕ
+named_told text = (Named (letters_in text), drop 3 (behind_letters text))
+
+abbrev head_told : List ℕ → KernelSemiring × List ℕ
+head_told text = if first_byte text == 123 then (Ring, drop 2 text) else named_told text
+
+name_is_told : (name behind : List ℕ) → HasName (Named name) → head_told (name ++ (codes " {\n" ++ behind)) ≡ (Named name, behind)
+name_is_told [] behind named = absurd (named.some refl)
+name_is_told (letter ∷ name) behind named =
+    let text : List ℕ = (letter ∷ name) ++ (codes " {\n" ++ behind) in
+    let first = (first_true (is_ascii_lowercase letter) (list_all is_ascii_lowercase name) named.letters).0 in
+    let cut = cut_letters (letter ∷ name) (codes "{\n" ++ behind) named.letters in
+    ap (λ (b : Bool). if b then (Ring, drop 2 text) else named_told text) (byte_isnt is_ascii_lowercase letter 123 first refl)
+    ∙ ap (λ (t : List ℕ). (Named t, drop 3 (behind_letters text))) cut.0
+    ∙ ap (λ (t : List ℕ). (Named (letter ∷ name), drop 3 t)) cut.1
+
+head_is_told : (semiring : KernelSemiring) (behind : List ℕ) → HasName semiring
+    → head_told (drop 7 (head_text semiring ++ behind)) ≡ (semiring, behind)
+head_is_told Ring behind named = refl
+head_is_told (Named name) behind named = ap head_told (append_assoc name (codes " {\n") behind) ∙ name_is_told name behind named
+
 -- the parts of a kernel in a text
-abbrev kernel_end : List ℕ → ℕ → List KStmt × List ℕ → Kernel
-kernel_end workspaces lists body = record { workspaces = workspaces; lists = lists; body = body.0 }
+abbrev kernel_end : KernelSemiring → List ℕ → ℕ → List KStmt × List ℕ → Kernel
+kernel_end semiring workspaces lists body = record { semiring = semiring; workspaces = workspaces; lists = lists; body = body.0 }
 
-abbrev kernel_lists : ℕ → List ℕ → ℕ × List ℕ → Kernel
-kernel_lists n workspaces lists = kernel_end workspaces lists.0 (code_told n 0 lists.1)
+abbrev kernel_lists : ℕ → KernelSemiring → List ℕ → ℕ × List ℕ → Kernel
+kernel_lists n semiring workspaces lists = kernel_end semiring workspaces lists.0 (code_told n 0 lists.1)
 
-abbrev kernel_workspaces : ℕ → List ℕ × List ℕ → Kernel
-kernel_workspaces n workspaces = kernel_lists n workspaces.0 (lists_told n workspaces.1)
+abbrev kernel_workspaces : ℕ → KernelSemiring → List ℕ × List ℕ → Kernel
+kernel_workspaces n semiring workspaces = kernel_lists n semiring workspaces.0 (lists_told n workspaces.1)
+
+abbrev kernel_head : ℕ → KernelSemiring × List ℕ → Kernel
+kernel_head n head = kernel_workspaces n head.0 (workspaces_told n head.1)
 
 abbrev kernel_told : ℕ → List ℕ → Kernel
-kernel_told n text = kernel_workspaces n (workspaces_told n (drop 9 text))
+kernel_told n text = kernel_head n (head_told (drop 7 text))
 
 -- so deep are the parts of a kernel at most
 abbrev kernel_size : Kernel → ℕ
@@ -211,11 +260,12 @@ kernel_is_told k n small words =
     let few : length k.workspaces ≤ n = omega (arith, small) in
     let few_lists : k.lists ≤ n = omega (arith, small) in
     let few_parts : code_size k.body ≤ n = omega (arith, small) in
-    ap (kernel_workspaces n) (workspaces_are_told k.workspaces 0 n (lists_text 0 k.lists ++ end) few
+    ap (kernel_head n) (head_is_told k.semiring (workspaces_text 0 k.workspaces ++ (lists_text 0 k.lists ++ end)) words.semiring)
+    ∙ ap (kernel_workspaces n k.semiring) (workspaces_are_told k.workspaces 0 n (lists_text 0 k.lists ++ end) few
     (from_zero (length k.workspaces) words.workspaces) words.keys
     (lists_other k.lists end other.0))
-    ∙ ap (kernel_lists n k.workspaces) (lists_are_told k.lists 0 n end few_lists (from_zero k.lists words.lists) other.1)
-    ∙ ap (kernel_end k.workspaces k.lists) (code_is_told k.body n 0 (10 ∷ []) few_parts words.body)
+    ∙ ap (kernel_lists n k.semiring k.workspaces) (lists_are_told k.lists 0 n end few_lists (from_zero k.lists words.lists) other.1)
+    ∙ ap (kernel_end k.semiring k.workspaces k.lists) (code_is_told k.body n 0 (10 ∷ []) few_parts words.body)
 
 pub texts_tell_kernels : TextsTellKernels
 texts_tell_kernels j k words words' same =

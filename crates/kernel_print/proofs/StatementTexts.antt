@@ -188,16 +188,19 @@ row_words (more_of-KStmt s rest) words = (words.0, row_words rest words.1)
 held_words : (body : List KStmt) → RowHasWords (hidden-the_row-KStmt-0 body) → CodeHasWords body
 held_words body words = subst CodeHasWords (items_hidden-the_row-KStmt-0 body) (row_words (hidden-the_row-KStmt-0 body) words)
 
--- what a digit isn't
-pub digit_isnt : (b m : ℕ) → is_ascii_digit b ≡ true → is_ascii_digit m ≡ false → (b == m) ≡ false
-digit_isnt b m h g = by_test (b == m) refl
+-- what a byte isn't that a test takes
+pub byte_isnt : (test : ℕ → Bool) (b m : ℕ) → test b ≡ true → test m ≡ false → (b == m) ≡ false
+byte_isnt test b m h g = by_test (b == m) refl
   where
     apart : true ≡ false → ⊥
     apart e = cc
 
     by_test : (t : Bool) → (b == m) ≡ t → t ≡ false
-    by_test true e = let is : b ≡ m = grind (arith, nat_tests, e) in absurd (apart (sym h ∙ ap is_ascii_digit is ∙ g))
+    by_test true e = let is : b ≡ m = grind (arith, nat_tests, e) in absurd (apart (sym h ∙ ap test is ∙ g))
     by_test false e = refl
+
+pub digit_isnt : (b m : ℕ) → is_ascii_digit b ≡ true → is_ascii_digit m ≡ false → (b == m) ≡ false
+digit_isnt b m h g = byte_isnt is_ascii_digit b m h g
 
 pub first_digit : (digits behind : List ℕ) → 0 < length digits → all_ascii_digits digits ≡ true
     → is_ascii_digit (first_byte (digits ++ behind)) ≡ true

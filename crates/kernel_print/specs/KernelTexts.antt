@@ -4,6 +4,7 @@ use Rattle.kernel_code.specs.declared.syntax.KStmt.{KStmt, Set, Combine, Put, Ad
 use Rattle.kernel_code.specs.declared.syntax.KStmt.{Extend, Cut, Sort, SortSum, If', While'}
 use Rattle.kernel_code.specs.declared.syntax.KStmt.{Row_of-KStmt, end_of-KStmt, more_of-KStmt}
 use Rattle.kernel_code.specs.declared.syntax.Kernel.{Kernel}
+use Rattle.kernel_code.specs.Semirings.{HasName}
 use Rattle.kernel_print.specs.ArrayNames.{IsWord, HasWords}
 use Rattle.kernel_print.specs.ExprTexts.{ExprHasWords}
 use Rattle.kernel_print.specs.Text.{kernel_text}
@@ -35,8 +36,10 @@ abbrev pub AreWords : List ℕ → Type 0
 AreWords [] = Unit {0}
 AreWords (n ∷ rest) = IsWord n × AreWords rest
 
--- the numbers in a kernel and the number of its workspaces are words, as those of each kernel in a program are
+-- the numbers in a kernel and the number of its workspaces are words, as those of each kernel in a program are, and the name of its
+-- semiring has letters alone, as that of each semiring has
 pub record KernelHasWords (k : Kernel) : Type 0 where
+  pub semiring : HasName k.semiring
   pub keys : AreWords k.workspaces
   pub workspaces : IsWord (length k.workspaces)
   pub lists : IsWord k.lists

@@ -15,6 +15,8 @@ use Rattle.kernel_code.specs.declared.syntax.KStmt.{KStmt, Set, Combine, Put, Ad
 use Rattle.kernel_code.specs.declared.syntax.KStmt.{Extend, Cut, Sort, SortSum, If', While'}
 use Rattle.kernel_code.specs.declared.syntax.KStmt.{Row_of-KStmt, end_of-KStmt, more_of-KStmt}
 use Rattle.kernel_code.specs.declared.syntax.Kernel.{Kernel}
+use Rattle.kernel_code.specs.declared.syntax.KernelSemiring.{KernelSemiring}
+use Rattle.kernel_code.specs.declared.syntax.KernelSemiring.TheVariants.{Ring, Named}
 use Rattle.kernel_print.specs.declared.indents.Indent.{Indent, Margin, Within'}
 
 -- the name of an array: T0 is the result, levels count from 1 and keys from 0
@@ -131,8 +133,13 @@ abbrev pub lists_text : ℕ → ℕ → List ℕ
 lists_text n zero = []
 lists_text n (suc more) = codes "  scratch g" ++ (decimal n ++ (codes ";\n" ++ lists_text (suc n) more))
 
--- a kernel: its workspaces, its scratch lists and its body
+-- the first line of a kernel, which names its semiring, but for the ring
+abbrev pub head_text : KernelSemiring → List ℕ
+head_text Ring = codes "kernel {\n"
+head_text (Named name) = codes "kernel " ++ (name ++ codes " {\n")
+
+-- a kernel: its first line, its workspaces, its scratch lists and its body
 abbrev pub kernel_text : Kernel → List ℕ
 kernel_text kernel =
-    codes "kernel {\n" ++ (workspaces_text 0 kernel.workspaces ++ (lists_text 0 kernel.lists
+    head_text kernel.semiring ++ (workspaces_text 0 kernel.workspaces ++ (lists_text 0 kernel.lists
     ++ (statements_text 1 kernel.body ++ codes "}\n")))

@@ -3,14 +3,33 @@ ghost use Rattle.std.specs.Prelude.{OnOk, IfErr, ◌++◌, codes};
 ghost use Rattle.std.specs.Fmt.{decimal};
 ghost use Rattle.outside.specs.Sink.{Appends};
 ghost use Rattle.text_lines.specs.Puts.{AppendsPart, Prints};
-ghost use Rattle.kernel_print.specs.Text.{kernel_text, lists_text, statements_text, workspaces_text};
+ghost use Rattle.kernel_print.specs.Text.{head_text, kernel_text, lists_text, statements_text, workspaces_text};
 
 use crate::indents::Indent;
 use crate::names::{put_name, put_numbered};
 use crate::statements::put_statements;
-use kernel_code::Kernel;
+use kernel_code::{Kernel, KernelSemiring};
 use outside::{Refusal, Sink};
 use text_lines::put_all;
+
+/// Appends the first line of a kernel over a semiring of this name.
+fn put_named<S: Sink>(sink: &mut S, name: &[u8]) -> Result<(), Refusal>
+    ensures { Prints (S.state sink.old) (S.state sink.new) (codes "kernel " ++ (name.now ++ codes " {\n")) result }
+{
+    put_all(sink, b"kernel ")?;
+    put_all(sink, name)?;
+    put_all(sink, b" {\n")
+}
+
+/// Appends the first line of a kernel.
+fn put_head<S: Sink>(sink: &mut S, semiring: &KernelSemiring) -> Result<(), Refusal>
+    ensures { Prints (S.state sink.old) (S.state sink.new) (head_text semiring.now) result }
+{
+    match semiring {
+        KernelSemiring::Ring => put_all(sink, b"kernel {\n"),
+        KernelSemiring::Named(name) => put_named(sink, name.as_slice()),
+    }
+}
 
 /// Appends the line of a workspace.
 fn put_workspace<S: Sink>(sink: &mut S, number: u64, keys: u64) -> Result<(), Refusal>
@@ -59,7 +78,7 @@ pub fn put_kernel<S: Sink>(sink: &mut S, kernel: &Kernel) -> Result<(), Refusal>
     ensures whole { OnOk result (Appends (S.state sink.old) (S.state sink.new) (kernel_text kernel.now)) }
     ensures part { IfErr result (AppendsPart (S.state sink.old) (S.state sink.new) (kernel_text kernel.now)) }
 {
-    put_all(sink, b"kernel {\n")?;
+    put_head(sink, &kernel.semiring)?;
     put_workspaces(sink, kernel.workspaces.as_slice())?;
     put_lists(sink, kernel.lists)?;
     put_body(sink, kernel)

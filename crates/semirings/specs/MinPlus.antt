@@ -1,16 +1,17 @@
--- Costs: the sum is the lesser of two, and the product adds them and stops at 2^64 - 1.
-use Rattle.std.specs.Prelude.{◌≡◌, ◌≢◌, ℕ, ◌+◌, ◌-◌, ◌^◌, ◌<◌, min, true, false, refl}
+-- Lengths: the sum is the lesser of two, and the product adds them and stops at 2^64 - 1, which is no way at all.
+use Rattle.std.specs.Prelude.{◌≡◌, ◌≢◌, ℕ, ◌+◌, ◌-◌, ◌^◌, ◌<◌, min, true, false, [], codes, refl}
 use Rattle.std.proofs.Common.{arith, ap, lit<}
 use Rattle.numbers.specs.Arithmetic.{Arithmetic, WordLaws, Laws, MinusLaws, on_words}
+use Rattle.numbers.specs.Names.{IsName}
 use Rattle.numbers.specs.OnWords.{laws_on_words, plus_of_words, times_of_words}
-use Rattle.numbers.specs.Ring.{ring, word_sum}
+use Rattle.numbers.specs.Ring.{ring}
 
--- both costs together, below a cap
+-- both lengths together, below a cap
 abbrev pub together : ℕ → ℕ → ℕ → ℕ
 together cap x y = min (x + y) cap
 
-unfoldable pub least : Arithmetic
-least = record {
+unfoldable pub lengths : Arithmetic
+lengths = record {
   zero = 2 ^ 64 - 1;
   one = 0;
   minus_one = 0;
@@ -48,9 +49,9 @@ times_zero_at c x = omega arith
 distributes_at : (c x y z : ℕ) → together c x (min y z) ≡ min (together c x y) (together c x z)
 distributes_at c x y z = omega arith
 
-pub least_word_laws : WordLaws least
-unfolding least
-least_word_laws = record {
+pub length_word_laws : WordLaws lengths
+unfolding lengths
+length_word_laws = record {
   zero_fits = lit< tt;
   one_fits = lit< tt;
   plus_fits = λ x y h _. min_fits (2 ^ 64 - 1) x y h;
@@ -65,29 +66,35 @@ least_word_laws = record {
   distributes = λ x y z _ _ _. distributes_at (2 ^ 64 - 1) x y z;
 }
 
-pub least_laws : Laws (on_words least)
-least_laws = laws_on_words least least_word_laws
+pub length_laws : Laws (on_words lengths)
+length_laws = laws_on_words lengths length_word_laws
 
 -- there is no minus
-pub least_minus_laws : false ≡ true → MinusLaws (on_words least)
-least_minus_laws e = cc
+pub no_minus_of_lengths : false ≡ true → MinusLaws (on_words lengths)
+no_minus_of_lengths e = cc
 
-pub least_is_no_ring : false ≡ true → on_words least ≡ ring
-least_is_no_ring e = cc
+pub lengths_are_told_apart : false ≡ true → on_words lengths ≡ ring
+lengths_are_told_apart e = cc
 
--- one and one are one, and two in the ring
-sums_differ : (x y : ℕ) → x ≡ 1 → y ≡ 2 → x ≡ y → ⊥
-sums_differ x y h g e = omega (arith, h, g, e)
+-- one is no way more to go, and the word 1 in the ring
+ones_differ : (x y : ℕ) → x ≡ 0 → y ≡ 1 → x ≡ y → ⊥
+ones_differ x y h g e = omega (arith, h, g, e)
 
-pub least_differs : false ≡ false → on_words least ≢ ring
-unfolding least ring word_sum
-least_differs e same = sums_differ _ _ refl refl (ap (λ (a : Arithmetic). a.plus 1 1) same)
+pub lengths_are_no_ring : false ≡ false → on_words lengths ≢ ring
+unfolding lengths ring
+lengths_are_no_ring e same = ones_differ _ _ refl refl (ap (λ (a : Arithmetic). a.one) same)
 
--- of two costs, without remainders
-pub plus_of_costs : (x y : ℕ) → x < 2 ^ 64 → y < 2 ^ 64 → (on_words least).plus x y ≡ min x y
-unfolding least
-plus_of_costs x y h g = plus_of_words least x y h g
+minplus_has_letters : codes "minplus" ≢ []
+minplus_has_letters e = cc
 
-pub times_of_costs : (x y : ℕ) → x < 2 ^ 64 → y < 2 ^ 64 → (on_words least).times x y ≡ min (x + y) (2 ^ 64 - 1)
-unfolding least
-times_of_costs x y h g = times_of_words least x y h g
+pub minplus_is_named : IsName (codes "minplus")
+minplus_is_named = record { some = minplus_has_letters; letters = refl }
+
+-- of two lengths, without remainders
+pub plus_of_lengths : (x y : ℕ) → x < 2 ^ 64 → y < 2 ^ 64 → (on_words lengths).plus x y ≡ min x y
+unfolding lengths
+plus_of_lengths x y h g = plus_of_words lengths x y h g
+
+pub times_of_lengths : (x y : ℕ) → x < 2 ^ 64 → y < 2 ^ 64 → (on_words lengths).times x y ≡ min (x + y) (2 ^ 64 - 1)
+unfolding lengths
+times_of_lengths x y h g = times_of_words lengths x y h g
