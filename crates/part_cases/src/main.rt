@@ -41,7 +41,7 @@
 //! laws |                      Each call that states a law.
 //! ```
 //!
-//! What is generic over a semiring, over the ring of words and over costs:
+//! What is generic over a semiring, over the ring of words and over lengths, words over flags too:
 //!
 //! ```text
 //! words: WORD WORD            Their sum with zero, their product with one, and minus one, if there is one; below it the difference of
@@ -85,7 +85,6 @@ mod files;
 mod formats;
 mod forms;
 mod graphs;
-mod least;
 mod memory;
 mod numbered;
 mod owners;

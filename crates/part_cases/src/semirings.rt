@@ -1,11 +1,11 @@
-//! Cases of what is generic over a semiring: words, entries, workspaces and values of statements, over the ring of words and over costs.
-use crate::least::Least;
+//! Cases of what is generic over a semiring: words, entries, workspaces and values of statements, over the ring of words and over lengths.
 use case_files::Answer;
 use expr_terms::{has_meaning, value_at};
 use index_notation::Statement;
 use limits::greatest_order_of_tensor;
 use notation_reader::parse;
 use numbers::{Ring, Semiring, signed, sub};
+use semirings::{Bits, MinPlus};
 use tensor_map::Entries;
 use workspaces::{CoordWorkspace, presence};
 
@@ -41,7 +41,7 @@ fn tell_entries(answer: &mut Answer, entries: &Entries) {
 
 /// The sum and the product of two words, and minus one, if there is one.
 fn tell_sum_and_product<S: Semiring>(answer: &mut Answer, a: u64, b: u64) {
-    answer.tell(S::NAME);
+    answer.tell(S::name());
     answer.tell(": plus ");
     answer.show(S::plus(S::zero(), S::plus(a, b)));
     answer.tell(" times ");
@@ -61,7 +61,8 @@ pub(crate) fn tell_words(answer: &mut Answer, case: &str) -> Option<()> {
     };
     let (a, b) = (*a, *b);
     tell_sum_and_product::<Ring>(answer, a, b);
-    tell_sum_and_product::<Least>(answer, a, b);
+    tell_sum_and_product::<MinPlus>(answer, a, b);
+    tell_sum_and_product::<Bits>(answer, a, b);
     answer.tell("difference ");
     answer.show(sub(a, b));
     answer.tell(" signed ");
@@ -73,11 +74,11 @@ pub(crate) fn tell_words(answer: &mut Answer, case: &str) -> Option<()> {
 fn tell_sums<S: Semiring>(answer: &mut Answer, order: usize, text: &str) -> Option<()> {
     let mut entries = entries_of(answer, text, order)?;
     entries.sort_sum::<S>().ok()?;
-    answer.tell(S::NAME);
+    answer.tell(S::name());
     answer.tell(":");
     tell_entries(answer, &entries);
     entries.nonzero::<S>();
-    answer.tell(S::NAME);
+    answer.tell(S::name());
     answer.tell(", not zero:");
     tell_entries(answer, &entries);
     Some(())
@@ -105,7 +106,7 @@ fn tell_drains<S: Semiring>(answer: &mut Answer, order: usize, rounds: &str) -> 
     for round in rounds.split('/') {
         let pairs = entries_of(answer, round, order)?;
         add_all(answer, &mut workspace, &pairs)?;
-        answer.tell(S::NAME);
+        answer.tell(S::name());
         answer.tell(":");
         let sums = workspace.drain_sorted::<S>();
         let sums = answer.made(sums)?;
@@ -135,7 +136,7 @@ fn tell_values<S: Semiring>(
     let statement = parse(answer.alloc(), text.trim()).ok()?;
     let operands = operands_of(answer, &statement, entries)?;
     let operands = operands.as_slice();
-    answer.tell(S::NAME);
+    answer.tell(S::name());
     if !has_meaning::<S>(&statement.expr) {
         answer.tell(": no meaning\n");
         return Some(());
@@ -174,10 +175,10 @@ pub(crate) fn tell_entries_or_drains(answer: &mut Answer, keyword: &str, case: &
     let order = order.trim().parse::<usize>().ok()?;
     if keyword == "entries:" {
         tell_sums::<Ring>(answer, order, entries)?;
-        return tell_sums::<Least>(answer, order, entries);
+        return tell_sums::<MinPlus>(answer, order, entries);
     }
     tell_drains::<Ring>(answer, order, entries)?;
-    tell_drains::<Least>(answer, order, entries)
+    tell_drains::<MinPlus>(answer, order, entries)
 }
 
 /// What comes of a statement.
@@ -185,7 +186,7 @@ pub(crate) fn tell_statement_values(answer: &mut Answer, keyword: &str, case: &s
     let (text, case) = case.split_once('|')?;
     if keyword == "present:" {
         tell_values::<Ring>(answer, text, case, None)?;
-        return tell_values::<Least>(answer, text, case, None);
+        return tell_values::<MinPlus>(answer, text, case, None);
     }
     let (ranges, case) = case.split_once('|')?;
     let (coords, entries) = case.split_once('|')?;
@@ -193,5 +194,5 @@ pub(crate) fn tell_statement_values(answer: &mut Answer, keyword: &str, case: &s
     let coords = answer.numbers(coords)?;
     let at = Some((ranges.as_slice(), coords.as_slice()));
     tell_values::<Ring>(answer, text, entries, at)?;
-    tell_values::<Least>(answer, text, entries, at)
+    tell_values::<MinPlus>(answer, text, entries, at)
 }

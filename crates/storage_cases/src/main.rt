@@ -28,6 +28,7 @@
 //!
 //! ```text
 //! tensor s | 6 | 2 4; 5 5   The tensor 1 of the runs from here on: its format, ranges and entries.
+//! over minplus              The kernel is over this semiring, else over the ring.
 //! workspace 2               One more workspace of the kernel, with so many keys.
 //! list                      One more scratch list of the kernel.
 //! do WORDS                  More of the kernel's body, in words that each take what they need from those before.
@@ -41,9 +42,10 @@
 //! `put:ARRAY`, `add:ARRAY`, `push:ARRAY`, `extend:ARRAY`, `cut:ARRAY`; `sort:0`, `sort_sum:0`. A body stands in `[` and `]`: `if` has its
 //! test and two bodies before it, `while:KIND` its test and one. `names.rt` has the arrays that a case may name.
 //!
-//! Each run has the same arrays but for those of tensor 1: `range` has 6 and 7; the result has one value, 0, two segment ends and no
-//! coordinates at level 1, and no width at level 2; there is one workspace of one key and one scratch list. Behind the name come how
-//! the run ended, where it is stuck the number of the statement, the turns of each kind, and the arrays that have words, with these.
+//! Each run has the same arrays but for those of tensor 1: `range` has 6 and 7; the result has one value, the zero of the semiring, two
+//! segment ends and no coordinates at level 1, and no width at level 2; there is one workspace of one key and one scratch list. Behind the
+//! name come how the run ended, where it is stuck the number of the statement, the turns of each kind, and the arrays that have words, with
+//! these.
 #![tactic(auto)]
 
 mod kinds;

@@ -1,7 +1,8 @@
 //! Kernels from words that each take what they need from those before. Each call answers none where a word isn't one, where what it
 //! takes is missing, or for want of memory.
 use crate::names::{LOOPS, OPERATORS, array, named};
-use kernel_code::{Arr, KExpr, KStmt, Kernel, LoopKind, ValueOp};
+use kernel_code::{Arr, KExpr, KStmt, Kernel, KernelSemiring, LoopKind, ValueOp};
+use numbers::Semiring;
 use std::alloc::Global;
 use std::mem;
 use trees::{Boxed, Items};
@@ -31,6 +32,7 @@ impl Postfix {
         Postfix {
             alloc,
             kernel: Kernel {
+                semiring: KernelSemiring::Ring,
                 workspaces: Items::new(alloc),
                 lists: 0,
                 body: Items::new(alloc),
@@ -44,6 +46,12 @@ impl Postfix {
     /// Takes the kernel, where no body is open; a new one begins.
     pub(crate) fn take_kernel(&mut self) -> Kernel {
         mem::replace(self, Postfix::new(self.alloc)).kernel
+    }
+
+    /// The kernel is over a semiring.
+    pub(crate) fn set_semiring<S: Semiring>(&mut self) -> Option<()> {
+        self.kernel.semiring = KernelSemiring::of::<S>(self.alloc).ok()?;
+        Some(())
     }
 
     /// One more workspace, with so many keys.

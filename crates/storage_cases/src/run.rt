@@ -11,7 +11,7 @@ use kernel_code::{Arr, KStmt, Turns};
 use kernel_interpreter::{Ending, Machine, run_statements};
 use lent_arrays::{LentArrays, Operand};
 use machine_starts::lent_operands;
-use numbers::Ring;
+use numbers::Semiring;
 use seg_buffer::Segment;
 use std::alloc::{AllocError, Global};
 use tensor_storage::Tensor;
@@ -29,7 +29,7 @@ fn tensor_of(answer: &mut Answer, line: &str) -> Option<Tensor>
     }
 }
 
-/// An array that a run may write, by its place in the table, and the number of zeros that it starts with.
+/// An array that a run may write, by its place in the table, and the number of words that it starts with.
 fn own_array(number: usize) -> (Arr, usize)
     requires { number < 8 }
     ensures { may_write result.0 ≡ true }
@@ -38,9 +38,18 @@ fn own_array(number: usize) -> (Arr, usize)
     own
 }
 
-/// A machine with the arrays of all cases, and these operands.
+/// The word that an array starts with: values with the zero of their semiring.
+fn first_word(array: Arr, zero: u64) -> u64 {
+    match array {
+        Arr::Values(_) => zero,
+        _ => 0,
+    }
+}
+
+/// A machine with the arrays of all cases, of which the result's values are this zero, and these operands.
 fn started<'a>(
     alloc: Global,
+    zero: u64,
     ranges: &'a [u64],
     operands: Vec<Operand<'a>>,
 ) -> Result<Machine<'a>, AllocError>
@@ -53,8 +62,9 @@ fn started<'a>(
     };
     let mut machine = Machine::new(alloc, lent);
     for number in 0..OWN.len() {
-        let (array, zeros) = own_array(number);
-        machine.add_array(array, Segment::filled(alloc, zeros, 0)?)?;
+        let (array, count) = own_array(number);
+        let word = first_word(array, zero);
+        machine.add_array(array, Segment::filled(alloc, count, word)?)?;
     }
     Ok(machine)
 }
@@ -106,15 +116,15 @@ fn tell_arrays(answer: &mut Answer, machine: &Machine) {
     }
 }
 
-/// What a run leaves, over the tensor of a line; none where the line says none, or for want of memory.
-pub(crate) fn tell_run(answer: &mut Answer, line: &str, code: &[KStmt]) -> Option<()> {
+/// What a run over a semiring leaves, on the tensor of a line; none where the line says none, or for want of memory.
+pub(crate) fn tell_run<S: Semiring>(answer: &mut Answer, line: &str, code: &[KStmt]) -> Option<()> {
     let alloc = answer.alloc();
     let tensors = [tensor_of(answer, line)?];
     let operands = lent_operands(alloc, &tensors);
     let operands = answer.made(operands)?;
-    let machine = started(alloc, &[6, 7], operands);
+    let machine = started(alloc, S::zero(), &[6, 7], operands);
     let mut machine = answer.made(machine)?;
-    let ending = run_statements::<Ring>(&mut machine, code, &[1], TURNS);
+    let ending = run_statements::<S>(&mut machine, code, &[1], TURNS);
     let ending = answer.made(ending)?;
     tell_ending(answer, ending, machine.turns());
     tell_arrays(answer, &machine);

@@ -6,10 +6,11 @@ use crate::run::tell_run;
 use crate::tensors::Parts;
 use crate::values::tell_values;
 use case_files::{Answer, Cases, keyword_of};
-use kernel_code::Kernel;
+use kernel_code::{Kernel, KernelSemiring};
 use kernel_print::put_kernel;
-use numbers::Ring;
+use numbers::{Ring, Semiring};
 use outside::MemSink;
+use semirings::{Bits, MinPlus};
 use simplifier::simplify;
 use std::alloc::Global;
 
@@ -18,6 +19,14 @@ use std::alloc::Global;
 pub(crate) struct Session {
     tensor: String,
     kernel: Postfix,
+}
+
+/// Whether a kernel names a semiring.
+fn is_over<S: Semiring>(kernel: &Kernel) -> bool {
+    match &kernel.semiring {
+        KernelSemiring::Ring => S::is_ring(),
+        KernelSemiring::Named(name) => name.as_slice() == S::name().as_bytes(),
+    }
 }
 
 /// The text of a kernel below a line of its own.
@@ -39,21 +48,47 @@ impl Session {
         }
     }
 
-    /// What comes of the kernel.
+    /// What comes of the kernel, over the semiring that it names.
     fn tell_outcome(&mut self, answer: &mut Answer, keyword: &str, name: &str) -> Option<()> {
         let kernel = self.kernel.take_kernel();
+        if is_over::<MinPlus>(&kernel) {
+            return self.tell_over::<MinPlus>(answer, keyword, name, kernel);
+        }
+        if is_over::<Bits>(&kernel) {
+            return self.tell_over::<Bits>(answer, keyword, name, kernel);
+        }
+        self.tell_over::<Ring>(answer, keyword, name, kernel)
+    }
+
+    /// What comes of a kernel over a semiring.
+    fn tell_over<S: Semiring>(
+        &self,
+        answer: &mut Answer,
+        keyword: &str,
+        name: &str,
+        kernel: Kernel,
+    ) -> Option<()> {
         match keyword {
             "print" => tell_kernel(answer, keyword, &kernel),
             "simplify" => {
-                let simple = simplify::<Ring>(answer.alloc(), kernel);
+                let simple = simplify::<S>(answer.alloc(), kernel);
                 let simple = answer.made(simple)?;
                 tell_kernel(answer, keyword, &simple)
             }
             _ => {
                 answer.tell(name);
                 answer.tell(": ");
-                tell_run(answer, self.tensor.as_str(), kernel.body.as_slice())
+                tell_run::<S>(answer, self.tensor.as_str(), kernel.body.as_slice())
             }
+        }
+    }
+
+    /// The kernel is over the semiring of this name.
+    fn set_semiring(&mut self, name: &str) -> Option<()> {
+        match name {
+            "minplus" => self.kernel.set_semiring::<MinPlus>(),
+            "bits" => self.kernel.set_semiring::<Bits>(),
+            _ => None,
         }
     }
 
@@ -70,7 +105,7 @@ impl Cases for Session {
     fn shows(&self, line: &str) -> bool {
         !matches!(
             keyword_of(line).0,
-            "tensor" | "workspace" | "list" | "do" | "print" | "simplify" | "run"
+            "tensor" | "over" | "workspace" | "list" | "do" | "print" | "simplify" | "run"
         )
     }
 
@@ -80,6 +115,7 @@ impl Cases for Session {
             "kind:" => tell_kind(answer, rest),
             "levels:" => tell_tensor_levels(answer, Parts::of(rest)?),
             "tensor" => self.set_tensor(answer, rest),
+            "over" => self.set_semiring(rest),
             "workspace" => self.kernel.add_workspace(rest),
             "list" => {
                 self.kernel.add_list();

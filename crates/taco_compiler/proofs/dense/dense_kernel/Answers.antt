@@ -26,8 +26,8 @@ emit-requires-clause-loops g c =
     loops_fit g.S.Semiring.has_minus c.args.statement.now c.args.formats.now c.args.order.now c.in_ok-loops.loops c.requires.ready.numbered
     c.requires.meant c.in_ok-loops.ensures
 
-pub returns : goal.returns
-returns g c =
+pub returns-clause-compiled : goal.returns-clause-compiled
+returns-clause-compiled g c =
     let s = c.args.statement.now in
     let formats = c.args.formats.now in
     let sink = c.in_ok-sink.sink in
@@ -44,4 +44,5 @@ returns g c =
     c.in_ok-places.ensures.accesses c.in_ok-body.body c.in_ok-code.code c.in_ok-body.ensures 3
     (subst (λ target. AddsLoops g.S.Semiring.arithmetic dense_sink sink s formats places target loops 3 c.in_ok-code.code)
     c.as_slice-target.ensures c.in_ok-code.ensures)
-    (record { workspaces = c.new.result; lists = 0; body = c.append.new.self }) c.in_ok-append.ensures.ok
+    (record { semiring = c.in_ok-semiring.semiring; workspaces = c.new.result; lists = 0; body = c.append.new.self })
+    c.in_ok-append.ensures.ok

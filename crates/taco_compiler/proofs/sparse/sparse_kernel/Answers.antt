@@ -7,8 +7,8 @@ use Rattle.taco_compiler.specs.Filling.{FillsFromRows}
 use Rattle.taco_compiler.proofs.SparseKernels.{sparse_compiled}
 use Rattle.taco_compiler.proofs.sparse.sparse_kernel.Goals as goal
 
-pub returns : goal.returns
-returns g c =
+pub returns-clause-compiled : goal.returns-clause-compiled
+returns-clause-compiled g c =
     let s = c.args.statement.now in
     let formats = c.args.formats.now in
     let result = c.requires.ready.named.result in
@@ -24,5 +24,10 @@ returns g c =
     }) c.args.order.now pushes.loops pushes.are pushes.places pushes.at c.in_ok-body.body c.in_ok-code.code c.in_ok-fill.fill
     c.in_ok-body.ensures 3 pushes.adds
     (subst (λ t. FillsFromRows (format_of formats t) a.zero c.in_ok-fill.fill) result c.in_ok-fill.ensures)
-    (record { workspaces = c.in_ok-workspaces.workspaces; lists = 1; body = c.append-2.new.self }) c.in_ok-workspaces.ensures refl
+    (record {
+      semiring = c.in_ok-semiring.semiring;
+      workspaces = c.in_ok-workspaces.workspaces;
+      lists = 1;
+      body = c.append-2.new.self;
+    }) c.in_ok-workspaces.ensures refl
     (c.in_ok-append-2.ensures.ok ∙ ap (λ b. b ++ c.in_ok-fill.fill) c.in_ok-append.ensures.ok)
