@@ -1,5 +1,5 @@
 //! Operands packed one after another.
-ghost use Rattle.std.specs.Prelude.{◌≡◌, ◌+◌, ◌<◌, ◌^◌, ℕ, List, All, length, slice_index, OnOk, MatchResult};
+ghost use Rattle.std.specs.Prelude.{◌≡◌, ◌+◌, ◌<◌, ◌^◌, ℕ, List, [], All, length, slice_index, OnOk, MatchResult};
 ghost use Rattle.numbers.specs.Arithmetic.{Arithmetic};
 ghost use Rattle.tensor_map.specs.declared.entries.Entry.{Entry as AnEntry};
 ghost use Rattle.format_spec.specs.declared.format.FormatLevel.{FormatLevel as ALevel};
@@ -88,7 +88,16 @@ fn keeps_rules(packed: &Tensor)
     are_words(packed.values());
 }
 
-/// Packs an operand, whose entries are put in order and summed up where several have the same coordinates.
+/// Lets the entries of an operand go, and the memory that they take.
+fn let_go(alloc: Global, entries: &mut Entries)
+    ensures { entries.new.list ≡ [] }
+{
+    let order = entries.order();
+    *entries = Entries::new(alloc, order).unwrap();
+}
+
+/// Packs an operand, whose entries are put in order and summed up where several have the same coordinates. Once it is packed they are let
+/// go.
 fn pack_operand<S: Semiring>(
     alloc: Global,
     format: &Format,
@@ -106,6 +115,7 @@ fn pack_operand<S: Semiring>(
     match Tensor::pack::<S>(alloc, format.copied(), &shape, entries) {
         Ok(packed) => {
             keeps_rules(&packed);
+            let_go(alloc, entries);
             Ok(packed)
         }
         Err(refusal) => Err(fault_of(tensor, refusal)),
@@ -113,7 +123,8 @@ fn pack_operand<S: Semiring>(
 }
 
 /// Packs the operands of a statement, tensor 1 and on, each in its format. `formats` has the format of each tensor, the result's first.
-/// A mode's size is the greatest range of the variables that stand there in any access.
+/// A mode's size is the greatest range of the variables that stand there in any access. The entries of each operand are let go once it is
+/// packed, before the next is.
 ///
 /// Refused for the first level of the first operand that would have more positions than may be, or for want of memory.
 pub fn pack_operands<S: Semiring>(
