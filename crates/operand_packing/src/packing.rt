@@ -1,11 +1,10 @@
 //! Operands packed one after another.
-ghost use Rattle.std.specs.Prelude.{◌≡◌, ◌+◌, ◌<◌, ◌^◌, ℕ, List, [], All, length, slice_index, OnOk, MatchResult};
+ghost use Rattle.std.specs.Prelude.{◌≡◌, ◌+◌, ℕ, List, [], length, slice_index, OnOk, MatchResult};
 ghost use Rattle.numbers.specs.Arithmetic.{Arithmetic};
 ghost use Rattle.tensor_map.specs.declared.entries.Entry.{Entry as AnEntry};
 ghost use Rattle.format_spec.specs.declared.format.FormatLevel.{FormatLevel as ALevel};
 ghost use Rattle.tensor_map.specs.Coords.{IsShape};
 ghost use Rattle.tensor_storage.specs.Arranged.{IsRefusalOf};
-ghost use Rattle.tensor_storage.specs.Storages.{IsStorage};
 ghost use Rattle.operand_packing.specs.Packed.{AreSummed, ArePackedOperands, IsPackedOperand, IsPackRefusal};
 ghost use Rattle.operand_packing.specs.Packed.{MayBePacked, MayAllBePacked, MayNotPack};
 
@@ -74,20 +73,6 @@ fn shape_of(alloc: Global, sizes: &[u64]) -> Shape
     Shape::new(alloc, sizes).unwrap()
 }
 
-/// What the type of words says.
-fn are_words(words: &[u64])
-    ensures { All (λ v. v < 2 ^ 64) words.now }
-{}
-
-/// What the type of a packed tensor says: it keeps the rules of its format, and its values are words.
-fn keeps_rules(packed: &Tensor)
-    ensures whole { IsStorage packed.now }
-    ensures words { All (λ v. v < 2 ^ 64) packed.now.values }
-{
-    let _levels = packed.format();
-    are_words(packed.values());
-}
-
 /// Lets the entries of an operand go, and the memory that they take.
 fn let_go(alloc: Global, entries: &mut Entries)
     ensures { entries.new.list ≡ [] }
@@ -114,7 +99,6 @@ fn pack_operand<S: Semiring>(
     let shape = shape_of(alloc, sizes);
     match Tensor::pack::<S>(alloc, format.copied(), &shape, entries) {
         Ok(packed) => {
-            keeps_rules(&packed);
             let_go(alloc, entries);
             Ok(packed)
         }
