@@ -4,7 +4,7 @@ use Rattle.std.specs.Prelude.{Ok, Err, OnErr}
 use Rattle.std.proofs.Common.{arith, ap, subst, sym, ◌∙◌, append_assoc, append-nil, length-append, length-drop}
 use Rattle.std.proofs.lemmas.List.Elements.{filter-append}
 use Rattle.text_lines.specs.Cutting.{begun_line, ended_lines, has_long_line, told_lines}
-use Rattle.text_lines.specs.LineReader.{LineReader, TellsLine}
+use Rattle.text_lines.specs.LineReader.{LineReader, TellsThis}
 use Rattle.text_lines.proofs.CuttingLaws.{ended_append, all_told, short_now, told_line_short}
 use Rattle.numbers.specs.Arithmetic.{Arithmetic}
 use Rattle.tensor_map.specs.declared.entries.Entry.{Entry}
@@ -110,24 +110,24 @@ module _ (a : Arithmetic) (has_minus : Bool) (order : ℕ) where
   good_by taken line entries (Bad bad kind) leaves short here tells = absurd tells
 
   -- an entry line was told
-  pub entry_ends : (fed : List ℕ) (old new : LineReader) (bytes : List ℕ) (entries : List Entry) (stage : Stage)
-      → new.text ≡ old.text ++ bytes → TellsLine old new → ReadsOn a has_minus order fed old.text entries stage
-      → is_skipped new.line ≡ false → TellsEntry stage new.line → EndsEntry a has_minus order fed bytes
-  entry_ends fed old new bytes entries stage grows tells on here entry =
-      let known = known_of stage (told_lines old.text) new.line entry on.3 in
+  pub entry_ends : (fed : List ℕ) (old new : LineReader) (bytes line : List ℕ) (entries : List Entry) (stage : Stage)
+      → new.text ≡ old.text ++ bytes → TellsThis old new line → ReadsOn a has_minus order fed old.text entries stage
+      → is_skipped line ≡ false → TellsEntry stage line → EndsEntry a has_minus order fed bytes
+  entry_ends fed old new bytes line entries stage grows tells on here entry =
+      let known = known_of stage (told_lines old.text) line entry on.3 in
       let told_now : ended_lines old.text ≡ told_lines old.text = ended_told old.text on.1 in
       let front : told_lines old.text ≡ ended_lines old.text ++ [] = sym told_now ∙ sym (append-nil (ended_lines old.text)) in
-      let short = told_line_short new.text new.line (told_lines old.text) tells.short tells.told in
+      let short = told_line_short new.text line (told_lines old.text) tells.short tells.told in
       subst (λ text. EndsEntry a has_minus order text bytes) on.0 (record {
         before = [];
-        line = new.line;
+        line = line;
         behind = [];
         lines_are = ap ended_lines (sym grows) ∙ ended_told new.text tells.short ∙ tells.told
-            ∙ ap (λ ls. ls ++ new.line ∷ []) (sym told_now);
-        entry = subst (λ ls. length (entry_lines ls) < length (entry_lines (ls ++ new.line ∷ []))) front
-            (entry_more (told_lines old.text) new.line known.0 known.1 here);
-        good = subst (λ ls. IsGoodSoFar (matrix_from a has_minus order 1 (ls ++ new.line ∷ []))) front
-            (good_by (told_lines old.text) new.line entries stage on.2 short here entry);
+            ∙ ap (λ ls. ls ++ line ∷ []) (sym told_now);
+        entry = subst (λ ls. length (entry_lines ls) < length (entry_lines (ls ++ line ∷ []))) front
+            (entry_more (told_lines old.text) line known.0 known.1 here);
+        good = subst (λ ls. IsGoodSoFar (matrix_from a has_minus order 1 (ls ++ line ∷ []))) front
+            (good_by (told_lines old.text) line entries stage on.2 short here entry);
       })
 
   -- in a longer piece, and behind other bytes

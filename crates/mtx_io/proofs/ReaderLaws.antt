@@ -5,7 +5,7 @@ use Rattle.std.proofs.Common.{arith, ap, sym, ◌∙◌, subst, append_assoc, ap
 use Rattle.numbers.specs.Arithmetic.{Arithmetic}
 use Rattle.tensor_map.specs.declared.entries.Entry.{Entry}
 use Rattle.text_lines.specs.Buffered.{count_of}
-use Rattle.text_lines.specs.LineReader.{LineReader, TellsLine, NeedsMore, IsTooLong}
+use Rattle.text_lines.specs.LineReader.{LineReader, TellsThis, NeedsMore, IsTooLong}
 use Rattle.text_lines.specs.Lines.{lines}
 use Rattle.text_lines.specs.Tokens.{tokens}
 use Rattle.text_lines.specs.Cutting.{begun_line, has_long_line, is_long, told_lines}
@@ -118,19 +118,19 @@ module _ (a : Arithmetic) (has_minus : Bool) (order : ℕ) where
       subst (λ all. IsReadSoFar a has_minus order all text entries stage) same (is_read text entries stage short leaves known)
 
   -- one step of reading: a line was told, more is needed, or a line is too long
-  pub line_read : (fed : List ℕ) (old new : LineReader) (bytes : List ℕ) (entries entries' : List Entry) (stage stage' : Stage)
+  pub line_read : (fed : List ℕ) (old new : LineReader) (bytes line : List ℕ) (entries entries' : List Entry) (stage stage' : Stage)
       (count : ℕ) → is_bad stage ≡ false
-      → new.text ≡ old.text ++ bytes → TellsLine old new → count ≡ count_of (told_lines new.text)
-      → Follows a has_minus order count new.line entries stage entries' stage'
-      → ((taken : List (List ℕ)) → IsKnown stage taken → IsKnown stage' (taken ++ new.line ∷ []))
+      → new.text ≡ old.text ++ bytes → TellsThis old new line → count ≡ count_of (told_lines new.text)
+      → Follows a has_minus order count line entries stage entries' stage'
+      → ((taken : List (List ℕ)) → IsKnown stage taken → IsKnown stage' (taken ++ line ∷ []))
       → IsReadSoFar a has_minus order fed old.text entries stage → IsReadSoFar a has_minus order (fed ++ bytes) new.text entries' stage'
-  line_read fed old new bytes entries entries' stage stage' count good grows tells counts follows knows read =
+  line_read fed old new bytes line entries entries' stage stage' count good grows tells counts follows knows read =
       let on = reads_on fed old.text entries stage good read in
       let long : length (told_lines new.text) ≡ length (told_lines old.text) + 1 =
-      ap length tells.told ∙ length-append (told_lines old.text) (new.line ∷ []) in
+      ap length tells.told ∙ length-append (told_lines old.text) (line ∷ []) in
       let leaves : Leaves a has_minus order (told_lines new.text) entries' stage' =
       subst (λ all. Leaves a has_minus order all entries' stage') (sym tells.told)
-      (leaves_more (told_lines old.text) new.line entries entries' stage stage' count (ap counted (sym long) ∙ sym counts) on.2 follows) in
+      (leaves_more (told_lines old.text) line entries entries' stage stage' count (ap counted (sym long) ∙ sym counts) on.2 follows) in
       read_on (fed ++ bytes) new.text entries' stage' (grows ∙ ap (λ all. all ++ bytes) on.0) tells.short leaves
       (subst (IsKnown stage') (sym tells.told) (knows (told_lines old.text) on.3))
 

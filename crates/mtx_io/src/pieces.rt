@@ -13,7 +13,8 @@ use std::alloc::AllocError;
 use tensor_map::Entries;
 use text_lines::{LineReader, Step};
 
-/// Takes bytes of a piece, to the end of a line or all of them: how many, and how far the file is read then.
+/// Takes bytes of a piece, to the end of a line or all of them: how many, and how far the file is read then. A line that stands whole in
+/// it is read where it stands.
 fn take_step<S: Semiring>(
     lines: &mut LineReader,
     entries: &mut Entries,
@@ -35,6 +36,11 @@ fn take_step<S: Semiring>(
         ((fed : List ℕ) → IsReadSoFar S.arithmetic S.has_minus entries.old.order fed lines.old.text entries.old.list stage
         → EndsEntry S.arithmetic S.has_minus entries.old.order fed piece.now) }
 {
+    if let Some((n, line)) = lines.take_whole(piece) {
+        let number = lines.number();
+        let after = after_line::<S>(stage, entries, line, number)?;
+        return Ok((n, after));
+    }
     let (n, step) = lines.feed(piece);
     match step {
         Step::NeedMore => Ok((n, stage)),

@@ -1,11 +1,10 @@
 //! Operands packed one after another.
-ghost use Rattle.std.specs.Prelude.{◌≡◌, ◌+◌, ◌<◌, ◌^◌, ℕ, List, All, length, slice_index, OnOk, MatchResult};
+ghost use Rattle.std.specs.Prelude.{◌≡◌, ◌+◌, ℕ, List, [], length, slice_index, OnOk, MatchResult};
 ghost use Rattle.numbers.specs.Arithmetic.{Arithmetic};
 ghost use Rattle.tensor_map.specs.declared.entries.Entry.{Entry as AnEntry};
 ghost use Rattle.format_spec.specs.declared.format.FormatLevel.{FormatLevel as ALevel};
 ghost use Rattle.tensor_map.specs.Coords.{IsShape};
 ghost use Rattle.tensor_storage.specs.Arranged.{IsRefusalOf};
-ghost use Rattle.tensor_storage.specs.Storages.{IsStorage};
 ghost use Rattle.operand_packing.specs.Packed.{AreSummed, ArePackedOperands, IsPackedOperand, IsPackRefusal};
 ghost use Rattle.operand_packing.specs.Packed.{MayBePacked, MayAllBePacked, MayNotPack};
 
@@ -74,21 +73,16 @@ fn shape_of(alloc: Global, sizes: &[u64]) -> Shape
     Shape::new(alloc, sizes).unwrap()
 }
 
-/// What the type of words says.
-fn are_words(words: &[u64])
-    ensures { All (λ v. v < 2 ^ 64) words.now }
-{}
-
-/// What the type of a packed tensor says: it keeps the rules of its format, and its values are words.
-fn keeps_rules(packed: &Tensor)
-    ensures whole { IsStorage packed.now }
-    ensures words { All (λ v. v < 2 ^ 64) packed.now.values }
+/// Lets the entries of an operand go, and the memory that they take.
+fn let_go(alloc: Global, entries: &mut Entries)
+    ensures { entries.new.list ≡ [] }
 {
-    let _levels = packed.format();
-    are_words(packed.values());
+    let order = entries.order();
+    *entries = Entries::new(alloc, order).unwrap();
 }
 
-/// Packs an operand, whose entries are put in order and summed up where several have the same coordinates.
+/// Packs an operand, whose entries are put in order and summed up where several have the same coordinates. Once it is packed they are let
+/// go.
 fn pack_operand<S: Semiring>(
     alloc: Global,
     format: &Format,
@@ -105,7 +99,7 @@ fn pack_operand<S: Semiring>(
     let shape = shape_of(alloc, sizes);
     match Tensor::pack::<S>(alloc, format.copied(), &shape, entries) {
         Ok(packed) => {
-            keeps_rules(&packed);
+            let_go(alloc, entries);
             Ok(packed)
         }
         Err(refusal) => Err(fault_of(tensor, refusal)),
@@ -113,7 +107,8 @@ fn pack_operand<S: Semiring>(
 }
 
 /// Packs the operands of a statement, tensor 1 and on, each in its format. `formats` has the format of each tensor, the result's first.
-/// A mode's size is the greatest range of the variables that stand there in any access.
+/// A mode's size is the greatest range of the variables that stand there in any access. The entries of each operand are let go once it is
+/// packed, before the next is.
 ///
 /// Refused for the first level of the first operand that would have more positions than may be, or for want of memory.
 pub fn pack_operands<S: Semiring>(

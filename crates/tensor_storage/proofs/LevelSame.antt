@@ -18,7 +18,6 @@ use Rattle.level_rows.specs.Taken.{Asked}
 use Rattle.tensor_storage.specs.Built.{IsBuilt}
 use Rattle.tensor_storage.specs.Counts.{greatest_below}
 use Rattle.tensor_storage.specs.Tables.{Table}
-use Rattle.tensor_storage.proofs.Tables.{apart}
 use Rattle.tensor_storage.proofs.EntrySame.{entries_same, tiles_coord, coord_inside, upward, full_is, coord_into, options_same}
 
 compact_kinds : (letter : Letter) → (capabilities letter).append ≡ true

@@ -1,5 +1,5 @@
 -- Coordinates that a level locates.
-use Rattle.std.specs.Prelude.{◌≡◌, ℕ, ◌+◌, ◌<◌, ◌^◌, true, false, Option, Some, None, refl}
+use Rattle.std.specs.Prelude.{◌≡◌, ℕ, ◌+◌, ◌<◌, ◌^◌, true, false, Option, Some, None}
 use Rattle.std.proofs.Common.{◌∙◌, sym, ap, subst, arith}
 use Rattle.level_core.specs.declared.span.Span.{Span}
 use Rattle.level_core.specs.Entries.{one, span, position_of}

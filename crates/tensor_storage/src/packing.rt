@@ -1,7 +1,8 @@
-ghost use Rattle.std.specs.Prelude.{◌≡◌, ◌<◌, ◌≤◌, ◌+◌, All, length, drop, replicate, IfOk, MatchResult};
+ghost use Rattle.std.specs.Prelude.{◌≡◌, ◌≢◌, ◌<◌, ◌≤◌, ◌+◌, ◌^◌, ℕ, All, length, drop, replicate, slice_index, IfOk, MatchResult};
 ghost use Rattle.limits.specs.Limits.{greatest_position_count};
 ghost use Rattle.format_spec.specs.Formats.{letters_of, IsFormat};
 ghost use Rattle.level_rows.specs.Tables.{Increase};
+ghost use Rattle.level_rows.specs.Values.{StoresValues};
 ghost use Rattle.tensor_storage.specs.Counts.{positions_of};
 ghost use Rattle.tensor_storage.specs.Packed.{ArePacked, IsRefusal};
 ghost use Rattle.tensor_storage.specs.Stands.{IsPacked};
@@ -101,6 +102,22 @@ pub(crate) struct PackedTable {
     pub(crate) values: Items<u64>,
 }
 
+/// Stores the value of each row at its place. All other values stay.
+fn store_rows<T: RowTable>(table: &T, places: &[u64], values: &mut [u64])
+    requires many { length places.now ≡ (T.table table.now).count }
+    requires within { (i : ℕ) → i < (T.table table.now).count → slice_index places.now i < length values.old }
+    requires apart { (i j : ℕ) → i < j → j < (T.table table.now).count → slice_index places.now i ≢ slice_index places.now j }
+    ensures stored { StoresValues (T.table table.now).count (slice_index places.now) (T.table table.now).values values.old values.new }
+    ensures words { All (λ v. v < 2 ^ 64) values.new }
+{
+    let rows = LevelRows {
+        table,
+        level: 0,
+        through: 0,
+    };
+    store_values(&rows, places, values);
+}
+
 /// Packs the rows of a table, which increase in the order of the levels, with the zero of `S` for every other value. `ranges`
 /// has the ranges of the modes.
 pub(crate) fn pack_table<S: Semiring, T: RowTable>(
@@ -114,10 +131,11 @@ pub(crate) fn pack_table<S: Semiring, T: RowTable>(
     requires small { All (λ range. range ≤ greatest_position_count) ranges.now }
     requires order { Increase (T.table table.now).coords (length format.now) (T.table table.now).count }
     requires below { AreBelow (T.table table.now) (in_level_order format.now ranges.now) }
-    ensures { MatchResult result
+    ensures packed { MatchResult result
         (λ packed. IsPacked S.arithmetic.zero format.now ranges.now (T.table table.now) (storage_of format.now packed.levels packed.values)
         × IsStorage (storage_of format.now packed.levels packed.values))
         (IsRefusal (positions_of format.now ranges.now (T.table table.now))) }
+    ensures words { IfOk result (λ packed. All (λ v. v < 2 ^ 64) packed.values) }
 {
     let Ok(mut places) = repeated(alloc, 0, table.count()) else {
         return Err(PackRefusal::Memory);
@@ -130,12 +148,7 @@ pub(crate) fn pack_table<S: Semiring, T: RowTable>(
     let Ok(mut values) = repeated(alloc, S::zero(), positions as usize) else {
         return Err(PackRefusal::Memory);
     };
-    let rows = LevelRows {
-        table,
-        level: 0,
-        through: 0,
-    };
-    store_values(&rows, &places, &mut values);
+    store_rows(table, &places, &mut values);
     Ok(PackedTable {
         levels,
         values: Items::from_vec(values),

@@ -1,4 +1,4 @@
-ghost use Rattle.std.specs.Prelude.{◌≡◌, ℕ, length, slice_index, IfOk, MatchResult};
+ghost use Rattle.std.specs.Prelude.{◌≡◌, ◌<◌, ◌^◌, ℕ, All, length, slice_index, IfOk, MatchResult};
 ghost use Rattle.tensor_map.specs.Entries.{StrictlyIncreasing};
 
 use crate::entries::{EntryRows, arrange};
@@ -41,6 +41,8 @@ impl Tensor {
     /// value is the zero of `S`. Refused for want of memory, or exactly where a level would have more positions than may be: the first
     /// such level is told, and nothing is stored of it. No entry is copied: where their order by the levels is another, their
     /// numbers are sorted, and their coordinates looked up once.
+    ///
+    /// What is packed keeps the rules of its levels, and its values are words.
     pub fn pack<S: Semiring>(
         alloc: Global,
         format: Format,
@@ -51,8 +53,10 @@ impl Tensor {
         requires order { entries.now.order ≡ length format }
         requires increasing { StrictlyIncreasing entries.now.list }
         requires inside { AreInside shape.now entries.now.list }
-        ensures { MatchResult result (IsPackedFrom S.arithmetic.zero format shape.now entries.now.list)
+        ensures packed { MatchResult result (IsPackedFrom S.arithmetic.zero format shape.now entries.now.list)
             (IsRefusalOf format shape.now entries.now.list) }
+        ensures whole { IfOk result (λ packed. IsStorage packed) }
+        ensures words { IfOk result (λ packed. All (λ v. v < 2 ^ 64) packed.values) }
     {
         let Ok(order) = arrange(alloc, format.levels(), entries) else {
             return Err(PackRefusal::Memory);

@@ -9,4 +9,5 @@ pub mod PrintedLaws
 pub mod PutPieces
 pub mod PutsLemmas
 pub mod TokenLaws
+pub mod WholeLines
 pub mod Worked

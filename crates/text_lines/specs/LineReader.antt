@@ -1,5 +1,5 @@
 -- What contracts see of a reader of lines, and what its calls do.
-use Rattle.std.specs.Prelude.{◌≡◌, ℕ, ◌∷◌, [], ◌++◌, List, length, true, false}
+use Rattle.std.specs.Prelude.{◌≡◌, ◌≤◌, ℕ, ◌∷◌, [], ◌++◌, List, length, take, true, false}
 use Rattle.text_lines.specs.Lines.{lines}
 use Rattle.text_lines.specs.Cutting.{begun_line, has_long_line, told_lines}
 use Rattle.text_lines.specs.declared.step.Step.{Step}
@@ -11,11 +11,26 @@ pub record LineReader : Type 0 where
   -- the line that it told last, until it takes more
   pub line : List ℕ
 
--- one more line has ended just now, and no line is too long
-pub record TellsLine (old new : LineReader) : Type 0 where
-  pub told : told_lines new.text ≡ told_lines old.text ++ new.line ∷ []
+-- one more line has ended just now, this one, and no line is too long
+pub record TellsThis (old new : LineReader) (line : List ℕ) : Type 0 where
+  pub told : told_lines new.text ≡ told_lines old.text ++ line ∷ []
   pub ended : begun_line new.text ≡ []
   pub short : has_long_line new.text ≡ false
+
+-- one more line has ended just now, which the reader lends, and no line is too long
+abbrev pub TellsLine : LineReader → LineReader → Type 0
+TellsLine old new = TellsThis old new new.line
+
+-- no line has begun that hasn't ended, and none is too long
+pub record IsBetweenLines (reader : LineReader) : Type 0 where
+  pub begun : begun_line reader.text ≡ []
+  pub short : has_long_line reader.text ≡ false
+
+-- the first n bytes of a piece were taken, which are a line with its end
+pub record TakesWhole (old new : LineReader) (piece : List ℕ) (n : ℕ) (line : List ℕ) : Type 0 where
+  pub within : n ≤ length piece
+  pub text : new.text ≡ old.text ++ take n piece
+  pub tells : TellsThis old new line
 
 -- no further line has ended, and no line is too long
 pub record NeedsMore (old new : LineReader) : Type 0 where

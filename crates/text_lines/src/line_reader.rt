@@ -1,6 +1,6 @@
 // Cuts a text into lines, in whatever pieces it comes.
 ghost use Rattle.std.specs.Prelude.{◌≡◌, ◌≢◌, ◌+◌, ◌<◌, ◌≤◌, [], ◌∷◌, ◌++◌, Some, All, IsTrue};
-ghost use Rattle.std.specs.Prelude.{IfOk, length, take, not, true, false};
+ghost use Rattle.std.specs.Prelude.{IfOk, MatchOption, length, take, not, true, false};
 ghost use Rattle.std.specs.Prelude.{vec_len, vec_capacity};
 ghost use Rattle.std.specs.List.{position};
 ghost use Rattle.std.specs.Str.Lines.{strip_carriage_return};
@@ -40,7 +40,7 @@ impl Model for LineReader {
 }
 
 impl LineReader {
-    ghost use Rattle.text_lines.specs.LineReader.{TellsLine, IsTooLong, Feeds, Finishes};
+    ghost use Rattle.text_lines.specs.LineReader.{TellsLine, TellsThis, TakesWhole, IsBetweenLines, IsTooLong, Feeds, Finishes};
 
     /// A reader that has taken nothing yet, with the buffer of one line.
     pub fn new(alloc: Global) -> Result<LineReader, AllocError>
@@ -69,6 +69,27 @@ impl LineReader {
         }
     }
 
+    /// Takes the line that a piece begins with where it stands whole in it: how many bytes, and the line, lent where it stands, without
+    /// its end. Nothing is copied, and what `line` lends stays as it was. Else nothing is taken: where a line has begun or was too long,
+    /// where none ends in the piece, and where the one that does is too long.
+    pub fn take_whole<'a>(&mut self, piece: &'a [u8]) -> Option<(usize, &'a [u8])>
+        ensures { MatchOption result (self.new ≡ self.old) (λ taken. TakesWhole self.old self.new piece.now taken.0 taken.1.now) }
+    {
+        if self.is_within_line() {
+            return None;
+        }
+        let Some(end) = line_feed(piece) else {
+            return None;
+        };
+        let (whole, _) = piece.split_at(end);
+        let line = without_return(whole);
+        if line.len() as u64 > greatest_bytes_of_line() {
+            return None;
+        }
+        self.pass_line(whole);
+        Some((end + 1, line))
+    }
+
     /// The text has ended. A last line without an end is told: `line` lends it then.
     pub fn finish(&mut self) -> Step
         ensures { Finishes self.old self.new result }
@@ -95,6 +116,26 @@ impl LineReader {
         ensures { result ≡ count_of (told_lines self.now.text) }
     {
         self.number
+    }
+
+    /// Whether a line has begun that hasn't ended, or one was too long.
+    fn is_within_line(&self) -> bool
+        ensures { result ≡ false → IsBetweenLines self.now }
+    {
+        self.is_long || !(self.is_told || self.buffer.is_empty())
+    }
+
+    /// Takes the bytes of a whole line and a line feed.
+    fn pass_line(&mut self, whole: &[u8])
+        requires between { IsBetweenLines self.old }
+        requires free { All (λ byte. byte ≢ 10) whole.now }
+        requires short { is_long (strip_carriage_return whole.now) ≡ false }
+        ensures text { self.new.text ≡ self.old.text ++ (whole.now ++ 10 ∷ []) }
+        ensures tells { TellsThis self.old self.new (strip_carriage_return whole.now) }
+    {
+        self.number = self.number.saturating_add(1);
+        self.fed.extend(whole);
+        self.fed.extend(b"\n");
     }
 
     /// Takes the bytes before the first line feed, and that.

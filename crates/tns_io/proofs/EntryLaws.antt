@@ -7,7 +7,7 @@ use Rattle.std.proofs.lemmas.List.{take-append-drop}
 use Rattle.tensor_map.specs.declared.entries.Entry.{Entry}
 use Rattle.text_lines.specs.Buffered.{count_of}
 use Rattle.text_lines.specs.Cutting.{begun_line, ended_lines, has_long_line, told_lines}
-use Rattle.text_lines.specs.LineReader.{LineReader, TellsLine, IsTooLong}
+use Rattle.text_lines.specs.LineReader.{LineReader, TellsLine, TellsThis, IsTooLong}
 use Rattle.text_lines.specs.Lines.{lines}
 use Rattle.text_lines.specs.Tokens.{tokens}
 use Rattle.text_lines.proofs.CuttingLaws.{all_told, breaks_off, ended_append, lines_go_on, long_stays, short_now}
@@ -135,9 +135,9 @@ pub bad_now : (order : ℕ) (text : List ℕ) (line : ℕ) (kind : LineKind) →
 bad_now order text line kind bad = subst (λ (t : List ℕ). IsBadText order t line kind) (append-nil text) (bad [])
 
 -- one more line has ended in the piece
-module _ (order : ℕ) (start piece : List ℕ) (lines_ lines' : LineReader) (rest : List ℕ) (list : List Entry) (n : ℕ)
+module _ (order : ℕ) (start piece : List ℕ) (lines_ lines' : LineReader) (line rest : List ℕ) (list : List Entry) (n : ℕ)
     (reads : ReadsPiece order start piece lines_ rest list)
-    (text_is : lines'.text ≡ lines_.text ++ take n rest) (tells : TellsLine lines_ lines') where
+    (text_is : lines'.text ≡ lines_.text ++ take n rest) (tells : TellsThis lines_ lines' line) where
   goes_on : lines'.text ++ drop n rest ≡ start ++ piece
   goes_on =
       ap (λ (t : List ℕ). t ++ drop n rest) text_is
@@ -157,7 +157,7 @@ module _ (order : ℕ) (start piece : List ℕ) (lines_ lines' : LineReader) (re
             ap length tells.told,
             ap (λ t. length (told_lines t)) same,
             length-append (told_lines lines_.text)
-                (lines'.line ∷ []),
+                (line ∷ []),
           ))
 
       by : (n : ℕ) (rest : List ℕ) → (take n rest ≡ [] → ⊥) → (0 < length rest) × (0 < n)
@@ -165,34 +165,34 @@ module _ (order : ℕ) (start piece : List ℕ) (lines_ lines' : LineReader) (re
       by (suc n) [] h = absurd (h refl)
       by (suc n) (x ∷ rest) h = (omega arith, omega arith)
 
-  pub piece_more : (list' : List Entry) → Takes (reading order lines'.line) list list'
+  pub piece_more : (list' : List Entry) → Takes (reading order line) list list'
       → ReadsPiece order start piece lines' (drop n rest) list'
   piece_more list' takes = record {
-    ended = reads.ended ++ lines'.line ∷ [];
-    told = tells.told ∙ ap (λ ls. ls ++ lines'.line ∷ []) reads.told ∙ append_assoc (told_lines start) reads.ended (lines'.line ∷ []);
+    ended = reads.ended ++ line ∷ [];
+    told = tells.told ∙ ap (λ ls. ls ++ line ∷ []) reads.told ∙ append_assoc (told_lines start) reads.ended (line ∷ []);
     text = goes_on;
     start_short = reads.start_short;
     so_far = record {
       short = tells.short;
       read =
-          ap (entries_from order 1) tells.told ∙ entries_more order (told_lines lines_.text) lines'.line list list' reads.so_far.read takes;
+          ap (entries_from order 1) tells.told ∙ entries_more order (told_lines lines_.text) line list list' reads.so_far.read takes;
     };
   }
 
   -- the line that has ended is not read
-  pub piece_fails : (fault : FileFault) → Fails (count_of (told_lines lines'.text)) (reading order lines'.line) fault
+  pub piece_fails : (fault : FileFault) → Fails (count_of (told_lines lines'.text)) (reading order line) fault
       → FailsPiece order start piece fault
-  piece_fails (Line line kind) (number, bad) =
+  piece_fails (Line at kind) (number, bad) =
       let stays : StaysBad order (start ++ piece) (count_of (told_lines lines'.text)) kind =
       subst (λ (t : List ℕ). StaysBad order t (count_of (told_lines lines'.text)) kind) goes_on
-      (stays_bad order lines'.text (drop n rest) _ kind (line_bad order lines_.text lines'.text lines'.line list kind reads.so_far
+      (stays_bad order lines'.text (drop n rest) _ kind (line_bad order lines_.text lines'.text line list kind reads.so_far
       tells.told tells.short bad)) in
       subst (λ (l : ℕ). StaysBad order (start ++ piece) l kind) (sym number) stays
   piece_fails (Memory e) (entry, read) =
       let behind : List (List ℕ) = ended_lines (begun_line lines'.text ++ drop n rest) in
       record {
         before = reads.ended;
-        line = lines'.line;
+        line = line;
         behind = behind;
         entry = entry;
         lines_are =
@@ -201,11 +201,11 @@ module _ (order : ℕ) (start piece : List ℕ) (lines_ lines' : LineReader) (re
             ∙ ap (λ ls. ls ++ behind) (
             sym (all_told (ended_lines lines'.text) (short_now lines'.text tells.short).0)
             ∙ tells.told
-            ∙ ap (λ ls. ls ++ lines'.line ∷ []) (reads.told ∙ ap (λ ls. ls ++ reads.ended)
+            ∙ ap (λ ls. ls ++ line ∷ []) (reads.told ∙ ap (λ ls. ls ++ reads.ended)
             (all_told (ended_lines start) (short_now start reads.start_short).0))
             )
-            ∙ append_assoc (ended_lines start ++ reads.ended) (lines'.line ∷ []) behind
-            ∙ append_assoc (ended_lines start) reads.ended (lines'.line ∷ behind);
+            ∙ append_assoc (ended_lines start ++ reads.ended) (line ∷ []) behind
+            ∙ append_assoc (ended_lines start) reads.ended (line ∷ behind);
         reads = read;
         list = list;
         good =

@@ -105,7 +105,7 @@ fn answer(fault: Option<FileFault>) -> Result<(), AllocError>
     }
 }
 
-/// Reads the lines that end in a piece.
+/// Reads the lines that end in a piece: each that stands whole in it where it stands.
 fn read_lines(lines: &mut LineReader, entries: &mut Entries, piece: &[u8]) -> Result<(), FileFault>
     requires { IsReadSoFar entries.old.order lines.old.text entries.old.list }
     ensures order { entries.new.order ≡ entries.old.order }
@@ -115,6 +115,13 @@ fn read_lines(lines: &mut LineReader, entries: &mut Entries, piece: &[u8]) -> Re
 {
     let mut rest = piece;
     loop {
+        if let Some((taken, line)) = lines.take_whole(rest) {
+            match take_line(line, lines.number(), entries) {
+                Ok(()) => rest = rest.split_at(taken).1,
+                Err(fault) => return Err(fault),
+            }
+            continue;
+        }
         let (taken, step) = lines.feed(rest);
         match step {
             Step::NeedMore => return Ok(()),

@@ -59,5 +59,5 @@ returns-in_err-after-in-Line-clause-ended g c =
     let ends = subst (λ (s : Step). Finishes old new s) c.in-Line.is c.finish.ensures in
     let here : is_skipped new.line ≡ false = ap is_skipped (sym c.line.ensures) ∙ c.in_err-after-in-Line.ensures.kept in
     let entry = subst (λ (line : List ℕ). TellsEntry c.args.stage line) c.line.ensures c.in_err-after-in-Line.ensures.tells in
-    entry_ends a has_minus order fed old new (10 ∷ []) entries c.args.stage ends.1 ends.0 on here entry in
+    entry_ends a has_minus order fed old new (10 ∷ []) new.line entries c.args.stage ends.1 ends.0 on here entry in
     on_err _ _ ended

@@ -16,7 +16,7 @@ returns-in-Ok g c =
     let a = g.S.Semiring.arithmetic in
     let summed = c.sum_up.new.entries.list in
     let packed = subst (λ f. IsPackedFrom a.zero f c.args.sizes.now summed c.in-Ok.packed) c.copied.ensures.value
-    (subst (λ ns. IsPackedFrom a.zero c.copied.result ns summed c.in-Ok.packed) c.shape_of-shape.ensures c.in-Ok.ensures) in
+    (subst (λ ns. IsPackedFrom a.zero c.copied.result ns summed c.in-Ok.packed) c.shape_of-shape.ensures c.in-Ok.ensures.packed) in
     record {
       is_format = subst IsFormat c.copied.ensures.value c.copied.ensures.format;
       long = c.requires.long;
@@ -26,8 +26,8 @@ returns-in-Ok g c =
       inside = inside_same c.args.sizes.now c.args.entries.now.list c.sum_up.new.entries.list c.in_ok-sum_up.ensures.summed.listed
           c.requires.inside;
       packed = packed;
-      whole = c.keeps_rules.ensures.whole;
-      words = c.keeps_rules.ensures.words;
+      whole = c.in-Ok.ensures.whole;
+      words = c.in-Ok.ensures.words;
     }
 
 pub returns-in-Err : goal.returns-in-Err
@@ -37,4 +37,4 @@ returns-in-Err g c =
     (subst (λ n. AreSummed g.S.Semiring.arithmetic n c.args.entries.now.list c.sum_up.new.entries.list) c.requires.order
     c.in_ok-sum_up.ensures.summed)
     (subst (λ f. IsRefusalOf f c.args.sizes.now summed c.in-Err.refusal) c.copied.ensures.value
-    (subst (λ ns. IsRefusalOf c.copied.result ns summed c.in-Err.refusal) c.shape_of-shape.ensures c.in-Err.ensures))
+    (subst (λ ns. IsRefusalOf c.copied.result ns summed c.in-Err.refusal) c.shape_of-shape.ensures c.in-Err.ensures.packed))

@@ -41,10 +41,10 @@ invariant_of-rows g c = record {
 
 pub invariant_of-result : goal.invariant_of-result
 invariant_of-result g c = subst (λ f. IsStorage (storage_of f c.in-Ok-pack_table.packed.levels c.in-Ok-pack_table.packed.values))
-    c.levels-3.ensures.value c.in-Ok-pack_table.ensures.1
+    c.levels-3.ensures.value c.in-Ok-pack_table.ensures.packed.1
 
-pub returns : goal.returns
-returns g c =
+pub returns-clause-packed : goal.returns-clause-packed
+returns-clause-packed g c =
     let numbers = numbers_of (length c.args.entries.now.list) c.in-Ok.order in
     record {
       numbers = numbers;
@@ -59,11 +59,11 @@ returns g c =
           c.in-Ok-pack_table.packed.levels c.in-Ok-pack_table.packed.values)) c.ranges-2.ensures.value
           (subst (λ f. IsPacked g.S.Semiring.arithmetic.zero f c.ranges-2.result.now
           (table_of c.levels-2.result.now c.args.entries.now.list numbers) (storage_of f c.in-Ok-pack_table.packed.levels
-          c.in-Ok-pack_table.packed.values)) c.levels-3.ensures.value c.in-Ok-pack_table.ensures.0));
+          c.in-Ok-pack_table.packed.values)) c.levels-3.ensures.value c.in-Ok-pack_table.ensures.packed.0));
     }
 
-pub returns-in-Err : goal.returns-in-Err
-returns-in-Err g c =
+pub returns-in-Err-clause-packed : goal.returns-in-Err-clause-packed
+returns-in-Err-clause-packed g c =
     let numbers = numbers_of (length c.args.entries.now.list) c.in-Ok.order in
     refused c.args.format c.args.shape.now c.args.entries.now.list numbers c.in-Err.refusal
     (same_arranged c.levels.result.now c.args.format c.args.entries.now.list numbers
@@ -75,4 +75,4 @@ returns-in-Err g c =
     c.in-Err.refusal) c.ranges-2.ensures.value
     (subst (λ f. IsRefusal (positions_of f c.ranges-2.result.now
     (table_of c.levels-2.result.now c.args.entries.now.list
-    numbers)) c.in-Err.refusal) c.levels-3.ensures.value c.in-Err.ensures)))
+    numbers)) c.in-Err.refusal) c.levels-3.ensures.value c.in-Err.ensures.packed)))
