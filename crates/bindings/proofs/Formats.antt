@@ -11,7 +11,8 @@ use Rattle.index_notation.specs.declared.syntax.Statement.{Statement}
 use Rattle.index_notation.specs.Statement.{IsAccess, IsNumbered}
 use Rattle.bindings.specs.Bindings.{order_in, order_of}
 use Rattle.bindings.specs.Bindings.{first_in, format_in}
-use Rattle.bindings.specs.Outcome.{AnswersFormat, FormatIs}
+use Rattle.bindings.specs.Outcome.{AnswersFormat, FormatIs, first_named}
+use Rattle.bindings.proofs.FirstNamed.{first_within}
 use Rattle.bindings.specs.Tables.{IsBound}
 use Rattle.bindings.specs.Views.{text_in}
 use Rattle.bindings.specs.declared.bound.Bound.{Bound}
@@ -71,12 +72,13 @@ formats_on s words count formats format before here = record {
 pub format_here : (s : Statement) (words : List (List ℕ)) (bound : Bound) (tensor order : ℕ) (text d : Option FormatText)
     (answer : Result (List FormatLevel) FormatFault) → IsBound s words bound → tensor < length s.tensors
     → (items : List (Option FormatText))
-    → items ≡ bound.texts.items → text ≡ slice_index_or items tensor d → order ≡ order_of s tensor
+    → items ≡ bound.texts.items → text ≡ slice_index_or items (first_named s.tensors tensor) d → order ≡ order_of s tensor
     → AnswersFormat (option_map text_in text) order answer
     → FormatIs s words tensor answer
 format_here s words bound tensor order text d answer is within items same there orders has =
-    let says : option_map text_in text ≡ first_in (format_in s tensor) words = ap (option_map text_in) (there
-    ∙ ap (λ l. slice_index_or l tensor d) same)
-    ∙ is.texts tensor d within in
-    subst (λ n. AnswersFormat (first_in (format_in s tensor) words) n answer) orders
+    let first : ℕ = first_named s.tensors tensor in
+    let says : option_map text_in text ≡ first_in (format_in s first) words = ap (option_map text_in) (there
+    ∙ ap (λ l. slice_index_or l first d) same)
+    ∙ is.texts first d (first_within s.tensors tensor within) in
+    subst (λ n. AnswersFormat (first_in (format_in s first) words) n answer) orders
     (subst (λ t. AnswersFormat t order answer) says has)

@@ -1,5 +1,6 @@
 pub mod Words
 pub mod Tables
 pub mod Rows
+pub mod FirstNamed
 pub mod Formats
 pub mod OneAnswer

@@ -10,7 +10,7 @@ use Rattle.format_spec.proofs.WordLaws.{one_answer}
 use Rattle.index_notation.specs.declared.syntax.Statement.{Statement}
 use Rattle.bindings.specs.Words.{FormatText}
 use Rattle.bindings.specs.Bindings.{first_in, format_in, path_in, order_of}
-use Rattle.bindings.specs.Outcome.{AnswersFormat}
+use Rattle.bindings.specs.Outcome.{first_named, AnswersFormat}
 use Rattle.bindings.specs.Outcome.{Binds, IsRefused, IsWant}
 use Rattle.bindings.specs.declared.fault.BindingFault.{BindingFault}
 use Rattle.bindings.specs.declared.fault.BindingFault.TheVariants.{Word, NoFile, BadFormat, Memory}
@@ -68,7 +68,7 @@ pub same_formats : (s : Statement) (words : List (List ℕ)) (need : Bool)
 same_formats s words need formats layouts files others ranges given binds bind =
     lists_agree formats layouts (binds.formats_are.tensors ∙ sym bind.formats_are.tensors) (λ tensor d lt.
     let within : tensor < length s.tensors = subst (λ n. tensor < n) binds.formats_are.tensors lt in
-    format_once (first_in (format_in s tensor) words) (order_of s tensor) (slice_index_or formats tensor d)
+    format_once (first_in (format_in s (first_named s.tensors tensor)) words) (order_of s tensor) (slice_index_or formats tensor d)
     (slice_index_or layouts tensor d) (binds.formats_are.are tensor d within) (bind.formats_are.are tensor d within))
 
 -- a format is there or isn't
@@ -97,9 +97,9 @@ never_both s words need formats files ranges (Word word why) binds first =
     apart : {A : Type 0} {x : A} → None ≡ Some x → ⊥
     apart h = cc
 never_both s words need formats files ranges (NoFile tensor) binds lacks =
-    none_is_some (first_in (path_in s tensor) words)
+    none_is_some (first_in (path_in s (first_named s.tensors tensor)) words)
     (binds.all_read lacks.needed tensor lacks.lacks.operand lacks.lacks.within) lacks.lacks.lacks
 never_both s words need formats files ranges (BadFormat tensor why) binds bad =
-    format_apart (first_in (format_in s tensor) words) (order_of s tensor) (slice_index_or formats tensor []) why
+    format_apart (first_in (format_in s (first_named s.tensors tensor)) words) (order_of s tensor) (slice_index_or formats tensor []) why
     (binds.formats_are.are tensor [] bad.bad.within) bad.bad.is
 never_both s words need formats files ranges (Memory error) binds want = want

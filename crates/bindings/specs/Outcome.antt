@@ -7,8 +7,10 @@ use Rattle.format_spec.specs.declared.format.FormatLevel.{FormatLevel}
 use Rattle.format_spec.specs.Formats.{letters_of, modes_of, standing}
 use Rattle.format_spec.specs.declared.fault.FormatFault.{FormatFault}
 use Rattle.format_spec.specs.Words.{Answers}
+use Rattle.index_notation.specs.declared.syntax.Name.{Name}
 use Rattle.index_notation.specs.declared.syntax.Statement.{Statement}
 use Rattle.index_notation.specs.Numbering.{place_of}
+use Rattle.bindings.specs.Names.{name_at}
 use Rattle.bindings.specs.Words.{FormatText, Said, SaysFile, said_of}
 use Rattle.bindings.specs.Bindings.{AreSound, IsFirstFault, first_in, format_in, path_in, range_in, order_of}
 use Rattle.bindings.specs.declared.fault.BindingFault.{BindingFault}
@@ -20,8 +22,13 @@ AnswersFormat None order (Ok levels) = (letters_of levels ≡ replicate order De
 AnswersFormat None order (Err fault) = ⊥
 AnswersFormat (Some text) order answer = Answers text.letters text.order order answer
 
+-- the first tensor of the name of this one: what words say of a name is kept there, and holds of each tensor that has it
+abbrev pub first_named : List Name → ℕ → ℕ
+first_named names tensor = place_of names (record { bytes = name_at names tensor })
+
 abbrev pub FormatIs : Statement → List (List ℕ) → ℕ → Result (List FormatLevel) FormatFault → Type 0
-FormatIs s words tensor answer = AnswersFormat (first_in (format_in s tensor) words) (order_of s tensor) answer
+FormatIs s words tensor answer =
+    AnswersFormat (first_in (format_in s (first_named s.tensors tensor)) words) (order_of s tensor) answer
 
 abbrev pub with_file : Statement → Option Said → List (ℕ × List ℕ) → List (ℕ × List ℕ)
 with_file s (Some (SaysFile name path)) files = (place_of s.tensors (record { bytes = name }), path) ∷ files
@@ -33,7 +40,7 @@ files_in s [] = []
 files_in s (word ∷ words) = with_file s (said_of word) (files_in s words)
 
 abbrev pub has_file : Statement → List (List ℕ) → ℕ → Bool
-has_file s words tensor = is_some (first_in (path_in s tensor) words)
+has_file s words tensor = is_some (first_in (path_in s (first_named s.tensors tensor)) words)
 
 -- each operand before this tensor has a file
 abbrev pub HaveFiles : Statement → List (List ℕ) → ℕ → Type 0
@@ -51,7 +58,7 @@ pub record IsWithoutFile (s : Statement) (words : List (List ℕ)) (tensor : ℕ
   pub operand : 0 < tensor
   pub within : tensor < length s.tensors
   pub before : HaveFiles s words tensor
-  pub lacks : first_in (path_in s tensor) words ≡ None
+  pub lacks : first_in (path_in s (first_named s.tensors tensor)) words ≡ None
 
 -- why an operand's file is missed, where files are needed
 abbrev pub IsFileRefused : Statement → List (List ℕ) → Bool → BindingFault → Type 0

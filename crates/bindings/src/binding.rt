@@ -9,11 +9,12 @@ ghost use Rattle.bindings.specs.Bindings.{AreSound, IsFirstFault};
 ghost use Rattle.bindings.specs.Outcome.{AnswersFormat, AreFormats, HaveFiles, IsWithoutFile};
 ghost use Rattle.bindings.specs.Outcome.{IsFileRefused, IsWordRefused, IsFormatRefused};
 ghost use Rattle.bindings.specs.Outcome.{Binds, IsRefused};
-ghost use Rattle.bindings.specs.Tables.{IsBound, file_in};
+ghost use Rattle.bindings.specs.Tables.{HasPlaces, IsBound, file_in};
 ghost use Rattle.bindings.specs.Views.{text_in};
 
 use crate::bound::{Bound, order_of};
 use crate::fault::BindingFault;
+use crate::names::first_named;
 use crate::tensor_file::TensorFile;
 use crate::word::FormatText;
 use format_spec::{Format, FormatFault, parse_format};
@@ -60,8 +61,9 @@ fn first_without_file(statement: &Statement, bound: &Bound<'_>) -> Option<usize>
     ensures { (words : List (List ℕ)) → IsBound statement.now words bound.now
         → MatchOption result (HaveFiles statement.now words (length statement.now.tensors)) (IsWithoutFile statement.now words) }
 {
-    for tensor in 1..statement.tensors.len() {
-        if !bound.files.contains_key(&tensor) {
+    let names = statement.tensors.as_slice();
+    for tensor in 1..names.len() {
+        if !bound.files.contains_key(&first_named(names, tensor)) {
             return Some(tensor);
         }
     }
@@ -115,14 +117,17 @@ fn formats_of(
     statement: &Statement,
     bound: &Bound<'_>,
 ) -> Result<Vec<Format>, BindingFault>
-    requires { IsNumbered statement.now }
+    requires numbered { IsNumbered statement.now }
+    requires places { HasPlaces statement.now bound.now }
     ensures { (words : List (List ℕ)) → IsBound statement.now words bound.now
         → MatchResult result (λ formats. AreFormats statement.now words formats.items)
         (IsFormatRefused statement.now words) }
 {
+    let names = statement.tensors.as_slice();
     let mut formats = Vec::new(alloc);
-    for (tensor, text) in bound.texts.iter().enumerate() {
-        match format_of(alloc, *text, order_of(statement, tensor)) {
+    for tensor in 0..names.len() {
+        let text = bound.texts[first_named(names, tensor)];
+        match format_of(alloc, text, order_of(statement, tensor)) {
             Ok(format) => push(&mut formats, format)?,
             Err(fault) => return Err(BindingFault::BadFormat { tensor, fault }),
         }

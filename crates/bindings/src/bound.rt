@@ -54,9 +54,9 @@ fn number_of(statement: &Statement, word: &Word<'_>) -> usize
     match word {
         Word::Format { name, .. } | Word::File { name, .. } => place(
             statement.tensors.as_slice(),
-            name,
+            name.as_bytes(),
         ),
-        Word::Range { name, .. } => place(statement.vars.as_slice(), name),
+        Word::Range { name, .. } => place(statement.vars.as_slice(), name.as_bytes()),
     }
 }
 

@@ -14,5 +14,5 @@ pub use binding::{Bindings, bind};
 pub use bound::order_of;
 pub use fault::{BindingFault, WordFault};
 pub use file_format::FileFormat;
-pub use names::name_at;
+pub use names::{first_named, name_at};
 pub use tensor_file::TensorFile;

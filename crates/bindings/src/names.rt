@@ -2,15 +2,16 @@
 ghost use Rattle.std.specs.Prelude.{◌≡◌};
 ghost use Rattle.index_notation.specs.Numbering.{place_of};
 ghost use Rattle.bindings.specs.Names.{name_at};
+ghost use Rattle.bindings.specs.Outcome.{first_named};
 
 use index_notation::Name;
 
 /// The place of a name in a row, which is the row's length where it doesn't stand there.
-pub(crate) fn place(names: &[Name], name: &str) -> usize
+pub(crate) fn place(names: &[Name], name: &[u8]) -> usize
     ensures { result ≡ place_of names.now (record { bytes = name.now }) }
 {
     for (i, other) in names.iter().enumerate() {
-        if other.bytes.as_slice() == name.as_bytes() {
+        if other.bytes.as_slice() == name {
             return i;
         }
     }
@@ -25,4 +26,11 @@ pub fn name_at(names: &[Name], number: usize) -> &[u8]
         Some(name) => name.bytes.as_slice(),
         None => b"",
     }
+}
+
+/// The first tensor of the name of this one, under whose number words are bound.
+pub fn first_named(names: &[Name], tensor: usize) -> usize
+    ensures { result ≡ first_named names.now tensor }
+{
+    place(names, name_at(names, tensor))
 }

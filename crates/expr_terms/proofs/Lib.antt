@@ -1,4 +1,6 @@
 pub mod Equations
+pub mod ExpandLaws
+pub mod ExpandedTerms
 pub mod GroupLaws
 pub mod Grouped
 pub mod Heights

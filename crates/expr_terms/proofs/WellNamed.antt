@@ -132,15 +132,15 @@ tree_well_named : (w : Tree) → HasNoNameFault (statement_of_tree w) → IsWell
 tree_well_named w h =
     let s = statement_of_tree w in
     let result : s.left.tensor ≡ 0 =
-    place_here w.left.name w.left.name (without w.left.name (distinct (map name_of (accesses_of_sum w.right))))
-    (same_self w.left.name) in
+    place_here w.left.access.name w.left.access.name (without w.left.access.name (distinct (map name_of (accesses_of_sum w.right))))
+    (same_self w.left.access.name) in
     record {
       result = result;
       unread = unread_zero s.left.tensor s.accesses result (unread_each s.left s.left [] s.accesses h.1);
       orders = orders_each s.left [] (s.left ∷ s.accesses) h;
       left_once = h.0.once;
       right_once = once_each s.left (s.left ∷ []) s.accesses h.1;
-      standing = standing w.left.vars (variables_of (accesses_of_sum w.right)) h.0.once;
+      standing = standing w.left.access.vars (variables_of (accesses_of_sum w.right)) h.0.once;
     }
 
 pub notation_well_named : (text : List ℕ) (s : Statement) → IsNotationOf text s → HasNoNameFault s → IsWellNamed s

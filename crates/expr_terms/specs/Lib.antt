@@ -1,3 +1,4 @@
+pub mod Expanded
 pub mod GroupLaws
 pub mod Groups
 pub mod Minus

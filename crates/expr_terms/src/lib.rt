@@ -3,6 +3,7 @@
 #![tactic(auto)]
 
 mod bound;
+mod expansion;
 mod group;
 mod grouping;
 mod lookups;
@@ -14,6 +15,7 @@ mod term;
 mod value;
 
 pub use bound::{Bound, Place, places_in};
+pub use expansion::expand;
 pub use group::{Group, Groups};
 pub use grouping::groups;
 pub use lookups::coords_at;

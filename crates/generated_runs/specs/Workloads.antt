@@ -1,6 +1,6 @@
 -- The generated workload: `A(i,j) = B(i,j) * C(i,j) + D(i,j)` over square matrices that are drawn, all in format `ds`, and what its run
 -- tells.
-use Rattle.std.specs.Prelude.{◌≡◌, ℕ, ◌+◌, List, [], ◌∷◌, length, map, Some}
+use Rattle.std.specs.Prelude.{false, ◌≡◌, ℕ, ◌+◌, List, [], ◌∷◌, length, map, Some}
 use Rattle.numbers.specs.Ring.{ring}
 use Rattle.numbers.specs.Sums.{total_of}
 use Rattle.tensor_map.specs.Entries.{Entries}
@@ -33,6 +33,7 @@ workload_statement = record {
   tensors = letter_name 65 ∷ letter_name 66 ∷ letter_name 67 ∷ letter_name 68 ∷ [];
   vars = letter_name 105 ∷ letter_name 106 ∷ [];
   left = matrix_at 0;
+  accumulate = false;
   accesses = matrix_at 1 ∷ matrix_at 2 ∷ matrix_at 3 ∷ [];
   expr = Binary op.Add (Binary op.Mul (AccessOf 0) (AccessOf 1)) (AccessOf 2);
 }

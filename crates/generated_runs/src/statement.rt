@@ -58,7 +58,7 @@ pub(crate) fn workload_statement(alloc: Global) -> Result<Statement, AllocError>
     let left = matrix_at(alloc, 0)?;
     let accesses = operands_at(alloc)?;
     let expr = right_side(alloc)?;
-    Ok(Statement::new(tensors, vars, left, accesses, expr))
+    Ok(Statement::new(tensors, vars, left, false, accesses, expr))
 }
 
 /// The format `ds`.

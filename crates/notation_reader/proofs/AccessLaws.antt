@@ -12,7 +12,8 @@ use Rattle.index_notation.specs.TreeStatement.{accesses_of_factor, accesses_of_p
 use Rattle.notation_reader.specs.Machine.{SumPlace, OnTheRight, InBrackets, ProductPlace, First, BehindPlus, BehindMinus}
 use Rattle.notation_reader.specs.Machine.{FactorPlace, FirstFactor, BehindTimes, BehindSign, its_product, product_with, its_sum, sum_with}
 use Rattle.notation_reader.specs.Machine.{behind_factor, closed, ended, step_behind, step, Side, Left, Right}
-use Rattle.notation_reader.specs.Machine.{behind_mark, State, Start, Named, WantsVariable, BehindVariable, BehindLeft, WantsFactor, Behind, Ended}
+use Rattle.notation_reader.specs.Machine.{behind_mark, State, Start, Named, WantsVariable, BehindVariable, BehindLeft, WantsFactor}
+use Rattle.notation_reader.specs.Machine.{Behind, Ended}
 use Rattle.notation_reader.specs.Leads.{lead_of}
 use Rattle.notation_reader.specs.Shown.{show}
 use Rattle.notation_reader.specs.Accesses.{accesses_to_sum, accesses_to_product, accesses_to, access_to, accesses_so_far, Mentions}

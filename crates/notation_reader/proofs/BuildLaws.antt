@@ -18,7 +18,8 @@ use Rattle.notation_reader.specs.declared.position.Lead.TheVariants as lead
 use Rattle.index_notation.specs.Grammar.{Factor, Digits, Read, Bracketed, Negated, Product}
 use Rattle.notation_reader.specs.Machine.{SumPlace, OnTheRight, InBrackets, ProductPlace, First, BehindPlus, BehindMinus, FactorPlace}
 use Rattle.notation_reader.specs.Machine.{FirstFactor, BehindTimes, BehindSign, its_product, product_with, its_sum, sum_with}
-use Rattle.notation_reader.specs.Machine.{behind_factor, behind_mark, closed, ended, step_behind, step, Side, Left, Right, State, Start, Named}
+use Rattle.notation_reader.specs.Machine.{behind_factor, behind_mark, closed, ended, step_behind, step, Side, Left, Right, State, Start}
+use Rattle.notation_reader.specs.Machine.{Named}
 use Rattle.notation_reader.specs.Machine.{WantsVariable, BehindVariable, BehindLeft, WantsFactor, Behind, Ended}
 use Rattle.notation_reader.proofs.MachineLaws.{some_is, nothing_leads}
 use Rattle.notation_reader.specs.Leads.{lead_of}

@@ -15,7 +15,8 @@ use Rattle.notation_reader.specs.Machine.{SumPlace, OnTheRight, InBrackets, Prod
 use Rattle.notation_reader.specs.Machine.{FirstFactor, BehindTimes, BehindSign, sum_levels, product_levels, levels, before_sum}
 use Rattle.notation_reader.specs.Machine.{before_product, before_factor, its_product, product_with, its_sum, sum_with, Side, Left, Right}
 use Rattle.notation_reader.specs.Machine.{State, Start, Named, WantsVariable, BehindVariable, BehindLeft, WantsFactor, Behind, Ended}
-use Rattle.notation_reader.specs.Machine.{behind_factor, behind_mark, behind_access, closed, ended, step_behind, step, count_on, with_commas, named}
+use Rattle.notation_reader.specs.Machine.{behind_factor, behind_mark, behind_access, closed, ended, step_behind, step, count_on}
+use Rattle.notation_reader.specs.Machine.{with_commas, named}
 use Rattle.notation_reader.specs.Machine.{before, read}
 
 pub append_none : {A : Type 0} (xs : List A) → xs ++ [] ≡ xs

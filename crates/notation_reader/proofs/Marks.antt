@@ -64,7 +64,8 @@ pub no_token : (first : ℕ) (behind : List ℕ) → is_blank first ≡ false �
     → mark_at (first ∷ behind) ≡ None → (token : Token) (rest : List ℕ) → IsNext (first ∷ behind) token rest → ⊥
 no_token first behind blank letter digit none (NameToken name) rest n =
     differs (is_ascii_alphabetic first)
-    (begins_at is_ascii_alphabetic name.bytes rest first behind n.stands.begins (sym (no_blank_first first behind blank) ∙ n.spelled)) letter
+    (begins_at is_ascii_alphabetic name.bytes rest first behind n.stands.begins (sym (no_blank_first first behind blank) ∙ n.spelled))
+    letter
 no_token first behind blank letter digit none (NumberToken digits) rest n =
     differs (is_ascii_digit first)
     (begins_at is_ascii_digit digits rest first behind n.stands.begins (sym (no_blank_first first behind blank) ∙ n.spelled)) digit

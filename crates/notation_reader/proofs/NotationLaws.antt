@@ -101,7 +101,8 @@ pub never_both : (text : List ℕ) (s : Statement) (f : NotationFault) → IsNot
 never_both text s f h k = never_told text s f h (told text f k)
 
 -- the statement of what was read is the text's
-pub parsed : (text bytes : List ℕ) (ps slice : List PlacedSymbol) (reading : Reading) (accesses : List WrittenAccess) (flag : Bool) (s : Statement)
+pub parsed : (text bytes : List ℕ) (ps slice : List PlacedSymbol) (reading : Reading) (accesses : List WrittenAccess) (flag : Bool)
+    (s : Statement)
     → bytes ≡ text → length bytes ≤ greatest_text_bytes → AreSymbols (length bytes) bytes ps → slice ≡ ps
     → (tree : Tree) × IsTreeOf (symbols_of slice) tree × IsReadingOf tree reading → accesses ≡ reading.accesses
     → flag ≡ accumulates (symbols_of slice) → ((left : WrittenAccess) (right : List WrittenAccess) → accesses ≡ left ∷ right

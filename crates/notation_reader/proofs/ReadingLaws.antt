@@ -9,7 +9,8 @@ use Rattle.index_notation.specs.declared.token.WrittenAccess.{WrittenAccess}
 use Rattle.index_notation.specs.declared.symbol.Symbol.{Symbol}
 use Rattle.index_notation.specs.declared.symbol.Symbol.TheVariants.{Lexeme, End}
 use Rattle.index_notation.specs.Grammar.{Factor, Digits, Read, Bracketed, Negated, Product, Lone, Multiplied, Sum, Alone, Added, Taken}
-use Rattle.index_notation.specs.Grammar.{Tree, NamesLeft, Written, plain, the_end, assigning, access_of, factor_of, product_of, sum_of, left_of}
+use Rattle.index_notation.specs.Grammar.{Tree, NamesLeft, Written, plain, the_end, assigning, access_of, factor_of, product_of, sum_of}
+use Rattle.index_notation.specs.Grammar.{left_of}
 use Rattle.index_notation.specs.Grammar.{sentence_of, more_variables, in_brackets, symbols, Begins}
 use Rattle.notation_reader.specs.Machine.{SumPlace, OnTheRight, InBrackets, ProductPlace, First, BehindPlus, BehindMinus, FactorPlace}
 use Rattle.notation_reader.specs.Machine.{FirstFactor, BehindTimes, BehindSign, its_sum, sum_with, Side, Left, Right, State, Start, Named}

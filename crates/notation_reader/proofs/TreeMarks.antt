@@ -8,7 +8,8 @@ use Rattle.index_notation.specs.Grammar.{Tree, NamesLeft, Written, plain, the_en
 use Rattle.index_notation.specs.Grammar.{more_variables, in_brackets, symbols}
 use Rattle.notation_reader.specs.Assigning.{accumulates}
 
-more_assign : (n : _) (vars : List Name) (ms : List Written) → accumulates (symbols (more_variables n vars ++ ms)) ≡ accumulates (symbols ms)
+more_assign : (n : _) (vars : List Name) (ms : List Written)
+    → accumulates (symbols (more_variables n vars ++ ms)) ≡ accumulates (symbols ms)
 more_assign n [] ms = refl
 more_assign n (var ∷ vars) ms = more_assign _ vars ms
 

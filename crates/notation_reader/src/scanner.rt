@@ -1,7 +1,8 @@
 // The symbols of a text.
 ghost use Rattle.std.specs.Prelude.{◌≡◌, ◌<◌, ◌≤◌, ◌∷◌, ℕ, false, List, length, take, drop, MatchOption, IfOk};
 ghost use Rattle.std.specs.Char.{is_ascii_digit};
-ghost use Rattle.index_notation.specs.Tokens.{goes_on, behind_blanks, bytes_of, plus_before as plus_mark, mark_at, EachPasses, StopsAt, IsNext};
+ghost use Rattle.index_notation.specs.Tokens.{goes_on, behind_blanks, bytes_of, plus_before as plus_mark, mark_at, EachPasses, StopsAt};
+ghost use Rattle.index_notation.specs.Tokens.{IsNext};
 ghost use Rattle.lists.specs.Blanks.{is_blank};
 ghost use Rattle.index_notation.specs.Symbols.{AreSymbols};
 ghost use Rattle.index_notation.specs.declared.token.Token.{Token};

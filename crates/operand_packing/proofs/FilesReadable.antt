@@ -1,5 +1,5 @@
 -- The files that words bind to a statement's operands may be read at their orders.
-use Rattle.std.specs.Prelude.{◌≡◌, ℕ, zero, suc, ◌+◌, ◌-◌, ◌≤◌, Bool, true, false, ◌==◌, ◌||◌, not, nat_lt, if◌then◌else◌}
+use Rattle.std.specs.Prelude.{◌≡◌, ℕ, zero, suc, ◌+◌, ◌-◌, ◌<◌, ◌≤◌, Bool, true, false, ◌==◌, ◌||◌, not, nat_lt, if◌then◌else◌}
 use Rattle.std.specs.Prelude.{List, [], ◌∷◌, map, take, length, Option, None, Some, slice_get, slice_index_or, refl}
 use Rattle.std.specs.List.{range_with_len}
 use Rattle.std.proofs.Common.{◌∙◌, ap, subst, arith, inl, inr}
@@ -13,7 +13,7 @@ use Rattle.index_notation.specs.Numbering.{place_of}
 use Rattle.index_notation.specs.Statement.{IsAccess, IsNumbered}
 use Rattle.bindings.specs.Words.{Said, SaysFormat, SaysFile, SaysRange, said_of, is_mtx}
 use Rattle.bindings.specs.Bindings.{first_in, path_in, number_in, names_for, is_bound, is_no_matrix, fault_of, order_in, order_of}
-use Rattle.bindings.specs.Outcome.{Binds}
+use Rattle.bindings.specs.Outcome.{Binds, first_named}
 use Rattle.bindings.specs.declared.fault.WordFault.{WordFault}
 use Rattle.bindings.specs.declared.fault.WordFault.TheVariants.{UnknownName, Twice, NotMatrix}
 use Rattle.mtx_io.specs.Progress.{IsMatrixOrder}
@@ -74,6 +74,11 @@ file_readable s before (Some (SaysFile name at)) tensor path none is e =
         (matrix_order (order_of s (place_of s.tensors (record { bytes = name }))) (is_mtx at) good (ap is_mtx same ∙ e))
     by false t is = absurd cc
 
+get_below : {A : Type 0} (xs : List A) (n : ℕ) (x : A) → slice_get xs n ≡ Some x → n < length xs
+get_below [] n x is = absurd cc
+get_below (y ∷ xs) zero x is = omega arith
+get_below (y ∷ xs) (suc n) x is = let rest = get_below xs n x is in omega (arith, rest)
+
 readable_from : (order : ℕ → ℕ) (from count : ℕ) (paths : List (List ℕ)) → length paths ≡ count
     → ((n : ℕ) (path : List ℕ) → slice_get paths n ≡ Some path → IsReadable (order (from + n)) path)
     → AreReadable (map order (range_with_len from count)) paths
@@ -87,18 +92,26 @@ readable_from order from (suc count) (path ∷ paths) long each =
           let next : from + suc n ≡ (from + 1) + n = omega arith in subst (λ k. IsReadable (order k) at) next (each (suc n) at is)),
     )
 
+-- tensors of one name have one order
+abbrev pub KeepOrders : Statement → Type 0
+KeepOrders s = (tensor : ℕ) → tensor < length s.tensors → order_of s (first_named s.tensors tensor) ≡ order_of s tensor
+
 -- the paths that words bind to tensor 1 and on
 pub files_readable : (s : Statement) (words : List (List ℕ)) (need : Bool) (formats : List (List FormatLevel))
-    (files : List (ℕ × List ℕ)) (given : List (Option ℕ)) → Binds s words need formats files given → IsNumbered s
+    (files : List (ℕ × List ℕ)) (given : List (Option ℕ)) → Binds s words need formats files given → IsNumbered s → KeepOrders s
     → (paths : List (List ℕ)) → length paths ≡ length s.tensors - 1
-    → ((n : ℕ) (path : List ℕ) → slice_get paths n ≡ Some path → first_in (path_in s (n + 1)) words ≡ Some path)
+    → ((n : ℕ) (path : List ℕ) → slice_get paths n ≡ Some path
+    → first_in (path_in s (first_named s.tensors (n + 1))) words ≡ Some path)
     → AreReadable (operand_orders s) paths
-files_readable s words need formats files given binds numbered paths long each =
+files_readable s words need formats files given binds numbered keep paths long each =
     readable_from (order_of s) 1 (length s.tensors - 1) paths long (λ n path is.
-    let found = first_found (path_in s (n + 1)) words path (each n path is) in
+    let found = first_found (path_in s (first_named s.tensors (n + 1))) words path (each n path is) in
+    let below = get_below paths n path is in
+    let within : n + 1 < length s.tensors = omega (arith, below, long) in
     let next : n + 1 ≡ 1 + n = omega arith in
     subst (λ k. IsReadable (order_of s k) path) next (record {
       small = order_small (length s.tensors) (length s.vars) (s.left ∷ s.accesses) (n + 1) (numbered.left, numbered.right);
-      matrix = file_readable s (take found.0 words) (said_of (slice_index_or words found.0 [])) (n + 1) path
-          (binds.sound found.0 found.1) found.2;
+      matrix = λ matrix. subst IsMatrixOrder (keep (n + 1) within)
+          (file_readable s (take found.0 words) (said_of (slice_index_or words found.0 [])) (first_named s.tensors (n + 1)) path
+          (binds.sound found.0 found.1) found.2 matrix);
     }))

@@ -17,7 +17,7 @@ use Rattle.iteration_graph.specs.Edges as edges
 use Rattle.iteration_graph.specs.Edges.{format_of}
 use Rattle.bindings.specs.Words.{FormatText}
 use Rattle.bindings.specs.Bindings.{first_in, format_in, order_in, order_of}
-use Rattle.bindings.specs.Outcome.{AnswersFormat, AreFormats, Binds}
+use Rattle.bindings.specs.Outcome.{AnswersFormat, AreFormats, Binds, first_named}
 
 -- ---- orders of accesses
 pub order_is : (accesses : List Access) (j : ℕ) (access : Access) → HaveOrders accesses → slice_get accesses j ≡ Some access
@@ -49,7 +49,8 @@ format_order (Some text) n levels is = some_order text.order n (modes_of levels)
 format_long : (s : Statement) (words : List (List ℕ)) (formats : List (List FormatLevel))
     → AreFormats s words formats → (tensor : ℕ) → tensor < length s.tensors → length (format_of formats tensor) ≡ order_of s tensor
 format_long s words formats are tensor h =
-    let order = format_order (first_in (format_in s tensor) words) (order_of s tensor) (format_of formats tensor) (are.are tensor [] h) in
+    let order = format_order (first_in (format_in s (first_named s.tensors tensor)) words) (order_of s tensor) (format_of formats tensor)
+    (are.are tensor [] h) in
     sym (length-map (format_of formats tensor) (λ (level : FormatLevel). level.mode)) ∙ order.count
 
 pub formats_fit : (s : Statement) (words : List (List ℕ)) (need : Bool) (formats : List (List FormatLevel))

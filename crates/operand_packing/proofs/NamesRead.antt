@@ -1,10 +1,11 @@
 -- Each tensor of a text's statement but the result is read on its right side.
-use Rattle.std.specs.Prelude.{◌≡◌, ℕ, zero, suc, ◌+◌, ◌<◌, false, List, [], ◌∷◌, length}
+use Rattle.std.specs.Prelude.{◌≡◌, ℕ, zero, suc, ◌+◌, ◌<◌, false, ◌==◌, if◌then◌else◌, List, [], ◌∷◌, length}
 use Rattle.std.specs.Prelude.{map, Some, slice_get, refl}
 use Rattle.std.proofs.Common.{sym, ◌∙◌, ap, subst, arith}
 use Rattle.lists.specs.Each.{Each}
 use Rattle.lists.proofs.Each.{each_get}
 use Rattle.index_notation.specs.declared.syntax.Name.{Name}
+use Rattle.index_notation.specs.declared.syntax.Access.{Access}
 use Rattle.index_notation.specs.declared.syntax.Statement.{Statement}
 use Rattle.index_notation.specs.declared.token.WrittenAccess.{WrittenAccess}
 use Rattle.index_notation.specs.Grammar.{Tree}
@@ -14,7 +15,14 @@ use Rattle.index_notation.specs.Notation.{IsNotationOf}
 use Rattle.index_notation.specs.TreeStatement.{accesses_of_sum}
 use Rattle.index_notation.specs.TreeStatement.{statement_of_tree}
 use Rattle.index_notation.proofs.NumberingLaws.{tested, same_self, place_here, place_later, without_keeps, without_drops}
+use Rattle.expr_terms.specs.Expanded.{moved_access, names_with_old, old_access, with_old, expanded}
+use Rattle.expr_terms.proofs.ExpandLaws.{by_mark}
+use Rattle.bindings.specs.Names.{bytes_of}
+use Rattle.bindings.specs.Bindings.{order_in, order_of}
+use Rattle.bindings.specs.Outcome.{first_named}
+use Rattle.bindings.proofs.FirstNamed.{first_before}
 use Rattle.operand_packing.specs.Operands.{IsRead}
+use Rattle.operand_packing.proofs.FilesReadable.{KeepOrders}
 
 -- names that differ from one, and from each other
 abbrev Apart : Name → List Name → Type 0
@@ -130,17 +138,18 @@ tree_read w n h = by there.place there.stands
     named : (name : Name) × (slice_get tensors (n + 1) ≡ Some name)
     named = some_at tensors (n + 1) h
 
-    there : IsIn (map name_of (w.left ∷ right)) named.0
-    there = in_distinct (map name_of (w.left ∷ right)) (n + 1) named.0 named.1
+    there : IsIn (map name_of (w.left.access ∷ right)) named.0
+    there = in_distinct (map name_of (w.left.access ∷ right)) (n + 1) named.0 named.1
 
     placed : place_of tensors named.0 ≡ n + 1
-    placed = place_there tensors (n + 1) named.0 (distinct_apart (map name_of (w.left ∷ right))) named.1
+    placed = place_there tensors (n + 1) named.0 (distinct_apart (map name_of (w.left.access ∷ right))) named.1
 
-    by : (place : ℕ) → slice_get (map name_of (w.left ∷ right)) place ≡ Some named.0 → IsRead (statement_of_tree w).accesses (n + 1)
+    by : (place : ℕ) → slice_get (map name_of (w.left.access ∷ right)) place ≡ Some named.0 → IsRead (statement_of_tree w).accesses (n + 1)
     by zero is =
-        let same : w.left.name ≡ named.0 = cc in
-        let first : place_of tensors w.left.name ≡ 0 =
-        place_here w.left.name w.left.name (without w.left.name (distinct (map name_of right))) (same_self w.left.name) in
+        let same : w.left.access.name ≡ named.0 = cc in
+        let first : place_of tensors w.left.access.name ≡ 0 =
+        place_here w.left.access.name w.left.access.name (without w.left.access.name (distinct (map name_of right)))
+        (same_self w.left.access.name) in
         let none : n + 1 ≡ 0 = sym placed ∙ ap (place_of tensors) (sym same) ∙ first in
         absurd (omega (arith, none))
     by (suc place) is =
@@ -154,6 +163,83 @@ tree_read w n h = by there.place there.stands
 
 -- ---- the statement of a text
 -- each tensor but the result is read
-pub notation_read : (text : List ℕ) (s : Statement) → IsNotationOf text s → (n : ℕ) → n + 1 < length s.tensors → IsRead s.accesses (n + 1)
-notation_read text s is =
-    subst (λ (s : Statement). (n : ℕ) → n + 1 < length s.tensors → IsRead s.accesses (n + 1)) (sym is.is) (tree_read is.tree)
+abbrev pub EachIsRead : Statement → Type 0
+EachIsRead s = (n : ℕ) → n + 1 < length s.tensors → IsRead s.accesses (n + 1)
+
+notation_read : (text : List ℕ) (s : Statement) → IsNotationOf text s → EachIsRead s
+notation_read text s is = subst EachIsRead (sym is.is) (tree_read is.tree)
+
+-- with the old tensor, which is read first
+moved_there : (accesses : List Access) (n : ℕ) (access : Access) → slice_get accesses n ≡ Some access
+    → slice_get (map moved_access accesses) n ≡ Some (moved_access access)
+moved_there [] n access is = absurd cc
+moved_there (first ∷ accesses) zero access is = let same : first ≡ access = cc in ap (λ (a : Access). Some (moved_access a)) same
+moved_there (first ∷ accesses) (suc n) access is = moved_there accesses n access is
+
+with_old_read : (s : Statement) → EachIsRead s → EachIsRead (with_old s)
+with_old_read s each zero h = record { place = 0; access = old_access s.left.vars; stands = refl; tensor_is = refl }
+with_old_read s each (suc n) h =
+    let there = each n (names_more s.tensors n h) in
+    record {
+      place = suc there.place;
+      access = moved_access there.access;
+      stands = moved_there s.accesses there.place there.access there.stands;
+      tensor_is = let is = there.tensor_is in let next : there.access.tensor + 1 ≡ suc n + 1 = omega (arith, is) in next;
+    }
+  where
+    names_more : (names : List Name) (n : ℕ) → suc n + 1 < length (names_with_old names) → n + 1 < length names
+    names_more [] n h = absurd (omega (arith, h))
+    names_more (name ∷ names) n h = omega (arith, h)
+
+-- each tensor but the result of what a text stands for is read
+pub text_read : (text : List ℕ) (written s : Statement) → IsNotationOf text written → s ≡ expanded written → EachIsRead s
+text_read text written s notation is =
+    let each = notation_read text written notation in
+    subst EachIsRead (sym is) (by_mark EachIsRead written each (with_old_read written each))
+
+-- ---- the orders of tensors of one name
+first_is : (names : List Name) → AllApart names → (tensor : ℕ) → tensor < length names → first_named names tensor ≡ tensor
+first_is names apart tensor h =
+    let there = some_at names tensor h in
+    ap (λ o. place_of names (record { bytes = bytes_of o })) there.1 ∙ place_there names tensor there.0 apart there.1
+
+-- behind the old tensor each name stands once
+behind_old : (names : List Name) → AllApart names → (n : ℕ) → suc (suc n) < length (names_with_old names)
+    → first_named (names_with_old names) (suc (suc n)) ≡ suc (suc n)
+behind_old [] apart n h = absurd (omega (arith, h))
+behind_old (first ∷ names) apart n h =
+    let there = some_at names n (omega (arith, h)) in
+    let other : is_same first there.0 ≡ false = each_get (λ x. is_same first x ≡ false) names n there.0 apart.0 there.1 in
+    let place : place_of (first ∷ names) there.0 ≡ suc n = place_there (first ∷ names) (suc n) there.0 apart there.1 in
+    let later = place_later there.0 first (first ∷ names) other in
+    let last : place_of (first ∷ first ∷ names) there.0 ≡ suc (suc n) = omega (arith, later, place) in
+    ap (λ o. place_of (first ∷ first ∷ names) (record { bytes = bytes_of o })) there.1 ∙ last
+
+at_old : (names : List Name) → 1 < length (names_with_old names) → first_named (names_with_old names) 1 ≡ 0
+at_old [] h = absurd (omega (arith, h))
+at_old (first ∷ names) h = place_here first first (first ∷ names) (same_self first)
+
+-- the old tensor has the result's order
+old_order : (s : Statement) → s.left.tensor ≡ 0 → order_of (with_old s) 0 ≡ order_of (with_old s) 1
+old_order s left =
+    ap (λ n. if n == 0 then length s.left.vars else order_in (with_old s).accesses 0) left
+    ∙ sym (ap (λ n. if n == 1 then length s.left.vars else order_in (with_old s).accesses 1) left)
+
+with_old_keeps : (s : Statement) → AllApart s.tensors → s.left.tensor ≡ 0 → KeepOrders (with_old s)
+with_old_keeps s apart left zero h =
+    let before = first_before (names_with_old s.tensors) 0 h in
+    let same : first_named (names_with_old s.tensors) 0 ≡ 0 = omega (arith, before) in
+    ap (order_of (with_old s)) same
+with_old_keeps s apart left (suc zero) h = ap (order_of (with_old s)) (at_old s.tensors h) ∙ old_order s left
+with_old_keeps s apart left (suc (suc n)) h = ap (order_of (with_old s)) (behind_old s.tensors apart n h)
+
+-- tensors of one name have one order in what a text stands for
+pub text_keeps_orders : (text : List ℕ) (written s : Statement) → IsNotationOf text written → written.left.tensor ≡ 0
+    → s ≡ expanded written → KeepOrders s
+text_keeps_orders text written s notation left is =
+    subst KeepOrders (sym is) (by_mark KeepOrders written
+    (λ tensor h. ap (order_of written) (first_is written.tensors apart tensor h)) (with_old_keeps written apart left))
+  where
+    apart : AllApart written.tensors
+    apart = subst (λ (w : Statement). AllApart w.tensors) (sym notation.is)
+        (distinct_apart (map name_of (notation.tree.left.access ∷ accesses_of_sum notation.tree.right)))

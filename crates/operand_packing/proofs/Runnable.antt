@@ -17,13 +17,10 @@ use Rattle.tensor_map.specs.Entries.{Entries}
 use Rattle.format_spec.specs.declared.format.FormatLevel.{FormatLevel}
 use Rattle.index_notation.specs.declared.syntax.Access.{Access}
 use Rattle.index_notation.specs.declared.syntax.Statement.{Statement}
-use Rattle.index_notation.specs.Notation.{IsNotationOf}
 use Rattle.index_notation.specs.Statement.{IsAccess, IsNumbered, IsWellNamed}
-use Rattle.expr_terms.specs.Names.{HasNoNameFault}
 use Rattle.expr_terms.specs.Operands.{entries_of, list_or_none}
 use Rattle.expr_terms.specs.Told.{given_at, bound_at, bound_or_none, modes_of, modes_or_none}
 use Rattle.expr_terms.specs.declared.bound.Bound.{Bound}
-use Rattle.expr_terms.proofs.WellNamed.{notation_well_named}
 use Rattle.bindings.specs.Bindings.{order_of}
 use Rattle.bindings.specs.Outcome.{Binds}
 use Rattle.operand_files.specs.Decoded.{Operand, IsReadable, AreReadable}
@@ -36,7 +33,7 @@ use Rattle.operand_packing.specs.Orders.{operand_orders}
 use Rattle.operand_packing.specs.Runnable.{IsRunnable}
 use Rattle.operand_packing.proofs.FileEntries.{bound_in, IsKept, file_kept}
 use Rattle.operand_packing.proofs.FormatsBound.{formats_fit, order_is}
-use Rattle.operand_packing.proofs.NamesRead.{notation_read}
+use Rattle.operand_packing.proofs.NamesRead.{EachIsRead}
 use Rattle.operand_packing.proofs.RangesSmall.{ranges_small, given_small}
 
 -- ---- lists
@@ -195,18 +192,16 @@ module _ (a : Arithmetic) (has_minus : Bool) (s : Statement) (old new : FolderSt
         (sym there.bounds_are)
         there.kept.bounded))
 
--- a statement of a text over the operands that were read for it
-pub read_is_runnable : (a : Arithmetic) (has_minus : Bool) (text : List ℕ) (s : Statement) → IsNotationOf text s → HasNoNameFault s
-    → IsNumbered s
+-- a statement each of whose tensors but the result is read, over the operands that were read for it
+pub read_is_runnable : (a : Arithmetic) (has_minus : Bool) (s : Statement) → IsNumbered s → IsWellNamed s → EachIsRead s
     → (words : List (List ℕ)) (need : Bool) (formats : List (List FormatLevel))
     (files : List (ℕ × List ℕ)) (given : List (Option ℕ)) → Binds s words need formats files given
     → (old new : FolderState) (paths : List (List ℕ)) (count : ℕ) (entries : List Entries) (bounds : List (Vec Bound Global))
     → AreReadable (operand_orders s) paths → count ≡ length paths
     → HaveRead (decoded.operand_of a has_minus) old new (operand_orders s) paths count entries (map (λ b. b.items) bounds)
     → IsRunnable s formats given entries bounds
-read_is_runnable a has_minus text s notation names numbered words need formats files given binds old new paths count entries
+read_is_runnable a has_minus s numbered named each_read words need formats files given binds old new paths count entries
     bounds readable all read =
-    let named = notation_well_named text s notation names in
     let long = many a has_minus s old new paths count entries bounds readable all read in
     let fit = formats_fit s words need formats files given binds numbered named in
     record {
@@ -218,7 +213,7 @@ read_is_runnable a has_minus text s notation names numbered words need formats f
         result_format = fit.0;
         formats_fit = fit.1;
         reads = each_reads a has_minus s old new paths count entries bounds readable all read numbered named;
-        read = λ n h. notation_read text s notation n (omega (arith, long, h));
+        read = λ n h. each_read n (omega (arith, long, h));
       };
       ranges_fit = λ ranges found. record {
         long = ranges_long s (given_at given) (bound_at bounds) ranges found;

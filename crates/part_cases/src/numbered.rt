@@ -51,7 +51,7 @@ pub(crate) fn tell_numbered(answer: &mut Answer, text: &str) -> Option<()> {
     }
     let tensors = names_of(answer, *tensors);
     let vars = names_of(answer, *vars);
-    let statement = Statement::new(tensors, vars, left, accesses, expr);
+    let statement = Statement::new(tensors, vars, left, false, accesses, expr);
     answer.tell("numbered ");
     answer.show(&statement.is_numbered());
     answer.tell(", well named ");

@@ -9,7 +9,7 @@ use crate::ranged::tell_ranges;
 use crate::scripted::Scripted;
 use crate::segments::{tell_segments, tell_twin};
 use crate::semirings::{tell_entries_or_drains, tell_statement_values, tell_words};
-use crate::statements::{tell_groups, tell_named, tell_statement};
+use crate::statements::{tell_expanded, tell_groups, tell_named, tell_statement};
 use crate::{copies, files, streams, tokens};
 use case_files::{Answer, Cases, keyword_of};
 use index_notation::{NotationFault, Statement};
@@ -94,6 +94,7 @@ impl<R: Files + Print + AllocGlobal> Cases for Session<'_, R> {
             "ranges" | "edges" | "lattice" | "form" => self.tell_kept(answer, keyword, rest),
             "names" => tell_named(answer, rest),
             "groups" => tell_groups(answer, rest),
+            "expanded" => tell_expanded(answer, rest),
             "graph" => tell_graph(answer, rest),
             "format" | "dense" => tell_format(answer, keyword, rest),
             "numbers" => tell_numbered(answer, rest),

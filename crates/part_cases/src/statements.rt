@@ -1,6 +1,6 @@
 //! Statements and their groups, as they are told.
 use case_files::Answer;
-use expr_terms::{Term, check_names, groups};
+use expr_terms::{Term, check_names, expand, groups};
 use index_notation::{Access, Expr, Name, Operator, Statement, copy_access, copy_expr, copy_name};
 use notation_reader::parse;
 
@@ -60,7 +60,7 @@ pub(crate) fn tell_statement(answer: &mut Answer, statement: &Statement) -> Opti
     tell_names(answer, statement.tensors.as_slice())?;
     tell_names(answer, statement.vars.as_slice())?;
     tell_access(answer, &statement.left)?;
-    answer.tell(" =");
+    answer.tell(if statement.accumulate { " +=" } else { " =" });
     for access in statement.accesses.as_slice() {
         answer.tell(" ");
         tell_access(answer, access)?;
@@ -91,6 +91,14 @@ pub(crate) fn tell_named(answer: &mut Answer, text: &str) -> Option<()> {
     let statement = parse(answer.alloc(), text).ok()?;
     answer.show(&check_names(&statement));
     Some(())
+}
+
+/// What a text's statement stands for.
+pub(crate) fn tell_expanded(answer: &mut Answer, text: &str) -> Option<()> {
+    let statement = parse(answer.alloc(), text).ok()?;
+    let whole = expand(answer.alloc(), statement);
+    let whole = answer.made(whole)?;
+    tell_statement(answer, &whole)
 }
 
 /// The groups of a text's statement, in order.

@@ -1,5 +1,5 @@
 -- Worked costs: of a product of a matrix and a vector, y(i) = A(i,j) * x(j), and of a sum of vectors, y(i) = a(i) + b(i).
-use Rattle.std.specs.Prelude.{ℕ, ◌+◌, nat_eq, if◌then◌else◌, List, [], ◌∷◌}
+use Rattle.std.specs.Prelude.{false, ℕ, ◌+◌, nat_eq, if◌then◌else◌, List, [], ◌∷◌}
 use Rattle.level_core.specs.declared.span.Span.{Span}
 use Rattle.level_core.specs.declared.span.Entry.{Entry}
 use Rattle.level_core.specs.Entries.{one, span}
@@ -31,6 +31,7 @@ product = record {
   tensors = no_name ∷ no_name ∷ no_name ∷ [];
   vars = no_name ∷ no_name ∷ [];
   left = access 0 (0 ∷ []);
+  accumulate = false;
   accesses = access 1 (0 ∷ 1 ∷ []) ∷ access 2 (1 ∷ []) ∷ [];
   expr = Binary op.Mul (AccessOf 0) (AccessOf 1);
 }
@@ -73,6 +74,7 @@ sum = record {
   tensors = no_name ∷ no_name ∷ no_name ∷ [];
   vars = no_name ∷ [];
   left = access 0 (0 ∷ []);
+  accumulate = false;
   accesses = access 1 (0 ∷ []) ∷ access 2 (0 ∷ []) ∷ [];
   expr = Binary op.Add (AccessOf 0) (AccessOf 1);
 }

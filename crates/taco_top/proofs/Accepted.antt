@@ -5,6 +5,7 @@ use Rattle.lists.specs.Each.{Each}
 use Rattle.format_spec.specs.declared.format.FormatLevel.{FormatLevel}
 use Rattle.index_notation.specs.Statement.{IsNumbered, IsWellNamed}
 use Rattle.iteration_graph.specs.Edges.{HasFormat}
+use Rattle.expr_terms.proofs.ExpandLaws.{expanded_named}
 use Rattle.expr_terms.proofs.WellNamed.{notation_well_named}
 use Rattle.operand_packing.proofs.FormatsBound.{formats_fit}
 use Rattle.taco_top.specs.Asked.{needs_files}
@@ -12,7 +13,8 @@ use Rattle.taco_top.specs.Run.{Request, AsksFor}
 
 module _ (words : List (List ℕ)) (r : Request) (asks : AsksFor words r) where
   pub well_named : IsWellNamed r.statement
-  well_named = notation_well_named asks.names.text r.statement asks.names.notation asks.names.names
+  well_named = subst IsWellNamed (sym asks.names.stands_for)
+      (expanded_named asks.names.written (notation_well_named asks.names.text asks.names.written asks.names.notation asks.names.names))
 
   -- the formats that were handed in are those of the request
   module _ (numbered : IsNumbered r.statement) (formats : List (List FormatLevel)) (formats_are : formats ≡ r.formats) where

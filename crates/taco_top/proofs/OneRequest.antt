@@ -6,6 +6,7 @@ use Rattle.index_notation.specs.declared.syntax.Statement.{Statement}
 use Rattle.index_notation.specs.Notation.{IsNotationOf}
 use Rattle.notation_reader.proofs.NotationLaws as notations
 use Rattle.expr_terms.proofs.NameOnce.{names_never_both}
+use Rattle.expr_terms.specs.Expanded.{expanded}
 use Rattle.expr_terms.specs.Names.{HasNoNameFault}
 use Rattle.command_line.specs.declared.Task.{Task}
 use Rattle.command_line.specs.declared.Task.TheVariants.{Run}
@@ -51,8 +52,11 @@ one_rest words task other text texts rest others is be = ap words_of (sym is ∙
 one_statement : (words : List (List ℕ)) (task other : Task) (s t : Statement) (rest others : List (List ℕ))
     → Names words task s rest → Names words other t others → s ≡ t
 one_statement words task other s t rest others is be =
-    notations.statement_once be.text s t
-    (subst (λ text. IsNotationOf text s) (one_text words task other is.text be.text rest others is.line be.line) is.notation) be.notation
+    is.stands_for
+    ∙ ap expanded (notations.statement_once be.text is.written be.written
+    (subst (λ text. IsNotationOf text is.written) (one_text words task other is.text be.text rest others is.line be.line) is.notation)
+    be.notation)
+    ∙ sym be.stands_for
 
 module _ (words : List (List ℕ)) (task other : Task) (s t : Statement) (formats layouts : List (List FormatLevel))
     (files others : List (ℕ × List ℕ)) (ranges given : List (Option ℕ))
@@ -100,9 +104,9 @@ binding_apart s words need formats files ranges (binding.Memory error) binds is 
 module _ (words : List (List ℕ)) (task : Task) (s : Statement) (formats : List (List FormatLevel)) (files : List (ℕ × List ℕ))
     (ranges : List (Option ℕ)) (asks : Asks words task s formats files ranges) where
   -- the text of another reading is that of this one
-  notation_of : (other : Task) (text : List ℕ) (rest : List (List ℕ)) → AsksOf words other text rest → IsNotationOf text s
+  notation_of : (other : Task) (text : List ℕ) (rest : List (List ℕ)) → AsksOf words other text rest → IsNotationOf text asks.names.written
   notation_of other text rest line =
-      subst (λ t. IsNotationOf t s)
+      subst (λ t. IsNotationOf t asks.names.written)
       (one_text words task other asks.names.text text asks.rest rest asks.names.line line) asks.names.notation
 
   -- what is bound is so for the task and the words of another reading
@@ -119,10 +123,11 @@ module _ (words : List (List ℕ)) (task : Task) (s : Statement) (formats : List
   only_want : (why : Fault) → IsRefusedByWords words why → IsWant why
   only_want fault.Usage is = apart (sym is ∙ asks.names.line)
   only_want (fault.Notation why) (other, text, rest, line, is) =
-      notations.never_both text s why (notation_of other text rest line) is
+      notations.never_both text asks.names.written why (notation_of other text rest line) is
   only_want (fault.Named t (named.Name why)) (other, text, rest, line, notation, is) =
       names_never_both t why
-      (subst HasNoNameFault (notations.statement_once text s t (notation_of other text rest line) notation) asks.names.names) is
+      (subst HasNoNameFault (notations.statement_once text asks.names.written t (notation_of other text rest line) notation)
+      asks.names.names) is
   only_want (fault.Named t (named.Binding why)) (other, rest, names, is) =
       binding_apart t rest (needs_files other) formats files ranges why (binds_of other t rest names) is
   only_want (fault.Named t (named.Cycle cycle)) is = is

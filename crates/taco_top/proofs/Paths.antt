@@ -12,16 +12,16 @@ use Rattle.index_notation.specs.Statement.{IsNumbered}
 use Rattle.bindings.specs.Words.{Said, SaysFormat, SaysFile, SaysRange, said_of}
 use Rattle.mtx_io.specs.Progress.{IsMatrixOrder}
 use Rattle.bindings.specs.Bindings.{first_in, path_in, order_in, order_of, or_later}
-use Rattle.bindings.specs.Outcome.{files_in, with_file, Binds}
+use Rattle.bindings.specs.Outcome.{files_in, with_file, Binds, first_named}
 use Rattle.bindings.specs.Tables.{file_in, path_to}
 use Rattle.bindings.specs.declared.tensor_file.TensorFile.{TensorFile}
 use Rattle.bindings.proofs.Tables.{eq_turned}
 use Rattle.operand_files.specs.Decoded.{AreReadable}
 use Rattle.operand_packing.specs.Orders.{operand_orders}
-use Rattle.operand_packing.proofs.FilesReadable.{files_readable, file_readable}
+use Rattle.operand_packing.proofs.FilesReadable.{KeepOrders, files_readable, file_readable}
 use Rattle.operand_packing.proofs.RangesSmall.{first_found}
 use Rattle.result_files.specs.ResultText.{asks_matrix}
-use Rattle.taco_top.specs.Run.{path_of, paths_of}
+use Rattle.taco_top.specs.Run.{operand_path, path_of, paths_of}
 
 -- the path of a file that is looked up among those that are kept
 pub path_in_view : (n : ℕ) (files : List (ℕ × TensorFile)) → path_to (lookup (λ k. n == k) files) ≡ path_of (map file_in files) n
@@ -69,23 +69,24 @@ unwrapped (Some x) some = refl
 
 -- one path for each operand
 pub paths_long : (s : Statement) (files : List (ℕ × List ℕ)) → length (paths_of s files) ≡ length s.tensors - 1
-paths_long s files = length-map-range_with_len (λ tensor. unwrap_or (path_of files tensor) []) 1 (length s.tensors - 1)
+paths_long s files = length-map-range_with_len (operand_path s files) 1 (length s.tensors - 1)
 
 -- the paths that words bind may be read at the orders of their accesses
 pub paths_readable : (s : Statement) (words : List (List ℕ)) (need : Bool) → need ≡ true → (formats : List (List FormatLevel))
-    (files : List (ℕ × List ℕ)) (given : List (Option ℕ)) → Binds s words need formats files given → IsNumbered s
+    (files : List (ℕ × List ℕ)) (given : List (Option ℕ)) → Binds s words need formats files given → IsNumbered s → KeepOrders s
     → AreReadable (operand_orders s) (paths_of s files)
-paths_readable s words need needed formats files given binds numbered =
-    files_readable s words need formats files given binds numbered (paths_of s files) (paths_long s files) (λ n path is.
-    let there = range_there (λ tensor. unwrap_or (path_of files tensor) []) 1 (length s.tensors - 1) n path is in
-    let named : path_of files (1 + n) ≡ first_in (path_in s (1 + n)) words =
-    ap (λ fs. path_of fs (1 + n)) binds.files_are ∙ path_found s (1 + n) words in
+paths_readable s words need needed formats files given binds numbered keep =
+    files_readable s words need formats files given binds numbered keep (paths_of s files) (paths_long s files) (λ n path is.
+    let there = range_there (operand_path s files) 1 (length s.tensors - 1) n path is in
+    let first : ℕ = first_named s.tensors (1 + n) in
+    let named : path_of files first ≡ first_in (path_in s first) words = ap (λ fs. path_of fs first) binds.files_are
+    ∙ path_found s first words in
     let within : 1 + n < length s.tensors = omega (arith, there.1) in
     let some = binds.all_read needed (1 + n) (omega arith) within in
-    let path_is : path ≡ unwrap_or (first_in (path_in s (1 + n)) words) [] = there.0 ∙ ap (λ o. unwrap_or o []) named in
+    let path_is : path ≡ unwrap_or (first_in (path_in s first) words) [] = there.0 ∙ ap (λ o. unwrap_or o []) named in
     let turned : n + 1 ≡ 1 + n = omega arith in
-    subst (λ k. first_in (path_in s k) words ≡ Some path) (sym turned)
-    (unwrapped (first_in (path_in s (1 + n)) words) some ∙ ap (λ p. Some p) (sym path_is)))
+    subst (λ k. first_in (path_in s (first_named s.tensors k)) words ≡ Some path) (sym turned)
+    (unwrapped (first_in (path_in s first) words) some ∙ ap (λ p. Some p) (sym path_is)))
 
 -- a result that goes to a matrix has the order of one
 pub result_is_matrix : (s : Statement) (words : List (List ℕ)) (need : Bool) (formats : List (List FormatLevel))

@@ -9,7 +9,6 @@ use Rattle.outside.specs.Folder.{FolderState}
 use Rattle.tensor_map.specs.Entries.{AreEntries, Entries}
 use Rattle.index_notation.specs.declared.syntax.Statement.{Statement}
 use Rattle.expr_terms.specs.declared.bound.Bound.{Bound}
-use Rattle.expr_terms.proofs.WellNamed.{notation_well_named}
 use Rattle.bindings.specs.Tables.{path_to}
 use Rattle.mtx_io.specs.Progress.{IsMatrixOrder}
 use Rattle.kernel_runs.specs.Runs.{IsRun, IsTensorOf}
@@ -21,6 +20,7 @@ use Rattle.taco_top.specs.Written.{HasOperands}
 use Rattle.taco_top.specs.Told.{IsKernelOf}
 use Rattle.taco_top.specs.declared.computing.Computed.{Computed}
 use Rattle.taco_top.specs.Prepared.{IsPrepared}
+use Rattle.taco_top.proofs.Accepted.{well_named}
 use Rattle.taco_top.proofs.Paths.{result_is_matrix}
 
 -- the entries of a statement's result may be written, as a matrix where its order is that of one
@@ -43,8 +43,7 @@ pub prepared : (words : List (List ℕ)) (old new : FolderState) (r : Request) (
     kept.result.tensor kept.result.turns
     → AreEntries kept.result.entries → IsPrepared words r.task old new kept
 prepared words old new r kept entries bounds path_is statement_is formats_are operands is_kernel run are =
-    let names = operands.accepted.asks.names in
-    let named = notation_well_named names.text r.statement names.notation names.names in
+    let named = well_named words r operands.accepted.asks in
     record {
       values = record {
         request = r;

@@ -6,8 +6,9 @@ use Rattle.numbers.specs.Ring.{ring}
 use Rattle.outside.specs.Folder.{FolderState}
 use Rattle.tensor_map.specs.Entries.{Entries}
 use Rattle.format_spec.specs.declared.format.FormatLevel.{FormatLevel}
-use Rattle.index_notation.specs.Statement.{IsNumbered}
+use Rattle.index_notation.specs.Statement.{IsNumbered, IsWellNamed}
 use Rattle.expr_terms.specs.declared.bound.Bound.{Bound}
+use Rattle.expr_terms.proofs.WellNamed.{notation_well_named}
 use Rattle.operand_files.specs.Decoded.{AreReadable}
 use Rattle.operand_files.specs.Reads.{HaveRead, IsRefused}
 use Rattle.operand_files.specs.declared.fault.OperandFault.{OperandFault}
@@ -17,14 +18,16 @@ use Rattle.kernel_code.specs.declared.syntax.Turns.{Turns}
 use Rattle.tensor_storage.specs.Storages.{Storage}
 use Rattle.operand_packing.specs.Runnable.{IsRunnable}
 use Rattle.kernel_runs.specs.Runs.{IsRun}
+use Rattle.operand_packing.proofs.NamesRead.{text_read, text_keeps_orders}
 use Rattle.operand_packing.proofs.Runnable.{read_is_runnable}
 use Rattle.refusals.specs.declared.fault.Fault.{Fault}
 use Rattle.refusals.specs.declared.fault.Fault.TheVariants as fault
-use Rattle.taco_top.specs.Asked.{needs_files}
+use Rattle.taco_top.specs.Asked.{Names, needs_files}
 use Rattle.taco_top.specs.Run.{Request}
 use Rattle.taco_top.specs.Written.{means, IsAccepted, HasOperands, asked_orders, asked_paths}
 use Rattle.taco_top.specs.Refused.{Stops}
 use Rattle.taco_top.specs.Prepared.{IsUncomputed}
+use Rattle.taco_top.proofs.Accepted.{well_named}
 use Rattle.taco_top.proofs.Paths.{paths_readable}
 
 -- a fault of the operands as the program's
@@ -38,6 +41,13 @@ pub request_readable : (words : List (List ℕ)) (r : Request) → needs_files r
     → AreReadable (asked_orders r) (asked_paths r)
 request_readable words r reads accepted numbered =
     paths_readable r.statement accepted.asks.rest (needs_files r.task) reads r.formats r.files r.given accepted.asks.binds numbered
+    (text_keeps_orders names.text names.written r.statement names.notation written.result names.stands_for)
+  where
+    names : Names words r.task r.statement accepted.asks.rest
+    names = accepted.asks.names
+
+    written : IsWellNamed names.written
+    written = notation_well_named names.text names.written names.notation names.names
 
 -- the orders and paths that were handed in are those of the request
 module _ (words : List (List ℕ)) (old new : FolderState) (r : Request) (orders : List ℕ) (paths : List (List ℕ))
@@ -97,7 +107,8 @@ request_runnable : (words : List (List ℕ)) (old new : FolderState) (r : Reques
     → IsRunnable r.statement r.formats r.given entries bounds
 request_runnable words old new r entries bounds operands numbered =
     let names = operands.accepted.asks.names in
-    read_is_runnable ring true names.text r.statement names.notation names.names numbered operands.accepted.asks.rest
+    let each_read = text_read names.text names.written r.statement names.notation names.stands_for in
+    read_is_runnable ring true r.statement numbered (well_named words r operands.accepted.asks) each_read operands.accepted.asks.rest
     (needs_files r.task) r.formats r.files r.given operands.accepted.asks.binds old new (asked_paths r) (length (asked_paths r)) entries
     bounds
     (request_readable words r operands.reads operands.accepted numbered) refl operands.read

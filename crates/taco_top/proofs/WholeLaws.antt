@@ -1,6 +1,6 @@
 -- Where all input is whole, a run ends with its result.
 use Rattle.std.specs.Prelude.{◌≡◌, ℕ, zero, suc, ◌-◌, ◌⊎◌, List, [], ◌∷◌, length, map, Option, Some, None, Result, Ok, Err}
-use Rattle.std.specs.Prelude.{Vec, String, string_bytes, slice_get, unwrap_or, refl}
+use Rattle.std.specs.Prelude.{Vec, String, string_bytes, slice_get, refl}
 use Rattle.std.specs.Option.{option_map}
 use Rattle.std.proofs.Common.{◌∙◌, sym, ap, subst, inl, inr}
 use Rattle.std.proofs.lemmas.List.FromFn.{length-map-range_with_len}
@@ -40,7 +40,7 @@ use Rattle.refusals.specs.declared.fault.Fault.TheVariants as fault
 use Rattle.refusals.specs.Lines.{status_of}
 use Rattle.taco_top.specs.Asked.{IsRefusedByWords, IsWant}
 use Rattle.taco_top.proofs.OneRequest as request
-use Rattle.taco_top.specs.Run.{Request, AsksFor, path_of}
+use Rattle.taco_top.specs.Run.{Request, AsksFor, operand_path, path_of}
 use Rattle.taco_top.specs.Written.{means, asked_orders, asked_paths, HasOperands, HasResult, result_ranges, result_value, IsWritten}
 use Rattle.taco_top.specs.Refused.{StopsReading, HasCycleFault, HasRangeFault, HasLargeLevel}
 use Rattle.taco_top.specs.Refused.{HasManyPairs, Stops, IsUnwritten, FailsToWrite}
@@ -88,7 +88,7 @@ one_request words r q asks other =
 module _ (words : List (List ℕ)) (files : FolderState) (whole : IsWhole words files.holds) where
   as_many : length (asked_orders whole.request) ≡ length (asked_paths whole.request)
   as_many = length-map-range_with_len (order_of whole.request.statement) 1 (length whole.request.statement.tensors - 1)
-      ∙ sym (length-map-range_with_len (λ tensor. unwrap_or (path_of whole.request.files tensor) []) 1
+      ∙ sym (length-map-range_with_len (operand_path whole.request.statement whole.request.files) 1
       (length whole.request.statement.tensors - 1))
 
   -- another reading of the same words asks for the same

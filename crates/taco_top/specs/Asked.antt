@@ -7,6 +7,7 @@ use Rattle.format_spec.specs.declared.format.FormatLevel.{FormatLevel}
 use Rattle.index_notation.specs.declared.syntax.Statement.{Statement}
 use Rattle.index_notation.specs.Notation.{IsNotationOf, IsFaultOf}
 use Rattle.index_notation.specs.Statement.{IsNumbered}
+use Rattle.expr_terms.specs.Expanded.{expanded}
 use Rattle.expr_terms.specs.Names.{HasNoNameFault, IsFirstNameFault}
 use Rattle.command_line.specs.CommandLine.{command_line_of}
 use Rattle.command_line.specs.CommandLine as command_line
@@ -43,12 +44,14 @@ needs_kernel task.Plan = false
 abbrev pub AsksOf : List (List ℕ) → Task → List ℕ → List (List ℕ) → Type 0
 AsksOf words task text rest = command_line_of words ≡ Some (command_line.Statement task text rest)
 
--- the command line asks this task for a statement, whose names are in order
+-- the command line asks this task for a statement, whose names are in order as it is written; and this is the one that it stands for
 pub record Names (words : List (List ℕ)) (task : Task) (s : Statement) (rest : List (List ℕ)) : Type 0 where
   pub text : List ℕ
   pub line : AsksOf words task text rest
-  pub notation : IsNotationOf text s
-  pub names : HasNoNameFault s
+  pub written : Statement
+  pub notation : IsNotationOf text written
+  pub names : HasNoNameFault written
+  pub stands_for : s ≡ expanded written
 
 -- what the words ask for
 pub record Asks (words : List (List ℕ)) (task : Task) (s : Statement) (formats : List (List FormatLevel))

@@ -5,6 +5,7 @@ use Rattle.std_collections.specs.Map.{lookup}
 use Rattle.format_spec.specs.declared.format.FormatLevel.{FormatLevel}
 use Rattle.index_notation.specs.declared.syntax.Statement.{Statement}
 use Rattle.bindings.specs.Bindings.{order_of}
+use Rattle.bindings.specs.Outcome.{first_named}
 use Rattle.bindings.specs.Tables.{file_in}
 use Rattle.command_line.specs.declared.Task.{Task}
 use Rattle.taco_top.specs.declared.asked.Asked.{Asked}
@@ -22,9 +23,13 @@ operands_of s = range_with_len 1 (length s.tensors - 1)
 abbrev pub orders_of : Statement → List ℕ
 orders_of s = map (order_of s) (operands_of s)
 
+-- the path of an operand's file, which words bind to its name
+abbrev pub operand_path : Statement → List (ℕ × List ℕ) → ℕ → List ℕ
+operand_path s files tensor = unwrap_or (path_of files (first_named s.tensors tensor)) []
+
 -- the path of each operand's file
 abbrev pub paths_of : Statement → List (ℕ × List ℕ) → List (List ℕ)
-paths_of s files = map (λ tensor. unwrap_or (path_of files tensor) []) (operands_of s)
+paths_of s files = map (operand_path s files) (operands_of s)
 
 -- what words ask for: a task, a statement, a format for each tensor, the files of tensors, and the ranges that words give variables
 pub record Request : Type 0 where

@@ -11,13 +11,13 @@ ghost use Rattle.refusals.specs.declared.fault.Fault.TheVariants.{Named};
 
 use bindings::{BindingFault, Bindings, bind};
 use command_line::{Request, RequestFault, Task, read_request};
-use expr_terms::check_names;
+use expr_terms::{check_names, expand};
 use index_notation::{NotationFault, Statement};
 use notation_reader::parse;
 use refusals::{Fault, NamedFault};
 use std::alloc::Global;
 
-/// A statement, what is asked for it, and what the words bind to its names.
+/// A statement as it stands for the written one, what is asked for it, and what the words bind to its names.
 #[derive(Drop)]
 pub struct Asked<'a> {
     pub task: Task,
@@ -113,7 +113,7 @@ fn ask_statement<'a>(
 {
     let statement = read_statement(alloc, text)?;
     match check_names(&statement) {
-        Ok(()) => bind_names(alloc, task, statement, words),
+        Ok(()) => bind_names(alloc, task, expand(alloc, statement)?, words),
         Err(fault) => Err(named(statement, NamedFault::Name(fault))),
     }
 }

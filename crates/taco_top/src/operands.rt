@@ -1,15 +1,17 @@
 //! The operands of what the words ask for, from their files.
-ghost use Rattle.std.specs.Prelude.{◌≡◌, ℕ, List, [], map, unwrap_or, true, IfOk, IfErr};
+ghost use Rattle.std.specs.Prelude.{◌≡◌, ℕ, List, map, true, IfOk, IfErr};
 ghost use Rattle.index_notation.specs.Statement.{IsNumbered};
 ghost use Rattle.bindings.specs.Tables.{file_in, path_to, paths_in};
 ghost use Rattle.operand_files.specs.Reads.{OnlyReads};
 ghost use Rattle.taco_top.specs.Asked.{needs_files};
 ghost use Rattle.taco_top.specs.Written.{IsAccepted, HasOperands};
 ghost use Rattle.taco_top.specs.Refused.{Stops};
-ghost use Rattle.taco_top.specs.Run.{orders_of as orders_of_operands, path_of as path_of_tensor, paths_of as paths_of_operands, request_of};
+ghost use Rattle.taco_top.specs.Run.{orders_of as orders_of_operands, operand_path, path_of as path_of_tensor};
+ghost use Rattle.taco_top.specs.Run.{paths_of as paths_of_operands};
+ghost use Rattle.taco_top.specs.Run.{request_of};
 
 use crate::asked::Asked;
-use bindings::{Bindings, FileFormat, TensorFile, order_of};
+use bindings::{Bindings, FileFormat, TensorFile, first_named, order_of};
 use index_notation::Statement;
 use numbers::Ring;
 use operand_files::{OperandFault, Operands, read_operands};
@@ -24,11 +26,11 @@ pub(crate) fn file_of<'a>(bindings: &Bindings<'a>, tensor: usize) -> Option<Tens
     bindings.files.get(&tensor).copied()
 }
 
-/// The file of a tensor, with an empty path where it has none.
-fn file_or_unnamed<'a>(bindings: &Bindings<'a>, tensor: usize) -> TensorFile<'a>
-    ensures { result.path.now ≡ unwrap_or (path_of_tensor (map file_in bindings.now.files.entries) tensor) [] }
+/// The file of an operand, with an empty path where it has none.
+fn operand_file<'a>(statement: &Statement, bindings: &Bindings<'a>, tensor: usize) -> TensorFile<'a>
+    ensures { result.path.now ≡ operand_path statement.now (map file_in bindings.now.files.entries) tensor }
 {
-    match file_of(bindings, tensor) {
+    match file_of(bindings, first_named(statement.tensors.as_slice(), tensor)) {
         Some(file) => file,
         None => TensorFile {
             path: "",
@@ -59,7 +61,7 @@ fn files_of<'a>(
 {
     let mut files = Vec::new(alloc);
     for n in 0..statement.tensors.len().saturating_sub(1) {
-        files.push(file_or_unnamed(bindings, n + 1))?;
+        files.push(operand_file(statement, bindings, n + 1))?;
     }
     Ok(files)
 }
