@@ -30,18 +30,19 @@ compile-requires-clause-right c =
 pub returns-in-Ok-clause-order : goal.returns-in-Ok-clause-order
 returns-in-Ok-clause-order c =
     subst (λ formats. IsOrder workload_statement formats c.in-Ok.compiled.order) c.requires.formats
-    (subst (λ s. IsOrder s c.args.formats.now c.in-Ok.compiled.order) c.requires.statement c.in-Ok.ensures.0)
+    (subst (λ s. IsOrder s c.args.formats.now c.in-Ok.compiled.order) c.requires.statement c.in-Ok.ensures.answers.0)
 
 pub returns-in-Ok-clause-kernel : goal.returns-in-Ok-clause-kernel
 returns-in-Ok-clause-kernel c =
     subst (λ formats. IsCompiled ring workload_statement formats c.in-Ok.compiled.order c.in-Ok.compiled.kernel) c.requires.formats
     (subst (λ s. IsCompiled ring s c.args.formats.now c.in-Ok.compiled.order c.in-Ok.compiled.kernel) c.requires.statement
-    c.in-Ok.ensures.1)
+    c.in-Ok.ensures.answers.1)
 
 pub unreachable-requires : goal.unreachable-requires
 unreachable-requires c =
     let has : HasCycle c.args.statement.now c.args.formats.now c.in-Err-Cycle.field-0-0 =
-    subst (λ fault. Answers ring c.args.statement.now c.args.formats.now (Err fault)) c.in-Err-Cycle.field-0-is c.in-Err-Cycle.ensures in
+    subst (λ fault. Answers ring c.args.statement.now c.args.formats.now (Err fault)) c.in-Err-Cycle.field-0-is
+    c.in-Err-Cycle.ensures.answers in
     no_cycle c.in-Err-Cycle.field-0-0
     (subst (λ formats. HasCycle workload_statement formats c.in-Err-Cycle.field-0-0) c.requires.formats
     (subst (λ s. HasCycle s c.args.formats.now c.in-Err-Cycle.field-0-0) c.requires.statement has))

@@ -32,6 +32,6 @@ returns-in-Err-Cycle-clause-refused c = λ words asks files.
         needs = c.requires.needs;
         is = subst (λ formats. Answers ring c.args.asked.statement formats (Err (compile.Cycle c.in-Err-Cycle.cycle)))
             c.as_slice.ensures.value
-            (subst (λ why. Answers ring c.args.asked.statement c.as_slice.result.now (Err why)) same c.in-Err-Cycle.ensures);
+            (subst (λ why. Answers ring c.args.asked.statement c.as_slice.result.now (Err why)) same c.in-Err-Cycle.ensures.answers);
       },
     )
