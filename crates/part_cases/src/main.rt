@@ -80,6 +80,7 @@
 //! statement `\t` is a tab, `\\` a backslash, and `{33 -}` stands for 33 minuses.
 #![tactic(auto)]
 
+mod arithmetics;
 mod copies;
 mod files;
 mod formats;
@@ -92,7 +93,6 @@ mod pieces;
 mod ranged;
 mod scripted;
 mod segments;
-mod semirings;
 mod session;
 mod statements;
 mod steps;

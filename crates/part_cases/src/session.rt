@@ -1,4 +1,5 @@
 //! The lines of case files, one after another.
+use crate::arithmetics::{tell_entries_or_drains, tell_statement_values, tell_words};
 use crate::formats::tell_format;
 use crate::forms::tell_form;
 use crate::graphs::{tell_edges, tell_graph, tell_lattice};
@@ -8,7 +9,6 @@ use crate::owners::{tell_box, tell_items, tell_tree};
 use crate::ranged::tell_ranges;
 use crate::scripted::Scripted;
 use crate::segments::{tell_segments, tell_twin};
-use crate::semirings::{tell_entries_or_drains, tell_statement_values, tell_words};
 use crate::statements::{tell_expanded, tell_groups, tell_named, tell_statement};
 use crate::{copies, files, streams, tokens};
 use case_files::{Answer, Cases, keyword_of};
