@@ -2,6 +2,7 @@
 use Rattle.std.specs.Prelude.{◌≡◌, ℕ, Bool, true, List, length, filter, All, if◌then◌else◌}
 use Rattle.numbers.specs.Arithmetic.{Arithmetic}
 use Rattle.tensor_map.specs.Entries.{AreEntries, Entries, StrictlyIncreasing, is_nonzero}
+use Rattle.tensor_map.specs.Coords.{IsShape}
 use Rattle.tensor_map.specs.declared.entries.Entry.{Entry}
 use Rattle.tns_io.specs.Positions.{IsBelow}
 use Rattle.tns_io.specs.Text.{entries_text}
@@ -13,9 +14,10 @@ abbrev pub result_text : Bool → Arithmetic → List ℕ → List Entry → Lis
 result_text is_matrix a ranges entries =
     if is_matrix then matrix_text ranges (filter (is_nonzero a) entries) else entries_text a entries
 
--- what is true of all entries, and they are below the ranges and increase, and a matrix has order 1 or 2
+-- what is true of all entries and of a shape, and the entries are below the ranges and increase, and a matrix has order 1 or 2
 pub record MayBeWritten (is_matrix : Bool) (ranges : List ℕ) (entries : Entries) : Type 0 where
   pub are : AreEntries entries
+  pub shape : IsShape ranges
   pub order_is : entries.order ≡ length ranges
   pub below : All (λ entry. IsBelow ranges entry.coords) entries.list
   pub increasing : StrictlyIncreasing entries.list

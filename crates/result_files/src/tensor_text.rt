@@ -24,8 +24,6 @@ impl<'a, S: Semiring> Text for TensorText<'a, S> {
     ghost may_be_put = { λ t. MayBeWritten t.is_matrix t.shape.now t.entries.now };
 
     fn put<K: Sink>(&self, sink: &mut K) -> Result<(), Refusal> {
-        // What is true of every shape is known where it is asked.
-        let _ranges = self.shape.ranges();
         if self.is_matrix {
             put_mtx::<S, K>(sink, self.shape, self.entries)
         } else {

@@ -1,17 +1,21 @@
 -- What was computed for the words, as it is kept.
-use Rattle.std.specs.Prelude.{◌≡◌, ℕ, Bool, true, List, length, Vec, slice_index, refl}
+use Rattle.std.specs.Prelude.{◌≡◌, ℕ, ◌≤◌, Bool, true, List, length, All, Vec, slice_index, refl}
 use Rattle.std.proofs.Common.{◌∙◌, ap, sym, subst}
 use Rattle.std.proofs.lemmas.List.{length-map}
 use Rattle.std.specs.declared.alloc.Global.{Global}
+use Rattle.limits.specs.Limits.{greatest_position_count}
 use Rattle.numbers.specs.Arithmetic.{Arithmetic}
 use Rattle.numbers.specs.Ring.{ring}
 use Rattle.outside.specs.Folder.{FolderState}
+use Rattle.tensor_map.specs.Coords.{IsShape}
 use Rattle.tensor_map.specs.Entries.{AreEntries, Entries}
 use Rattle.index_notation.specs.declared.syntax.Statement.{Statement}
+use Rattle.index_notation.specs.Statement.{IsNumbered}
 use Rattle.expr_terms.specs.declared.bound.Bound.{Bound}
 use Rattle.bindings.specs.Tables.{path_to}
 use Rattle.mtx_io.specs.Progress.{IsMatrixOrder}
 use Rattle.kernel_runs.specs.Runs.{IsRun, IsTensorOf}
+use Rattle.kernel_runs.proofs.Shapes.{ranges_shape}
 use Rattle.result_files.specs.EntriesText.{MayBeWritten}
 use Rattle.result_files.specs.ResultText.{asks_matrix}
 use Rattle.taco_top.specs.Asked.{needs_files}
@@ -25,10 +29,11 @@ use Rattle.taco_top.proofs.Paths.{result_is_matrix}
 
 -- the entries of a statement's result may be written, as a matrix where its order is that of one
 may_be_written : (a : Arithmetic) (s : Statement) (operands : List Entries) (ranges : ℕ → ℕ) (shape : List ℕ) (entries : Entries)
-    → AreEntries entries → IsTensorOf a s operands ranges shape entries → (is_matrix : Bool)
+    → AreEntries entries → IsShape shape → IsTensorOf a s operands ranges shape entries → (is_matrix : Bool)
     → (is_matrix ≡ true → IsMatrixOrder (length s.left.vars)) → MayBeWritten is_matrix shape entries
-may_be_written a s operands ranges shape entries are t is_matrix order = record {
+may_be_written a s operands ranges shape entries are is_shape t is_matrix order = record {
   are = are;
+  shape = is_shape;
   order_is = t.order_is;
   below = t.below;
   increasing = t.increasing;
@@ -41,9 +46,12 @@ pub prepared : (words : List (List ℕ)) (old new : FolderState) (r : Request) (
     → IsKernelOf r kept.compiled.order kept.compiled.kernel
     → IsRun ring r.statement r.formats kept.compiled.kernel r.given entries bounds kept.result.shape kept.result.entries
     kept.result.tensor kept.result.turns
-    → AreEntries kept.result.entries → IsPrepared words r.task old new kept
-prepared words old new r kept entries bounds path_is statement_is formats_are operands is_kernel run are =
+    → AreEntries kept.result.entries → IsNumbered r.statement → IsPrepared words r.task old new kept
+prepared words old new r kept entries bounds path_is statement_is formats_are operands is_kernel run are numbered =
     let named = well_named words r operands.accepted.asks in
+    let small = subst (All (λ range. range ≤ greatest_position_count)) run.is_store.ranges_are run.is_store.is_store.small in
+    let is_shape = subst IsShape (sym run.tensor_of.shape_is)
+    (ranges_shape run.ranges r.statement.left.vars numbered.left.order small) in
     record {
       values = record {
         request = r;
@@ -75,7 +83,7 @@ prepared words old new r kept entries bounds path_is statement_is formats_are op
       turns_are = refl;
       tensor = run.tensor_of;
       written = subst (λ p. MayBeWritten (asks_matrix p) kept.result.shape kept.result.entries) (sym path_is)
-          (may_be_written ring r.statement entries (slice_index run.ranges) kept.result.shape kept.result.entries are run.tensor_of
+          (may_be_written ring r.statement entries (slice_index run.ranges) kept.result.shape kept.result.entries are is_shape run.tensor_of
           (asks_matrix (path_of r.files 0)) (λ matrix. result_is_matrix r.statement operands.accepted.asks.rest (needs_files r.task)
           r.formats r.files r.given operands.accepted.asks.binds named.result matrix));
       finished = run.runs.has_run.done;

@@ -28,7 +28,7 @@ returns-in-Ok-run_kernel-clause-computed g c = λ words accepted.
     c.as_slice-2.ensures.value c.in-Ok.operands.entries.items c.in-Ok.operands.bounds.items c.args.accepted.compiled.kernel
     c.in-Ok-run_kernel.result.shape c.in-Ok-run_kernel.result.entries c.in-Ok-run_kernel.result.tensor
     c.in-Ok-run_kernel.result.turns c.in-Ok-run_kernel.ensures.run)
-    c.in-Ok-run_kernel.ensures.entries
+    c.in-Ok-run_kernel.ensures.entries c.requires.numbered
 
 pub returns-clause-stops : goal.returns-clause-stops
 returns-clause-stops g c = λ words accepted.
