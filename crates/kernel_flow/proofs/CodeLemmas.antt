@@ -1,8 +1,8 @@
 -- Lemmas about code that passes: what does the same in place of other code where facts hold.
-use Rattle.std.specs.Prelude.{◌≡◌, ◌≢◌, ℕ, zero, suc, ◌+◌, ◌<◌, Bool, true, false, nat_lt, ◌==◌, if◌then◌else◌, List, [], ◌∷◌, ◌++◌, Option, Some, None, Result, Ok, Err, IfOk}
+use Rattle.std.specs.Prelude.{◌≡◌, ℕ, zero, suc, ◌+◌, ◌<◌, Bool, true, false, nat_lt, ◌==◌, if◌then◌else◌, List, [], ◌∷◌, ◌++◌, Option, Some, None, Result, Ok, Err, IfOk}
 use Rattle.std.specs.declared.alloc.AllocError.{AllocError}
-use Rattle.std.specs.Prelude.{length, map, slice_get, slice_index, slice_set, replicate, refl}
-use Rattle.std.proofs.Common.{◌∙◌, ap, sym, subst, take, get_or, append_assoc, append-nil, arith}
+use Rattle.std.specs.Prelude.{length, slice_get, slice_set, replicate, refl}
+use Rattle.std.proofs.Common.{◌∙◌, ap, sym, subst, take, get_or, arith}
 use Rattle.std.proofs.lemmas.List.{take_more}
 use Rattle.numbers.specs.Arithmetic.{Arithmetic}
 use Rattle.kernel_code.specs.declared.syntax.Arr.{Arr}
@@ -15,21 +15,20 @@ use Rattle.kernel_code.specs.declared.syntax.KStmt.{KStmt, Set, Combine, Put, Ad
 use Rattle.kernel_code.specs.Arrays.{same_arr, may_write, may_have, told_count}
 use Rattle.kernel_code.specs.Rows.{Row}
 use Rattle.kernel_code.specs.Meaning.{Setting, State, Outcome, Ended, Stuck, Over, More, value, apply_each, combined, one_turn, then_run}
-use Rattle.kernel_code.specs.Meaning.{behind, statements_in, choice, run_turns, run, run_list, set_outcome, put_outcome, add_outcome, push_outcome, extend_outcome}
+use Rattle.kernel_code.specs.Meaning.{behind, statements_in, choice, run_turns, run, add_outcome, push_outcome, extend_outcome}
 use Rattle.kernel_code.specs.Meaning.{cut_outcome, sort_outcome, sort_sum_outcome, summed, set_columns, key_columns, with_value, with_array}
-use Rattle.kernel_code.specs.Meaning.{if_written, changed, grown, set_var, set_array}
+use Rattle.kernel_code.specs.Meaning.{if_written, changed, set_var, set_array}
 use Rattle.kernel_code.proofs.ArrayNames.{same_arr_is}
 use Rattle.kernel_code.proofs.Keeps.{other_array, other_var, value_kept}
 use Rattle.kernel_flow.specs.declared.facts.Fact.{Fact}
 use Rattle.kernel_flow.specs.Facts.{AllHold, Known, Gives, Survives, Becomes, Learns, WhereZero, WhereNot}
 use Rattle.kernel_flow.specs.Refines.{IsGood, KnownAfter, Passes, PassesTurn, Refines, plain}
-use Rattle.kernel_flow.specs.Steady.{IsReadOnly, HasWords}
 use Rattle.kernel_flow.proofs.ExprLemmas.{each_settle}
 use Rattle.simplifier.specs.Folded.{number_of}
 use Rattle.simplifier.proofs.ExprLemmas.{number_is}
 use Rattle.simplifier.proofs.Unnumbered.{plain_append, plain_if, plain_while}
 use Rattle.simplifier.specs.Same.{unnumbered}
-use Rattle.kernel_flow.proofs.FactLemmas.{kept_where, known_kept, words_kept}
+use Rattle.kernel_flow.proofs.FactLemmas.{known_kept, words_kept}
 
 -- a statement by itself
 abbrev once : Setting → ℕ → KStmt → State → Outcome

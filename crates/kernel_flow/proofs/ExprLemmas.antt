@@ -1,23 +1,22 @@
 -- Lemmas about expressions: what they are written as where facts hold.
-use Rattle.std.specs.Prelude.{◌≡◌, ◌≢◌, ℕ, zero, suc, ◌+◌, ◌*◌, ◌%◌, ◌^◌, ◌<◌, ◌≤◌, min, Bool, true, false, not, IsTrue, nat_lt, ◌==◌, ◌&&◌, ◌||◌}
-use Rattle.std.specs.Prelude.{List, length, slice_get, Option, Some, None, Result, Ok, Err, IfOk, OnOk, refl}
+use Rattle.std.specs.Prelude.{◌≡◌, ℕ, zero, suc, ◌+◌, ◌*◌, ◌^◌, ◌<◌, min, Bool, true, false, not, IsTrue, nat_lt, ◌==◌, ◌&&◌, ◌||◌}
+use Rattle.std.specs.Prelude.{List, length, slice_get, Option, Some, None, Result, Ok, Err, IfOk, refl}
 use Rattle.std.specs.declared.alloc.AllocError.{AllocError}
 use Rattle.std.proofs.lemmas.Nat.{mod_below}
 use Rattle.std.proofs.Common.{lit<, ◌-◌, ◌∙◌, ap, sym, subst, get_or, arith}
-use Rattle.std.proofs.lemmas.Bool.Decides.{nat_tests}
 use Rattle.lists.proofs.Tests.{number_same}
 use Rattle.numbers.proofs.WordLaws.{word_sum_is, word_product_is}
 use Rattle.kernel_code.specs.declared.syntax.Arr.{Arr}
 use Rattle.kernel_code.specs.declared.syntax.Arr.TheVariants.{Range}
 use Rattle.kernel_code.specs.declared.syntax.Op.{Op}
 use Rattle.kernel_code.specs.declared.syntax.Op.TheVariants.{Add, Sub, Mul, BitAnd, Less, Equal, NotEqual, And, Or}
-use Rattle.kernel_code.specs.declared.syntax.KExpr.{KExpr, Num, Var, At, Bin, Min}
+use Rattle.kernel_code.specs.declared.syntax.KExpr.{KExpr, Num, At, Bin, Min}
 use Rattle.kernel_code.specs.Keeps.{Mentions}
-use Rattle.kernel_code.specs.Meaning.{State, value, word_at, word_of, apply, apply_each, apply_both}
+use Rattle.kernel_code.specs.Meaning.{value, word_at, word_of, apply_each, apply_both}
 use Rattle.kernel_code.proofs.Equations.{value_at, value_bin, value_min}
 use Rattle.simplifier.specs.Same.{SameValue}
 use Rattle.kernel_flow.specs.declared.facts.Fact.{Fact}
-use Rattle.kernel_flow.specs.Facts.{Known, Becomes, IsWord, gives_word}
+use Rattle.kernel_flow.specs.Facts.{Becomes, IsWord, gives_word}
 use Rattle.numbers.specs.Ring.{word_sum, word_difference, word_product}
 use Rattle.kernel_flow.specs.Steady.{IsReadOnly}
 use Rattle.kernel_flow.proofs.FactLemmas.{at_place}

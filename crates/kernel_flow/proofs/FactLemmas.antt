@@ -1,8 +1,8 @@
 -- Lemmas about facts.
-use Rattle.std.specs.Prelude.{◌≡◌, ◌≢◌, ℕ, zero, suc, ◌+◌, ◌<◌, ◌^◌, Bool, true, false, not, List, [], ◌∷◌, ◌++◌, Option, Some, None, length, refl}
-use Rattle.std.specs.Prelude.{Result, Ok, Err, IfOk, OnOk}
+use Rattle.std.specs.Prelude.{◌≡◌, ◌≢◌, ℕ, zero, suc, ◌+◌, ◌<◌, Bool, true, false, not, List, [], ◌∷◌, ◌++◌, Some, length, refl}
+use Rattle.std.specs.Prelude.{Result, Ok, Err, OnOk}
 use Rattle.std.specs.declared.alloc.AllocError.{AllocError}
-use Rattle.std.proofs.Common.{◌∙◌, ap, sym, subst, take, get_or, append-nil, arith}
+use Rattle.std.proofs.Common.{◌∙◌, ap, sym, subst, take, get_or, arith}
 use Rattle.std.proofs.lemmas.List.{take_more}
 use Rattle.kernel_code.specs.declared.syntax.Arr.{Arr}
 use Rattle.kernel_code.specs.declared.syntax.Arr.TheVariants.{Range}
@@ -11,7 +11,7 @@ use Rattle.kernel_code.specs.Keeps.{Mentions}
 use Rattle.kernel_code.specs.Meaning.{State, value, set_var}
 use Rattle.kernel_code.proofs.Keeps.{mentions_more, value_kept, this_var, other_var}
 use Rattle.kernel_flow.specs.declared.facts.Fact.{Fact}
-use Rattle.kernel_flow.specs.Facts.{Holds, AllHold, Known, Gives, Survives, Becomes, AfterSet, Learns}
+use Rattle.kernel_flow.specs.Facts.{Holds, AllHold, Known, Gives, Survives, AfterSet}
 use Rattle.kernel_flow.specs.Steady.{AnyVariable, IsReadOnly, HasWords}
 
 -- facts one behind another

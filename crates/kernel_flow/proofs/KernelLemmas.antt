@@ -1,18 +1,17 @@
 -- Lemmas about whole kernels.
-use Rattle.std.specs.Prelude.{◌≡◌, ℕ, ◌+◌, ◌≤◌, Bool, true, false, nat_le, if◌then◌else◌, List, Option, refl}
+use Rattle.std.specs.Prelude.{◌≡◌, ℕ, ◌+◌, ◌≤◌, if◌then◌else◌, List, Option, refl}
 use Rattle.std.proofs.Common.{◌∙◌, ap, sym, subst, arith}
 use Rattle.numbers.specs.Arithmetic.{Arithmetic}
 use Rattle.lists.proofs.Tests.{test_within}
 use Rattle.kernel_code.specs.declared.syntax.Arr.{Arr}
 use Rattle.kernel_code.specs.declared.syntax.Kernel.{Kernel}
 use Rattle.kernel_code.specs.declared.syntax.KStmt.{KStmt}
-use Rattle.kernel_code.specs.Kernels.{KernelOutcome, GotStuck, go, start_state, told, within, all_turns}
+use Rattle.kernel_code.specs.Kernels.{GotStuck, start_state, told, within, all_turns}
 use Rattle.kernel_code.specs.Meaning.{Setting, Outcome, Ended, Stuck, Over, More, run_list}
 use Rattle.kernel_code.specs.More.{Settled}
 use Rattle.kernel_code.proofs.More.{list_more}
 use Rattle.simplifier.specs.Same.{unnumbered}
 use Rattle.kernel_flow.specs.Refines.{IsGood, IsNeverStuck, Refines, RefinesKernel}
-use Rattle.kernel_flow.specs.Steady.{HasWords}
 
 -- a run that is stuck is told so within as many turns as it made
 stuck_told : (order n : ℕ) (t : _) (statement : ℕ) → all_turns t ≤ n → told order (within n (Stuck t statement)) ≡ GotStuck statement

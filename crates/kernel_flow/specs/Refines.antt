@@ -6,8 +6,7 @@ use Rattle.kernel_code.specs.declared.syntax.Kernel.{Kernel}
 use Rattle.kernel_code.specs.Kernels.{GotStuck, go, start_state}
 use Rattle.kernel_code.specs.declared.syntax.KExpr.{KExpr}
 use Rattle.kernel_code.specs.declared.syntax.KStmt.{KStmt}
-use Rattle.kernel_code.specs.declared.syntax.LoopKind.{LoopKind}
-use Rattle.kernel_code.specs.Meaning.{Setting, State, Outcome, Ended, Stuck, Over, More, value, one_turn, run_list}
+use Rattle.kernel_code.specs.Meaning.{Setting, State, Outcome, Ended, Stuck, Over, More, value, run_list}
 use Rattle.simplifier.specs.Same.{unnumbered}
 use Rattle.kernel_flow.specs.declared.facts.Fact.{Fact}
 use Rattle.kernel_flow.specs.Facts.{Known, Becomes}
