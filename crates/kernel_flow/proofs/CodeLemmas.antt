@@ -1,5 +1,6 @@
 -- Lemmas about code that passes: what does the same in place of other code where facts hold.
-use Rattle.std.specs.Prelude.{◌≡◌, ℕ, zero, suc, ◌+◌, ◌<◌, Bool, true, false, nat_lt, ◌==◌, if◌then◌else◌, List, [], ◌∷◌, ◌++◌, Option, Some, None, Result, Ok, Err, IfOk}
+use Rattle.std.specs.Prelude.{◌≡◌, ℕ, zero, suc, ◌+◌, ◌<◌, Bool, true, false, nat_lt, ◌==◌, if◌then◌else◌}
+use Rattle.std.specs.Prelude.{List, [], ◌∷◌, ◌++◌, Option, Some, None, Result, Ok, Err, IfOk}
 use Rattle.std.specs.declared.alloc.AllocError.{AllocError}
 use Rattle.std.specs.Prelude.{length, slice_get, slice_set, replicate, refl}
 use Rattle.std.proofs.Common.{◌∙◌, ap, sym, subst, take, get_or, arith}
@@ -9,7 +10,8 @@ use Rattle.kernel_code.specs.declared.syntax.Arr.{Arr}
 use Rattle.kernel_code.specs.declared.syntax.Arr.TheVariants.{Key, Sums, ListCoordinates, ListPositions}
 use Rattle.kernel_code.specs.declared.syntax.LoopKind.{LoopKind}
 use Rattle.kernel_code.specs.declared.syntax.ValueOp.{ValueOp}
-use Rattle.kernel_code.specs.declared.syntax.KExpr.{KExpr, Num, Var, At', Len, Bin', Min', Width', Row_of-KExpr, end_of-KExpr, more_of-KExpr}
+use Rattle.kernel_code.specs.declared.syntax.KExpr.{KExpr, Num, Var, At', Len, Bin', Min', Width'}
+use Rattle.kernel_code.specs.declared.syntax.KExpr.{Row_of-KExpr, end_of-KExpr, more_of-KExpr}
 use Rattle.kernel_code.specs.Keeps.{Mentions, Mentions_in}
 use Rattle.kernel_code.specs.declared.syntax.KStmt.{KStmt, Set, Combine, Put, AddTo, Push, Extend, Cut, Sort, SortSum, If, While}
 use Rattle.kernel_code.specs.Arrays.{same_arr, may_write, may_have, told_count}
@@ -169,7 +171,8 @@ pub pass_combine : (F G : List Fact) (x : ℕ) (o : ValueOp) (e f d g : KExpr) (
     → Survives x F G → new ≡ Combine x o d g ∷ [] → Passes F (Combine x o e f ∷ []) new G
 pass_combine F G x o e f d g new b p l is = passes_alike F G (Combine x o e f) (Combine x o d g) new is (record {
   same = λ c n s k good.
-      with_as s (apply_each (combined c.arithmetic o) (value e s) (value f s)) (apply_each (combined c.arithmetic o) (value d s) (value g s))
+      with_as s (apply_each (combined c.arithmetic o) (value e s) (value f s))
+      (apply_each (combined c.arithmetic o) (value d s) (value g s))
       (λ v. Ended (set_var s x v)) (λ v. Ended (set_var s x v))
       (λ v h. each_settle (combined c.arithmetic o) (value e s) (value f s) (value d s) (value g s) v (λ n m. b.at s n k m)
       (λ n m. p.at s n k m) h) good (λ v g. refl);
@@ -323,7 +326,8 @@ choice_as : (s : State) (p q : Option ℕ) (first second one other : Outcome) �
     → (p ≡ Some 0 → IsGood second → other ≡ second) → choice s q one other ≡ choice s p first second
 choice_as s None q first second one other h good there elsewhere = absurd good
 choice_as s (Some zero) q first second one other h good there elsewhere = ap (λ x. choice s x one other) (h 0 refl) ∙ elsewhere refl good
-choice_as s (Some (suc v)) q first second one other h good there elsewhere = ap (λ x. choice s x one other) (h (suc v) refl) ∙ there v refl good
+choice_as s (Some (suc v)) q first second one other h good there elsewhere =
+    ap (λ x. choice s x one other) (h (suc v) refl) ∙ there v refl good
 
 choice_known : (G : List Fact) (s : State) (p : Option ℕ) (first second : Outcome) → ((v : ℕ) → p ≡ Some (suc v) → KnownAfter G first)
     → (p ≡ Some 0 → KnownAfter G second) → KnownAfter G (choice s p first second)
@@ -334,7 +338,8 @@ choice_known G s (Some (suc v)) first second there elsewhere = there v refl
 pub pass_choice : (F A B G H K : List Fact) (e d : KExpr) (first second one other new : List KStmt) → Becomes F e d → WhereNot F e A
     → WhereZero F e B → Passes A first one G → Passes B second other H → Gives G K → Gives H K → new ≡ If d one other ∷ []
     → Passes F (If e first second ∷ []) new K
-pass_choice F A B G H K e d first second one other new b there elsewhere p q g h is = passes_step F K (If e first second) (If d one other) new is
+pass_choice F A B G H K e d first second one other new b there elsewhere p q g h is =
+    passes_step F K (If e first second) (If d one other) new is
     (record {
       same = λ c n s k good.
           plain_if c n d one other s
@@ -347,7 +352,8 @@ pass_choice F A B G H K e d first second one other new b there elsewhere p q g h
           known_now K _ _ (plain_if c n e first second s)
           (choice_known K s (value e s) (plain c n first s) (plain c n second s)
           (λ v is. after_gives G K (plain c n first s) g (p.known c n s (record { words = k.words; all = there.at s v k.words k.all is })))
-          (λ is. after_gives H K (plain c n second s) h (q.known c n s (record { words = k.words; all = elsewhere.at s k.words k.all is }))));
+          (λ is.
+          after_gives H K (plain c n second s) h (q.known c n s (record { words = k.words; all = elsewhere.at s k.words k.all is }))));
     })
 
 -- a choice whose test is known
@@ -413,12 +419,14 @@ turn_kept e s k = value_kept (λ y. Unit {0}) (λ a. Unit {0}) e s (one_turn s k
 turn_known : (F : List Fact) (s : State) (k : LoopKind) → Known F s → Known F (one_turn s k)
 turn_known F s k h = known_kept F s (one_turn s k) (λ y. refl) (λ a r. refl) h
 
-turns_as : (F G K : List Fact) (n j : ℕ) (c : Setting) (k : LoopKind) (e d : KExpr) (body turned : List KStmt) → PassesTurn F e body d turned G
+turns_as : (F G K : List Fact) (n j : ℕ) (c : Setting) (k : LoopKind) (e d : KExpr) (body turned : List KStmt)
+    → PassesTurn F e body d turned G
     → Gives G F → (s : State) → Known F s → IsGood (run_turns j k (value e) (plain c n body) s)
     → ((s : State) → value e (one_turn s k) ≡ value e s)
     → run_turns j k (value d) (plain c n turned) s ≡ run_turns j k (value e) (plain c n body) s
 turns_as F G K n zero c k e d body turned p g s known good kept =
-    choice_as s (value e s) (value d s) More (Ended s) More (Ended s) (λ v h. p.becomes.at s v known h) good (λ v is good. refl) (λ is good. refl)
+    choice_as s (value e s) (value d s) More (Ended s) More (Ended s) (λ v h. p.becomes.at s v known h) good (λ v is good. refl)
+    (λ is good. refl)
 turns_as F G K n (suc j) c k e d body turned p g s known good kept =
     let again = run_turns j k (value e) (plain c n body) in
     let anew = run_turns j k (value d) (plain c n turned) in

@@ -228,12 +228,14 @@ becomes_second fs a b is w = record {
       (ap (λ e. apply_both Add (value e s) (value b s)) (sym is) ∙ sym (value_bin Add a b s) ∙ h);
 }
 
-min_first : (x : Option ℕ) (v : ℕ) → ((k : ℕ) → x ≡ Some k → k < 2 ^ 64) → apply_each min x (Some 18446744073709551615) ≡ Some v → x ≡ Some v
+min_first : (x : Option ℕ) (v : ℕ) → ((k : ℕ) → x ≡ Some k → k < 2 ^ 64) → apply_each min x (Some 18446744073709551615) ≡ Some v
+    → x ≡ Some v
 min_first None v w h = cc
 min_first (Some x) v w h = let small = w x refl in
     let is : min x 18446744073709551615 ≡ x = omega (arith, small) in ap Some (sym is) ∙ h
 
-min_second : (x : Option ℕ) (v : ℕ) → ((k : ℕ) → x ≡ Some k → k < 2 ^ 64) → apply_each min (Some 18446744073709551615) x ≡ Some v → x ≡ Some v
+min_second : (x : Option ℕ) (v : ℕ) → ((k : ℕ) → x ≡ Some k → k < 2 ^ 64) → apply_each min (Some 18446744073709551615) x ≡ Some v
+    → x ≡ Some v
 min_second None v w h = cc
 min_second (Some x) v w h = let small = w x refl in
     let is : min 18446744073709551615 x ≡ x = omega (arith, small) in ap Some (sym is) ∙ h

@@ -40,12 +40,6 @@ hold_apart : (fs gs : List Fact) (s : State) → AllHold (fs ++ gs) s → AllHol
 hold_apart [] gs s h = (tt, h)
 hold_apart (f ∷ fs) gs s h = let rest = hold_apart fs gs s h.1 in ((h.0, rest.0), rest.1)
 
-pub taken_next : (fs : List Fact) (i : ℕ) (f : Fact) (s : State) → i < length fs → f ≡ get_or fs i f → AllHold (take (i + 1) fs) s
-    → AllHold (take i fs) s × Holds f s
-taken_next fs i f s l is h =
-    let both = hold_apart (take i fs) (get_or fs i f ∷ []) s (subst (λ xs. AllHold xs s) (take_more fs i f l) h) in
-    (both.0, subst (λ x. Holds x s) (sym is) both.1.0)
-
 pub same_fact : (f g : Fact) (s : State) → g.left ≡ f.left → g.right ≡ f.right → Holds g s → Holds f s
 same_fact f g s l r h = record {
   same = ap (λ e. value e s) (sym l) ∙ h.same ∙ ap (λ e. value e s) r;
@@ -90,30 +84,21 @@ survives_one x f s s' vars arrays left right h = record {
 pub survive_none : (x : ℕ) (fs : List Fact) → Survives x fs []
 survive_none x fs = record { at = λ s s' vars arrays h. tt }
 
-pub survive_skip : (x i : ℕ) (fs gs : List Fact) (f : Fact) → i < length fs → f ≡ get_or fs i f → Survives x (take i fs) gs
-    → Survives x (take (i + 1) fs) gs
-survive_skip x i fs gs f l is h = record { at = λ s s' vars arrays all. h.at s s' vars arrays (taken_next fs i f s l is all).0 }
-
-pub survive_more : (x i : ℕ) (fs gs new : List Fact) (f g : Fact) → i < length fs → f ≡ get_or fs i f → Survives x (take i fs) gs
-    → Mentions (λ y. x ≢ y) IsReadOnly f.left → Mentions (λ y. x ≢ y) IsReadOnly f.right → g ≡ f → new ≡ gs ++ g ∷ []
-    → Survives x (take (i + 1) fs) new
-survive_more x i fs gs new f g l is h left right same now = record {
+-- one more fact that is passed, and is dropped or kept
+pub survive_skip : (x : ℕ) (fs gs new : List Fact) (f : Fact) → Survives x fs gs → new ≡ gs → Survives x (fs ++ f ∷ []) new
+survive_skip x fs gs new f h now = record {
   at = λ s s' vars arrays all.
-      let both = taken_next fs i f s l is all in
-      subst (λ xs. AllHold xs s') (sym now)
-      (one_more gs g s' (h.at s s' vars arrays both.0)
-      (subst (λ y. Holds y s') (sym same) (survives_one x f s s' vars arrays left right both.1)));
+      subst (λ xs. AllHold xs s') (sym now) (h.at s s' vars arrays (hold_apart fs (f ∷ []) s all).0);
 }
 
-pub survive_skip_now : (x i : ℕ) (fs gs new : List Fact) (f : Fact) → i < length fs → f ≡ get_or fs i f → Survives x (take i fs) gs → new ≡ gs
-    → Survives x (take (i + 1) fs) new
-survive_skip_now x i fs gs new f l is h now = subst (Survives x (take (i + 1) fs)) (sym now) (survive_skip x i fs gs f l is h)
-
-pub survive_more_now : (x i : ℕ) (fs gs new : List Fact) (f g : Fact) {after : List Fact} → i < length fs → f ≡ get_or fs i f
-    → Survives x (take i fs) gs → Mentions (λ y. x ≢ y) IsReadOnly f.left → Mentions (λ y. x ≢ y) IsReadOnly f.right → g ≡ f
-    → after ≡ gs ++ g ∷ [] → new ≡ after → Survives x (take (i + 1) fs) new
-survive_more_now x i fs gs new f g l is h left right same pushed now =
-    survive_more x i fs gs new f g l is h left right same (now ∙ pushed)
+pub survive_more : (x : ℕ) (fs gs new : List Fact) (f : Fact) → Survives x fs gs → Mentions (λ y. x ≢ y) IsReadOnly f.left
+    → Mentions (λ y. x ≢ y) IsReadOnly f.right → new ≡ gs ++ f ∷ [] → Survives x (fs ++ f ∷ []) new
+survive_more x fs gs new f h left right now = record {
+  at = λ s s' vars arrays all.
+      let both = hold_apart fs (f ∷ []) s all in
+      subst (λ xs. AllHold xs s') (sym now)
+      (one_more gs f s' (h.at s s' vars arrays both.0) (survives_one x f s s' vars arrays left right both.1.0));
+}
 
 pub gives_now : (fs gs new : List Fact) → Gives fs gs → new ≡ gs → Gives fs new
 gives_now fs gs new h is = subst (Gives fs) (sym is) h

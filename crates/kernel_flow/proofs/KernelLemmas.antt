@@ -62,6 +62,7 @@ plainly_good More h = h
 
 pub kernel_refines : (k : Kernel) (body : List KStmt) → Refines body k.body → RefinesKernel (record k { body = body }) k
 kernel_refines k body r = record {
+  semiring = refl;
   workspaces = refl;
   lists = refl;
   runs = λ arithmetic order given words never n.

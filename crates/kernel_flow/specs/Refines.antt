@@ -55,10 +55,11 @@ pub record Refines (new old : List KStmt) : Type 0 where
 abbrev pub IsNeverStuck : Arithmetic → ℕ → Kernel → (Arr → Option (List ℕ)) → Type 0
 IsNeverStuck arithmetic order k given = (n statement : ℕ) → go arithmetic order k given n ≡ GotStuck statement → ⊥
 
--- Two kernels have the same workspaces and scratch lists; and however values are added, on all arrays whose ranges are words and on
--- which the old one isn't stuck, within the same number of turns in all both end alike: they finish with the same arrays and as many
+-- Two kernels have the same semiring, workspaces and scratch lists; and however values are added, on all arrays whose ranges are words
+-- and on which the old one isn't stuck, within the same number of turns in all both end alike: they finish with the same arrays and as many
 -- turns of each kind, are refused a growth at the same place with the same count, or don't finish.
 pub record RefinesKernel (new old : Kernel) : Type 0 where
+  pub semiring : new.semiring ≡ old.semiring
   pub workspaces : new.workspaces ≡ old.workspaces
   pub lists : new.lists ≡ old.lists
   pub runs : (arithmetic : Arithmetic) (order : ℕ) (given : Arr → Option (List ℕ)) → HasWords (start_state old given)

@@ -108,14 +108,15 @@ fn is_kept(fact: &Fact, x: u64) -> bool
 }
 
 /// The facts that don't mention a variable. Refused only for want of memory.
-pub(crate) fn without(alloc: Global, facts: &[Fact], x: u64) -> Result<Items<Fact>, AllocError>
-    ensures { IfOk result (λ r. Survives x facts.now r) }
+pub(crate) fn without(alloc: Global, facts: Items<Fact>, x: u64) -> Result<Items<Fact>, AllocError>
+    ensures { IfOk result (λ r. Survives x facts r) }
 {
     let mut kept = Items::new(alloc);
-    for fact in facts {
-        if is_kept(fact, x) {
-            let copy = copy_fact(alloc, fact)?;
-            kept.push(copy)?;
+    for fact in facts.into_vec() {
+        if is_kept(&fact, x) {
+            kept.push(fact)?;
+        } else {
+            drop(fact);
         }
     }
     Ok(kept)

@@ -39,7 +39,7 @@ fn pass_set(
 {
     let now = rewrite(alloc, facts.as_slice(), e)?;
     let copies = may_copy(policy, x, &now);
-    let after = after_set(alloc, facts.as_slice(), x, e, &now, copies)?;
+    let after = after_set(alloc, facts, x, e, &now, copies)?;
     let code = one_statement(alloc, KStmt::Set(x, now))?;
     Ok(Passed { code, facts: after })
 }
@@ -56,7 +56,7 @@ fn pass_combine(
 {
     let e = rewrite(alloc, facts.as_slice(), e)?;
     let f = rewrite(alloc, facts.as_slice(), f)?;
-    let after = without(alloc, facts.as_slice(), x)?;
+    let after = without(alloc, facts, x)?;
     let code = one_statement(alloc, KStmt::Combine(x, op, e, f))?;
     Ok(Passed { code, facts: after })
 }

@@ -14,6 +14,7 @@ pub fn propagate(alloc: Global, kernel: Kernel) -> Result<Kernel, AllocError>
     ensures { IfOk result (λ k. RefinesKernel k kernel) }
 {
     let Kernel {
+        semiring,
         workspaces,
         lists,
         body,
@@ -21,6 +22,7 @@ pub fn propagate(alloc: Global, kernel: Kernel) -> Result<Kernel, AllocError>
     let policy = policy_of(alloc, body.as_slice())?;
     let passed = pass_code(alloc, body.as_slice(), Items::new(alloc), &policy)?;
     Ok(Kernel {
+        semiring,
         workspaces,
         lists,
         body: passed.code,

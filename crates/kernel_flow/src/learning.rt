@@ -188,16 +188,16 @@ fn add_word_if(alloc: Global, facts: &mut Items<Fact>, x: u64, word: bool) -> Re
 /// What is known once a variable is given the value of an expression that was written so and is written otherwise now.
 pub(crate) fn after_set(
     alloc: Global,
-    facts: &[Fact],
+    facts: Items<Fact>,
     x: u64,
     e: &KExpr,
     now: &KExpr,
     copies: bool,
 ) -> Result<Items<Fact>, AllocError>
-    requires { Becomes facts.now e.now now.now }
-    ensures { IfOk result (λ after. Learns facts.now x e.now after) }
+    requires { Becomes facts e.now now.now }
+    ensures { IfOk result (λ after. Learns facts x e.now after) }
 {
-    let word = is_word(alloc, facts, now)?;
+    let word = is_word(alloc, facts.as_slice(), now)?;
     let mut after = without(alloc, facts, x)?;
     let names = is_variable(e);
     let back = !is_steady(now, x);
