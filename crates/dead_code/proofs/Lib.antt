@@ -1,0 +1,4 @@
+pub mod Following
+pub mod LiveLemmas
+pub mod Statements
+pub mod Whole

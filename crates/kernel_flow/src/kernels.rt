@@ -1,0 +1,30 @@
+// Kernels.
+ghost use Rattle.std.specs.Prelude.{◌≡◌, IfOk};
+ghost use Rattle.kernel_flow.specs.Refines.{RefinesKernel};
+
+use crate::flow::pass_code;
+use crate::policy::policy_of;
+use kernel_code::Kernel;
+use std::alloc::{AllocError, Global};
+use trees::Items;
+
+/// A kernel that does the same wherever this one isn't stuck, in which is written what is known: numbers and copies of variables,
+/// and no choice whose test they settle. Refused only for want of memory.
+pub fn propagate(alloc: Global, kernel: Kernel) -> Result<Kernel, AllocError>
+    ensures { IfOk result (λ k. RefinesKernel k kernel) }
+{
+    let Kernel {
+        semiring,
+        workspaces,
+        lists,
+        body,
+    } = kernel;
+    let policy = policy_of(alloc, body.as_slice())?;
+    let passed = pass_code(alloc, body.as_slice(), Items::new(alloc), &policy)?;
+    Ok(Kernel {
+        semiring,
+        workspaces,
+        lists,
+        body: passed.code,
+    })
+}

@@ -1,0 +1,15 @@
+//! Code that does the same with what is known along it put in: constants, copies, and tests that are settled.
+//! `specs/Facts.antt` says what is known at a place, `specs/Refines.antt` when code does what other code does wherever that isn't stuck.
+#![tactic(auto)]
+
+mod exprs;
+mod facts;
+mod flow;
+mod guesses;
+mod kernels;
+mod learning;
+mod policy;
+mod rewriting;
+
+pub use exprs::same_expr;
+pub use kernels::propagate;
