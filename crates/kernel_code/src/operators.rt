@@ -6,6 +6,7 @@ use crate::syntax::Op;
 
 /// The operator of two words.
 #[tactic(auto, unfolding(numbers::specs::Ring::word_sum, numbers::specs::Ring::word_difference, numbers::specs::Ring::word_product))]
+#[inline(always)]
 pub fn apply_to_words(op: Op, x: u64, y: u64) -> u64
     ensures { result ≡ apply op x y }
 {
