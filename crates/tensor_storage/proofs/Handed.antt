@@ -22,23 +22,15 @@ use Rattle.tensor_storage.specs.declared.level.StorageLevel.TheVariants.{Dense a
 use Rattle.tensor_storage.specs.declared.level.StorageLevel.TheVariants.{Singleton as OfSingleton, Hashed as OfHashed}
 use Rattle.tensor_storage.specs.declared.level.StorageLevel.{StorageLevel}
 use Rattle.tensor_storage.specs.Handed.{LevelWords, IsHandedOver, HasSlots, AreAlike}
-use Rattle.tensor_storage.specs.Laws.{family}
+use Rattle.tensor_storage.specs.Laws.{compressed_only, singleton_only, IsOfVariant, of_letter}
 use Rattle.tensor_storage.specs.Levels.{meaning}
+use Rattle.tensor_storage.proofs.EachKind.{each_gives}
 use Rattle.tensor_storage.proofs.Alike.{alike_same, alike_summed, alike_single}
 
 -- arrays that hold a level have its words
 pub held_words : (l : StorageLevel) (tensor level : ℕ) (arrays : Arrays) → meaning.holds l tensor level arrays
     → (array : LevelArray) (words : List ℕ) → meaning.words l array ≡ Some words → arrays (array_of array tensor level) ≡ Some words
-held_words (OfDense n) tensor level arrays held OfSize words is = held ∙ is
-held_words (OfDense n) tensor level arrays held OfEnds words is = absurd (cc)
-held_words (OfDense n) tensor level arrays held OfWidth words is = absurd (cc)
-held_words (OfDense n) tensor level arrays held OfCoordinates words is = absurd (cc)
-held_words (OfCompressed l) tensor level arrays held array words is = compressed_laws.held_words l tensor level arrays held array words is
-held_words (OfSingleton l) tensor level arrays held array words is = singleton_laws.held_words l tensor level arrays held array words is
-held_words (OfHashed l) tensor level arrays held OfSize words is = absurd (cc)
-held_words (OfHashed l) tensor level arrays held OfEnds words is = absurd (cc)
-held_words (OfHashed l) tensor level arrays held OfWidth words is = held.width ∙ is
-held_words (OfHashed l) tensor level arrays held OfCoordinates words is = held.slots ∙ is
+held_words = each_gives _ (λ L wrap gives l. gives.held_words l)
 
 -- a prepared level has one word of width
 one_word : (width : Option ℕ) → (width ≡ None → ⊥) → width ≡ Some (slice_index_or (hashed.width_words width) 0 0)
@@ -69,27 +61,10 @@ module _ (size parents : ℕ) (words : LevelWords) (l : hashed.Hashed) (h : HasS
       (one_word l.width h.has_parents.prepared ∙ ap (λ ws. Some (slice_index_or ws 0 0)) h.width_is) width_there is in
       λ i. hashed.hashed (sym h.size_is i) (sym h.slots_are i) (sym word i) (sym h.has_parents.count i)
 
-summed_full : (unique : Bool) → (properties (compressed.letter_of unique)).full ≡ false
-summed_full true = refl
-summed_full false = refl
-
-single_full : (unique : Bool) → (properties (singleton.letter_of unique)).full ≡ false
-single_full true = refl
-single_full false = refl
-
-not_full : {A : Type 0} → false ≡ true → A
-not_full e = absurd (never e)
-  where
-    never : false ≡ true → ⊥
-    never k = cc
-
 -- a full level has each coordinate below each parent, within the limit
 pub full_positions : (l : StorageLevel) (parents : ℕ) → (properties (meaning.kind l)).full ≡ true → meaning.has_parents l parents
     → (meaning.positions l parents ≡ parents * meaning.size l) × (parents * meaning.size l ≤ greatest_position_count)
-full_positions (OfDense n) parents full has = (refl, has.positions)
-full_positions (OfCompressed l) parents full has = not_full (sym (summed_full l.unique) ∙ full)
-full_positions (OfSingleton l) parents full has = not_full (sym (single_full l.unique) ∙ full)
-full_positions (OfHashed l) parents full has = not_full full
+full_positions = each_gives _ (λ L wrap gives l. gives.full_positions l)
 
 summed_tells : (a b : Bool) → compressed.letter_of a ≡ compressed.letter_of b → a ≡ b
 summed_tells true true h = refl
@@ -102,14 +77,6 @@ single_tells true true h = refl
 single_tells true false h = absurd (cc)
 single_tells false true h = absurd (cc)
 single_tells false false h = refl
-
-summed_family : (unique : Bool) → family (compressed.letter_of unique) ≡ 1
-summed_family true = refl
-summed_family false = refl
-
-single_family : (unique : Bool) → family (singleton.letter_of unique) ≡ 2
-single_family true = refl
-single_family false = refl
 
 module _ (letter : Letter) (size parents : ℕ) (words : LevelWords) where
   -- the level that has the words, of the kind's own type
@@ -124,67 +91,65 @@ module _ (letter : Letter) (size parents : ℕ) (words : LevelWords) where
 
   pub summed_here : (unique : Bool) (l : StorageLevel) → letter ≡ compressed.letter_of unique → IsHandedOver letter size parents words l
       → (m : compressed.CompressedLevel) × (l ≡ OfCompressed m) × IsSummed unique m
-  summed_here unique (OfDense n) is h = let no : 0 ≡ 1 = ap family (h.kind ∙ is) ∙ summed_family unique in absurd (omega (arith, no))
-  summed_here unique (OfCompressed l) is h = (
-    l,
-    refl,
-    record {
-      size_is = h.size_is;
-      unique_is = summed_tells l.unique unique (h.kind ∙ is);
-      has_parents = h.has_parents;
-      ends = h.words_are.ends (compressed.ends_of l.log.stage l.log.counts) refl;
-      coords_are = h.words_are.coordinates l.log.coords refl;
-    },
-  )
-  summed_here unique (OfSingleton l) is h =
-      let no : 2 ≡ 1 = sym (single_family l.unique) ∙ ap family (h.kind ∙ is) ∙ summed_family unique in absurd (omega (arith, no))
-  summed_here unique (OfHashed l) is h = let no : 3 ≡ 1 = ap family (h.kind ∙ is) ∙ summed_family unique in absurd (omega (arith, no))
+  summed_here unique l is h = there (compressed_only unique l (h.kind ∙ is))
+    where
+      here : (k : compressed.CompressedLevel) → IsHandedOver letter size parents words (OfCompressed k) → IsSummed unique k
+      here k h = record {
+        size_is = h.size_is;
+        unique_is = summed_tells k.unique unique (h.kind ∙ is);
+        has_parents = h.has_parents;
+        ends = h.words_are.ends (compressed.ends_of k.log.stage k.log.counts) refl;
+        coords_are = h.words_are.coordinates k.log.coords refl;
+      }
+
+      there : (k : compressed.CompressedLevel) × (l ≡ OfCompressed k)
+          → (m : compressed.CompressedLevel) × (l ≡ OfCompressed m) × IsSummed unique m
+      there (k, same) = (k, same, here k (subst (IsHandedOver letter size parents words) same h))
 
   pub single_here : (unique : Bool) (l : StorageLevel) → letter ≡ singleton.letter_of unique → IsHandedOver letter size parents words l
       → (m : singleton.SingletonLevel) × (l ≡ OfSingleton m) × IsListed unique m
-  single_here unique (OfDense n) is h = let no : 0 ≡ 2 = ap family (h.kind ∙ is) ∙ single_family unique in absurd (omega (arith, no))
-  single_here unique (OfCompressed l) is h =
-      let no : 1 ≡ 2 = sym (summed_family l.unique) ∙ ap family (h.kind ∙ is) ∙ single_family unique in absurd (omega (arith, no))
-  single_here unique (OfSingleton l) is h = (
-    l,
-    refl,
-    record {
-      size_is = h.size_is;
-      unique_is = single_tells l.unique unique (h.kind ∙ is);
-      has_parents = h.has_parents;
-      coords_are = h.words_are.coordinates l.coords refl;
-    },
-  )
-  single_here unique (OfHashed l) is h = let no : 3 ≡ 2 = ap family (h.kind ∙ is) ∙ single_family unique in absurd (omega (arith, no))
+  single_here unique l is h = there (singleton_only unique l (h.kind ∙ is))
+    where
+      here : (k : singleton.SingletonLevel) → IsHandedOver letter size parents words (OfSingleton k) → IsListed unique k
+      here k h = record {
+        size_is = h.size_is;
+        unique_is = single_tells k.unique unique (h.kind ∙ is);
+        has_parents = h.has_parents;
+        coords_are = h.words_are.coordinates k.coords refl;
+      }
+
+      there : (k : singleton.SingletonLevel) × (l ≡ OfSingleton k)
+          → (m : singleton.SingletonLevel) × (l ≡ OfSingleton m) × IsListed unique m
+      there (k, same) = (k, same, here k (subst (IsHandedOver letter size parents words) same h))
 
   pub hashed_here : (l : StorageLevel) → letter ≡ Hashed → IsHandedOver letter size parents words l
       → (m : hashed.Hashed) × (l ≡ OfHashed m) × IsSlots m
-  hashed_here (OfDense n) is h = let no : 0 ≡ 3 = ap family (h.kind ∙ is) in absurd (omega (arith, no))
-  hashed_here (OfCompressed l) is h =
-      let no : 1 ≡ 3 = sym (summed_family l.unique) ∙ ap family (h.kind ∙ is) in absurd (omega (arith, no))
-  hashed_here (OfSingleton l) is h =
-      let no : 2 ≡ 3 = sym (single_family l.unique) ∙ ap family (h.kind ∙ is) in absurd (omega (arith, no))
-  hashed_here (OfHashed l) is h = (
-    l,
-    refl,
-    record {
-      size_is = h.size_is;
-      has_parents = h.has_parents;
-      width_is = h.words_are.width (hashed.width_words l.width) refl;
-      slots_are = h.words_are.coordinates l.slots refl;
-    },
-  )
+  hashed_here l is h = let of = of_letter l Hashed (h.kind ∙ is) in there (of.inner, of.is)
+    where
+      here : (k : hashed.Hashed) → IsHandedOver letter size parents words (OfHashed k) → IsSlots k
+      here k h = record {
+        size_is = h.size_is;
+        has_parents = h.has_parents;
+        width_is = h.words_are.width (hashed.width_words k.width) refl;
+        slots_are = h.words_are.coordinates k.slots refl;
+      }
+
+      there : (k : hashed.Hashed) × (l ≡ OfHashed k) → (m : hashed.Hashed) × (l ≡ OfHashed m) × IsSlots m
+      there (k, same) = (k, same, here k (subst (IsHandedOver letter size parents words) same h))
 
   -- the level that is made of them
   pub dense_alike : (made l : StorageLevel) → letter ≡ Dense → made ≡ OfDense size → IsHandedOver letter size parents words l
       → AreAlike l made
-  dense_alike made (OfDense n) is made_is h =
-      subst (AreAlike (OfDense n)) (ap OfDense h.size_is ∙ sym made_is) (alike_same (OfDense n) h.has_parents.size)
-  dense_alike made (OfCompressed l) is made_is h =
-      let no : 1 ≡ 0 = sym (summed_family l.unique) ∙ ap family (h.kind ∙ is) in absurd (omega (arith, no))
-  dense_alike made (OfSingleton l) is made_is h =
-      let no : 2 ≡ 0 = sym (single_family l.unique) ∙ ap family (h.kind ∙ is) in absurd (omega (arith, no))
-  dense_alike made (OfHashed l) is made_is h = let no : 3 ≡ 0 = ap family (h.kind ∙ is) in absurd (omega (arith, no))
+  dense_alike made l is made_is h = there (of.inner, of.is)
+    where
+      of : IsOfVariant Dense l
+      of = of_letter l Dense (h.kind ∙ is)
+
+      here : (n : ℕ) → IsHandedOver letter size parents words (OfDense n) → AreAlike (OfDense n) made
+      here n h = subst (AreAlike (OfDense n)) (ap OfDense h.size_is ∙ sym made_is) (alike_same (OfDense n) h.has_parents.size)
+
+      there : (n : ℕ) × (l ≡ OfDense n) → AreAlike l made
+      there (n, same) = subst (λ k. AreAlike k made) (sym same) (here n (subst (IsHandedOver letter size parents words) same h))
 
   pub summed_alike : (unique : Bool) (made l : StorageLevel) (spare : ℕ) → letter ≡ compressed.letter_of unique
       → made ≡ OfCompressed (compressed_words.summed size unique words.ends.items words.coordinates.items spare)

@@ -5,6 +5,7 @@ pub mod Arranging
 pub mod Chains
 pub mod Children
 pub mod Counts
+pub mod EachKind
 pub mod EntryOrderLaws
 pub mod EntrySame
 pub mod Few
@@ -21,6 +22,7 @@ pub mod OneKind
 pub mod PackSteps
 pub mod Paths
 pub mod RouteLaws
+pub mod Searches
 pub mod Sorting
 pub mod Standing
 pub mod Steps

@@ -1,6 +1,8 @@
--- What is true of the code of each level of one kind is true of that of each level of any kind that has the letter.
-use Rattle.std.specs.Prelude.{ℕ, Result, Ok, Err, List, IfOk}
+-- What is true of the levels of one kind, and of their code, is true of each level of any kind that has the letter.
+use Rattle.std.specs.Prelude.{◌≡◌, ℕ, Result, Ok, Err, List, IfOk}
+use Rattle.std.proofs.Common.{◌∙◌, sym, ap, subst}
 use Rattle.kernel_code.specs.declared.syntax.Arr.{Arr}
+use Rattle.kernel_code.specs.declared.syntax.KExpr.{KExpr}
 use Rattle.kernel_code.specs.declared.syntax.KStmt.{KStmt}
 use Rattle.kernel_code.specs.declared.syntax.LoopKind.{LoopKind}
 use Rattle.kernel_code.specs.Meaning.{Setting, State}
@@ -9,79 +11,78 @@ use Rattle.kernel_code.proofs.Does.{does_weaker}
 use Rattle.level_core.specs.Logs.{Log}
 use Rattle.level_core.specs.Fragments.{Writes, Grows, RefusedWithin}
 use Rattle.level_core.specs.Codes.{HoldsLog, HoldsPrepared, HoldsInserted}
-use Rattle.dense_level.specs.Dense as dense
-use Rattle.compressed_level.specs.Compressed as compressed
-use Rattle.singleton_level.specs.Singleton as singleton
-use Rattle.hashed_level.specs.Hashed as hashed
-use Rattle.tensor_storage.specs.declared.level.StorageLevel.TheVariants.{Dense as OfDense, Compressed as OfCompressed}
-use Rattle.tensor_storage.specs.declared.level.StorageLevel.TheVariants.{Singleton as OfSingleton, Hashed as OfHashed}
-use Rattle.tensor_storage.specs.Levels.{meaning}
+use Rattle.tensor_storage.specs.declared.kind.Call.TheVariants.{Segment, Coord, Child, Locate, Reserve, Append, Edges, Prepare, Insert}
+use Rattle.tensor_storage.specs.Calls.{Call, CallCode}
+use Rattle.tensor_storage.specs.Laws.{IsKind, wrapped}
+use Rattle.tensor_storage.specs.Levels.{StorageLevel, kind_of, meaning}
 
 pub ok_then : {A E : Type 0} {P Q : A → Type 0} (r : Result A E) → ((x : A) → P x → Q x) → IfOk r P → IfOk r Q
 ok_then (Ok x) f h = f x h
 ok_then (Err e) f h = h
 
 -- code that leaves more
-pub writes_then : {P Q : State → Type 0} (c : Setting) (code : List KStmt) (free tensor level : ℕ) (most : LoopKind → ℕ) (s : State)
+writes_then : {P Q : State → Type 0} (c : Setting) (code : List KStmt) (free tensor level : ℕ) (most : LoopKind → ℕ) (s : State)
     → ((t : State) → P t → Q t) → Writes c code free tensor level most s P → Writes c code free tensor level most s Q
 writes_then {P} {Q} c code free tensor level most s f h = does_weaker c code s _ _ Never Never h (λ t p. (p.0, f t p.1)) (λ t a n r. r)
 
-pub grows_then : {P Q : State → Type 0} {R : Arr → ℕ → Type 0} (c : Setting) (code : List KStmt) (free tensor level : ℕ)
+grows_then : {P Q : State → Type 0} {R : Arr → ℕ → Type 0} (c : Setting) (code : List KStmt) (free tensor level : ℕ)
     (most : LoopKind → ℕ) (s : State) → ((t : State) → P t → Q t) → Grows c code free tensor level most s P R
     → Grows c code free tensor level most s Q R
 grows_then {P} {Q} {R} c code free tensor level most s f h =
     does_weaker c code s _ _ (RefusedWithin most s R) (RefusedWithin most s R) h (λ t p. (p.0, f t p.1)) (λ t a n r. r)
 
-pub dense_log : (l : ℕ) (log : Log) (tensor level : ℕ) (s : State) → HoldsLog dense.meaning l log tensor level s
-    → HoldsLog meaning (OfDense l) log tensor level s
-dense_log l log tensor level s h =
-    record { left = OfDense h.left; keeps = h.keeps; kind = h.kind; size = h.size; log = h.log; held = h.held }
+-- what is true of each level of a kind is true of each level that has the letter of one
+pub of_one_kind : {L : Type 0} {wrap : L → StorageLevel} → IsKind wrap → (l : L) (P : StorageLevel → Type 0)
+    → ((k : L) → kind_of (wrap k) ≡ kind_of (wrap l) → P (wrap k)) → (m : StorageLevel) → kind_of m ≡ kind_of (wrap l) → P m
+of_one_kind {L} {wrap} kind l P each m same = there (kind.only l m same)
+  where
+    there : (k : L) × (m ≡ wrap k) → P m
+    there (k, is) = subst P (sym is) (each k (sym (ap kind_of is) ∙ same))
 
-pub compressed_log : (l : compressed.CompressedLevel) (log : Log) (tensor level : ℕ) (s : State)
-    → HoldsLog compressed.meaning l log tensor level s → HoldsLog meaning (OfCompressed l) log tensor level s
-compressed_log l log tensor level s h =
-    record { left = OfCompressed h.left; keeps = h.keeps; kind = h.kind; size = h.size; log = h.log; held = h.held }
+log_held : {L : Type 0} (wrap : L → StorageLevel) (l : L) (log : Log) (tensor level : ℕ) (s : State)
+    → HoldsLog (wrapped wrap) l log tensor level s → HoldsLog meaning (wrap l) log tensor level s
+log_held wrap l log tensor level s h =
+    record { left = wrap h.left; keeps = h.keeps; kind = h.kind; size = h.size; log = h.log; held = h.held }
 
-pub singleton_log : (l : singleton.SingletonLevel) (log : Log) (tensor level : ℕ) (s : State)
-    → HoldsLog singleton.meaning l log tensor level s → HoldsLog meaning (OfSingleton l) log tensor level s
-singleton_log l log tensor level s h =
-    record { left = OfSingleton h.left; keeps = h.keeps; kind = h.kind; size = h.size; log = h.log; held = h.held }
+prepared_held : {L : Type 0} (wrap : L → StorageLevel) (l : L) (parents most tensor level : ℕ) (s : State)
+    → HoldsPrepared (wrapped wrap) l parents most tensor level s → HoldsPrepared meaning (wrap l) parents most tensor level s
+prepared_held wrap l parents most tensor level s h =
+    record { left = wrap h.left; keeps = h.keeps; prepared = h.prepared; held = h.held }
 
-pub hashed_log : (l : hashed.Hashed) (log : Log) (tensor level : ℕ) (s : State) → HoldsLog hashed.meaning l log tensor level s
-    → HoldsLog meaning (OfHashed l) log tensor level s
-hashed_log l log tensor level s h =
-    record { left = OfHashed h.left; keeps = h.keeps; kind = h.kind; size = h.size; log = h.log; held = h.held }
+inserted_held : {L : Type 0} (wrap : L → StorageLevel) (l : L) (parent x tensor level free : ℕ) (s : State)
+    → HoldsInserted (wrapped wrap) l parent x tensor level free s → HoldsInserted meaning (wrap l) parent x tensor level free s
+inserted_held wrap l parent x tensor level free s h =
+    record { left = wrap h.left; slot = h.slot; keeps = h.keeps; inserted = h.inserted; held = h.held; answer = h.answer }
 
-pub dense_prepared : (l : ℕ) (parents most tensor level : ℕ) (s : State) → HoldsPrepared dense.meaning l parents most tensor level s
-    → HoldsPrepared meaning (OfDense l) parents most tensor level s
-dense_prepared l parents most tensor level s h = record { left = OfDense h.left; keeps = h.keeps; prepared = h.prepared; held = h.held }
+-- the code of a call of a level of a kind is the code of that call of the storage level
+module _ {L : Type 0} {wrap : L → StorageLevel} (kind : IsKind wrap) (l : L) (tensor level free : ℕ) (args : List KExpr)
+    (code : List KStmt) where
+  code_kind : (call : Call) → CallCode call (wrapped wrap) (kind_of (wrap l)) tensor level args free code
+      → CallCode call meaning (kind_of (wrap l)) tensor level args free code
+  code_kind Segment law = λ c. of_one_kind kind l _ (λ k same. law c k same)
+  code_kind Coord law = λ can c. of_one_kind kind l _ (λ k same. law can c k same)
+  code_kind Child law = λ c. of_one_kind kind l _ (λ k same. law c k same)
+  code_kind Locate law = λ can c. of_one_kind kind l _ (λ k same. law can c k same)
+  code_kind Reserve law = λ can c. of_one_kind kind l _
+      (λ k same keeps n parents may s held values. grows_then c code _ _ _ _ s (λ t p. (log_held wrap _ _ _ _ t p.0, p.1))
+      (law can c k same keeps n parents may s held values))
+  code_kind Append law = λ can c. of_one_kind kind l _
+      (λ k same keeps x may s held values. grows_then c code _ _ _ _ s (λ t p. (log_held wrap _ _ _ _ t p.0, p.1))
+      (law can c k same keeps x may s held values))
+  code_kind Edges law = λ can c. of_one_kind kind l _
+      (λ k same keeps parent begin end may s held values. writes_then c code _ _ _ _ s (λ t p. log_held wrap _ _ _ _ t p)
+      (law can c k same keeps parent begin end may s held values))
+  code_kind Prepare law = λ c. of_one_kind kind l _
+      (λ k same keeps parents most may enough s held values. grows_then c code _ _ _ _ s
+      (λ t p. (prepared_held wrap _ _ _ _ _ t p.0, p.1)) (law c k same keeps parents most may enough s held values))
+  code_kind Insert law = λ c. of_one_kind kind l _
+      (λ k same keeps parent x ok may s held values. writes_then c code _ _ _ _ s (λ t p. inserted_held wrap _ _ _ _ _ _ t p)
+      (law c k same keeps parent x ok may s held values))
 
-pub dense_inserted : (l : ℕ) (parent x tensor level free : ℕ) (s : State) → HoldsInserted dense.meaning l parent x tensor level free s
-    → HoldsInserted meaning (OfDense l) parent x tensor level free s
-dense_inserted l parent x tensor level free s h =
-    record { left = OfDense h.left; slot = h.slot; keeps = h.keeps; inserted = h.inserted; held = h.held; answer = h.answer }
-
-pub compressed_prepared : (l : compressed.CompressedLevel) (parents most tensor level : ℕ) (s : State)
-    → HoldsPrepared compressed.meaning l parents most tensor level s → HoldsPrepared meaning (OfCompressed l) parents most tensor level s
-compressed_prepared l parents most tensor level s h = absurd h.prepared
-
-pub compressed_inserted : (l : compressed.CompressedLevel) (parent x tensor level free : ℕ) (s : State)
-    → HoldsInserted compressed.meaning l parent x tensor level free s → HoldsInserted meaning (OfCompressed l) parent x tensor level free s
-compressed_inserted l parent x tensor level free s h = absurd h.inserted
-
-pub singleton_prepared : (l : singleton.SingletonLevel) (parents most tensor level : ℕ) (s : State)
-    → HoldsPrepared singleton.meaning l parents most tensor level s → HoldsPrepared meaning (OfSingleton l) parents most tensor level s
-singleton_prepared l parents most tensor level s h = absurd h.prepared
-
-pub singleton_inserted : (l : singleton.SingletonLevel) (parent x tensor level free : ℕ) (s : State)
-    → HoldsInserted singleton.meaning l parent x tensor level free s → HoldsInserted meaning (OfSingleton l) parent x tensor level free s
-singleton_inserted l parent x tensor level free s h = absurd h.inserted
-
-pub hashed_prepared : (l : hashed.Hashed) (parents most tensor level : ℕ) (s : State)
-    → HoldsPrepared hashed.meaning l parents most tensor level s → HoldsPrepared meaning (OfHashed l) parents most tensor level s
-hashed_prepared l parents most tensor level s h = record { left = OfHashed h.left; keeps = h.keeps; prepared = h.prepared; held = h.held }
-
-pub hashed_inserted : (l : hashed.Hashed) (parent x tensor level free : ℕ) (s : State)
-    → HoldsInserted hashed.meaning l parent x tensor level free s → HoldsInserted meaning (OfHashed l) parent x tensor level free s
-hashed_inserted l parent x tensor level free s h =
-    record { left = OfHashed h.left; slot = h.slot; keeps = h.keeps; inserted = h.inserted; held = h.held; answer = h.answer }
+pub code_told : {L : Type 0} {wrap : L → StorageLevel} → IsKind wrap → {self : StorageLevel} {l : L} → self ≡ wrap l → {E : Type 0}
+    (r : Result (List KStmt) E) (call : Call) (tensor level free : ℕ) (args : List KExpr)
+    → IfOk r (CallCode call (wrapped wrap) (kind_of (wrap l)) tensor level args free)
+    → IfOk r (CallCode call meaning (kind_of self) tensor level args free)
+code_told {L} {wrap} kind {self} {l} is r call tensor level free args h =
+    subst (λ m. IfOk r (CallCode call meaning (kind_of m) tensor level args free)) (sym is)
+    (ok_then r (λ code law. code_kind kind l tensor level free args code call law) h)

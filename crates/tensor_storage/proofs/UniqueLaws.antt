@@ -17,8 +17,6 @@ use Rattle.format_spec.specs.declared.format.FormatLevel.{FormatLevel}
 use Rattle.format_spec.specs.Formats.{letters_of, Chained}
 use Rattle.tensor_storage.specs.Built.{counts_of, AreBuilt}
 use Rattle.tensor_storage.specs.Chains.{chain_length}
-use Rattle.tensor_storage.specs.declared.level.StorageLevel.TheVariants.{Dense as OfDense, Compressed as OfCompressed}
-use Rattle.tensor_storage.specs.declared.level.StorageLevel.TheVariants.{Singleton as OfSingleton, Hashed as OfHashed}
 use Rattle.tensor_storage.specs.Levels.{StorageLevel, meaning}
 use Rattle.tensor_storage.specs.Laws.{laws as level_laws}
 use Rattle.tensor_storage.specs.Stands.{row_from, IsPacked}
@@ -26,6 +24,7 @@ use Rattle.tensor_storage.specs.Storages.{Storage, IsStorage}
 use Rattle.tensor_storage.specs.Tables.{Table}
 use Rattle.tensor_storage.specs.Unique.{AreHeldAlike, OneStands}
 use Rattle.tensor_storage.proofs.Chains.{chain_of_unique}
+use Rattle.tensor_storage.proofs.EachKind.{each_gives}
 use Rattle.tensor_storage.proofs.LevelSame.{levels_agree, places_same}
 use Rattle.tensor_storage.proofs.Standing.{rows_same}
 use Rattle.tensor_storage.proofs.Tables.{begins}
@@ -130,13 +129,7 @@ module _ {L : Type 0} (means : Meaning L) (laws : Laws means)
       )
 
 width_none : (l : StorageLevel) → (properties (meaning.kind l)).ordered ≡ true → meaning.width l ≡ None
-width_none (OfDense n) h = refl
-width_none (OfCompressed l) h = refl
-width_none (OfSingleton l) h = refl
-width_none (OfHashed l) h = absurd (never h)
-  where
-    never : false ≡ true → ⊥
-    never e = cc
+width_none = each_gives _ (λ L wrap gives l. gives.width_none l)
 
 -- a row at a place, if there is one
 placed_or_not : (count : ℕ) (place : ℕ → ℕ) (pos : ℕ)

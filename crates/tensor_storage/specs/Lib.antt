@@ -1,5 +1,6 @@
 pub mod Arranged
 pub mod Built
+pub mod Calls
 pub mod Chains
 pub mod Children
 pub mod Columns

@@ -1,4 +1,4 @@
-use crate::level::StorageLevel;
+use crate::level::{StorageLevel, of_each_appended};
 use level_core::Append;
 use std::alloc::AllocError;
 
@@ -8,34 +8,18 @@ impl Append for StorageLevel {
     ghost spare = { spare_of };
 
     fn reserve(&mut self, n: u64, parents: u64) -> Result<(), AllocError> {
-        match self {
-            StorageLevel::Compressed(it) => it.reserve(n, parents),
-            StorageLevel::Singleton(it) => it.reserve(n, parents),
-            StorageLevel::Dense(_) | StorageLevel::Hashed(_) => Ok(()),
-        }
+        of_each_appended!(self, it => it.reserve(n, parents), Ok(()))
     }
 
     fn append_coord(&mut self, x: u64) {
-        match self {
-            StorageLevel::Compressed(it) => it.append_coord(x),
-            StorageLevel::Singleton(it) => it.append_coord(x),
-            StorageLevel::Dense(_) | StorageLevel::Hashed(_) => {}
-        }
+        of_each_appended!(self, it => it.append_coord(x), {})
     }
 
     fn append_edges(&mut self, parent: u64, begin: u64, end: u64) {
-        match self {
-            StorageLevel::Compressed(it) => it.append_edges(parent, begin, end),
-            StorageLevel::Singleton(it) => it.append_edges(parent, begin, end),
-            StorageLevel::Dense(_) | StorageLevel::Hashed(_) => {}
-        }
+        of_each_appended!(self, it => it.append_edges(parent, begin, end), {})
     }
 
     fn finish(&mut self, parents: u64) {
-        match self {
-            StorageLevel::Compressed(it) => it.finish(parents),
-            StorageLevel::Singleton(it) => it.finish(parents),
-            StorageLevel::Dense(_) | StorageLevel::Hashed(_) => {}
-        }
+        of_each_appended!(self, it => it.finish(parents), {})
     }
 }

@@ -1,8 +1,70 @@
+//! The code of a level of any kind: that of its kind.
+ghost use Rattle.std.specs.Prelude.{IfOk};
+ghost use Rattle.level_core.specs.Meaning.{Meaning};
+ghost use Rattle.tensor_storage.specs.Calls.{MayAsk, CallCode};
+ghost use Rattle.tensor_storage.specs.Levels.{meaning as level_meaning};
+
 use crate::level::{StorageLevel, of_each_kind};
 use kernel_code::{KExpr, KStmt};
 use level_core::{Letter, LevelKind};
 use std::alloc::{AllocError, Global};
 use trees::Items;
+
+/// The calls of a level that have code.
+#[derive(Clone, Copy)]
+pub(crate) enum Call {
+    Segment,
+    Coord,
+    Child,
+    Locate,
+    Reserve,
+    Append,
+    Edges,
+    Prepare,
+    Insert,
+}
+
+/// The code of a call of a level of a kind.
+fn code_of<K: LevelKind>(
+    it: &K,
+    alloc: Global,
+    call: Call,
+    tensor: u64,
+    level: u64,
+    args: &[KExpr],
+    free: u64,
+) -> Result<Items<KStmt>, AllocError>
+    requires { MayAsk call tensor args.now free }
+    ensures { IfOk result (CallCode call K.meaning (K.meaning.kind it.now) tensor level args.now free) }
+{
+    match call {
+        Call::Segment => it.frag_segment(alloc, tensor, level, args, free),
+        Call::Coord => it.frag_coord(alloc, tensor, level, args, free),
+        Call::Child => it.frag_child(alloc, tensor, level, args, free),
+        Call::Locate => it.frag_locate(alloc, tensor, level, args, free),
+        Call::Reserve => it.frag_reserve(alloc, tensor, level, args, free),
+        Call::Append => it.frag_append(alloc, tensor, level, args, free),
+        Call::Edges => it.frag_edges(alloc, tensor, level, args, free),
+        Call::Prepare => it.frag_prepare(alloc, tensor, level, args, free),
+        Call::Insert => it.frag_insert(alloc, tensor, level, args, free),
+    }
+}
+
+/// The code of a call of a level, of whichever kind it is.
+fn code_in(
+    stored: &StorageLevel,
+    alloc: Global,
+    call: Call,
+    tensor: u64,
+    level: u64,
+    args: &[KExpr],
+    free: u64,
+) -> Result<Items<KStmt>, AllocError>
+    requires { MayAsk call tensor args.now free }
+    ensures { IfOk result (CallCode call level_meaning (level_meaning.kind stored.now) tensor level args.now free) }
+{
+    of_each_kind!(stored, it => code_of(it, alloc, call, tensor, level, args, free))
+}
 
 impl LevelKind for StorageLevel {
     ghost use Rattle.tensor_storage.specs.Levels as levels;
@@ -24,7 +86,7 @@ impl LevelKind for StorageLevel {
         args: &[KExpr],
         free: u64,
     ) -> Result<Items<KStmt>, AllocError> {
-        of_each_kind!(self, it => it.frag_segment(alloc, tensor, level, args, free))
+        code_in(self, alloc, Call::Segment, tensor, level, args, free)
     }
 
     fn frag_coord(
@@ -35,7 +97,7 @@ impl LevelKind for StorageLevel {
         args: &[KExpr],
         free: u64,
     ) -> Result<Items<KStmt>, AllocError> {
-        of_each_kind!(self, it => it.frag_coord(alloc, tensor, level, args, free))
+        code_in(self, alloc, Call::Coord, tensor, level, args, free)
     }
 
     fn frag_child(
@@ -46,7 +108,7 @@ impl LevelKind for StorageLevel {
         args: &[KExpr],
         free: u64,
     ) -> Result<Items<KStmt>, AllocError> {
-        of_each_kind!(self, it => it.frag_child(alloc, tensor, level, args, free))
+        code_in(self, alloc, Call::Child, tensor, level, args, free)
     }
 
     fn frag_locate(
@@ -57,7 +119,7 @@ impl LevelKind for StorageLevel {
         args: &[KExpr],
         free: u64,
     ) -> Result<Items<KStmt>, AllocError> {
-        of_each_kind!(self, it => it.frag_locate(alloc, tensor, level, args, free))
+        code_in(self, alloc, Call::Locate, tensor, level, args, free)
     }
 
     fn frag_reserve(
@@ -68,7 +130,7 @@ impl LevelKind for StorageLevel {
         args: &[KExpr],
         free: u64,
     ) -> Result<Items<KStmt>, AllocError> {
-        of_each_kind!(self, it => it.frag_reserve(alloc, tensor, level, args, free))
+        code_in(self, alloc, Call::Reserve, tensor, level, args, free)
     }
 
     fn frag_append(
@@ -79,7 +141,7 @@ impl LevelKind for StorageLevel {
         args: &[KExpr],
         free: u64,
     ) -> Result<Items<KStmt>, AllocError> {
-        of_each_kind!(self, it => it.frag_append(alloc, tensor, level, args, free))
+        code_in(self, alloc, Call::Append, tensor, level, args, free)
     }
 
     fn frag_edges(
@@ -90,7 +152,7 @@ impl LevelKind for StorageLevel {
         args: &[KExpr],
         free: u64,
     ) -> Result<Items<KStmt>, AllocError> {
-        of_each_kind!(self, it => it.frag_edges(alloc, tensor, level, args, free))
+        code_in(self, alloc, Call::Edges, tensor, level, args, free)
     }
 
     fn frag_prepare(
@@ -101,7 +163,7 @@ impl LevelKind for StorageLevel {
         args: &[KExpr],
         free: u64,
     ) -> Result<Items<KStmt>, AllocError> {
-        of_each_kind!(self, it => it.frag_prepare(alloc, tensor, level, args, free))
+        code_in(self, alloc, Call::Prepare, tensor, level, args, free)
     }
 
     fn frag_insert(
@@ -112,6 +174,6 @@ impl LevelKind for StorageLevel {
         args: &[KExpr],
         free: u64,
     ) -> Result<Items<KStmt>, AllocError> {
-        of_each_kind!(self, it => it.frag_insert(alloc, tensor, level, args, free))
+        code_in(self, alloc, Call::Insert, tensor, level, args, free)
     }
 }

@@ -1,4 +1,5 @@
-ghost use Rattle.std.specs.Prelude.{◌≡◌, ◌≢◌, ◌<◌, ◌≤◌, ◌+◌, ◌^◌, ℕ, All, length, drop, replicate, slice_index, IfOk, MatchResult};
+ghost use Rattle.std.specs.Prelude.{◌≡◌, ◌≢◌, ◌<◌, ◌≤◌, ◌+◌, ◌^◌, ℕ, All, length, drop, replicate, slice_index};
+ghost use Rattle.std.specs.Prelude.{IfOk, MatchResult};
 ghost use Rattle.limits.specs.Limits.{greatest_position_count};
 ghost use Rattle.format_spec.specs.Formats.{letters_of, IsFormat};
 ghost use Rattle.level_rows.specs.Tables.{Increase};
@@ -10,8 +11,8 @@ ghost use Rattle.tensor_storage.specs.Storages.{IsStorage, storage_of, in_level_
 ghost use Rattle.tensor_storage.specs.Tables.{AreBelow};
 ghost use Rattle.tensor_storage.specs.Levels.{meaning};
 
-use crate::kinds::{chain_end, new_level};
-use crate::level::StorageLevel;
+use crate::kinds::chain_end;
+use crate::level::{StorageLevel, new_level};
 use crate::table::{LevelRows, RowTable};
 use format_spec::FormatLevel;
 use level_rows::{FillRefusal, fill_level, store_values};
