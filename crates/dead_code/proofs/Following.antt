@@ -15,7 +15,7 @@ use Rattle.kernel_code.specs.Meaning.{Setting, State, Outcome, Ended, Stuck, Ove
 use Rattle.kernel_code.specs.Meaning.{behind, statements_in, choice, run_turns, run, add_outcome, push_outcome}
 use Rattle.kernel_code.specs.Meaning.{extend_outcome, cut_outcome, sort_outcome, sort_sum_outcome, summed, set_columns, key_columns}
 use Rattle.kernel_code.specs.Meaning.{one_more_column, with_value, with_array, if_written, changed, grown, set_var, set_array}
-use Rattle.kernel_flow.specs.Refines.{plain}
+use Rattle.simplifier.specs.Refines.{plain}
 use Rattle.simplifier.specs.Same.{unnumbered}
 use Rattle.simplifier.proofs.Unnumbered.{plain_append, plain_if, plain_while}
 use Rattle.dead_code.specs.Follows.{Vars, Tie, with_vars, EndsAlike, Follows, ReadsAs}

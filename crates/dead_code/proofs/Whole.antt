@@ -6,8 +6,8 @@ use Rattle.kernel_code.specs.declared.syntax.Kernel.{Kernel}
 use Rattle.kernel_code.specs.declared.syntax.KStmt.{KStmt}
 use Rattle.kernel_code.specs.Kernels.{start_state, told, within, all_turns}
 use Rattle.kernel_code.specs.Meaning.{Setting, State, Outcome, Ended, Stuck, Over, More, run_list}
-use Rattle.kernel_flow.specs.Refines.{IsGood, RefinesKernel}
-use Rattle.kernel_flow.proofs.KernelLemmas.{good_run}
+use Rattle.simplifier.specs.Refines.{AnyState, IsGood, RefinesKernel}
+use Rattle.simplifier.proofs.Refining.{good_run}
 use Rattle.simplifier.specs.Same.{unnumbered}
 use Rattle.dead_code.specs.Follows.{Vars, Tie, with_vars, EndsAlike, Follows}
 
@@ -44,7 +44,7 @@ told_alike A order n More p g h = ap (λ q. told order (within n q)) (more_only 
 
 -- a kernel whose code follows another's, where the variables at the start are tied to themselves
 pub kernel_follows : (A B : Tie) (k : Kernel) (body : List KStmt) → ((v : Vars) → A v v) → Follows A k.body body B
-    → RefinesKernel (record k { body = body }) k
+    → RefinesKernel AnyState (record k { body = body }) k
 kernel_follows A B k body starts f = record {
   semiring = refl;
   workspaces = refl;

@@ -3,7 +3,7 @@ use Rattle.std.specs.Prelude.{◌≡◌, ℕ, List, Option}
 use Rattle.kernel_code.specs.declared.syntax.KExpr.{KExpr}
 use Rattle.kernel_code.specs.declared.syntax.KStmt.{KStmt}
 use Rattle.kernel_code.specs.Meaning.{Setting, State, Outcome, Ended, Stuck, Over, More, value}
-use Rattle.kernel_flow.specs.Refines.{plain}
+use Rattle.simplifier.specs.Refines.{plain}
 
 -- the value of each variable that has one
 abbrev pub Vars : Type 0

@@ -1,6 +1,6 @@
 // Kernels.
 ghost use Rattle.std.specs.Prelude.{◌≡◌, IfOk};
-ghost use Rattle.kernel_flow.specs.Refines.{RefinesKernel};
+ghost use Rattle.simplifier.specs.Refines.{AnyState, RefinesKernel};
 
 use crate::dead::live_code;
 use crate::live::none_of;
@@ -12,7 +12,7 @@ use std::alloc::{AllocError, Global};
 /// without choices whose bodies are both empty. Refused only for want of memory. It takes time linear in the kernel's size times the
 /// depth to which its loops are nested, and calls itself as deep as its statements and expressions are nested.
 pub fn drop_dead(alloc: Global, kernel: Kernel) -> Result<Kernel, AllocError>
-    ensures { IfOk result (λ k. RefinesKernel k kernel) }
+    ensures { IfOk result (λ k. RefinesKernel AnyState k kernel) }
 {
     let Kernel {
         semiring,

@@ -5,6 +5,7 @@ pub mod Fits
 pub mod Kept
 pub mod LoopLaws
 pub mod LoopParts
+pub mod OffRange
 pub mod Pieces
 pub mod Rows
 pub mod Sequences

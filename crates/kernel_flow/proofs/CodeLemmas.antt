@@ -24,7 +24,9 @@ use Rattle.kernel_code.proofs.ArrayNames.{same_arr_is}
 use Rattle.kernel_code.proofs.Keeps.{other_array, other_var, value_kept}
 use Rattle.kernel_flow.specs.declared.facts.Fact.{Fact}
 use Rattle.kernel_flow.specs.Facts.{AllHold, Known, Gives, Survives, Becomes, Learns, WhereZero, WhereNot}
-use Rattle.kernel_flow.specs.Refines.{IsGood, KnownAfter, Passes, PassesTurn, Refines, plain}
+use Rattle.simplifier.specs.Refines.{IsGood, Refines, plain}
+use Rattle.kernel_flow.specs.Passing.{KnownAfter, Passes, PassesTurn}
+use Rattle.kernel_flow.specs.Steady.{HasWords}
 use Rattle.kernel_flow.proofs.ExprLemmas.{each_settle}
 use Rattle.simplifier.specs.Folded.{number_of}
 use Rattle.simplifier.proofs.ExprLemmas.{number_is}
@@ -473,7 +475,7 @@ pass_turn F A G e d body turned b w p = record {
   known = λ c n s v k is. p.known c n s (record { words = k.words; all = w.at s v k.words k.all is });
 }
 
-pub refines : (G : List Fact) (new old : List KStmt) → Passes [] old new G → Refines new old
+pub refines : (G : List Fact) (new old : List KStmt) → Passes [] old new G → Refines HasWords new old
 refines G new old p = record { same = λ c n s w good. p.same c n s (record { words = w; all = tt }) good }
 
 -- what is known where a test and what it is written as now aren't 0, and where they are

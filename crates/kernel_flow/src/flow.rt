@@ -1,6 +1,6 @@
 // Statements written by what is known before them, and what is known behind them.
 ghost use Rattle.std.specs.Prelude.{◌≡◌, [], ◌∷◌, ◌++◌, IfOk};
-ghost use Rattle.kernel_flow.specs.Refines.{Passes, PassesTurn};
+ghost use Rattle.kernel_flow.specs.Passing.{Passes, PassesTurn};
 ghost use Rattle.kernel_flow.specs.Facts.{Becomes, Gives, WhereNot, WhereZero};
 
 use crate::exprs::number;

@@ -1,6 +1,7 @@
 // Kernels.
 ghost use Rattle.std.specs.Prelude.{◌≡◌, IfOk};
-ghost use Rattle.kernel_flow.specs.Refines.{RefinesKernel};
+ghost use Rattle.simplifier.specs.Refines.{RefinesKernel};
+ghost use Rattle.kernel_flow.specs.Steady.{HasWords};
 
 use crate::flow::pass_code;
 use crate::policy::policy_of;
@@ -11,7 +12,7 @@ use trees::Items;
 /// A kernel that does the same wherever this one isn't stuck, in which is written what is known: numbers and copies of variables,
 /// and no choice whose test they settle. Refused only for want of memory.
 pub fn propagate(alloc: Global, kernel: Kernel) -> Result<Kernel, AllocError>
-    ensures { IfOk result (λ k. RefinesKernel k kernel) }
+    ensures { IfOk result (λ k. RefinesKernel HasWords k kernel) }
 {
     let Kernel {
         semiring,

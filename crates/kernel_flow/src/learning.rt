@@ -233,7 +233,25 @@ fn add_last_apart(alloc: Global, facts: &mut Items<Fact>, e: &KExpr) -> Result<(
     add_number(alloc, facts, &swapped, 0)
 }
 
-fn add_last_apart_if(
+/// Adds that the value of a variable is a word, which is below the last word.
+fn add_word_of(alloc: Global, facts: &mut Items<Fact>, e: &KExpr) -> Result<(), AllocError>
+    ensures { OnOk result (BelowLast facts.old e.now facts.new) }
+{
+    match e {
+        KExpr::Var(x) => add_word(alloc, facts, *x),
+        _ => Ok(()),
+    }
+}
+
+/// Adds what is known of an expression whose value is below the last word.
+fn add_below_last(alloc: Global, facts: &mut Items<Fact>, e: &KExpr) -> Result<(), AllocError>
+    ensures { OnOk result (BelowLast facts.old e.now facts.new) }
+{
+    add_word_of(alloc, facts, e)?;
+    add_last_apart(alloc, facts, e)
+}
+
+fn add_below_last_if(
     alloc: Global,
     facts: &mut Items<Fact>,
     e: &KExpr,
@@ -242,7 +260,7 @@ fn add_last_apart_if(
     ensures { OnOk result (BelowLastIf below facts.old e.now facts.new) }
 {
     if below {
-        return add_last_apart(alloc, facts, e);
+        return add_below_last(alloc, facts, e);
     }
     Ok(())
 }
@@ -302,7 +320,7 @@ fn where_operator(
 {
     let below = is_below_word(alloc, facts.as_slice(), op, b)?;
     let one = is_test(op);
-    add_last_apart_if(alloc, facts, a, below)?;
+    add_below_last_if(alloc, facts, a, below)?;
     add_one_if(alloc, facts, test, one)
 }
 

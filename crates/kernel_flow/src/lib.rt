@@ -1,5 +1,5 @@
 //! Code that does the same with what is known along it put in: constants, copies, and tests that are settled.
-//! `specs/Facts.antt` says what is known at a place, `specs/Refines.antt` when code does what other code does wherever that isn't stuck.
+//! `specs/Facts.antt` says what is known at a place, `specs/Passing.antt` when code passes for other code where that is known.
 #![tactic(auto)]
 
 mod exprs;

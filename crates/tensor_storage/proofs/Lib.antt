@@ -12,6 +12,7 @@ pub mod Few
 pub mod Fills
 pub mod Greatest
 pub mod Handed
+pub mod HeldWords
 pub mod InsertedRows
 pub mod KindArms
 pub mod LevelSame

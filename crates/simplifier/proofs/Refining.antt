@@ -1,4 +1,4 @@
--- Lemmas about whole kernels.
+-- Lemmas about whole kernels, of which one does what the other does wherever that isn't stuck.
 use Rattle.std.specs.Prelude.{◌≡◌, ℕ, ◌+◌, ◌≤◌, if◌then◌else◌, List, Option, refl}
 use Rattle.std.proofs.Common.{◌∙◌, ap, sym, subst, arith}
 use Rattle.numbers.specs.Arithmetic.{Arithmetic}
@@ -7,11 +7,11 @@ use Rattle.kernel_code.specs.declared.syntax.Arr.{Arr}
 use Rattle.kernel_code.specs.declared.syntax.Kernel.{Kernel}
 use Rattle.kernel_code.specs.declared.syntax.KStmt.{KStmt}
 use Rattle.kernel_code.specs.Kernels.{GotStuck, start_state, told, within, all_turns}
-use Rattle.kernel_code.specs.Meaning.{Setting, Outcome, Ended, Stuck, Over, More, run_list}
+use Rattle.kernel_code.specs.Meaning.{Setting, State, Outcome, Ended, Stuck, Over, More, run_list}
 use Rattle.kernel_code.specs.More.{Settled}
 use Rattle.kernel_code.proofs.More.{list_more}
 use Rattle.simplifier.specs.Same.{unnumbered}
-use Rattle.kernel_flow.specs.Refines.{IsGood, IsNeverStuck, Refines, RefinesKernel}
+use Rattle.simplifier.specs.Refines.{IsGood, IsNeverStuck, Refines, RefinesKernel}
 
 -- a run that is stuck is told so within as many turns as it made
 stuck_told : (order n : ℕ) (t : _) (statement : ℕ) → all_turns t ≤ n → told order (within n (Stuck t statement)) ≡ GotStuck statement
@@ -60,8 +60,9 @@ plainly_good (Stuck t statement) h = h
 plainly_good (Over t a count) h = h
 plainly_good More h = h
 
-pub kernel_refines : (k : Kernel) (body : List KStmt) → Refines body k.body → RefinesKernel (record k { body = body }) k
-kernel_refines k body r = record {
+pub kernel_refines : (starts : State → Type 0) (k : Kernel) (body : List KStmt) → Refines starts body k.body
+    → RefinesKernel starts (record k { body = body }) k
+kernel_refines starts k body r = record {
   semiring = refl;
   workspaces = refl;
   lists = refl;

@@ -1,0 +1,139 @@
+-- Statements that change places, and code that stays.
+use Rattle.std.specs.Prelude.{◌≡◌, ◌≢◌, ℕ, Bool, true, false, ◌==◌, if◌then◌else◌, List, [], ◌∷◌, ◌++◌, Option, Some, None, refl}
+use Rattle.std.proofs.Common.{◌∙◌, ap, sym, subst}
+use Rattle.lists.proofs.Tests.{same_number, number_apart}
+use Rattle.kernel_code.specs.declared.syntax.KExpr.{KExpr, Var}
+use Rattle.kernel_code.specs.declared.syntax.KStmt.{KStmt, Set, If, While}
+use Rattle.kernel_code.specs.declared.syntax.LoopKind.{LoopKind}
+use Rattle.kernel_code.specs.Keeps.{EveryArray}
+use Rattle.kernel_code.specs.Meaning.{Setting, State, Outcome, Ended, Stuck, Over, More, value, set_var, with_value, then_run, behind}
+use Rattle.kernel_code.proofs.Keeps.{value_kept}
+use Rattle.simplifier.specs.Refines.{plain}
+use Rattle.simplifier.specs.Same.{unnumbered}
+use Rattle.dead_code.specs.Follows.{Vars, with_vars, EndsAlike, Follows, ReadsAs}
+use Rattle.dead_code.specs.Live.{Agree}
+use Rattle.dead_code.proofs.Following.{follows_then, follows_now, follows_choice, follows_loop}
+use Rattle.copy_lifting.specs.Apart.{LeavesOut, MaySwap}
+
+-- variables that agree throughout are the same
+same_vars : (v w : Vars) → Agree [] v w → w ≡ v
+same_vars v w h = λ i x. h.at x refl i
+
+ends_same : (o : Outcome) → EndsAlike (Agree []) o o
+ends_same (Ended s) = record { vars = s.vars; is = refl; tied = record { at = λ x live. refl } }
+ends_same (Stuck t statement) = tt
+ends_same (Over t a count) = refl
+ends_same More = refl
+
+-- code does the same where all variables agree
+pub follows_same : (code : List KStmt) → Follows (Agree []) code code (Agree [])
+follows_same code = record {
+  at = λ c n s w h.
+      subst (λ v. EndsAlike (Agree []) (plain c n code s) (plain c n code (with_vars s v))) (sym (same_vars s.vars w h))
+      (ends_same (plain c n code s));
+}
+
+-- how two statements end that set variables, by the value of the first and that of the second behind it
+abbrev second : State → ℕ → Option ℕ → Outcome
+second s y None = Stuck s.turns 1
+second s y (Some u) = Ended (set_var s y u)
+
+abbrev first : State → ℕ → ℕ → Option ℕ → (State → Option ℕ) → Outcome
+first s z y None f = Stuck s.turns 1
+first s z y (Some v) f = second (set_var s z v) y (f (set_var s z v))
+
+ran : (c : Setting) (n z y : ℕ) (e f : KExpr) (s : State) → plain c n (Set z e ∷ Set y f ∷ []) s ≡ first s z y (value e s) (value f)
+ran c n z y e f s = from (value e s)
+  where
+    more : (t : State) (o : Option ℕ)
+        → unnumbered (behind 1 (then_run (with_value t o (λ v. Ended (set_var t y v))) (λ u. behind 1 (Ended u)))) ≡ second t y o
+    more t None = refl
+    more t (Some u) = refl
+
+    from : (o : Option ℕ) → unnumbered (then_run (with_value s o (λ v. Ended (set_var s z v)))
+        (λ t. behind 1 (then_run (with_value t (value f t) (λ v. Ended (set_var t y v))) (λ u. behind 1 (Ended u)))))
+        ≡ first s z y o (value f)
+    from None = refl
+    from (Some v) = more (set_var s z v) (value f (set_var s z v))
+
+-- two variables are set in either order
+either_order : (z y q : ℕ) (v u : ℕ) (o : Option ℕ) → z ≢ y
+    → (if z == q then Some v else (if y == q then Some u else o)) ≡ (if y == q then Some u else (if z == q then Some v else o))
+either_order z y q v u o other = from (z == q) (y == q) refl refl
+  where
+    from : (a b : Bool) → (z == q) ≡ a → (y == q) ≡ b
+        → (if a then Some v else (if b then Some u else o)) ≡ (if b then Some u else (if a then Some v else o))
+    from true true here there = absurd (other (same_number z q here ∙ sym (same_number y q there)))
+    from true false here there = refl
+    from false true here there = refl
+    from false false here there = refl
+
+swap_ends : (z y x : ℕ) (e : KExpr) (s : State) (p q : Option ℕ) → z ≢ x → z ≢ y → LeavesOut y e → value e s ≡ p → s.vars x ≡ q
+    → EndsAlike (Agree []) (first s z y p (value (Var x))) (first s y z q (value e))
+swap_ends z y x e s None q apart other reads is at = tt
+swap_ends z y x e s (Some v) None apart other reads is at =
+    subst (λ o. EndsAlike (Agree []) (second (set_var s z v) y o) (first s y z None (value e)))
+    (sym (ap (λ b. if b then Some v else s.vars x) (number_apart z x apart) ∙ at)) tt
+swap_ends z y x e s (Some v) (Some u) apart other reads is at =
+    subst (λ o. EndsAlike (Agree []) (second (set_var s z v) y o) (first s y z (Some u) (value e)))
+    (sym (ap (λ b. if b then Some v else s.vars x) (number_apart z x apart) ∙ at))
+    (subst (λ o. EndsAlike (Agree []) (Ended (set_var (set_var s z v) y u)) (second (set_var s y u) z o))
+    (sym (value_kept (λ r. y ≢ r) EveryArray e s (set_var s y u) reads.mentions
+    (λ r apart_too. ap (λ b. if b then Some u else s.vars r) (number_apart y r apart_too)) (λ a any. refl) ∙ is))
+    (record {
+      vars = (set_var (set_var s y u) z v).vars;
+      is = refl;
+      tied = record { at = λ r live. either_order z y r v u (s.vars r) other };
+    }))
+
+-- a statement that sets a variable and a copy that has nothing to do with it change places
+pub swapped : (s next : KStmt) → MaySwap s next → Follows (Agree []) (s ∷ next ∷ []) (next ∷ s ∷ []) (Agree [])
+swapped s next may =
+    follows_now (Agree []) (Agree []) (s ∷ next ∷ []) (Set may.variable may.value ∷ Set may.to (Var may.from) ∷ []) (next ∷ s ∷ [])
+    (Set may.to (Var may.from) ∷ Set may.variable may.value ∷ []) (ap (λ k. k ∷ next ∷ []) may.is ∙ ap (λ k. Set may.variable may.value ∷ k ∷ [])
+    may.copies) (ap (λ k. k ∷ s ∷ []) may.copies ∙ ap (λ k. Set may.to (Var may.from) ∷ k ∷ []) may.is) (record {
+      at = λ c n st w h.
+          subst (λ v. EndsAlike (Agree []) (plain c n (Set may.variable may.value ∷ Set may.to (Var may.from) ∷ []) st)
+          (plain c n (Set may.to (Var may.from) ∷ Set may.variable may.value ∷ []) (with_vars st v))) (sym (same_vars st.vars w h))
+          (subst (λ o. EndsAlike (Agree []) (plain c n (Set may.variable may.value ∷ Set may.to (Var may.from) ∷ []) st) o)
+          (sym (ran c n may.to may.variable (Var may.from) may.value st))
+          (subst (λ o. EndsAlike (Agree []) o (first st may.to may.variable (st.vars may.from) (value may.value)))
+          (sym (ran c n may.variable may.to may.value (Var may.from) st))
+          (swap_ends may.variable may.to may.from may.value st (value may.value st) (st.vars may.from) may.not_from may.not_to may.reads refl
+          refl)));
+    })
+
+-- a statement before code, or behind its first one
+pub before_code : (s : KStmt) (rest : List KStmt) → Follows (Agree []) (s ∷ rest) (s ∷ rest) (Agree [])
+before_code s rest = follows_same (s ∷ rest)
+
+pub behind_copy : (s next : KStmt) (rest : List KStmt) → MaySwap s next
+    → Follows (Agree []) (s ∷ next ∷ rest) (next ∷ s ∷ rest) (Agree [])
+behind_copy s next rest may =
+    follows_then (Agree []) (Agree []) (Agree []) (s ∷ next ∷ []) rest (next ∷ s ∷ []) rest (swapped s next may) (follows_same rest)
+
+-- expressions that are one have one value
+reads_same : (e d : KExpr) → d ≡ e → ReadsAs (Agree []) e d
+reads_same e d is = record {
+  at = λ s w h.
+      ap (λ f. value f (with_vars s w)) is ∙ ap (λ v. value e (with_vars s v)) (same_vars s.vars w h);
+}
+
+pub choice_lifted : (k : KStmt) (e d : KExpr) (first second held other one two : List KStmt) → k ≡ If e first second → d ≡ e
+    → held ≡ first → other ≡ second → Follows (Agree []) held one (Agree []) → Follows (Agree []) other two (Agree [])
+    → Follows (Agree []) (k ∷ []) (If d one two ∷ []) (Agree [])
+choice_lifted k e d first second held other one two is same here there p q =
+    follows_now (Agree []) (Agree []) (k ∷ []) (If e first second ∷ []) (If d one two ∷ []) (If d one two ∷ []) (ap (λ x. x ∷ []) is) refl
+    (follows_choice (Agree []) (Agree []) (Agree []) (Agree []) e d first second one two (reads_same e d same) (λ v w h. h) (λ v w h. h)
+    (subst (λ x. Follows (Agree []) x one (Agree [])) here p) (subst (λ x. Follows (Agree []) x two (Agree [])) there q))
+
+pub loop_lifted : (k : KStmt) (kind : LoopKind) (e d : KExpr) (body held turn : List KStmt) → k ≡ While kind e body → d ≡ e → held ≡ body
+    → Follows (Agree []) held turn (Agree []) → Follows (Agree []) (k ∷ []) (While kind d turn ∷ []) (Agree [])
+loop_lifted k kind e d body held turn is same here p =
+    follows_now (Agree []) (Agree []) (k ∷ []) (While kind e body ∷ []) (While kind d turn ∷ []) (While kind d turn ∷ [])
+    (ap (λ x. x ∷ []) is) refl
+    (follows_loop (Agree []) (Agree []) kind e d body turn (reads_same e d same) (subst (λ x. Follows (Agree []) x turn (Agree [])) here p)
+    (λ v w h. h))
+
+pub statement_same : (k copy : KStmt) → copy ≡ k → Follows (Agree []) (k ∷ []) (copy ∷ []) (Agree [])
+statement_same k copy is = subst (λ x. Follows (Agree []) (k ∷ []) (x ∷ []) (Agree [])) (sym is) (follows_same (k ∷ []))
