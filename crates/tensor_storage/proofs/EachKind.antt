@@ -1,7 +1,7 @@
 -- What each kind of a storage level has beside its laws: its levels as they are made, given rows and read. One instance for each kind.
 use Rattle.std.specs.Prelude.{◌≡◌, ◌⊎◌, ℕ, ◌+◌, ◌*◌, ◌≤◌, ◌<◌, Bool, true, false, List, [], ◌∷◌, ◌++◌, length, slice_index}
 use Rattle.std.specs.Prelude.{Some, None, refl}
-use Rattle.std.proofs.Common.{◌∙◌, sym, arith, inl, inr}
+use Rattle.std.proofs.Common.{◌∙◌, sym, subst, arith, inl, inr}
 use Rattle.limits.specs.Limits.{greatest_position_count}
 use Rattle.kernel_code.specs.Arrays.{same_arr}
 use Rattle.kernel_code.specs.declared.syntax.Arr.{Arr}
@@ -15,6 +15,7 @@ use Rattle.level_core.specs.declared.stage.Stage.TheVariants.{Fresh, Finished}
 use Rattle.level_core.specs.Arrays.{array_of}
 use Rattle.level_core.specs.Entries.{one}
 use Rattle.level_core.specs.Fragments.{IsOf}
+use Rattle.level_core.specs.GroupLaws.{CoordsBelow}
 use Rattle.level_core.specs.Kinds.{properties, capabilities, MayPrepare, MayInsert}
 use Rattle.level_core.specs.Logs.{Log, MayReserve, MayAppend, MayAppendEdges, MayFinish, with_parents, with_coord, with_edges}
 use Rattle.level_core.specs.Meaning.{Arrays, ChangesLog, Finishes}
@@ -115,6 +116,13 @@ pub record Gives {L : Type 0} (wrap : L → StorageLevel) : Type 0 where
   pub held_without_ends : (l : L) (tensor level : ℕ) (a b : Arrays) → (capabilities (meaning.kind (wrap l))).append ≡ false
       → ((x : Arr) → IsOf tensor level x → same_arr (Ends tensor level) x ≡ false → b x ≡ a x)
       → meaning.holds (wrap l) tensor level a → meaning.holds (wrap l) tensor level b
+  -- arrays that hold a full level have its size alone, and those of one that stores coordinates in order none above its range
+  pub size_held : (l : L) (tensor level : ℕ) (arrays : Arrays) (words : List ℕ) → (properties (meaning.kind (wrap l))).full ≡ true
+      → meaning.holds (wrap l) tensor level arrays → arrays (Dimension tensor level) ≡ Some words → words ≡ meaning.size (wrap l) ∷ []
+  pub coordinates_held : (l : L) (tensor level : ℕ) (arrays : Arrays) (words : List ℕ)
+      → (properties (meaning.kind (wrap l))).full ≡ false → (properties (meaning.kind (wrap l))).ordered ≡ true → meaning.keeps (wrap l)
+      → meaning.holds (wrap l) tensor level arrays → arrays (Coordinates tensor level) ≡ Some words
+      → CoordsBelow (meaning.size (wrap l)) words
   -- a full level has each coordinate below each parent, within the limit
   pub full_positions : (l : L) (parents : ℕ) → (properties (meaning.kind (wrap l))).full ≡ true → meaning.has_parents (wrap l) parents
       → (meaning.positions (wrap l) parents ≡ parents * meaning.size (wrap l))
@@ -140,6 +148,9 @@ pub record Gives {L : Type 0} (wrap : L → StorageLevel) : Type 0 where
 not_full : {A : Type 0} → false ≡ true → A
 not_full e = apart (sym e)
 
+held_same : (xs ys : List ℕ) → Some xs ≡ Some ys → xs ≡ ys
+held_same xs ys h = cc
+
 dense_words : (n tensor level : ℕ) (arrays : Arrays) → dense.Holds n tensor level arrays → (array : LevelArray) (words : List ℕ)
     → dense.words_of n array ≡ Some words → arrays (array_of array tensor level) ≡ Some words
 dense_words n tensor level arrays held OfSize words is = held ∙ is
@@ -152,6 +163,8 @@ dense_gives = record {
   width_none = λ n h. refl;
   held_words = dense_words;
   held_without_ends = λ n tensor level a b never same h. same (Dimension tensor level) (refl, refl) refl ∙ h;
+  size_held = λ n tensor level arrays words full held is. held_same words (n ∷ []) (sym is ∙ held);
+  coordinates_held = λ n tensor level arrays words stored ordered keeps held is. apart stored;
   full_positions = λ n parents full has. (refl, has.positions);
   reserves = λ n parents keeps able may. apart (sym able);
   appends_coord = λ n x keeps able may room. apart (sym able);
@@ -178,6 +191,9 @@ compressed_gives = record {
   width_none = λ l h. refl;
   held_words = compressed_words;
   held_without_ends = λ l tensor level a b never same h. apart (sym (compressed_appends l.unique) ∙ never);
+  size_held = λ l tensor level arrays words full held is. not_full (sym (compressed_full l.unique) ∙ full);
+  coordinates_held = λ l tensor level arrays words stored ordered keeps held is.
+      subst (CoordsBelow l.size) (held_same l.log.coords words (sym held.coords ∙ is)) keeps.below;
   full_positions = λ l parents full has. not_full (sym (compressed_full l.unique) ∙ full);
   reserves = λ l parents keeps able may. record {
     level = OfCompressed (logged l (with_parents (compressed.letter_of l.unique) parents l.log));
@@ -219,6 +235,9 @@ singleton_gives = record {
   width_none = λ l h. refl;
   held_words = singleton_words;
   held_without_ends = λ l tensor level a b never same h. apart (sym (singleton_appends l.unique) ∙ never);
+  size_held = λ l tensor level arrays words full held is. not_full (sym (singleton_full l.unique) ∙ full);
+  coordinates_held = λ l tensor level arrays words stored ordered keeps held is.
+      subst (CoordsBelow l.size) (held_same l.coords words (sym held ∙ is)) keeps.below;
   full_positions = λ l parents full has. not_full (sym (singleton_full l.unique) ∙ full);
   reserves = λ l parents keeps able may. record {
     level = OfSingleton (record (reserved parents l) { spare = 0 });
@@ -281,6 +300,8 @@ hashed_gives = record {
     width = same (Width tensor level) (refl, refl) refl ∙ h.width;
     slots = same (Coordinates tensor level) (refl, refl) refl ∙ h.slots;
   };
+  size_held = λ l tensor level arrays words full held is. not_full full;
+  coordinates_held = λ l tensor level arrays words stored ordered keeps held is. not_full ordered;
   full_positions = λ l parents full has. not_full full;
   reserves = λ l parents keeps able may. apart (sym able);
   appends_coord = λ l x keeps able may room. apart (sym able);
