@@ -6,7 +6,7 @@ ghost use Rattle.kernel_interpreter.specs.Memory.{IsInPlace, NeedsNone, SetsBelo
 ghost use Rattle.kernel_interpreter.specs.Store.{state_of, outcome_of, outcome_at, made, setting, IsTold};
 
 use crate::ending::{Ending, Step};
-use crate::machine::{Machine, operand};
+use crate::machine::{Machine, operand, value_in_place};
 use crate::room::make_room;
 use kernel_code::{KExpr, KStmt, LoopKind};
 use machine_parts::combine_operands;
@@ -30,7 +30,7 @@ fn run_statement<S: Semiring>(
 {
     match s {
         KStmt::Set(x, e) => {
-            let value = operand(machine, e);
+            let value = value_in_place(machine, e);
             machine.set(*x, value)
         }
         KStmt::Combine(x, op, e, f) => {
@@ -69,7 +69,7 @@ fn run_statement<S: Semiring>(
             Ok(step) => step,
             Err(_) => Step::Memory,
         },
-        KStmt::If(e, first, second) => match operand(machine, e) {
+        KStmt::If(e, first, second) => match value_in_place(machine, e) {
             None => Step::Stuck,
             Some(0) => {
                 let step = run_in_order::<S>(machine, second.as_slice(), workspaces, limit);
@@ -113,6 +113,7 @@ fn run_in_order<S: Semiring>(
 
 /// Runs a loop from its test on, until `limit` turns are made in all.
 #[cycle(run)]
+#[inline(never)]
 fn run_loop<S: Semiring>(
     machine: &mut Machine,
     body: &[KStmt],
@@ -130,7 +131,7 @@ fn run_loop<S: Semiring>(
     ensures memory { Through IsInPlace body.now → IsTold result }
 {
     for _ in 0..limit {
-        match operand(machine, e) {
+        match value_in_place(machine, e) {
             None => return Step::Stuck,
             Some(0) => return Step::Ended,
             Some(_) => {}
@@ -144,7 +145,7 @@ fn run_loop<S: Semiring>(
             return machine.inside(step);
         }
     }
-    match operand(machine, e) {
+    match value_in_place(machine, e) {
         None => Step::Stuck,
         Some(0) => Step::Ended,
         Some(_) => Step::More,

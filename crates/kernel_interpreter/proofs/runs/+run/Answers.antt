@@ -34,8 +34,8 @@ run_statement-returns-in-Put-clause-is g t c = λ h.
     let st = state_of c.args.machine.now in
     told c.args.limit c.args.machine.now c.put.new.self c.put.result _ (setting g.S.Semiring.arithmetic c.args.workspaces.now)
     (Put s.a s.i s.e) c.args.s.now c.requires.few c.put.ensures.turns s.is c.put.ensures.is
-    (ap (λ v. put_outcome st s.a v c.operand-value-in-Put.result) c.operand-i.ensures
-    ∙ ap (put_outcome st s.a (value s.i st)) c.operand-value-in-Put.ensures)
+    (ap (λ v. put_outcome st s.a v c.operand-value.result) c.operand-i.ensures
+    ∙ ap (put_outcome st s.a (value s.i st)) c.operand-value.ensures)
 
 pub run_statement-returns-in-AddTo-clause-is : goal.run_statement-returns-in-AddTo-clause-is
 run_statement-returns-in-AddTo-clause-is g t c = λ h.
