@@ -3,6 +3,7 @@ pub mod Heights
 pub mod MemoryLemmas
 pub mod NoRefusal
 pub mod Numbers
+pub mod Operators
 pub mod RunLemmas
 pub mod StoreLemmas
 pub mod ToldLemmas

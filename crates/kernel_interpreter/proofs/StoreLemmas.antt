@@ -20,7 +20,7 @@ use Rattle.machine_parts.proofs.PlaceLemmas.{HasPlace}
 use Rattle.kernel_interpreter.specs.declared.machine.Machine.{Machine}
 use Rattle.kernel_interpreter.specs.Store.{array_of, own_array, array_at, words_named, by_right, state_of, count_of, IsPlaceOf, IsWritable}
 
-test_below : (m n : ℕ) → m < n → nat_lt m n ≡ true
+pub test_below : (m n : ℕ) → m < n → nat_lt m n ≡ true
 test_below m n h = grind (arith, nat_tests)
 
 test_not_below : (m n : ℕ) → n ≤ m → nat_lt m n ≡ false

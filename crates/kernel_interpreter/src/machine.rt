@@ -1,7 +1,7 @@
 //! The machine: variables, arrays that are lent and arrays of its own, and the turns that loops have made.
 ghost use Rattle.std.specs.Prelude.{◌≡◌, ℕ, ◌+◌, ◌^◌, ◌<◌, ◌≤◌, List, length, MatchOption, IfOk, IsOk, OnOk, OnErr};
 ghost use Rattle.std.specs.Prelude.{◌++◌, ◌∷◌, [], Some, None, take, true, replicate};
-ghost use Rattle.std.specs.Prelude.{slice_get, option_map, unwrap_or, map, IsTrue, ◌↔◌};
+ghost use Rattle.std.specs.Prelude.{slice_get, option_map, unwrap_or, map, IsTrue, IfSome, ◌↔◌};
 ghost use Rattle.kernel_code.specs.Arrays.{sum_in, may_write};
 ghost use Rattle.kernel_code.specs.declared.syntax.Arr.{Arr};
 ghost use Rattle.kernel_code.specs.declared.syntax.Arr.TheVariants.{ListCoordinates, ListPositions, Key, Sums};
@@ -57,6 +57,34 @@ const NOTHING_REFUSED: Refused = Refused {
     array: Arr::Range,
     count: 0,
 };
+
+/// The value of a variable or of a number, and none of any other expression.
+#[inline(always)]
+fn leaf(machine: &Machine, e: &KExpr) -> Option<u64>
+    ensures { IfSome result (λ v. value e.now (state_of machine.now) ≡ Some v) }
+{
+    match e {
+        KExpr::Num(n) => Some(*n),
+        KExpr::Var(x) => machine.variable(*x),
+        _ => None,
+    }
+}
+
+/// The value of an expression. An operator of variables or numbers is read where it stands, as these are.
+#[inline(always)]
+pub(crate) fn value_in_place(machine: &Machine, e: &KExpr) -> Option<u64>
+    ensures { result ≡ value e.now (state_of machine.now) }
+{
+    match e {
+        KExpr::Num(n) => Some(*n),
+        KExpr::Var(x) => machine.variable(*x),
+        KExpr::Bin(op, a, b) => match (leaf(machine, a.get()), leaf(machine, b.get())) {
+            (Some(x), Some(y)) => Some(apply_to_words(*op, x, y)),
+            _ => value_of(machine, e),
+        },
+        _ => value_of(machine, e),
+    }
+}
 
 /// The value of an operand. A variable or a number is read where it stands.
 #[cycle(value)]
@@ -455,6 +483,7 @@ impl<'a> Machine<'a> {
         Step::Ended
     }
 
+    #[inline(never)]
     pub(crate) fn put(&mut self, a: Arr, i: Option<u64>, value: Option<u64>) -> Step
         ensures is { outcome_at result self.new ≡ put_outcome (state_of self.old) a i value }
         ensures turns { self.new.turns ≡ self.old.turns }
@@ -467,6 +496,7 @@ impl<'a> Machine<'a> {
         }
     }
 
+    #[inline(never)]
     pub(crate) fn add<S: Semiring>(&mut self, a: Arr, i: Option<u64>, value: Option<u64>) -> Step
         ensures is { outcome_at result self.new ≡ add_outcome S.arithmetic (state_of self.old) a i value }
         ensures turns { self.new.turns ≡ self.old.turns }
@@ -479,6 +509,7 @@ impl<'a> Machine<'a> {
         }
     }
 
+    #[inline(never)]
     pub(crate) fn push(&mut self, a: Arr, value: Option<u64>) -> Step
         ensures is { IsTold result → outcome_at result self.new ≡ push_outcome (state_of self.old) a value }
         ensures turns { self.new.turns ≡ self.old.turns }
@@ -490,6 +521,7 @@ impl<'a> Machine<'a> {
         }
     }
 
+    #[inline(never)]
     pub(crate) fn extend(&mut self, a: Arr, n: Option<u64>, value: Option<u64>) -> Step
         ensures is { IsTold result → outcome_at result self.new ≡ extend_outcome (state_of self.old) a n value }
         ensures turns { self.new.turns ≡ self.old.turns }
@@ -501,6 +533,7 @@ impl<'a> Machine<'a> {
         }
     }
 
+    #[inline(never)]
     pub(crate) fn cut(&mut self, a: Arr, n: Option<u64>) -> Step
         ensures is { outcome_at result self.new ≡ cut_outcome (state_of self.old) a n }
         ensures turns { self.new.turns ≡ self.old.turns }
@@ -539,6 +572,7 @@ impl<'a> Machine<'a> {
     }
 
     /// Sorts the rows of a scratch list by their coordinates.
+    #[inline(never)]
     pub(crate) fn sort(&mut self, list: u64) -> Result<Step, AllocError>
         ensures is { IfOk result (λ step. outcome_at step self.new
             ≡ sort_outcome (state_of self.old) list ((state_of self.old).arrays (Arr.ListCoordinates list))
@@ -621,6 +655,7 @@ impl<'a> Machine<'a> {
     }
 
     /// Sorts the rows of a workspace by their keys, and adds the values of those with equal keys.
+    #[inline(never)]
     pub(crate) fn sort_sum<S: Semiring>(
         &mut self,
         workspace: u64,

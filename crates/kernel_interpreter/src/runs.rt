@@ -6,7 +6,7 @@ ghost use Rattle.kernel_interpreter.specs.Memory.{IsInPlace, NeedsNone, SetsBelo
 ghost use Rattle.kernel_interpreter.specs.Store.{state_of, outcome_of, outcome_at, made, setting, IsTold};
 
 use crate::ending::{Ending, Step};
-use crate::machine::{Machine, operand};
+use crate::machine::{Machine, operand, value_in_place};
 use crate::room::make_room;
 use kernel_code::{KExpr, KStmt, LoopKind};
 use machine_parts::combine_operands;
@@ -15,6 +15,7 @@ use std::alloc::AllocError;
 
 /// Runs a statement whose variables have places, until `limit` turns are made in all.
 #[cycle(run)]
+#[inline(always)]
 fn run_statement<S: Semiring>(
     machine: &mut Machine,
     s: &KStmt,
@@ -30,7 +31,7 @@ fn run_statement<S: Semiring>(
 {
     match s {
         KStmt::Set(x, e) => {
-            let value = operand(machine, e);
+            let value = value_in_place(machine, e);
             machine.set(*x, value)
         }
         KStmt::Combine(x, op, e, f) => {
@@ -69,15 +70,15 @@ fn run_statement<S: Semiring>(
             Ok(step) => step,
             Err(_) => Step::Memory,
         },
-        KStmt::If(e, first, second) => match operand(machine, e) {
+        KStmt::If(e, first, second) => match value_in_place(machine, e) {
             None => Step::Stuck,
             Some(0) => {
-                let step = run_in_order::<S>(machine, second.as_slice(), workspaces, limit);
+                let step = run_body::<S>(machine, second.as_slice(), workspaces, limit);
                 let step = machine.behind(step, first.as_slice());
                 machine.inside(step)
             }
             Some(_) => {
-                let step = run_in_order::<S>(machine, first.as_slice(), workspaces, limit);
+                let step = run_body::<S>(machine, first.as_slice(), workspaces, limit);
                 machine.inside(step)
             }
         },
@@ -89,6 +90,7 @@ fn run_statement<S: Semiring>(
 
 /// Runs statements in order.
 #[cycle(run)]
+#[inline(always)]
 fn run_in_order<S: Semiring>(
     machine: &mut Machine,
     statements: &[KStmt],
@@ -111,8 +113,28 @@ fn run_in_order<S: Semiring>(
     Step::Ended
 }
 
+/// Runs a body of an `if`. It is a call, so that the statements of a loop can be run where the loop is.
+#[cycle(run)]
+#[inline(never)]
+fn run_body<S: Semiring>(
+    machine: &mut Machine,
+    statements: &[KStmt],
+    workspaces: &[u64],
+    limit: u64,
+) -> Step
+    requires few { made machine.old ≤ limit }
+    requires room { Through (SetsBelow (variable_room machine.old)) statements.now }
+    ensures is { IsTold result → outcome_at result machine.new
+        ≡ within limit (run_list (setting S.arithmetic workspaces.now) limit statements.now (state_of machine.old)) }
+    ensures room { variable_room machine.new ≡ variable_room machine.old }
+    ensures memory { Through IsInPlace statements.now → IsTold result }
+{
+    run_in_order::<S>(machine, statements, workspaces, limit)
+}
+
 /// Runs a loop from its test on, until `limit` turns are made in all.
 #[cycle(run)]
+#[inline(never)]
 fn run_loop<S: Semiring>(
     machine: &mut Machine,
     body: &[KStmt],
@@ -130,7 +152,7 @@ fn run_loop<S: Semiring>(
     ensures memory { Through IsInPlace body.now → IsTold result }
 {
     for _ in 0..limit {
-        match operand(machine, e) {
+        match value_in_place(machine, e) {
             None => return Step::Stuck,
             Some(0) => return Step::Ended,
             Some(_) => {}
@@ -144,7 +166,7 @@ fn run_loop<S: Semiring>(
             return machine.inside(step);
         }
     }
-    match operand(machine, e) {
+    match value_in_place(machine, e) {
         None => Step::Stuck,
         Some(0) => Step::Ended,
         Some(_) => Step::More,

@@ -34,8 +34,8 @@ run_statement-returns-in-Put-clause-is g t c = λ h.
     let st = state_of c.args.machine.now in
     told c.args.limit c.args.machine.now c.put.new.self c.put.result _ (setting g.S.Semiring.arithmetic c.args.workspaces.now)
     (Put s.a s.i s.e) c.args.s.now c.requires.few c.put.ensures.turns s.is c.put.ensures.is
-    (ap (λ v. put_outcome st s.a v c.operand-value-in-Put.result) c.operand-i.ensures
-    ∙ ap (put_outcome st s.a (value s.i st)) c.operand-value-in-Put.ensures)
+    (ap (λ v. put_outcome st s.a v c.operand-value.result) c.operand-i.ensures
+    ∙ ap (put_outcome st s.a (value s.i st)) c.operand-value.ensures)
 
 pub run_statement-returns-in-AddTo-clause-is : goal.run_statement-returns-in-AddTo-clause-is
 run_statement-returns-in-AddTo-clause-is g t c = λ h.
@@ -72,8 +72,8 @@ run_statement-returns-in-Cut-clause-is g t c = λ h.
     (Cut s.a s.e) c.args.s.now c.requires.few c.cut.ensures.turns s.is c.cut.ensures.is
     (ap (cut_outcome st s.a) c.operand-n-in-Cut.ensures)
 
-pub run_statement-run_in_order-step-requires : goal.run_statement-run_in_order-step-requires
-run_statement-run_in_order-step-requires g t c κs within =
+pub run_statement-run_body-step-requires : goal.run_statement-run_body-step-requires
+run_statement-run_body-step-requires g t c κs within =
     let s = c.in-If in
     let whole = ap statements_in s.is in
     let parts = statements_in_if s.e s.first s.second in
@@ -89,8 +89,8 @@ run_statement-run_in_order-step-requires g t c κs within =
       ),
     )
 
-pub run_statement-run_in_order-step-requires-in-Some : goal.run_statement-run_in_order-step-requires-in-Some
-run_statement-run_in_order-step-requires-in-Some g t c κs within =
+pub run_statement-run_body-step-requires-in-Some : goal.run_statement-run_body-step-requires-in-Some
+run_statement-run_body-step-requires-in-Some g t c κs within =
     let s = c.in-If in
     let whole = ap statements_in s.is in
     let parts = statements_in_if s.e s.first s.second in
@@ -146,10 +146,10 @@ run_statement-returns-in-Some-eq0-clause-is g t c = λ h.
     let test : value s.e st ≡ Some 0 = cc in
     let code = run_list set c.args.limit s.second st in
     let before = statements_in_list s.first in
-    let m = c.run_in_order-step.new.machine in
-    let e = c.run_in_order-step.result in
+    let m = c.run_body-step.new.machine in
+    let e = c.run_body-step.result in
     let did : outcome_at e m ≡ within c.args.limit code =
-    c.run_in_order-step.ensures.is (c.behind-step.ensures.told.1 (c.inside.ensures.told.1 h))
+    c.run_body-step.ensures.is (c.behind-step.ensures.told.1 (c.inside.ensures.told.1 h))
     ∙ ap (λ code. within c.args.limit (run_list set c.args.limit code st)) c.as_slice.ensures in
     let first : outcome_at c.behind-step.result c.behind-step.new.self ≡ behind before (outcome_at e m) =
     c.behind-step.ensures.is
@@ -166,10 +166,10 @@ run_statement-returns-in-Some-clause-is g t c = λ h.
     let set = setting g.S.Semiring.arithmetic c.args.workspaces.now in
     let test : value s.e st ≡ Some c.in-Some.field-0 = cc in
     let code = run_list set c.args.limit s.first st in
-    let m = c.run_in_order-step-in-Some.new.machine in
-    let e = c.run_in_order-step-in-Some.result in
+    let m = c.run_body-step-in-Some.new.machine in
+    let e = c.run_body-step-in-Some.result in
     let did : outcome_at e m ≡ within c.args.limit code =
-    c.run_in_order-step-in-Some.ensures.is (c.inside-in-Some.ensures.told.1 h)
+    c.run_body-step-in-Some.ensures.is (c.inside-in-Some.ensures.told.1 h)
     ∙ ap (λ code. within c.args.limit (run_list set c.args.limit code st)) c.as_slice-in-Some.ensures in
     told_behind c.args.limit 1 code _ (outcome_at e m) c.inside-in-Some.ensures.is did
     ∙ ap (within c.args.limit) (if_yes set c.args.limit s.e s.first s.second st c.in-Some.field-0 test (omega arith)
@@ -188,14 +188,14 @@ run_statement-returns-in-While-clause-is g t c = λ h.
 pub run_statement-returns-in-Some-eq0-clause-memory : goal.run_statement-returns-in-Some-eq0-clause-memory
 run_statement-returns-in-Some-eq0-clause-memory g t c =
     let s = c.in-If in
-    λ here. c.inside.ensures.told.0 (c.behind-step.ensures.told.0 (c.run_in_order-step.ensures.memory
+    λ here. c.inside.ensures.told.0 (c.behind-step.ensures.told.0 (c.run_body-step.ensures.memory
     (subst (Through IsInPlace) (sym c.as_slice.ensures)
     (second_body IsInPlace s.e s.first s.second (subst (Throughout IsInPlace) s.is here)))))
 
 pub run_statement-returns-in-Some-clause-memory : goal.run_statement-returns-in-Some-clause-memory
 run_statement-returns-in-Some-clause-memory g t c =
     let s = c.in-If in
-    λ here. c.inside-in-Some.ensures.told.0 (c.run_in_order-step-in-Some.ensures.memory
+    λ here. c.inside-in-Some.ensures.told.0 (c.run_body-step-in-Some.ensures.memory
     (subst (Through IsInPlace) (sym c.as_slice-in-Some.ensures)
     (first_body IsInPlace s.e s.first s.second (subst (Throughout IsInPlace) s.is here))))
 

@@ -12,6 +12,9 @@ decreases-run_statement g l = 3 * statements_in l.s.now
 abbrev pub decreases-run_in_order : goal.decreases-run_in_order
 decreases-run_in_order g l = 3 * statements_in_list l.statements.now + 1
 
+abbrev pub decreases-run_body : goal.decreases-run_body
+decreases-run_body g l = 3 * statements_in_list l.statements.now + 2
+
 abbrev pub decreases-run_loop : goal.decreases-run_loop
 decreases-run_loop g l = 3 * statements_in_list l.body.now + 2
 
