@@ -1,5 +1,5 @@
 -- Statements that change places, and code that stays.
-use Rattle.std.specs.Prelude.{◌≡◌, ◌≢◌, ℕ, Bool, true, false, ◌==◌, if◌then◌else◌, List, [], ◌∷◌, ◌++◌, Option, Some, None, refl}
+use Rattle.std.specs.Prelude.{◌≡◌, ◌≢◌, ℕ, zero, suc, Bool, true, false, ◌==◌, if◌then◌else◌, List, [], ◌∷◌, ◌++◌, Option, Some, None, refl}
 use Rattle.std.proofs.Common.{◌∙◌, ap, sym, subst}
 use Rattle.lists.proofs.Tests.{same_number, number_apart}
 use Rattle.kernel_code.specs.declared.syntax.KExpr.{KExpr, Var}
@@ -7,13 +7,15 @@ use Rattle.kernel_code.specs.declared.syntax.KStmt.{KStmt, Set, If, While}
 use Rattle.kernel_code.specs.declared.syntax.LoopKind.{LoopKind}
 use Rattle.kernel_code.specs.Keeps.{EveryArray}
 use Rattle.kernel_code.specs.Meaning.{Setting, State, Outcome, Ended, Stuck, Over, More, value, set_var, with_value, then_run, behind}
+use Rattle.kernel_code.specs.Meaning.{choice, run, statements_in}
 use Rattle.kernel_code.proofs.Keeps.{value_kept}
 use Rattle.simplifier.specs.Refines.{plain}
 use Rattle.simplifier.specs.Same.{unnumbered}
+use Rattle.simplifier.proofs.Unnumbered.{plain_append, plain_if}
 use Rattle.dead_code.specs.Follows.{Vars, with_vars, EndsAlike, Follows, ReadsAs}
 use Rattle.dead_code.specs.Live.{Agree}
 use Rattle.dead_code.proofs.Following.{follows_then, follows_now, follows_choice, follows_loop}
-use Rattle.copy_lifting.specs.Apart.{LeavesOut, MaySwap}
+use Rattle.code_motion.specs.Apart.{LeavesOut, MaySwap}
 
 -- variables that agree throughout are the same
 same_vars : (v w : Vars) → Agree [] v w → w ≡ v
@@ -137,3 +139,52 @@ loop_lifted k kind e d body held turn is same here p =
 
 pub statement_same : (k copy : KStmt) → copy ≡ k → Follows (Agree []) (k ∷ []) (copy ∷ []) (Agree [])
 statement_same k copy is = subst (λ x. Follows (Agree []) (k ∷ []) (x ∷ []) (Agree [])) (sym is) (follows_same (k ∷ []))
+
+-- a choice with what stands behind it in both its bodies
+choice_then : (s : State) (p : Option ℕ) (f g : Outcome) (next : State → Outcome)
+    → then_run (choice s p f g) next ≡ choice s p (then_run f next) (then_run g next)
+choice_then s None f g next = refl
+choice_then s (Some zero) f g next = refl
+choice_then s (Some (suc v)) f g next = refl
+
+alone : (c : Setting) (n : ℕ) (k : KStmt) (s : State) → plain c n (k ∷ []) s ≡ unnumbered (run c n k s)
+alone c n k s = last (run c n k s)
+  where
+    last : (o : Outcome) → unnumbered (then_run o (λ s'. behind (statements_in k) (Ended s'))) ≡ unnumbered o
+    last (Ended s') = refl
+    last (Stuck t statement) = refl
+    last (Over t a count) = refl
+    last More = refl
+
+taken_in : (c : Setting) (n : ℕ) (e : KExpr) (first second : List KStmt) (k : KStmt) (s : State)
+    → plain c n (If e first second ∷ k ∷ []) s ≡ plain c n (If e (first ++ k ∷ []) (second ++ k ∷ []) ∷ []) s
+taken_in c n e first second k s =
+    plain_append c n (If e first second ∷ []) (k ∷ []) s
+    ∙ ap (λ o. then_run o (plain c n (k ∷ []))) (alone c n (If e first second) s ∙ plain_if c n e first second s)
+    ∙ choice_then s (value e s) (plain c n first s) (plain c n second s) (plain c n (k ∷ []))
+    ∙ ap (λ o. choice s (value e s) o (then_run (plain c n second s) (plain c n (k ∷ [])))) (sym (plain_append c n first (k ∷ []) s))
+    ∙ ap (choice s (value e s) (plain c n (first ++ k ∷ []) s)) (sym (plain_append c n second (k ∷ []) s))
+    ∙ sym (plain_if c n e (first ++ k ∷ []) (second ++ k ∷ []) s)
+    ∙ sym (alone c n (If e (first ++ k ∷ []) (second ++ k ∷ [])) s)
+
+-- code that ends alike from each state does the same
+pub follows_alike : (old new : List KStmt) → ((c : Setting) (n : ℕ) (s : State) → plain c n old s ≡ plain c n new s)
+    → Follows (Agree []) old new (Agree [])
+follows_alike old new same = record {
+  at = λ c n s w h.
+      subst (λ v. EndsAlike (Agree []) (plain c n old s) (plain c n new (with_vars s v))) (sym (same_vars s.vars w h))
+      (subst (EndsAlike (Agree []) (plain c n old s)) (same c n s) (ends_same (plain c n old s)));
+}
+
+pub takes_in : (e : KExpr) (first second one other : List KStmt) (k again : KStmt) → again ≡ k → one ≡ first ++ again ∷ []
+    → other ≡ second ++ k ∷ [] → Follows (Agree []) (If e first second ∷ k ∷ []) (If e one other ∷ []) (Agree [])
+takes_in e first second one other k again is here there =
+    follows_now (Agree []) (Agree []) (If e first second ∷ k ∷ []) (If e first second ∷ k ∷ []) (If e one other ∷ [])
+    (If e (first ++ k ∷ []) (second ++ k ∷ []) ∷ []) refl
+    (ap (λ x. If e x other ∷ []) (here ∙ ap (λ a. first ++ a ∷ []) is) ∙ ap (λ x. If e (first ++ k ∷ []) x ∷ []) there)
+    (follows_alike (If e first second ∷ k ∷ []) (If e (first ++ k ∷ []) (second ++ k ∷ []) ∷ [])
+    (λ c n s. taken_in c n e first second k s))
+
+-- what is done of the first statements is done before the others
+pub before_rest : (a new rest : List KStmt) → Follows (Agree []) a new (Agree []) → Follows (Agree []) (a ++ rest) (new ++ rest) (Agree [])
+before_rest a new rest h = follows_then (Agree []) (Agree []) (Agree []) a rest new rest h (follows_same rest)

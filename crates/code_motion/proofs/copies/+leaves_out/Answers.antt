@@ -1,9 +1,9 @@
 use Rattle.std.proofs.Common.{◌≢◌, sym, subst}
 use Rattle.kernel_code.specs.Keeps.{EveryArray}
 use Rattle.kernel_code.proofs.Keeps.{mentions_at, mentions_bin, mentions_min, mentions_width}
-use Rattle.copy_lifting.specs.Apart.{LeavesOut}
-use Rattle.copy_lifting.proofs.Mentions.{from_part, is_true}
-use Rattle.copy_lifting.proofs.lifting.+leaves_out.Goals as goal
+use Rattle.code_motion.specs.Apart.{LeavesOut}
+use Rattle.code_motion.proofs.Mentions.{from_part, is_true}
+use Rattle.code_motion.proofs.copies.+leaves_out.Goals as goal
 
 pub returns-in-At : goal.returns-in-At
 returns-in-At t c =
