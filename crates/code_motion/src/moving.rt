@@ -80,12 +80,7 @@ fn put_choice(
 }
 
 /// Puts a statement before code, or moves one of the two.
-fn put(
-    alloc: Global,
-    what: Move,
-    backwards: &mut Vec<KStmt>,
-    s: KStmt,
-) -> Result<(), AllocError>
+fn put(alloc: Global, what: Move, backwards: &mut Vec<KStmt>, s: KStmt) -> Result<(), AllocError>
     ensures { OnOk result (Follows (Agree []) (s ∷ reverse backwards.old.items) (reverse backwards.new.items) (Agree [])) }
 {
     match what {
