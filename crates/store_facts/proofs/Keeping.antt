@@ -1,20 +1,19 @@
 -- Facts that hold where a run starts hold where it ends, since no kernel writes the arrays that they speak of.
 use Rattle.std.specs.Prelude.{◌≡◌, ℕ, zero, suc, ◌+◌, Bool, true, false, nat_lt, ◌==◌, if◌then◌else◌, List, [], ◌∷◌, ◌++◌}
-use Rattle.std.specs.Prelude.{length, slice_get, slice_index, slice_set, replicate, take, Option, Some, None, refl}
+use Rattle.std.specs.Prelude.{length, slice_get, slice_set, replicate, Option, Some, None, refl}
 use Rattle.std.proofs.Common.{ap}
 use Rattle.numbers.specs.Arithmetic.{Arithmetic}
 use Rattle.kernel_code.specs.declared.syntax.Arr.{Arr}
 use Rattle.kernel_code.specs.declared.syntax.Arr.TheVariants.{Key, Sums, ListCoordinates, ListPositions}
 use Rattle.kernel_code.specs.declared.syntax.LoopKind.{LoopKind}
-use Rattle.kernel_code.specs.declared.syntax.KExpr.{KExpr}
 use Rattle.kernel_code.specs.declared.syntax.KStmt.{KStmt, Set, Combine, Put, AddTo, Push, Extend, Cut, Sort, SortSum, If', While'}
 use Rattle.kernel_code.specs.declared.syntax.KStmt.{Row_of-KStmt, end_of-KStmt, more_of-KStmt}
-use Rattle.kernel_code.specs.Arrays.{same_arr, may_write, may_have, told_count, sum_in}
+use Rattle.kernel_code.specs.Arrays.{same_arr, may_write, may_have, told_count}
 use Rattle.kernel_code.specs.Rows.{Row}
 use Rattle.kernel_code.specs.Meaning.{Setting, State, Outcome, Ended, Stuck, Over, More, value, apply_each, combined, one_turn, then_run}
 use Rattle.kernel_code.specs.Meaning.{behind, statements_in, statements_in_row, choice, run_turns, run, run_row, run_list, add_outcome}
 use Rattle.kernel_code.specs.Meaning.{push_outcome, extend_outcome, cut_outcome, sort_outcome, sort_sum_outcome, summed, set_columns}
-use Rattle.kernel_code.specs.Meaning.{key_columns, with_value, with_array, if_written, changed, grown, set_var, set_array}
+use Rattle.kernel_code.specs.Meaning.{key_columns, with_value, with_array, if_written, changed, set_var, set_array}
 use Rattle.kernel_code.proofs.ArrayNames.{same_arr_is}
 use Rattle.kernel_code.proofs.Keeps.{other_array}
 use Rattle.simplifier.specs.Refines.{plain}

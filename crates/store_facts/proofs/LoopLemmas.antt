@@ -12,7 +12,7 @@ use Rattle.kernel_code.specs.declared.syntax.KExpr.{more_of-KExpr}
 use Rattle.kernel_code.specs.declared.syntax.KStmt.{KStmt, Set, While}
 use Rattle.kernel_code.specs.Keeps.{Mentions, Mentions_in}
 use Rattle.kernel_code.specs.Meaning.{Setting, State, Outcome, Ended, Stuck, Over, More, value, word_of, apply_both, one_turn, then_run}
-use Rattle.kernel_code.specs.Meaning.{choice, run_turns, run, set_var, set_outcome}
+use Rattle.kernel_code.specs.Meaning.{choice, run_turns, set_var, set_outcome}
 use Rattle.kernel_code.proofs.Behind.{then_same}
 use Rattle.kernel_code.proofs.Equations.{value_at, value_bin}
 use Rattle.kernel_code.proofs.Keeps.{this_var, value_kept}
@@ -55,7 +55,6 @@ module _ (F : List StoreFact) (k : LoopKind) (x last : ℕ) (asks test coordinat
     (there : (s : State) (v : ℕ) → KeepsFacts F s → coordinate s ≡ Some v → asks (set_var s x v) ≡ Some 1)
     (still : (s : State) → coordinate (one_turn s k) ≡ coordinate s)
     (keeps : (s : State) → KeepsFacts F s → KeptAfter F (inner s)) where
-
   -- from a load on
   enter : (j : ℕ) (s : State) (p q : Option ℕ) → test s ≡ p → coordinate s ≡ q → KeepsFacts F s
       → IsGood (then_run (loaded x last s p q) (run_turns j k asks old))

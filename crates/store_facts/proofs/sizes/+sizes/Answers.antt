@@ -1,4 +1,4 @@
-use Rattle.std.proofs.Common.{[], refl}
+use Rattle.std.proofs.Common.{[]}
 use Rattle.store_facts.proofs.CodeLemmas.{itself, loop_now, refines_choice, refines_combine, refines_cut, refines_extend, refines_last}
 use Rattle.store_facts.proofs.CodeLemmas.{refines_more, refines_pushed, refines_push, refines_put, refines_set, refines_sum}
 use Rattle.kernel_code.specs.declared.syntax.KStmt.{Sort, SortSum}
