@@ -117,7 +117,8 @@ with_as s None q f g h good same = absurd good
 with_as s (Some v) q f g h good same = ap (λ x. with_value s x g) (h v refl) ∙ same v good
 
 -- statements, as they are written now
-from_step : (F : List StoreFact) (k s s' : KStmt) → s ≡ s' → Refines (KeepsFacts F) (k ∷ []) (s' ∷ []) → Refines (KeepsFacts F) (k ∷ []) (s ∷ [])
+from_step : (F : List StoreFact) (k s s' : KStmt) → s ≡ s' → Refines (KeepsFacts F) (k ∷ []) (s' ∷ [])
+    → Refines (KeepsFacts F) (k ∷ []) (s ∷ [])
 from_step F k s s' is h = subst (λ x. Refines (KeepsFacts F) (k ∷ []) (x ∷ [])) (sym is) h
 
 pub itself : (F : List StoreFact) (k s : KStmt) → s ≡ k → Refines (KeepsFacts F) (k ∷ []) (s ∷ [])
@@ -148,7 +149,8 @@ refines_put F k a i e j d is b p = from_step F (Put a j d) k (Put a i e) is (ref
 
 pub refines_sum : (F : List StoreFact) (k : KStmt) (a : Arr) (i e j d : KExpr) → k ≡ AddTo a i e → Becomes F i j → Becomes F e d
     → Refines (KeepsFacts F) (AddTo a j d ∷ []) (k ∷ [])
-refines_sum F k a i e j d is b p = from_step F (AddTo a j d) k (AddTo a i e) is (refines_alike F (AddTo a i e) (AddTo a j d) (λ c n s k good.
+refines_sum F k a i e j d is b p = from_step F (AddTo a j d) k (AddTo a i e) is
+    (refines_alike F (AddTo a i e) (AddTo a j d) (λ c n s k good.
     with_as s (value i s) (value j s) (λ i. add_outcome c.arithmetic s a (Some i) (value e s))
     (λ i. add_outcome c.arithmetic s a (Some i) (value d s)) (λ v h. b.at s v k h) good
     (λ m good. with_as s (value e s) (value d s) (λ v. add_outcome c.arithmetic s a (Some m) (Some v))

@@ -135,7 +135,8 @@ pub becomes_range : (fs : List StoreFact) (tensor level variable : ℕ) → Tell
     → Becomes fs (At (arr.Dimension tensor level) (Num 0)) (At arr.Range (Num variable))
 becomes_range fs tensor level variable t = record {
   at = λ s v k is.
-      let read = read_word (s.arrays (arr.Dimension tensor level)) (Some 0) v (sym (value_at (arr.Dimension tensor level) (Num 0) s) ∙ is) in
+      let read = read_word (s.arrays (arr.Dimension tensor level)) (Some 0) v
+      (sym (value_at (arr.Dimension tensor level) (Num 0) s) ∙ is) in
       let place : read.1 ≡ 0 = cc in
       value_at arr.Range (Num variable) s
       ∙ t.at s k read.0 v read.2 (ap (slice_get read.0) (sym place) ∙ read.4);
@@ -152,6 +153,7 @@ pub coordinate_below : (fs : List StoreFact) (tensor level variable : ℕ) (i : 
     → Tells fs (Coordinates tensor level variable) → IsBelow fs (At (arr.Coordinates tensor level) i) variable
 coordinate_below fs tensor level variable i fixed t = record {
   at = λ s v k is.
-      let read = read_word (s.arrays (arr.Coordinates tensor level)) (value i s) v (sym (value_at (arr.Coordinates tensor level) i s) ∙ is) in
+      let read = read_word (s.arrays (arr.Coordinates tensor level)) (value i s) v
+      (sym (value_at (arr.Coordinates tensor level) i s) ∙ is) in
       t.at s k fixed read.0 read.1 v read.2 read.4;
 }

@@ -39,7 +39,8 @@ variable_kept F s x v k = facts_kept F s (set_var s x v) (λ a fixed. refl) k
 pub turn_kept : (F : List StoreFact) (s : State) (k : LoopKind) → KeepsFacts F s → KeepsFacts F (one_turn s k)
 turn_kept F s k h = facts_kept F s (one_turn s k) (λ a fixed. refl) h
 
-written_kept : (F : List StoreFact) (s : State) (a : Arr) (xs : List ℕ) → may_write a ≡ true → KeepsFacts F s → KeepsFacts F (set_array s a xs)
+written_kept : (F : List StoreFact) (s : State) (a : Arr) (xs : List ℕ) → may_write a ≡ true → KeepsFacts F s
+    → KeepsFacts F (set_array s a xs)
 written_kept F s a xs w k =
     facts_kept F s (set_array s a xs) (λ d fixed. other_array s a d xs (apart (same_arr a d) a d w fixed refl)) k
 
@@ -132,7 +133,8 @@ mutual
   run_kept F c n (Push a e) s h =
       with_kept F s (value e s) (λ v. push_outcome s a (Some v))
       (λ v. array_kept F s (may_write a) (s.arrays a) _
-      (λ w ys. grown_kept F (may_have a (length ys + 1)) _ s.turns a (told_count a (length ys + 1)) (written_kept F s a (ys ++ v ∷ []) w h)))
+      (λ w ys. grown_kept F (may_have a (length ys + 1)) _ s.turns a (told_count a (length ys + 1))
+      (written_kept F s a (ys ++ v ∷ []) w h)))
   run_kept F c n (Extend a i e) s h =
       with_kept F s (value i s) (λ i. extend_outcome s a (Some i) (value e s))
       (λ m. with_kept F s (value e s) (λ v. extend_outcome s a (Some m) (Some v))
@@ -172,5 +174,6 @@ unnumbered_kept F (Over t a count) h = h
 unnumbered_kept F More h = h
 
 -- a run of code keeps facts
-pub code_keeps : (F : List StoreFact) (c : Setting) (n : ℕ) (code : List KStmt) (s : State) → KeepsFacts F s → KeptAfter F (plain c n code s)
+pub code_keeps : (F : List StoreFact) (c : Setting) (n : ℕ) (code : List KStmt) (s : State) → KeepsFacts F s
+    → KeptAfter F (plain c n code s)
 code_keeps F c n code s h = unnumbered_kept F (run_list c n code s) (list_kept F c n code s h)

@@ -203,8 +203,8 @@ load_and_loop F kind load variable inner below = record {
 }
 
 -- a loop that goes by the load at the end of the code before it
-pub loop_placed : (F : List StoreFact) (kind : LoopKind) (load : Load) (before : List KStmt) (test : KExpr) (body out front inner : List KStmt)
-    (variable : ℕ) → before ≡ front ++ load_code load ∷ [] → body ≡ inner ++ load_code load ∷ []
+pub loop_placed : (F : List StoreFact) (kind : LoopKind) (load : Load) (before : List KStmt) (test : KExpr)
+    (body out front inner : List KStmt) (variable : ℕ) → before ≡ front ++ load_code load ∷ [] → body ≡ inner ++ load_code load ∷ []
     → test ≡ below_range load.variable variable → IsBelow F load.coordinate variable → out ≡ front ++ loop_code kind load inner
     → Refines (KeepsFacts F) out (before ++ While kind test body ∷ [])
 loop_placed F kind load before test body out front inner variable ahead behind tests below is =

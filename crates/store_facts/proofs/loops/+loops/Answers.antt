@@ -19,7 +19,8 @@ add_statement-returns-in_ok-second-in-If t c =
     second.second s.is c.as_slice.ensures c.as_slice-in-If.ensures (becomes_copy F s.test test.test test.ensures) first.ensures
     second.ensures in
     let out = c.args.out.now in
-    if_ok_more c.push.result (λ u. c.push.new.self ≡ out ++ new ∷ []) (λ u. Refines (KeepsFacts F) c.push.new.self (out ++ c.args.s.now ∷ [])) c.push.ensures.ok
+    if_ok_more c.push.result (λ u. c.push.new.self ≡ out ++ new ∷ [])
+    (λ u. Refines (KeepsFacts F) c.push.new.self (out ++ c.args.s.now ∷ [])) c.push.ensures.ok
     (λ u is. refines_last F out c.push.new.self new c.args.s.now is step)
 
 pub add_statement-returns-in_ok-body-in-While : goal.add_statement-returns-in_ok-body-in-While

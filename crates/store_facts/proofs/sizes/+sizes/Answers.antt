@@ -62,8 +62,8 @@ statement_by_ranges-returns-in_ok-second-in-If t c =
     let test = c.in_ok-test-in-If in
     let first = c.in_ok-first-in-If in
     let second = c.in_ok-second-in-If in
-    refines_choice c.args.facts.now c.args.s.now s.test test.test s.first s.second c.as_slice.result.now c.as_slice-in-If.result.now first.first
-    second.second s.is c.as_slice.ensures c.as_slice-in-If.ensures test.ensures first.ensures second.ensures
+    refines_choice c.args.facts.now c.args.s.now s.test test.test s.first s.second c.as_slice.result.now c.as_slice-in-If.result.now
+    first.first second.second s.is c.as_slice.ensures c.as_slice-in-If.ensures test.ensures first.ensures second.ensures
 
 pub statement_by_ranges-returns-in_ok-body-in-While : goal.statement_by_ranges-returns-in_ok-body-in-While
 statement_by_ranges-returns-in_ok-body-in-While t c =
