@@ -1,6 +1,7 @@
 -- Statements that change places, and code that stays.
-use Rattle.std.specs.Prelude.{◌≡◌, ◌≢◌, ℕ, zero, suc, Bool, true, false, ◌==◌, if◌then◌else◌, List, [], ◌∷◌, ◌++◌, Option, Some, None, refl}
-use Rattle.std.proofs.Common.{◌∙◌, ap, sym, subst}
+use Rattle.std.specs.Prelude.{◌≡◌, ◌≢◌, ℕ, zero, suc, Bool, true, false, ◌==◌, if◌then◌else◌, List, [], ◌∷◌, ◌++◌, Option, Some, None, reverse, refl}
+use Rattle.std.proofs.Common.{◌∙◌, ap, sym, subst, append-nil}
+use Rattle.std.proofs.lemmas.List.{reverse-append}
 use Rattle.lists.proofs.Tests.{same_number, number_apart}
 use Rattle.kernel_code.specs.declared.syntax.KExpr.{KExpr, Var}
 use Rattle.kernel_code.specs.declared.syntax.KStmt.{KStmt, Set, If, While}
@@ -188,3 +189,58 @@ takes_in e first second one other k again is here there =
 -- what is done of the first statements is done before the others
 pub before_rest : (a new rest : List KStmt) → Follows (Agree []) a new (Agree []) → Follows (Agree []) (a ++ rest) (new ++ rest) (Agree [])
 before_rest a new rest h = follows_then (Agree []) (Agree []) (Agree []) a rest new rest h (follows_same rest)
+
+-- lists from the last on: a statement put before code, behind its first one, in its place, and one that takes it in
+last_first : (xs : List KStmt) (k : KStmt) → reverse (xs ++ k ∷ []) ≡ k ∷ reverse xs
+last_first xs k = reverse-append xs (k ∷ [])
+
+pub put_first : (old mid new : List KStmt) (s : KStmt) → old ≡ mid ++ [] → new ≡ mid ++ s ∷ []
+    → Follows (Agree []) (s ∷ reverse old) (reverse new) (Agree [])
+put_first old mid new s is put =
+    follows_now (Agree []) (Agree []) (s ∷ reverse old) (s ∷ reverse mid) (reverse new) (s ∷ reverse mid)
+    (ap (λ xs. s ∷ reverse xs) (is ∙ append-nil mid)) (ap reverse put ∙ last_first mid s) (follows_same (s ∷ reverse mid))
+
+pub put_ahead : (old mid one new : List KStmt) (s next : KStmt) → old ≡ mid ++ next ∷ [] → one ≡ mid ++ next ∷ [] → new ≡ one ++ s ∷ []
+    → Follows (Agree []) (s ∷ reverse old) (reverse new) (Agree [])
+put_ahead old mid one new s next is again put =
+    follows_now (Agree []) (Agree []) (s ∷ reverse old) (s ∷ reverse old) (reverse new) (s ∷ reverse old) refl
+    (ap reverse put ∙ last_first one s ∙ ap (λ xs. s ∷ reverse xs) (again ∙ sym is)) (follows_same (s ∷ reverse old))
+
+pub put_behind : (old mid one new : List KStmt) (s next : KStmt) → old ≡ mid ++ next ∷ [] → one ≡ mid ++ s ∷ [] → new ≡ one ++ next ∷ []
+    → MaySwap s next → Follows (Agree []) (s ∷ reverse old) (reverse new) (Agree [])
+put_behind old mid one new s next is first put may =
+    follows_now (Agree []) (Agree []) (s ∷ reverse old) (s ∷ next ∷ reverse mid) (reverse new) (next ∷ s ∷ reverse mid)
+    (ap (λ xs. s ∷ reverse xs) is ∙ ap (λ xs. s ∷ xs) (last_first mid next))
+    (ap reverse put ∙ last_first one next ∙ ap (λ xs. next ∷ reverse xs) first ∙ ap (λ xs. next ∷ xs) (last_first mid s))
+    (behind_copy s next (reverse mid) may)
+
+pub put_taken : (old mid new : List KStmt) (s next all : KStmt) → old ≡ mid ++ next ∷ [] → new ≡ mid ++ all ∷ []
+    → Follows (Agree []) (s ∷ next ∷ []) (all ∷ []) (Agree []) → Follows (Agree []) (s ∷ reverse old) (reverse new) (Agree [])
+put_taken old mid new s next all is put taken =
+    follows_now (Agree []) (Agree []) (s ∷ reverse old) (s ∷ next ∷ reverse mid) (reverse new) (all ∷ reverse mid)
+    (ap (λ xs. s ∷ reverse xs) is ∙ ap (λ xs. s ∷ xs) (last_first mid next)) (ap reverse put ∙ last_first mid all)
+    (before_rest (s ∷ next ∷ []) (all ∷ []) (reverse mid) taken)
+
+-- one more statement before those behind it
+pub one_before : (code rest : List KStmt) (k moved : KStmt) (backwards new : List KStmt)
+    → Follows (Agree []) (k ∷ []) (moved ∷ []) (Agree []) → Follows (Agree []) rest (reverse backwards) (Agree [])
+    → Follows (Agree []) (moved ∷ reverse backwards) (reverse new) (Agree []) → code ≡ k ∷ rest
+    → Follows (Agree []) code (reverse new) (Agree [])
+one_before code rest k moved backwards new p q put is = record {
+  at = λ c n s w h.
+      let first = follows_then (Agree []) (Agree []) (Agree []) (k ∷ []) rest (moved ∷ []) (reverse backwards) p q in
+      subst (λ xs. EndsAlike (Agree []) (plain c n xs s) (plain c n (reverse new) (with_vars s w))) (sym is)
+      (alike_then (plain c n (k ∷ rest) s) (plain c n (moved ∷ reverse backwards) s) (plain c n (reverse new) (with_vars s w))
+      (first.at c n s s.vars (record { at = λ x live. refl })) (put.at c n s w h));
+}
+  where
+    alike_then : (o p q : Outcome) → EndsAlike (Agree []) o p → EndsAlike (Agree []) p q → EndsAlike (Agree []) o q
+    alike_then (Ended s) p q h g = ended s p q h.vars h.is (same_vars s.vars h.vars h.tied) g
+      where
+        ended : (s : State) (p q : Outcome) (vars : Vars) → p ≡ Ended (with_vars s vars) → vars ≡ s.vars → EndsAlike (Agree []) p q
+            → EndsAlike (Agree []) (Ended s) q
+        ended s p q vars is same g =
+            subst (λ o. EndsAlike (Agree []) o q) (is ∙ ap (λ v. Ended (with_vars s v)) same) g
+    alike_then (Stuck t statement) p q h g = tt
+    alike_then (Over t a count) p q h g = subst (λ o. EndsAlike (Agree []) o q) h g
+    alike_then More p q h g = subst (λ o. EndsAlike (Agree []) o q) h g

@@ -1,7 +1,8 @@
 -- The size of a mode at which one variable alone stands.
 use Rattle.std.specs.Prelude.{◌≡◌, ◌≢◌, ℕ, max, ◌≤◌, Bool, true, false, nat_eq, if◌then◌else◌, ◌==◌}
 use Rattle.std.specs.Prelude.{List, [], ◌∷◌, ◌++◌, map, Option, Some, None, option_to_list, slice_get, refl}
-use Rattle.std.proofs.Common.{◌∙◌, ap, subst, arith, eq-eqb, unequal}
+use Rattle.std.proofs.Common.{◌∙◌, ap, subst, arith, eq-eqb}
+use Rattle.expr_terms.proofs.PointLaws.{unequal}
 use Rattle.index_notation.specs.declared.syntax.Access.{Access}
 use Rattle.expr_terms.specs.Ranges.{greatest_of, ranges_at}
 use Rattle.statement_facts.specs.Alone.{Standing, Nothing, One, Several, StandsIn}
@@ -48,3 +49,29 @@ pub again_stands : (tensor mode v : ℕ) (first : Access) (accesses : List Acces
 again_stands tensor mode v first accesses same is one = λ ranges.
     ap greatest_of (ranges_there ranges tensor mode first accesses (Some v) same is)
     ∙ greatest_alone (ranges v) (ranges v) (ranges_at ranges tensor mode accesses) (one ranges) refl
+
+-- with one variable more than stands in the others
+pub none_before : (tensor mode v : ℕ) (standing : Standing) → standing ≡ Nothing → (first : Access) (accesses : List Access)
+    → first.tensor ≡ tensor → slice_get first.vars mode ≡ Some v → StandsIn tensor mode accesses standing
+    → StandsIn tensor mode (first ∷ accesses) (One v)
+none_before tensor mode v standing is first accesses same at h =
+    first_stands tensor mode v first accesses same at (subst (StandsIn tensor mode accesses) is h)
+
+pub same_before : (tensor mode v w : ℕ) (standing : Standing) → standing ≡ One w → w ≡ v → (first : Access) (accesses : List Access)
+    → first.tensor ≡ tensor → slice_get first.vars mode ≡ Some v → StandsIn tensor mode accesses standing
+    → StandsIn tensor mode (first ∷ accesses) (One v)
+same_before tensor mode v w standing is equal first accesses same at h =
+    again_stands tensor mode v first accesses same at
+    (subst (StandsIn tensor mode accesses) (is ∙ ap One equal) h)
+
+-- an access of another tensor, and one without such a mode
+pub other_tensor : (tensor mode : ℕ) (standing : Standing) (first : Access) → first.tensor ≢ tensor → (accesses : List Access)
+    → StandsIn tensor mode accesses standing → StandsIn tensor mode (first ∷ accesses) standing
+other_tensor tensor mode standing first other accesses h =
+    stands_alike tensor mode accesses (first ∷ accesses) standing (λ ranges. ranges_elsewhere ranges tensor mode first accesses other) h
+
+pub without_mode : (tensor mode : ℕ) (standing : Standing) (first : Access) → first.tensor ≡ tensor → slice_get first.vars mode ≡ None
+    → (accesses : List Access) → StandsIn tensor mode accesses standing → StandsIn tensor mode (first ∷ accesses) standing
+without_mode tensor mode standing first same at accesses h =
+    stands_alike tensor mode accesses (first ∷ accesses) standing
+    (λ ranges. ranges_there ranges tensor mode first accesses None same at) h
