@@ -24,7 +24,7 @@ use Rattle.dead_code.specs.Follows.{Vars, Tie, with_vars, EndsAlike, Follows, Re
 abbrev pub given : Vars → ℕ → ℕ → Vars
 given vars x v = λ y. if x == y then Some v else vars y
 
-alike_now : (A : Tie) (o o' p p' : Outcome) → o ≡ o' → p ≡ p' → EndsAlike A o' p' → EndsAlike A o p
+pub alike_now : (A : Tie) (o o' p p' : Outcome) → o ≡ o' → p ≡ p' → EndsAlike A o' p' → EndsAlike A o p
 alike_now A o o' p p' is same h = subst (λ q. EndsAlike A q p) (sym is) (subst (EndsAlike A o') (sym same) h)
 
 alike_wider : (A B : Tie) → ((v w : Vars) → A v w → B v w) → (o p : Outcome) → EndsAlike A o p → EndsAlike B o p
@@ -33,7 +33,7 @@ alike_wider A B wider (Stuck t statement) p h = tt
 alike_wider A B wider (Over t a count) p h = h
 alike_wider A B wider More p h = h
 
-alike_plain : (A : Tie) (o p : Outcome) → EndsAlike A o p → EndsAlike A (unnumbered o) (unnumbered p)
+pub alike_plain : (A : Tie) (o p : Outcome) → EndsAlike A o p → EndsAlike A (unnumbered o) (unnumbered p)
 alike_plain A (Ended s) p h = record { vars = h.vars; is = ap unnumbered h.is; tied = h.tied }
 alike_plain A (Stuck t statement) p h = tt
 alike_plain A (Over t a count) p h = ap unnumbered h
@@ -99,7 +99,7 @@ pub follows_now : (A B : Tie) (a a' b b' : List KStmt) → a ≡ a' → b ≡ b'
 follows_now A B a a' b b' is same h = subst (λ x. Follows A x b B) (sym is) (subst (λ x. Follows A a' x B) (sym same) h)
 
 -- a statement
-alone : (c : Setting) (n : ℕ) (k : KStmt) (s : State) → plain c n (k ∷ []) s ≡ unnumbered (run c n k s)
+pub alone : (c : Setting) (n : ℕ) (k : KStmt) (s : State) → plain c n (k ∷ []) s ≡ unnumbered (run c n k s)
 alone c n k s = last (run c n k s)
   where
     last : (o : Outcome) → unnumbered (then_run o (λ s'. behind (statements_in k) (Ended s'))) ≡ unnumbered o
@@ -122,21 +122,32 @@ follows_alike : (A B : Tie) (k j : KStmt)
 follows_alike A B k j h = follows_step A B k j (λ c n s w tied. alike_plain B (run c n k s) (run c n j (with_vars s w)) (h c n s w tied))
 
 -- a variable that is set: the value told by the second may stand in another variable
+pub set_alike : (A : Tie) (x y : ℕ) (e f : KExpr) (c : Setting) (n : ℕ) (s : State) (w : Vars) → value f (with_vars s w) ≡ value e s
+    → ((v : ℕ) → A (given s.vars x v) (given w y v)) → EndsAlike A (run c n (Set x e) s) (run c n (Set y f) (with_vars s w))
+set_alike A x y e f c n s w is sets =
+    with_alike A s w (value e s) (value f (with_vars s w)) (λ v. Ended (set_var s x v)) (λ v. Ended (set_var (with_vars s w) y v)) is
+    (λ v. record { vars = given w y v; is = refl; tied = sets v })
+
 pub follows_set : (A B : Tie) (x y : ℕ) (e f : KExpr) → ReadsAs A e f → ((v w : Vars) (n : ℕ) → A v w → B (given v x n) (given w y n))
     → Follows A (Set x e ∷ []) (Set y f ∷ []) B
 follows_set A B x y e f reads sets = follows_alike A B (Set x e) (Set y f) (λ c n s w h.
-    with_alike B s w (value e s) (value f (with_vars s w)) (λ v. Ended (set_var s x v)) (λ v. Ended (set_var (with_vars s w) y v))
-    (reads.at s w h) (λ v. record { vars = given w y v; is = refl; tied = sets s.vars w v h }))
+    set_alike B x y e f c n s w (reads.at s w h) (λ v. sets s.vars w v h))
+
+pub combine_alike : (A : Tie) (x y : ℕ) (o : ValueOp) (e f g h : KExpr) (c : Setting) (n : ℕ) (s : State) (w : Vars)
+    → value g (with_vars s w) ≡ value e s → value h (with_vars s w) ≡ value f s → ((v : ℕ) → A (given s.vars x v) (given w y v))
+    → EndsAlike A (run c n (Combine x o e f) s) (run c n (Combine y o g h) (with_vars s w))
+combine_alike A x y o e f g h c n s w first second sets =
+    with_alike A s w (apply_each (combined c.arithmetic o) (value e s) (value f s))
+    (apply_each (combined c.arithmetic o) (value g (with_vars s w)) (value h (with_vars s w)))
+    (λ v. Ended (set_var s x v)) (λ v. Ended (set_var (with_vars s w) y v))
+    (ap (λ p. apply_each (combined c.arithmetic o) p (value h (with_vars s w))) first
+    ∙ ap (apply_each (combined c.arithmetic o) (value e s)) second)
+    (λ v. record { vars = given w y v; is = refl; tied = sets v })
 
 pub follows_combine : (A B : Tie) (x y : ℕ) (o : ValueOp) (e f g h : KExpr) → ReadsAs A e g → ReadsAs A f h
     → ((v w : Vars) (n : ℕ) → A v w → B (given v x n) (given w y n)) → Follows A (Combine x o e f ∷ []) (Combine y o g h ∷ []) B
 follows_combine A B x y o e f g h first second sets = follows_alike A B (Combine x o e f) (Combine y o g h) (λ c n s w k.
-    with_alike B s w (apply_each (combined c.arithmetic o) (value e s) (value f s))
-    (apply_each (combined c.arithmetic o) (value g (with_vars s w)) (value h (with_vars s w)))
-    (λ v. Ended (set_var s x v)) (λ v. Ended (set_var (with_vars s w) y v))
-    (ap (λ p. apply_each (combined c.arithmetic o) p (value h (with_vars s w))) (first.at s w k)
-    ∙ ap (apply_each (combined c.arithmetic o) (value e s)) (second.at s w k))
-    (λ v. record { vars = given w y v; is = refl; tied = sets s.vars w v k }))
+    combine_alike B x y o e f g h c n s w (first.at s w k) (second.at s w k) (λ v. sets s.vars w v k))
 
 -- a statement that sets a variable whose value the tie doesn't ask for
 dropped : (A B : Tie) (k : KStmt)
@@ -161,51 +172,75 @@ combine_dropped A B x o e f h = dropped A B (Combine x o e f) (λ c n s w tied.
     value_dropped B s w x (apply_each (combined c.arithmetic o) (value e s) (value f s)) (λ v. h s.vars w v tied))
 
 -- arrays
-pub follows_put : (A : Tie) (a : Arr) (i e j f : KExpr) → ReadsAs A i j → ReadsAs A e f → Follows A (Put a i e ∷ []) (Put a j f ∷ []) A
-follows_put A a i e j f index item = follows_alike A A (Put a i e) (Put a j f) (λ c n s w h.
-    with_alike A s w (value i s) (value j (with_vars s w)) (λ m. with_value s (value e s) (λ v. with_array s a (changed s a m (λ old. v))))
-    (λ m. with_value (with_vars s w) (value f (with_vars s w)) (λ v. with_array (with_vars s w) a (changed (with_vars s w) a m (λ old. v))))
-    (index.at s w h)
-    (λ m. with_alike A s w (value e s) (value f (with_vars s w)) (λ v. with_array s a (changed s a m (λ old. v)))
-    (λ v. with_array (with_vars s w) a (changed (with_vars s w) a m (λ old. v))) (item.at s w h)
-    (λ v. written_alike A s w (may_write a) (s.arrays a) (changed s a m (λ old. v)) (changed (with_vars s w) a m (λ old. v))
-    (λ ys. changed_alike A s w (nat_lt m (length ys)) a (slice_set ys m v) h))))
+module _ (A : Tie) (a : Arr) where
+  pub put_alike : (i e j f : KExpr) (c : Setting) (n : ℕ) (s : State) (w : Vars) → value j (with_vars s w) ≡ value i s
+      → value f (with_vars s w) ≡ value e s → A s.vars w → EndsAlike A (run c n (Put a i e) s) (run c n (Put a j f) (with_vars s w))
+  put_alike i e j f c n s w index item h =
+      with_alike A s w (value i s) (value j (with_vars s w)) (λ m. with_value s (value e s) (λ v. with_array s a (changed s a m (λ old. v))))
+      (λ m. with_value (with_vars s w) (value f (with_vars s w)) (λ v.
+      with_array (with_vars s w) a (changed (with_vars s w) a m (λ old. v))))
+      index
+      (λ m. with_alike A s w (value e s) (value f (with_vars s w)) (λ v. with_array s a (changed s a m (λ old. v)))
+      (λ v. with_array (with_vars s w) a (changed (with_vars s w) a m (λ old. v))) item
+      (λ v. written_alike A s w (may_write a) (s.arrays a) (changed s a m (λ old. v)) (changed (with_vars s w) a m (λ old. v))
+      (λ ys. changed_alike A s w (nat_lt m (length ys)) a (slice_set ys m v) h)))
 
-pub follows_sum : (A : Tie) (a : Arr) (i e j f : KExpr) → ReadsAs A i j → ReadsAs A e f → Follows A (AddTo a i e ∷ []) (AddTo a j f ∷ []) A
-follows_sum A a i e j f index item = follows_alike A A (AddTo a i e) (AddTo a j f) (λ c n s w h.
-    with_alike A s w (value i s) (value j (with_vars s w)) (λ m. add_outcome c.arithmetic s a (Some m) (value e s))
-    (λ m. add_outcome c.arithmetic (with_vars s w) a (Some m) (value f (with_vars s w))) (index.at s w h)
-    (λ m. with_alike A s w (value e s) (value f (with_vars s w)) (λ v. add_outcome c.arithmetic s a (Some m) (Some v))
-    (λ v. add_outcome c.arithmetic (with_vars s w) a (Some m) (Some v)) (item.at s w h)
-    (λ v. written_alike A s w (may_write a) (s.arrays a) (changed s a m (λ old. sum_in c.arithmetic a old v))
-    (changed (with_vars s w) a m (λ old. sum_in c.arithmetic a old v))
-    (λ ys. changed_alike A s w (nat_lt m (length ys)) a (slice_set ys m (sum_in c.arithmetic a (slice_index ys m) v)) h))))
+  pub sum_alike : (i e j f : KExpr) (c : Setting) (n : ℕ) (s : State) (w : Vars) → value j (with_vars s w) ≡ value i s
+      → value f (with_vars s w) ≡ value e s → A s.vars w → EndsAlike A (run c n (AddTo a i e) s) (run c n (AddTo a j f) (with_vars s w))
+  sum_alike i e j f c n s w index item h =
+      with_alike A s w (value i s) (value j (with_vars s w)) (λ m. add_outcome c.arithmetic s a (Some m) (value e s))
+      (λ m. add_outcome c.arithmetic (with_vars s w) a (Some m) (value f (with_vars s w))) index
+      (λ m. with_alike A s w (value e s) (value f (with_vars s w)) (λ v. add_outcome c.arithmetic s a (Some m) (Some v))
+      (λ v. add_outcome c.arithmetic (with_vars s w) a (Some m) (Some v)) item
+      (λ v. written_alike A s w (may_write a) (s.arrays a) (changed s a m (λ old. sum_in c.arithmetic a old v))
+      (changed (with_vars s w) a m (λ old. sum_in c.arithmetic a old v))
+      (λ ys. changed_alike A s w (nat_lt m (length ys)) a (slice_set ys m (sum_in c.arithmetic a (slice_index ys m) v)) h)))
 
-pub follows_push : (A : Tie) (a : Arr) (e f : KExpr) → ReadsAs A e f → Follows A (Push a e ∷ []) (Push a f ∷ []) A
-follows_push A a e f item = follows_alike A A (Push a e) (Push a f) (λ c n s w h.
-    with_alike A s w (value e s) (value f (with_vars s w)) (λ v. push_outcome s a (Some v)) (λ v. push_outcome (with_vars s w) a (Some v))
-    (item.at s w h)
-    (λ v. written_alike A s w (may_write a) (s.arrays a) (λ xs. grown s a (length xs + 1) xs (v ∷ []))
-    (λ xs. grown (with_vars s w) a (length xs + 1) xs (v ∷ []))
-    (λ ys. grown_alike A s w (may_have a (length ys + 1)) a a (told_count a (length ys + 1)) (ys ++ v ∷ []) h)))
+  pub push_alike : (e f : KExpr) (c : Setting) (n : ℕ) (s : State) (w : Vars) → value f (with_vars s w) ≡ value e s → A s.vars w
+      → EndsAlike A (run c n (Push a e) s) (run c n (Push a f) (with_vars s w))
+  push_alike e f c n s w item h =
+      with_alike A s w (value e s) (value f (with_vars s w)) (λ v. push_outcome s a (Some v)) (λ v. push_outcome (with_vars s w) a (Some v))
+      item
+      (λ v. written_alike A s w (may_write a) (s.arrays a) (λ xs. grown s a (length xs + 1) xs (v ∷ []))
+      (λ xs. grown (with_vars s w) a (length xs + 1) xs (v ∷ []))
+      (λ ys. grown_alike A s w (may_have a (length ys + 1)) a a (told_count a (length ys + 1)) (ys ++ v ∷ []) h))
 
-pub follows_extend : (A : Tie) (a : Arr) (i e j f : KExpr) → ReadsAs A i j → ReadsAs A e f
-    → Follows A (Extend a i e ∷ []) (Extend a j f ∷ []) A
-follows_extend A a i e j f index item = follows_alike A A (Extend a i e) (Extend a j f) (λ c n s w h.
-    with_alike A s w (value i s) (value j (with_vars s w)) (λ m. extend_outcome s a (Some m) (value e s))
-    (λ m. extend_outcome (with_vars s w) a (Some m) (value f (with_vars s w))) (index.at s w h)
-    (λ m. with_alike A s w (value e s) (value f (with_vars s w)) (λ v. extend_outcome s a (Some m) (Some v))
-    (λ v. extend_outcome (with_vars s w) a (Some m) (Some v)) (item.at s w h)
-    (λ v. written_alike A s w (may_write a) (s.arrays a) (λ xs. grown s a (length xs + m) xs (replicate m v))
-    (λ xs. grown (with_vars s w) a (length xs + m) xs (replicate m v))
-    (λ ys. grown_alike A s w (may_have a (length ys + m)) a a (told_count a (length ys + m)) (ys ++ replicate m v) h))))
+  pub extend_alike : (i e j f : KExpr) (c : Setting) (n : ℕ) (s : State) (w : Vars) → value j (with_vars s w) ≡ value i s
+      → value f (with_vars s w) ≡ value e s → A s.vars w → EndsAlike A (run c n (Extend a i e) s) (run c n (Extend a j f) (with_vars s w))
+  extend_alike i e j f c n s w index item h =
+      with_alike A s w (value i s) (value j (with_vars s w)) (λ m. extend_outcome s a (Some m) (value e s))
+      (λ m. extend_outcome (with_vars s w) a (Some m) (value f (with_vars s w))) index
+      (λ m. with_alike A s w (value e s) (value f (with_vars s w)) (λ v. extend_outcome s a (Some m) (Some v))
+      (λ v. extend_outcome (with_vars s w) a (Some m) (Some v)) item
+      (λ v. written_alike A s w (may_write a) (s.arrays a) (λ xs. grown s a (length xs + m) xs (replicate m v))
+      (λ xs. grown (with_vars s w) a (length xs + m) xs (replicate m v))
+      (λ ys. grown_alike A s w (may_have a (length ys + m)) a a (told_count a (length ys + m)) (ys ++ replicate m v) h)))
 
-pub follows_cut : (A : Tie) (a : Arr) (e f : KExpr) → ReadsAs A e f → Follows A (Cut a e ∷ []) (Cut a f ∷ []) A
-follows_cut A a e f item = follows_alike A A (Cut a e) (Cut a f) (λ c n s w h.
-    with_alike A s w (value e s) (value f (with_vars s w)) (λ v. cut_outcome s a (Some v)) (λ v. cut_outcome (with_vars s w) a (Some v))
-    (item.at s w h)
-    (λ v. written_alike A s w (may_write a) (s.arrays a) (λ xs. Ended (set_array s a (take v xs)))
-    (λ xs. Ended (set_array (with_vars s w) a (take v xs))) (λ ys. record { vars = w; is = refl; tied = h })))
+  pub cut_alike : (e f : KExpr) (c : Setting) (n : ℕ) (s : State) (w : Vars) → value f (with_vars s w) ≡ value e s → A s.vars w
+      → EndsAlike A (run c n (Cut a e) s) (run c n (Cut a f) (with_vars s w))
+  cut_alike e f c n s w item h =
+      with_alike A s w (value e s) (value f (with_vars s w)) (λ v. cut_outcome s a (Some v)) (λ v. cut_outcome (with_vars s w) a (Some v))
+      item
+      (λ v. written_alike A s w (may_write a) (s.arrays a) (λ xs. Ended (set_array s a (take v xs)))
+      (λ xs. Ended (set_array (with_vars s w) a (take v xs))) (λ ys. record { vars = w; is = refl; tied = h }))
+
+  pub follows_put : (i e j f : KExpr) → ReadsAs A i j → ReadsAs A e f → Follows A (Put a i e ∷ []) (Put a j f ∷ []) A
+  follows_put i e j f index item = follows_alike A A (Put a i e) (Put a j f) (λ c n s w h.
+      put_alike i e j f c n s w (index.at s w h) (item.at s w h) h)
+
+  pub follows_sum : (i e j f : KExpr) → ReadsAs A i j → ReadsAs A e f → Follows A (AddTo a i e ∷ []) (AddTo a j f ∷ []) A
+  follows_sum i e j f index item = follows_alike A A (AddTo a i e) (AddTo a j f) (λ c n s w h.
+      sum_alike i e j f c n s w (index.at s w h) (item.at s w h) h)
+
+  pub follows_push : (e f : KExpr) → ReadsAs A e f → Follows A (Push a e ∷ []) (Push a f ∷ []) A
+  follows_push e f item = follows_alike A A (Push a e) (Push a f) (λ c n s w h. push_alike e f c n s w (item.at s w h) h)
+
+  pub follows_extend : (i e j f : KExpr) → ReadsAs A i j → ReadsAs A e f → Follows A (Extend a i e ∷ []) (Extend a j f ∷ []) A
+  follows_extend i e j f index item = follows_alike A A (Extend a i e) (Extend a j f) (λ c n s w h.
+      extend_alike i e j f c n s w (index.at s w h) (item.at s w h) h)
+
+  pub follows_cut : (e f : KExpr) → ReadsAs A e f → Follows A (Cut a e ∷ []) (Cut a f ∷ []) A
+  follows_cut e f item = follows_alike A A (Cut a e) (Cut a f) (λ c n s w h. cut_alike e f c n s w (item.at s w h) h)
 
 sorted_alike : (A : Tie) (s : State) (w : Vars) (b : Bool) (a d : Arr) (xs ys : List ℕ) → A s.vars w
     → EndsAlike A (if b then Ended (set_array (set_array s a xs) d ys) else Stuck s.turns 1)
@@ -264,15 +299,19 @@ follows_sort_sum A space = follows_alike A A (SortSum space) (SortSum space) (λ
     sums_alike A c.arithmetic s w space (slice_get c.workspaces space) (s.arrays (Sums space)) h)
 
 -- choices
+pub choice_runs : (B C D : Tie) (e d : KExpr) (first second one other : List KStmt) → Follows B first one D → Follows C second other D
+    → (c : Setting) (n : ℕ) (s : State) (w : Vars) → value d (with_vars s w) ≡ value e s → B s.vars w → C s.vars w
+    → EndsAlike D (unnumbered (run c n (If e first second) s)) (unnumbered (run c n (If d one other) (with_vars s w)))
+choice_runs B C D e d first second one other p q c n s w is there elsewhere =
+    alike_now D _ _ _ _ (plain_if c n e first second s) (plain_if c n d one other (with_vars s w))
+    (choice_alike D s w (value e s) (value d (with_vars s w)) (plain c n first s) (plain c n second s) (plain c n one (with_vars s w))
+    (plain c n other (with_vars s w)) is (λ v _. p.at c n s w there) (λ _. q.at c n s w elsewhere))
+
 pub follows_choice : (A B C D : Tie) (e d : KExpr) (first second one other : List KStmt) → ReadsAs A e d
     → ((v w : Vars) → A v w → B v w) → ((v w : Vars) → A v w → C v w) → Follows B first one D → Follows C second other D
     → Follows A (If e first second ∷ []) (If d one other ∷ []) D
 follows_choice A B C D e d first second one other reads there elsewhere p q = follows_step A D (If e first second) (If d one other)
-    (λ c n s w h.
-    alike_now D _ _ _ _ (plain_if c n e first second s) (plain_if c n d one other (with_vars s w))
-    (choice_alike D s w (value e s) (value d (with_vars s w)) (plain c n first s) (plain c n second s) (plain c n one (with_vars s w))
-    (plain c n other (with_vars s w)) (reads.at s w h) (λ v is. p.at c n s w (there s.vars w h))
-    (λ is. q.at c n s w (elsewhere s.vars w h))))
+    (λ c n s w h. choice_runs B C D e d first second one other p q c n s w (reads.at s w h) (there s.vars w h) (elsewhere s.vars w h))
 
 choice_gone : (A : Tie) (s : State) (p : Option ℕ) (f g o : Outcome) → EndsAlike A f o → EndsAlike A g o → EndsAlike A (choice s p f g) o
 choice_gone A s None f g o h k = tt

@@ -1,4 +1,5 @@
 pub mod Following
+pub mod Gathering
+pub mod Leaving
 pub mod LiveLemmas
-pub mod Statements
 pub mod Whole

@@ -1,5 +1,5 @@
 -- Lemmas about whole kernels.
-use Rattle.std.specs.Prelude.{◌≡◌, ℕ, Bool, true, false, nat_le, if◌then◌else◌, List, refl}
+use Rattle.std.specs.Prelude.{◌≡◌, ℕ, Bool, true, false, nat_le, if◌then◌else◌, List, None, refl}
 use Rattle.std.proofs.Common.{◌∙◌, ap}
 use Rattle.kernel_code.specs.declared.syntax.Arr.{Arr}
 use Rattle.kernel_code.specs.declared.syntax.Kernel.{Kernel}
@@ -42,8 +42,8 @@ told_alike A order n (Stuck t statement) p g h = absurd g
 told_alike A order n (Over t a count) p g h = ap (λ q. told order (within n q)) (refused_only p t a count h)
 told_alike A order n More p g h = ap (λ q. told order (within n q)) (more_only p h)
 
--- a kernel whose code follows another's, where the variables at the start are tied to themselves
-pub kernel_follows : (A B : Tie) (k : Kernel) (body : List KStmt) → ((v : Vars) → A v v) → Follows A k.body body B
+-- a kernel whose code follows another's, where variables that have no value are tied
+pub kernel_follows : (A B : Tie) (k : Kernel) (body : List KStmt) → A (λ x. None) (λ x. None) → Follows A k.body body B
     → RefinesKernel AnyState (record k { body = body }) k
 kernel_follows A B k body starts f = record {
   semiring = refl;
@@ -53,5 +53,5 @@ kernel_follows A B k body starts f = record {
       let c : Setting = record { arithmetic = arithmetic; workspaces = k.workspaces } in
       let s = start_state k given in
       told_alike B order n (run_list c n k.body s) (run_list c n body s) (good_run arithmetic order k given never n)
-      (f.at c n s s.vars (starts s.vars));
+      (f.at c n s s.vars starts);
 }

@@ -1,7 +1,7 @@
 -- Which variables may be read behind a place of code: a test for each variable, and those past the end may be.
 use Rattle.std.specs.Prelude.{◌≡◌, ◌≢◌, ℕ, ◌<◌, Bool, true, List, [], ◌∷◌, Option, Some, None, slice_get}
 use Rattle.kernel_code.specs.declared.syntax.KExpr.{KExpr}
-use Rattle.kernel_code.specs.declared.syntax.KStmt.{KStmt, If}
+use Rattle.kernel_code.specs.declared.syntax.KStmt.{KStmt}
 use Rattle.kernel_code.specs.Keeps.{Mentions, EveryArray}
 use Rattle.dead_code.specs.Follows.{Vars}
 
@@ -37,8 +37,3 @@ pub record Agree (live : List Bool) (v w : Vars) : Type 0 where
 abbrev pub left_of : Option KStmt → List KStmt
 left_of None = []
 left_of (Some s) = s ∷ []
-
--- what is left of a choice: nothing where nothing is left of its bodies; and else its test is read
-pub data IsLeftOfChoice (live : List Bool) (test : KExpr) (one other : List KStmt) (left : Option KStmt) : Type 0 where
-  Nothing : one ≡ [] → other ≡ [] → left ≡ None → IsLeftOfChoice live test one other left
-  Choice : ReadsLive live test → left ≡ Some (If test one other) → IsLeftOfChoice live test one other left

@@ -1,12 +1,17 @@
-// Code without statements that set variables which nothing reads.
+// Code without statements that set variables which nothing reads, or one statement right behind alone.
 ghost use Rattle.std.specs.Prelude.{◌≡◌, ◌∷◌, [], IfOk};
 ghost use Rattle.dead_code.specs.Follows.{Follows};
-ghost use Rattle.dead_code.specs.Live.{Agree, Covers, left_of};
+ghost use Rattle.dead_code.specs.Gathers.{IsLeftOfChoice, Leaves};
+ghost use Rattle.dead_code.specs.Live.{Agree, Covers};
 
 use crate::choices::joined;
-use crate::live::{add_reads, covers, forget, is_live};
+use crate::live::{add_reads, covers};
 use crate::reads::add_first_reads;
-use kernel_code::{KExpr, KStmt, LoopKind, ValueOp, copy_expr, copy_statement};
+use crate::statements::{
+    Left, live_combine, live_cut, live_extend, live_push, live_put, live_set, live_sort,
+    live_sort_sum, live_sum,
+};
+use kernel_code::{KExpr, KStmt, LoopKind, copy_expr};
 use std::alloc::{AllocError, Global};
 use trees::Items;
 
@@ -15,46 +20,6 @@ use trees::Items;
 struct Turn {
     body: Items<KStmt>,
     live: Items<bool>,
-}
-
-/// What is left of a statement that gives a variable a value.
-fn live_set(
-    alloc: Global,
-    x: u64,
-    e: &KExpr,
-    live: &mut Items<bool>,
-) -> Result<Option<KStmt>, AllocError>
-    ensures { IfOk result (λ left. Follows (Agree live.new) (KStmt.Set x e.now ∷ []) (left_of left) (Agree live.old)) }
-{
-    if !is_live(live.as_slice(), x) {
-        return Ok(None);
-    }
-    forget(live, x);
-    add_reads(live, e);
-    let e = copy_expr(alloc, e)?;
-    Ok(Some(KStmt::Set(x, e)))
-}
-
-/// What is left of a statement that gives a variable the sum or the product of two values.
-fn live_combine(
-    alloc: Global,
-    x: u64,
-    op: ValueOp,
-    e: &KExpr,
-    f: &KExpr,
-    live: &mut Items<bool>,
-) -> Result<Option<KStmt>, AllocError>
-    ensures { IfOk result (λ left. Follows (Agree live.new) (KStmt.Combine x op e.now f.now ∷ []) (left_of left) (Agree live.old)) }
-{
-    if !is_live(live.as_slice(), x) {
-        return Ok(None);
-    }
-    forget(live, x);
-    add_reads(live, e);
-    add_reads(live, f);
-    let e = copy_expr(alloc, e)?;
-    let f = copy_expr(alloc, f)?;
-    Ok(Some(KStmt::Combine(x, op, e, f)))
 }
 
 /// A body with the same live before and behind it: these variables, or all where they don't suffice.
@@ -81,11 +46,12 @@ fn pass_turn(alloc: Global, body: &[KStmt], live: Items<bool>) -> Result<Turn, A
 fn live_loop(
     alloc: Global,
     body: &[KStmt],
+    before: &[KStmt],
     kind: LoopKind,
     test: &KExpr,
     live: &mut Items<bool>,
-) -> Result<Option<KStmt>, AllocError>
-    ensures { IfOk result (λ left. Follows (Agree live.new) (KStmt.While kind test.now body.now ∷ []) (left_of left) (Agree live.old)) }
+) -> Result<Left, AllocError>
+    ensures { IfOk result (λ left. Leaves live.new before.now (KStmt.While kind test.now body.now) left.statement left.taken live.old) }
 {
     let mut head = Items::from_slice(alloc, live.as_slice())?;
     add_reads(&mut head, test);
@@ -93,53 +59,41 @@ fn live_loop(
     let turn = pass_turn(alloc, body, head)?;
     let test = copy_expr(alloc, test)?;
     *live = turn.live;
-    Ok(Some(KStmt::While(kind, test, turn.body)))
+    Ok(Left {
+        statement: Some(KStmt::While(kind, test, turn.body)),
+        taken: 0,
+    })
 }
 
-/// What is left of a statement, where these variables are live behind it, and then those before it.
+/// What is left of a statement and of those right before it, where these variables are live behind it, and then those before it.
 #[cycle(dead)]
 fn live_statement(
     alloc: Global,
     s: &KStmt,
+    before: &[KStmt],
     live: &mut Items<bool>,
-) -> Result<Option<KStmt>, AllocError>
-    ensures { IfOk result (λ left. Follows (Agree live.new) (s.now ∷ []) (left_of left) (Agree live.old)) }
+) -> Result<Left, AllocError>
+    ensures { IfOk result (λ left. Leaves live.new before.now s.now left.statement left.taken live.old) }
 {
     match s {
-        KStmt::Set(x, e) => live_set(alloc, *x, e, live),
-        KStmt::Combine(x, op, e, f) => live_combine(alloc, *x, *op, e, f, live),
-        KStmt::Put(_, i, e) => {
-            add_reads(live, i);
-            add_reads(live, e);
-            Ok(Some(copy_statement(alloc, s)?))
-        }
-        KStmt::AddTo(_, i, e) => {
-            add_reads(live, i);
-            add_reads(live, e);
-            Ok(Some(copy_statement(alloc, s)?))
-        }
-        KStmt::Push(_, e) => {
-            add_reads(live, e);
-            Ok(Some(copy_statement(alloc, s)?))
-        }
-        KStmt::Extend(_, count, e) => {
-            add_reads(live, count);
-            add_reads(live, e);
-            Ok(Some(copy_statement(alloc, s)?))
-        }
-        KStmt::Cut(_, e) => {
-            add_reads(live, e);
-            Ok(Some(copy_statement(alloc, s)?))
-        }
-        KStmt::Sort(_) => Ok(Some(copy_statement(alloc, s)?)),
-        KStmt::SortSum(_) => Ok(Some(copy_statement(alloc, s)?)),
+        KStmt::Set(x, e) => live_set(alloc, before, *x, e, live),
+        KStmt::Combine(x, op, e, f) => live_combine(alloc, before, *x, *op, e, f, live),
+        KStmt::Put(a, i, e) => live_put(alloc, before, *a, i, e, live),
+        KStmt::AddTo(a, i, e) => live_sum(alloc, before, *a, i, e, live),
+        KStmt::Push(a, e) => live_push(alloc, before, *a, e, live),
+        KStmt::Extend(a, count, e) => live_extend(alloc, before, *a, count, e, live),
+        KStmt::Cut(a, e) => live_cut(alloc, before, *a, e, live),
+        KStmt::Sort(list) => Ok(live_sort(*list, before, live)),
+        KStmt::SortSum(workspace) => Ok(live_sort_sum(*workspace, before, live)),
         KStmt::If(test, first, second) => {
             let mut there = Items::from_slice(alloc, live.as_slice())?;
             let one = live_code(alloc, first.as_slice(), &mut there)?;
             let other = live_code(alloc, second.as_slice(), live)?;
-            joined(alloc, test, one, other, there.as_slice(), live)
+            joined(alloc, before, test, one, other, there.as_slice(), live)
         }
-        KStmt::While(kind, test, body) => live_loop(alloc, body.as_slice(), *kind, test, live),
+        KStmt::While(kind, test, body) => {
+            live_loop(alloc, body.as_slice(), before, *kind, test, live)
+        }
     }
 }
 
@@ -153,11 +107,14 @@ pub(crate) fn live_code(
     ensures { IfOk result (λ left. Follows (Agree live.new) code.now left (Agree live.old)) }
 {
     let mut backwards = Vec::new(alloc);
-    for n in 0..code.len() {
-        let left = live_statement(alloc, &code[code.len() - 1 - n], live)?;
-        if let Some(s) = left {
+    let mut end = code.len();
+    while end > 0 {
+        let last = end - 1;
+        let Left { statement, taken } = live_statement(alloc, &code[last], &code[..last], live)?;
+        if let Some(s) = statement {
             backwards.push(s)?;
         }
+        end = last - taken;
     }
     backwards.reverse();
     Ok(Items::from_vec(backwards))

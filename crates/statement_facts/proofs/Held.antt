@@ -1,5 +1,5 @@
 -- Facts of levels that arrays hold.
-use Rattle.std.specs.Prelude.{◌≡◌, ℕ, zero, suc, ◌<◌, true, false, List, [], ◌∷◌, map, length, All, Some, slice_get, slice_index}
+use Rattle.std.specs.Prelude.{◌≡◌, ℕ, zero, suc, ◌<◌, true, false, List, [], ◌∷◌, map, length, All, Some, slice_get, slice_index, refl}
 use Rattle.std.proofs.Common.{◌∙◌, ap, sym, subst, arith}
 use Rattle.std.proofs.lemmas.List.Elements.{All-nil, All-cons, All-head, All-tail}
 use Rattle.kernel_code.specs.declared.syntax.Arr.TheVariants.{Range, Dimension, Coordinates}
@@ -120,7 +120,7 @@ pub size_fact : (s : Statement) (tensor number : ℕ) (level : FormatLevel) (arr
 size_fact s tensor number level arrays v alone within full held words size is at =
     let h = first_level s tensor number level [] arrays held in
     let are = size_held h.of tensor number arrays words (ap (λ letter. (properties letter).full) h.letter ∙ full) h.held is in
-    range_is s tensor number level arrays v alone within h ∙ sym (ap (λ ws. slice_get ws 0) (sym are) ∙ at)
+    range_is s tensor number level arrays v alone within h ∙ sym (ap (λ ws. slice_get ws 0) are) ∙ at
 
 pub coordinates_fact : (s : Statement) (tensor number : ℕ) (level : FormatLevel) (arrays : Arrays) (v : ℕ)
     → StandsAlone s tensor level.mode (Some v) → v < length s.vars → (properties level.letter).full ≡ false

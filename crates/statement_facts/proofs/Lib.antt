@@ -1,3 +1,3 @@
-pub mod Alone
 pub mod Held
+pub mod Sizes
 pub mod Stores

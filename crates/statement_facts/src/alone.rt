@@ -1,5 +1,5 @@
 //! The variable that stands at a mode of a tensor.
-ghost use Rattle.std.specs.Prelude.{◌≡◌, List, ◌∷◌};
+ghost use Rattle.std.specs.Prelude.{◌≡◌, ℕ, List, ◌∷◌, Some, slice_get};
 ghost use Rattle.index_notation.specs.declared.syntax.Access.{Access};
 ghost use Rattle.statement_facts.specs.Alone.{StandsIn, StandsAlone};
 
@@ -14,11 +14,19 @@ pub(crate) enum Standing {
 }
 
 /// With one variable more.
-fn with_variable(v: usize, standing: Standing) -> Standing {
+fn with_variable(v: usize, standing: Standing) -> Standing
+    ensures { (tensor mode : ℕ) (first : Access) (accesses : List Access) → first.tensor ≡ tensor → slice_get first.vars mode ≡ Some v
+        → StandsIn tensor mode accesses standing → StandsIn tensor mode (first ∷ accesses) result }
+{
     match standing {
         Standing::Nothing => Standing::One(v),
-        Standing::One(w) if w == v => Standing::One(v),
-        _ => Standing::Several,
+        Standing::One(w) => {
+            if w == v {
+                return Standing::One(v);
+            }
+            Standing::Several
+        }
+        Standing::Several => Standing::Several,
     }
 }
 

@@ -28,10 +28,18 @@ fn fact_of(
     let variable = variable as u64;
     let properties = props_of(level.letter);
     if properties.full {
-        return Some(StoreFact::Size { tensor, level: number, variable });
+        return Some(StoreFact::Size {
+            tensor,
+            level: number,
+            variable,
+        });
     }
     if properties.ordered {
-        return Some(StoreFact::Coordinates { tensor, level: number, variable });
+        return Some(StoreFact::Coordinates {
+            tensor,
+            level: number,
+            variable,
+        });
     }
     None
 }

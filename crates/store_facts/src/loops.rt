@@ -7,7 +7,9 @@ ghost use Rattle.store_facts.specs.Loads.{GoesBy, load_code, loop_code};
 
 use crate::facts::{StoreFact, is_known};
 use crate::loads::{Load, is_load, load_of};
-use kernel_code::{Arr, KExpr, KStmt, Kernel, LoopKind, Op, copy_expr, copy_statement, one_statement};
+use kernel_code::{
+    Arr, KExpr, KStmt, Kernel, LoopKind, Op, copy_expr, copy_statement, one_statement,
+};
 use std::alloc::{AllocError, Global};
 use trees::Items;
 
@@ -156,11 +158,7 @@ fn add_statement(
 
 /// Statements whose loops go by positions where they can.
 #[cycle(loops)]
-fn loops_in(
-    alloc: Global,
-    facts: &[StoreFact],
-    code: &[KStmt],
-) -> Result<Items<KStmt>, AllocError>
+fn loops_in(alloc: Global, facts: &[StoreFact], code: &[KStmt]) -> Result<Items<KStmt>, AllocError>
     ensures { IfOk result (λ new. Refines (KeepsFacts facts.now) new code.now) }
 {
     let mut out = Items::new(alloc);

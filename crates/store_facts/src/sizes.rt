@@ -42,16 +42,16 @@ fn by_ranges(alloc: Global, facts: &[StoreFact], e: &KExpr) -> Result<KExpr, All
             binary(alloc, *op, a, b)
         }
         KExpr::Min(a, b) => {
-            let a = by_ranges(alloc, facts, a.get())?;
-            let b = by_ranges(alloc, facts, b.get())?;
-            let a = Boxed::new(alloc, a)?;
-            let b = Boxed::new(alloc, b)?;
-            Ok(KExpr::Min(a, b))
+            let first = by_ranges(alloc, facts, a.get())?;
+            let second = by_ranges(alloc, facts, b.get())?;
+            let c = Boxed::new(alloc, first)?;
+            let d = Boxed::new(alloc, second)?;
+            Ok(KExpr::Min(c, d))
         }
         KExpr::Width(e) => {
-            let e = by_ranges(alloc, facts, e.get())?;
-            let e = Boxed::new(alloc, e)?;
-            Ok(KExpr::Width(e))
+            let new = by_ranges(alloc, facts, e.get())?;
+            let boxed = Boxed::new(alloc, new)?;
+            Ok(KExpr::Width(boxed))
         }
     }
 }

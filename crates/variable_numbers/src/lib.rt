@@ -1,16 +1,13 @@
-//! Variables numbered from 0 without holes.
+//! Kernels whose variables are numbered from 0 on, without holes, in the order in which they first stand in the text.
+//! `specs/Numbers.antt` says how the variables of a run are tied to those of another by a list of names, and `number_variables` makes
+//! such a kernel.
 #![tactic(auto)]
 
-use kernel_code::Kernel;
-use std::alloc::{AllocError, Global};
+mod appearances;
+mod exprs;
+mod kernels;
+mod refusal;
+mod statements;
+mod table;
 
-ghost use Rattle.std.specs.Prelude.{IfOk};
-ghost use Rattle.simplifier.specs.Refines.{AnyState, RefinesKernel};
-
-/// A kernel that does the same.
-pub fn number_variables(alloc: Global, kernel: Kernel) -> Result<Kernel, AllocError>
-    ensures { IfOk result (λ k. RefinesKernel AnyState k kernel) }
-{
-    let _alloc = alloc;
-    Ok(kernel)
-}
+pub use kernels::number_variables;

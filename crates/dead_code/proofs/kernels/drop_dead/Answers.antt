@@ -7,6 +7,6 @@ use Rattle.dead_code.proofs.kernels.drop_dead.Goals as goal
 pub returns : goal.returns
 returns c =
     let old = c.args.kernel in
-    kernel_follows (Agree c.live_code.new.live) (Agree c.in_ok-live.live) old c.in_ok-left.left (λ v. record { at = λ x k. refl })
+    kernel_follows (Agree c.live_code.new.live) (Agree c.in_ok-live.live) old c.in_ok-left.left (record { at = λ x k. refl })
     (subst (λ code. Follows (Agree c.live_code.new.live) code c.in_ok-left.left (Agree c.in_ok-live.live)) c.as_slice-2.ensures
     c.in_ok-left.ensures)

@@ -1,0 +1,4 @@
+pub mod CodeLemmas
+pub mod FactLemmas
+pub mod Keeping
+pub mod LoopLemmas

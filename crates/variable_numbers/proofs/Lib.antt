@@ -1,0 +1,4 @@
+pub mod Lists
+pub mod Renaming
+pub mod Tables
+pub mod Whole
