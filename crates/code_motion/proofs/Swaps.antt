@@ -1,6 +1,7 @@
 -- Statements that change places, and code that stays.
-use Rattle.std.specs.Prelude.{◌≡◌, ◌≢◌, ℕ, zero, suc, Bool, true, false, ◌==◌, if◌then◌else◌, List, [], ◌∷◌, ◌++◌, Option, Some, None, reverse, refl}
-use Rattle.std.proofs.Common.{◌∙◌, ap, sym, subst, append-nil}
+use Rattle.std.specs.Prelude.{◌≡◌, ◌≢◌, ℕ, zero, suc, Bool, true, false, ◌==◌, if◌then◌else◌, List, [], ◌∷◌, ◌++◌, Option, Some, None, Result, Ok, Err, OnOk, reverse, refl}
+use Rattle.std.proofs.Common.{◌∙◌, ap, sym, subst}
+use Rattle.std.specs.declared.alloc.AllocError.{AllocError}
 use Rattle.std.proofs.lemmas.List.{reverse-append}
 use Rattle.lists.proofs.Tests.{same_number, number_apart}
 use Rattle.kernel_code.specs.declared.syntax.KExpr.{KExpr, Var}
@@ -190,36 +191,47 @@ takes_in e first second one other k again is here there =
 pub before_rest : (a new rest : List KStmt) → Follows (Agree []) a new (Agree []) → Follows (Agree []) (a ++ rest) (new ++ rest) (Agree [])
 before_rest a new rest h = follows_then (Agree []) (Agree []) (Agree []) a rest new rest h (follows_same rest)
 
--- lists from the last on: a statement put before code, behind its first one, in its place, and one that takes it in
+-- lists from the last on
 last_first : (xs : List KStmt) (k : KStmt) → reverse (xs ++ k ∷ []) ≡ k ∷ reverse xs
 last_first xs k = reverse-append xs (k ∷ [])
 
-pub put_first : (old mid new : List KStmt) (s : KStmt) → old ≡ mid ++ [] → new ≡ mid ++ s ∷ []
+-- a result that tells more
+pub ok_more : {A : Type 0} (r : Result A AllocError) (P Q : Type 0) → OnOk r P → (P → Q) → OnOk r Q
+ok_more (Ok done) P Q h f = f h
+ok_more (Err why) P Q h f = tt
+
+pub put_ahead : (old one new : List KStmt) (s next : KStmt) → one ≡ old ++ next ∷ [] → new ≡ one ++ s ∷ []
+    → Follows (Agree []) (s ∷ next ∷ reverse old) (reverse new) (Agree [])
+put_ahead old one new s next again put =
+    follows_now (Agree []) (Agree []) (s ∷ next ∷ reverse old) (s ∷ next ∷ reverse old) (reverse new) (s ∷ next ∷ reverse old) refl
+    (ap reverse put ∙ last_first one s ∙ ap (λ xs. s ∷ reverse xs) again ∙ ap (λ xs. s ∷ xs) (last_first old next))
+    (follows_same (s ∷ next ∷ reverse old))
+
+pub put_behind : (old one new : List KStmt) (s next : KStmt) → one ≡ old ++ s ∷ [] → new ≡ one ++ next ∷ [] → MaySwap s next
+    → Follows (Agree []) (s ∷ next ∷ reverse old) (reverse new) (Agree [])
+put_behind old one new s next first put may =
+    follows_now (Agree []) (Agree []) (s ∷ next ∷ reverse old) (s ∷ next ∷ reverse old) (reverse new) (next ∷ s ∷ reverse old) refl
+    (ap reverse put ∙ last_first one next ∙ ap (λ xs. next ∷ reverse xs) first ∙ ap (λ xs. next ∷ xs) (last_first old s))
+    (behind_copy s next (reverse old) may)
+
+pub put_first : (old mid new : List KStmt) (s : KStmt) → old ≡ [] → mid ≡ [] → new ≡ mid ++ s ∷ []
     → Follows (Agree []) (s ∷ reverse old) (reverse new) (Agree [])
-put_first old mid new s is put =
-    follows_now (Agree []) (Agree []) (s ∷ reverse old) (s ∷ reverse mid) (reverse new) (s ∷ reverse mid)
-    (ap (λ xs. s ∷ reverse xs) (is ∙ append-nil mid)) (ap reverse put ∙ last_first mid s) (follows_same (s ∷ reverse mid))
+put_first old mid new s none is put =
+    follows_now (Agree []) (Agree []) (s ∷ reverse old) (s ∷ []) (reverse new) (s ∷ []) (ap (λ xs. s ∷ reverse xs) none)
+    (ap reverse (put ∙ ap (λ xs. xs ++ s ∷ []) is)) (follows_same (s ∷ []))
 
-pub put_ahead : (old mid one new : List KStmt) (s next : KStmt) → old ≡ mid ++ next ∷ [] → one ≡ mid ++ next ∷ [] → new ≡ one ++ s ∷ []
+pub put_next : (old mid new : List KStmt) (s next : KStmt) → old ≡ mid ++ next ∷ []
+    → Follows (Agree []) (s ∷ next ∷ reverse mid) (reverse new) (Agree [])
     → Follows (Agree []) (s ∷ reverse old) (reverse new) (Agree [])
-put_ahead old mid one new s next is again put =
-    follows_now (Agree []) (Agree []) (s ∷ reverse old) (s ∷ reverse old) (reverse new) (s ∷ reverse old) refl
-    (ap reverse put ∙ last_first one s ∙ ap (λ xs. s ∷ reverse xs) (again ∙ sym is)) (follows_same (s ∷ reverse old))
+put_next old mid new s next is h =
+    follows_now (Agree []) (Agree []) (s ∷ reverse old) (s ∷ next ∷ reverse mid) (reverse new) (reverse new)
+    (ap (λ xs. s ∷ reverse xs) is ∙ ap (λ xs. s ∷ xs) (last_first mid next)) refl h
 
-pub put_behind : (old mid one new : List KStmt) (s next : KStmt) → old ≡ mid ++ next ∷ [] → one ≡ mid ++ s ∷ [] → new ≡ one ++ next ∷ []
-    → MaySwap s next → Follows (Agree []) (s ∷ reverse old) (reverse new) (Agree [])
-put_behind old mid one new s next is first put may =
-    follows_now (Agree []) (Agree []) (s ∷ reverse old) (s ∷ next ∷ reverse mid) (reverse new) (next ∷ s ∷ reverse mid)
-    (ap (λ xs. s ∷ reverse xs) is ∙ ap (λ xs. s ∷ xs) (last_first mid next))
-    (ap reverse put ∙ last_first one next ∙ ap (λ xs. next ∷ reverse xs) first ∙ ap (λ xs. next ∷ xs) (last_first mid s))
-    (behind_copy s next (reverse mid) may)
-
-pub put_taken : (old mid new : List KStmt) (s next all : KStmt) → old ≡ mid ++ next ∷ [] → new ≡ mid ++ all ∷ []
-    → Follows (Agree []) (s ∷ next ∷ []) (all ∷ []) (Agree []) → Follows (Agree []) (s ∷ reverse old) (reverse new) (Agree [])
-put_taken old mid new s next all is put taken =
-    follows_now (Agree []) (Agree []) (s ∷ reverse old) (s ∷ next ∷ reverse mid) (reverse new) (all ∷ reverse mid)
-    (ap (λ xs. s ∷ reverse xs) is ∙ ap (λ xs. s ∷ xs) (last_first mid next)) (ap reverse put ∙ last_first mid all)
-    (before_rest (s ∷ next ∷ []) (all ∷ []) (reverse mid) taken)
+pub put_taken : (old new : List KStmt) (s next all : KStmt) → new ≡ old ++ all ∷ [] → Follows (Agree []) (s ∷ next ∷ []) (all ∷ []) (Agree [])
+    → Follows (Agree []) (s ∷ next ∷ reverse old) (reverse new) (Agree [])
+put_taken old new s next all put taken =
+    follows_now (Agree []) (Agree []) (s ∷ next ∷ reverse old) (s ∷ next ∷ reverse old) (reverse new) (all ∷ reverse old) refl
+    (ap reverse put ∙ last_first old all) (before_rest (s ∷ next ∷ []) (all ∷ []) (reverse old) taken)
 
 -- one more statement before those behind it
 pub one_before : (code rest : List KStmt) (k moved : KStmt) (backwards new : List KStmt)

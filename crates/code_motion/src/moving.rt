@@ -18,22 +18,27 @@ pub(crate) enum Move {
     Choices,
 }
 
-/// Puts a statement before code, whose first statement is the last of the list, or behind that one where it is a copy.
-fn put_before(backwards: &mut Vec<KStmt>, s: KStmt) -> Result<(), AllocError>
-    ensures { OnOk result (Follows (Agree []) (s ∷ reverse backwards.old.items) (reverse backwards.new.items) (Agree [])) }
+/// Puts a statement before code, whose first statement comes next and whose others stand in the list from the last on: before that one, or
+/// behind it where it is a copy.
+fn put_around(backwards: &mut Items<KStmt>, s: KStmt, next: KStmt) -> Result<(), AllocError>
+    ensures { OnOk result (Follows (Agree []) (s ∷ next ∷ reverse backwards.old) (reverse backwards.new) (Agree [])) }
 {
-    let Some(next) = backwards.pop() else {
-        backwards.push(s)?;
-        return Ok(());
-    };
     if may_swap(&s, &next) {
         backwards.push(s)?;
-        backwards.push(next)?;
-        return Ok(());
+        return backwards.push(next);
     }
     backwards.push(next)?;
-    backwards.push(s)?;
-    Ok(())
+    backwards.push(s)
+}
+
+/// Puts a statement before code, which stands in the list from the last statement on.
+fn put_before(backwards: &mut Items<KStmt>, s: KStmt) -> Result<(), AllocError>
+    ensures { OnOk result (Follows (Agree []) (s ∷ reverse backwards.old) (reverse backwards.new) (Agree [])) }
+{
+    match backwards.pop() {
+        None => backwards.push(s),
+        Some(next) => put_around(backwards, s, next),
+    }
 }
 
 /// A choice that takes in a statement which stands right behind it.
@@ -54,44 +59,63 @@ fn taking_in(
     Ok(KStmt::If(test, one, other))
 }
 
-/// Puts a choice before code, whose first statement is the last of the list, or that one into it.
+/// Puts a choice before code, or the first statement of the code into the choice.
 fn put_choice(
     alloc: Global,
-    backwards: &mut Vec<KStmt>,
+    backwards: &mut Items<KStmt>,
     test: KExpr,
     first: Items<KStmt>,
     second: Items<KStmt>,
+    next: KStmt,
 ) -> Result<(), AllocError>
-    ensures { OnOk result (Follows (Agree []) (KStmt.If test first second ∷ reverse backwards.old.items) (reverse backwards.new.items)
+    ensures { OnOk result (Follows (Agree []) (KStmt.If test first second ∷ next ∷ reverse backwards.old) (reverse backwards.new)
         (Agree [])) }
 {
-    let Some(next) = backwards.pop() else {
-        backwards.push(KStmt::If(test, first, second))?;
-        return Ok(());
-    };
     if settles(first.as_slice(), second.as_slice(), &next) {
         let all = taking_in(alloc, test, first, second, next)?;
-        backwards.push(all)?;
-        return Ok(());
+        return backwards.push(all);
     }
     backwards.push(next)?;
-    backwards.push(KStmt::If(test, first, second))?;
-    Ok(())
+    backwards.push(KStmt::If(test, first, second))
+}
+
+/// Puts a statement before code, or where it is a choice the first statement of the code into it.
+fn put_or_take_in(
+    alloc: Global,
+    backwards: &mut Items<KStmt>,
+    s: KStmt,
+    next: KStmt,
+) -> Result<(), AllocError>
+    ensures { OnOk result (Follows (Agree []) (s ∷ next ∷ reverse backwards.old) (reverse backwards.new) (Agree [])) }
+{
+    match s {
+        KStmt::If(test, first, second) => {
+            put_choice(alloc, backwards, test, first, second, next)
+        }
+        s => {
+            backwards.push(next)?;
+            backwards.push(s)
+        }
+    }
+}
+
+/// Puts a statement before code, which stands in the list from the last statement on; where it is a choice it may take in the first one.
+fn put_taking_in(alloc: Global, backwards: &mut Items<KStmt>, s: KStmt) -> Result<(), AllocError>
+    ensures { OnOk result (Follows (Agree []) (s ∷ reverse backwards.old) (reverse backwards.new) (Agree [])) }
+{
+    match backwards.pop() {
+        None => backwards.push(s),
+        Some(next) => put_or_take_in(alloc, backwards, s, next),
+    }
 }
 
 /// Puts a statement before code, or moves one of the two.
-fn put(alloc: Global, what: Move, backwards: &mut Vec<KStmt>, s: KStmt) -> Result<(), AllocError>
-    ensures { OnOk result (Follows (Agree []) (s ∷ reverse backwards.old.items) (reverse backwards.new.items) (Agree [])) }
+fn put(alloc: Global, what: Move, backwards: &mut Items<KStmt>, s: KStmt) -> Result<(), AllocError>
+    ensures { OnOk result (Follows (Agree []) (s ∷ reverse backwards.old) (reverse backwards.new) (Agree [])) }
 {
     match what {
         Move::Copies => put_before(backwards, s),
-        Move::Choices => match s {
-            KStmt::If(test, first, second) => put_choice(alloc, backwards, test, first, second),
-            s => {
-                backwards.push(s)?;
-                Ok(())
-            }
-        },
+        Move::Choices => put_taking_in(alloc, backwards, s),
     }
 }
 
@@ -121,11 +145,12 @@ fn moved_statement(alloc: Global, what: Move, s: &KStmt) -> Result<KStmt, AllocE
 pub(crate) fn moved(alloc: Global, what: Move, code: &[KStmt]) -> Result<Items<KStmt>, AllocError>
     ensures { IfOk result (λ new. Follows (Agree []) code.now new (Agree [])) }
 {
-    let mut backwards = Vec::new(alloc);
+    let mut backwards = Items::new(alloc);
     for n in 0..code.len() {
         let s = moved_statement(alloc, what, &code[code.len() - 1 - n])?;
         put(alloc, what, &mut backwards, s)?;
     }
-    backwards.reverse();
-    Ok(Items::from_vec(backwards))
+    let mut all = backwards.into_vec();
+    all.reverse();
+    Ok(Items::from_vec(all))
 }

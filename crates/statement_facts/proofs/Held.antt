@@ -1,9 +1,9 @@
 -- Facts of levels that arrays hold.
-use Rattle.std.specs.Prelude.{◌≡◌, ℕ, zero, suc, ◌<◌, true, false, List, [], ◌∷◌, map, length, All, Some, slice_get, slice_index, refl}
+use Rattle.std.specs.Prelude.{◌≡◌, ℕ, zero, suc, ◌+◌, ◌<◌, true, false, List, [], ◌∷◌, map, length, ◌++◌, All, Option, Some, None}
+use Rattle.std.specs.Prelude.{option_to_list, slice_get, slice_index, refl}
 use Rattle.std.proofs.Common.{◌∙◌, ap, sym, subst, arith}
 use Rattle.std.proofs.lemmas.List.Elements.{All-nil, All-cons, All-head, All-tail}
-use Rattle.kernel_code.specs.declared.syntax.Arr.TheVariants.{Range, Dimension, Coordinates}
-use Rattle.kernel_code.specs.Arrays.{may_write}
+use Rattle.kernel_code.specs.declared.syntax.Arr.TheVariants.{Range}
 use Rattle.kernel_code.specs.Meaning.{word_at}
 use Rattle.level_core.specs.GroupLaws.{CoordsBelow}
 use Rattle.level_core.specs.Kinds.{properties}
@@ -16,11 +16,12 @@ use Rattle.tensor_storage.specs.Levels.{meaning}
 use Rattle.tensor_storage.proofs.HeldWords.{size_held, coordinates_held}
 use Rattle.kernel_correctness.specs.Stores.{AreHeld}
 use Rattle.lists.specs.Each.{Each}
+use Rattle.lists.proofs.Each.{each_append}
 use Rattle.store_facts.specs.declared.facts.StoreFact.{StoreFact}
 use Rattle.store_facts.specs.declared.facts.StoreFact.TheVariants.{Size, Coordinates as OfCoordinates}
-use Rattle.store_facts.specs.Facts.{IsFact, IsBelowRange, range_of}
+use Rattle.store_facts.specs.Facts.{IsFact, range_of}
 use Rattle.statement_facts.specs.Alone.{StandsAlone}
-use Rattle.statement_facts.specs.Facts.{HeldLevels}
+use Rattle.statement_facts.specs.Facts.{HeldLevels, IsTrueOfLevel, AreTrueOfLevels}
 
 there_at : (xs : List ℕ) (i : ℕ) → i < length xs → slice_get xs i ≡ Some (slice_index xs i)
 there_at [] i l = absurd (omega (arith, l))
@@ -131,3 +132,24 @@ coordinates_fact s tensor number level arrays v alone within stored ordered held
     let below = coordinates_held h.of tensor number arrays words (ap (λ letter. (properties letter).full) h.letter ∙ stored)
     (ap (λ letter. (properties letter).ordered) h.letter ∙ ordered) h.keeps h.held is in
     (meaning.size h.of, range_is s tensor number level arrays v alone within h, below_at (meaning.size h.of) words place word below at)
+
+listed_true : (s : Statement) (tensor number : ℕ) (level : FormatLevel) (arrays : Arrays) (fact : Option StoreFact)
+    → IsTrueOfLevel s tensor number level fact → HeldLevels s tensor number (level ∷ []) arrays
+    → Each (IsFact arrays) (option_to_list fact)
+listed_true s tensor number level arrays None is held = tt
+listed_true s tensor number level arrays (Some fact) is held = (is arrays held, tt)
+
+-- what is known of the first of some levels, and of the others
+pub levels_true : (s : Statement) (tensor number : ℕ) (level : FormatLevel) (others format : List FormatLevel) (fact : Option StoreFact)
+    (listed rest facts : List StoreFact) → format ≡ level ∷ others → IsTrueOfLevel s tensor number level fact
+    → listed ≡ option_to_list fact → AreTrueOfLevels s tensor (number + 1) others rest → facts ≡ listed ++ rest
+    → AreTrueOfLevels s tensor number format facts
+levels_true s tensor number level others format fact listed rest facts format_is is listed_is true_of facts_are = λ arrays held.
+    let here : HeldLevels s tensor number (level ∷ others) arrays =
+    subst (λ levels. HeldLevels s tensor number levels arrays) format_is held in
+    let next : suc number ≡ number + 1 = omega arith in
+    let behind : HeldLevels s tensor (number + 1) others arrays = subst (λ n. HeldLevels s tensor n others arrays) next
+    (other_levels s tensor number level others arrays here) in
+    subst (Each (IsFact arrays)) (sym (facts_are ∙ ap (λ fs. fs ++ rest) listed_is))
+    (each_append (IsFact arrays) (option_to_list fact) rest
+    (listed_true s tensor number level arrays fact is (one_level s tensor number level others arrays here)) (true_of arrays behind))

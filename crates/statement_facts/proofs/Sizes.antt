@@ -1,5 +1,5 @@
 -- The size of a mode at which one variable alone stands.
-use Rattle.std.specs.Prelude.{◌≡◌, ◌≢◌, ℕ, max, ◌≤◌, Bool, true, false, nat_eq, if◌then◌else◌, ◌==◌}
+use Rattle.std.specs.Prelude.{◌≡◌, ◌≢◌, ℕ, max, if◌then◌else◌}
 use Rattle.std.specs.Prelude.{List, [], ◌∷◌, ◌++◌, map, Option, Some, None, option_to_list, slice_get, refl}
 use Rattle.std.proofs.Common.{◌∙◌, ap, subst, arith, eq-eqb}
 use Rattle.expr_terms.proofs.PointLaws.{unequal}

@@ -1,26 +1,25 @@
 -- The levels of operands on a store, and what is told of a run's start.
-use Rattle.std.specs.Prelude.{◌≡◌, ℕ, zero, suc, ◌+◌, ◌≤◌, ◌<◌, ◌^◌, List, [], ◌∷◌, map, length, All, Some, slice_get, slice_index, refl}
+use Rattle.std.specs.Prelude.{◌≡◌, ℕ, zero, suc, ◌+◌, ◌≤◌, ◌<◌, List, [], ◌∷◌, ◌++◌, length, All, Some, slice_get}
+use Rattle.std.specs.Prelude.{slice_index, slice_index_or, refl}
 use Rattle.std.proofs.Common.{◌∙◌, ap, sym, subst, arith}
 use Rattle.std.proofs.lemmas.List.Elements.{All-nil, All-cons}
 use Rattle.std.proofs.lemmas.Option.{get_or_from_slice_get, slice_get_within}
 use Rattle.limits.specs.Limits.{greatest_position_count}
 use Rattle.limits.proofs.Limits.{positions_are_small}
-use Rattle.kernel_code.specs.declared.syntax.Arr.TheVariants.{Range}
-use Rattle.kernel_code.specs.declared.syntax.Kernel.{Kernel}
-use Rattle.kernel_code.specs.Kernels.{start_state, start_arrays}
+use Rattle.kernel_code.specs.Kernels.{start_arrays}
 use Rattle.level_core.specs.Meaning.{Arrays}
 use Rattle.format_spec.specs.declared.format.FormatLevel.{FormatLevel}
 use Rattle.format_spec.specs.Formats.{letters_of}
 use Rattle.index_notation.specs.declared.syntax.Statement.{Statement}
 use Rattle.iteration_graph.specs.Edges.{format_of}
-use Rattle.tensor_storage.specs.Levels.{meaning}
-use Rattle.tensor_storage.specs.Storages.{Storage, IsStorage}
+use Rattle.tensor_storage.specs.Storages.{Storage}
 use Rattle.kernel_correctness.specs.Stores.{Store, IsStoreOf, IsGiven, IsHeld, IsOperand, AreOperands, OperandsHeld, level_sizes}
 use Rattle.kernel_correctness.proofs.Starts.{starts_on_store}
 use Rattle.lists.specs.Each.{Each}
+use Rattle.lists.proofs.Each.{each_append}
 use Rattle.store_facts.specs.declared.facts.StoreFact.{StoreFact}
-use Rattle.store_facts.specs.Facts.{IsFact, KeepsFacts}
-use Rattle.statement_facts.specs.Facts.{AreTrue, AreTrueOfOperands, HeldLevels}
+use Rattle.store_facts.specs.Facts.{IsFact}
+use Rattle.statement_facts.specs.Facts.{AreTrue, AreTrueOfOperands, IsTrueOfTensor, HeldLevels}
 
 -- the operand of a number
 record OperandAt (s : Statement) (formats : List (List FormatLevel)) (ranges : ℕ → ℕ) (tensor : ℕ) (arrays : Arrays) : Type 0 where
@@ -84,3 +83,23 @@ true_of_all s formats facts h = record {
             omega (arith, small, few);
       };
 }
+
+pub none_true : (s : Statement) (formats : List (List FormatLevel)) (facts : List StoreFact) → facts ≡ []
+    → AreTrueOfOperands s formats facts
+none_true s formats facts is nothing store arrays of given = subst (Each (IsFact arrays)) (sym is) tt
+
+-- the facts of one tensor more
+pub more_true : (s : Statement) (formats : List (List FormatLevel)) (tensor : ℕ) (format : List FormatLevel) (facts more all : List StoreFact)
+    → format ≡ format_of formats tensor → AreTrueOfOperands s formats facts → IsTrueOfTensor s tensor format more → all ≡ facts ++ more
+    → AreTrueOfOperands s formats all
+more_true s formats tensor format facts more all format_is old new is nothing store arrays of given =
+    subst (Each (IsFact arrays)) (sym is)
+    (each_append (IsFact arrays) facts more (old nothing store arrays of given)
+    (new arrays (λ some within. subst (λ f. HeldLevels s tensor 1 f arrays) (sym format_is)
+    (levels_held s formats nothing store arrays tensor of given some within))))
+
+-- what stands at a place doesn't depend on what there would be elsewhere
+pub any_default : {X : Type 0} (xs : List X) (i : ℕ) (d e : X) → i < length xs → slice_index_or xs i d ≡ slice_index_or xs i e
+any_default [] i d e l = absurd (omega (arith, l))
+any_default (x ∷ xs) zero d e l = refl
+any_default (x ∷ xs) (suc i) d e l = any_default xs i d e (omega (arith, l))

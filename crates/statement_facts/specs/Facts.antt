@@ -1,5 +1,5 @@
 -- When facts of arrays are true of every store of a statement and formats.
-use Rattle.std.specs.Prelude.{◌≡◌, ℕ, suc, ◌+◌, ◌<◌, List, [], ◌∷◌, map, length, All, Option, None, Some, slice_index}
+use Rattle.std.specs.Prelude.{◌≡◌, ℕ, ◌<◌, List, [], ◌∷◌, map, length, All, Option, None, Some, slice_index}
 use Rattle.lists.specs.Each.{Each}
 use Rattle.kernel_code.specs.declared.syntax.Arr.TheVariants.{Range}
 use Rattle.kernel_code.specs.declared.syntax.Kernel.{Kernel}
@@ -8,7 +8,6 @@ use Rattle.level_core.specs.Meaning.{Arrays}
 use Rattle.format_spec.specs.declared.format.FormatLevel.{FormatLevel}
 use Rattle.format_spec.specs.Formats.{letters_of}
 use Rattle.index_notation.specs.declared.syntax.Statement.{Statement}
-use Rattle.expr_terms.specs.Ranges.{mode_size}
 use Rattle.tensor_storage.specs.declared.level.StorageLevel.{StorageLevel}
 use Rattle.tensor_storage.specs.Levels.{meaning}
 use Rattle.kernel_correctness.specs.Stores.{Store, IsStoreOf, IsGiven, AreHeld, level_sizes}
@@ -40,7 +39,7 @@ AreTrueOfLevels s tensor number format facts =
 -- so it is of a tensor of this format, but the result
 abbrev pub IsTrueOfTensor : Statement → ℕ → List FormatLevel → List StoreFact → Type 0
 IsTrueOfTensor s tensor format facts =
-    (arrays : Arrays) → (0 < tensor → HeldLevels s tensor 1 format arrays) → Each (IsFact arrays) facts
+    (arrays : Arrays) → (0 < tensor → tensor < length s.tensors → HeldLevels s tensor 1 format arrays) → Each (IsFact arrays) facts
 
 -- so it is of operands, on every store
 abbrev pub AreTrueOfOperands : Statement → List (List FormatLevel) → List StoreFact → Type 0

@@ -1,5 +1,5 @@
 //! The facts that every store of a statement keeps.
-ghost use Rattle.std.specs.Prelude.{IfOk};
+ghost use Rattle.std.specs.Prelude.{◌≡◌, ◌+◌, ◌≤◌, ◌^◌, length, option_to_list, IfOk};
 ghost use Rattle.statement_facts.specs.Facts.{AreTrue, AreTrueOfLevels, IsTrueOfLevel, IsTrueOfTensor};
 
 use crate::alone::alone_at;
@@ -44,6 +44,17 @@ fn fact_of(
     None
 }
 
+/// What is known of a level, in a list. Refused only for want of memory.
+fn listed(alloc: Global, fact: Option<StoreFact>) -> Result<Items<StoreFact>, AllocError>
+    ensures { IfOk result (λ facts. facts ≡ option_to_list fact) }
+{
+    let mut facts = Items::new(alloc);
+    if let Some(fact) = fact {
+        facts.push(fact)?;
+    }
+    Ok(facts)
+}
+
 /// What is known of the levels of a tensor, of which the first has this number.
 fn facts_of_levels(
     alloc: Global,
@@ -52,15 +63,14 @@ fn facts_of_levels(
     number: usize,
     levels: &[FormatLevel],
 ) -> Result<Items<StoreFact>, AllocError>
+    requires few { number + length levels.now ≤ 2 ^ 32 }
     ensures { IfOk result (AreTrueOfLevels statement.now tensor number levels.now) }
 {
-    let mut facts = Items::new(alloc);
     let Some((first, others)) = levels.split_first() else {
-        return Ok(facts);
+        return Ok(Items::new(alloc));
     };
-    if let Some(fact) = fact_of(statement, tensor, number, *first) {
-        facts.push(fact)?;
-    }
+    let fact = fact_of(statement, tensor, number, *first);
+    let mut facts = listed(alloc, fact)?;
     let rest = facts_of_levels(alloc, statement, tensor, number + 1, others)?;
     facts.append(rest)?;
     Ok(facts)
@@ -75,7 +85,7 @@ fn facts_of_tensor(
 ) -> Result<Items<StoreFact>, AllocError>
     ensures { IfOk result (IsTrueOfTensor statement.now tensor format.now) }
 {
-    if tensor == 0 {
+    if tensor == 0 || tensor >= statement.tensors.len() {
         return Ok(Items::new(alloc));
     }
     let facts = facts_of_levels(alloc, statement, tensor, 1, format.levels())?;

@@ -11,7 +11,7 @@ use Rattle.kernel_code.specs.Meaning.{State, value, word_at, width_of, apply_eac
 use Rattle.kernel_code.proofs.Equations.{value_at, value_bin, value_min, value_width}
 use Rattle.store_facts.specs.declared.facts.StoreFact.{StoreFact}
 use Rattle.store_facts.specs.declared.facts.StoreFact.TheVariants.{Size, Coordinates}
-use Rattle.store_facts.specs.Facts.{IsFact, KeepsFacts, Tells, Becomes, IsBelow}
+use Rattle.store_facts.specs.Facts.{IsFact, KeepsFacts, Tells, Becomes}
 
 -- facts are about arrays that kernels don't write
 fact_kept : (fact : StoreFact) (s s' : State) → ((a : Arr) → may_write a ≡ false → s'.arrays a ≡ s.arrays a) → IsFact s.arrays fact
@@ -147,13 +147,3 @@ pub read_range : (fs : List StoreFact) (a : Arr) (i r : KExpr) (tensor level var
 read_range fs a i r tensor level variable is first same t =
     becomes_now fs (At a i) (At (arr.Dimension tensor level) (Num 0)) r (At arr.Range (Num variable))
     (ap (λ b. At b i) is ∙ ap (At (arr.Dimension tensor level)) first) same (becomes_range fs tensor level variable t)
-
--- a coordinate is below the range that its level's are known to be below
-pub coordinate_below : (fs : List StoreFact) (tensor level variable : ℕ) (i : KExpr) → may_write (arr.Coordinates tensor level) ≡ false
-    → Tells fs (Coordinates tensor level variable) → IsBelow fs (At (arr.Coordinates tensor level) i) variable
-coordinate_below fs tensor level variable i fixed t = record {
-  at = λ s v k is.
-      let read = read_word (s.arrays (arr.Coordinates tensor level)) (value i s) v
-      (sym (value_at (arr.Coordinates tensor level) i s) ∙ is) in
-      t.at s k fixed read.0 read.1 v read.2 read.4;
-}
