@@ -1,4 +1,5 @@
 pub mod Bytes
+pub mod Forms
 pub mod Parts
 pub mod Plain
 pub mod Standing

@@ -40,3 +40,12 @@ plain_begins (byte ∷ text) rest plain = plain
 pub end_begins : (text rest : List ℕ) → BeginsWithoutDigit text → BeginsWithoutDigit rest → BeginsWithoutDigit (text ++ rest)
 end_begins [] rest plain plain' = plain'
 end_begins (byte ∷ text) rest plain plain' = plain
+
+pub plain_starts : (text more rest : List ℕ) → BeginsPlain text → BeginsWithoutDigit ((text ++ more) ++ rest)
+plain_starts [] more rest plain = absurd plain
+plain_starts (byte ∷ text) more rest plain = plain
+
+-- what begins plainly isn't nothing, and nothing or plain
+pub plain_end : (text : List ℕ) → BeginsPlain text → BeginsWithoutDigit text
+plain_end [] plain = tt
+plain_end (byte ∷ text) plain = plain

@@ -29,7 +29,17 @@ fn two_numbers_at(
     Some(((first, second), at))
 }
 
-/// The array of a level of a tensor whose name ends so.
+/// The workspace and the key whose array's name stands at a place of a line, and the place behind it.
+fn key_at(line: &[u8], at: usize) -> Option<((u64, u64), usize)>
+    requires { at ≤ length line.now }
+    ensures { Reads (ℕ × ℕ) (λ n. codes "w" ++ (decimal n.0 ++ (codes "_key" ++ decimal n.1))) AreWordsBoth line.now at result }
+{
+    let (workspace, at) = name_at(line, at, b"w")?;
+    let (key, at) = name_at(line, at, b"_key")?;
+    Some(((workspace, key), at))
+}
+
+/// The tensor and the level whose array's name ends so, at a place of a line, and the place behind it.
 fn level_at(line: &[u8], at: usize, kind: &[u8]) -> Option<((u64, u64), usize)>
     requires within { at ≤ length line.now }
     requires plain { BeginsWithoutDigit kind.now }
@@ -79,7 +89,7 @@ pub(crate) fn array_at(line: &[u8], at: usize) -> Option<(Arr, usize)>
     if let Some((list, next)) = numbered_at(line, at, b"g", b"_pos") {
         return Some((Arr::ListPositions(list), next));
     }
-    if let Some(((workspace, key), next)) = two_numbers_at(line, at, b"w", b"_key", b"") {
+    if let Some(((workspace, key), next)) = key_at(line, at) {
         return Some((Arr::Key(workspace, key), next));
     }
     level_array_at(line, at)
