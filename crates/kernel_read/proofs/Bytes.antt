@@ -24,7 +24,7 @@ use Rattle.kernel_read.proofs.Plain.{digits_same}
 pub within_line : (line : List ℕ) (at count : ℕ) → at ≤ length line → count ≤ length (drop at line) → at + count ≤ length line
 within_line line at count h k = let l = length-drop at line in omega (arith, h, k, l)
 
-no_both : (r : Bool) → r ≡ true → r ≡ false → ⊥
+pub no_both : (r : Bool) → r ≡ true → r ≡ false → ⊥
 no_both r is_so isnt = cc
 
 here : (line bytes : List ℕ) (at : ℕ) (r : Bool) → at ≤ length line → r ≡ starts_with nat_eq (drop at line) bytes

@@ -176,27 +176,27 @@ found_is : (line : List ℕ) (at : ℕ) (e f : KExpr) (next : ℕ) → e ≡ f �
     → Found KExpr expr_text ExprHasWords line at e next
 found_is line at e f next is found = subst (λ x. Found KExpr expr_text ExprHasWords line at x next) (sym is) found
 
-pub found_bin : (line : List ℕ) (at : ℕ) (a b : KExpr) (o : Op) (next : ℕ) (e : KExpr) → e ≡ Bin o a b
-    → Found (KExpr × (Op × KExpr)) operands_text (λ e. ExprHasWords e.0 × ExprHasWords e.1.1) line at (a, (o, b)) next
+pub found_bin : (line : List ℕ) (at : ℕ) (p : KExpr × (Op × KExpr)) (next : ℕ) (e : KExpr) → e ≡ Bin p.1.0 p.0 p.1.1
+    → Found (KExpr × (Op × KExpr)) operands_text (λ e. ExprHasWords e.0 × ExprHasWords e.1.1) line at p next
     → Found KExpr expr_text ExprHasWords line at e next
 unfolding hidden-the_row-KExpr-0 hidden
-found_bin line at a b o next e is found = found_is line at e (Bin o a b) next is found
+found_bin line at p next e is found = found_is line at e (Bin p.1.0 p.0 p.1.1) next is found
 
-pub found_min : (line : List ℕ) (at : ℕ) (a b : KExpr) (next : ℕ) (e : KExpr) → e ≡ Min a b
-    → Found (KExpr × KExpr) least_text HaveWords line at (a, b) next → Found KExpr expr_text ExprHasWords line at e next
+pub found_min : (line : List ℕ) (at : ℕ) (p : KExpr × KExpr) (next : ℕ) (e : KExpr) → e ≡ Min p.0 p.1
+    → Found (KExpr × KExpr) least_text HaveWords line at p next → Found KExpr expr_text ExprHasWords line at e next
 unfolding hidden-the_row-KExpr-0 hidden
-found_min line at a b next e is found = found_is line at e (Min a b) next is found
+found_min line at p next e is found = found_is line at e (Min p.0 p.1) next is found
 
 pub found_width : (line : List ℕ) (at : ℕ) (a : KExpr) (next : ℕ) (e : KExpr) → e ≡ Width a
     → Found KExpr width_of_text ExprHasWords line at a next → Found KExpr expr_text ExprHasWords line at e next
 unfolding hidden-the_row-KExpr-0 hidden
 found_width line at a next e is found = found_is line at e (Width a) next is found
 
-pub found_at : (line : List ℕ) (at : ℕ) (a : Arr) (i : KExpr) (next : ℕ) (e : KExpr) → e ≡ At a i
-    → Found (Arr × KExpr) indexed_text (λ e. HasWords e.0 × ExprHasWords e.1) line at (a, i) next
+pub found_at : (line : List ℕ) (at : ℕ) (p : Arr × KExpr) (next : ℕ) (e : KExpr) → e ≡ At p.0 p.1
+    → Found (Arr × KExpr) indexed_text (λ e. HasWords e.0 × ExprHasWords e.1) line at p next
     → Found KExpr expr_text ExprHasWords line at e next
 unfolding hidden-the_row-KExpr-0 hidden
-found_at line at a i next e is found = found_is line at e (At a i) next is found
+found_at line at p next e is found = found_is line at e (At p.0 p.1) next is found
 
 -- a leaf is an expression
 leaf_words : (e : KExpr) → IsLeaf e → ExprHasWords e

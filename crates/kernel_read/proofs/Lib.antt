@@ -3,3 +3,4 @@ pub mod Forms
 pub mod Parts
 pub mod Plain
 pub mod Standing
+pub mod StatementForms

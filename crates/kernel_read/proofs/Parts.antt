@@ -1,5 +1,6 @@
 -- Readers one after another: what stands at a place where two parts stand one behind the other.
-use Rattle.std.specs.Prelude.{◌≡◌, ℕ, List, [], ◌∷◌, ◌++◌, length, drop, Option, Some, None, refl}
+use Rattle.std.specs.Prelude.{◌≡◌, ℕ, List, ◌++◌, drop, Option, Some, None, Result, Ok, Err, IfOk}
+use Rattle.std.specs.declared.alloc.AllocError.{AllocError}
 use Rattle.std.proofs.Common.{◌∙◌, ap, sym, subst, append_assoc}
 use Rattle.kernel_print.specs.ArrayNames.{BeginsWithoutDigit}
 use Rattle.kernel_read.specs.Reading.{Stands, NoneStands, Reads}
@@ -84,3 +85,10 @@ found_both A B T U F G line at S x y mid next first second parts = (
   subst (λ (t : List ℕ). Stands line at t next) (sym (parts (x, y))) (stands_more line at mid next (T x) (U y) first.1 second.1),
   second.2,
 )
+
+-- the same within what may be refused for want of memory
+pub ok_behind : (A : Type 0) (T : A → List ℕ) (F : A → Type 0) (line : List ℕ) (at : ℕ) (before : List ℕ) (mid : ℕ)
+    → Stands line at before mid → (answer : Result (Option (A × ℕ)) AllocError) → IfOk answer (Reads A T F line mid)
+    → IfOk answer (Reads A (λ x. before ++ T x) F line at)
+ok_behind A T F line at before mid stands (Ok answer) reads = reads_behind A T F line at before mid stands answer reads
+ok_behind A T F line at before mid stands (Err e) reads = tt

@@ -2,7 +2,7 @@
 use Rattle.std.specs.Prelude.{◌≡◌, ℕ, ◌<◌, Bool, true, false, List, [], ◌∷◌, ◌++◌, length, refl}
 use Rattle.std.specs.Char.{is_ascii_digit}
 use Rattle.std.specs.Str.{all_ascii_digits}
-use Rattle.std.proofs.Common.{◌∙◌, ap, sym, subst}
+use Rattle.std.proofs.Common.{sym, subst, arith}
 use Rattle.kernel_print.specs.ArrayNames.{BeginsWithoutDigit}
 use Rattle.kernel_print.proofs.ArrayNames.{all_first}
 use Rattle.kernel_read.specs.Reading.{BeginsPlain}
@@ -49,3 +49,7 @@ plain_starts (byte ∷ text) more rest plain = plain
 pub plain_end : (text : List ℕ) → BeginsPlain text → BeginsWithoutDigit text
 plain_end [] plain = tt
 plain_end (byte ∷ text) plain = plain
+
+pub plain_some : (text : List ℕ) → BeginsPlain text → 0 < length text
+plain_some [] plain = absurd plain
+plain_some (byte ∷ text) plain = omega arith

@@ -3,7 +3,7 @@ use Rattle.std.specs.Prelude.{◌≡◌, ℕ, ◌+◌, ◌≤◌, List, [], ◌�
 use Rattle.std.specs.Fmt.{decimal}
 use Rattle.std.proofs.Common.{◌∙◌, ap, sym, append_assoc, arith}
 use Rattle.std.proofs.lemmas.Fmt.{digits_decimal, decimal_injective}
-use Rattle.std.proofs.lemmas.List.{append_cancel_left}
+use Rattle.std.proofs.lemmas.List.{append_cancel_left, length-append, length-drop}
 use Rattle.text_lines.proofs.NumberLaws.{digits_model}
 use Rattle.kernel_print.specs.ArrayNames.{BeginsWithoutDigit, IsWord}
 use Rattle.kernel_read.specs.Reading.{Stands, NoneStands, BeginsPlain}
@@ -62,3 +62,14 @@ pub told_mid : (A : Type 0) (text : A → List ℕ) (Fits : A → Type 0) → Te
     → (found ≡ x) × (drop mid line ≡ rest)
 told_mid A text Fits tells line at found mid stands x rest fits plain same =
     tells found x (drop mid line) rest stands.0 fits stands.2 plain (sym stands.1.goes_on ∙ same)
+
+-- how far a line goes on
+pub moves_by : (line : List ℕ) (at : ℕ) (text : List ℕ) (next : ℕ) → Stands line at text next → at + length text ≡ next
+moves_by line at text next stands =
+    let whole = length-drop at line in
+    let rest = length-drop next line in
+    let both = length-append text (drop next line) in
+    let same : length (drop at line) ≡ length (text ++ drop next line) = ap length stands.goes_on in
+    let behind = stands.behind in
+    let within = stands.within in
+    omega (arith, whole, rest, both, same, behind, within)

@@ -6,5 +6,7 @@ mod digits;
 mod exprs;
 mod marks;
 mod operators;
+mod statements;
 
 pub use exprs::expr_at;
+pub use statements::statement_at;
