@@ -1,5 +1,6 @@
 -- Bytes and numbers at a place of a line.
-use Rattle.std.specs.Prelude.{◌≡◌, ℕ, zero, suc, ◌+◌, ◌-◌, ◌^◌, ◌<◌, ◌≤◌, Bool, true, false, cond, nat_eq, nat_lt, nat_le, List, [], ◌∷◌, ◌++◌}
+use Rattle.std.specs.Prelude.{◌≡◌, ℕ, zero, suc, ◌+◌, ◌-◌, ◌^◌, ◌<◌, ◌≤◌, Bool, true, false, cond, nat_eq, nat_lt, nat_le, List, [], ◌∷◌}
+use Rattle.std.specs.Prelude.{◌++◌}
 use Rattle.std.specs.Prelude.{length, take, drop, get_or, slice_index, Result, Ok, Err, Some, None, refl}
 use Rattle.std.specs.Char.{is_ascii_digit}
 use Rattle.std.specs.Fmt.{decimal}
@@ -15,7 +16,7 @@ use Rattle.std.proofs.lemmas.Slice.Eq.{starts_is}
 use Rattle.text_lines.proofs.NumberLaws.{digits_model, number_of_decimal}
 use Rattle.text_lines.specs.Numbers.{index_within, is_number, number_of, read_index_of}
 use Rattle.text_lines.specs.declared.num_fault.NumFault.{NumFault}
-use Rattle.text_lines.specs.declared.num_fault.NumFault.TheVariants.{NotNumber, NumRange}
+use Rattle.text_lines.specs.declared.num_fault.NumFault.TheVariants.{NumRange}
 use Rattle.kernel_print.specs.ArrayNames.{BeginsWithoutDigit, IsWord}
 use Rattle.kernel_print.proofs.ArrayNames.{all_first}
 use Rattle.kernel_read.specs.Reading.{Stands}

@@ -1,8 +1,7 @@
 -- Arrays, operators and expressions by cases on their forms.
-use Rattle.std.specs.Prelude.{◌≡◌, ℕ, ◌<◌, ◌≤◌, List, [], ◌∷◌, ◌++◌, codes, length, drop, get_or, Option, Some, None, Result, Ok, Err, IfOk, refl}
-use Rattle.std.specs.declared.alloc.AllocError.{AllocError}
+use Rattle.std.specs.Prelude.{◌≡◌, ℕ, ◌<◌, ◌≤◌, List, ◌++◌, codes, length, drop, Option, Some, None, refl}
 use Rattle.std.specs.Fmt.{decimal}
-use Rattle.std.proofs.Common.{◌∙◌, ap, sym, subst, arith}
+use Rattle.std.proofs.Common.{sym, subst, arith}
 use denote.Hole.Carrier.{hidden}
 use Rattle.kernel_code.specs.declared.syntax.Arr.{Arr}
 use Rattle.kernel_code.specs.declared.syntax.Arr.TheVariants as array
@@ -18,7 +17,7 @@ use Rattle.kernel_code.specs.declared.syntax.KExpr.TheOpen as view
 use Rattle.kernel_print.specs.ArrayNames.{BeginsWithoutDigit, HasWords, IsWord}
 use Rattle.kernel_print.specs.ExprTexts.{ExprHasWords}
 use Rattle.kernel_print.specs.Text.{array_text, expr_text, operator_text}
-use Rattle.kernel_read.specs.Reading.{AreWordsBoth, HaveWords, IsLeaf, IsOfLevel, NoneStands, Reads, operator_told}
+use Rattle.kernel_read.specs.Reading.{AreWordsBoth, HaveWords, IsLeaf, IsOfLevel, NoneStands, Reads}
 use Rattle.kernel_read.proofs.Parts.{Found}
 
 abbrev pub level_name : List ℕ → ℕ × ℕ → List ℕ
@@ -60,7 +59,8 @@ pub record NoOther (line : List ℕ) (at : ℕ) : Type 0 where
   pub positions : NoneStands ℕ (λ n. codes "g" ++ (decimal n ++ codes "_pos")) IsWord line at
   pub keys : NoneStands (ℕ × ℕ) (λ n. codes "w" ++ (decimal n.0 ++ (codes "_key" ++ decimal n.1))) AreWordsBoth line at
 
-no_array : (line : List ℕ) (at : ℕ) → NoOther line at → NoneStands Arr array_text IsOfLevel line at → NoneStands Arr array_text HasWords line at
+no_array : (line : List ℕ) (at : ℕ) → NoOther line at → NoneStands Arr array_text IsOfLevel line at
+    → NoneStands Arr array_text HasWords line at
 no_array line at other level array.Range behind fits plain same = other.range behind plain same
 no_array line at other level (array.Values n) behind fits plain same = other.values n behind fits plain same
 no_array line at other level (array.Sums n) behind fits plain same = other.sums n behind fits plain same

@@ -1,12 +1,12 @@
 -- What stands at a place of a line, and what stands behind it.
-use Rattle.std.specs.Prelude.{◌≡◌, ℕ, ◌+◌, ◌≤◌, List, [], ◌∷◌, ◌++◌, length, drop, refl}
+use Rattle.std.specs.Prelude.{◌≡◌, ℕ, ◌+◌, ◌≤◌, List, ◌++◌, length, drop}
 use Rattle.std.specs.Fmt.{decimal}
 use Rattle.std.proofs.Common.{◌∙◌, ap, sym, append_assoc, arith}
 use Rattle.std.proofs.lemmas.Fmt.{digits_decimal, decimal_injective}
 use Rattle.std.proofs.lemmas.List.{append_cancel_left, length-append, length-drop}
 use Rattle.text_lines.proofs.NumberLaws.{digits_model}
 use Rattle.kernel_print.specs.ArrayNames.{BeginsWithoutDigit, IsWord}
-use Rattle.kernel_read.specs.Reading.{Stands, NoneStands, BeginsPlain}
+use Rattle.kernel_read.specs.Reading.{Stands}
 use Rattle.kernel_read.proofs.Plain.{digits_same}
 
 joined : (r s t a b : List ℕ) → r ≡ a ++ s → s ≡ b ++ t → r ≡ (a ++ b) ++ t

@@ -1,5 +1,5 @@
 -- Statements of one line by cases on their forms.
-use Rattle.std.specs.Prelude.{◌≡◌, ℕ, Bool, true, false, List, ◌++◌, codes, drop, Option, Some, None, Result, Ok, Err, IfOk, refl}
+use Rattle.std.specs.Prelude.{◌≡◌, ℕ, Bool, false, List, ◌++◌, codes, Option, Some, None, Result, Ok, Err, IfOk, refl}
 use Rattle.std.specs.declared.alloc.AllocError.{AllocError}
 use Rattle.std.specs.Fmt.{decimal}
 use Rattle.kernel_code.specs.declared.syntax.Arr.{Arr}
@@ -110,7 +110,8 @@ simple_stored combines (AddTo a i e) fits = fits
 simple_stored combines _ fits = absurd fits
 
 pub found_assigned : (line : List ℕ) (at : ℕ) (combines : Bool) (s : KStmt) (next : ℕ)
-    → Found KStmt (statement_text 0) (IsAssigned combines) line at s next → Found KStmt (statement_text 0) (IsSimple combines) line at s next
+    → Found KStmt (statement_text 0) (IsAssigned combines) line at s next
+    → Found KStmt (statement_text 0) (IsSimple combines) line at s next
 found_assigned line at combines s next found = (simple_assigned combines s found.0, found.1, found.2)
 
 pub found_called : (line : List ℕ) (at : ℕ) (combines : Bool) (s : KStmt) (next : ℕ)

@@ -1,2 +1,4 @@
+pub mod Brackets
+pub mod Lines
 pub mod Reading
 pub mod Statements

@@ -3,7 +3,7 @@ use Rattle.std.specs.Fmt.{decimal}
 use Rattle.std.proofs.Common.{append_assoc, sym}
 use Rattle.kernel_print.specs.ArrayNames.{IsWord}
 use Rattle.kernel_read.specs.Reading.{AreWordsBoth}
-use Rattle.kernel_read.proofs.Parts.{Parts, AllPlain, none_first, none_second, none_reads, found_both}
+use Rattle.kernel_read.proofs.Parts.{none_first, none_second, none_reads, found_both}
 use Rattle.kernel_read.proofs.Plain.{plain_starts}
 use Rattle.kernel_read.proofs.Standing.{tells_behind, tells_numbers}
 use Rattle.kernel_read.proofs.arrays.two_numbers_at.Goals as goal

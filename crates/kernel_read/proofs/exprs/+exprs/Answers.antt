@@ -1,5 +1,5 @@
 use Rattle.std.specs.Prelude.{List, ℕ, ◌+◌, ◌≡◌, ◌++◌, codes, length, refl}
-use Rattle.std.proofs.Common.{append_assoc, arith, sym, subst, ◌∙◌}
+use Rattle.std.proofs.Common.{append_assoc, arith, sym}
 use Rattle.kernel_code.specs.declared.syntax.Arr.{Arr}
 use Rattle.kernel_code.specs.declared.syntax.KExpr.{KExpr}
 use Rattle.kernel_code.specs.declared.syntax.Op.{Op}
