@@ -98,9 +98,10 @@ number_found greatest digits n small same first =
     let some : 0 < length digits = ltb-true 0 (length digits) parts.0 in
     let most : v ≤ greatest = leb-true v greatest told.1.0 in
     let word : v < 2 ^ 64 = omega (arith, most, small) in
-    let one : get_or digits 0 0 ≡ 48 → length digits ≡ 1 = λ e. antisym (length digits) some (first e) in
-    (ap decimal told.1.1 ∙ decimal-digits_value digits_model digits parts.1 some one word,
-      subst IsWord (sym told.1.1) word)
+    let one : get_or digits 0 0 ≡ 48 → length digits ≡ 1 = λ e. antisym (length digits) some (first e) in (
+      ap decimal told.1.1 ∙ decimal-digits_value digits_model digits parts.1 some one word,
+      subst IsWord (sym told.1.1) word,
+    )
   where
     antisym : (m : ℕ) → 0 < m → m ≤ 1 → m ≡ 1
     antisym m h k = omega (arith, h, k)

@@ -1,5 +1,6 @@
 pub mod BracketLaws
 pub mod Bytes
+pub mod FeedLaws
 pub mod Forms
 pub mod LineForms
 pub mod Parts

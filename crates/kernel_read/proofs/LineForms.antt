@@ -227,7 +227,7 @@ ok_opened combines line outer at inner blanks stands (Ok None) none = no_line_op
 ok_opened combines line outer at inner blanks stands (Ok (Some x)) found = (
   opening_fits combines x found.0,
   blanks ∙ ap (λ (t : List ℕ). indentation outer ++ t) (stands.goes_on ∙ ap (λ (t : List ℕ). codes "  " ++ t) found.1
-  ∙ sym (opening_inner combines x found.0)),
+      ∙ sym (opening_inner combines x found.0)),
 )
 ok_opened combines line outer at inner blanks stands (Err e) reads = tt
 

@@ -6,8 +6,8 @@ ghost use Rattle.kernel_print.specs.ArrayNames.{BeginsWithoutDigit, HasWords, Is
 ghost use Rattle.kernel_print.specs.Text.{array_text};
 ghost use Rattle.kernel_read.specs.Reading.{AreWordsBoth, BeginsPlain, IsOfLevel, Reads};
 
-use crate::marks::behind_last;
 use crate::digits::{name_at, numbered_at};
+use crate::marks::behind_last;
 use kernel_code::Arr;
 
 /// The two numbers between these bytes at a place of a line, and the place behind them.

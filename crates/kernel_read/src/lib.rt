@@ -7,6 +7,7 @@ mod arrays;
 mod brackets;
 mod digits;
 mod exprs;
+mod feeds;
 mod lines;
 mod marks;
 mod operators;
@@ -14,5 +15,6 @@ mod statements;
 
 pub use brackets::open_behind;
 pub use exprs::expr_at;
+pub use feeds::first_line;
 pub use lines::Line;
 pub use statements::statement_at;

@@ -124,7 +124,11 @@ impl Line {
         let Some((opening, next)) = Line::opening_at(alloc, line, at, combines)? else {
             return Ok(None);
         };
-        if next == line.len() { Ok(Some(opening)) } else { Ok(None) }
+        if next == line.len() {
+            Ok(Some(opening))
+        } else {
+            Ok(None)
+        }
     }
 
     /// The line that ends a body, that a line ends with from a place of it on.

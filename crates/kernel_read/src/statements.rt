@@ -120,15 +120,13 @@ fn array_and_two_at(
 }
 
 /// The statement that stores a word at an index or adds it there, and the place behind it.
-fn stored_at(
-    alloc: Global,
-    line: &[u8],
-    at: usize,
-) -> Result<Option<(KStmt, usize)>, AllocError>
+fn stored_at(alloc: Global, line: &[u8], at: usize) -> Result<Option<(KStmt, usize)>, AllocError>
     requires { at ≤ length line.now }
     ensures { IfOk result (Reads AStatement (statement_text 0) IsStored line.now at) }
 {
-    if let Some(((array, (i, e)), next)) = array_and_two_at(alloc, line, at, b"[", b"] = ", b";\n")? {
+    if let Some(((array, (i, e)), next)) = array_and_two_at(
+        alloc, line, at, b"[", b"] = ", b";\n",
+    )? {
         return Ok(Some((KStmt::Put(array, i, e), next)));
     }
     match array_and_two_at(alloc, line, at, b"[", b"] += ", b";\n")? {
@@ -193,11 +191,7 @@ fn extend_at(
 }
 
 /// The statement of a call, and the place behind it.
-fn called_at(
-    alloc: Global,
-    line: &[u8],
-    at: usize,
-) -> Result<Option<(KStmt, usize)>, AllocError>
+fn called_at(alloc: Global, line: &[u8], at: usize) -> Result<Option<(KStmt, usize)>, AllocError>
     requires { at ≤ length line.now }
     ensures { IfOk result (Reads AStatement (statement_text 0) IsCalled line.now at) }
 {
