@@ -1,5 +1,5 @@
 -- Lines of a body by cases on their forms.
-use Rattle.std.specs.Prelude.{◌≡◌, ◌≢◌, ℕ, zero, suc, ◌+◌, ◌-◌, ◌<◌, ◌≤◌, ◌⊎◌, Bool, true, false, ◌==◌, List, [], ◌∷◌, ◌++◌, codes}
+use Rattle.std.specs.Prelude.{◌≡◌, ◌≢◌, ℕ, zero, suc, ◌+◌, ◌<◌, ◌≤◌, ◌⊎◌, Bool, true, false, ◌==◌, List, [], ◌∷◌, ◌++◌, codes}
 use Rattle.std.specs.Prelude.{length, take, drop}
 use Rattle.std.specs.Prelude.{Option, Some, None, Result, Ok, Err, IfOk, MatchOption, refl}
 use Rattle.std.specs.declared.alloc.AllocError.{AllocError}
@@ -11,7 +11,6 @@ use Rattle.kernel_code.specs.declared.syntax.KExpr.{KExpr}
 use Rattle.kernel_code.specs.declared.syntax.KStmt.{KStmt, Set, Combine, Put, AddTo, Push, Extend, Cut, Sort, SortSum, If', While'}
 use Rattle.kernel_code.specs.declared.syntax.LoopKind.{LoopKind}
 use Rattle.kernel_code.specs.declared.syntax.LoopKind.TheVariants as kind
-use Rattle.kernel_code.specs.declared.syntax.ValueOp.TheVariants as value_op
 use Rattle.kernel_print.specs.ArrayNames.{BeginsWithoutDigit}
 use Rattle.kernel_print.specs.ExprTexts.{ExprHasWords}
 use Rattle.kernel_print.specs.Text.{array_text, combining_text, expr_text, indentation, kind_text, statement_text}
