@@ -2,6 +2,7 @@ pub mod BracketLaws
 pub mod Bytes
 pub mod FeedLaws
 pub mod Forms
+pub mod HeadLaws
 pub mod LineForms
 pub mod Parts
 pub mod Plain
