@@ -11,7 +11,7 @@ use crate::marks::behind_last;
 use kernel_code::Arr;
 
 /// The two numbers between these bytes at a place of a line, and the place behind them.
-fn two_numbers_at(
+pub(crate) fn two_numbers_at(
     line: &[u8],
     at: usize,
     before: &[u8],
