@@ -6,7 +6,8 @@ use Rattle.std.proofs.lemmas.Bool.Decides.{Decides-eqb}
 use Rattle.std.proofs.lemmas.List.{append_cancel_left, append-nil, length-drop}
 use Rattle.kernel_print.specs.ArrayNames.{BeginsWithoutDigit, IsWord}
 use Rattle.kernel_read.specs.Heads.{list_line, workspace_line}
-use Rattle.kernel_read.specs.Reading.{AreWordsBoth, NoneStands}
+use Rattle.kernel_read.specs.Reading.{AreWordsBoth, NoneStands, Stands}
+use Rattle.kernel_read.proofs.Bytes.{behind_told}
 use Rattle.kernel_read.proofs.LineForms.{ends_no, ends_yes}
 use Rattle.kernel_read.proofs.Parts.{Found}
 use Rattle.kernel_read.proofs.Plain.{end_begins}
@@ -95,3 +96,20 @@ keys_yes line workspace next p found is end = (
   found.0.1,
   ends_yes line 0 (keys_text p) next found.1 ((Decides-eqb next (length line)).1 end) ∙ ap (λ n. workspace_line n p.1) is,
 )
+
+-- names of semirings
+pub named_yes : (line name : List ℕ) (before after : ℕ) → Stands line 0 (codes "kernel ") before → Stands line before name after
+    → drop after line ≡ codes " {\n" → line ≡ codes "kernel " ++ (name ++ codes " {\n")
+named_yes line name before after first second last =
+    first.goes_on ∙ ap (λ (t : List ℕ). codes "kernel " ++ t) (second.goes_on ∙ ap (λ (t : List ℕ). name ++ t) last)
+
+pub named_last : (line name : List ℕ) (before after : ℕ) → Stands line 0 (codes "kernel ") before → Stands line before name after
+    → (drop after line ≡ codes " {\n" → ⊥) → line ≡ codes "kernel " ++ (name ++ codes " {\n") → ⊥
+named_last line name before after first second other same =
+    other (behind_told line before name after (codes " {\n") second
+    (behind_told line 0 (codes "kernel ") before (name ++ codes " {\n") first same))
+
+pub named_part : (line name : List ℕ) (before : ℕ) → Stands line 0 (codes "kernel ") before
+    → ((rest : List ℕ) → drop before line ≡ name ++ rest → ⊥) → line ≡ codes "kernel " ++ (name ++ codes " {\n") → ⊥
+named_part line name before first none same =
+    none (codes " {\n") (behind_told line 0 (codes "kernel ") before (name ++ codes " {\n") first same)

@@ -17,6 +17,6 @@ mod statements;
 pub use brackets::open_behind;
 pub use exprs::expr_at;
 pub use feeds::first_line;
-pub use heads::{is_list_line, keys_of_line};
+pub use heads::{is_head, is_list_line, keys_of_line};
 pub use lines::Line;
 pub use statements::statement_at;

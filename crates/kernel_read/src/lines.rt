@@ -57,7 +57,7 @@ fn loop_at(
 }
 
 /// Whether a line ends with these bytes from a place of it on.
-fn ends_so(line: &[u8], at: usize, bytes: &[u8]) -> bool
+pub(crate) fn ends_so(line: &[u8], at: usize, bytes: &[u8]) -> bool
     requires { at ≤ length line.now }
     ensures yes { result ≡ true → drop at line.now ≡ bytes.now }
     ensures no { result ≡ false → drop at line.now ≡ bytes.now → ⊥ }
