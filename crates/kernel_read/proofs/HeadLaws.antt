@@ -23,7 +23,8 @@ tells_before A text Fits after first tells x y behind behind' fits fits' plain p
 
 tells_lists : Tells ℕ list_line IsWord
 tells_lists =
-    tells_behind ℕ (λ n. decimal n ++ codes ";\n") IsWord (codes "  scratch g") (tells_before ℕ decimal IsWord (codes ";\n") refl tells_numbers)
+    tells_behind ℕ (λ n. decimal n ++ codes ";\n") IsWord (codes "  scratch g")
+    (tells_before ℕ decimal IsWord (codes ";\n") refl tells_numbers)
 
 none_below : (n : ℕ) → 0 ≤ n
 none_below n = omega arith
@@ -108,8 +109,3 @@ pub named_last : (line name : List ℕ) (before after : ℕ) → Stands line 0 (
 named_last line name before after first second other same =
     other (behind_told line before name after (codes " {\n") second
     (behind_told line 0 (codes "kernel ") before (name ++ codes " {\n") first same))
-
-pub named_part : (line name : List ℕ) (before : ℕ) → Stands line 0 (codes "kernel ") before
-    → ((rest : List ℕ) → drop before line ≡ name ++ rest → ⊥) → line ≡ codes "kernel " ++ (name ++ codes " {\n") → ⊥
-named_part line name before first none same =
-    none (codes " {\n") (behind_told line 0 (codes "kernel ") before (name ++ codes " {\n") first same)
