@@ -1,0 +1,10 @@
+pub mod BracketLaws
+pub mod Bytes
+pub mod FeedLaws
+pub mod Forms
+pub mod HeadLaws
+pub mod LineForms
+pub mod Parts
+pub mod Plain
+pub mod Standing
+pub mod StatementForms
