@@ -57,11 +57,11 @@ fn parts(e: &KExpr) -> usize {
     }
 }
 
-/// Whether a value may stand where a variable is read once, in operands of so many parts: not a coordinate, which keeps its name, and
-/// nothing that makes them too long.
+/// Whether a value may stand where a variable is read once, in operands of so many parts: a coordinate, which keeps its name, only where the
+/// variable is the one operand, and nothing that makes them too long.
 fn may_stand(e: &KExpr, both: usize) -> bool {
-    let coordinate = matches!(e, KExpr::At(Arr::Coordinates(_, _), _));
-    !coordinate && both.saturating_add(parts(e)) <= MOST_PARTS
+    let named = both > 2 && matches!(e, KExpr::At(Arr::Coordinates(_, _), _));
+    !named && both.saturating_add(parts(e)) <= MOST_PARTS
 }
 
 /// Whether the statement that gives a variable this value may go: it isn't live behind operands, which don't read it, or in one place.

@@ -5,6 +5,7 @@ ghost use Rattle.kernel_flow.specs.Facts.{LessThanWord, WhereNot, WhereZero, giv
 
 use crate::exprs::{is_fixed, is_range, is_steady, same_expr};
 use crate::facts::{Fact, without};
+use crate::policy::copies_temporary;
 use kernel_code::{KExpr, Op, binary, copy_expr};
 use std::alloc::{AllocError, Global};
 use trees::{Boxed, Items};
@@ -200,7 +201,7 @@ pub(crate) fn after_set(
     let word = is_word(alloc, facts.as_slice(), now)?;
     let mut after = without(alloc, facts, x)?;
     let names = is_variable(e);
-    let back = !is_steady(now, x);
+    let back = copies_temporary(x, e) || !is_steady(now, x);
     add_copy_if(alloc, &mut after, x, now, copies)?;
     add_names_if(alloc, &mut after, x, e, names, back)?;
     add_word_if(alloc, &mut after, x, word)?;
