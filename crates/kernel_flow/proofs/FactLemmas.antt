@@ -36,7 +36,7 @@ pub take_next : (fs : List Fact) (i : ℕ) (f : Fact) (s : State) → i < length
 take_next fs i f s l is h g =
     subst (λ xs. AllHold xs s) (sym (take_more fs i f l)) (one_more (take i fs) (get_or fs i f) s h (subst (λ x. Holds x s) is g))
 
-hold_apart : (fs gs : List Fact) (s : State) → AllHold (fs ++ gs) s → AllHold fs s × AllHold gs s
+pub hold_apart : (fs gs : List Fact) (s : State) → AllHold (fs ++ gs) s → AllHold fs s × AllHold gs s
 hold_apart [] gs s h = (tt, h)
 hold_apart (f ∷ fs) gs s h = let rest = hold_apart fs gs s h.1 in ((h.0, rest.0), rest.1)
 
@@ -159,6 +159,9 @@ back_holds x v e f s m is l r = record {
 
 pub after_none : (fs : List Fact) (x : ℕ) (e : KExpr) → AfterSet fs x e fs
 after_none fs x e = record { at = λ s v is h. h }
+
+pub after_then : (fs gs hs : List Fact) (x : ℕ) (e : KExpr) → AfterSet fs x e gs → AfterSet gs x e hs → AfterSet fs x e hs
+after_then fs gs hs x e h g = record { at = λ s v is all. g.at s v is (h.at s v is all) }
 
 pub after_pushed : (fs new : List Fact) (x : ℕ) (e : KExpr) (f : Fact)
     → ((s : State) (v : ℕ) → value e s ≡ Some v → Holds f (set_var s x v)) → new ≡ fs ++ f ∷ [] → AfterSet fs x e new

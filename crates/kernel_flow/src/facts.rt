@@ -1,12 +1,13 @@
 // What is known at a place of code: pairs of expressions that have one value there.
-ghost use Rattle.std.specs.Prelude.{◌≡◌, ◌≢◌, ◌∷◌, [], IsTrue, IfOk};
+ghost use Rattle.std.specs.Prelude.{◌≡◌, ◌≢◌, ◌∷◌, [], IsTrue, IfOk, IfSome};
 ghost use Rattle.kernel_code.specs.Keeps.{Mentions};
-ghost use Rattle.kernel_flow.specs.Facts.{Gives, Survives};
+ghost use Rattle.kernel_flow.specs.Facts.{Gives, IsPlaceOf, Survives};
 ghost use Rattle.kernel_flow.specs.Steady.{IsReadOnly};
 
-use crate::exprs::{is_steady, same_expr};
+use crate::exprs::is_steady;
 use crate::guesses::{Changes, is_likely};
 use kernel_code::{KExpr, copy_expr};
+use simplifier::same_expr;
 use std::alloc::{AllocError, Global};
 use trees::Items;
 
@@ -26,26 +27,39 @@ fn copy_fact(alloc: Global, fact: &Fact) -> Result<Fact, AllocError>
     Ok(Fact { left, right })
 }
 
-/// Whether a fact stands among facts.
-fn stands_among(fact: &Fact, facts: &[Fact]) -> bool
-    ensures { IsTrue result → Gives facts.now (fact.now ∷ []) }
+/// Where a fact stands among facts, from a place on.
+fn place_from(fact: &Fact, facts: &[Fact], from: usize) -> Option<usize>
+    ensures { IfSome result (IsPlaceOf fact.now facts.now) }
 {
-    for other in facts {
+    for at in from..facts.len() {
+        let other = &facts[at];
         if same_expr(&other.left, &fact.left) && same_expr(&other.right, &fact.right) {
-            return true;
+            return Some(at);
         }
     }
-    false
+    None
+}
+
+/// Where a fact stands among facts, looked for first where the next one is likely to stand.
+pub(crate) fn place_among(fact: &Fact, facts: &[Fact], next: usize) -> Option<usize>
+    ensures { IfSome result (IsPlaceOf fact.now facts.now) }
+{
+    match place_from(fact, facts, next) {
+        Some(at) => Some(at),
+        None => place_from(fact, facts, 0),
+    }
 }
 
 /// Whether each fact stands among other facts.
 pub(crate) fn all_among(facts: &[Fact], others: &[Fact]) -> bool
     ensures { IsTrue result → Gives others.now facts.now }
 {
+    let mut next = 0;
     for fact in facts {
-        if !stands_among(fact, others) {
+        let Some(at) = place_among(fact, others, next) else {
             return false;
-        }
+        };
+        next = at + 1;
     }
     true
 }
@@ -72,10 +86,12 @@ pub(crate) fn common(
     ensures second { IfOk result (λ r. Gives others.now r) }
 {
     let mut both = Items::new(alloc);
+    let mut next = 0;
     for fact in facts {
-        if stands_among(fact, others) {
+        if let Some(at) = place_among(fact, others, next) {
             let copy = copy_fact(alloc, fact)?;
             both.push(copy)?;
+            next = at + 1;
         }
     }
     Ok(both)

@@ -3,6 +3,7 @@ ghost use Rattle.std.specs.Prelude.{◌≡◌, [], ◌∷◌, ◌++◌, IfOk};
 ghost use Rattle.kernel_flow.specs.Passing.{Passes, PassesTurn};
 ghost use Rattle.kernel_flow.specs.Facts.{Becomes, Gives, WhereNot, WhereZero};
 
+use crate::choices::{behind_choice, with_told};
 use crate::exprs::number;
 use crate::facts::{Fact, all_among, common, copy_facts, likely, without};
 use crate::guesses::changes_of;
@@ -33,13 +34,13 @@ fn pass_set(
     x: u64,
     e: &KExpr,
     facts: Items<Fact>,
-    policy: &Policy,
+    policy: Policy<'_>,
 ) -> Result<Passed, AllocError>
     ensures { IfOk result (λ p. Passes facts (KStmt.Set x e.now ∷ []) p.code p.facts) }
 {
     let now = rewrite(alloc, facts.as_slice(), e)?;
-    let copies = may_copy(policy, x, &now);
-    let after = after_set(alloc, facts, x, e, &now, copies)?;
+    let copies = may_copy(policy.reads, x, &now);
+    let after = after_set(alloc, facts, x, e, &now, copies, policy.in_choice)?;
     let code = one_statement(alloc, KStmt::Set(x, now))?;
     Ok(Passed { code, facts: after })
 }
@@ -149,23 +150,25 @@ fn facts_where_not(
     let mut there = copy_facts(alloc, facts)?;
     where_not(alloc, &mut there, test)?;
     where_not(alloc, &mut there, now)?;
-    Ok(there)
+    let all = with_told(alloc, there, now, 1)?;
+    Ok(all)
 }
 
 /// What is known where a test is 0 that is written otherwise now.
 fn facts_where_zero(
     alloc: Global,
-    facts: &[Fact],
+    facts: Items<Fact>,
     test: &KExpr,
     now: &KExpr,
 ) -> Result<Items<Fact>, AllocError>
-    requires { Becomes facts.now test.now now.now }
-    ensures { IfOk result (λ there. WhereZero facts.now test.now there) }
+    requires { Becomes facts test.now now.now }
+    ensures { IfOk result (λ there. WhereZero facts test.now there) }
 {
-    let mut there = copy_facts(alloc, facts)?;
+    let mut there = facts;
     where_zero(alloc, &mut there, test)?;
     where_zero(alloc, &mut there, now)?;
-    Ok(there)
+    let all = with_told(alloc, there, now, 0)?;
+    Ok(all)
 }
 
 /// A choice of two bodies, and what is known behind both.
@@ -174,9 +177,9 @@ fn joined(alloc: Global, test: KExpr, one: Passed, other: Passed) -> Result<Pass
     ensures first { IfOk result (λ p. Gives one.facts p.facts) }
     ensures second { IfOk result (λ p. Gives other.facts p.facts) }
 {
-    let both = common(alloc, one.facts.as_slice(), other.facts.as_slice())?;
+    let facts = behind_choice(alloc, &test, one.facts, other.facts.as_slice())?;
     let code = one_statement(alloc, KStmt::If(test, one.code, other.code))?;
-    Ok(Passed { code, facts: both })
+    Ok(Passed { code, facts })
 }
 
 /// A turn of a loop from facts that hold before its test.
@@ -186,13 +189,13 @@ fn pass_turn(
     body: &[KStmt],
     test: &KExpr,
     facts: &[Fact],
-    policy: &Policy,
+    policy: Policy<'_>,
 ) -> Result<Turned, AllocError>
     ensures { IfOk result (λ t. PassesTurn facts.now test.now body.now t.test t.body t.facts) }
 {
     let now = rewrite(alloc, facts, test)?;
     let inside = facts_where_not(alloc, facts, test, &now)?;
-    let turn = pass_code(alloc, body, inside, policy)?;
+    let turn = pass_code(alloc, body, inside, policy.of_loop())?;
     Ok(Turned {
         test: now,
         body: turn.code,
@@ -228,7 +231,7 @@ fn pass_loop(
     kind: LoopKind,
     test: &KExpr,
     facts: Items<Fact>,
-    policy: &Policy,
+    policy: Policy<'_>,
 ) -> Result<Passed, AllocError>
     ensures { IfOk result (λ p. Passes facts (KStmt.While kind test.now body.now ∷ []) p.code p.facts) }
 {
@@ -251,7 +254,7 @@ fn pass_statement(
     alloc: Global,
     s: &KStmt,
     facts: Items<Fact>,
-    policy: &Policy,
+    policy: Policy<'_>,
 ) -> Result<Passed, AllocError>
     ensures { IfOk result (λ p. Passes facts (s.now ∷ []) p.code p.facts) }
 {
@@ -272,9 +275,9 @@ fn pass_statement(
                 Some(_) => pass_code(alloc, first.as_slice(), facts, policy),
                 None => {
                     let there = facts_where_not(alloc, facts.as_slice(), test, &now)?;
-                    let elsewhere = facts_where_zero(alloc, facts.as_slice(), test, &now)?;
-                    let one = pass_code(alloc, first.as_slice(), there, policy)?;
-                    let other = pass_code(alloc, second.as_slice(), elsewhere, policy)?;
+                    let elsewhere = facts_where_zero(alloc, facts, test, &now)?;
+                    let one = pass_code(alloc, first.as_slice(), there, policy.of_choice())?;
+                    let other = pass_code(alloc, second.as_slice(), elsewhere, policy.of_choice())?;
                     joined(alloc, now, one, other)
                 }
             }
@@ -296,7 +299,7 @@ pub(crate) fn pass_code(
     alloc: Global,
     code: &[KStmt],
     facts: Items<Fact>,
-    policy: &Policy,
+    policy: Policy<'_>,
 ) -> Result<Passed, AllocError>
     ensures { IfOk result (λ p. Passes facts code.now p.code p.facts) }
 {

@@ -4,7 +4,7 @@ ghost use Rattle.simplifier.specs.Refines.{RefinesKernel};
 ghost use Rattle.kernel_flow.specs.Steady.{HasWords};
 
 use crate::flow::pass_code;
-use crate::policy::policy_of;
+use crate::policy::{Policy, reads_of};
 use kernel_code::Kernel;
 use std::alloc::{AllocError, Global};
 use trees::Items;
@@ -20,8 +20,12 @@ pub fn propagate(alloc: Global, kernel: Kernel) -> Result<Kernel, AllocError>
         lists,
         body,
     } = kernel;
-    let policy = policy_of(alloc, body.as_slice())?;
-    let passed = pass_code(alloc, body.as_slice(), Items::new(alloc), &policy)?;
+    let reads = reads_of(alloc, body.as_slice())?;
+    let policy = Policy {
+        reads: &reads,
+        in_choice: false,
+    };
+    let passed = pass_code(alloc, body.as_slice(), Items::new(alloc), policy)?;
     Ok(Kernel {
         semiring,
         workspaces,

@@ -3,10 +3,11 @@ ghost use Rattle.std.specs.Prelude.{◌≡◌, IsTrue, IfOk, OnOk};
 ghost use Rattle.kernel_flow.specs.Facts.{AfterSet, Becomes, BelowLast, BelowLastIf, Given, GivenIf, IsNumber, IsOneIf, IsWord, Learns};
 ghost use Rattle.kernel_flow.specs.Facts.{LessThanWord, WhereNot, WhereZero, gives_word, is_test};
 
-use crate::exprs::{is_fixed, is_range, is_steady, same_expr};
+use crate::exprs::{is_fixed, is_range, is_steady, number};
 use crate::facts::{Fact, without};
 use crate::policy::copies_temporary;
 use kernel_code::{KExpr, Op, binary, copy_expr};
+use simplifier::same_expr;
 use std::alloc::{AllocError, Global};
 use trees::{Boxed, Items};
 
@@ -120,6 +121,21 @@ fn add_back(alloc: Global, facts: &mut Items<Fact>, x: u64, e: &KExpr) -> Result
     Ok(())
 }
 
+/// Adds that a variable equals an expression: so it is known that both have a value.
+fn add_equality(alloc: Global, facts: &mut Items<Fact>, x: u64, e: &KExpr) -> Result<(), AllocError>
+    ensures { OnOk result (AfterSet facts.old x e.now facts.new) }
+{
+    if is_steady(e, x) && number(e).is_none() {
+        let right = copy_expr(alloc, e)?;
+        let left = binary(alloc, Op::Equal, KExpr::Var(x), right)?;
+        return facts.push(Fact {
+            left,
+            right: KExpr::Num(1),
+        });
+    }
+    Ok(())
+}
+
 /// Adds that a variable has the value of an expression, if it is to be copied.
 fn add_copy_if(
     alloc: Global,
@@ -132,6 +148,22 @@ fn add_copy_if(
 {
     if copies {
         return add_copy(alloc, facts, x, e);
+    }
+    Ok(())
+}
+
+/// Adds that a variable equals an expression, if that is to be noted.
+fn add_equality_if(
+    alloc: Global,
+    facts: &mut Items<Fact>,
+    x: u64,
+    e: &KExpr,
+    noted: bool,
+) -> Result<(), AllocError>
+    ensures { OnOk result (AfterSet facts.old x e.now facts.new) }
+{
+    if noted {
+        return add_equality(alloc, facts, x, e);
     }
     Ok(())
 }
@@ -186,7 +218,8 @@ fn add_word_if(alloc: Global, facts: &mut Items<Fact>, x: u64, word: bool) -> Re
     Ok(())
 }
 
-/// What is known once a variable is given the value of an expression that was written so and is written otherwise now.
+/// What is known once a variable is given the value of an expression that was written so and is written otherwise now, if it is to be
+/// copied, and if its equality is to be noted.
 pub(crate) fn after_set(
     alloc: Global,
     facts: Items<Fact>,
@@ -194,6 +227,7 @@ pub(crate) fn after_set(
     e: &KExpr,
     now: &KExpr,
     copies: bool,
+    noted: bool,
 ) -> Result<Items<Fact>, AllocError>
     requires { Becomes facts e.now now.now }
     ensures { IfOk result (λ after. Learns facts x e.now after) }
@@ -202,6 +236,7 @@ pub(crate) fn after_set(
     let mut after = without(alloc, facts, x)?;
     let names = is_variable(e);
     let back = copies_temporary(x, e) || !is_steady(now, x);
+    add_equality_if(alloc, &mut after, x, now, copies && noted)?;
     add_copy_if(alloc, &mut after, x, now, copies)?;
     add_names_if(alloc, &mut after, x, e, names, back)?;
     add_word_if(alloc, &mut after, x, word)?;

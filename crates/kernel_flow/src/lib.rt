@@ -2,6 +2,7 @@
 //! `specs/Facts.antt` says what is known at a place, `specs/Passing.antt` when code passes for other code where that is known.
 #![tactic(auto)]
 
+mod choices;
 mod exprs;
 mod facts;
 mod flow;
@@ -11,5 +12,4 @@ mod learning;
 mod policy;
 mod rewriting;
 
-pub use exprs::same_expr;
 pub use kernels::propagate;

@@ -1,4 +1,4 @@
-use Rattle.kernel_flow.proofs.TestLemmas.{below_same, word_below}
+use Rattle.kernel_flow.proofs.TestLemmas.{word_below}
 use Rattle.kernel_flow.proofs.learning.add_word_of.Goals as goal
 
 pub returns-in-Var : goal.returns-in-Var
