@@ -1,0 +1,3 @@
+pub mod ChoiceLemmas
+pub mod CodeLemmas
+pub mod LeadLemmas
