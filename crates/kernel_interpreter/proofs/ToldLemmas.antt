@@ -1,8 +1,9 @@
 -- A statement that makes no turns is told of, whatever it does: the turns that were made are few enough.
-use Rattle.std.specs.Prelude.{◌≡◌, ℕ, ◌≤◌, refl}
-use Rattle.std.proofs.Common.{◌∙◌, sym, ap, subst}
+use Rattle.std.specs.Prelude.{◌≡◌, ℕ, ◌+◌, ◌≤◌, refl}
+use Rattle.std.proofs.Common.{◌∙◌, sym, ap, subst, arith}
 use Rattle.kernel_interpreter.specs.declared.machine.Machine.{Machine}
 use Rattle.kernel_interpreter.specs.declared.ending.Step.{Step}
+use Rattle.kernel_interpreter.specs.declared.turns.KeptTurns.{KeptTurns}
 use Rattle.kernel_interpreter.specs.declared.ending.Step.TheVariants as step
 use Rattle.kernel_code.specs.declared.syntax.KStmt.{KStmt}
 use Rattle.kernel_code.specs.Meaning.{Setting, Outcome, run}
@@ -19,9 +20,11 @@ told_at n step.More m l = refl
 told_at n step.Memory m l = refl
 
 -- of a statement whose outcome is this one
-pub told : (n : ℕ) (m m' : Machine) (e : Step) (o : Outcome) (c : Setting) (k s : KStmt) → made m ≤ n → m'.turns ≡ m.turns → s ≡ k
+pub told : (n : ℕ) (m m' : Machine) (e : Step) (o : Outcome) (c : Setting) (k s : KStmt) → made m + m.turns.left ≡ n
+    → m'.turns ≡ m.turns → s ≡ k
     → outcome_at e m' ≡ o → o ≡ run c n k (state_of m)
     → outcome_at e m' ≡ within n (run c n s (state_of m))
 told n m m' e o c k s few same is h meant =
-    let within_now : made m' ≤ n = subst (λ t. all_turns (count_of t) ≤ n) (sym same) few in
+    let few_now : made m ≤ n = omega (arith, few) in
+    let within_now : made m' ≤ n = subst (λ (t : KeptTurns). all_turns (count_of t.counts) ≤ n) (sym same) few_now in
     sym (told_at n e m' within_now) ∙ ap (within n) (h ∙ meant ∙ ap (λ j. run c n j (state_of m)) (sym is))

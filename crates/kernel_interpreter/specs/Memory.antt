@@ -1,5 +1,5 @@
--- Which code takes no memory: where it appends nothing and sorts nothing, and each variable that it sets has a place.
-use Rattle.std.specs.Prelude.{ℕ, ◌<◌, List, [], ◌∷◌}
+-- Which code takes no memory: where it appends nothing and sorts nothing.
+use Rattle.std.specs.Prelude.{ℕ, List, [], ◌∷◌}
 use Rattle.kernel_code.specs.declared.syntax.KStmt.{KStmt, Set, Combine, Put, AddTo, Push, Extend, Cut, Sort, SortSum, If', While'}
 use Rattle.kernel_code.specs.declared.syntax.KStmt.{Row_of-KStmt, end_of-KStmt, more_of-KStmt}
 use Rattle.machine_parts.specs.ArrayPlaces.{room_of}
@@ -12,12 +12,6 @@ IsInPlace (Extend a count e) = ⊥
 IsInPlace (Sort g) = ⊥
 IsInPlace (SortSum w) = ⊥
 IsInPlace _ = Unit {0}
-
--- a statement that sets no variable from n on
-abbrev pub SetsBelow : ℕ → KStmt → Type 0
-SetsBelow n (Set x e) = x < n
-SetsBelow n (Combine x o e f) = x < n
-SetsBelow n _ = Unit {0}
 
 abbrev mutual
   -- each statement that this one is made of is such
@@ -42,10 +36,6 @@ abbrev mutual
 abbrev pub Through : (KStmt → Type 0) → List KStmt → Type 0
 Through P [] = Unit {0}
 Through P (s ∷ rest) = Throughout P s × Through P rest
-
--- what takes no memory where each variable below n has a place
-abbrev pub NeedsNone : ℕ → KStmt → Type 0
-NeedsNone n s = IsInPlace s × SetsBelow n s
 
 -- how many variables have a place, whether or not they have a value
 abbrev pub variable_room : Machine → ℕ

@@ -48,7 +48,7 @@ count_of t Drain = t.drain
 count_of t Probe = t.probe
 
 abbrev pub state_of : Machine → State
-state_of m = record { vars = held m.variables; arrays = array_of m; turns = count_of m.turns }
+state_of m = record { vars = held m.variables; arrays = array_of m; turns = count_of m.turns.counts }
 
 abbrev pub outcome_of : Ending → State → Outcome
 outcome_of ending.Ended s = Ended s
@@ -94,7 +94,7 @@ IsWritable m a i = IsPlaceOf m a i × (may_write a ≡ true)
 
 -- the turns made, of all kinds
 abbrev pub made : Machine → ℕ
-made m = all_turns (count_of m.turns)
+made m = all_turns (count_of m.turns.counts)
 
 -- how values are added, and the number of keys of each workspace
 abbrev pub setting : Arithmetic → List ℕ → Setting

@@ -11,14 +11,13 @@ ghost use Rattle.kernel_code.specs.Meaning.{put_outcome, add_outcome, push_outco
 ghost use Rattle.lent_arrays.specs.Lent.{lent_array};
 ghost use Rattle.machine_parts.specs.ArrayPlaces.{held};
 ghost use Rattle.machine_parts.specs.Rows.{row_of};
+ghost use Rattle.resolved_code.specs.Erase.{erase};
 ghost use Rattle.kernel_interpreter.specs.Memory.{variable_room};
 ghost use Rattle.kernel_interpreter.specs.Store.{count_of, state_of, own_array, outcome_at, outcome_of, made, IsPlaceOf, IsTold, IsWritable};
 
 use crate::ending::{Ending, Refused, Step};
-use kernel_code::{
-    Arr, KExpr, KStmt, LoopKind, Turns, apply_to_words, count_statements, least_operand,
-    width_of_operand,
-};
+use crate::turns::{KeptTurns, NO_TURNS};
+use kernel_code::{Arr, KExpr, LoopKind, Turns, apply_to_words, least_operand, width_of_operand};
 use lent_arrays::LentArrays;
 use machine_parts::{
     ArrayPlaces, OwnArray, PlacedRow, Table, append_copies, append_word, coordinates_of,
@@ -26,6 +25,7 @@ use machine_parts::{
     rows_of_list, sort_rows, sum_of_words, sum_rows, values_of, words_at,
 };
 use numbers::Semiring;
+use resolved_code::{Resolved, count_resolved};
 use seg_buffer::Segment;
 use std::alloc::{AllocError, Global};
 use std::mem;
@@ -38,20 +38,12 @@ pub struct Machine<'a> {
     places: ArrayPlaces,
     arrays: Vec<OwnArray>,
     lent: LentArrays<'a>,
-    turns: Turns,
+    turns: KeptTurns,
     /// What a step that answers `Over` leaves aside.
     refused: Refused,
     /// The number of the statement where a step answers `StuckInside`.
     stuck_inside: u64,
 }
-
-const NO_TURNS: Turns = Turns {
-    merge: 0,
-    skip: 0,
-    gather: 0,
-    drain: 0,
-    probe: 0,
-};
 
 const NOTHING_REFUSED: Refused = Refused {
     array: Arr::Range,
@@ -89,7 +81,7 @@ pub(crate) fn value_in_place(machine: &Machine, e: &KExpr) -> Option<u64>
 /// The value of an operand. A variable or a number is read where it stands.
 #[cycle(value)]
 #[inline(always)]
-pub(crate) fn operand(machine: &Machine, e: &KExpr) -> Option<u64>
+fn operand(machine: &Machine, e: &KExpr) -> Option<u64>
     ensures { result ≡ value e.now (state_of machine.now) }
 {
     match e {
@@ -207,7 +199,7 @@ impl<'a> Machine<'a> {
     pub fn turns(&self) -> Turns
         ensures { count_of result ≡ (state_of self.now).turns }
     {
-        self.turns
+        self.turns.counts
     }
 
     /// The value of a variable, or none where it has none.
@@ -216,6 +208,15 @@ impl<'a> Machine<'a> {
         ensures { result ≡ (state_of self.now).vars x }
     {
         self.variables.get(x)
+    }
+
+    /// The value of a variable that has a place, or none where it has no value.
+    #[inline(always)]
+    pub(crate) fn slot(&self, x: u64) -> Option<u64>
+        requires { x < variable_room self.now }
+        ensures { result ≡ (state_of self.now).vars x }
+    {
+        self.variables.at(x)
     }
 
     /// The words of an array of its own, or none where it doesn't exist.
@@ -259,7 +260,7 @@ impl<'a> Machine<'a> {
         }
     }
 
-    fn word(&self, a: Arr, i: Option<u64>) -> Option<u64>
+    pub(crate) fn word(&self, a: Arr, i: Option<u64>) -> Option<u64>
         ensures { result ≡ word_at ((state_of self.now).arrays a) i }
     {
         match i {
@@ -331,6 +332,7 @@ impl<'a> Machine<'a> {
         ensures is { outcome_at result self.new ≡ behind count (outcome_at step self.old) }
         ensures told { IsTold step ↔ IsTold result }
         ensures state { state_of self.new ≡ state_of self.old }
+        ensures turns { self.new.turns ≡ self.old.turns }
         ensures variables { self.new.variables ≡ self.old.variables }
     {
         if count == 0 {
@@ -355,6 +357,7 @@ impl<'a> Machine<'a> {
         ensures is { outcome_at result self.new ≡ behind 1 (outcome_at step self.old) }
         ensures told { IsTold step ↔ IsTold result }
         ensures state { state_of self.new ≡ state_of self.old }
+        ensures turns { self.new.turns ≡ self.old.turns }
         ensures variables { self.new.variables ≡ self.old.variables }
     {
         match step {
@@ -365,14 +368,16 @@ impl<'a> Machine<'a> {
 
     /// What code answers that stands behind statements. They are counted where it is stuck alone.
     #[inline(always)]
-    pub(crate) fn behind(&mut self, step: Step, before: &[KStmt]) -> Step
-        ensures is { outcome_at result self.new ≡ behind (statements_in_list before.now) (outcome_at step self.old) }
+    pub(crate) fn behind(&mut self, step: Step, before: &[Resolved]) -> Step
+        ensures is { outcome_at result self.new
+            ≡ behind (statements_in_list (map erase before.now)) (outcome_at step self.old) }
         ensures told { IsTold step ↔ IsTold result }
         ensures state { state_of self.new ≡ state_of self.old }
+        ensures turns { self.new.turns ≡ self.old.turns }
         ensures variables { self.new.variables ≡ self.old.variables }
     {
         match step {
-            Step::Stuck | Step::StuckInside => self.behind_so_many(step, count_statements(before)),
+            Step::Stuck | Step::StuckInside => self.behind_so_many(step, count_resolved(before)),
             Step::Ended | Step::Over | Step::More | Step::Memory => step,
         }
     }
@@ -546,28 +551,43 @@ impl<'a> Machine<'a> {
         }
     }
 
-    /// The turns made, of all kinds.
-    pub(crate) fn turns_made(&self) -> u64
-        requires { made self.now < 2 ^ 64 }
-        ensures { result ≡ made self.now }
-    {
-        let turns = &self.turns;
-        turns.merge + turns.skip + turns.gather + turns.drain + turns.probe
-    }
-
-    /// Counts a turn.
-    pub(crate) fn count_turn(&mut self, kind: LoopKind)
-        requires { made self.old + 1 < 2 ^ 64 }
-        ensures is { state_of self.new ≡ one_turn (state_of self.old) kind }
-        ensures made { made self.new ≡ made self.old + 1 }
+    /// Lets loops make turns until so many are made in all.
+    pub(crate) fn allow(&mut self, limit: u64)
+        requires { made self.old ≤ limit }
+        ensures left { made self.new + self.new.turns.left ≡ limit }
+        ensures state { state_of self.new ≡ state_of self.old }
         ensures variables { self.new.variables ≡ self.old.variables }
     {
+        let counts = &self.turns.counts;
+        let made = counts.merge + counts.skip + counts.gather + counts.drain + counts.probe;
+        self.turns.left = limit - made;
+    }
+
+    /// Whether no turn may be made any more.
+    #[inline(always)]
+    pub(crate) fn has_no_turn(&self) -> bool
+        ensures { IsTrue result ↔ (self.now.turns.left ≡ 0) }
+    {
+        self.turns.left == 0
+    }
+
+    /// Counts a turn, of those that may be made.
+    #[inline(always)]
+    pub(crate) fn count_turn(&mut self, kind: LoopKind)
+        requires left { 0 < self.old.turns.left }
+        requires few { made self.old + self.old.turns.left < 2 ^ 64 }
+        ensures is { state_of self.new ≡ one_turn (state_of self.old) kind }
+        ensures made { made self.new ≡ made self.old + 1 }
+        ensures left { self.new.turns.left + 1 ≡ self.old.turns.left }
+        ensures variables { self.new.variables ≡ self.old.variables }
+    {
+        self.turns.left -= 1;
         match kind {
-            LoopKind::Merge => self.turns.merge += 1,
-            LoopKind::Skip => self.turns.skip += 1,
-            LoopKind::Gather => self.turns.gather += 1,
-            LoopKind::Drain => self.turns.drain += 1,
-            LoopKind::Probe => self.turns.probe += 1,
+            LoopKind::Merge => self.turns.counts.merge += 1,
+            LoopKind::Skip => self.turns.counts.skip += 1,
+            LoopKind::Gather => self.turns.counts.gather += 1,
+            LoopKind::Drain => self.turns.counts.drain += 1,
+            LoopKind::Probe => self.turns.counts.probe += 1,
         }
     }
 

@@ -1,6 +1,6 @@
 -- How a kernel is made ready: the level at which a result can't be begun, and the state from which the kernel runs.
 use Rattle.std.specs.Prelude.{◌≡◌, ◌⊎◌, ℕ, suc, ◌<◌, ◌≤◌, true, false}
-use Rattle.std.specs.Prelude.{List, ◌∷◌, length, replicate, slice_get, Option, Some, None}
+use Rattle.std.specs.Prelude.{List, ◌∷◌, length, map, replicate, slice_get, Option, Some, None}
 use Rattle.limits.specs.Limits.{greatest_position_count}
 use Rattle.numbers.specs.Arithmetic.{Arithmetic}
 use Rattle.kernel_code.specs.declared.syntax.Kernel.{Kernel}
@@ -21,7 +21,9 @@ use Rattle.tensor_storage.specs.Handed.{no_words}
 use Rattle.tensor_storage.specs.Storages.{Storage}
 use Rattle.storage_builder.specs.Building.{building}
 use Rattle.kernel_interpreter.specs.declared.machine.Machine.{Machine}
-use Rattle.kernel_interpreter.specs.Memory.{SetsBelow, Through, variable_room}
+use Rattle.resolved_code.specs.Erase.{erase}
+use Rattle.resolved_code.specs.Rooms.{room_of_code}
+use Rattle.kernel_interpreter.specs.Memory.{variable_room}
 use Rattle.kernel_interpreter.specs.Store.{state_of}
 use Rattle.kernel_correctness.specs.Stores.{Store, IsGiven, StartsFew, result_sizes}
 use Rattle.level_core.specs.Kinds.{properties, parents_below}
@@ -84,14 +86,15 @@ pub record StartsOn (nothing : ℕ) (kernel : Kernel) (store : Store) (machine :
   pub no_more : HaveNoMore store given
   pub is : state_of machine ≡ start_state kernel given
 
--- the kernel stands ready to run on the store: its run starts on the store's arrays, each variable that it sets has a place, and nothing
--- of the result was handed over yet
+-- the kernel stands ready to run on the store: its code is resolved, its run starts on the store's arrays, each variable of the code has a
+-- place, and nothing of the result was handed over yet
 pub record IsReadyFor (a : Arithmetic) (kernel : Kernel) (store : Store) (p : Prepared) : Type 0 where
   pub kernel_is : p.kernel.now ≡ kernel
   pub order : p.order ≡ length store.format
   pub few : StartsFew (letters_of store.format) (result_sizes store) 1
   pub starts : StartsOn a.zero kernel store p.machine
-  pub room : Through (SetsBelow (variable_room p.machine)) kernel.body
+  pub code_is : map erase p.code ≡ kernel.body
+  pub room : room_of_code p.code ≤ variable_room p.machine
   pub building : p.builder ≡ building store.format (result_sizes store) (replicate (length store.format) no_words)
 
 -- a refusal before the run: of the first level that can't be begun

@@ -6,7 +6,8 @@ ghost use Rattle.tensor_storage.specs.Handed.{no_words};
 ghost use Rattle.tensor_storage.specs.Storages.{in_level_order};
 ghost use Rattle.storage_builder.specs.Building.{building};
 ghost use Rattle.kernel_correctness.specs.Stores.{StartsFew};
-ghost use Rattle.kernel_interpreter.specs.Memory.{SetsBelow, Through, variable_room};
+ghost use Rattle.resolved_code.specs.Rooms.{room_of_code};
+ghost use Rattle.kernel_interpreter.specs.Memory.{variable_room};
 ghost use Rattle.kernel_machine.specs.Begins.{store_of, StartsOn, IsReadyFor, IsBeginRefusal};
 
 use crate::prepared::Prepared;
@@ -18,15 +19,17 @@ use kernel_interpreter::{Machine, make_room};
 use lent_arrays::LentArrays;
 use machine_starts::{begin_result, begin_scratch, lent_operands, sizes_lent};
 use numbers::Semiring;
+use resolved_code::{Resolved, resolve};
 use std::alloc::{AllocError, Global};
 use storage_builder::{Builder, level_sizes};
 use tensor_map::Shape;
 use tensor_storage::Tensor;
 
-/// A machine with the arrays with which a kernel's run starts, and with a place for each variable that it sets.
+/// A machine with the arrays with which a kernel's run starts, and with a place for each variable of its code.
 fn started_machine<'a, S: Semiring>(
     alloc: Global,
     kernel: &Kernel,
+    code: &[Resolved],
     format: &[FormatLevel],
     operands: &'a [Tensor],
     ranges: &'a [u64],
@@ -35,7 +38,7 @@ fn started_machine<'a, S: Semiring>(
     requires sizes { sizes.now ≡ in_level_order format.now ranges.now }
     requires few { StartsFew (letters_of format.now) sizes.now 1 }
     ensures starts { IfOk result (StartsOn S.arithmetic.zero kernel.now (store_of ranges.now operands.now format.now)) }
-    ensures room { IfOk result (λ m. Through (SetsBelow (variable_room m)) kernel.now.body) }
+    ensures room { IfOk result (λ m. room_of_code code.now ≤ variable_room m) }
 {
     let lent = LentArrays {
         ranges,
@@ -50,7 +53,7 @@ fn started_machine<'a, S: Semiring>(
         kernel.workspaces.as_slice(),
         kernel.lists,
     )?;
-    make_room(&mut machine, kernel.body.as_slice())?;
+    make_room(&mut machine, code)?;
     Ok(machine)
 }
 
@@ -80,12 +83,22 @@ fn begun_kernel<'a, S: Semiring>(
     requires few { StartsFew (letters_of format) sizes.now 1 }
     ensures { IfOk result (IsReadyFor S.arithmetic kernel.now (store_of ranges.now operands.now format)) }
 {
-    let machine = started_machine::<S>(alloc, kernel, format.levels(), operands, ranges, sizes)?;
+    let code = resolve(alloc, kernel.body.as_slice())?;
+    let machine = started_machine::<S>(
+        alloc,
+        kernel,
+        code.as_slice(),
+        format.levels(),
+        operands,
+        ranges,
+        sizes,
+    )?;
     let order = format.order();
     let builder = empty_builder(alloc, format, ranges)?;
     Ok(Prepared {
         alloc,
         kernel,
+        code,
         order,
         machine,
         builder,
@@ -93,7 +106,7 @@ fn begun_kernel<'a, S: Semiring>(
 }
 
 /// Makes a kernel ready to run on operands, with these ranges of its variables and a result of this format.
-/// The operands are lent, and no code is copied. Refused for want of memory, or exactly where the result can't be begun, since dense
+/// The operands are lent, and the code is resolved. Refused for want of memory, or exactly where the result can't be begun, since dense
 /// levels alone would have more positions than may be: the first such level is told, and how many it would have.
 pub fn prepare<'a, S: Semiring>(
     alloc: Global,

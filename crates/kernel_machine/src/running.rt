@@ -92,13 +92,14 @@ pub fn run<S: Semiring>(prepared: Prepared) -> Result<(Tensor, Turns), RunRefusa
     let Prepared {
         alloc,
         kernel,
+        code,
         order,
         mut machine,
         builder,
     } = prepared;
     let Ok(ending) = run_statements::<S>(
         &mut machine,
-        kernel.body.as_slice(),
+        code.as_slice(),
         kernel.workspaces.as_slice(),
         most_turns(),
     ) else {

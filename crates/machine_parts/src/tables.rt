@@ -31,6 +31,15 @@ impl Table {
         }
     }
 
+    /// The number for x, which has a place, if there is one.
+    #[inline(always)]
+    pub fn at(&self, x: u64) -> Option<u64>
+        requires { x < room_of self.now }
+        ensures { result ≡ held self.now x }
+    {
+        self.items[x as usize]
+    }
+
     /// Gives each number up to x a place. Refused for want of memory alone, and never where x has a place already.
     pub fn make_room(&mut self, x: u64) -> Result<(), AllocError>
         ensures same { OnOk result ((y : ℕ) → held self.new y ≡ held self.old y) }

@@ -3,7 +3,6 @@
 //! `loops_by_position` has loops end with their positions.
 #![tactic(auto)]
 
-mod exprs;
 mod facts;
 mod loads;
 mod loops;

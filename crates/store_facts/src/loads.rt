@@ -2,8 +2,8 @@
 ghost use Rattle.std.specs.Prelude.{◌≡◌, [], ◌∷◌, IsTrue, IfOk, IfSome};
 ghost use Rattle.store_facts.specs.Loads.{load_code};
 
-use crate::exprs::{is_number, same_expr};
 use kernel_code::{KExpr, KStmt, copy_expr};
+use simplifier::{is_number, same_expr};
 use std::alloc::{AllocError, Global};
 
 /// Code that gives a variable a coordinate where a test isn't 0, and else the last word.

@@ -3,9 +3,9 @@ ghost use Rattle.std.specs.Prelude.{◌≡◌, [], ◌∷◌, IfOk};
 ghost use Rattle.simplifier.specs.Refines.{Refines, RefinesKernel};
 ghost use Rattle.store_facts.specs.Facts.{Becomes, KeepsFacts};
 
-use crate::exprs::is_number;
 use crate::facts::{StoreFact, range_of_size};
 use kernel_code::{Arr, KExpr, KStmt, Kernel, binary, word_at};
+use simplifier::is_number;
 use std::alloc::{AllocError, Global};
 use trees::{Boxed, Items};
 

@@ -1,10 +1,9 @@
-use Rattle.std.proofs.Common.{◌∙◌, ap, subst, refl, map, arith}
+use Rattle.std.proofs.Common.{◌∙◌, ap, refl, map}
 use Rattle.format_spec.specs.Formats.{letters_of}
 use Rattle.kernel_code.specs.Meaning.{State}
 use Rattle.lent_arrays.specs.declared.lent.LentArrays.{LentArrays}
 use Rattle.machine_starts.specs.Begun.{begun_result, sizes_lent, with_workspaces, with_lists}
 use Rattle.machine_starts.specs.Lending.{lent_of}
-use Rattle.kernel_interpreter.specs.Memory.{SetsBelow, Through, variable_room}
 use Rattle.kernel_interpreter.specs.Store.{state_of}
 use Rattle.kernel_machine.proofs.Starts.{starts_on}
 use Rattle.kernel_machine.proofs.preparing.started_machine.Goals as goal
@@ -31,8 +30,3 @@ returns-clause-starts g c =
     ∙ ap (λ (s : State). with_lists kernel.lists (with_workspaces kernel.workspaces 0 s)) (c.in_ok-begin_result.ensures
     ∙ ap (λ n. begun_result n letters c.args.sizes.now 1 1 (state_of m)) c.zero.ensures
     ∙ ap (λ ns. begun_result zero letters ns 1 1 (state_of m)) c.requires.sizes))
-
-pub returns-clause-room : goal.returns-clause-room
-returns-clause-room g c =
-    let n = variable_room c.make_room.new.machine in
-    subst (Through (SetsBelow n)) c.as_slice-2.ensures (c.in_ok-make_room.ensures.room n (omega arith))

@@ -23,5 +23,5 @@ returns c =
     λ i. record {
       vars = held old.variables;
       arrays = array_added old new a array c.requires refl places items refl i;
-      turns = count_of old.turns;
+      turns = count_of old.turns.counts;
     }

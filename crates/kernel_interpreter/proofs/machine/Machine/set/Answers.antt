@@ -8,6 +8,6 @@ returns-clause-is c =
     ap Ended (λ i. record {
       vars = λ y. c.put.ensures.value y i;
       arrays = λ a. array_of c.args.self.now a;
-      turns = count_of c.args.self.now.turns;
+      turns = count_of c.args.self.now.turns.counts;
     })
     ∙ ap (set_outcome (state_of c.args.self.now) c.args.x) (sym c.in-Some.is)

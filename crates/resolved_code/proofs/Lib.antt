@@ -1,0 +1,2 @@
+pub mod EraseLemmas
+pub mod FitsLemmas

@@ -1,0 +1,3 @@
+pub mod Erase
+pub mod Fits
+pub mod Rooms
