@@ -53,7 +53,7 @@ layer_told (view.If e first second) =
 layer_told (view.While k e body) =
     let a = map (λ (p : Pair). p.0) body in subst StatementTold (sym (rolls-While k e a)) (while_case k e a (pairs_told body))
 
-statement_is_told : (s : KStmt) → StatementTold s
+pub statement_is_told : (s : KStmt) → StatementTold s
 statement_is_told = ind-KStmt StatementTold (λ x y is. subst (λ z. StatementTold (roll-KStmt z)) is (layer_told y))
 
 code_is_told : (code : List KStmt) → CodeTold code

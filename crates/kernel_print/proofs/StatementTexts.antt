@@ -126,7 +126,7 @@ kind_told text =
     else (kind.Probe, drop 6 text))))
 
 -- the statement in front of a text, but for its indentation
-abbrev statement_told : Read → ReadCode → ReadStatement
+abbrev pub statement_told : Read → ReadCode → ReadStatement
 statement_told read code [] = (Sort 0, [])
 statement_told read code (byte ∷ text) =
     if byte == 120 then variable_told read (number_in text) (behind_digits text)

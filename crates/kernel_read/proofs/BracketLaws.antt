@@ -4,7 +4,7 @@ use Rattle.std.proofs.Common.{◌∙◌, ap, sym}
 use Rattle.std.proofs.lemmas.List.{drop_more}
 use Rattle.kernel_read.specs.Brackets.{open_behind, open_with}
 
-none_stays : (text : List ℕ) → open_behind None text ≡ None
+pub none_stays : (text : List ℕ) → open_behind None text ≡ None
 none_stays [] = refl
 none_stays (byte ∷ text) = none_stays text
 

@@ -180,14 +180,14 @@ inner_told : (line : List ℕ) (outer at : ℕ) (x : Line) → line ≡ indentat
     → drop at line ≡ inner_text x
 inner_told line outer at x blanks same = append_cancel_left (indentation outer) (drop at line) (inner_text x) (sym blanks ∙ same)
 
-opening_inner : (combines : Bool) (x : Line) → IsOpening combines x → inner_text x ≡ codes "  " ++ opening_text x
+pub opening_inner : (combines : Bool) (x : Line) → IsOpening combines x → inner_text x ≡ codes "  " ++ opening_text x
 opening_inner combines (a.Whole s) fits = refl
 opening_inner combines (a.If e) fits = refl
 opening_inner combines (a.While k e) fits = refl
 opening_inner combines a.Else fits = absurd fits
 opening_inner combines a.Close fits = absurd fits
 
-opening_fits : (combines : Bool) (x : Line) → IsOpening combines x → LineFits combines x
+pub opening_fits : (combines : Bool) (x : Line) → IsOpening combines x → LineFits combines x
 opening_fits combines (a.Whole s) fits = fits
 opening_fits combines (a.If e) fits = fits
 opening_fits combines (a.While k e) fits = fits
@@ -264,7 +264,7 @@ line_closed combines line outer at blanks none (Some x) (inr closes) =
     line_is combines line outer at x a.Else blanks closes.0 tt closes.1
 
 -- blanks of indentation
-indent_more : (depth : ℕ) → indentation (suc depth) ≡ indentation depth ++ codes "  "
+pub indent_more : (depth : ℕ) → indentation (suc depth) ≡ indentation depth ++ codes "  "
 indent_more zero = refl
 indent_more (suc depth) = ap (λ (t : List ℕ). codes "  " ++ t) (indent_more depth)
 

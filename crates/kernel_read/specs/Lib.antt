@@ -1,6 +1,11 @@
+pub mod Answers
+pub mod Blocks
 pub mod Brackets
+pub mod Drafts
 pub mod Feeds
 pub mod Heads
+pub mod Kernels
 pub mod Lines
+pub mod ReadBack
 pub mod Reading
 pub mod Statements

@@ -1,14 +1,18 @@
 // The lines in front of a body.
-ghost use Rattle.std.specs.Prelude.{◌≡◌, ◌++◌, ℕ, true, false, codes, MatchOption};
+ghost use Rattle.std.specs.Prelude.{◌≡◌, ◌++◌, ℕ, true, false, codes, IfOk, MatchOption};
+ghost use Rattle.kernel_code.specs.declared.syntax.KernelSemiring.{KernelSemiring as ASemiring};
 ghost use Rattle.kernel_print.specs.ArrayNames.{IsWord};
 ghost use Rattle.kernel_print.specs.Text.{head_text};
 ghost use Rattle.kernel_read.specs.Heads.{list_line, workspace_line};
+ghost use Rattle.kernel_read.specs.Kernels.{IsKnown};
 
 use crate::arrays::two_numbers_at;
 use crate::digits::numbered_at;
 use crate::lines::ends_so;
 use crate::marks::behind;
 use kernel_code::KernelSemiring;
+use std::alloc::{AllocError, Global};
+use trees::Items;
 
 /// Whether a line is the first one of a kernel over a semiring of this name, with its line feed.
 fn is_named(line: &[u8], name: &[u8]) -> bool
@@ -33,6 +37,25 @@ pub fn is_head(line: &[u8], semiring: &KernelSemiring) -> bool
         KernelSemiring::Ring => ends_so(line, 0, b"kernel {\n"),
         KernelSemiring::Named(name) => is_named(line, name.as_slice()),
     }
+}
+
+/// The semiring of the kernel whose first line this is, if it is one that is known. Refused only for want of memory.
+pub(crate) fn semiring_of(alloc: Global, line: &[u8]) -> Result<Option<KernelSemiring>, AllocError>
+    ensures { IfOk result (λ answer. MatchOption answer ((s : ASemiring) → IsKnown s → line.now ≡ head_text s → ⊥)
+        (λ s. IsKnown s × (line.now ≡ head_text s))) }
+{
+    if is_head(line, &KernelSemiring::Ring) {
+        return Ok(Some(KernelSemiring::Ring));
+    }
+    let lengths = KernelSemiring::Named(Items::from_slice(alloc, b"minplus")?);
+    if is_head(line, &lengths) {
+        return Ok(Some(lengths));
+    }
+    let flags = KernelSemiring::Named(Items::from_slice(alloc, b"bits")?);
+    if is_head(line, &flags) {
+        return Ok(Some(flags));
+    }
+    Ok(None)
 }
 
 /// The number of keys that a line gives the workspace of this number, with its line feed, if it is such a line.

@@ -46,12 +46,26 @@
 //! segment ends and no coordinates at level 1, and no width at level 2; there is one workspace of one key and one scratch list. Behind the
 //! name come how the run ended, where it is stuck the number of the statement, the turns of each kind, and the arrays that have words, with
 //! these.
+//!
+//! Texts are read as kernels:
+//!
+//! ```text
+//! line TEXT                 One more line of the text, with a line feed; `\r`, `\t` and the like stand for one byte.
+//! piece TEXT                More of the text, without a line feed.
+//! copies 2 TEXT             So many copies of what stands behind the number.
+//! read NAME                 What comes of the text; a new text begins.
+//! read_line TEXT            What comes of a kernel over the ring with this one line in its body.
+//! ```
+//!
+//! Behind the name, or the line, stands that the text is read back, which is that the kernel's text is the same but for comments in front,
+//! or why it is no kernel's.
 #![tactic(auto)]
 
 mod kinds;
 mod levels;
 mod names;
 mod postfix;
+mod reading;
 mod run;
 mod session;
 mod tensors;

@@ -1,17 +1,20 @@
 //! A kernel's body run on the arrays of all cases, and what it leaves.
-ghost use Rattle.std.specs.Prelude.{◌≡◌, ◌<◌, true, IfOk, IfSome};
+ghost use Rattle.std.specs.Prelude.{◌≡◌, ◌<◌, ◌≤◌, true, IfOk, IfSome};
 ghost use Rattle.kernel_code.specs.Arrays.{may_write};
 ghost use Rattle.storage_arrays.specs.Arrays.{AreDone};
+ghost use Rattle.resolved_code.specs.Rooms.{room_of_code};
+ghost use Rattle.kernel_interpreter.specs.Memory.{variable_room};
 ghost use Rattle.kernel_interpreter.specs.Store.{made};
 
 use crate::names::OWN;
 use crate::tensors::{Parts, pack};
 use case_files::Answer;
 use kernel_code::{Arr, KStmt, Turns};
-use kernel_interpreter::{Ending, Machine, run_statements};
+use kernel_interpreter::{Ending, Machine, make_room, run_statements};
 use lent_arrays::{LentArrays, Operand};
 use machine_starts::lent_operands;
 use numbers::Semiring;
+use resolved_code::{Resolved, resolve};
 use seg_buffer::Segment;
 use std::alloc::{AllocError, Global};
 use tensor_storage::Tensor;
@@ -46,14 +49,17 @@ fn first_word(array: Arr, zero: u64) -> u64 {
     }
 }
 
-/// A machine with the arrays of all cases, of which the result's values are this zero, and these operands.
+/// A machine with the arrays of all cases, of which the result's values are this zero, and these operands, and with a place for each
+/// variable of code.
 fn started<'a>(
     alloc: Global,
     zero: u64,
     ranges: &'a [u64],
     operands: Vec<Operand<'a>>,
+    code: &[Resolved],
 ) -> Result<Machine<'a>, AllocError>
-    ensures { IfOk result (λ m. made m ≡ 0) }
+    ensures made { IfOk result (λ m. made m ≡ 0) }
+    ensures room { IfOk result (λ m. room_of_code code.now ≤ variable_room m) }
 {
     let lent = LentArrays {
         ranges,
@@ -66,6 +72,7 @@ fn started<'a>(
         let word = first_word(array, zero);
         machine.add_array(array, Segment::filled(alloc, count, word)?)?;
     }
+    make_room(&mut machine, code)?;
     Ok(machine)
 }
 
@@ -122,9 +129,11 @@ pub(crate) fn tell_run<S: Semiring>(answer: &mut Answer, line: &str, code: &[KSt
     let tensors = [tensor_of(answer, line)?];
     let operands = lent_operands(alloc, &tensors);
     let operands = answer.made(operands)?;
-    let machine = started(alloc, S::zero(), &[6, 7], operands);
+    let code = resolve(alloc, code);
+    let code = answer.made(code)?;
+    let machine = started(alloc, S::zero(), &[6, 7], operands, code.as_slice());
     let mut machine = answer.made(machine)?;
-    let ending = run_statements::<S>(&mut machine, code, &[1], TURNS);
+    let ending = run_statements::<S>(&mut machine, code.as_slice(), &[1], TURNS);
     let ending = answer.made(ending)?;
     tell_ending(answer, ending, machine.turns());
     tell_arrays(answer, &machine);

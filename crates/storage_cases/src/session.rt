@@ -2,6 +2,7 @@
 use crate::kinds::tell_kind;
 use crate::levels::tell_tensor_levels;
 use crate::postfix::Postfix;
+use crate::reading::Text;
 use crate::run::tell_run;
 use crate::tensors::Parts;
 use crate::values::tell_values;
@@ -14,11 +15,12 @@ use semirings::{Bits, MinPlus};
 use simplifier::simplify;
 use std::alloc::Global;
 
-/// The tensor of the runs, and the kernel that the lines so far make.
+/// The tensor of the runs, the kernel that the lines so far make, and the text that they make.
 #[derive(Drop)]
 pub(crate) struct Session {
     tensor: String,
     kernel: Postfix,
+    text: Text,
 }
 
 /// Whether a kernel names a semiring.
@@ -45,6 +47,7 @@ impl Session {
         Session {
             tensor: String::new(alloc),
             kernel: Postfix::new(alloc),
+            text: Text::new(alloc),
         }
     }
 
@@ -105,7 +108,19 @@ impl Cases for Session {
     fn shows(&self, line: &str) -> bool {
         !matches!(
             keyword_of(line).0,
-            "tensor" | "over" | "workspace" | "list" | "do" | "print" | "simplify" | "run"
+            "tensor"
+                | "over"
+                | "workspace"
+                | "list"
+                | "do"
+                | "print"
+                | "simplify"
+                | "run"
+                | "line"
+                | "piece"
+                | "copies"
+                | "read"
+                | "read_line"
         )
     }
 
@@ -123,6 +138,11 @@ impl Cases for Session {
             }
             "do" => self.kernel.read_words(rest),
             "print" | "simplify" | "run" => self.tell_outcome(answer, keyword, rest),
+            "line" => self.text.add_line(answer, rest),
+            "piece" => self.text.add(answer, rest),
+            "copies" => self.text.add_copies(answer, rest),
+            "read" => self.text.tell(answer, rest),
+            "read_line" => self.text.tell_line(answer, rest),
             _ => tell_values(answer, Parts::of(line)?),
         }
     }
