@@ -7,7 +7,10 @@ use std::rt::Files;
 use std::{fs, io};
 use tns_io::{tensors_have_one_text, written_texts_stand_for_their_tensor};
 
-const NAME: &str = "part-cases.txt";
+/// More than the 64 bytes that a short text keeps within itself.
+const NAME: &str = "part-cases-of-a-file-whose-name-has-more-than-sixty-four-bytes.txt";
+/// More than a case has.
+const LONGER: &[u8] = b"7 8 9 10 11 12\n";
 
 /// Puts the text into a file through a batch, and answers how many bytes were kept back before the end.
 fn write_text<F: Folder>(folder: &mut F, text: &[u8]) -> Result<usize, Refusal> {
@@ -65,7 +68,7 @@ fn tell_removed<R: Files, F: Folder>(rt: &R, answer: &mut Answer, folder: &mut F
     Some(())
 }
 
-/// The copy, whose text is printed, and then what a read answers once the file is removed.
+/// The copy over a longer text of that name, whose text is printed, and then what a read answers once the file is removed.
 fn tell_real_copy<R: Files + Print + AllocGlobal>(
     rt: &R,
     answer: &mut Answer,
@@ -73,6 +76,7 @@ fn tell_real_copy<R: Files + Print + AllocGlobal>(
 ) -> Option<()> {
     let mut folder = RealFolder::new(rt.alloc(), rt);
     let mut sink = StdSink::new(io::writer(rt));
+    write_text(&mut folder, LONGER).ok()?;
     tell_copy(answer, &mut folder, &mut sink, text)?;
     tell_removed(rt, answer, &mut folder)
 }

@@ -37,7 +37,7 @@
 //! write cut 4 fail 3 | abc    A text is put into the file `old`, through a sink over the folder.
 //! batch 9000 fail 2 | a       The text is put 9,000 times into a batch over a sink.
 //! copy | abc                  A file is written, read back and given to a sink, over objects that never fail.
-//! copy_real | abc             So is a file of the system, whose text is printed.
+//! copy_real | abc             So is a file of the system, over a longer one; its text is printed.
 //! laws |                      Each call that states a law.
 //! ```
 //!
