@@ -7,3 +7,4 @@ pub mod Merges
 pub mod Parts
 pub mod PieceLaws
 pub mod Pieces
+pub mod Ranged

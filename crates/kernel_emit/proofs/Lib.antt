@@ -9,7 +9,6 @@ pub mod OffRange
 pub mod Pieces
 pub mod Rows
 pub mod Sequences
-pub mod Sides
 pub mod Turns
 pub mod Walks
 pub mod Whole
