@@ -29,7 +29,8 @@ use Rattle.kernel_runs.proofs.Whole.{IsRunBy, RefusedBy}
 -- a refusal of the ranges, by the bounds as they are lent, is one of the run
 pub range_refusal : (a : Arithmetic) (s : Statement) (formats : List (List FormatLevel)) (given : List (Option ℕ)) (operands : List Entries)
     (bounds lent : List (Vec Bound Global)) (refusal : RangeFault)
-    → lent ≡ bounds → told.MayRefuseRanges (told_ranges s given lent) refusal → MayRefuseRun a s formats given operands bounds (of_ranges refusal)
+    → lent ≡ bounds → told.MayRefuseRanges (told_ranges s given lent) refusal
+    → MayRefuseRun a s formats given operands bounds (of_ranges refusal)
 range_refusal a s formats given operands bounds lent refusal same h =
     by refusal (subst (λ (bs : List (Vec Bound Global)). told.MayRefuseRanges (told_ranges s given bs) refusal) same h)
   where

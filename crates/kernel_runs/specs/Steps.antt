@@ -56,8 +56,8 @@ pub record ListsNonzero (a : Arithmetic) (storage : Storage) (entries : Entries)
   pub increasing : StrictlyIncreasing entries.list
 
 -- the run of a statement's kernel on a store: what the kernel leaves, its values that aren't zero, and the ranges of the left variables
-pub record IsRunOn (a : Arithmetic) (s : Statement) (kernel : Kernel) (store : Store) (shape : List ℕ) (entries : Entries) (tensor : Storage)
-    (turns : Turns) : Type 0 where
+pub record IsRunOn (a : Arithmetic) (s : Statement) (kernel : Kernel) (store : Store) (shape : List ℕ) (entries : Entries)
+    (tensor : Storage) (turns : Turns) : Type 0 where
   pub ends : EndsOn a kernel store tensor turns
   pub lists : ListsNonzero a tensor entries
   pub each : AreEntries entries

@@ -2,6 +2,7 @@ pub mod Forward
 pub mod ModeOrders
 pub mod Numbers
 pub mod PlannedLaws
+pub mod PlannedRanges
 pub mod PlannedValues
 pub mod Planning
 pub mod StoredFormats

@@ -1,5 +1,6 @@
 -- The modes of an access in the standing order of its variables are its modes in some order.
-use Rattle.std.specs.Prelude.{◌≡◌, ◌≢◌, ℕ, zero, suc, ◌+◌, ◌≤◌, ◌<◌, ◌==◌, Bool, true, false, if◌then◌else◌, List, [], ◌∷◌, length}
+use Rattle.std.specs.Prelude.{◌≡◌, ◌≢◌, ℕ, zero, suc, ◌+◌, ◌≤◌, ◌<◌}
+use Rattle.std.specs.Prelude.{◌==◌, Bool, true, false, if◌then◌else◌, List, [], ◌∷◌, length}
 use Rattle.std.specs.Prelude.{All, AllPairs, Option, Some, None, filter_map, slice_index, slice_index_or, refl}
 use Rattle.std.specs.List.{cons_option}
 use Rattle.std.proofs.Common.{◌∙◌, sym, ap, arith}

@@ -23,7 +23,8 @@ use Rattle.mode_planner.proofs.Forward.{all_forward}
 use Rattle.mode_planner.proofs.ModeOrders.{modes_order}
 
 -- ---- levels of some kinds that store some modes
-pub same_letters : (letters : List Letter) (modes : List ℕ) → length letters ≡ length modes → letters_of (with_modes letters modes) ≡ letters
+pub same_letters : (letters : List Letter) (modes : List ℕ) → length letters ≡ length modes
+    → letters_of (with_modes letters modes) ≡ letters
 same_letters [] [] h = refl
 same_letters [] (mode ∷ modes) h = absurd (omega (arith, h))
 same_letters (letter ∷ letters) [] h = absurd (omega (arith, h))

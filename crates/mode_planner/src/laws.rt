@@ -1,5 +1,5 @@
 //! Claims about plans, as calls whose contract is the claim. They do nothing.
-ghost use Rattle.std.specs.Prelude.{◌≡◌, ℕ, List, length};
+ghost use Rattle.std.specs.Prelude.{◌≡◌, ℕ, List, Option, length};
 ghost use Rattle.format_spec.specs.Formats.{IsFormat};
 ghost use Rattle.format_spec.specs.declared.format.FormatLevel.{FormatLevel};
 ghost use Rattle.index_notation.specs.Statement.{IsDistinct};
@@ -8,8 +8,10 @@ ghost use Rattle.lists.specs.Each.{Each};
 ghost use Rattle.mode_planner.specs.Plans.{LeadsForward, planned_edges};
 ghost use Rattle.numbers.specs.Arithmetic.{Arithmetic};
 ghost use Rattle.index_notation.specs.declared.syntax.Statement.{Statement};
+ghost use Rattle.expr_terms.specs.declared.bound.Bound.{Bound};
+ghost use Rattle.expr_terms.specs.Ranges.{ranges_of};
 ghost use Rattle.expr_terms.specs.Terms.{statement_value};
-ghost use Rattle.mode_planner.specs.Planned.{IsPlanned, StoreOrigins};
+ghost use Rattle.mode_planner.specs.Planned.{IsPlanned, StoreOrigins, origin_of};
 ghost use Rattle.mode_planner.specs.declared.planned.Planned.{Planned};
 
 /// Claim: where an access is stored as its plan tells, in the standing order of its variables, and as before where it isn't named,
@@ -29,4 +31,12 @@ pub fn planned_statements_keep_values()
         (values stored : ℕ → List ℕ → ℕ) (ranges : ℕ → ℕ) (coords : List ℕ) → IsPlanned s formats plan
         → StoreOrigins plan values stored
         → statement_value a plan.statement stored ranges coords ≡ statement_value a s values ranges coords }
+{}
+
+/// Claim: where each mode of a tensor of a planned statement tells what the tensor whose entries it stores tells there, and the given
+/// statement's ranges agree, they are the planned one's.
+pub fn planned_statements_keep_ranges()
+    ensures { (s : Statement) (formats : List (List FormatLevel)) (plan : Planned) (given : ℕ → Option ℕ) (bounds : ℕ → ℕ → Bound)
+        (ranges : List ℕ) → IsPlanned s formats plan → ranges_of s given bounds ≡ Ok ranges
+        → ranges_of plan.statement given (λ tensor. bounds (origin_of plan.origins tensor)) ≡ Ok ranges }
 {}

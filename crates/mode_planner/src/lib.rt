@@ -7,6 +7,8 @@ mod laws;
 mod planned;
 mod plans;
 
-pub use laws::{planned_loops_have_an_order, planned_statements_keep_values};
+pub use laws::{
+    planned_loops_have_an_order, planned_statements_keep_ranges, planned_statements_keep_values,
+};
 pub use planned::{Planned, plan_statement};
 pub use plans::{Repack, plan};

@@ -1,10 +1,9 @@
 //! The statement that is run where storage orders have a cycle.
-ghost use Rattle.std.specs.Prelude.{◌≡◌, ℕ, ◌+◌, ◌<◌, ◌≤◌, List, [], ◌∷◌, ◌++◌, length, IfOk, IfSome, MatchOption, OnOk};
+ghost use Rattle.std.specs.Prelude.{◌≡◌, ℕ, ◌+◌, List, [], ◌∷◌, ◌++◌, length, IfOk, IfSome, MatchOption, OnOk};
 ghost use Rattle.lists.specs.Each.{Each};
-ghost use Rattle.format_spec.specs.declared.format.FormatLevel.{FormatLevel as ALevel};
 ghost use Rattle.index_notation.specs.Statement.{IsAccess, IsDistinct, IsNumbered, IsWellNamed};
 ghost use Rattle.index_notation.specs.declared.syntax.Access.{Access as AnAccess};
-ghost use Rattle.iteration_graph.specs.Edges.{HasFormat, format_of};
+ghost use Rattle.iteration_graph.specs.Edges.{HasFormat};
 ghost use Rattle.mode_planner.specs.Planned.{Answers, AreOrigins, CanBeCompiled, IsPlanned, IsPlannedOf, IsStoredAs};
 
 use crate::formats::{is_same, planned_format};

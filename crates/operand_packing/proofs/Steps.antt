@@ -1,5 +1,6 @@
 -- Tensors that are packed one after another, each from the entries of one of the operands.
-use Rattle.std.specs.Prelude.{◌≡◌, ◌≢◌, ◌⊎◌, ℕ, zero, suc, ◌+◌, ◌-◌, ◌<◌, ◌≤◌, Bool, true, false, List, [], ◌∷◌, ◌++◌, length}
+use Rattle.std.specs.Prelude.{◌≡◌, ◌≢◌, ◌⊎◌, ℕ, zero, suc, ◌+◌, ◌-◌, ◌<◌}
+use Rattle.std.specs.Prelude.{◌≤◌, Bool, true, false, List, [], ◌∷◌, ◌++◌, length}
 use Rattle.std.specs.Prelude.{Some, slice_get, slice_index, slice_index_or, slice_set, refl}
 use Rattle.std.proofs.Common.{◌∙◌, sym, ap, subst, arith, inl, inr, add-one}
 use Rattle.std.proofs.lemmas.Bool.{cases_order}
@@ -211,7 +212,8 @@ module _ (a : Arithmetic) (s : Statement) (formats : List (List FormatLevel)) (r
           other n behind_it inside apart =
               let at = known n 0 inside in
               subst (StandsFor a (or_no_entries (operand_of operands (slice_index origins n))))
-              (sym (operand_other now (slice_index origins number) (slice_index origins n) e' origin_known.0 at.0 (λ same. apart (sym same))))
+              (sym (operand_other now (slice_index origins number) (slice_index origins n) e' origin_known.0 at.0
+              (λ same. apart (sym same))))
               (p.rest n (omega (arith, behind_it)) inside)
 
           left : (n : ℕ) → number < n → n < length origins → (b : Bool) → again ≡ b

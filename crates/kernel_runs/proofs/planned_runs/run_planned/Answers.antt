@@ -345,8 +345,8 @@ returns-in-Ok-clause-run g c =
     subst (λ fs. IsRightKernel a plan.statement fs c.args.kernel.now) back c.requires.right in
     planned_run a s plan given operands bounds ranges told c.args.kernel.now runnable c.in-Ok.computed.shape c.in-Ok.computed.entries
     c.in-Ok.computed.tensor c.in-Ok.computed.turns
-    (subst (λ fs. IsRunBy a plan.statement fs c.args.kernel.now ranges (drawn plan.origins operands) c.in-Ok.computed.shape c.in-Ok.computed.entries
-    c.in-Ok.computed.tensor c.in-Ok.computed.turns) (sym back)
+    (subst (λ fs. IsRunBy a plan.statement fs c.args.kernel.now ranges (drawn plan.origins operands) c.in-Ok.computed.shape
+    c.in-Ok.computed.entries c.in-Ok.computed.tensor c.in-Ok.computed.turns) (sym back)
     (run_lent a plan.statement formats (drawn plan.origins operands) are ranges fits
     c.deref.result.now c.deref.ensures.value (drawn c.as_slice-origins.result.now c.as_mut_slice-entries.result.now) lent_is
     g.met.S.Semiring.laws c.args.kernel.now right c.deref-3.result.now c.deref-3.ensures.value c.copied-format.result

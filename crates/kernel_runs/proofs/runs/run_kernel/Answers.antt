@@ -199,8 +199,8 @@ returns-in-Ok-clause-run g c =
     ∙ c.in_ok-ranges.ensures.ranges in
     let are = c.requires.runnable.operands_are in
     let fits = c.requires.runnable.ranges_fit ranges told in
-    run_is a s formats c.args.kernel.now given operands bounds ranges told c.in-Ok.computed.shape c.in-Ok.computed.entries c.in-Ok.computed.tensor
-    c.in-Ok.computed.turns
+    run_is a s formats c.args.kernel.now given operands bounds ranges told c.in-Ok.computed.shape c.in-Ok.computed.entries
+    c.in-Ok.computed.tensor c.in-Ok.computed.turns
     (run_lent a s formats operands are ranges fits
     c.deref.result.now c.deref.ensures.value c.as_mut_slice-entries.result.now c.as_mut_slice-entries.ensures.value
     g.met.S.Semiring.laws c.args.kernel.now c.requires.right c.deref-3.result.now c.deref-3.ensures.value c.copied-format.result

@@ -21,7 +21,8 @@ returns-in-Some c =
     (stored_by_plan s formats old) c.in-Some.tensor c.as_slice-2.ensures c.as_slice-3.ensures by_plan c.in-Some.ensures in
     IfOk-weaker c.put_access.result _
     (λ _. (given : List Access) → IsPlannedOf s formats given plan → IsPlannedOf s formats (given ++ old ∷ []) c.put_access.new.plan)
-    (λ done made given p. subst (IsPlannedOf s formats (given ++ old ∷ [])) (sym made) (found s formats given plan p old c.in-Some.tensor stored))
+    (λ done made given p. subst (IsPlannedOf s formats (given ++ old ∷ [])) (sym made)
+    (found s formats given plan p old c.in-Some.tensor stored))
     c.put_access.ensures
 
 with_access : Planned → ℕ → List ℕ → Planned

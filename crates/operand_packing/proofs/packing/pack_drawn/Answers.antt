@@ -37,8 +37,9 @@ pack_operand-requires g c =
     c.deref.ensures.value ∙ c.in_ok-sizes.ensures
     ∙ ap (mode_sizes s ranges (number + 1)) (c.order.ensures.value ∙ ap (λ (x : Entries). x.order) (sym c.index-operands-operand.is)) in
     subst (MayBePacked f sizes) c.index-operands-operand.is
-    (may_next a s formats ranges origins operands number now c.loop-number.tensors.items c.loop-number.invariant c.requires.many c.requires.known
-    c.loop-number-test.true e c.index-operands-operand.is f c.index-formats-tensor.is sizes sized c.requires.may)
+    (may_next a s formats ranges origins operands number now c.loop-number.tensors.items c.loop-number.invariant c.requires.many
+    c.requires.known c.loop-number-test.true e c.index-operands-operand.is f c.index-formats-tensor.is sizes sized
+    c.requires.may)
 
 pub returns-in-Err : goal.returns-in-Err
 returns-in-Err g c =
@@ -56,8 +57,8 @@ returns-in-Err g c =
     let sized : sizes ≡ mode_sizes s ranges (number + 1) e.order =
     c.deref.ensures.value ∙ c.in_ok-sizes.ensures
     ∙ ap (mode_sizes s ranges (number + 1)) (c.order.ensures.value ∙ ap (λ (x : Entries). x.order) (sym c.index-operands-operand.is)) in
-    not_packed a s formats ranges origins operands number now c.loop-number.tensors.items c.loop-number.invariant c.requires.many c.requires.known
-    c.loop-number-test.true e c.index-operands-operand.is f c.index-formats-tensor.is sizes sized
+    not_packed a s formats ranges origins operands number now c.loop-number.tensors.items c.loop-number.invariant c.requires.many
+    c.requires.known c.loop-number-test.true e c.index-operands-operand.is f c.index-formats-tensor.is sizes sized
     c.in-Err.fault (subst (λ (x : Entries). IsPackRefusal a f sizes x.list (number + 1) c.in-Err.fault)
     (sym c.index-operands-operand.is) c.in-Err.ensures.packed)
 
@@ -77,10 +78,11 @@ loop-number-preserved g c =
     let sized : sizes ≡ mode_sizes s ranges (number + 1) e.order =
     c.deref.ensures.value ∙ c.in_ok-sizes.ensures
     ∙ ap (mode_sizes s ranges (number + 1)) (c.order.ensures.value ∙ ap (λ (x : Entries). x.order) (sym c.index-operands-operand.is)) in
-    let may = may_next a s formats ranges origins operands number now c.loop-number.tensors.items c.loop-number.invariant c.requires.many c.requires.known
-    c.loop-number-test.true e c.index-operands-operand.is f c.index-formats-tensor.is sizes sized c.requires.may in
-    more_packed a s formats ranges origins operands number now c.loop-number.tensors.items c.loop-number.invariant c.requires.many c.requires.known
-    c.loop-number-test.true e c.index-operands-operand.is f c.index-formats-tensor.is sizes sized
+    let may = may_next a s formats ranges origins operands number now c.loop-number.tensors.items c.loop-number.invariant c.requires.many
+    c.requires.known c.loop-number-test.true e c.index-operands-operand.is f c.index-formats-tensor.is sizes sized
+    c.requires.may in
+    more_packed a s formats ranges origins operands number now c.loop-number.tensors.items c.loop-number.invariant c.requires.many
+    c.requires.known c.loop-number-test.true e c.index-operands-operand.is f c.index-formats-tensor.is sizes sized
     c.comes_again-again.result c.comes_again-again.ensures c.pack_operand.new.entries
     (λ again. subst (λ (x : Entries). StandsFor a x c.pack_operand.new.entries) (sym c.index-operands-operand.is)
     (c.in-Ok.ensures.kept again))
