@@ -1,2 +1,7 @@
 pub mod Forward
+pub mod ModeOrders
 pub mod Numbers
+pub mod PlannedLaws
+pub mod PlannedValues
+pub mod Planning
+pub mod StoredFormats

@@ -6,6 +6,11 @@ ghost use Rattle.index_notation.specs.Statement.{IsDistinct};
 ghost use Rattle.iteration_graph.specs.Graphs.{NamesCycle};
 ghost use Rattle.lists.specs.Each.{Each};
 ghost use Rattle.mode_planner.specs.Plans.{LeadsForward, planned_edges};
+ghost use Rattle.numbers.specs.Arithmetic.{Arithmetic};
+ghost use Rattle.index_notation.specs.declared.syntax.Statement.{Statement};
+ghost use Rattle.expr_terms.specs.Terms.{statement_value};
+ghost use Rattle.mode_planner.specs.Planned.{IsPlanned, StoreOrigins};
+ghost use Rattle.mode_planner.specs.declared.planned.Planned.{Planned};
 
 /// Claim: where an access is stored as its plan tells, in the standing order of its variables, and as before where it isn't named,
 /// each of its edges leads from an earlier variable of the standing order to a later one; and where each edge of a graph does, no
@@ -15,4 +20,13 @@ pub fn planned_loops_have_an_order()
         → IsDistinct vars → Each LeadsForward (planned_edges count levels vars) }
     ensures no_cycle { (n : ℕ) (edges : List (ℕ × ℕ)) (cycle : List ℕ) → Each LeadsForward edges
         → NamesCycle n edges cycle → ⊥ }
+{}
+
+/// Claim: where each tensor of a planned statement has the values of the tensor whose entries it stores, the value of the statement at each
+/// point is that of the given one.
+pub fn planned_statements_keep_values()
+    ensures { (a : Arithmetic) (s : Statement) (formats : List (List FormatLevel)) (plan : Planned)
+        (values stored : ℕ → List ℕ → ℕ) (ranges : ℕ → ℕ) (coords : List ℕ) → IsPlanned s formats plan
+        → StoreOrigins plan values stored
+        → statement_value a plan.statement stored ranges coords ≡ statement_value a s values ranges coords }
 {}

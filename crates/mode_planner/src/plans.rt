@@ -22,7 +22,7 @@ pub struct Repack {
 }
 
 /// Whether some edge of an access leads from a later variable of the standing order to an earlier one.
-fn leads_back(alloc: Global, format: &Format, vars: &[usize]) -> Result<bool, AllocError>
+pub(crate) fn leads_back(alloc: Global, format: &Format, vars: &[usize]) -> Result<bool, AllocError>
     requires { length format.now ≡ length vars.now }
     ensures { IfOk result (λ leads. leads ≡ list_any is_back (access_edges format.now vars.now)) }
 {
@@ -38,7 +38,11 @@ fn mode_of(vars: &[usize], var: usize) -> Option<usize>
 }
 
 /// The modes at which variables stand, in the standing order of these.
-fn modes_in_order(alloc: Global, count: usize, vars: &[usize]) -> Result<Items<usize>, AllocError>
+pub(crate) fn modes_in_order(
+    alloc: Global,
+    count: usize,
+    vars: &[usize],
+) -> Result<Items<usize>, AllocError>
     ensures { IfOk result (λ modes. modes ≡ modes_in_order count vars.now) }
 {
     let mut modes = Items::new(alloc);

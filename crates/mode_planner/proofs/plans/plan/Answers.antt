@@ -1,5 +1,5 @@
-use Rattle.std.specs.Prelude.{◌≡◌, ℕ, List, IfOk, Err, length}
-use Rattle.std.proofs.Common.{◌∙◌, sym, ap, subst}
+use Rattle.std.specs.Prelude.{Err, length}
+use Rattle.std.proofs.Common.{◌∙◌, subst}
 use Rattle.iteration_graph.specs.Edges.{statement_edges}
 use Rattle.iteration_graph.specs.Graphs.{IsLoopOrder, NamesCycle}
 use Rattle.iteration_graph.specs.Answers.{Answers}
