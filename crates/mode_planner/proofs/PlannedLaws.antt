@@ -106,7 +106,7 @@ module _ (s : Statement) (formats : List (List FormatLevel)) (plan : Planned) (p
     left_stored : format_of plan.formats s.left.tensor ≡ stored_by_plan s formats s.left
     left_stored = ap (format_of plan.formats) named.result ∙ p.result
 
-    left_format : HasFormat plan.formats plan.statement.left
+    pub left_format : HasFormat plan.formats plan.statement.left
     left_format = subst (HasFormat plan.formats) (sym p.left) (record {
       tensor = let result = named.result in let many = p.formats_many in omega (arith, result, many);
       order = ap (λ (f : List FormatLevel). length f) left_stored

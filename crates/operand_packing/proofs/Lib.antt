@@ -1,4 +1,5 @@
 pub mod Below
+pub mod Drawing
 pub mod FileEntries
 pub mod FilesReadable
 pub mod FormatsBound

@@ -21,6 +21,11 @@ module _ {X : Type 0} where
   set_other (y ∷ xs) (suc n) zero x apart = refl
   set_other (y ∷ xs) (suc n) (suc m) x apart = set_other xs n m x (λ e. apart (ap suc e))
 
+  pub set_at : (xs : List X) (n : ℕ) (x : X) → n < length xs → slice_get (slice_set xs n x) n ≡ Some x
+  set_at [] n x h = absurd (omega (arith, h))
+  set_at (y ∷ xs) zero x h = refl
+  set_at (y ∷ xs) (suc n) x h = set_at xs n x (omega (arith, h))
+
   pub set_long : (xs : List X) (n : ℕ) (x : X) → length (slice_set xs n x) ≡ length xs
   set_long [] n x = refl
   set_long (y ∷ xs) zero x = refl

@@ -1,3 +1,4 @@
+pub mod Drawn
 pub mod Operands
 pub mod Orders
 pub mod Packed

@@ -1,68 +1,36 @@
-use Rattle.std.specs.Prelude.{◌≡◌, ◌+◌, ◌<◌, length, slice_index, refl}
-use Rattle.std.proofs.Common.{◌∙◌, sym, ap, subst, arith}
-use Rattle.tensor_map.specs.Entries.{Entries}
-use Rattle.operand_packing.specs.Operands.{mode_sizes}
-use Rattle.operand_packing.specs.Packed.{IsPackedOperand, IsPackRefusal, MayBePacked}
-use Rattle.operand_packing.proofs.Steps.{may_next, more_packed, not_packed, all_packed}
+use Rattle.std.specs.Prelude.{◌+◌, ℕ, List, length, slice_index}
+use Rattle.std.proofs.Common.{◌∙◌, sym, ap, subst}
+use Rattle.std.proofs.lemmas.List.FromFn.{length-range_with_len}
+use Rattle.operand_packing.specs.Drawn.{HaveOperands, drawn}
+use Rattle.operand_packing.specs.Packed.{ArePackedOperands, MayAllBePacked, MayNotPack}
+use Rattle.operand_packing.proofs.Drawing.{drawn_self, own_operands}
 use Rattle.operand_packing.proofs.packing.pack_operands.Goals as goal
 
-pub pack_operand-requires : goal.pack_operand-requires
-pack_operand-requires g c =
-    let s = c.args.statement.now in
-    let ranges = slice_index c.args.ranges.now in
-    let number = c.loop-number.number in
-    let e = c.index-operands-number.result in
-    let f = c.index-formats-tensor.result in
-    let some : number < length c.args.operands.now = omega (arith, c.loop-number-test.true, c.loop-number.invariant.long) in
-    let sized : c.deref.result.now ≡ mode_sizes s ranges (number + 1) e.order =
-    c.deref.ensures.value ∙ c.in_ok-sizes.ensures
-    ∙ ap (mode_sizes s ranges (number + 1)) (c.order.ensures.value ∙ ap (λ (x : Entries). x.order) (sym c.index-operands-number.is)) in
-    subst (MayBePacked f c.deref.result.now) c.index-operands-number.is
-    (may_next g.S.Semiring.arithmetic s c.args.formats.now ranges c.args.operands.now number c.loop-number.operands
-    c.loop-number.tensors.items c.loop-number.invariant c.requires.many some e f c.deref.result.now c.requires.may
-    c.index-operands-number.is c.index-formats-tensor.is sized)
+pub pack_drawn-requires-clause-many : goal.pack_drawn-requires-clause-many
+pack_drawn-requires-clause-many g c =
+    let many = length c.args.operands.now in
+    let is = c.deref.ensures.value ∙ c.in_ok-origins.ensures in
+    c.requires.many ∙ sym (ap (λ (ns : List ℕ). length ns + 1) is ∙ ap (λ n. n + 1) (length-range_with_len 1 many))
 
-pub returns-in-Err : goal.returns-in-Err
-returns-in-Err g c =
-    let s = c.args.statement.now in
-    let ranges = slice_index c.args.ranges.now in
-    let number = c.loop-number.number in
-    let e = c.index-operands-number.result in
-    let f = c.index-formats-tensor.result in
-    let some : number < length c.args.operands.now = omega (arith, c.loop-number-test.true, c.loop-number.invariant.long) in
-    let sized : c.deref.result.now ≡ mode_sizes s ranges (number + 1) e.order =
-    c.deref.ensures.value ∙ c.in_ok-sizes.ensures
-    ∙ ap (mode_sizes s ranges (number + 1)) (c.order.ensures.value ∙ ap (λ (x : Entries). x.order) (sym c.index-operands-number.is)) in
-    not_packed g.S.Semiring.arithmetic s c.args.formats.now ranges c.args.operands.now number c.loop-number.operands
-    c.loop-number.tensors.items c.loop-number.invariant c.requires.many some e f c.deref.result.now c.in-Err.fault
-    c.index-operands-number.is c.index-formats-tensor.is sized
-    (subst (λ (x : Entries). IsPackRefusal g.S.Semiring.arithmetic f c.deref.result.now x.list (number + 1) c.in-Err.fault)
-    (sym c.index-operands-number.is) c.in-Err.ensures)
+pub pack_drawn-requires-clause-known : goal.pack_drawn-requires-clause-known
+pack_drawn-requires-clause-known g c =
+    let is = c.deref.ensures.value ∙ c.in_ok-origins.ensures in
+    subst (λ ns. HaveOperands ns c.args.operands.now) (sym is) (own_operands c.args.operands.now)
 
-pub loop-number-preserved : goal.loop-number-preserved
-loop-number-preserved g c =
-    let s = c.args.statement.now in
-    let ranges = slice_index c.args.ranges.now in
-    let number = c.loop-number.number in
-    let e = c.index-operands-number.result in
-    let f = c.index-formats-tensor.result in
-    let some : number < length c.args.operands.now = omega (arith, c.loop-number-test.true, c.loop-number.invariant.long) in
-    let sized : c.deref.result.now ≡ mode_sizes s ranges (number + 1) e.order =
-    c.deref.ensures.value ∙ c.in_ok-sizes.ensures
-    ∙ ap (mode_sizes s ranges (number + 1)) (c.order.ensures.value ∙ ap (λ (x : Entries). x.order) (sym c.index-operands-number.is)) in
-    let may = may_next g.S.Semiring.arithmetic s c.args.formats.now ranges c.args.operands.now number c.loop-number.operands
-    c.loop-number.tensors.items c.loop-number.invariant c.requires.many some e f c.deref.result.now c.requires.may
-    c.index-operands-number.is c.index-formats-tensor.is sized in
-    more_packed g.S.Semiring.arithmetic s c.args.formats.now ranges c.args.operands.now number c.loop-number.operands
-    c.loop-number.tensors.items c.loop-number.invariant c.requires.many some e c.pack_operand.new.entries f c.deref.result.now
-    c.in-Ok.packed _ _ c.index-operands-number.is c.index-formats-tensor.is sized may.order
-    (subst (λ (x : Entries). IsPackedOperand g.S.Semiring.arithmetic f c.deref.result.now x.list c.in-Ok.packed)
-    (sym c.index-operands-number.is) c.in-Ok.ensures)
-    refl c.in-Ok-push.ensures.items
+pub pack_drawn-requires-clause-may : goal.pack_drawn-requires-clause-may
+pack_drawn-requires-clause-may g c =
+    let is = c.deref.ensures.value ∙ c.in_ok-origins.ensures in
+    subst (λ es. MayAllBePacked c.args.statement.now c.args.formats.now (slice_index c.args.ranges.now) es)
+    (sym (ap (λ ns. drawn ns c.args.operands.now) is ∙ drawn_self c.args.operands.now)) c.requires.may
+
+pub returns-in-Ok : goal.returns-in-Ok
+returns-in-Ok g c =
+    let is = c.deref.ensures.value ∙ c.in_ok-origins.ensures in
+    subst (λ es. ArePackedOperands g.S.Semiring.arithmetic c.args.statement.now c.args.formats.now (slice_index c.args.ranges.now) es
+    c.in-Ok.tensors.items) (ap (λ ns. drawn ns c.args.operands.now) is ∙ drawn_self c.args.operands.now) c.in-Ok.ensures
 
 pub returns : goal.returns
 returns g c =
-    let all : length c.args.operands.now ≡ c.loop-number.number =
-    omega (arith, c.loop-number-test.false, c.loop-number.auto.operands, c.loop-number.auto.number-end, c.loop-number.invariant.long) in
-    all_packed g.S.Semiring.arithmetic c.args.statement.now c.args.formats.now (slice_index c.args.ranges.now) c.args.operands.now
-    c.loop-number.number c.loop-number.operands c.loop-number.tensors.items c.loop-number.invariant all
+    let is = c.deref.ensures.value ∙ c.in_ok-origins.ensures in
+    subst (λ es. MayNotPack g.S.Semiring.arithmetic c.args.statement.now c.args.formats.now (slice_index c.args.ranges.now) es
+    c.in-Err.fault) (ap (λ ns. drawn ns c.args.operands.now) is ∙ drawn_self c.args.operands.now) c.in-Err.ensures

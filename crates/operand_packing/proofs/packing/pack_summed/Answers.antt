@@ -3,7 +3,7 @@ use Rattle.format_spec.specs.Formats.{IsFormat}
 use Rattle.tensor_storage.specs.Arranged.{AreInside, IsPackedFrom, IsRefusalOf}
 use Rattle.operand_packing.specs.Packed.{AreSummed}
 use Rattle.operand_packing.proofs.Inside.{inside_same}
-use Rattle.operand_packing.proofs.packing.pack_operand.Goals as goal
+use Rattle.operand_packing.proofs.packing.pack_summed.Goals as goal
 
 pub pack-requires-clause-inside : goal.pack-requires-clause-inside
 pack-requires-clause-inside g c =
@@ -11,8 +11,8 @@ pack-requires-clause-inside g c =
     (inside_same c.args.sizes.now c.args.entries.now.list c.sum_up.new.entries.list c.in_ok-sum_up.ensures.summed.listed
     c.requires.inside)
 
-pub returns-in-Ok : goal.returns-in-Ok
-returns-in-Ok g c =
+pub returns-in-Ok-clause-packed : goal.returns-in-Ok-clause-packed
+returns-in-Ok-clause-packed g c =
     let a = g.S.Semiring.arithmetic in
     let summed = c.sum_up.new.entries.list in
     let packed = subst (λ f. IsPackedFrom a.zero f c.args.sizes.now summed c.in-Ok.packed) c.copied.ensures.value
@@ -30,11 +30,18 @@ returns-in-Ok g c =
       words = c.in-Ok.ensures.words;
     }
 
-pub returns-in-Err : goal.returns-in-Err
-returns-in-Err g c =
+pub returns-in-Err-clause-packed : goal.returns-in-Err-clause-packed
+returns-in-Err-clause-packed g c =
     let summed = c.sum_up.new.entries.list in
     c.fault_of.ensures g.S.Semiring.arithmetic c.args.format.now c.args.sizes.now c.args.entries.now.list summed
     (subst (λ n. AreSummed g.S.Semiring.arithmetic n c.args.entries.now.list c.sum_up.new.entries.list) c.requires.order
     c.in_ok-sum_up.ensures.summed)
     (subst (λ f. IsRefusalOf f c.args.sizes.now summed c.in-Err.refusal) c.copied.ensures.value
     (subst (λ ns. IsRefusalOf c.copied.result ns summed c.in-Err.refusal) c.shape_of-shape.ensures c.in-Err.ensures.packed))
+
+pub returns-in-Ok-clause-kept : goal.returns-in-Ok-clause-kept
+returns-in-Ok-clause-kept g c = record {
+  order = c.sum_up.ensures.order;
+  values = c.in_ok-sum_up.ensures.summed.values;
+  listed = c.in_ok-sum_up.ensures.summed.listed;
+}
