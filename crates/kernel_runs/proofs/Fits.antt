@@ -15,6 +15,8 @@ use Rattle.level_core.specs.Kinds.{parents_below}
 use Rattle.kernel_machine.specs.Begins as begins
 use Rattle.operand_packing.proofs.SizeLaws.{index_small}
 use Rattle.kernel_runs.specs.declared.fault.RunFault.TheVariants.{Range, SizeLimit, Workspace, Memory}
+use Rattle.operand_packing.specs.Drawn.{drawn}
+use Rattle.kernel_runs.specs.Planned.{AllFitPlanned, PlannedRefusesNoneThatFit}
 use Rattle.kernel_runs.specs.Runs.{RefusesNoneThatFit, AllFit, IsLargeLevelBy, result_level_sizes}
 
 -- no number in the midst of few ones passes the limit
@@ -70,3 +72,18 @@ none_refused a s formats given operands bounds ranges (SizeLimit large) told fit
     let same = same_ranges _ ranges may.ranges told may.ranges_are in
     none_large a s formats may.ranges operands large.tensor large.level large.count
     (subst (λ rs. AllFit a s formats rs operands) same fit) may.by
+
+pub planned_none_refused : PlannedRefusesNoneThatFit
+planned_none_refused a s plan given operands bounds ranges (Range fault) told fit may of = of
+planned_none_refused a s plan given operands bounds ranges (Memory error) told fit may of = of
+planned_none_refused a s plan given operands bounds ranges (Workspace count) told fit may of =
+    let same = same_ranges _ ranges may.ranges told may.ranges_are in
+    let all : AllFitPlanned a plan may.ranges operands = subst (λ rs. AllFitPlanned a plan rs operands) same fit in
+    let few = all.pairs_fit may.sparse may.store may.is_store in
+    let most = may.most in
+    let passes = may.passes in
+    omega (arith, few, most, passes)
+planned_none_refused a s plan given operands bounds ranges (SizeLimit large) told fit may of =
+    let same = same_ranges _ ranges may.ranges told may.ranges_are in
+    none_large a plan.statement plan.formats may.ranges (drawn plan.origins operands) large.tensor large.level large.count
+    (subst (λ rs. AllFitPlanned a plan rs operands) same fit) may.by

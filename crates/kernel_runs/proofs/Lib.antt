@@ -3,6 +3,8 @@ pub mod Calls
 pub mod Entries
 pub mod Fits
 pub mod Outcomes
+pub mod PlannedOperands
+pub mod PlannedRuns
 pub mod Refusals
 pub mod Shapes
 pub mod Stores

@@ -1,10 +1,9 @@
 -- A whole run: a right kernel on the store that packed operands are, and why it has no result.
-use Rattle.std.specs.Prelude.{◌≡◌, ◌⊎◌, ℕ, zero, suc, ◌+◌, ◌<◌, ◌≤◌, List, length, map, Option, Ok, Some, Vec, slice_index}
-use Rattle.std.specs.declared.alloc.Global.{Global}
+use Rattle.std.specs.Prelude.{◌≡◌, ◌⊎◌, ℕ, zero, suc, ◌+◌, ◌<◌, ◌≤◌, List, length, Some, slice_index}
 use Rattle.std.proofs.Common.{◌∙◌, sym, ap, subst, arith, inl, inr}
 use Rattle.lists.specs.Each.{Each}
 use Rattle.numbers.specs.Arithmetic.{Arithmetic, Laws}
-use Rattle.tensor_map.specs.Entries.{AreEntries, Entries}
+use Rattle.tensor_map.specs.Entries.{Entries}
 use Rattle.kernel_code.specs.declared.syntax.Kernel.{Kernel}
 use Rattle.kernel_code.specs.declared.syntax.Place.{Place}
 use Rattle.kernel_code.specs.declared.syntax.Place.TheVariants as place
@@ -15,25 +14,26 @@ use Rattle.format_spec.specs.Formats.{IsFormat, letters_of}
 use Rattle.index_notation.specs.Statement.{numbers_from}
 use Rattle.index_notation.specs.declared.syntax.Statement.{Statement}
 use Rattle.iteration_graph.specs.Edges.{format_of}
-use Rattle.expr_terms.specs.declared.bound.Bound.{Bound}
 use Rattle.concrete_notation.specs.Workspaces.{AreAllDense}
 use Rattle.tensor_storage.specs.Stands.{IsPacked}
 use Rattle.tensor_storage.specs.Storages.{Storage, in_level_order, storage_of}
 use Rattle.storage_arrays.proofs.Packed.{packed_are_done}
 use Rattle.kernel_interpreter.specs.Store.{count_of}
-use Rattle.kernel_correctness.specs.Kernels.{IsRightKernel, IsRightOutcome, IsSoundOn}
+use Rattle.kernel_correctness.specs.Kernels.{IsRightKernel, IsRightOutcome, IsSoundOn, standing_order}
 use Rattle.kernel_correctness.specs.Results.{LeavesResult}
-use Rattle.kernel_correctness.specs.Stores.{told_by}
+use Rattle.kernel_correctness.specs.Stores.{Store, told_by}
+use Rattle.lowering.specs.Right.{pairs}
+use Rattle.limits.specs.Limits.{greatest_position_count}
 use Rattle.kernel_correctness.proofs.Sound.{right_is_sound}
 use Rattle.kernel_machine.specs.Begins as begins
 use Rattle.kernel_machine.specs.Begins.{store_of}
 use Rattle.storage_builder.specs.Made.{AllAlike}
-use Rattle.operand_packing.specs.Runnable.{IsRunnable, told_ranges}
+use Rattle.operand_packing.specs.Operands.{AreOperands, AreRanges}
 use Rattle.operand_packing.specs.Packed.{ArePackedOperands}
 use Rattle.kernel_runs.specs.declared.fault.RunFault.{RunFault}
 use Rattle.kernel_runs.specs.declared.fault.RunFault.TheVariants.{Range, SizeLimit, Workspace, Memory}
-use Rattle.kernel_runs.specs.Runs.{IsRun, IsStoreFor, IsLargeLevelBy, MayRefuseRun}
-use Rattle.kernel_runs.specs.Steps.{CanBegin, EndsOn, ListsNonzero, RefusedOn, StopsOn}
+use Rattle.kernel_runs.specs.Runs.{IsStoreFor, IsLargeLevelBy, IsTensorOf, RunsKernel}
+use Rattle.kernel_runs.specs.Steps.{CanBegin, EndsOn, IsRunOn, RefusedOn, StopsOn}
 use Rattle.kernel_runs.proofs.Alike.{packed_alike}
 use Rattle.kernel_runs.proofs.Entries.{tensor_of}
 use Rattle.kernel_runs.proofs.Outcomes.{outcome_is}
@@ -47,26 +47,48 @@ numbers_fit from (suc count) most each h =
     let rest = numbers_fit (from + 1) count most each.1 (omega (arith, first)) in
     omega (arith, rest)
 
+-- on a store of the operands the workspace, which there is only where some level of the result isn't dense, needs too many pairs
+pub record NeedsPairsBy (a : Arithmetic) (s : Statement) (formats : List (List FormatLevel)) (ranges : List ℕ) (operands : List Entries)
+    (count : ℕ) : Type 0 where
+  pub store : Store
+  pub is_store : IsStoreFor a s formats ranges operands store
+  pub passes : greatest_position_count < count
+  pub most : count ≤ pairs s (standing_order s) (told_by a store)
+  pub sparse : AreAllDense (format_of formats 0) → ⊥
+
+-- why a statement isn't computed by these ranges
+abbrev pub RefusedBy : Arithmetic → Statement → List (List FormatLevel) → List ℕ → List Entries → RunFault → Type 0
+RefusedBy a s formats ranges operands (Range fault) = ⊥
+RefusedBy a s formats ranges operands (SizeLimit large) =
+    IsLargeLevelBy a s formats ranges operands large.tensor large.level large.count
+RefusedBy a s formats ranges operands (Workspace count) = NeedsPairsBy a s formats ranges operands count
+RefusedBy a s formats ranges operands (Memory error) = Unit {0}
+
+-- what is left where it is
+pub record IsRunBy (a : Arithmetic) (s : Statement) (formats : List (List FormatLevel)) (kernel : Kernel) (ranges : List ℕ)
+    (operands : List Entries) (shape : List ℕ) (entries : Entries) (tensor : Storage) (turns : Turns) : Type 0 where
+  pub store : Store
+  pub is_store : IsStoreFor a s formats ranges operands store
+  pub runs : RunsKernel a s kernel store tensor turns
+  pub tensor_of : IsTensorOf a s operands (slice_index ranges) shape entries
+
 module _ (a : Arithmetic) (laws : Laws a) (s : Statement) (formats : List (List FormatLevel)) (kernel : Kernel)
-    (right : IsRightKernel a s formats kernel) (given : List (Option ℕ)) (operands : List Entries) (bounds : List (Vec Bound Global))
-    (runnable : IsRunnable s formats given operands bounds) (ranges : List ℕ) (told : told_ranges s given bounds ≡ Ok ranges)
-    (format : List FormatLevel) (format_is : format ≡ format_of formats 0) where
+    (right : IsRightKernel a s formats kernel) (operands : List Entries) (are : AreOperands s formats operands) (ranges : List ℕ)
+    (fits : AreRanges s operands ranges) (format : List FormatLevel) (format_is : format ≡ format_of formats 0) where
   -- there is a range for each mode of the result
   pub enough : length format ≤ length ranges
   enough =
-      let are = runnable.operands_are in
-      let long = (runnable.ranges_fit ranges told).long in
+      let long = fits.long in
       let order : length format ≡ length s.left.vars =
       ap length format_is ∙ ap (λ t. length (format_of formats t)) (sym are.named.result) ∙ are.result_format.order in
-      let fits = numbers_fit 0 (length s.left.vars) (length s.vars)
+      let fit = numbers_fit 0 (length s.left.vars) (length s.vars)
       (subst (Each (λ v. v < length s.vars)) are.named.standing are.numbered.left.vars_stand) (omega arith) in
-      omega (arith, long, order, fits)
+      omega (arith, long, order, fit)
 
   module _ (is_format : IsFormat format) (storages : List Storage)
       (packed : ArePackedOperands a s formats (slice_index ranges) operands storages) where
     store_for : CanBegin (store_of ranges storages format) → IsStoreFor a s formats ranges operands (store_of ranges storages format)
-    store_for few = store_is a s formats ranges operands storages packed format format_is is_format runnable.operands_are
-        (runnable.ranges_fit ranges told) few
+    store_for few = store_is a s formats ranges operands storages packed format format_is is_format are fits few
 
     pub sound : CanBegin (store_of ranges storages format) → IsSoundOn a kernel (store_of ranges storages format)
     sound few = right_is_sound a s formats kernel right (store_of ranges storages format) (store_for few).is_store
@@ -82,25 +104,20 @@ module _ (a : Arithmetic) (laws : Laws a) (s : Statement) (formats : List (List 
         apart e = cc
 
     pub refused : (fault : RunFault) → RefusedOn a kernel (store_of ranges storages format) fault
-        → MayRefuseRun a s formats given operands bounds fault
+        → RefusedBy a s formats ranges operands fault
     refused (Range fault) why = absurd why
     refused (Memory error) why = tt
     refused (Workspace count) why =
         let outcome = stopped place.Workspace count why in
         record {
-          ranges = ranges;
-          ranges_are = told;
           store = store_of ranges storages format;
           is_store = store_for why.few;
           passes = outcome.0;
           most = outcome.1;
           sparse = λ dense. outcome.2 (subst AreAllDense (sym format_is) dense);
         }
-    refused (SizeLimit large) why = record {
-      ranges = ranges;
-      ranges_are = told;
-      by = subst (λ t. IsLargeLevelBy a s formats ranges operands t large.level large.count) (sym why.0) (of_result why.1);
-    }
+    refused (SizeLimit large) why =
+        subst (λ t. IsLargeLevelBy a s formats ranges operands t large.level large.count) (sym why.0) (of_result why.1)
       where
         of_result : begins.IsTooLarge (letters_of format) (in_level_order format ranges) 1 1 large.level large.count
             ⊎ StopsOn a kernel (store_of ranges storages format) (place.Level large.level) large.count
@@ -117,12 +134,9 @@ module _ (a : Arithmetic) (laws : Laws a) (s : Statement) (formats : List (List 
         })
 
     pub is_run : (tensor : Storage) (turns : Turns) (entries : Entries) (shape : List ℕ)
-        → EndsOn a kernel (store_of ranges storages format) tensor turns → ListsNonzero a tensor entries → AreEntries entries
-        → shape ≡ map (slice_index ranges) s.left.vars
-        → IsRun a s formats kernel given operands bounds shape entries tensor turns
-    is_run tensor turns entries shape ends lists each shape_is = record {
-      ranges = ranges;
-      ranges_are = told;
+        → IsRunOn a s kernel (store_of ranges storages format) shape entries tensor turns
+        → IsRunBy a s formats kernel ranges operands shape entries tensor turns
+    is_run tensor turns entries shape run = record {
       store = store_of ranges storages format;
       is_store = store_for ends.few;
       runs = record {
@@ -133,10 +147,13 @@ module _ (a : Arithmetic) (laws : Laws a) (s : Statement) (formats : List (List 
         named = leaves.named;
         packed = packed_tensor;
       };
-      tensor_of = tensor_of a laws s formats ranges operands (store_of ranges storages format) runnable.operands_are
-          (store_for ends.few) tensor leaves.table leaves.named packed_tensor entries lists shape shape_is each;
+      tensor_of = tensor_of a laws s formats ranges operands (store_of ranges storages format) are
+          (store_for ends.few) tensor leaves.table leaves.named packed_tensor entries run.lists shape run.shape_is run.each;
     }
       where
+        ends : EndsOn a kernel (store_of ranges storages format) tensor turns
+        ends = run.ends
+
         leaves : LeavesResult a s (told_by a (store_of ranges storages format)) (store_of ranges storages format) ends.has_run.arrays
         leaves = outcome_is a (length format) kernel ends.given
             (IsRightOutcome a s (told_by a (store_of ranges storages format)) (store_of ranges storages format))

@@ -1,7 +1,7 @@
 -- What the steps of a run leave: the kernel's run on packed operands, and the entries of the result.
-use Rattle.std.specs.Prelude.{◌≡◌, ◌⊎◌, ℕ, filter, length}
+use Rattle.std.specs.Prelude.{◌≡◌, ◌⊎◌, ℕ, List, filter, length, map, slice_index}
 use Rattle.numbers.specs.Arithmetic.{Arithmetic}
-use Rattle.tensor_map.specs.Entries.{Entries, SameValues, StrictlyIncreasing, NoneIsZero, is_nonzero}
+use Rattle.tensor_map.specs.Entries.{AreEntries, Entries, SameValues, StrictlyIncreasing, NoneIsZero, is_nonzero}
 use Rattle.kernel_code.specs.declared.syntax.Kernel.{Kernel}
 use Rattle.kernel_code.specs.declared.syntax.Place.{Place}
 use Rattle.kernel_code.specs.declared.syntax.Place.TheVariants as place
@@ -9,6 +9,7 @@ use Rattle.kernel_code.specs.declared.syntax.Turns.{Turns}
 use Rattle.kernel_code.specs.Kernels.{TooLong, go}
 use Rattle.level_core.specs.Meaning.{Arrays}
 use Rattle.format_spec.specs.Formats.{letters_of}
+use Rattle.index_notation.specs.declared.syntax.Statement.{Statement}
 use Rattle.tensor_storage.specs.Routes.{ListsPaths}
 use Rattle.tensor_storage.specs.Storages.{Storage}
 use Rattle.kernel_correctness.specs.Stores.{Store, IsGiven, StartsFew, result_sizes}
@@ -53,3 +54,11 @@ pub record ListsNonzero (a : Arithmetic) (storage : Storage) (entries : Entries)
   pub nonzero : NoneIsZero a entries.list
   pub values : SameValues a all.list entries.list
   pub increasing : StrictlyIncreasing entries.list
+
+-- the run of a statement's kernel on a store: what the kernel leaves, its values that aren't zero, and the ranges of the left variables
+pub record IsRunOn (a : Arithmetic) (s : Statement) (kernel : Kernel) (store : Store) (shape : List ℕ) (entries : Entries) (tensor : Storage)
+    (turns : Turns) : Type 0 where
+  pub ends : EndsOn a kernel store tensor turns
+  pub lists : ListsNonzero a tensor entries
+  pub each : AreEntries entries
+  pub shape_is : shape ≡ map (slice_index store.ranges) s.left.vars

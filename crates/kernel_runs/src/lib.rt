@@ -3,9 +3,11 @@
 #![tactic(auto)]
 
 mod fault;
+mod planned_runs;
 mod results;
 mod running;
 mod runs;
 
 pub use fault::RunFault;
+pub use planned_runs::run_planned;
 pub use runs::{KernelRun, run_kernel};

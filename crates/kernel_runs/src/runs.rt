@@ -1,9 +1,14 @@
 //! A statement computed by its kernel.
-ghost use Rattle.std.specs.Prelude.{IfOk, IfErr};
+ghost use Rattle.std.specs.Prelude.{◌≤◌, All, length, IfOk, IfErr};
+ghost use Rattle.limits.specs.Limits.{greatest_order, greatest_position_count};
+ghost use Rattle.index_notation.specs.Statement.{IsWellNamed};
 ghost use Rattle.tensor_map.specs.Entries.{AreEntries};
-ghost use Rattle.kernel_correctness.specs.Kernels.{IsRightKernel};
+ghost use Rattle.storage_arrays.specs.Arrays.{AreDone};
+ghost use Rattle.kernel_correctness.specs.Kernels.{IsRightKernel, IsSoundOn};
+ghost use Rattle.kernel_machine.specs.Begins.{store_of};
 ghost use Rattle.operand_packing.specs.Runnable.{IsRunnable};
 ghost use Rattle.kernel_runs.specs.Runs.{IsRun, MayRefuseRun};
+ghost use Rattle.kernel_runs.specs.Steps.{CanBegin, IsRunOn, RefusedOn};
 
 use crate::fault::RunFault;
 use crate::results::{entries_of, shape_of};
@@ -30,6 +35,41 @@ pub struct KernelRun {
     pub tensor: Tensor,
     /// How often the kernel's loops turned.
     pub turns: Turns,
+}
+
+/// Runs a kernel on packed operands, which are lent, with these ranges of its variables and a result of this format, and takes the values
+/// that aren't zero.
+pub(crate) fn run_packed<S: Semiring>(
+    alloc: Global,
+    statement: &Statement,
+    kernel: &Kernel,
+    format: Format,
+    operands: &[Tensor],
+    ranges: &[u64],
+) -> Result<KernelRun, RunFault>
+    requires named { IsWellNamed statement.now }
+    requires short { length statement.now.left.vars ≤ greatest_order }
+    requires enough { length format ≤ length ranges.now }
+    requires small { All (λ range. range ≤ greatest_position_count) ranges.now }
+    requires done { All (λ t. AreDone 1 t.levels) operands.now }
+    requires sound { CanBegin (store_of ranges.now operands.now format)
+        → IsSoundOn S.arithmetic kernel.now (store_of ranges.now operands.now format) }
+    ensures run { IfOk result (λ run. IsRunOn S.arithmetic statement.now kernel.now (store_of ranges.now operands.now format)
+        run.shape run.entries run.tensor run.turns) }
+    ensures refused { IfErr result (RefusedOn S.arithmetic kernel.now (store_of ranges.now operands.now format)) }
+{
+    let (tensor, turns) = match run_on::<S>(alloc, kernel, format, operands, ranges) {
+        Ok(pair) => pair,
+        Err(fault) => return Err(fault),
+    };
+    let entries = entries_of::<S>(alloc, &tensor)?;
+    let shape = shape_of(alloc, statement, ranges)?;
+    Ok(KernelRun {
+        shape,
+        entries,
+        tensor,
+        turns,
+    })
 }
 
 /// Computes a statement over its operands by a kernel that is right for it and its formats. `formats` has the format of each tensor,
@@ -64,16 +104,8 @@ pub fn run_kernel<S: Semiring>(
     let entries = operands.entries.as_mut_slice();
     let tensors = pack_operands::<S>(alloc, statement, formats, &ranges, entries)?;
     let format = formats[0].copied();
-    let (tensor, turns) = match run_on::<S>(alloc, kernel, format, &tensors, &ranges) {
-        Ok(pair) => pair,
-        Err(fault) => return Err(fault),
-    };
-    let entries = entries_of::<S>(alloc, &tensor)?;
-    let shape = shape_of(alloc, statement, &ranges)?;
-    Ok(KernelRun {
-        shape,
-        entries,
-        tensor,
-        turns,
-    })
+    match run_packed::<S>(alloc, statement, kernel, format, &tensors, &ranges) {
+        Ok(computed) => Ok(computed),
+        Err(fault) => Err(fault),
+    }
 }

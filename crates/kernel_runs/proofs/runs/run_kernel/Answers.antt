@@ -1,9 +1,10 @@
 use Rattle.std.specs.Prelude.{◌≡◌, Ok, slice_index_or}
 use Rattle.std.proofs.Common.{◌∙◌, sym, ap, subst, arith, rules}
 use Rattle.operand_packing.specs.Runnable.{told_ranges}
-use Rattle.kernel_runs.proofs.Calls.{formats_many, many_lent, may_pack_lent, unpacked_lent, enough_lent, done_lent}
+use Rattle.kernel_runs.specs.Refused.{of_packing}
+use Rattle.kernel_runs.proofs.Calls.{formats_many, many_lent, may_pack_lent, unpacked_lent, enough_lent, done_lent, small_lent}
 use Rattle.kernel_runs.proofs.Calls.{sound_lent, refused_lent, run_lent}
-use Rattle.kernel_runs.proofs.Refusals.{range_refusal, pack_refusal}
+use Rattle.kernel_runs.proofs.Refusals.{range_refusal, pack_refusal, run_is, run_refusal}
 use Rattle.kernel_runs.proofs.runs.run_kernel.Goals as goal
 
 pub returns-in_err-ranges-clause-refused : goal.returns-in_err-ranges-clause-refused
@@ -24,7 +25,9 @@ pack_operands-requires-clause-many g c =
     let ranges = c.in_ok-ranges.ranges.items in
     let told : told_ranges s given bounds ≡ Ok ranges = ap (told_ranges s given) (sym c.as_slice.ensures.value)
     ∙ c.in_ok-ranges.ensures.ranges in
-    many_lent a s formats given operands bounds c.requires.runnable ranges told
+    let are = c.requires.runnable.operands_are in
+    let fits = c.requires.runnable.ranges_fit ranges told in
+    many_lent a s formats operands are ranges fits
     c.deref.result.now c.deref.ensures.value c.as_mut_slice-entries.result.now c.as_mut_slice-entries.ensures.value
 
 pub pack_operands-requires-clause-may : goal.pack_operands-requires-clause-may
@@ -38,7 +41,9 @@ pack_operands-requires-clause-may g c =
     let ranges = c.in_ok-ranges.ranges.items in
     let told : told_ranges s given bounds ≡ Ok ranges = ap (told_ranges s given) (sym c.as_slice.ensures.value)
     ∙ c.in_ok-ranges.ensures.ranges in
-    may_pack_lent a s formats given operands bounds c.requires.runnable ranges told
+    let are = c.requires.runnable.operands_are in
+    let fits = c.requires.runnable.ranges_fit ranges told in
+    may_pack_lent a s formats operands are ranges fits
     c.deref.result.now c.deref.ensures.value c.as_mut_slice-entries.result.now c.as_mut_slice-entries.ensures.value
 
 pub returns-in_err-tensors-clause-refused : goal.returns-in_err-tensors-clause-refused
@@ -52,10 +57,13 @@ returns-in_err-tensors-clause-refused g c =
     let ranges = c.in_ok-ranges.ranges.items in
     let told : told_ranges s given bounds ≡ Ok ranges = ap (told_ranges s given) (sym c.as_slice.ensures.value)
     ∙ c.in_ok-ranges.ensures.ranges in
-    let h = pack_refusal a s formats given operands bounds ranges c.in_err-tensors.field-0.0 told
-    (unpacked_lent a s formats given operands bounds c.requires.runnable ranges told
+    let are = c.requires.runnable.operands_are in
+    let fits = c.requires.runnable.ranges_fit ranges told in
+    let h = run_refusal a s formats given operands bounds ranges told (of_packing c.in_err-tensors.field-0.0)
+    (pack_refusal a s formats operands ranges c.in_err-tensors.field-0.0
+    (unpacked_lent a s formats operands are ranges fits
     c.deref.result.now c.deref.ensures.value c.as_mut_slice-entries.result.now c.as_mut_slice-entries.ensures.value
-    c.in_err-tensors.field-0.0 c.in_err-tensors.ensures) in
+    c.in_err-tensors.field-0.0 c.in_err-tensors.ensures)) in
     search (rules, h)
 
 pub bounds-formats-0 : goal.bounds-formats-0
@@ -69,11 +77,13 @@ bounds-formats-0 g c =
     let ranges = c.in_ok-ranges.ranges.items in
     let told : told_ranges s given bounds ≡ Ok ranges = ap (told_ranges s given) (sym c.as_slice.ensures.value)
     ∙ c.in_ok-ranges.ensures.ranges in
-    let many = formats_many a s formats given operands bounds c.requires.runnable ranges told in
+    let are = c.requires.runnable.operands_are in
+    let fits = c.requires.runnable.ranges_fit ranges told in
+    let many = formats_many a s formats operands are ranges fits in
     omega (arith, many)
 
-pub run_on-requires-clause-enough : goal.run_on-requires-clause-enough
-run_on-requires-clause-enough g c =
+pub run_packed-requires-clause-named : goal.run_packed-requires-clause-named
+run_packed-requires-clause-named g c =
     let a = g.S.Semiring.arithmetic in
     let s = c.args.statement.now in
     let formats = c.args.formats.now in
@@ -83,13 +93,45 @@ run_on-requires-clause-enough g c =
     let ranges = c.in_ok-ranges.ranges.items in
     let told : told_ranges s given bounds ≡ Ok ranges = ap (told_ranges s given) (sym c.as_slice.ensures.value)
     ∙ c.in_ok-ranges.ensures.ranges in
-    enough_lent a s formats given operands bounds c.requires.runnable ranges told
+    let are = c.requires.runnable.operands_are in
+    let fits = c.requires.runnable.ranges_fit ranges told in
+    are.named
+
+pub run_packed-requires-clause-short : goal.run_packed-requires-clause-short
+run_packed-requires-clause-short g c =
+    let a = g.S.Semiring.arithmetic in
+    let s = c.args.statement.now in
+    let formats = c.args.formats.now in
+    let given = c.args.given.now in
+    let operands = c.args.operands.entries.items in
+    let bounds = c.args.operands.bounds.items in
+    let ranges = c.in_ok-ranges.ranges.items in
+    let told : told_ranges s given bounds ≡ Ok ranges = ap (told_ranges s given) (sym c.as_slice.ensures.value)
+    ∙ c.in_ok-ranges.ensures.ranges in
+    let are = c.requires.runnable.operands_are in
+    let fits = c.requires.runnable.ranges_fit ranges told in
+    are.numbered.left.order
+
+pub run_packed-requires-clause-enough : goal.run_packed-requires-clause-enough
+run_packed-requires-clause-enough g c =
+    let a = g.S.Semiring.arithmetic in
+    let s = c.args.statement.now in
+    let formats = c.args.formats.now in
+    let given = c.args.given.now in
+    let operands = c.args.operands.entries.items in
+    let bounds = c.args.operands.bounds.items in
+    let ranges = c.in_ok-ranges.ranges.items in
+    let told : told_ranges s given bounds ≡ Ok ranges = ap (told_ranges s given) (sym c.as_slice.ensures.value)
+    ∙ c.in_ok-ranges.ensures.ranges in
+    let are = c.requires.runnable.operands_are in
+    let fits = c.requires.runnable.ranges_fit ranges told in
+    enough_lent a s formats operands are ranges fits
     c.deref.result.now c.deref.ensures.value c.as_mut_slice-entries.result.now c.as_mut_slice-entries.ensures.value
     g.met.S.Semiring.laws c.args.kernel.now c.requires.right c.deref-3.result.now c.deref-3.ensures.value c.copied-format.result
     (subst (λ f. f ≡ slice_index_or formats 0 f) (sym c.copied-format.ensures.value) c.index-formats-0.is)
 
-pub run_on-requires-clause-done : goal.run_on-requires-clause-done
-run_on-requires-clause-done g c =
+pub run_packed-requires-clause-small : goal.run_packed-requires-clause-small
+run_packed-requires-clause-small g c =
     let a = g.S.Semiring.arithmetic in
     let s = c.args.statement.now in
     let formats = c.args.formats.now in
@@ -99,14 +141,34 @@ run_on-requires-clause-done g c =
     let ranges = c.in_ok-ranges.ranges.items in
     let told : told_ranges s given bounds ≡ Ok ranges = ap (told_ranges s given) (sym c.as_slice.ensures.value)
     ∙ c.in_ok-ranges.ensures.ranges in
-    done_lent a s formats given operands bounds c.requires.runnable ranges told
+    let are = c.requires.runnable.operands_are in
+    let fits = c.requires.runnable.ranges_fit ranges told in
+    small_lent a s formats operands are ranges fits
+    c.deref.result.now c.deref.ensures.value c.as_mut_slice-entries.result.now c.as_mut_slice-entries.ensures.value
+    g.met.S.Semiring.laws c.args.kernel.now c.requires.right c.deref-3.result.now c.deref-3.ensures.value c.copied-format.result
+    (subst (λ f. f ≡ slice_index_or formats 0 f) (sym c.copied-format.ensures.value) c.index-formats-0.is)
+
+pub run_packed-requires-clause-done : goal.run_packed-requires-clause-done
+run_packed-requires-clause-done g c =
+    let a = g.S.Semiring.arithmetic in
+    let s = c.args.statement.now in
+    let formats = c.args.formats.now in
+    let given = c.args.given.now in
+    let operands = c.args.operands.entries.items in
+    let bounds = c.args.operands.bounds.items in
+    let ranges = c.in_ok-ranges.ranges.items in
+    let told : told_ranges s given bounds ≡ Ok ranges = ap (told_ranges s given) (sym c.as_slice.ensures.value)
+    ∙ c.in_ok-ranges.ensures.ranges in
+    let are = c.requires.runnable.operands_are in
+    let fits = c.requires.runnable.ranges_fit ranges told in
+    done_lent a s formats operands are ranges fits
     c.deref.result.now c.deref.ensures.value c.as_mut_slice-entries.result.now c.as_mut_slice-entries.ensures.value
     g.met.S.Semiring.laws c.args.kernel.now c.requires.right c.deref-3.result.now c.deref-3.ensures.value c.copied-format.result
     (subst (λ f. f ≡ slice_index_or formats 0 f) (sym c.copied-format.ensures.value) c.index-formats-0.is)
     c.copied-format.ensures.format c.in_ok-tensors.tensors.items c.in_ok-tensors.ensures c.deref-2.result.now c.deref-2.ensures.value
 
-pub run_on-requires-clause-sound : goal.run_on-requires-clause-sound
-run_on-requires-clause-sound g c =
+pub run_packed-requires-clause-sound : goal.run_packed-requires-clause-sound
+run_packed-requires-clause-sound g c =
     let a = g.S.Semiring.arithmetic in
     let s = c.args.statement.now in
     let formats = c.args.formats.now in
@@ -116,14 +178,16 @@ run_on-requires-clause-sound g c =
     let ranges = c.in_ok-ranges.ranges.items in
     let told : told_ranges s given bounds ≡ Ok ranges = ap (told_ranges s given) (sym c.as_slice.ensures.value)
     ∙ c.in_ok-ranges.ensures.ranges in
-    sound_lent a s formats given operands bounds c.requires.runnable ranges told
+    let are = c.requires.runnable.operands_are in
+    let fits = c.requires.runnable.ranges_fit ranges told in
+    sound_lent a s formats operands are ranges fits
     c.deref.result.now c.deref.ensures.value c.as_mut_slice-entries.result.now c.as_mut_slice-entries.ensures.value
     g.met.S.Semiring.laws c.args.kernel.now c.requires.right c.deref-3.result.now c.deref-3.ensures.value c.copied-format.result
     (subst (λ f. f ≡ slice_index_or formats 0 f) (sym c.copied-format.ensures.value) c.index-formats-0.is)
     c.copied-format.ensures.format c.in_ok-tensors.tensors.items c.in_ok-tensors.ensures c.deref-2.result.now c.deref-2.ensures.value
 
-pub returns-in-Err-clause-refused : goal.returns-in-Err-clause-refused
-returns-in-Err-clause-refused g c =
+pub returns-in-Ok-clause-run : goal.returns-in-Ok-clause-run
+returns-in-Ok-clause-run g c =
     let a = g.S.Semiring.arithmetic in
     let s = c.args.statement.now in
     let formats = c.args.formats.now in
@@ -133,15 +197,23 @@ returns-in-Err-clause-refused g c =
     let ranges = c.in_ok-ranges.ranges.items in
     let told : told_ranges s given bounds ≡ Ok ranges = ap (told_ranges s given) (sym c.as_slice.ensures.value)
     ∙ c.in_ok-ranges.ensures.ranges in
-    refused_lent a s formats given operands bounds c.requires.runnable ranges told
+    let are = c.requires.runnable.operands_are in
+    let fits = c.requires.runnable.ranges_fit ranges told in
+    run_is a s formats c.args.kernel.now given operands bounds ranges told c.in-Ok.computed.shape c.in-Ok.computed.entries c.in-Ok.computed.tensor
+    c.in-Ok.computed.turns
+    (run_lent a s formats operands are ranges fits
     c.deref.result.now c.deref.ensures.value c.as_mut_slice-entries.result.now c.as_mut_slice-entries.ensures.value
     g.met.S.Semiring.laws c.args.kernel.now c.requires.right c.deref-3.result.now c.deref-3.ensures.value c.copied-format.result
     (subst (λ f. f ≡ slice_index_or formats 0 f) (sym c.copied-format.ensures.value) c.index-formats-0.is)
     c.copied-format.ensures.format c.in_ok-tensors.tensors.items c.in_ok-tensors.ensures c.deref-2.result.now c.deref-2.ensures.value
-    c.in-Err.fault c.in-Err.ensures
+    c.in-Ok.computed.tensor c.in-Ok.computed.turns c.in-Ok.computed.entries c.in-Ok.computed.shape c.in-Ok.ensures.run)
 
-pub returns-clause-run : goal.returns-clause-run
-returns-clause-run g c =
+pub returns-in-Ok-clause-entries : goal.returns-in-Ok-clause-entries
+returns-in-Ok-clause-entries g c =
+    c.in-Ok.ensures.run.each
+
+pub returns-clause-refused : goal.returns-clause-refused
+returns-clause-refused g c =
     let a = g.S.Semiring.arithmetic in
     let s = c.args.statement.now in
     let formats = c.args.formats.now in
@@ -151,10 +223,12 @@ returns-clause-run g c =
     let ranges = c.in_ok-ranges.ranges.items in
     let told : told_ranges s given bounds ≡ Ok ranges = ap (told_ranges s given) (sym c.as_slice.ensures.value)
     ∙ c.in_ok-ranges.ensures.ranges in
-    run_lent a s formats given operands bounds c.requires.runnable ranges told
+    let are = c.requires.runnable.operands_are in
+    let fits = c.requires.runnable.ranges_fit ranges told in
+    run_refusal a s formats given operands bounds ranges told c.in-Err.fault
+    (refused_lent a s formats operands are ranges fits
     c.deref.result.now c.deref.ensures.value c.as_mut_slice-entries.result.now c.as_mut_slice-entries.ensures.value
     g.met.S.Semiring.laws c.args.kernel.now c.requires.right c.deref-3.result.now c.deref-3.ensures.value c.copied-format.result
     (subst (λ f. f ≡ slice_index_or formats 0 f) (sym c.copied-format.ensures.value) c.index-formats-0.is)
     c.copied-format.ensures.format c.in_ok-tensors.tensors.items c.in_ok-tensors.ensures c.deref-2.result.now c.deref-2.ensures.value
-    c.in-Ok.pair.0 c.in-Ok.pair.1 c.in_ok-entries.entries c.in_ok-shape.shape c.deref-4.result.now c.in-Ok.ensures
-    c.in_ok-entries.ensures.lists c.in_ok-entries.ensures.entries c.deref-4.ensures.value c.in_ok-shape.ensures
+    c.in-Err.fault c.in-Err.ensures.refused)
