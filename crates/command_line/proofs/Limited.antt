@@ -9,7 +9,7 @@ use Rattle.std.proofs.lemmas.Bool.{leb-true}
 use Rattle.clap.proofs.WalkLemmas.{both}
 use Rattle.limits.specs.Limits.{greatest_workload}
 use Rattle.command_line.specs.declared.Task.{Task}
-use Rattle.command_line.specs.declared.Task.TheVariants.{Run, Kernel, Report, Plan}
+use Rattle.command_line.specs.declared.Task.TheVariants.{Run, Kernel, Report, Auto, Plan}
 use Rattle.command_line.specs.CommandLine.{CommandLine, Statement, Workload, is_size, operands, size_line}
 use Rattle.command_line.specs.CommandLine.{statement_line, workload_line, line_of_command, command_line_of}
 use Rattle.command_line.specs.Law.{AreLimited}
@@ -45,17 +45,18 @@ workload_limited (Some (size ∷ more ∷ rest)) = tt
 command_limited : (command : List ℕ) (rest : List (List ℕ)) → IsLimited (line_of_command command rest)
 command_limited command rest =
     go (bytes_eq (codes "run") command) refl (bytes_eq (codes "kernel") command) refl (bytes_eq (codes "report") command) refl
-    (bytes_eq (codes "plan") command) refl (bytes_eq (codes "gen") command) refl
+    (bytes_eq (codes "auto") command) refl (bytes_eq (codes "plan") command) refl (bytes_eq (codes "gen") command) refl
   where
     go : (r : Bool) → bytes_eq (codes "run") command ≡ r → (k : Bool) → bytes_eq (codes "kernel") command ≡ k
-        → (p : Bool) → bytes_eq (codes "report") command ≡ p → (q : Bool) → bytes_eq (codes "plan") command ≡ q
-        → (g : Bool) → bytes_eq (codes "gen") command ≡ g → IsLimited (line_of_command command rest)
-    go true a k b p d q f g e = rw a (statement_limited Run (operands rest))
-    go false a true b p d q f g e = rw (a, b) (statement_limited Kernel (operands rest))
-    go false a false b true d q f g e = rw (a, b, d) (statement_limited Report (operands rest))
-    go false a false b false d true f g e = rw (a, b, d, f) (statement_limited Plan (operands rest))
-    go false a false b false d false f true e = rw (a, b, d, f, e) (workload_limited (operands rest))
-    go false a false b false d false f false e = rw (a, b, d, f, e) tt
+        → (p : Bool) → bytes_eq (codes "report") command ≡ p → (t : Bool) → bytes_eq (codes "auto") command ≡ t
+        → (q : Bool) → bytes_eq (codes "plan") command ≡ q → (g : Bool) → bytes_eq (codes "gen") command ≡ g → IsLimited (line_of_command command rest)
+    go true a k b p d t h q f g e = rw a (statement_limited Run (operands rest))
+    go false a true b p d t h q f g e = rw (a, b) (statement_limited Kernel (operands rest))
+    go false a false b true d t h q f g e = rw (a, b, d) (statement_limited Report (operands rest))
+    go false a false b false d true h q f g e = rw (a, b, d, h) (statement_limited Auto (operands rest))
+    go false a false b false d false h true f g e = rw (a, b, d, h, f) (statement_limited Plan (operands rest))
+    go false a false b false d false h false f true e = rw (a, b, d, h, f, e) (workload_limited (operands rest))
+    go false a false b false d false h false f false e = rw (a, b, d, h, f, e) tt
 
 line_limited : (words : List (List ℕ)) → IsLimited (command_line_of words)
 line_limited [] = tt

@@ -29,7 +29,7 @@ use Rattle.clap.proofs.FaultLemmas.{stopped_fault}
 use Rattle.limits.specs.Limits.{greatest_workload}
 use Rattle.limits.proofs.Limits.{workloads_are_ranges, positions_are_small}
 use Rattle.command_line.specs.declared.Task.{Task}
-use Rattle.command_line.specs.declared.Task.TheVariants.{Run, Kernel, Report, Plan}
+use Rattle.command_line.specs.declared.Task.TheVariants.{Run, Kernel, Report, Auto, Plan}
 use Rattle.command_line.specs.CommandLine.{CommandLine, Statement, Workload, is_option, is_size, operands, size_line}
 use Rattle.command_line.specs.CommandLine.{statement_line, workload_line, line_of_command, command_line_of}
 use Rattle.command_line.specs.Law.{IsRead, ReadsAll}
@@ -59,7 +59,7 @@ abbrev stopped_at : Text → List Text → Walk
 stopped_at name ws = record start { stopped = Some (name, ws) }
 
 subs_are : (built taco_app).subs ≡ statement_shape (codes "run") ∷ statement_shape (codes "kernel") ∷ statement_shape (codes "report")
-    ∷ statement_shape (codes "plan") ∷ workload_shape ∷ []
+    ∷ statement_shape (codes "auto") ∷ statement_shape (codes "plan") ∷ workload_shape ∷ []
 subs_are = refl
 
 stopped_passes : (w : Walk) (p : Text × List Text) (ws : List Text) → walk_passes top names (record w { stopped = Some p }) ws ≡ true
@@ -84,15 +84,20 @@ stops_report : (c : Text) → bytes_eq (codes "run") c ≡ false → bytes_eq (c
 unfolding walked
 stops_report c a b d = (rw (a, b, d) refl, rw (a, b, d) refl, rw (a, b, d) refl)
 
-stops_plan : (c : Text) → bytes_eq (codes "run") c ≡ false → bytes_eq (codes "kernel") c ≡ false → bytes_eq (codes "report") c ≡ false
-    → bytes_eq (codes "plan") c ≡ true → Stops c (codes "plan")
+stops_auto : (c : Text) → bytes_eq (codes "run") c ≡ false → bytes_eq (codes "kernel") c ≡ false → bytes_eq (codes "report") c ≡ false
+    → bytes_eq (codes "auto") c ≡ true → Stops c (codes "auto")
 unfolding walked
-stops_plan c a b d f = (rw (a, b, d, f) refl, rw (a, b, d, f) refl, rw (a, b, d, f) refl)
+stops_auto c a b d t = (rw (a, b, d, t) refl, rw (a, b, d, t) refl, rw (a, b, d, t) refl)
+
+stops_plan : (c : Text) → bytes_eq (codes "run") c ≡ false → bytes_eq (codes "kernel") c ≡ false → bytes_eq (codes "report") c ≡ false
+    → bytes_eq (codes "auto") c ≡ false → bytes_eq (codes "plan") c ≡ true → Stops c (codes "plan")
+unfolding walked
+stops_plan c a b d t f = (rw (a, b, d, t, f) refl, rw (a, b, d, t, f) refl, rw (a, b, d, t, f) refl)
 
 stops_gen : (c : Text) → bytes_eq (codes "run") c ≡ false → bytes_eq (codes "kernel") c ≡ false → bytes_eq (codes "report") c ≡ false
-    → bytes_eq (codes "plan") c ≡ false → bytes_eq (codes "gen") c ≡ true → Stops c (codes "gen")
+    → bytes_eq (codes "auto") c ≡ false → bytes_eq (codes "plan") c ≡ false → bytes_eq (codes "gen") c ≡ true → Stops c (codes "gen")
 unfolding walked
-stops_gen c a b d f e = (rw (a, b, d, f, e) refl, rw (a, b, d, f, e) refl, rw (a, b, d, f, e) refl)
+stops_gen c a b d t f e = (rw (a, b, d, t, f, e) refl, rw (a, b, d, t, f, e) refl, rw (a, b, d, t, f, e) refl)
 
 -- the rest goes to the subcommand
 abbrev Enters : Text → Text → List Text → Type 0
@@ -150,6 +155,10 @@ inside_report : (rest : List Text) → Inside (codes "report") (statement_shape 
 unfolding defaults_fault
 inside_report rest = (refl, refl, refl)
 
+inside_auto : (rest : List Text) → Inside (codes "auto") (statement_shape (codes "auto")) rest
+unfolding defaults_fault
+inside_auto rest = (refl, refl, refl)
+
 inside_plan : (rest : List Text) → Inside (codes "plan") (statement_shape (codes "plan")) rest
 unfolding defaults_fault
 inside_plan rest = (refl, refl, refl)
@@ -202,6 +211,10 @@ kernel_matched e (w ∷ ws) = refl
 report_matched : (e : Text) (os : List Text) → matched_line (codes "report", statement_rows (e ∷ os)) ≡ Some (Statement Report e os)
 report_matched e [] = refl
 report_matched e (w ∷ ws) = refl
+
+auto_matched : (e : Text) (os : List Text) → matched_line (codes "auto", statement_rows (e ∷ os)) ≡ Some (Statement Auto e os)
+auto_matched e [] = refl
+auto_matched e (w ∷ ws) = refl
 
 plan_matched : (e : Text) (os : List Text) → matched_line (codes "plan", statement_rows (e ∷ os)) ≡ Some (Statement Plan e os)
 plan_matched e [] = refl
@@ -268,23 +281,24 @@ abbrev Refused : Text → Kinds → Type 0
 Refused c kinds = (turn_fault top names start c ≡ kinds) × (turn_passes top names start c ≡ false)
 
 module _ (c : Text) (a : bytes_eq (codes "run") c ≡ false) (b : bytes_eq (codes "kernel") c ≡ false)
-    (d : bytes_eq (codes "report") c ≡ false) (q : bytes_eq (codes "plan") c ≡ false) (e : bytes_eq (codes "gen") c ≡ false) where
+    (d : bytes_eq (codes "report") c ≡ false) (t : bytes_eq (codes "auto") c ≡ false) (q : bytes_eq (codes "plan") c ≡ false)
+    (e : bytes_eq (codes "gen") c ≡ false) where
   other_long : (p : Text × Option Text) → bytes_eq c (45 ∷ 45 ∷ []) ≡ false → long_of c ≡ Some p → Refused c (kind.UnknownArgument ∷ [])
-  other_long p f l = (rw (a, b, d, q, e, f, l) refl, rw (a, b, d, q, e, f, l) refl)
+  other_long p f l = (rw (a, b, d, t, q, e, f, l) refl, rw (a, b, d, t, q, e, f, l) refl)
 
   other_short : (x : ℕ) (flags : Text) (y : ℕ) → bytes_eq c (45 ∷ 45 ∷ []) ≡ false → long_of c ≡ None → short_of c ≡ Some (x ∷ flags)
       → slice_get (chars (x ∷ flags)) 0 ≡ Some y → Refused c (kind.UnknownArgument ∷ [])
   unfolding flags_fault flags_pass
-  other_short x flags y f l h g = (rw (a, b, d, q, e, f, l, h, g) refl, rw (a, b, d, q, e, f, l, h, g) refl)
+  other_short x flags y f l h g = (rw (a, b, d, t, q, e, f, l, h, g) refl, rw (a, b, d, t, q, e, f, l, h, g) refl)
 
   other_operand : bytes_eq c (45 ∷ 45 ∷ []) ≡ false → long_of c ≡ None → short_of c ≡ None
       → Refused c (kind.UnknownArgument ∷ kind.InvalidSubcommand ∷ [])
-  other_operand f l h = (rw (a, b, d, q, e, f, l, h) refl, rw (a, b, d, q, e, f, l, h) refl)
+  other_operand f l h = (rw (a, b, d, t, q, e, f, l, h) refl, rw (a, b, d, t, q, e, f, l, h) refl)
 
   other_dashes : bytes_eq c (45 ∷ 45 ∷ []) ≡ true → (walked [] names start c ≡ record start { is_trailing = true })
       × (turn_fault top names start c ≡ []) × (turn_passes top names start c ≡ true)
   unfolding walked
-  other_dashes f = (rw (a, b, d, q, e, f) refl, rw (a, b, d, q, e, f) refl, rw (a, b, d, q, e, f) refl)
+  other_dashes f = (rw (a, b, d, t, q, e, f) refl, rw (a, b, d, t, q, e, f) refl, rw (a, b, d, t, q, e, f) refl)
 
 dashes_end : (after_fault (record start { is_trailing = true }) ≡ kind.MissingSubcommand ∷ [])
     × (taken_after true (record start { is_trailing = true }) ≡ false)
@@ -341,12 +355,12 @@ dashes_fail n c (w ∷ ws) s = (
 )
 
 other_fails : (n c : Text) (rest : List Text) → bytes_eq (codes "run") c ≡ false → bytes_eq (codes "kernel") c ≡ false
-    → bytes_eq (codes "report") c ≡ false → bytes_eq (codes "plan") c ≡ false → bytes_eq (codes "gen") c ≡ false → Kind c
-    → LineIs (n ∷ c ∷ rest) None
-other_fails n c rest a b d q e (dashes f) = dashes_fail n c rest (other_dashes c a b d q e f)
-other_fails n c rest a b d q e (long p f o l) = turn_fails n c rest _ _ (other_long c a b d q e p f l)
-other_fails n c rest a b d q e (short x flags y f o l h g) = turn_fails n c rest _ _ (other_short c a b d q e x flags y f l h g)
-other_fails n c rest a b d q e (operand f o l h) = turn_fails n c rest _ _ (other_operand c a b d q e f l h)
+    → bytes_eq (codes "report") c ≡ false → bytes_eq (codes "auto") c ≡ false → bytes_eq (codes "plan") c ≡ false
+    → bytes_eq (codes "gen") c ≡ false → Kind c → LineIs (n ∷ c ∷ rest) None
+other_fails n c rest a b d t q e (dashes f) = dashes_fail n c rest (other_dashes c a b d t q e f)
+other_fails n c rest a b d t q e (long p f o l) = turn_fails n c rest _ _ (other_long c a b d t q e p f l)
+other_fails n c rest a b d t q e (short x flags y f o l h g) = turn_fails n c rest _ _ (other_short c a b d t q e x flags y f l h g)
+other_fails n c rest a b d t q e (operand f o l h) = turn_fails n c rest _ _ (other_operand c a b d t q e f l h)
 
 -- ---- all lines
 
@@ -403,21 +417,24 @@ module _ (n c : Text) (rest : List Text) (u : All IsUtf8 (c ∷ rest)) (fits : l
 
   command_is : LineIs (n ∷ c ∷ rest) (line_of_command c rest)
   command_is = go (bytes_eq (codes "run") c) refl (bytes_eq (codes "kernel") c) refl (bytes_eq (codes "report") c) refl
-      (bytes_eq (codes "plan") c) refl (bytes_eq (codes "gen") c) refl
+      (bytes_eq (codes "auto") c) refl (bytes_eq (codes "plan") c) refl (bytes_eq (codes "gen") c) refl
     where
       go : (r : Bool) → bytes_eq (codes "run") c ≡ r → (k : Bool) → bytes_eq (codes "kernel") c ≡ k
-          → (p : Bool) → bytes_eq (codes "report") c ≡ p → (l : Bool) → bytes_eq (codes "plan") c ≡ l
+          → (p : Bool) → bytes_eq (codes "report") c ≡ p → (t : Bool) → bytes_eq (codes "auto") c ≡ t
+          → (l : Bool) → bytes_eq (codes "plan") c ≡ l
           → (g : Bool) → bytes_eq (codes "gen") c ≡ g → LineIs (n ∷ c ∷ rest) (line_of_command c rest)
-      go true a k b p d l f g e = rw a (for_task (codes "run") Run (stops_run c a) (inside_run rest) run_matched)
-      go false a true b p d l f g e =
+      go true a k b p d t h l f g e = rw a (for_task (codes "run") Run (stops_run c a) (inside_run rest) run_matched)
+      go false a true b p d t h l f g e =
           rw (a, b) (for_task (codes "kernel") Kernel (stops_kernel c a b) (inside_kernel rest) kernel_matched)
-      go false a false b true d l f g e =
+      go false a false b true d t h l f g e =
           rw (a, b, d) (for_task (codes "report") Report (stops_report c a b d) (inside_report rest) report_matched)
-      go false a false b false d true f g e =
-          rw (a, b, d, f) (for_task (codes "plan") Plan (stops_plan c a b d f) (inside_plan rest) plan_matched)
-      go false a false b false d false f true e = rw (a, b, d, f, e) (for_workload (stops_gen c a b d f e))
-      go false a false b false d false f false e =
-          rw (a, b, d, f, e) (other_fails n c rest a b d f e (kind_of_word c (All-head IsUtf8 c rest u)))
+      go false a false b false d true h l f g e =
+          rw (a, b, d, h) (for_task (codes "auto") Auto (stops_auto c a b d h) (inside_auto rest) auto_matched)
+      go false a false b false d false h true f g e =
+          rw (a, b, d, h, f) (for_task (codes "plan") Plan (stops_plan c a b d h f) (inside_plan rest) plan_matched)
+      go false a false b false d false h false f true e = rw (a, b, d, h, f, e) (for_workload (stops_gen c a b d h f e))
+      go false a false b false d false h false f false e =
+          rw (a, b, d, h, f, e) (other_fails n c rest a b d h f e (kind_of_word c (All-head IsUtf8 c rest u)))
 
 pub line_is : (ws : List Text) → All IsUtf8 ws → length ws ≤ usize_max → LineIs ws (command_line_of ws)
 line_is [] u fits = (λ e. some_kind _ _ (sym none_fails.0 ∙ e), none_fails.1)

@@ -13,7 +13,7 @@ use Rattle.clap.specs.declared.builder.value_parser.ValueParser.TheVariants as v
 use Rattle.limits.specs.Limits.{greatest_workload}
 use Rattle.command_line.specs.CommandLine.{CommandLine, Statement, Workload}
 use Rattle.command_line.specs.declared.Task.{Task}
-use Rattle.command_line.specs.declared.Task.TheVariants.{Run, Kernel, Report, Plan}
+use Rattle.command_line.specs.declared.Task.TheVariants.{Run, Kernel, Report, Auto, Plan}
 
 abbrev pub expr_rule : Rule
 expr_rule = record (new_rule (codes "EXPR")) { required = true }
@@ -43,10 +43,11 @@ bare_app = on_top (λ s. record s {
 }) (new_app (codes "taco"))
 
 abbrev pub taco_app : App
-taco_app = with_subcommand (with_subcommand (with_subcommand (with_subcommand
+taco_app = with_subcommand (with_subcommand (with_subcommand (with_subcommand (with_subcommand
     (with_subcommand bare_app (statement_app (codes "run")).top)
     (statement_app (codes "kernel")).top)
     (statement_app (codes "report")).top)
+    (statement_app (codes "auto")).top)
     (statement_app (codes "plan")).top)
     workload_app.top
 
@@ -67,7 +68,8 @@ task_of name =
     if bytes_eq name (codes "run") then Some Run
     else (if bytes_eq name (codes "kernel") then Some Kernel
     else (if bytes_eq name (codes "report") then Some Report
-    else (if bytes_eq name (codes "plan") then Some Plan else None)))
+    else (if bytes_eq name (codes "auto") then Some Auto
+    else (if bytes_eq name (codes "plan") then Some Plan else None))))
 
 -- the text of EXPR and the WORDs
 abbrev pub statement_matched : Task → List Row → Option CommandLine

@@ -8,7 +8,7 @@ use Rattle.std.specs.Str.{bytes_eq}
 use Rattle.std.specs.Str.Parse.{digits_value, without_leading_plus}
 use Rattle.limits.specs.Limits.{greatest_workload}
 use Rattle.command_line.specs.declared.Task.{Task}
-use Rattle.command_line.specs.declared.Task.TheVariants.{Run, Kernel, Report, Plan}
+use Rattle.command_line.specs.declared.Task.TheVariants.{Run, Kernel, Report, Auto, Plan}
 
 -- a statement with the words behind it, and what is asked for it; or the size of a generated workload
 pub data CommandLine : Type 0 where
@@ -56,8 +56,9 @@ line_of_command command rest =
     if bytes_eq (codes "run") command then statement_line Run (operands rest)
     else (if bytes_eq (codes "kernel") command then statement_line Kernel (operands rest)
     else (if bytes_eq (codes "report") command then statement_line Report (operands rest)
+    else (if bytes_eq (codes "auto") command then statement_line Auto (operands rest)
     else (if bytes_eq (codes "plan") command then statement_line Plan (operands rest)
-    else (if bytes_eq (codes "gen") command then workload_line (operands rest) else None))))
+    else (if bytes_eq (codes "gen") command then workload_line (operands rest) else None)))))
 
 -- the program's name, a command and its operands
 abbrev pub command_line_of : List (List ℕ) → Option CommandLine

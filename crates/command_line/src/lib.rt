@@ -27,6 +27,8 @@ pub enum Task {
     Kernel,
     /// To run it, and print its kernel, the turns of its loops and the storage of its tensors.
     Report,
+    /// To write its result, with accesses stored in another order of their modes where the storage orders have a cycle.
+    Auto,
     /// To print which accesses have to be stored in another order of their modes. No file is read.
     Plan,
 }
@@ -92,6 +94,7 @@ fn taco_command<'a>(alloc: Global) -> Result<Command<'a>, AllocError>
     let run = statement_command(alloc, "run")?;
     let kernel = statement_command(alloc, "kernel")?;
     let report = statement_command(alloc, "report")?;
+    let auto = statement_command(alloc, "auto")?;
     let plan = statement_command(alloc, "plan")?;
     let workload = workload_command(alloc)?;
     let command = Command::new(alloc, "taco")
@@ -101,6 +104,7 @@ fn taco_command<'a>(alloc: Global) -> Result<Command<'a>, AllocError>
         .subcommand(run)?
         .subcommand(kernel)?
         .subcommand(report)?
+        .subcommand(auto)?
         .subcommand(plan)?
         .subcommand(workload)?;
     Ok(command)
@@ -164,6 +168,7 @@ fn task_named(name: &str) -> Option<Task>
         "run" => Some(Task::Run),
         "kernel" => Some(Task::Kernel),
         "report" => Some(Task::Report),
+        "auto" => Some(Task::Auto),
         "plan" => Some(Task::Plan),
         _ => None,
     }

@@ -192,8 +192,13 @@ file_bytes_text path limit = of_name path (codes ": more than " ∷ decimal limi
 abbrev pub bad_line_text : List ℕ → ℕ → LineKind → List ℕ
 bad_line_text path number kind = of_name path (codes ": line " ∷ decimal number ∷ kind_text kind ∷ [])
 
+-- how a command line may be
+abbrev pub usage_line : List ℕ
+usage_line = codes "usage: taco run EXPR WORD.. | taco kernel EXPR WORD.. | taco report EXPR WORD.. | taco gen N"
+    ++ codes " | taco auto EXPR WORD.. | taco plan EXPR WORD..\n"
+
 abbrev pub line_of : Fault → List ℕ
-line_of fault.Usage = codes "usage: taco run EXPR WORD.. | taco kernel EXPR WORD.. | taco report EXPR WORD.. | taco plan EXPR WORD.. | taco gen N\n"
+line_of fault.Usage = usage_line
 line_of (fault.Notation why) = notation_line why
 line_of (fault.Named s why) = named_line s why
 line_of (fault.WorkspaceLimit count) = workspace_text count

@@ -25,7 +25,8 @@ use text_lines::{LineKind, Piece, put_all, put_pieces};
 const MEMORY: &[u8] = b"taco: out of memory\n";
 
 const USAGE: &[u8] =
-    b"usage: taco run EXPR WORD.. | taco kernel EXPR WORD.. | taco report EXPR WORD.. | taco plan EXPR WORD.. | taco gen N\n";
+    b"usage: taco run EXPR WORD.. | taco kernel EXPR WORD.. | taco report EXPR WORD.. | taco gen N \
+      | taco auto EXPR WORD.. | taco plan EXPR WORD..\n";
 
 /// What is wrong with a format.
 fn text_of_format(fault: FormatFault) -> &'static [u8]

@@ -20,7 +20,8 @@ returns c =
     let run : App = with_subcommand bare_app (statement_app (codes "run")).top in
     let kernel : App = with_subcommand run (statement_app (codes "kernel")).top in
     let report : App = with_subcommand kernel (statement_app (codes "report")).top in
-    let plan : App = with_subcommand report (statement_app (codes "plan")).top in
+    let auto : App = with_subcommand report (statement_app (codes "auto")).top in
+    let plan : App = with_subcommand auto (statement_app (codes "plan")).top in
     let run_is : app_of c.in_ok-subcommand.field-0 ≡ run =
     c.in_ok-subcommand.ensures.shape c.in_ok-run.ensures.local
     ∙ ap₂ with_subcommand bare_is (ap top_of c.in_ok-run.ensures.app) in
@@ -30,9 +31,12 @@ returns c =
     let report_is : app_of c.in_ok-subcommand-3.field-0 ≡ report =
     c.in_ok-subcommand-3.ensures.shape c.in_ok-report.ensures.local
     ∙ ap₂ with_subcommand kernel_is (ap top_of c.in_ok-report.ensures.app) in
-    let plan_is : app_of c.in_ok-subcommand-4.field-0 ≡ plan =
-    c.in_ok-subcommand-4.ensures.shape c.in_ok-plan.ensures.local
-    ∙ ap₂ with_subcommand report_is (ap top_of c.in_ok-plan.ensures.app) in
+    let auto_is : app_of c.in_ok-subcommand-4.field-0 ≡ auto =
+    c.in_ok-subcommand-4.ensures.shape c.in_ok-auto.ensures.local
+    ∙ ap₂ with_subcommand report_is (ap top_of c.in_ok-auto.ensures.app) in
+    let plan_is : app_of c.in_ok-subcommand-5.field-0 ≡ plan =
+    c.in_ok-subcommand-5.ensures.shape c.in_ok-plan.ensures.local
+    ∙ ap₂ with_subcommand auto_is (ap top_of c.in_ok-plan.ensures.app) in
     record {
       app = c.in_ok-command.ensures.shape c.in_ok-workload.ensures.local
           ∙ ap₂ with_subcommand plan_is (ap top_of c.in_ok-workload.ensures.app);
