@@ -1,4 +1,6 @@
 pub mod Accepted
+pub mod CycleLaws
+pub mod Mended
 pub mod OneRequest
 pub mod Paths
 pub mod Prepares

@@ -1,5 +1,5 @@
 -- What was computed for the words, as it is kept.
-use Rattle.std.specs.Prelude.{◌≡◌, ℕ, ◌≤◌, Bool, true, List, length, All, Vec, slice_index, refl}
+use Rattle.std.specs.Prelude.{◌≡◌, ℕ, ◌≤◌, Bool, true, List, length, All, Option, None, Some, Ok, Vec, slice_index, refl}
 use Rattle.std.proofs.Common.{◌∙◌, ap, sym, subst}
 use Rattle.std.proofs.lemmas.List.{length-map}
 use Rattle.std.specs.declared.alloc.Global.{Global}
@@ -14,7 +14,13 @@ use Rattle.index_notation.specs.Statement.{IsNumbered}
 use Rattle.expr_terms.specs.declared.bound.Bound.{Bound}
 use Rattle.bindings.specs.Tables.{path_to}
 use Rattle.mtx_io.specs.Progress.{IsMatrixOrder}
-use Rattle.kernel_runs.specs.Runs.{IsRun, IsTensorOf}
+use Rattle.kernel_code.specs.declared.syntax.Kernel.{Kernel}
+use Rattle.kernel_code.specs.declared.syntax.Turns.{Turns}
+use Rattle.kernel_correctness.specs.Stores.{Store}
+use Rattle.tensor_storage.specs.Storages.{Storage}
+use Rattle.mode_planner.specs.declared.planned.Planned.{Planned}
+use Rattle.operand_packing.specs.Runnable.{told_ranges}
+use Rattle.kernel_runs.specs.Runs.{IsStoreFor, IsTensorOf, RunsKernel}
 use Rattle.kernel_runs.proofs.Shapes.{ranges_shape}
 use Rattle.result_files.specs.EntriesText.{MayBeWritten}
 use Rattle.result_files.specs.ResultText.{asks_matrix}
@@ -23,7 +29,8 @@ use Rattle.taco_top.specs.Run.{Request, path_of}
 use Rattle.taco_top.specs.Written.{HasOperands}
 use Rattle.taco_top.specs.Told.{IsKernelOf}
 use Rattle.taco_top.specs.declared.computing.Computed.{Computed}
-use Rattle.taco_top.specs.Prepared.{IsPrepared}
+use Rattle.taco_top.specs.Prepared.{IsPrepared, IsStoredRun}
+use Rattle.taco_top.specs.Stored.{IsRunBy, stored_statement, stored_formats, stored_entries}
 use Rattle.taco_top.proofs.Accepted.{well_named}
 use Rattle.taco_top.proofs.Paths.{result_is_matrix}
 
@@ -40,14 +47,47 @@ may_be_written a s operands ranges shape entries are is_shape t is_matrix order 
   matrix = λ is. subst IsMatrixOrder (sym (t.order_is ∙ ap length t.shape_is ∙ length-map s.left.vars ranges)) (order is);
 }
 
+-- the kernel of what words ask for ran, as it is stored
+record Ran (r : Request) (plan : Option Planned) (kernel : Kernel) (entries : List Entries) (bounds : List (Vec Bound Global))
+    (shape : List ℕ) (result : Entries) (tensor : Storage) (turns : Turns) : Type 0 where
+  ranges : List ℕ
+  ranges_are : told_ranges r.statement r.given bounds ≡ Ok ranges
+  store : Store
+  is_store : IsStoreFor ring (stored_statement r.statement plan) (stored_formats r.formats plan) ranges (stored_entries entries plan) store
+  runs : RunsKernel ring (stored_statement r.statement plan) kernel store tensor turns
+  tensor_of : IsTensorOf ring r.statement entries (slice_index ranges) shape result
+
+ran : (r : Request) (plan : Option Planned) (kernel : Kernel) (entries : List Entries) (bounds : List (Vec Bound Global))
+    (shape : List ℕ) (result : Entries) (tensor : Storage) (turns : Turns)
+    → IsStoredRun r.statement r.formats plan kernel r.given entries bounds shape result tensor turns
+    → Ran r plan kernel entries bounds shape result tensor turns
+ran r None kernel entries bounds shape result tensor turns run = record {
+  ranges = run.ranges;
+  ranges_are = run.ranges_are;
+  store = run.store;
+  is_store = run.is_store;
+  runs = run.runs;
+  tensor_of = run.tensor_of;
+}
+ran r (Some plan) kernel entries bounds shape result tensor turns run = record {
+  ranges = run.ranges;
+  ranges_are = run.ranges_are;
+  store = run.store;
+  is_store = run.is_store;
+  runs = run.runs;
+  tensor_of = run.tensor_of;
+}
+
 pub prepared : (words : List (List ℕ)) (old new : FolderState) (r : Request) (kept : Computed) (entries : List Entries)
-    (bounds : List (Vec Bound Global)) → path_to kept.file ≡ path_of r.files 0 → r.statement ≡ kept.statement
-    → kept.formats.items ≡ r.formats → HasOperands words old new r entries bounds
-    → IsKernelOf r kept.compiled.order kept.compiled.kernel
-    → IsRun ring r.statement r.formats kept.compiled.kernel r.given entries bounds kept.result.shape kept.result.entries
+    (bounds : List (Vec Bound Global)) (plan : Option Planned) → IsRunBy r plan → path_to kept.file ≡ path_of r.files 0
+    → r.statement ≡ kept.statement → kept.formats.items ≡ r.formats → HasOperands words old new r entries bounds
+    → IsKernelOf (stored_statement r.statement plan) (stored_formats r.formats plan) kept.compiled.order kept.compiled.kernel
+    → IsStoredRun r.statement r.formats plan kept.compiled.kernel r.given entries bounds kept.result.shape kept.result.entries
     kept.result.tensor kept.result.turns
     → AreEntries kept.result.entries → IsNumbered r.statement → IsPrepared words r.task old new kept
-prepared words old new r kept entries bounds path_is statement_is formats_are operands is_kernel run are numbered =
+prepared words old new r kept entries bounds plan is_plan path_is statement_is formats_are operands is_kernel is_run are numbered =
+    let run = ran r plan kept.compiled.kernel entries bounds kept.result.shape kept.result.entries kept.result.tensor kept.result.turns
+    is_run in
     let named = well_named words r operands.accepted.asks in
     let small = subst (All (λ range. range ≤ greatest_position_count)) run.is_store.ranges_are run.is_store.is_store.small in
     let is_shape = subst IsShape (sym run.tensor_of.shape_is)
@@ -62,6 +102,8 @@ prepared words old new r kept entries bounds path_is statement_is formats_are op
         ranges_are = run.ranges_are;
       };
       computed = record {
+        plan = plan;
+        is_plan = is_plan;
         order = kept.compiled.order;
         kernel = kept.compiled.kernel;
         is_kernel = is_kernel;

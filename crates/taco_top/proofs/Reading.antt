@@ -16,8 +16,8 @@ use Rattle.operand_files.specs.declared.fault.OperandFault.TheVariants as operan
 use Rattle.kernel_code.specs.declared.syntax.Kernel.{Kernel}
 use Rattle.kernel_code.specs.declared.syntax.Turns.{Turns}
 use Rattle.tensor_storage.specs.Storages.{Storage}
+use Rattle.mode_planner.specs.declared.planned.Planned.{Planned}
 use Rattle.operand_packing.specs.Runnable.{IsRunnable}
-use Rattle.kernel_runs.specs.Runs.{IsRun}
 use Rattle.operand_packing.proofs.NamesRead.{text_read, text_keeps_orders}
 use Rattle.operand_packing.proofs.Runnable.{read_is_runnable}
 use Rattle.refusals.specs.declared.fault.Fault.{Fault}
@@ -26,7 +26,7 @@ use Rattle.taco_top.specs.Asked.{Names, needs_files}
 use Rattle.taco_top.specs.Run.{Request}
 use Rattle.taco_top.specs.Written.{means, IsAccepted, HasOperands, asked_orders, asked_paths}
 use Rattle.taco_top.specs.Refused.{Stops}
-use Rattle.taco_top.specs.Prepared.{IsUncomputed}
+use Rattle.taco_top.specs.Prepared.{IsStoredRun, IsUncomputed}
 use Rattle.taco_top.proofs.Accepted.{well_named}
 use Rattle.taco_top.proofs.Paths.{paths_readable}
 
@@ -128,12 +128,12 @@ module _ (r : Request) (formats : List (List FormatLevel)) (formats_are : format
       as_handed (λ fs gs. IsRunnable r.statement fs gs entries bounds)
       (request_runnable words old new r entries bounds operands numbered)
 
-  pub run_of_request : (kernel : Kernel) (shape : List ℕ) (result : Entries) (tensor : Storage) (turns : Turns)
-      → IsRun ring r.statement formats kernel given entries bounds shape result tensor turns
-      → IsRun ring r.statement r.formats kernel r.given entries bounds shape result tensor turns
-  run_of_request kernel shape result tensor turns run =
-      as_asked (λ fs gs. IsRun ring r.statement fs kernel gs entries bounds shape result tensor turns) run
+  pub run_of_request : (plan : Option Planned) (kernel : Kernel) (shape : List ℕ) (result : Entries) (tensor : Storage) (turns : Turns)
+      → IsStoredRun r.statement formats plan kernel given entries bounds shape result tensor turns
+      → IsStoredRun r.statement r.formats plan kernel r.given entries bounds shape result tensor turns
+  run_of_request plan kernel shape result tensor turns run =
+      as_asked (λ fs gs. IsStoredRun r.statement fs plan kernel gs entries bounds shape result tensor turns) run
 
-  pub uncomputed_of_request : (why : Fault) → IsUncomputed r.statement formats given entries bounds why
-      → IsUncomputed r.statement r.formats r.given entries bounds why
-  uncomputed_of_request why is = as_asked (λ fs gs. IsUncomputed r.statement fs gs entries bounds why) is
+  pub uncomputed_of_request : (plan : Option Planned) (why : Fault) → IsUncomputed r.statement formats plan given entries bounds why
+      → IsUncomputed r.statement r.formats plan r.given entries bounds why
+  uncomputed_of_request plan why is = as_asked (λ fs gs. IsUncomputed r.statement fs plan gs entries bounds why) is

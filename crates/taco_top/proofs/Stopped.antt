@@ -1,5 +1,5 @@
 -- How a command ends, from how its parts do.
-use Rattle.std.specs.Prelude.{◌≡◌, ℕ, ◌≤◌, ◌⊎◌, List, ◌++◌, Option, Some, Vec, Result, Ok, Err, OnOk, IfErr, refl}
+use Rattle.std.specs.Prelude.{◌≡◌, ℕ, ◌≤◌, ◌⊎◌, true, List, ◌++◌, Option, Some, Vec, Result, Ok, Err, OnOk, IfErr, refl}
 use Rattle.std.proofs.Common.{◌∙◌, sym, ap, subst, inl, inr, arith}
 use Rattle.std.proofs.lemmas.List.{append-nil}
 use Rattle.std.specs.declared.alloc.Global.{Global}
@@ -22,22 +22,24 @@ use Rattle.result_files.proofs.ResultTexts.{same_text}
 use Rattle.refusals.specs.declared.fault.NamedFault.TheVariants as named
 use Rattle.refusals.specs.declared.fault.Fault.{Fault}
 use Rattle.refusals.specs.declared.fault.Fault.TheVariants as fault
-use Rattle.taco_top.specs.Asked.{IsRefusedByWords}
+use Rattle.taco_top.specs.Asked.{IsRefusedByWords, writes_result}
 use Rattle.taco_top.specs.Written.{HasOperands, result_ranges, result_value, IsAccepted}
 use Rattle.mode_planner.specs.Plans.{IsPlan}
+use Rattle.mode_planner.specs.declared.planned.Planned.{Planned}
 use Rattle.mode_planner.specs.declared.plans.Repack.{Repack}
 use Rattle.reports.specs.Plans.{plan_text}
 use Rattle.taco_top.specs.Told.{IsKernelOf, IsWrittenIn, Tells}
 use Rattle.taco_top.specs.Refused.{OpensOperands, Stops, IsUnwritten, IsUnprinted, Refuses}
 use Rattle.operand_packing.specs.Runnable.{told_ranges}
-use Rattle.kernel_runs.specs.Runs.{IsLargeLevel}
 use Rattle.command_line.specs.CommandLine.{Workload as WorkloadLine, command_line_of}
+use Rattle.command_line.specs.declared.Task.{Task}
 use Rattle.command_line.specs.declared.Task.TheVariants as task
 use Rattle.reports.specs.declared.workload.Workload.{Workload}
 use Rattle.generated_runs.specs.Workloads.{IsWorkload}
 use Rattle.reports.specs.Reports.{workload_line, kernel_report, run_report}
 use Rattle.taco_top.specs.Ends.{Cause, PutsLine}
 use Rattle.taco_top.specs.Run.{Request, AsksFor}
+use Rattle.taco_top.specs.Stored.{IsRunBy}
 use Rattle.taco_top.specs.declared.computing.Computed.{Computed}
 use Rattle.taco_top.specs.declared.ending.Done.{Done}
 use Rattle.taco_top.specs.Prepared.{IsPrepared, IsUncomputed, end_of, end_of_printing}
@@ -74,9 +76,9 @@ opened words old new r entries bounds operands = record {
 }
 
 -- what the words ask for isn't computed over its operands
-module _ (words : List (List ℕ)) (old new : FolderState) (r : Request) (entries : List Entries) (bounds : List (Vec Bound Global))
-    (operands : HasOperands words old new r entries bounds) where
-  pub stops_uncomputed : (why : Fault) → IsUncomputed r.statement r.formats r.given entries bounds why → Stops words old new why
+module _ (words : List (List ℕ)) (old new : FolderState) (r : Request) (plan : Option Planned) (is_plan : IsRunBy r plan)
+    (entries : List Entries) (bounds : List (Vec Bound Global)) (operands : HasOperands words old new r entries bounds) where
+  pub stops_uncomputed : (why : Fault) → IsUncomputed r.statement r.formats plan r.given entries bounds why → Stops words old new why
   stops_uncomputed (fault.Named t (named.Range why)) (same, is) =
       record {
         request = r;
@@ -89,14 +91,24 @@ module _ (words : List (List ℕ)) (old new : FolderState) (r : Request) (entrie
   stops_uncomputed (fault.Named t (named.SizeLimit large)) (same, is) =
       record {
         request = r;
+        plan = plan;
+        is_plan = is_plan;
         statement_is = sym same;
         entries = entries;
         bounds = bounds;
         operands = operands;
-        is = subst (λ u. IsLargeLevel ring u r.formats r.given entries bounds large) (sym same) is;
+        is = is;
       }
   stops_uncomputed (fault.WorkspaceLimit count) needs =
-      record { request = r; entries = entries; bounds = bounds; operands = operands; needs = needs }
+      record {
+        request = r;
+        plan = plan;
+        is_plan = is_plan;
+        entries = entries;
+        bounds = bounds;
+        operands = operands;
+        needs = needs;
+      }
   stops_uncomputed (fault.Named t (named.Name why)) is = absurd is
   stops_uncomputed (fault.Named t (named.Binding why)) is = absurd is
   stops_uncomputed (fault.Named t (named.Cycle cycle)) is = absurd is
@@ -135,8 +147,8 @@ reads_nothing files = record {
 }
 
 -- ---- the writing of a result that was computed
-module _ (words : List (List ℕ)) (files between files' : FolderState) (out out' : SinkState) (kept : Computed)
-    (reads : OnlyReads files between) (is : IsPrepared words task.Run files between kept) where
+module _ (words : List (List ℕ)) (task : Task) (writes_task : writes_result task ≡ true) (files between files' : FolderState)
+    (out out' : SinkState) (kept : Computed) (reads : OnlyReads files between) (is : IsPrepared words task files between kept) where
   path : Option (List ℕ)
   path = path_to kept.file
 
@@ -160,7 +172,7 @@ module _ (words : List (List ℕ)) (files between files' : FolderState) (out out
       between = between;
       only_reads = reads;
       values = is.values;
-      task_is = is.task_is;
+      task_writes = ap writes_result is.task_is ∙ writes_task;
       writes = record {
         text = writes.text;
         text_is = subst (λ p. IsResultText ring p (result_ranges is.values.request.statement is.values.ranges)
@@ -182,7 +194,7 @@ module _ (words : List (List ℕ)) (files between files' : FolderState) (out out
     only_reads = reads;
     values = is.values;
     computed = is.computed;
-    task_is = is.task_is;
+    task_writes = ap writes_result is.task_is ∙ writes_task;
     path_is = is.path_is;
     refuses = record {
       text = refuses.text;
@@ -211,7 +223,8 @@ module _ (words : List (List ℕ)) (files files' : FolderState) (out out' : Sink
 
 -- the text of a kernel
 pub tells_kernel : (words : List (List ℕ)) (files : FolderState) (r : Request) (order : List ℕ) (kernel : Kernel) → IsAccepted words r
-    → r.task ≡ task.Kernel → IsKernelOf r order kernel → (told : List ℕ) (formats : List (List FormatLevel)) → told ≡ order
+    → r.task ≡ task.Kernel → IsKernelOf r.statement r.formats order kernel
+    → (told : List ℕ) (formats : List (List FormatLevel)) → told ≡ order
     → formats ≡ r.formats → Tells words files files (kernel_report r.statement told formats kernel)
 tells_kernel words files r order kernel accepted task_is is_kernel told formats told_is formats_are = inl (record {
   request = r;

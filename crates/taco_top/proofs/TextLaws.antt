@@ -20,7 +20,8 @@ use Rattle.refusals.specs.Lines.{status_of}
 use Rattle.refusals.specs.declared.fault.NamedFault.TheVariants as named
 use Rattle.refusals.specs.declared.fault.Fault.{Fault}
 use Rattle.refusals.specs.declared.fault.Fault.TheVariants as fault
-use Rattle.taco_top.specs.Asked.{IsRefusedByWords, IsWant, needs_files, needs_kernel}
+use Rattle.mode_planner.specs.Planned.{HaveOrder}
+use Rattle.taco_top.specs.Asked.{IsRefusedByWords, IsWant, needs_files, needs_order, writes_result}
 use Rattle.taco_top.proofs.OneRequest as request
 use Rattle.taco_top.specs.Run.{Request, AsksFor}
 use Rattle.taco_top.specs.Written.{IsAccepted}
@@ -30,20 +31,20 @@ use Rattle.taco_top.proofs.WholeLaws.{one_request}
 
 -- ---- a kernel or a plan: what is asked for reads no file, and no cycle refuses it
 module _ (words : List (List ℕ)) (files files' : FolderState) (out out' : SinkState) (r : Request) (asks : AsksFor words r)
-    (no_files : needs_files r.task ≡ true → ⊥) (no_run : r.task ≡ task.Run → ⊥)
+    (no_files : needs_files r.task ≡ true → ⊥) (no_writing : writes_result r.task ≡ true → ⊥)
     (no_cycle : (s : Statement) (cycle : List ℕ) → HasCycleFault words s cycle → ⊥) (no_out : Rose out.faults out'.faults → ⊥) where
   -- nothing else is asked for
   reads_none : (q : Request) → AsksFor words q → needs_files q.task ≡ true → ⊥
   reads_none q asks' reads = no_files (sym (ap (λ x. needs_files x.task) (one_request words q r asks' asks)) ∙ reads)
 
-  runs_none : (q : Request) → AsksFor words q → q.task ≡ task.Run → ⊥
-  runs_none q asks' runs = no_run (sym (ap (λ x. x.task) (one_request words q r asks' asks)) ∙ runs)
+  writes_none : (q : Request) → AsksFor words q → writes_result q.task ≡ true → ⊥
+  writes_none q asks' writes = no_writing (sym (ap (λ x. writes_result x.task) (one_request words q r asks' asks)) ∙ writes)
 
   never_by_words : (why : Fault) → IsRefusedByWords words why → IsWant why
   never_by_words why is = request.never_both words r.task r.statement r.formats r.files r.given why asks is
 
   not_failed : (path : Option (List ℕ)) → FailsToWrite words files files' out out' path → ⊥
-  not_failed path (inl is) = runs_none is.values.request is.values.operands.accepted.asks is.task_is
+  not_failed path (inl is) = writes_none is.values.request is.values.operands.accepted.asks is.task_writes
   not_failed path (inr is) = no_out is.1.puts.cause.0.rose
 
   text_refused : (why : Fault) → Refuses words files files' out out' why → why ≡ fault.Memory
@@ -77,18 +78,21 @@ module _ (words : List (List ℕ)) (r : Request) (accepted : IsAccepted words r)
       never : needs_files task.Kernel ≡ true → ⊥
       never e = cc
 
-  kernel_is_no_run : r.task ≡ task.Run → ⊥
-  kernel_is_no_run runs = never (sym task_is ∙ runs)
+  kernel_writes_none : writes_result r.task ≡ true → ⊥
+  kernel_writes_none writes = never (sym (ap writes_result task_is) ∙ writes)
     where
-      never : task.Kernel ≡ task.Run → ⊥
+      never : writes_result task.Kernel ≡ true → ⊥
       never e = cc
 
   kernel_has_no_cycle : (s : Statement) (cycle : List ℕ) → HasCycleFault words s cycle → ⊥
   kernel_has_no_cycle s cycle is =
-      no_order (length r.statement.vars) (statement_edges r.statement r.formats) cycle accepted.order
+      no_order (length r.statement.vars) (statement_edges r.statement r.formats) cycle order.loops
       (subst (λ q. HasCycle q.statement q.formats cycle) (one_request words is.request r is.asks accepted.asks)
       (subst (λ u. HasCycle u is.request.formats cycle) (sym is.statement_is) is.is))
-      accepted.is_order
+      order.is
+    where
+      order : HaveOrder r.statement r.formats
+      order = accepted.ordered (ap needs_order task_is)
 
 -- a plan
 module _ (words : List (List ℕ)) (r : Request) (asks : AsksFor words r) (task_is : r.task ≡ task.Plan) where
@@ -98,17 +102,17 @@ module _ (words : List (List ℕ)) (r : Request) (asks : AsksFor words r) (task_
       never : needs_files task.Plan ≡ true → ⊥
       never e = cc
 
-  plan_is_no_run : r.task ≡ task.Run → ⊥
-  plan_is_no_run runs = never (sym task_is ∙ runs)
+  plan_writes_none : writes_result r.task ≡ true → ⊥
+  plan_writes_none writes = never (sym (ap writes_result task_is) ∙ writes)
     where
-      never : task.Plan ≡ task.Run → ⊥
+      never : writes_result task.Plan ≡ true → ⊥
       never e = cc
 
   plan_has_no_cycle : (s : Statement) (cycle : List ℕ) → HasCycleFault words s cycle → ⊥
   plan_has_no_cycle s cycle is =
-      never (sym (ap (λ x. needs_kernel x.task) (one_request words is.request r is.asks asks) ∙ ap needs_kernel task_is) ∙ is.needs)
+      never (sym (ap (λ x. needs_order x.task) (one_request words is.request r is.asks asks) ∙ ap needs_order task_is) ∙ is.needs)
     where
-      never : needs_kernel task.Plan ≡ true → ⊥
+      never : needs_order task.Plan ≡ true → ⊥
       never e = cc
 
 -- ---- a workload
@@ -169,7 +173,7 @@ kernel_ends words request files files' out out' err err' status accepted task_is
     let ws = map string_bytes words in
     subst (λ n. (n ≡ 0) ⊎ (n ≡ 5)) (sym ends.status_is)
     (text_ends_well ws files files' out out' request accepted.asks (kernel_reads_none ws request accepted task_is)
-    (kernel_is_no_run ws request accepted task_is) (kernel_has_no_cycle ws request accepted task_is) no_out ends.ended ends.cause)
+    (kernel_writes_none ws request accepted task_is) (kernel_has_no_cycle ws request accepted task_is) no_out ends.ended ends.cause)
 
 pub plan_ends : (words : List (String Global)) (request : Request) (files files' : FolderState) (out out' err err' : SinkState)
     (status : ℕ) → AsksFor (map string_bytes words) request → request.task ≡ task.Plan → (Rose out.faults out'.faults → ⊥)
@@ -178,7 +182,7 @@ plan_ends words request files files' out out' err err' status asks task_is no_ou
     let ws = map string_bytes words in
     subst (λ n. (n ≡ 0) ⊎ (n ≡ 5)) (sym ends.status_is)
     (text_ends_well ws files files' out out' request asks (plan_reads_none ws request asks task_is)
-    (plan_is_no_run ws request asks task_is) (plan_has_no_cycle ws request asks task_is) no_out ends.ended ends.cause)
+    (plan_writes_none ws request asks task_is) (plan_has_no_cycle ws request asks task_is) no_out ends.ended ends.cause)
 
 pub workload_ends : (words : List (String Global)) (size : ℕ) (files files' : FolderState) (out out' err err' : SinkState)
     (status : ℕ) → command_line_of (map string_bytes words) ≡ Some (WorkloadLine size) → (Rose out.faults out'.faults → ⊥)

@@ -25,11 +25,13 @@ use Rattle.iteration_graph.specs.Edges.{statement_edges}
 use Rattle.iteration_graph.proofs.OrderLaws.{no_order}
 use Rattle.taco_compiler.specs.Compiled.{HasCycle}
 use Rattle.operand_packing.specs.Runnable.{told_ranges}
-use Rattle.kernel_runs.specs.Runs.{MayRefuseRun, IsLargeLevel, NeedsPairs, AllFit, IsOfSizes}
+use Rattle.mode_planner.specs.Planned.{HaveOrder}
+use Rattle.mode_planner.specs.declared.planned.Planned.{Planned}
+use Rattle.kernel_runs.specs.Runs.{AllFit, IsOfSizes}
 use Rattle.operand_packing.specs.declared.large_level.LargeLevel.{LargeLevel}
 use Rattle.kernel_runs.specs.declared.fault.RunFault.{RunFault}
 use Rattle.kernel_runs.specs.declared.fault.RunFault.TheVariants.{SizeLimit, Workspace}
-use Rattle.kernel_runs.proofs.Fits.{none_refused}
+use Rattle.kernel_runs.proofs.Fits.{none_refused, planned_none_refused}
 use Rattle.result_files.specs.ResultText.{IsResultText}
 use Rattle.result_files.specs.Writes.{PutsPart}
 use Rattle.result_files.specs.declared.refusal.WriteRefusal.TheVariants as write
@@ -38,9 +40,11 @@ use Rattle.refusals.specs.declared.fault.NamedFault.TheVariants as named
 use Rattle.refusals.specs.declared.fault.Fault.{Fault}
 use Rattle.refusals.specs.declared.fault.Fault.TheVariants as fault
 use Rattle.refusals.specs.Lines.{status_of}
-use Rattle.taco_top.specs.Asked.{IsRefusedByWords, IsWant}
+use Rattle.taco_top.specs.Asked.{IsRefusedByWords, IsWant, needs_order}
 use Rattle.taco_top.proofs.OneRequest as request
 use Rattle.taco_top.specs.Run.{Request, AsksFor, operand_path, path_of}
+use Rattle.taco_top.specs.Stored.{IsRunBy, IsLargeStoredLevel, NeedsStoredPairs, stored_statement, stored_formats, stored_entries}
+use Rattle.taco_top.specs.Prepared.{MayRefuseStored}
 use Rattle.taco_top.specs.Written.{means, asked_orders, asked_paths, HasOperands, HasResult, result_ranges, result_value, IsWritten}
 use Rattle.taco_top.specs.Refused.{StopsReading, HasCycleFault, HasRangeFault, HasLargeLevel}
 use Rattle.taco_top.specs.Refused.{HasManyPairs, Stops, IsUnwritten, FailsToWrite}
@@ -118,19 +122,40 @@ module _ (words : List (List ℕ)) (files : FolderState) (whole : IsWhole words 
     told_there = ap (ranges_of whole.request.statement (given_at whole.request.given)) (bounds_same bounds ∙ ap bound_told bounds_are)
         ∙ whole.ranges_are
 
-    -- no size passes a limit
-    no_size_fault : (why : RunFault)
-        → MayRefuseRun ring whole.request.statement whole.request.formats whole.request.given entries bounds why → IsOfSizes why → ⊥
-    no_size_fault why may of_sizes =
+    -- no size passes a limit, as the operands are stored
+    fits : (plan : Option Planned) → IsRunBy whole.request plan
+        → AllFit ring (stored_statement whole.request.statement plan) (stored_formats whole.request.formats plan) whole.ranges
+        (stored_entries entries plan)
+    fits plan is_plan =
+        subst (λ es. AllFit ring (stored_statement whole.request.statement plan) (stored_formats whole.request.formats plan) whole.ranges
+        (stored_entries es plan)) (sym entries_are) (whole.fits plan is_plan)
+
+    no_size_fault : (plan : Option Planned) (why : RunFault) → IsRunBy whole.request plan
+        → MayRefuseStored whole.request.statement whole.request.formats plan whole.request.given entries bounds why → IsOfSizes why → ⊥
+    no_size_fault None why is_plan may of_sizes =
         none_refused ring whole.request.statement whole.request.formats whole.request.given entries bounds whole.ranges why
-        told_there
-        (subst (λ es. AllFit ring whole.request.statement whole.request.formats whole.ranges es) (sym entries_are) whole.fits)
-        may of_sizes
+        told_there (fits None is_plan) may of_sizes
+    no_size_fault (Some plan) why is_plan may of_sizes =
+        planned_none_refused ring whole.request.statement plan whole.request.given entries bounds whole.ranges why
+        told_there (fits (Some plan) is_plan) may of_sizes
 
   operands_at : (new : FolderState) (r : Request) (entries : List Entries) (bounds : List (Vec Bound Global))
       → HasOperands words files new r entries bounds → HasOperands words files new whole.request entries bounds
   operands_at new r entries bounds operands =
       subst (λ q. HasOperands words files new q entries bounds) (request_is r operands.accepted.asks) operands
+
+  -- what is too large, as the run's refusal
+  large_stored : (plan : Option Planned) (entries : List Entries) (bounds : List (Vec Bound Global)) (large : LargeLevel)
+      → IsLargeStoredLevel whole.request.statement whole.request.formats plan whole.request.given entries bounds large
+      → MayRefuseStored whole.request.statement whole.request.formats plan whole.request.given entries bounds (SizeLimit large)
+  large_stored None entries bounds large is = is
+  large_stored (Some plan) entries bounds large is = is
+
+  pairs_stored : (plan : Option Planned) (entries : List Entries) (bounds : List (Vec Bound Global)) (count : ℕ)
+      → NeedsStoredPairs whole.request.statement whole.request.formats plan whole.request.given entries bounds count
+      → MayRefuseStored whole.request.statement whole.request.formats plan whole.request.given entries bounds (Workspace count)
+  pairs_stored None entries bounds count is = is
+  pairs_stored (Some plan) entries bounds count is = is
 
   -- ---- no stage has a cause
   module _ (new : FolderState) (no_fault : Rose files.read_faults new.read_faults → ⊥) where
@@ -149,27 +174,33 @@ module _ (words : List (List ℕ)) (files : FolderState) (whole : IsWhole words 
 
     no_level_fault : (s : Statement) (large : LargeLevel) → HasLargeLevel words files new s large → ⊥
     no_level_fault s large is =
-        no_size_fault new is.entries is.bounds (operands_at new is.request is.entries is.bounds is.operands) (SizeLimit large)
-        (subst (λ q. IsLargeLevel ring q.statement q.formats q.given is.entries is.bounds large)
-        (request_is is.request is.operands.accepted.asks)
-        (subst (λ u. IsLargeLevel ring u is.request.formats is.request.given is.entries is.bounds large) (sym is.statement_is) is.is))
+        no_size_fault new is.entries is.bounds (operands_at new is.request is.entries is.bounds is.operands) is.plan (SizeLimit large)
+        (subst (λ q. IsRunBy q is.plan) (request_is is.request is.operands.accepted.asks) is.is_plan)
+        (large_stored is.plan is.entries is.bounds large
+        (subst (λ q. IsLargeStoredLevel q.statement q.formats is.plan q.given is.entries is.bounds large)
+        (request_is is.request is.operands.accepted.asks) is.is))
         tt
 
     no_pairs_fault : (count : ℕ) → HasManyPairs words files new count → ⊥
     no_pairs_fault count is =
-        no_size_fault new is.entries is.bounds (operands_at new is.request is.entries is.bounds is.operands) (Workspace count)
-        (subst (λ q. NeedsPairs ring q.statement q.formats q.given is.entries is.bounds count)
-        (request_is is.request is.operands.accepted.asks) is.needs)
+        no_size_fault new is.entries is.bounds (operands_at new is.request is.entries is.bounds is.operands) is.plan (Workspace count)
+        (subst (λ q. IsRunBy q is.plan) (request_is is.request is.operands.accepted.asks) is.is_plan)
+        (pairs_stored is.plan is.entries is.bounds count
+        (subst (λ q. NeedsStoredPairs q.statement q.formats is.plan q.given is.entries is.bounds count)
+        (request_is is.request is.operands.accepted.asks) is.needs))
         tt
 
     -- a graph with a loop order has no cycle
     no_cycle_fault : (s : Statement) (cycle : List ℕ) → HasCycleFault words s cycle → ⊥
     no_cycle_fault s cycle is =
         no_order (length whole.request.statement.vars) (statement_edges whole.request.statement whole.request.formats) cycle
-        whole.accepted.order
+        order.loops
         (subst (λ q. HasCycle q.statement q.formats cycle) (request_is is.request is.asks)
         (subst (λ u. HasCycle u is.request.formats cycle) (sym is.statement_is) is.is))
-        whole.accepted.is_order
+        order.is
+      where
+        order : HaveOrder whole.request.statement whole.request.formats
+        order = whole.accepted.ordered (sym (ap (λ q. needs_order q.task) (request_is is.request is.asks)) ∙ is.needs)
 
     never_stops : (why : Fault) → Stops words files new why → why ≡ fault.Memory
     never_stops fault.Usage is = absurd (never_by_words fault.Usage is.refused)

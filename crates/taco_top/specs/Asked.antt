@@ -31,14 +31,32 @@ abbrev pub needs_files : Task → Bool
 needs_files task.Run = true
 needs_files task.Kernel = false
 needs_files task.Report = true
+needs_files task.Auto = true
 needs_files task.Plan = false
 
--- a plan asks for no kernel, and so for no order of loops
+-- a plan asks for no kernel
 abbrev pub needs_kernel : Task → Bool
 needs_kernel task.Run = true
 needs_kernel task.Kernel = true
 needs_kernel task.Report = true
+needs_kernel task.Auto = true
 needs_kernel task.Plan = false
+
+-- a kernel for the formats as they are given needs an order of loops by them; one by a plan doesn't
+abbrev pub needs_order : Task → Bool
+needs_order task.Run = true
+needs_order task.Kernel = true
+needs_order task.Report = true
+needs_order task.Auto = false
+needs_order task.Plan = false
+
+-- these write the result, the others print a text
+abbrev pub writes_result : Task → Bool
+writes_result task.Run = true
+writes_result task.Kernel = false
+writes_result task.Report = false
+writes_result task.Auto = true
+writes_result task.Plan = false
 
 -- the command line asks this task for a statement of this text
 abbrev pub AsksOf : List (List ℕ) → Task → List ℕ → List (List ℕ) → Type 0

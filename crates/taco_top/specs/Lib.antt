@@ -4,6 +4,7 @@ pub mod Prepared
 pub mod Program
 pub mod Refused
 pub mod Run
+pub mod Stored
 pub mod Told
 pub mod Whole
 pub mod Written

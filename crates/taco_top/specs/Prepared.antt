@@ -1,5 +1,5 @@
 -- What is told between the parts of a command: how it ends, why a statement isn't computed, and what was computed.
-use Rattle.std.specs.Prelude.{◌≡◌, ℕ, List, Option, None, Result, Ok, Err, Vec, length, slice_index}
+use Rattle.std.specs.Prelude.{◌≡◌, ℕ, List, Option, None, Some, Result, Ok, Err, Vec, length, slice_index}
 use Rattle.std.specs.declared.alloc.Global.{Global}
 use Rattle.numbers.specs.Ring.{ring}
 use Rattle.outside.specs.Folder.{FolderState}
@@ -8,7 +8,13 @@ use Rattle.format_spec.specs.declared.format.FormatLevel.{FormatLevel}
 use Rattle.index_notation.specs.declared.syntax.Statement.{Statement}
 use Rattle.expr_terms.specs.declared.bound.Bound.{Bound}
 use Rattle.operand_packing.specs.Runnable.{told_ranges}
-use Rattle.kernel_runs.specs.Runs.{IsTensorOf, IsLargeLevel, NeedsPairs}
+use Rattle.kernel_code.specs.declared.syntax.Kernel.{Kernel}
+use Rattle.kernel_code.specs.declared.syntax.Turns.{Turns}
+use Rattle.tensor_storage.specs.Storages.{Storage}
+use Rattle.mode_planner.specs.declared.planned.Planned.{Planned}
+use Rattle.kernel_runs.specs.Planned.{IsPlannedRun, MayRefusePlanned}
+use Rattle.kernel_runs.specs.Runs.{IsTensorOf, IsRun, MayRefuseRun}
+use Rattle.kernel_runs.specs.declared.fault.RunFault.{RunFault}
 use Rattle.bindings.specs.Tables.{path_to}
 use Rattle.result_files.specs.EntriesText.{MayBeWritten}
 use Rattle.result_files.specs.ResultText.{asks_matrix}
@@ -23,6 +29,7 @@ use Rattle.taco_top.specs.Written.{HasResult}
 use Rattle.taco_top.specs.Told.{IsComputed}
 use Rattle.taco_top.specs.Ends.{Ending, Written, Printed, Refused}
 use Rattle.taco_top.specs.Run.{path_of}
+use Rattle.taco_top.specs.Stored.{stored_statement, IsLargeStoredLevel, NeedsStoredPairs}
 use Rattle.taco_top.specs.declared.computing.Computed.{Computed}
 use Rattle.taco_top.specs.declared.ending.Done.{Done}
 use Rattle.taco_top.specs.declared.ending.Done.TheVariants as done
@@ -39,14 +46,29 @@ end_of_printing (Ok done) = Printed
 end_of_printing (Err write.Fault) = Refused (fault.WriteFault None)
 end_of_printing (Err (write.Memory error)) = Refused fault.Memory
 
--- why a statement isn't computed over these operands
-abbrev pub IsUncomputed : Statement → List (List FormatLevel) → List (Option ℕ) → List Entries → List (Vec Bound Global) → Fault → Type 0
-IsUncomputed s formats given entries bounds (fault.Named t (named.Range why)) = (t ≡ s) × (told_ranges s given bounds ≡ Err why)
-IsUncomputed s formats given entries bounds (fault.Named t (named.SizeLimit large)) =
-    (t ≡ s) × IsLargeLevel ring s formats given entries bounds large
-IsUncomputed s formats given entries bounds (fault.WorkspaceLimit count) = NeedsPairs ring s formats given entries bounds count
-IsUncomputed s formats given entries bounds fault.Memory = Unit {0}
-IsUncomputed s formats given entries bounds _ = ⊥
+-- the kernel of a statement, as it is stored, runs over these operands
+abbrev pub IsStoredRun : Statement → List (List FormatLevel) → Option Planned → Kernel → List (Option ℕ) → List Entries
+    → List (Vec Bound Global) → List ℕ → Entries → Storage → Turns → Type 0
+IsStoredRun s formats None kernel given entries bounds shape result tensor turns =
+    IsRun ring s formats kernel given entries bounds shape result tensor turns
+IsStoredRun s formats (Some plan) kernel given entries bounds shape result tensor turns =
+    IsPlannedRun ring s plan kernel given entries bounds shape result tensor turns
+
+-- why it doesn't
+abbrev pub MayRefuseStored : Statement → List (List FormatLevel) → Option Planned → List (Option ℕ) → List Entries
+    → List (Vec Bound Global) → RunFault → Type 0
+MayRefuseStored s formats None given entries bounds why = MayRefuseRun ring s formats given entries bounds why
+MayRefuseStored s formats (Some plan) given entries bounds why = MayRefusePlanned ring s plan given entries bounds why
+
+-- and that as the program's fault
+abbrev pub IsUncomputed : Statement → List (List FormatLevel) → Option Planned → List (Option ℕ) → List Entries
+    → List (Vec Bound Global) → Fault → Type 0
+IsUncomputed s formats plan given entries bounds (fault.Named t (named.Range why)) = (t ≡ s) × (told_ranges s given bounds ≡ Err why)
+IsUncomputed s formats plan given entries bounds (fault.Named t (named.SizeLimit large)) =
+    (t ≡ stored_statement s plan) × IsLargeStoredLevel s formats plan given entries bounds large
+IsUncomputed s formats plan given entries bounds (fault.WorkspaceLimit count) = NeedsStoredPairs s formats plan given entries bounds count
+IsUncomputed s formats plan given entries bounds fault.Memory = Unit {0}
+IsUncomputed s formats plan given entries bounds _ = ⊥
 
 -- what the words ask for was computed, for this task, and this is kept of it
 pub record IsPrepared (words : List (List ℕ)) (task : Task) (old new : FolderState) (kept : Computed) : Type 0 where

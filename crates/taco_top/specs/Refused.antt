@@ -15,16 +15,16 @@ use Rattle.operand_files.specs.Reads.{OnlyReads, RefusedAtFault, RefusedAtLength
 use Rattle.taco_compiler.specs.Compiled.{HasCycle}
 use Rattle.operand_packing.specs.Runnable.{told_ranges}
 use Rattle.operand_packing.specs.declared.large_level.LargeLevel.{LargeLevel}
-use Rattle.kernel_runs.specs.Runs.{IsLargeLevel, NeedsPairs}
 use Rattle.result_files.specs.Writes.{PutsFront, RefusesResult}
 use Rattle.result_files.specs.declared.refusal.WriteRefusal.{WriteRefusal}
 use Rattle.result_files.specs.declared.refusal.WriteRefusal.TheVariants as write
 use Rattle.refusals.specs.declared.fault.NamedFault.TheVariants as named
 use Rattle.refusals.specs.declared.fault.Fault.{Fault}
 use Rattle.refusals.specs.declared.fault.Fault.TheVariants as fault
-use Rattle.command_line.specs.declared.Task.TheVariants as task
-use Rattle.taco_top.specs.Asked.{IsRefusedByWords, needs_files, needs_kernel}
+use Rattle.mode_planner.specs.declared.planned.Planned.{Planned}
+use Rattle.taco_top.specs.Asked.{IsRefusedByWords, needs_files, needs_order, writes_result}
 use Rattle.taco_top.specs.Run.{Request, AsksFor, path_of}
+use Rattle.taco_top.specs.Stored.{IsRunBy, stored_statement, IsLargeStoredLevel, NeedsStoredPairs}
 use Rattle.taco_top.specs.Written.{means, IsAccepted, asked_orders, asked_paths, HasOperands, HasResult, result_ranges, result_value}
 use Rattle.taco_top.specs.Told.{IsComputed, Tells}
 
@@ -36,12 +36,12 @@ pub record OpensOperands (words : List (List ℕ)) (old new : FolderState) : Typ
   pub opens : OpensFirst old new (asked_paths request)
   pub no_fault : NoReadFails old new
 
--- a kernel is asked for, and the storage orders of the tensors have this cycle
+-- an order of loops is needed, and the storage orders of the tensors have this cycle
 pub record HasCycleFault (words : List (List ℕ)) (s : Statement) (cycle : List ℕ) : Type 0 where
   pub request : Request
   pub statement_is : request.statement ≡ s
   pub asks : AsksFor words request
-  pub needs : needs_kernel request.task ≡ true
+  pub needs : needs_order request.task ≡ true
   pub is : HasCycle s request.formats cycle
 
 -- why the operands of what the words ask for aren't read
@@ -60,22 +60,26 @@ pub record HasRangeFault (words : List (List ℕ)) (old new : FolderState) (s : 
   pub operands : HasOperands words old new request entries bounds
   pub is : told_ranges s request.given bounds ≡ Err why
 
--- this level has too many positions
+-- this level of a tensor of the statement that is run has too many positions
 pub record HasLargeLevel (words : List (List ℕ)) (old new : FolderState) (s : Statement) (large : LargeLevel) : Type 0 where
   pub request : Request
-  pub statement_is : request.statement ≡ s
+  pub plan : Option Planned
+  pub is_plan : IsRunBy request plan
+  pub statement_is : stored_statement request.statement plan ≡ s
   pub entries : List Entries
   pub bounds : List (Vec Bound Global)
   pub operands : HasOperands words old new request entries bounds
-  pub is : IsLargeLevel ring s request.formats request.given entries bounds large
+  pub is : IsLargeStoredLevel request.statement request.formats plan request.given entries bounds large
 
 -- the result's workspace needs too many pairs
 pub record HasManyPairs (words : List (List ℕ)) (old new : FolderState) (count : ℕ) : Type 0 where
   pub request : Request
+  pub plan : Option Planned
+  pub is_plan : IsRunBy request plan
   pub entries : List Entries
   pub bounds : List (Vec Bound Global)
   pub operands : HasOperands words old new request entries bounds
-  pub needs : NeedsPairs ring request.statement request.formats request.given entries bounds count
+  pub needs : NeedsStoredPairs request.statement request.formats plan request.given entries bounds count
 
 -- no file was opened, and the words are refused so
 pub record RefusesWords (words : List (List ℕ)) (old new : FolderState) (why : Fault) : Type 0 where
@@ -103,7 +107,7 @@ pub record IsUnwritten (words : List (List ℕ)) (files files' : FolderState) (o
   pub only_reads : OnlyReads files between
   pub values : HasResult words files between
   pub computed : IsComputed words files between values
-  pub task_is : values.request.task ≡ task.Run
+  pub task_writes : writes_result values.request.task ≡ true
   pub path_is : path_of values.request.files 0 ≡ path
   pub refuses : RefusesResult ring path (result_ranges values.request.statement values.ranges)
       (result_value values.request.statement values.entries values.ranges) between files' out out' why

@@ -1,6 +1,6 @@
 -- What a kernel's turns and storage say. Second of the three parts of what a command ends with (`Ends.antt`): which kernel computes a
 -- statement's values, how its run ends, and the texts that tell of kernels and runs.
-use Rattle.std.specs.Prelude.{◌≡◌, ℕ, ◌≤◌, ◌⊎◌, List, Some}
+use Rattle.std.specs.Prelude.{◌≡◌, ℕ, ◌≤◌, ◌⊎◌, List, Option, Some}
 use Rattle.numbers.specs.Ring.{ring}
 use Rattle.outside.specs.Folder.{FolderState}
 use Rattle.outside.specs.Sink.{SinkState}
@@ -8,6 +8,8 @@ use Rattle.operand_files.specs.Reads.{OnlyReads}
 use Rattle.kernel_code.specs.declared.syntax.Kernel.{Kernel}
 use Rattle.kernel_code.specs.declared.syntax.Turns.{Turns}
 use Rattle.tensor_storage.specs.Storages.{Storage}
+use Rattle.format_spec.specs.declared.format.FormatLevel.{FormatLevel}
+use Rattle.index_notation.specs.declared.syntax.Statement.{Statement}
 use Rattle.kernel_correctness.specs.Stores.{Store}
 use Rattle.taco_compiler.specs.Compiled.{IsOrder, IsCompiled}
 use Rattle.kernel_runs.specs.Runs.{IsStoreFor, RunsKernel}
@@ -17,30 +19,35 @@ use Rattle.command_line.specs.declared.Task.TheVariants as task
 use Rattle.reports.specs.declared.workload.Workload.{Workload}
 use Rattle.generated_runs.specs.Workloads.{IsWorkload}
 use Rattle.mode_planner.specs.Plans.{IsPlan}
+use Rattle.mode_planner.specs.declared.planned.Planned.{Planned}
 use Rattle.mode_planner.specs.declared.plans.Repack.{Repack}
 use Rattle.reports.specs.Plans.{plan_text}
 use Rattle.reports.specs.Reports.{workload_line, kernel_report, run_report}
 use Rattle.taco_top.specs.Run.{Request, AsksFor}
+use Rattle.taco_top.specs.Stored.{IsRunBy, stored_statement, stored_formats, stored_entries}
 use Rattle.taco_top.specs.Written.{IsAccepted, HasResult, IsWritten}
 
 -- a kernel that is right for the statement and its formats, in their loop order
-pub record IsKernelOf (r : Request) (order : List ℕ) (kernel : Kernel) : Type 0 where
-  pub is_order : IsOrder r.statement r.formats order
-  pub compiled : IsCompiled ring r.statement r.formats order kernel
+pub record IsKernelOf (s : Statement) (formats : List (List FormatLevel)) (order : List ℕ) (kernel : Kernel) : Type 0 where
+  pub is_order : IsOrder s formats order
+  pub compiled : IsCompiled ring s formats order kernel
 
--- a kernel that is right for the statement runs on the operands, packed in their formats. It leaves the storage that stands for the
--- statement's values, named by its support
+-- a kernel that is right for the statement, as it is stored, runs on the operands, packed in their formats. It leaves the storage that
+-- stands for the statement's values, named by its support
 pub record IsComputed (words : List (List ℕ)) (old new : FolderState) (values : HasResult words old new) : Type 0 where
+  pub plan : Option Planned
+  pub is_plan : IsRunBy values.request plan
   pub order : List ℕ
   pub kernel : Kernel
-  pub is_kernel : IsKernelOf values.request order kernel
+  pub is_kernel : IsKernelOf (stored_statement values.request.statement plan) (stored_formats values.request.formats plan) order kernel
   pub store : Store
-  pub is_store : IsStoreFor ring values.request.statement values.request.formats values.ranges values.entries store
+  pub is_store : IsStoreFor ring (stored_statement values.request.statement plan) (stored_formats values.request.formats plan)
+      values.ranges (stored_entries values.entries plan) store
   pub tensor : Storage
   pub turns : Turns
-  pub runs : RunsKernel ring values.request.statement kernel store tensor turns
+  pub runs : RunsKernel ring (stored_statement values.request.statement plan) kernel store tensor turns
 
--- the result of `run` was written, of a kernel's run of so many turns
+-- the result of `run` or `auto` was written, of a kernel's run of so many turns
 pub record IsWrittenIn (words : List (List ℕ)) (files files' : FolderState) (out out' : SinkState) (turns : Turns) : Type 0 where
   pub written : IsWritten words files files' out out'
   pub computed : IsComputed words files written.between written.values
@@ -53,7 +60,7 @@ pub record TellsKernel (words : List (List ℕ)) (old new : FolderState) (text :
   pub task_is : request.task ≡ task.Kernel
   pub order : List ℕ
   pub kernel : Kernel
-  pub is_kernel : IsKernelOf request order kernel
+  pub is_kernel : IsKernelOf request.statement request.formats order kernel
   pub folder_is : new ≡ old
   pub text_is : text ≡ kernel_report request.statement order request.formats kernel
 

@@ -1,4 +1,4 @@
--- Where all input is whole: then `run` and `report` end with what they are to give, unless a fault occurs or memory is wanted.
+-- Where all input is whole: then `run`, `auto` and `report` end with what they are to give, unless a fault occurs or memory is wanted.
 use Rattle.std.specs.Prelude.{◌≡◌, ℕ, zero, suc, List, [], map, Option, Result, Ok, true, slice_get, unwrap_or}
 use Rattle.numbers.specs.Ring.{ring}
 use Rattle.outside.specs.Told.{Told}
@@ -9,10 +9,12 @@ use Rattle.expr_terms.specs.declared.bound.Bound.{Bound}
 use Rattle.expr_terms.specs.declared.range_fault.RangeFault.{RangeFault}
 use Rattle.operand_files.specs.Decoded.{Operand}
 use Rattle.operand_files.specs.Laws.{AreTold, told_operands}
+use Rattle.mode_planner.specs.declared.planned.Planned.{Planned}
 use Rattle.kernel_runs.specs.Runs.{AllFit}
 use Rattle.taco_top.specs.Asked.{needs_files}
 use Rattle.taco_top.specs.Written.{IsAccepted, asked_orders, asked_paths, means}
 use Rattle.taco_top.specs.Run.{Request}
+use Rattle.taco_top.specs.Stored.{IsRunBy, stored_statement, stored_formats, stored_entries}
 
 -- what the modes of a tensor tell, where tensor 1, tensor 2 and so on stand in a row; tensor 0, the result, tells nothing
 abbrev pub modes_told : List (List Bound) → ℕ → List Bound
@@ -26,8 +28,9 @@ bound_told bounds tensor mode = bound_or_none (slice_get (modes_told bounds tens
 abbrev pub ranges_told : Statement → List (Option ℕ) → List Operand → Result (List ℕ) RangeFault
 ranges_told s given operands = ranges_of s (given_at given) (bound_told (map (λ operand. operand.bounds) operands))
 
--- the words of `run` or `report` pass, and there is a loop order; every operand's file is there and stands for entries; the ranges
--- agree; no level of an operand or of the result's storage has more positions than may be; and no workspace needs more pairs
+-- the words of `run`, `auto` or `report` pass, with a loop order where the task needs one; every operand's file is there and stands for
+-- entries; the ranges agree; no level of an operand or of the result has more positions than may be, as they are stored; and no workspace
+-- needs more pairs
 pub record IsWhole (words : List (List ℕ)) (holds : List ℕ → Told) : Type 0 where
   pub request : Request
   pub operands : List Operand
@@ -37,4 +40,6 @@ pub record IsWhole (words : List (List ℕ)) (holds : List ℕ → Told) : Type 
   pub told : AreTold holds (asked_paths request)
   pub operands_are : told_operands means holds (asked_orders request) (asked_paths request) ≡ Ok operands
   pub ranges_are : ranges_told request.statement request.given operands ≡ Ok ranges
-  pub fits : AllFit ring request.statement request.formats ranges (map (λ operand. operand.entries) operands)
+  pub fits : (plan : Option Planned) → IsRunBy request plan
+      → AllFit ring (stored_statement request.statement plan) (stored_formats request.formats plan) ranges
+      (stored_entries (map (λ operand. operand.entries) operands) plan)

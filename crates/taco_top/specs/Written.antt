@@ -12,22 +12,20 @@ use Rattle.expr_terms.specs.Terms.{statement_value}
 use Rattle.expr_terms.specs.declared.bound.Bound.{Bound}
 use Rattle.operand_files.specs.Decoded.{operand_of}
 use Rattle.operand_files.specs.Reads.{OnlyReads, HaveRead, Decoding}
-use Rattle.taco_compiler.specs.Compiled.{IsOrder}
+use Rattle.mode_planner.specs.Planned.{HaveOrder}
 use Rattle.operand_packing.specs.Runnable.{told_ranges}
 use Rattle.result_files.specs.Writes.{WritesResult}
-use Rattle.command_line.specs.declared.Task.TheVariants as task
-use Rattle.taco_top.specs.Asked.{needs_files}
+use Rattle.taco_top.specs.Asked.{needs_files, needs_order, writes_result}
 use Rattle.taco_top.specs.Run.{Request, AsksFor, path_of, orders_of, paths_of}
 
 -- what the bytes of an operand's file stand for, where values are added and multiplied modulo 2^64
 abbrev pub means : Decoding
 means = operand_of ring true
 
--- the words ask for a statement, and it has a loop order by the formats of its tensors
+-- the words ask for a statement, and where the task needs it, it has a loop order by the formats of its tensors
 pub record IsAccepted (words : List (List ℕ)) (r : Request) : Type 0 where
   pub asks : AsksFor words r
-  pub order : List ℕ
-  pub is_order : IsOrder r.statement r.formats order
+  pub ordered : needs_order r.task ≡ true → HaveOrder r.statement r.formats
 
 -- the orders and the paths of its operands' files
 abbrev pub asked_orders : Request → List ℕ
@@ -59,11 +57,11 @@ result_ranges s ranges = map (slice_index ranges) s.left.vars
 abbrev pub result_value : Statement → List Entries → List ℕ → List ℕ → ℕ
 result_value s entries ranges = statement_value ring s (operand_values ring entries) (slice_index ranges)
 
--- the result of `run` was written: the text of its values; `between` is the folder as it was when the writing began
+-- the result of `run` or `auto` was written: the text of its values; `between` is the folder as it was when the writing began
 pub record IsWritten (words : List (List ℕ)) (files files' : FolderState) (out out' : SinkState) : Type 0 where
   pub between : FolderState
   pub only_reads : OnlyReads files between
   pub values : HasResult words files between
-  pub task_is : values.request.task ≡ task.Run
+  pub task_writes : writes_result values.request.task ≡ true
   pub writes : WritesResult ring (path_of values.request.files 0) (result_ranges values.request.statement values.ranges)
       (result_value values.request.statement values.entries values.ranges) between files' out out'

@@ -52,7 +52,7 @@ fn reads_files(task: Task) -> bool
     ensures { result ≡ needs_files task }
 {
     match task {
-        Task::Run | Task::Report => true,
+        Task::Run | Task::Report | Task::Auto => true,
         Task::Kernel | Task::Plan => false,
     }
 }

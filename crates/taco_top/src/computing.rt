@@ -2,18 +2,21 @@
 ghost use Rattle.std.specs.Prelude.{◌≡◌, ℕ, List, Option, true, IfOk, IfErr, Vec};
 ghost use Rattle.std.specs.declared.alloc.Global.{Global as AGlobal};
 ghost use Rattle.numbers.specs.Ring.{ring};
-ghost use Rattle.tensor_map.specs.Entries.{Entries};
+ghost use Rattle.kernel_correctness.specs.Kernels.{IsRightKernel};
+ghost use Rattle.mode_planner.specs.Planned.{Answers};
+ghost use Rattle.operand_packing.specs.Runnable.{IsRunnable};
+ghost use Rattle.tensor_map.specs.Entries.{AreEntries, Entries};
 ghost use Rattle.format_spec.specs.declared.format.FormatLevel.{FormatLevel};
 ghost use Rattle.index_notation.specs.Statement.{IsNumbered};
 ghost use Rattle.expr_terms.specs.declared.bound.Bound.{Bound};
 ghost use Rattle.operand_files.specs.Reads.{OnlyReads};
 ghost use Rattle.taco_top.specs.Asked.{needs_files};
-ghost use Rattle.kernel_runs.specs.Runs.{MayRefuseRun};
 ghost use Rattle.taco_top.specs.Written.{IsAccepted};
 ghost use Rattle.taco_top.specs.Told.{IsKernelOf};
 ghost use Rattle.taco_top.specs.Refused.{Stops};
 ghost use Rattle.taco_top.specs.Run.{request_of};
-ghost use Rattle.taco_top.specs.Prepared.{IsPrepared, IsUncomputed};
+ghost use Rattle.taco_top.specs.Prepared.{IsPrepared, IsStoredRun, IsUncomputed, MayRefuseStored};
+ghost use Rattle.taco_top.specs.Stored.{IsRunBy, stored_statement, stored_formats};
 
 use crate::asked::Asked;
 use crate::asking::Accepted;
@@ -21,8 +24,11 @@ use crate::operands::{file_of, operands_of};
 use bindings::{Bindings, TensorFile};
 use format_spec::Format;
 use index_notation::Statement;
-use kernel_runs::{KernelRun, RunFault, run_kernel};
+use kernel_code::Kernel;
+use kernel_runs::{KernelRun, RunFault, run_kernel, run_planned};
+use mode_planner::Planned;
 use numbers::Ring;
+use operand_files::Operands;
 use outside::Folder;
 use refusals::{Fault, NamedFault};
 use std::alloc::Global;
@@ -38,10 +44,21 @@ pub(crate) struct Computed<'a> {
     pub result: KernelRun,
 }
 
+/// The statement that is run, by whose names its levels are told.
+fn stored(statement: Statement, plan: Option<Planned>) -> Statement
+    ensures { result ≡ stored_statement statement plan }
+{
+    match plan {
+        None => statement,
+        Some(plan) => plan.statement,
+    }
+}
+
 /// The refusal of a run, told by the names of the statement.
-fn fault_of<'a>(statement: Statement, why: RunFault) -> Fault<'a>
+fn fault_of<'a>(statement: Statement, plan: Option<Planned>, why: RunFault) -> Fault<'a>
     ensures { (formats : List (List FormatLevel)) (given : List (Option ℕ)) (entries : List Entries) (bounds : List (Vec Bound AGlobal))
-        → MayRefuseRun ring statement formats given entries bounds why → IsUncomputed statement formats given entries bounds result }
+        → MayRefuseStored statement formats plan given entries bounds why
+        → IsUncomputed statement formats plan given entries bounds result }
 {
     match why {
         RunFault::Range(why) => Fault::Named {
@@ -49,11 +66,36 @@ fn fault_of<'a>(statement: Statement, why: RunFault) -> Fault<'a>
             fault: NamedFault::Range(why),
         },
         RunFault::SizeLimit(large) => Fault::Named {
-            statement,
+            statement: stored(statement, plan),
             fault: NamedFault::SizeLimit(large),
         },
         RunFault::Workspace { count } => Fault::WorkspaceLimit(count),
         RunFault::Memory(_) => Fault::Memory,
+    }
+}
+
+/// Runs the kernel of a statement, as its plan tells to store it, over the operands that were read.
+fn run_stored(
+    alloc: Global,
+    statement: &Statement,
+    formats: &[Format],
+    plan: &Option<Planned>,
+    kernel: &Kernel,
+    given: &[Option<u64>],
+    operands: Operands,
+) -> Result<KernelRun, RunFault>
+    requires runnable { IsRunnable statement.now formats.now given.now operands.entries.items operands.bounds.items }
+    requires plan { Answers statement.now formats.now plan.now }
+    requires right { IsRightKernel ring (stored_statement statement.now plan.now) (stored_formats formats.now plan.now) kernel.now }
+    ensures run { IfOk result (λ run. IsStoredRun statement.now formats.now plan.now kernel.now given.now operands.entries.items
+        operands.bounds.items run.shape run.entries run.tensor run.turns) }
+    ensures entries { IfOk result (λ run. AreEntries run.entries) }
+    ensures refused { IfErr result (MayRefuseStored statement.now formats.now plan.now given.now operands.entries.items
+        operands.bounds.items) }
+{
+    match plan {
+        None => run_kernel::<Ring>(alloc, statement, formats, kernel, given, operands),
+        Some(plan) => run_planned::<Ring>(alloc, statement, plan, kernel, given, operands),
     }
 }
 
@@ -65,7 +107,9 @@ pub(crate) fn compute<'a, F: Folder>(
     files: &mut F,
 ) -> Result<Computed<'a>, Fault<'a>>
     requires accepted { (words : List (List ℕ)) × IsAccepted words (request_of accepted.asked) }
-    requires kernel { IsKernelOf (request_of accepted.asked) accepted.compiled.order accepted.compiled.kernel }
+    requires plan { IsRunBy (request_of accepted.asked) accepted.plan }
+    requires kernel { IsKernelOf (stored_statement accepted.asked.statement accepted.plan)
+        (stored_formats accepted.asked.bindings.formats.items accepted.plan) accepted.compiled.order accepted.compiled.kernel }
     requires numbered { IsNumbered accepted.asked.statement }
     requires reads { needs_files accepted.asked.task ≡ true }
     ensures only_reads { OnlyReads (F.state files.old) (F.state files.new) }
@@ -74,7 +118,11 @@ pub(crate) fn compute<'a, F: Folder>(
     ensures stops { IfErr result (λ fault. (words : List (List ℕ)) → IsAccepted words (request_of accepted.entry.asked)
         → Stops words (F.state files.old) (F.state files.new) fault) }
 {
-    let Accepted { asked, compiled } = accepted;
+    let Accepted {
+        asked,
+        plan,
+        compiled,
+    } = accepted;
     let file = file_of(&asked.bindings, 0);
     let operands = match operands_of(alloc, &asked, files) {
         Ok(operands) => operands,
@@ -90,10 +138,11 @@ pub(crate) fn compute<'a, F: Folder>(
         files: _,
         ranges,
     } = bindings;
-    match run_kernel::<Ring>(
+    match run_stored(
         alloc,
         &statement,
         formats.as_slice(),
+        &plan,
         &compiled.kernel,
         ranges.as_slice(),
         operands,
@@ -105,6 +154,6 @@ pub(crate) fn compute<'a, F: Folder>(
             compiled,
             result,
         }),
-        Err(why) => Err(fault_of(statement, why)),
+        Err(why) => Err(fault_of(statement, plan, why)),
     }
 }

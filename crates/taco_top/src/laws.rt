@@ -9,11 +9,15 @@ ghost use Rattle.command_line.specs.CommandLine.{Workload, command_line_of};
 ghost use Rattle.format_spec.specs.declared.format.FormatLevel.{FormatLevel};
 ghost use Rattle.index_notation.specs.declared.syntax.Statement.{Statement};
 ghost use Rattle.command_line.specs.declared.Task.{Task};
+ghost use Rattle.mode_planner.specs.Planned.{HaveOrder};
 ghost use Rattle.refusals.specs.declared.fault.Fault.{Fault};
+ghost use Rattle.refusals.specs.declared.fault.Fault.TheVariants.{Named};
+ghost use Rattle.refusals.specs.declared.fault.NamedFault.TheVariants.{Cycle};
 ghost use Rattle.command_line.specs.declared.Task.TheVariants as task;
 ghost use Rattle.taco_top.specs.Asked.{Asks, IsRefusedByWords, IsWant};
-ghost use Rattle.taco_top.specs.Written.{IsAccepted, IsWritten};
-ghost use Rattle.taco_top.specs.Ends.{Ends};
+ghost use Rattle.taco_top.specs.Written.{HasResult, IsAccepted, IsWritten};
+ghost use Rattle.taco_top.specs.Told.{IsComputed};
+ghost use Rattle.taco_top.specs.Ends.{Ends, Refused};
 ghost use Rattle.taco_top.specs.Run.{AsksFor, Request};
 ghost use Rattle.taco_top.specs.Whole.{IsWhole};
 
@@ -45,8 +49,8 @@ pub fn one_request_a_command_line()
         → command_line_of words ≡ Some (Workload size) → IsRefusedByWords words fault → IsWant fault }
 {}
 
-/// Claim: where all input of `run` or `report` is whole and no count of faults rose, a call ends with status 0, and so with its file or its
-/// text, or with want of memory. A result's file is one, whatever else the folder and the streams have seen.
+/// Claim: where all input of `run`, `auto` or `report` is whole and no count of faults rose, a call ends with status 0, and so with its file
+/// or its text, or with want of memory. A result's file is one, whatever else the folder and the streams have seen.
 pub fn whole_input_is_computed()
     ensures ends { (words : List (String Global)) (files files' : FolderState) (out out' err err' : SinkState) (status : ℕ)
         → IsWhole (map string_bytes words) files.holds → (Rose files.read_faults files'.read_faults → ⊥)
@@ -70,6 +74,17 @@ pub fn texts_are_printed()
     ensures workloads { (words : List (String Global)) (size : ℕ) (files files' : FolderState) (out out' err err' : SinkState)
         (status : ℕ) → command_line_of (map string_bytes words) ≡ Some (Workload size) → (Rose out.faults out'.faults → ⊥)
         → Ends words files files' out out' err err' status → (status ≡ 0) ⊎ (status ≡ 5) }
+{}
+
+/// Claim: where the words ask for `auto`, no call ends with a cycle of storage orders. And where the loops of a statement have an order,
+/// what is run of it is the statement itself, in the formats of its tensors: nothing is planned.
+pub fn cycles_are_mended()
+    ensures no_cycle { (words : List (String Global)) (request : Request) (files files' : FolderState) (out out' err err' : SinkState)
+        (status : ℕ) (s : Statement) (cycle : List ℕ) → AsksFor (map string_bytes words) request → request.task ≡ task.Auto
+        → (ends : Ends words files files' out out' err err' status) → ends.ended ≡ Refused (Named s (Cycle cycle)) → ⊥ }
+    ensures as_asked { (words : List (List ℕ)) (files between : FolderState) (values : HasResult words files between)
+        → HaveOrder values.request.statement values.request.formats → (computed : IsComputed words files between values)
+        → computed.plan ≡ None }
 {}
 
 /// Claim: status 2 is that of words that are no command line, and they have no other but that of want of memory.

@@ -17,7 +17,8 @@ mod top;
 mod writing;
 
 pub use laws::{
-    one_request_a_command_line, texts_are_printed, usage_is_of_words_alone, whole_input_is_computed,
+    cycles_are_mended, one_request_a_command_line, texts_are_printed, usage_is_of_words_alone,
+    whole_input_is_computed,
 };
 pub use program::run_program;
 pub use top::taco;

@@ -29,7 +29,8 @@ pub(crate) fn tell_kernel<'a, O: Sink>(
     accepted: &Accepted<'a>,
 ) -> Result<Done, Fault<'a>>
     requires accepted { (words : List (List ℕ)) × IsAccepted words (request_of accepted.now.asked) }
-    requires kernel { IsKernelOf (request_of accepted.now.asked) accepted.now.compiled.order accepted.now.compiled.kernel }
+    requires kernel { IsKernelOf accepted.now.asked.statement accepted.now.asked.bindings.formats.items
+        accepted.now.compiled.order accepted.now.compiled.kernel }
     requires task { accepted.now.asked.task ≡ task.Kernel }
     ensures { (words : List (List ℕ)) (files : FolderState) → IsAccepted words (request_of accepted.now.asked)
         → Cause words files files (O.state out.old) (O.state out.new) (end_of result) }

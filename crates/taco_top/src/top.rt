@@ -1,9 +1,10 @@
 //! The top call.
-ghost use Rattle.std.specs.Prelude.{◌≡◌, ℕ, List, map, string_bytes};
+ghost use Rattle.std.specs.Prelude.{◌≡◌, ℕ, List, map, string_bytes, true};
 ghost use Rattle.command_line.specs.declared.Task.TheVariants as task;
 ghost use Rattle.index_notation.specs.Statement.{IsNumbered};
 ghost use Rattle.outside.specs.Folder.{FolderState};
 ghost use Rattle.refusals.specs.Lines.{status_of, line_of};
+ghost use Rattle.taco_top.specs.Asked.{writes_result};
 ghost use Rattle.taco_top.specs.Ends.{Cause, Ends, PutsLine};
 ghost use Rattle.taco_top.specs.Run.{AsksFor, request_of};
 ghost use Rattle.taco_top.specs.Prepared.{end_of};
@@ -20,7 +21,7 @@ use refusals::{Fault, put_line};
 use reports::put_turns;
 use std::alloc::Global;
 
-/// Writes the result of what the words ask for.
+/// Writes the result of what the words ask for, with storage orders mended where the task does so.
 fn run<'a, F: Folder, O: Sink>(
     alloc: Global,
     asked: Asked<'a>,
@@ -29,7 +30,7 @@ fn run<'a, F: Folder, O: Sink>(
 ) -> Result<Done, Fault<'a>>
     requires asked { (words : List (List ℕ)) × AsksFor words (request_of asked) }
     requires numbered { IsNumbered asked.statement }
-    requires task { asked.task ≡ task.Run }
+    requires task { writes_result asked.task ≡ true }
     ensures { (words : List (List ℕ)) → AsksFor words (request_of asked.entry)
         → Cause words (F.state files.old) (F.state files.new) (O.state out.old) (O.state out.new) (end_of result) }
 {
@@ -93,7 +94,7 @@ fn answer_statement<'a, F: Folder, O: Sink>(
         → Cause words (F.state files.old) (F.state files.new) (O.state out.old) (O.state out.new) (end_of result) }
 {
     match asked.task {
-        Task::Run => run(alloc, asked, files, out),
+        Task::Run | Task::Auto => run(alloc, asked, files, out),
         Task::Kernel => kernel(alloc, asked, out),
         Task::Report => report(alloc, asked, files, out),
         Task::Plan => tell_plan(alloc, out, &asked),

@@ -1,10 +1,11 @@
 //! The writing of a result.
-ghost use Rattle.std.specs.Prelude.{◌≡◌, ℕ, List};
+ghost use Rattle.std.specs.Prelude.{◌≡◌, ℕ, List, true};
 ghost use Rattle.std.specs.Option.{option_map};
 ghost use Rattle.outside.specs.Folder.{FolderState};
-ghost use Rattle.command_line.specs.declared.Task.TheVariants as task;
+ghost use Rattle.command_line.specs.declared.Task.{Task};
 ghost use Rattle.bindings.specs.Tables.{path_to};
 ghost use Rattle.operand_files.specs.Reads.{OnlyReads};
+ghost use Rattle.taco_top.specs.Asked.{writes_result};
 ghost use Rattle.taco_top.specs.Ends.{Cause};
 ghost use Rattle.taco_top.specs.Prepared.{IsPrepared, end_of};
 
@@ -32,9 +33,10 @@ pub(crate) fn write<'a, F: Folder, O: Sink>(
     out: &mut O,
     computed: &Computed<'a>,
 ) -> Result<Done, Fault<'a>>
-    requires { (words : List (List ℕ)) × (before : FolderState) × IsPrepared words task.Run before (F.state files.old) computed.now }
-    ensures { (words : List (List ℕ)) (before : FolderState) → OnlyReads before (F.state files.old)
-        → IsPrepared words task.Run before (F.state files.old) computed.now
+    requires { (words : List (List ℕ)) × (task : Task) × (before : FolderState)
+        × IsPrepared words task before (F.state files.old) computed.now }
+    ensures { (words : List (List ℕ)) (task : Task) (before : FolderState) → writes_result task ≡ true
+        → OnlyReads before (F.state files.old) → IsPrepared words task before (F.state files.old) computed.now
         → Cause words before (F.state files.new) (O.state out.old) (O.state out.new) (end_of result) }
 {
     let file = computed.file;

@@ -1,37 +1,71 @@
 use Rattle.std.proofs.Common.{◌≡◌, refl, subst}
-use Rattle.std.specs.Prelude.{Err}
+use Rattle.std.specs.Prelude.{Ok, Err}
 use Rattle.numbers.specs.Ring.{ring}
 use Rattle.taco_compiler.specs.Compiled.{Answers}
 use Rattle.taco_compiler.specs.declared.compiled.CompileFault.TheVariants as compile
 use Rattle.taco_top.specs.Run.{request_of}
+use Rattle.taco_top.specs.Stored.{stored_statement, stored_formats}
 use Rattle.taco_top.proofs.Accepted.{well_named, left_has_format, right_have_formats}
+use Rattle.taco_top.proofs.Mended.{ordered, run_by, kernel_is, cyclic}
 use Rattle.taco_top.proofs.asking.accept.Goals as goal
 
-pub compile-requires-clause-named : goal.compile-requires-clause-named
-compile-requires-clause-named c = well_named c.requires.asked.0 (request_of c.args.asked) c.requires.asked.1
+pub mended-requires-clause-named : goal.mended-requires-clause-named
+mended-requires-clause-named c = well_named c.requires.asked.0 (request_of c.args.asked) c.requires.asked.1
 
-pub compile-requires-clause-left : goal.compile-requires-clause-left
-compile-requires-clause-left c =
-    left_has_format c.requires.asked.0 (request_of c.args.asked) c.requires.asked.1 c.requires.numbered c.as_slice.result.now
-    c.as_slice.ensures.value
+pub mended-requires-clause-left : goal.mended-requires-clause-left
+mended-requires-clause-left c =
+    left_has_format c.requires.asked.0 (request_of c.args.asked) c.requires.asked.1 c.requires.numbered c.as_slice-formats.result.now
+    c.as_slice-formats.ensures.value
 
-pub compile-requires-clause-right : goal.compile-requires-clause-right
-compile-requires-clause-right c =
-    right_have_formats c.requires.asked.0 (request_of c.args.asked) c.requires.asked.1 c.requires.numbered c.as_slice.result.now
-    c.as_slice.ensures.value
+pub mended-requires-clause-right : goal.mended-requires-clause-right
+mended-requires-clause-right c =
+    right_have_formats c.requires.asked.0 (request_of c.args.asked) c.requires.asked.1 c.requires.numbered c.as_slice-formats.result.now
+    c.as_slice-formats.ensures.value
+
+pub compile_stored-requires-clause-named : goal.compile_stored-requires-clause-named
+compile_stored-requires-clause-named c = well_named c.requires.asked.0 (request_of c.args.asked) c.requires.asked.1
+
+pub compile_stored-requires-clause-left : goal.compile_stored-requires-clause-left
+compile_stored-requires-clause-left c =
+    left_has_format c.requires.asked.0 (request_of c.args.asked) c.requires.asked.1 c.requires.numbered c.as_slice-formats.result.now
+    c.as_slice-formats.ensures.value
+
+pub compile_stored-requires-clause-right : goal.compile_stored-requires-clause-right
+compile_stored-requires-clause-right c =
+    right_have_formats c.requires.asked.0 (request_of c.args.asked) c.requires.asked.1 c.requires.numbered c.as_slice-formats.result.now
+    c.as_slice-formats.ensures.value
+
+pub returns-in-Ok-clause-accepted : goal.returns-in-Ok-clause-accepted
+returns-in-Ok-clause-accepted c = λ words asks. record {
+  asks = asks;
+  ordered = ordered (request_of c.args.asked) c.as_slice-formats.result.now c.as_slice-formats.ensures.value c.in_ok-plan.plan
+      c.in_ok-plan.ensures.unplanned c.in_ok-plan.ensures.planned c.in-Ok.compiled.order c.in-Ok.ensures.0;
+}
+
+pub returns-in-Ok-clause-plan : goal.returns-in-Ok-clause-plan
+returns-in-Ok-clause-plan c =
+    run_by (request_of c.args.asked) c.as_slice-formats.result.now c.as_slice-formats.ensures.value c.in_ok-plan.plan
+    c.in_ok-plan.ensures.unplanned c.in_ok-plan.ensures.planned c.in-Ok.compiled.order c.in-Ok.ensures.0 c.requires.needs
+
+pub returns-in-Ok-clause-kernel : goal.returns-in-Ok-clause-kernel
+returns-in-Ok-clause-kernel c =
+    kernel_is (request_of c.args.asked) c.as_slice-formats.result.now c.as_slice-formats.ensures.value c.in_ok-plan.plan
+    c.in_ok-plan.ensures.unplanned c.in_ok-plan.ensures.planned c.in-Ok.compiled c.in-Ok.ensures
 
 pub returns-in-Err-Cycle-clause-refused : goal.returns-in-Err-Cycle-clause-refused
 returns-in-Err-Cycle-clause-refused c = λ words asks files.
     let told = c.in-Err-Cycle.field-0-is in
-    let same : c.in-Err-Cycle.field-0 ≡ (compile.Cycle c.in-Err-Cycle.cycle) = cc in (
+    let same : c.in-Err-Cycle.field-0 ≡ (compile.Cycle c.in-Err-Cycle.cycle) = cc in
+    let is = cyclic (request_of c.args.asked) c.as_slice-formats.result.now c.as_slice-formats.ensures.value c.in_ok-plan.plan
+    c.in_ok-plan.ensures.unplanned c.in_ok-plan.ensures.planned c.in_ok-plan.ensures.compiled c.in-Err-Cycle.cycle
+    (subst (λ why. Answers ring (stored_statement c.args.asked.statement c.in_ok-plan.plan)
+    (stored_formats c.as_slice-formats.result.now c.in_ok-plan.plan) (Err why)) same c.in-Err-Cycle.ensures) c.requires.needs in (
       refl,
       record {
         request = request_of c.args.asked;
         statement_is = refl;
         asks = asks;
-        needs = c.requires.needs;
-        is = subst (λ formats. Answers ring c.args.asked.statement formats (Err (compile.Cycle c.in-Err-Cycle.cycle)))
-            c.as_slice.ensures.value
-            (subst (λ why. Answers ring c.args.asked.statement c.as_slice.result.now (Err why)) same c.in-Err-Cycle.ensures.answers);
+        needs = is.0;
+        is = is.1;
       },
     )

@@ -9,17 +9,17 @@ use Rattle.taco_top.proofs.Stopped.{written, unwritten}
 use Rattle.taco_top.proofs.writing.write.Goals as goal
 
 pub returns-in-Ok : goal.returns-in-Ok
-returns-in-Ok g c = λ words before reads is.
-    written words before (g.F.Folder.state c.args.files.now) (g.F.Folder.state c.write_result.new.files) (g.O.Sink.state c.args.out.now)
-    (g.O.Sink.state c.write_result.new.out) c.args.computed.now reads is c.in-Ok.ensures.written
+returns-in-Ok g c = λ words task before writes reads is.
+    written words task writes before (g.F.Folder.state c.args.files.now) (g.F.Folder.state c.write_result.new.files)
+    (g.O.Sink.state c.args.out.now) (g.O.Sink.state c.write_result.new.out) c.args.computed.now reads is c.in-Ok.ensures.written
 
 pub returns-in-Err-Fault : goal.returns-in-Err-Fault
-returns-in-Err-Fault g c = λ words before reads is.
+returns-in-Err-Fault g c = λ words task before writes reads is.
     let told = c.in-Err-Fault.field-0-is in
     let same : c.in-Err-Fault.field-0 ≡ write.Fault = cc in
     subst (FailsToWrite words before (g.F.Folder.state c.write_result.new.files) (g.O.Sink.state c.args.out.now)
     (g.O.Sink.state c.write_result.new.out)) (sym c.path_of.ensures)
-    (inl (unwritten words before (g.F.Folder.state c.args.files.now) (g.F.Folder.state c.write_result.new.files)
+    (inl (unwritten words task writes before (g.F.Folder.state c.args.files.now) (g.F.Folder.state c.write_result.new.files)
     (g.O.Sink.state c.args.out.now) (g.O.Sink.state c.write_result.new.out) c.args.computed.now reads is write.Fault
     (subst (λ why. RefusesResult ring (path_to c.args.computed.now.file)
     c.args.computed.now.result.shape (value_at ring c.args.computed.now.result.entries.list) (g.F.Folder.state c.args.files.now)
@@ -27,13 +27,13 @@ returns-in-Err-Fault g c = λ words before reads is.
     c.in-Err-Fault.ensures.refused)))
 
 pub returns-in-Err-Memory : goal.returns-in-Err-Memory
-returns-in-Err-Memory g c = λ words before reads is.
+returns-in-Err-Memory g c = λ words task before writes reads is.
     let told = c.in-Err-Memory.field-0-is in
     let same : c.in-Err-Memory.field-0 ≡ (write.Memory c.in-Err-Memory.field-0-0) = cc in
     inr (inl (
       path_to c.args.computed.now.file,
       c.in-Err-Memory.field-0-0,
-      unwritten words before (g.F.Folder.state c.args.files.now) (g.F.Folder.state c.write_result.new.files)
+      unwritten words task writes before (g.F.Folder.state c.args.files.now) (g.F.Folder.state c.write_result.new.files)
           (g.O.Sink.state c.args.out.now) (g.O.Sink.state c.write_result.new.out) c.args.computed.now reads is
           (write.Memory c.in-Err-Memory.field-0-0)
           (subst (λ why. RefusesResult ring (path_to c.args.computed.now.file)

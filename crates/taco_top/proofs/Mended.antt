@@ -1,0 +1,88 @@
+-- A statement is compiled as it is stored: in its loop order, or by the plan that mends its storage orders.
+use Rattle.std.specs.Prelude.{◌≡◌, ℕ, ◌⊎◌, List, length, Option, None, Some, IfSome, Ok, true, refl}
+use Rattle.std.proofs.Common.{sym, subst, inl, inr}
+use Rattle.numbers.specs.Ring.{ring}
+use Rattle.format_spec.specs.declared.format.FormatLevel.{FormatLevel}
+use Rattle.index_notation.specs.declared.syntax.Statement.{Statement}
+use Rattle.iteration_graph.specs.Edges.{statement_edges}
+use Rattle.iteration_graph.proofs.OrderLaws.{no_order}
+use Rattle.mode_planner.specs.Planned.{Answers as PlanAnswers, CanBeCompiled, HaveOrder}
+use Rattle.mode_planner.specs.declared.planned.Planned.{Planned}
+use Rattle.command_line.specs.declared.Task.{Task}
+use Rattle.command_line.specs.declared.Task.TheVariants as task
+use Rattle.taco_compiler.specs.Compiled.{Answers, IsOrder, HasCycle}
+use Rattle.taco_compiler.specs.declared.compiled.Compiled.{Compiled}
+use Rattle.taco_top.specs.Asked.{needs_files, needs_kernel, needs_order, writes_result}
+use Rattle.taco_top.specs.Run.{Request}
+use Rattle.taco_top.specs.Stored.{IsRunBy, stored_statement, stored_formats}
+use Rattle.taco_top.specs.Told.{IsKernelOf}
+
+-- a task with a kernel needs an order of loops, or mends storage orders
+of_task : (t : Task) → needs_kernel t ≡ true → (needs_order t ≡ true) ⊎ (t ≡ task.Auto)
+of_task task.Run needs = inl refl
+of_task task.Kernel needs = inl refl
+of_task task.Report needs = inl refl
+of_task task.Auto needs = inr refl
+of_task task.Plan needs = absurd cc
+
+-- one that writes a result has a kernel, and reads files
+pub writing_needs_kernel : (t : Task) → writes_result t ≡ true → needs_kernel t ≡ true
+writing_needs_kernel task.Run writes = refl
+writing_needs_kernel task.Kernel writes = refl
+writing_needs_kernel task.Report writes = refl
+writing_needs_kernel task.Auto writes = refl
+writing_needs_kernel task.Plan writes = absurd cc
+
+pub writing_needs_files : (t : Task) → writes_result t ≡ true → needs_files t ≡ true
+writing_needs_files task.Run writes = refl
+writing_needs_files task.Kernel writes = absurd cc
+writing_needs_files task.Report writes = refl
+writing_needs_files task.Auto writes = refl
+writing_needs_files task.Plan writes = absurd cc
+
+-- what is planned has no cycle, and what has an order has none
+uncycled : (s : Statement) (formats : List (List FormatLevel)) (plan : Option Planned) (cycle : List ℕ) → PlanAnswers s formats plan
+    → IfSome plan (λ planned. CanBeCompiled planned.statement planned.formats)
+    → HasCycle (stored_statement s plan) (stored_formats formats plan) cycle → ⊥
+uncycled s formats None cycle answers compiled has = no_order (length s.vars) (statement_edges s formats) cycle answers.loops has answers.is
+uncycled s formats (Some plan) cycle answers compiled has = compiled.no_cycle cycle has
+
+module _ (r : Request) (formats : List (List FormatLevel)) (formats_are : formats ≡ r.formats) (plan : Option Planned)
+    (unplanned : needs_order r.task ≡ true → plan ≡ None)
+    (planned : r.task ≡ task.Auto → PlanAnswers r.statement formats plan) where
+  -- the statement has a loop order, where its task needs one and it was compiled
+  pub ordered : (order : List ℕ) → IsOrder (stored_statement r.statement plan) (stored_formats formats plan) order
+      → needs_order r.task ≡ true → HaveOrder r.statement r.formats
+  ordered order is needs = record {
+    loops = order;
+    is = subst (λ fs. IsOrder r.statement fs order) formats_are
+        (subst (λ p. IsOrder (stored_statement r.statement p) (stored_formats formats p) order) (unplanned needs) is);
+  }
+
+  pub run_by : (order : List ℕ) → IsOrder (stored_statement r.statement plan) (stored_formats formats plan) order
+      → needs_kernel r.task ≡ true → IsRunBy r plan
+  run_by order is needs = by (of_task r.task needs)
+    where
+      by : (needs_order r.task ≡ true) ⊎ (r.task ≡ task.Auto) → IsRunBy r plan
+      by (inl needed) = subst (λ p. IsRunBy r p) (sym (unplanned needed)) (ordered order is needed)
+      by (inr mends) = subst (λ fs. PlanAnswers r.statement fs plan) formats_are (planned mends)
+
+  pub kernel_is : (c : Compiled) → Answers ring (stored_statement r.statement plan) (stored_formats formats plan) (Ok c)
+      → IsKernelOf (stored_statement r.statement plan) (stored_formats r.formats plan) c.order c.kernel
+  kernel_is c is =
+      subst (λ fs. IsKernelOf (stored_statement r.statement plan) (stored_formats fs plan) c.order c.kernel) formats_are
+      (record { is_order = is.0; compiled = is.1 })
+
+  -- a cycle is told only where an order is needed
+  pub cyclic : IfSome plan (λ planned. CanBeCompiled planned.statement planned.formats) → (cycle : List ℕ)
+      → HasCycle (stored_statement r.statement plan) (stored_formats formats plan) cycle → needs_kernel r.task ≡ true
+      → (needs_order r.task ≡ true) × HasCycle r.statement r.formats cycle
+  cyclic compiled cycle has needs = by (of_task r.task needs)
+    where
+      by : (needs_order r.task ≡ true) ⊎ (r.task ≡ task.Auto) → (needs_order r.task ≡ true) × HasCycle r.statement r.formats cycle
+      by (inl needed) = (
+        needed,
+        subst (λ fs. HasCycle r.statement fs cycle) formats_are
+            (subst (λ p. HasCycle (stored_statement r.statement p) (stored_formats formats p) cycle) (unplanned needed) has),
+      )
+      by (inr mends) = absurd (uncycled r.statement formats plan cycle (planned mends) compiled has)

@@ -1,0 +1,47 @@
+-- What is run of what words ask for: the statement as it is, or one that is planned in its place where the storage orders of its
+-- tensors have a cycle, with some of them stored in other orders of their modes.
+use Rattle.std.specs.Prelude.{ℕ, List, Option, None, Some, Vec}
+use Rattle.std.specs.declared.alloc.Global.{Global}
+use Rattle.numbers.specs.Ring.{ring}
+use Rattle.tensor_map.specs.Entries.{Entries}
+use Rattle.format_spec.specs.declared.format.FormatLevel.{FormatLevel}
+use Rattle.index_notation.specs.declared.syntax.Statement.{Statement}
+use Rattle.expr_terms.specs.declared.bound.Bound.{Bound}
+use Rattle.mode_planner.specs.Planned.{Answers}
+use Rattle.mode_planner.specs.declared.planned.Planned.{Planned}
+use Rattle.operand_packing.specs.Drawn.{drawn}
+use Rattle.operand_packing.specs.declared.large_level.LargeLevel.{LargeLevel}
+use Rattle.kernel_runs.specs.Planned.{IsLargePlannedLevel, NeedsPlannedPairs}
+use Rattle.kernel_runs.specs.Runs.{IsLargeLevel, NeedsPairs}
+use Rattle.taco_top.specs.Run.{Request}
+
+-- it is run by this plan: by none where its loops have an order, and by one that mends its storage orders where they have a cycle
+abbrev pub IsRunBy : Request → Option Planned → Type 0
+IsRunBy r plan = Answers r.statement r.formats plan
+
+-- the statement that is run
+abbrev pub stored_statement : Statement → Option Planned → Statement
+stored_statement s None = s
+stored_statement s (Some plan) = plan.statement
+
+-- the formats in which its tensors are stored
+abbrev pub stored_formats : List (List FormatLevel) → Option Planned → List (List FormatLevel)
+stored_formats formats None = formats
+stored_formats formats (Some plan) = plan.formats
+
+-- the entries of each of its operands: with a plan several may have those of one file
+abbrev pub stored_entries : List Entries → Option Planned → List Entries
+stored_entries entries None = entries
+stored_entries entries (Some plan) = drawn plan.origins entries
+
+-- a level of a tensor, as it is stored, has too many positions by the ranges of the statement that is asked for
+abbrev pub IsLargeStoredLevel : Statement → List (List FormatLevel) → Option Planned → List (Option ℕ) → List Entries
+    → List (Vec Bound Global) → LargeLevel → Type 0
+IsLargeStoredLevel s formats None given entries bounds large = IsLargeLevel ring s formats given entries bounds large
+IsLargeStoredLevel s formats (Some plan) given entries bounds large = IsLargePlannedLevel ring s plan given entries bounds large
+
+-- the workspace of the result, as it is stored, needs too many pairs
+abbrev pub NeedsStoredPairs : Statement → List (List FormatLevel) → Option Planned → List (Option ℕ) → List Entries
+    → List (Vec Bound Global) → ℕ → Type 0
+NeedsStoredPairs s formats None given entries bounds count = NeedsPairs ring s formats given entries bounds count
+NeedsStoredPairs s formats (Some plan) given entries bounds count = NeedsPlannedPairs ring s plan given entries bounds count
