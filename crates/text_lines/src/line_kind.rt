@@ -19,6 +19,8 @@ pub enum LineKind {
     NotWhole,
     /// A number is out of range.
     NumRange,
+    /// The value is below 0, and values have no sign.
+    Negative,
     /// A coordinate is 0: coordinates are counted from 1.
     ZeroCoordinate,
     /// A row or a column is above the size.
