@@ -1,16 +1,19 @@
-//! Cases of `.tns` files, fed to a reader piece by piece.
+//! Cases of files, fed to a reader piece by piece over a semiring, and of written ones.
 ghost use Rattle.std.specs.Prelude.{◌<◌, ◌≤◌, IfOk, IfSome, List};
 ghost use Rattle.limits.specs.Limits.{greatest_order};
 ghost use Rattle.tensor_map.specs.Entries.{SameListed};
 ghost use Rattle.tensor_map.specs.declared.entries.Entry.{Entry};
 ghost use Rattle.tns_io.specs.Text.{AreInRange};
 
+use crate::matrices::tell_mtx;
 use crate::scripted::Scripted;
 use case_files::Answer;
 use limits::greatest_order_of_tensor;
+use numbers::{Ring, Semiring};
 use outside::{Eater, MemSink};
+use semirings::{Bits, MinPlus};
 use std::alloc::Global;
-use tensor_map::{Entries, Ring};
+use tensor_map::Entries;
 use tns_io::{FileFault, TnsReader, put_tns};
 
 /// The text, behind a comment of as many bytes as the head's second number says.
@@ -37,7 +40,7 @@ fn order_of(case: Scripted<'_>) -> Option<usize>
 }
 
 /// What is read of the text in pieces of a length.
-fn read_in_pieces(
+fn read_in_pieces<S: Semiring>(
     alloc: Global,
     order: usize,
     text: &[u8],
@@ -47,7 +50,7 @@ fn read_in_pieces(
     requires length { 0 < length }
     ensures { IfOk result (λ entries. (others : List Entry) → SameListed entries.list others → AreInRange others) }
 {
-    let mut reader = match TnsReader::new(alloc, order) {
+    let mut reader = match TnsReader::<S>::new(alloc, order) {
         Ok(reader) => reader,
         Err(error) => return Err(FileFault::Memory(error)),
     };
@@ -60,7 +63,7 @@ fn read_in_pieces(
 }
 
 /// Each entry with its coordinates, counted from 0, and its value.
-fn tell_entries(answer: &mut Answer, entries: &Entries) {
+pub(crate) fn tell_entries(answer: &mut Answer, entries: &Entries) {
     for i in 0..entries.len() {
         answer.show(entries.coords(i).as_slice());
         answer.tell(" ");
@@ -84,16 +87,19 @@ fn tell_read(answer: &mut Answer, read: Result<Entries, FileFault>) {
 }
 
 /// What is read, which is the same in pieces of one, two and 4,096 bytes.
-fn tell_tns(answer: &mut Answer, case: Scripted<'_>) -> Option<()> {
+fn tell_tns<S: Semiring>(answer: &mut Answer, case: Scripted<'_>) -> Option<()> {
     let order = order_of(case)?;
     let text = file_text(answer, case);
     let alloc = answer.alloc();
-    tell_read(answer, read_in_pieces(alloc, order, text.as_slice(), 4_096));
+    tell_read(
+        answer,
+        read_in_pieces::<S>(alloc, order, text.as_slice(), 4_096),
+    );
     for length in 1..3 {
         let mut other = Answer::new(alloc);
         tell_read(
             &mut other,
-            read_in_pieces(alloc, order, text.as_slice(), length),
+            read_in_pieces::<S>(alloc, order, text.as_slice(), length),
         );
         if other.as_str() != answer.as_str() {
             return None;
@@ -102,27 +108,37 @@ fn tell_tns(answer: &mut Answer, case: Scripted<'_>) -> Option<()> {
     Some(())
 }
 
-/// The text that is written of the entries that are read.
-fn tell_written(answer: &mut Answer, case: Scripted<'_>) -> Option<()> {
+/// The text that is written of the entries that are read. They are read over the ring, by which a text tells any word.
+fn tell_written<S: Semiring>(answer: &mut Answer, case: Scripted<'_>) -> Option<()> {
     let order = order_of(case)?;
-    let Ok(mut entries) = read_in_pieces(answer.alloc(), order, case.text, 4_096) else {
+    let Ok(mut entries) = read_in_pieces::<Ring>(answer.alloc(), order, case.text, 4_096) else {
         return None;
     };
-    let Ok(()) = entries.sort_sum::<Ring>() else {
+    let Ok(()) = entries.sort_sum::<S>() else {
         return None;
     };
     let mut sink = MemSink::new(answer.alloc());
-    answer.show(put_tns::<Ring, MemSink>(&mut sink, &entries));
+    answer.show(put_tns::<S, MemSink>(&mut sink, &entries));
     answer.tell(" ");
     answer.quote(sink.written());
     Some(())
 }
 
+/// What comes of a case over a semiring.
+fn tell_over<S: Semiring>(answer: &mut Answer, keyword: &str, case: Scripted<'_>) -> Option<()> {
+    match keyword {
+        "tns" => tell_tns::<S>(answer, case),
+        "put_tns" => tell_written::<S>(answer, case),
+        _ => tell_mtx::<S>(answer, case),
+    }
+}
+
 /// What comes of a case of files.
 pub(crate) fn tell(answer: &mut Answer, keyword: &str, case: Scripted<'_>) -> Option<()> {
-    match keyword {
-        "tns" => tell_tns(answer, case),
-        "put_tns" => tell_written(answer, case),
+    match case.over {
+        "ring" => tell_over::<Ring>(answer, keyword, case),
+        "minplus" => tell_over::<MinPlus>(answer, keyword, case),
+        "bits" => tell_over::<Bits>(answer, keyword, case),
         _ => None,
     }
 }

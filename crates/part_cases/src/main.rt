@@ -30,7 +30,9 @@
 //! whole | 1.0                 The signed whole number of a token.
 //! tns 2 | 1 1 2\n            The entries or the fault of a `.tns` file of order 2, in pieces of 1, 2 and 4,096 bytes.
 //! tns 2 65537 | 1 1 2\n      So is a file with a comment of so many bytes in front.
-//! put_tns 2 | 1 1 2\n        The text that is written of its entries, added.
+//! tns 2 over minplus | 1 1 2\n     So is a file whose values are lengths, or flags (`bits`); other cases of files are over the ring.
+//! put_tns 2 | 1 1 2\n        The text that is written of its entries, added; over the other semirings too, once it is read over the ring.
+//! mtx 2 | %%MatrixMarket ..   The sizes and the entries, or the fault, of a `.mtx` file of order 2, in pieces of 1, 2 and 4,096 bytes.
 //! put cut 1 3 fail 3 | -12    A number is put into a sink.
 //! read 5 fail 2 | 12 45       A file is fed to a vector, within 5 bytes.
 //! absent 5 |                  So is a file that isn't there.
@@ -86,6 +88,7 @@ mod files;
 mod formats;
 mod forms;
 mod graphs;
+mod matrices;
 mod memory;
 mod numbered;
 mod owners;

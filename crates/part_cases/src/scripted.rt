@@ -1,11 +1,12 @@
-//! A case of files and streams, `NUMBERS cut LENGTHS fail CALLS | TEXT`, and the objects in memory that do as it says.
+//! A case of files and streams, `NUMBERS over SEMIRING cut LENGTHS fail CALLS | TEXT`, and the objects in memory that do as it says.
 use case_files::Answer;
 use outside::{MemFolder, MemSink};
 
-/// The numbers of the head, the greatest lengths of pieces, in turn, and the numbers of the calls that fail; and the text.
+/// The numbers of the head, the semiring, the greatest lengths of pieces, in turn, and the numbers of the calls that fail; and the text.
 #[derive(Clone, Copy)]
 pub(crate) struct Scripted<'a> {
     pub(crate) numbers: &'a [u64],
+    pub(crate) over: &'a str,
     pub(crate) cuts: &'a [u64],
     pub(crate) fails: &'a [u64],
     pub(crate) text: &'a [u8],

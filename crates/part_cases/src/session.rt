@@ -67,19 +67,21 @@ impl<'a, R: Files + Print + AllocGlobal> Session<'a, R> {
         let (head, text) = case.split_once('|')?;
         let (head, fails) = head.split_once("fail").unwrap_or((head, ""));
         let (numbers, cuts) = head.split_once("cut").unwrap_or((head, ""));
+        let (numbers, over) = numbers.split_once("over").unwrap_or((numbers, "ring"));
         let numbers = answer.numbers(numbers)?;
         let cuts = answer.numbers(cuts)?;
         let fails = answer.numbers(fails)?;
         let text = answer.bytes(text.strip_prefix(' ').unwrap_or(text))?;
         let case = Scripted {
             numbers: numbers.as_slice(),
+            over: over.trim(),
             cuts: cuts.as_slice(),
             fails: fails.as_slice(),
             text: text.as_slice(),
         };
         match keyword {
             "put" | "read" | "absent" | "write" | "batch" => streams::tell(answer, keyword, case),
-            "tns" | "put_tns" => files::tell(answer, keyword, case),
+            "tns" | "put_tns" | "mtx" => files::tell(answer, keyword, case),
             "copy" | "copy_real" | "laws" => copies::tell(self.rt, answer, keyword, case.text),
             _ => tokens::tell(answer, keyword, case),
         }
