@@ -11,19 +11,30 @@ use Rattle.limits.specs.Limits.{greatest_workload}
 use Rattle.command_line.specs.declared.Task.{Task}
 use Rattle.command_line.specs.declared.Task.TheVariants.{Run, Kernel, Report, Auto, Plan}
 use Rattle.command_line.specs.CommandLine.{CommandLine, Statement, Workload, is_size, operands, size_line}
-use Rattle.command_line.specs.CommandLine.{statement_line, workload_line, line_of_command, command_line_of}
+use Rattle.command_line.specs.CommandLine.{Behind, statement_line, over_line, plan_line, words_from, workload_line}
+use Rattle.command_line.specs.CommandLine.{line_of_command, command_line_of}
+use Rattle.command_line.specs.declared.Over.{Over}
+use Rattle.command_line.specs.declared.Over.TheVariants.{Ring}
+use Rattle.std.specs.Prelude.{unwrap_or}
 use Rattle.command_line.specs.Law.{AreLimited}
 
 -- a line that asks for a workload asks for one within the limit
 abbrev IsLimited : Option CommandLine → Type 0
 IsLimited None = Unit {0}
-IsLimited (Some (Statement task expr words)) = Unit {0}
+IsLimited (Some (Statement task over expr words)) = Unit {0}
 IsLimited (Some (Workload size)) = size ≤ greatest_workload
 
-statement_limited : (task : Task) (given : Option (List (List ℕ))) → IsLimited (statement_line task given)
-statement_limited task None = tt
-statement_limited task (Some []) = tt
-statement_limited task (Some (expr ∷ words)) = tt
+statement_limited : (task : Task) (over : Over) (given : List (List ℕ)) → IsLimited (statement_line task over given)
+statement_limited task over [] = tt
+statement_limited task over (expr ∷ words) = tt
+
+over_limited : (task : Task) (given : Option Behind) → IsLimited (over_line task given)
+over_limited task None = tt
+over_limited task (Some behind) = statement_limited task (unwrap_or behind.over Ring) behind.operands
+
+plan_limited : (given : Option (List (List ℕ))) → IsLimited (plan_line given)
+plan_limited None = tt
+plan_limited (Some given) = statement_limited Plan Ring given
 
 size_limited : (text : List ℕ) → IsLimited (size_line text)
 size_limited text = go (is_size text) refl
@@ -49,12 +60,13 @@ command_limited command rest =
   where
     go : (r : Bool) → bytes_eq (codes "run") command ≡ r → (k : Bool) → bytes_eq (codes "kernel") command ≡ k
         → (p : Bool) → bytes_eq (codes "report") command ≡ p → (t : Bool) → bytes_eq (codes "auto") command ≡ t
-        → (q : Bool) → bytes_eq (codes "plan") command ≡ q → (g : Bool) → bytes_eq (codes "gen") command ≡ g → IsLimited (line_of_command command rest)
-    go true a k b p d t h q f g e = rw a (statement_limited Run (operands rest))
-    go false a true b p d t h q f g e = rw (a, b) (statement_limited Kernel (operands rest))
-    go false a false b true d t h q f g e = rw (a, b, d) (statement_limited Report (operands rest))
-    go false a false b false d true h q f g e = rw (a, b, d, h) (statement_limited Auto (operands rest))
-    go false a false b false d false h true f g e = rw (a, b, d, h, f) (statement_limited Plan (operands rest))
+        → (q : Bool) → bytes_eq (codes "plan") command ≡ q → (g : Bool) → bytes_eq (codes "gen") command ≡ g
+        → IsLimited (line_of_command command rest)
+    go true a k b p d t h q f g e = rw a (over_limited Run (words_from false rest))
+    go false a true b p d t h q f g e = rw (a, b) (over_limited Kernel (words_from false rest))
+    go false a false b true d t h q f g e = rw (a, b, d) (over_limited Report (words_from false rest))
+    go false a false b false d true h q f g e = rw (a, b, d, h) (over_limited Auto (words_from false rest))
+    go false a false b false d false h true f g e = rw (a, b, d, h, f) (plan_limited (operands rest))
     go false a false b false d false h false f true e = rw (a, b, d, h, f, e) (workload_limited (operands rest))
     go false a false b false d false h false f false e = rw (a, b, d, h, f, e) tt
 

@@ -232,9 +232,9 @@ module _ (name : Text) where
   reaches xs (w ∷ ws) u = go (kind_of_word w (All-head IsUtf8 w ws u)) (λ r. reaches (xs ++ w ∷ []) ws (All-tail IsUtf8 w ws u))
     where
       go : Kind w → (Unit {0} → Reaches (xs ++ w ∷ []) ws (operands ws)) → Reaches xs (w ∷ ws) (operands (w ∷ ws))
-      go (dashes d) more = rw d (after_dashes xs w ws d)
-      go (long p d o l) more = rw (d, o) (after_option xs w ws (long_fails xs w p d l) (long_refused xs w p d l))
-      go (short b flags x d o l h c) more =
+      go (dashes d u) more = rw d (after_dashes xs w ws d)
+      go (long p d o l q u) more = rw (d, o) (after_option xs w ws (long_fails xs w p d l) (long_refused xs w p d l))
+      go (short b flags x d o l h c v u) more =
           rw (d, o) (after_option xs w ws (short_fails xs w b flags x d l h c) (short_refused xs w b flags x d l h c))
       go (operand d o l h) more = rw (d, o) (after_operand xs w ws (operands ws) d l h (more tt))
 
@@ -246,11 +246,11 @@ statement_rows (e ∷ []) = expr_row e ∷ []
 statement_rows (e ∷ w ∷ ws) = expr_row e ∷ words_row (w ∷ ws) ∷ []
 
 -- each text is text
-strings_fault : (ws : List Text) → values_kinds false value_parser.String ws ≡ []
+pub strings_fault : (ws : List Text) → values_kinds false value_parser.String ws ≡ []
 strings_fault [] = refl
 strings_fault (w ∷ ws) = strings_fault ws
 
-strings_pass : (ws : List Text) → list_all (accepts false value_parser.String) ws ≡ true
+pub strings_pass : (ws : List Text) → list_all (accepts false value_parser.String) ws ≡ true
 strings_pass [] = refl
 strings_pass (w ∷ ws) = strings_pass ws
 

@@ -197,9 +197,9 @@ stays n [] u = (false, here (after false n))
 stays n (w ∷ ws) u = go (kind_of_word w (All-head IsUtf8 w ws u))
   where
     go : Kind w → Stays n (w ∷ ws) (operands (w ∷ ws))
-    go (dashes d) = rw d (stays_dashes n w ws d)
-    go (long p d o l) = rw (d, o) (turn_fails _ w ws (long_after n w p d l))
-    go (short b flags x d o l h c) = rw (d, o) (turn_fails _ w ws (short_after n w b flags x d l h c))
+    go (dashes d u) = rw d (stays_dashes n w ws d)
+    go (long p d o l q u) = rw (d, o) (turn_fails _ w ws (long_after n w p d l))
+    go (short b flags x d o l h c v u) = rw (d, o) (turn_fails _ w ws (short_after n w b flags x d l h c))
     go (operand d o l h) = rw (d, o) (stays_operand n w ws (operands ws) (turn_fails _ w ws (second_operand n w d l h)))
 
 reaches_dashes : (w : Text) (ws : List Text) → bytes_eq w (45 ∷ 45 ∷ []) ≡ true → Reaches (w ∷ ws) (Some ws)
@@ -231,9 +231,9 @@ reaches [] u = (false, here (before false))
 reaches (w ∷ ws) u = go (kind_of_word w (All-head IsUtf8 w ws u))
   where
     go : Kind w → Reaches (w ∷ ws) (operands (w ∷ ws))
-    go (dashes d) = rw d (reaches_dashes w ws d)
-    go (long p d o l) = rw (d, o) (turn_fails _ w ws (long_before w p d l))
-    go (short b flags x d o l h c) = rw (d, o) (turn_fails _ w ws (short_before w b flags x d l h c))
+    go (dashes d u) = rw d (reaches_dashes w ws d)
+    go (long p d o l q u) = rw (d, o) (turn_fails _ w ws (long_before w p d l))
+    go (short b flags x d o l h c v u) = rw (d, o) (turn_fails _ w ws (short_before w b flags x d l h c))
     go (operand d o l h) = rw (d, o) (reaches_operand w ws (operands ws) d l h (stays w ws (All-tail IsUtf8 w ws u)))
 
 -- ---- after the walk

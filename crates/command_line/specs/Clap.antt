@@ -1,7 +1,7 @@
 -- The command that `clap` is given, and what its matches say.
-use Rattle.std.specs.Prelude.{ℕ, Bool, ◌&&◌, ◌^◌, length, nat_lt, true, List, []}
+use Rattle.std.specs.Prelude.{◌≡◌, ℕ, Bool, ◌&&◌, ◌^◌, length, nat_lt, true, false, List, []}
 use Rattle.std.specs.Prelude.{Option, Some, None, codes, if◌then◌else◌, option_map}
-use Rattle.std.specs.Prelude.{option_and_then, unwrap_or}
+use Rattle.std.specs.Prelude.{option_and_then, unwrap_or, is_some}
 use Rattle.std.specs.Str.{bytes_eq}
 use Rattle.std.specs.List.{list_all}
 use Rattle.std.specs.Char.{digit_value}
@@ -9,9 +9,13 @@ use Rattle.std.specs.Str.Parse.{digits_value, without_leading_plus}
 use Rattle.clap.specs.Lexer.{usize_max}
 use Rattle.clap.specs.Walk.{Row, Rule, Text, all_of, first_of, one_of}
 use Rattle.clap.specs.Simple.{App, new_app, new_rule, on_top, subcommand_of, with_rule, with_subcommand}
+use Rattle.clap.specs.ValueTests.{accepts}
+use Rattle.clap.specs.declared.builder.value_parser.ValueParser.{ValueParser}
 use Rattle.clap.specs.declared.builder.value_parser.ValueParser.TheVariants as value_parser
 use Rattle.limits.specs.Limits.{greatest_workload}
-use Rattle.command_line.specs.CommandLine.{CommandLine, Statement, Workload}
+use Rattle.command_line.specs.CommandLine.{CommandLine, Statement, Workload, over_named}
+use Rattle.command_line.specs.declared.Over.{Over}
+use Rattle.command_line.specs.declared.Over.TheVariants.{Ring}
 use Rattle.command_line.specs.declared.Task.{Task}
 use Rattle.command_line.specs.declared.Task.TheVariants.{Run, Kernel, Report, Auto, Plan}
 
@@ -29,8 +33,21 @@ size_rule = record (new_rule (codes "N")) {
   parser = Some (value_parser.Unsigned 0 greatest_workload);
 }
 
-abbrev pub statement_app : Text → App
-statement_app name = with_rule (with_rule (new_app name) expr_rule) word_rule
+-- the parser takes the names of semirings, and no other text
+abbrev pub TakesNames : ValueParser → Type 0
+TakesNames names = (text : Text) → accepts false names text ≡ is_some (over_named text)
+
+abbrev pub over_rule : ValueParser → Rule
+over_rule names = record (new_rule (codes "over")) {
+  long = Some (codes "over");
+  parser = Some names;
+}
+
+abbrev pub plan_app : App
+plan_app = with_rule (with_rule (new_app (codes "plan")) expr_rule) word_rule
+
+abbrev pub statement_app : ValueParser → Text → App
+statement_app names name = with_rule (with_rule (with_rule (new_app name) expr_rule) word_rule) (over_rule names)
 
 abbrev pub workload_app : App
 workload_app = with_rule (new_app (codes "gen")) size_rule
@@ -42,13 +59,13 @@ bare_app = on_top (λ s. record s {
   subcommand_required = true;
 }) (new_app (codes "taco"))
 
-abbrev pub taco_app : App
-taco_app = with_subcommand (with_subcommand (with_subcommand (with_subcommand (with_subcommand
-    (with_subcommand bare_app (statement_app (codes "run")).top)
-    (statement_app (codes "kernel")).top)
-    (statement_app (codes "report")).top)
-    (statement_app (codes "auto")).top)
-    (statement_app (codes "plan")).top)
+abbrev pub taco_app : ValueParser → App
+taco_app names = with_subcommand (with_subcommand (with_subcommand (with_subcommand (with_subcommand
+    (with_subcommand bare_app (statement_app names (codes "run")).top)
+    (statement_app names (codes "kernel")).top)
+    (statement_app names (codes "report")).top)
+    (statement_app names (codes "auto")).top)
+    plan_app.top)
     workload_app.top
 
 -- digits, after a `+` or none, whose number a `u64` holds
@@ -71,10 +88,22 @@ task_of name =
     else (if bytes_eq name (codes "auto") then Some Auto
     else (if bytes_eq name (codes "plan") then Some Plan else None))))
 
+-- the semiring that is named, or the ring
+abbrev pub named_or_ring : Option Text → Option Over
+named_or_ring None = Some Ring
+named_or_ring (Some name) = over_named name
+
+abbrev pub over_matched : List Row → Option Over
+over_matched rows = named_or_ring (first_of (codes "over") rows)
+
 -- the text of EXPR and the WORDs
+abbrev pub expr_matched : Task → Over → List Row → Option CommandLine
+expr_matched task over rows =
+    option_map (λ expr. Statement task over expr (unwrap_or (all_of (codes "WORD") rows) [])) (first_of (codes "EXPR") rows)
+
+-- and the semiring
 abbrev pub statement_matched : Task → List Row → Option CommandLine
-statement_matched task rows =
-    option_map (λ expr. Statement task expr (unwrap_or (all_of (codes "WORD") rows) [])) (first_of (codes "EXPR") rows)
+statement_matched task rows = option_and_then (λ over. expr_matched task over rows) (over_matched rows)
 
 -- the number that N is read as
 abbrev pub workload_matched : List Row → Option CommandLine
@@ -87,5 +116,5 @@ matched_line m =
     else option_and_then (λ task. statement_matched task m.1) (task_of m.0)
 
 -- what `clap`'s matches of the words say
-abbrev pub clap_line : List Text → Option CommandLine
-clap_line words = option_and_then matched_line (subcommand_of taco_app words)
+abbrev pub clap_line : ValueParser → List Text → Option CommandLine
+clap_line names words = option_and_then matched_line (subcommand_of (taco_app names) words)

@@ -1,18 +1,20 @@
 -- What a command line says, in plain words.
-use Rattle.std.specs.Prelude.{◌==◌, ◌&&◌, ℕ, Bool, false, List, [], ◌∷◌, length}
-use Rattle.std.specs.Prelude.{Option, Some, None, codes, if◌then◌else◌, option_map}
+use Rattle.std.specs.Prelude.{◌==◌, ◌&&◌, ℕ, Bool, true, false, List, [], ◌∷◌, length}
+use Rattle.std.specs.Prelude.{Option, Some, None, codes, if◌then◌else◌, option_map, is_some, unwrap_or}
 use Rattle.std.specs.Prelude.{nat_le, nat_lt}
-use Rattle.std.specs.List.{list_all}
+use Rattle.std.specs.List.{list_all, list_any, before_first, after_first}
 use Rattle.std.specs.Char.{digit_value}
 use Rattle.std.specs.Str.{bytes_eq}
 use Rattle.std.specs.Str.Parse.{digits_value, without_leading_plus}
 use Rattle.limits.specs.Limits.{greatest_workload}
+use Rattle.command_line.specs.declared.Over.{Over}
+use Rattle.command_line.specs.declared.Over.TheVariants.{Ring, MinPlus, Bits}
 use Rattle.command_line.specs.declared.Task.{Task}
 use Rattle.command_line.specs.declared.Task.TheVariants.{Run, Kernel, Report, Auto, Plan}
 
--- a statement with the words behind it, and what is asked for it; or the size of a generated workload
+-- a statement with the words behind it, what is asked for it, and the semiring of its values; or the size of a generated workload
 pub data CommandLine : Type 0 where
-  Statement : (task : Task) → (expr : List ℕ) → (words : List (List ℕ)) → CommandLine
+  Statement : (task : Task) → (over : Over) → (expr : List ℕ) → (words : List (List ℕ)) → CommandLine
   Workload : (size : ℕ) → CommandLine
 
 -- the word begins with `-` (45), and isn't `-` alone
@@ -29,10 +31,71 @@ operands (word ∷ rest) =
     else (if is_option word then None else option_map (λ xs. word ∷ xs) (operands rest))
 
 -- EXPR, and any number of WORDs
-abbrev pub statement_line : Task → Option (List (List ℕ)) → Option CommandLine
-statement_line task None = None
-statement_line task (Some []) = None
-statement_line task (Some (expr ∷ words)) = Some (Statement task expr words)
+abbrev pub statement_line : Task → Over → List (List ℕ) → Option CommandLine
+statement_line task over [] = None
+statement_line task over (expr ∷ words) = Some (Statement task over expr words)
+
+-- `plan` has no option
+abbrev pub plan_line : Option (List (List ℕ)) → Option CommandLine
+plan_line None = None
+plan_line (Some given) = statement_line Plan Ring given
+
+-- ---- `--over S` and `--over=S`
+
+-- the semiring of a name
+abbrev pub over_named : List ℕ → Option Over
+over_named name =
+    if bytes_eq (codes "ring") name then Some Ring
+    else (if bytes_eq (codes "minplus") name then Some MinPlus
+    else (if bytes_eq (codes "bits") name then Some Bits else None))
+
+-- the word is `--over`, or begins with `--over=`: two hyphens (45), and then `over` up to the first `=` (61)
+abbrev pub is_over : List ℕ → Bool
+is_over (b ∷ c ∷ rest) = b == 45 && (c == 45 && bytes_eq (codes "over") (before_first (λ x. x == 61) rest))
+is_over _ = false
+
+-- what stands behind that `=`, if there is one
+abbrev pub value_in : List ℕ → Option (List ℕ)
+value_in (b ∷ c ∷ rest) = if list_any (λ x. x == 61) rest then Some (after_first (λ x. x == 61) rest) else None
+value_in _ = None
+
+-- the operands behind a command, and the semiring that `--over` names among them
+pub record Behind : Type 0 where
+  pub operands : List (List ℕ)
+  pub over : Option Over
+
+-- one more operand in front
+abbrev pub with_operand : List ℕ → Option Behind → Option Behind
+with_operand word None = None
+with_operand word (Some behind) = Some (record behind { operands = word ∷ behind.operands })
+
+-- a semiring named in front: it has to be one, and mayn't be named twice
+abbrev pub with_over : Option Over → Option Behind → Option Behind
+with_over None behind = None
+with_over (Some over) None = None
+with_over (Some over) (Some behind) = if is_some behind.over then None else Some (record behind { over = Some over })
+
+-- `--over=S` names its S, and `--over` leaves it to the next word
+abbrev pub option_words : Option (List ℕ) → Option Behind → Option Behind → Option Behind
+option_words None due rest = due
+option_words (Some name) due rest = with_over (over_named name) rest
+
+-- the words after a command with that option, where the next one is the option's S, or isn't: the first `--` is dropped, and what
+-- stands behind it is operands alone; no other option stands before it
+abbrev pub words_from : Bool → List (List ℕ) → Option Behind
+words_from true [] = None
+words_from true (name ∷ rest) = with_over (over_named name) (words_from false rest)
+words_from false [] = Some (record { operands = []; over = None })
+words_from false (word ∷ rest) =
+    if bytes_eq word (codes "--") then Some (record { operands = rest; over = None })
+    else (if is_option word
+    then (if is_over word then option_words (value_in word) (words_from true rest) (words_from false rest) else None)
+    else with_operand word (words_from false rest))
+
+-- EXPR and any number of WORDs, over the semiring that is named, or the ring
+abbrev pub over_line : Task → Option Behind → Option CommandLine
+over_line task None = None
+over_line task (Some behind) = statement_line task (unwrap_or behind.over Ring) behind.operands
 
 -- digits, after a `+` or none, whose number is no greater than the limit
 abbrev pub is_size : List ℕ → Bool
@@ -53,11 +116,11 @@ workload_line (Some (size ∷ more ∷ rest)) = None
 
 abbrev pub line_of_command : List ℕ → List (List ℕ) → Option CommandLine
 line_of_command command rest =
-    if bytes_eq (codes "run") command then statement_line Run (operands rest)
-    else (if bytes_eq (codes "kernel") command then statement_line Kernel (operands rest)
-    else (if bytes_eq (codes "report") command then statement_line Report (operands rest)
-    else (if bytes_eq (codes "auto") command then statement_line Auto (operands rest)
-    else (if bytes_eq (codes "plan") command then statement_line Plan (operands rest)
+    if bytes_eq (codes "run") command then over_line Run (words_from false rest)
+    else (if bytes_eq (codes "kernel") command then over_line Kernel (words_from false rest)
+    else (if bytes_eq (codes "report") command then over_line Report (words_from false rest)
+    else (if bytes_eq (codes "auto") command then over_line Auto (words_from false rest)
+    else (if bytes_eq (codes "plan") command then plan_line (operands rest)
     else (if bytes_eq (codes "gen") command then workload_line (operands rest) else None)))))
 
 -- the program's name, a command and its operands

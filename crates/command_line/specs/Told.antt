@@ -7,7 +7,7 @@ use Rattle.command_line.specs.declared.RequestFault.{RequestFault}
 use Rattle.command_line.specs.declared.RequestFault.TheVariants as fault
 
 abbrev pub told : Request → CommandLine
-told (request.Statement task expr words) = Statement task expr.now (map (λ w. w.now) words.items)
+told (request.Statement task over expr words) = Statement task over expr.now (map (λ w. w.now) words.items)
 told (request.Workload size) = Workload size
 
 abbrev pub IsUsage : RequestFault → Type 0

@@ -5,12 +5,14 @@ ghost use Rattle.std.specs.Prelude.{◌≡◌, IfOk, IfErr, true, false, Some, N
 ghost use Rattle.std.specs.Prelude.{unwrap_or};
 ghost use Rattle.clap.specs.Words.{app_of, subcommand_of, subcommand_rows_of, takes, fault_of, all_of, first_of, one_of, rows_of, found_of};
 ghost use Rattle.clap.specs.Words.{kind_of};
+ghost use Rattle.clap.specs.Walk.{rule_of};
 ghost use Rattle.clap.specs.declared.builder.command.Command.TheViews.{out-Command};
 ghost use Rattle.limits.specs.Limits.{greatest_workload};
-ghost use Rattle.command_line.specs.CommandLine.{command_line_of};
-ghost use Rattle.command_line.specs.Clap.{statement_app, workload_app, taco_app, clap_line};
-ghost use Rattle.command_line.specs.Clap.{matched_line, statement_matched, task_of, u64_read};
+ghost use Rattle.command_line.specs.CommandLine.{command_line_of, over_named};
+ghost use Rattle.command_line.specs.Clap.{TakesNames, over_rule, plan_app, statement_app, workload_app, taco_app};
+ghost use Rattle.command_line.specs.Clap.{matched_line, over_matched, statement_matched, task_of, u64_read};
 ghost use Rattle.command_line.specs.Told.{told, IsUsage};
+ghost use Rattle.command_line.specs.Law.{IsToldOf, IsUntold};
 
 use clap::builder::ValueParser;
 use clap::error::ErrorKind;
@@ -33,12 +35,25 @@ pub enum Task {
     Plan,
 }
 
+/// The semiring over which a statement's values are added and multiplied.
+#[derive(Clone, Copy, Debug, PartialEq, Eq)]
+pub enum Over {
+    /// Whole numbers modulo 2^64.
+    Ring,
+    /// Numbers below 2^64 with the least of two as their sum, and their sum, at most 2^64-1, as their product.
+    MinPlus,
+    /// Sets of 64 bits: the bits of either as a sum, those of both as a product.
+    Bits,
+}
+
 /// What a command line says.
 #[derive(Debug, Drop)]
 pub enum Request<'a> {
-    /// The text of EXPR, the WORDs behind it in order, and what is asked for.
+    /// The text of EXPR, the WORDs behind it in order, what is asked for, and the semiring of the values: that of the ring where
+    /// none is named.
     Statement {
         task: Task,
+        over: Over,
         expr: &'a str,
         words: Vec<&'a str>,
     },
@@ -57,14 +72,48 @@ pub enum RequestFault {
     Memory,
 }
 
-/// A subcommand of one EXPR and any number of WORDs.
-fn statement_command<'a>(alloc: Global, name: &'a str) -> Result<Command<'a>, AllocError>
-    ensures app { IfOk result (λ c. app_of c ≡ statement_app name.entry.now) }
+/// The subcommand of one EXPR and any number of WORDs, and of no option.
+fn plan_command<'a>(alloc: Global) -> Result<Command<'a>, AllocError>
+    ensures app { IfOk result (λ c. app_of c ≡ plan_app) }
     ensures local { IfOk result (λ c. (out-Command c).has_globals ≡ false) }
 {
     let expr = Arg::new(alloc, "EXPR").required(true);
     let word = Arg::new(alloc, "WORD").num_args(0..);
-    let command = Command::new(alloc, name).arg(expr)?.arg(word)?;
+    let command = Command::new(alloc, "plan").arg(expr)?.arg(word)?;
+    Ok(command)
+}
+
+/// The names of semirings.
+const NAMES: &[&str] = &["ring", "minplus", "bits"];
+
+/// A parser of these names alone.
+fn names_parser<'a>() -> ValueParser<'a>
+    ensures { TakesNames result }
+{
+    ValueParser::Names(NAMES)
+}
+
+/// The option that names a semiring, read by this parser.
+fn over_option<'a>(alloc: Global, parser: ValueParser<'a>) -> Arg<'a>
+    ensures rule { rule_of result ≡ over_rule parser.entry }
+    ensures local { result.global ≡ false }
+{
+    Arg::new(alloc, "over").long("over").value_parser(parser)
+}
+
+/// A subcommand of one EXPR, any number of WORDs, and the option that names a semiring, read by this parser.
+fn statement_command<'a>(
+    alloc: Global,
+    parser: ValueParser<'a>,
+    name: &'a str,
+) -> Result<Command<'a>, AllocError>
+    ensures app { IfOk result (λ c. app_of c ≡ statement_app parser.entry name.entry.now) }
+    ensures local { IfOk result (λ c. (out-Command c).has_globals ≡ false) }
+{
+    let expr = Arg::new(alloc, "EXPR").required(true);
+    let word = Arg::new(alloc, "WORD").num_args(0..);
+    let over = over_option(alloc, parser);
+    let command = Command::new(alloc, name).arg(expr)?.arg(word)?.arg(over)?;
     Ok(command)
 }
 
@@ -87,15 +136,15 @@ fn workload_command<'a>(alloc: Global) -> Result<Command<'a>, AllocError>
     Ok(command)
 }
 
-/// The whole command.
-fn taco_command<'a>(alloc: Global) -> Result<Command<'a>, AllocError>
-    ensures app { IfOk result (λ c. app_of c ≡ taco_app) }
+/// The whole command, with this parser of the names of semirings.
+fn taco_command<'a>(alloc: Global, parser: ValueParser<'a>) -> Result<Command<'a>, AllocError>
+    ensures app { IfOk result (λ c. app_of c ≡ taco_app parser.entry) }
 {
-    let run = statement_command(alloc, "run")?;
-    let kernel = statement_command(alloc, "kernel")?;
-    let report = statement_command(alloc, "report")?;
-    let auto = statement_command(alloc, "auto")?;
-    let plan = statement_command(alloc, "plan")?;
+    let run = statement_command(alloc, parser, "run")?;
+    let kernel = statement_command(alloc, parser, "kernel")?;
+    let report = statement_command(alloc, parser, "report")?;
+    let auto = statement_command(alloc, parser, "auto")?;
+    let plan = plan_command(alloc)?;
     let workload = workload_command(alloc)?;
     let command = Command::new(alloc, "taco")
         .disable_help_flag(true)
@@ -120,14 +169,17 @@ fn fault_of_error(error: &clap::Error) -> RequestFault
     }
 }
 
-/// What `clap` finds in the words.
-fn parse_words<'a>(alloc: Global, words: &'a [String]) -> Result<ArgMatches<'a>, RequestFault>
-    ensures taken { IfOk result (λ _. fault_of taco_app (map string_bytes words.now) ≡ []) }
-    ensures exact { IfOk result (λ m. subcommand_rows_of m ≡ subcommand_of taco_app (map string_bytes words.now)) }
-    ensures usage { IfErr result (λ f. IsUsage f → takes taco_app (map string_bytes words.now) ≡ false) }
-    ensures fault { IfErr result (λ f. IsUsage f → fault_of taco_app (map string_bytes words.now) ≡ [] → ⊥) }
+/// What `clap` finds in the words, with this parser of the names of semirings.
+fn parse_words<'a>(
+    alloc: Global,
+    parser: ValueParser<'a>,
+    words: &'a [String],
+) -> Result<ArgMatches<'a>, RequestFault>
+    ensures taken { IfOk result (λ _. fault_of (taco_app parser.entry) (map string_bytes words.now) ≡ []) }
+    ensures exact { IfOk result (λ m. subcommand_rows_of m ≡ subcommand_of (taco_app parser.entry) (map string_bytes words.now)) }
+    ensures fault { IfErr result (λ f. IsUsage f → fault_of (taco_app parser.entry) (map string_bytes words.now) ≡ [] → ⊥) }
 {
-    match taco_command(alloc) {
+    match taco_command(alloc, parser) {
         Ok(command) => match command.try_get_matches_from(words) {
             Ok(matches) => Ok(matches),
             Err(error) => Err(fault_of_error(&error)),
@@ -141,6 +193,28 @@ fn expr_of<'a>(matches: &ArgMatches<'a>) -> Option<&'a str>
     ensures { option_map (λ s. s.now) result ≡ first_of (codes "EXPR") (rows_of (found_of matches.now)) }
 {
     matches.get_str("EXPR")
+}
+
+/// The semiring of a name.
+fn semiring_named(name: &str) -> Option<Over>
+    ensures { result ≡ over_named name.now }
+{
+    match name {
+        "ring" => Some(Over::Ring),
+        "minplus" => Some(Over::MinPlus),
+        "bits" => Some(Over::Bits),
+        _ => None,
+    }
+}
+
+/// The semiring that is named, or the ring.
+fn over_of(matches: &ArgMatches<'_>) -> Option<Over>
+    ensures { result ≡ over_matched (rows_of (found_of matches.now)) }
+{
+    match matches.get_str("over") {
+        Some(name) => semiring_named(name),
+        None => Some(Over::Ring),
+    }
 }
 
 /// The WORDs.
@@ -183,9 +257,14 @@ fn statement_of<'a>(
     ensures { IfOk result (λ r. option_map told r ≡ statement_matched task (rows_of (found_of matches.now))) }
 {
     let words = words_of(alloc, matches)?;
-    match expr_of(matches) {
-        Some(expr) => Ok(Some(Request::Statement { task, expr, words })),
-        None => Ok(None),
+    match (over_of(matches), expr_of(matches)) {
+        (Some(over), Some(expr)) => Ok(Some(Request::Statement {
+            task,
+            over,
+            expr,
+            words,
+        })),
+        _ => Ok(None),
     }
 }
 
@@ -223,12 +302,11 @@ pub fn read_request<'a>(alloc: Global, words: &'a [String]) -> Result<Request<'a
     ensures told { IfOk result (λ r. command_line_of (map string_bytes words.now) ≡ Some (told r)) }
     ensures untold { IfErr result (λ f. IsUsage f → command_line_of (map string_bytes words.now) ≡ None) }
 
-    // In the words of `clap`.
-    ensures taken { IfOk result (λ _. takes taco_app (map string_bytes words.now) ≡ true) }
-    ensures exact { IfOk result (λ r. clap_line (map string_bytes words.now) ≡ Some (told r)) }
-    ensures refused { IfErr result (λ f. IsUsage f → takes taco_app (map string_bytes words.now) ≡ false) }
+    // In the words of `clap`, by any parser of the names of semirings.
+    ensures exact { IfOk result (λ r. IsToldOf (told r) (map string_bytes words.now)) }
+    ensures refused { IfErr result (λ f. IsUsage f → IsUntold (map string_bytes words.now)) }
 {
-    match parse_words(alloc, words) {
+    match parse_words(alloc, names_parser(), words) {
         Ok(matches) => match matched(alloc, &matches) {
             Ok(Some(request)) => Ok(request),
             Ok(None) => Err(RequestFault::Usage),

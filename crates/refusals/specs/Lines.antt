@@ -61,6 +61,7 @@ abbrev pub status_of : Fault → ℕ
 status_of fault.Usage = 2
 status_of (fault.Notation why) = notation_status why
 status_of (fault.Named s why) = named_status why
+status_of (fault.NoMinus over) = 1
 status_of (fault.WorkspaceLimit count) = 6
 status_of (fault.ReadFault path) = 3
 status_of (fault.FileBytes path) = 6
@@ -170,6 +171,10 @@ named_line s (named.Cycle cycle) = cycle_text s cycle
 named_line s (named.Range why) = range_line s why
 named_line s (named.SizeLimit large) = size_text (name_at s.tensors large.tensor) large.level large.count
 
+-- a minus stands on the right, over a semiring that has none
+abbrev pub no_minus_text : List ℕ → List ℕ
+no_minus_text over = joined (codes "taco: minus has no meaning over " ∷ over ∷ codes "\n" ∷ [])
+
 abbrev pub kind_text : LineKind → List ℕ
 kind_text line.LongLine = codes ": LongLine\n"
 kind_text line.BadBanner = codes ": BadBanner\n"
@@ -183,6 +188,7 @@ kind_text line.NumRange = codes ": NumRange\n"
 kind_text line.ZeroCoordinate = codes ": ZeroCoordinate\n"
 kind_text line.CoordRange = codes ": CoordRange\n"
 kind_text line.SkewDiagonal = codes ": SkewDiagonal\n"
+kind_text line.Negative = codes ": Negative\n"
 kind_text line.Truncated = codes ": Truncated\n"
 
 -- a file has too many bytes, or a bad line
@@ -194,13 +200,14 @@ bad_line_text path number kind = of_name path (codes ": line " ∷ decimal numbe
 
 -- how a command line may be
 abbrev pub usage_line : List ℕ
-usage_line = codes "usage: taco run EXPR WORD.. | taco kernel EXPR WORD.. | taco report EXPR WORD.. | taco gen N"
-    ++ codes " | taco auto EXPR WORD.. | taco plan EXPR WORD..\n"
+usage_line = codes "usage: taco run [--over S] EXPR WORD.. | taco kernel [--over S] EXPR WORD.. | "
+    ++ codes "taco report [--over S] EXPR WORD.. | taco gen N | taco auto [--over S] EXPR WORD.. | taco plan EXPR WORD..\n"
 
 abbrev pub line_of : Fault → List ℕ
 line_of fault.Usage = usage_line
 line_of (fault.Notation why) = notation_line why
 line_of (fault.Named s why) = named_line s why
+line_of (fault.NoMinus over) = no_minus_text over.now
 line_of (fault.WorkspaceLimit count) = workspace_text count
 line_of (fault.ReadFault path) = of_name path.now (codes ": read fault\n" ∷ [])
 line_of (fault.FileBytes path) = file_bytes_text path.now greatest_file_bytes

@@ -38,6 +38,8 @@ pub enum Fault<'a> {
         statement: Statement,
         fault: NamedFault,
     },
+    /// A minus stands on the right, and the semiring of this name has none.
+    NoMinus(&'a str),
     /// The result's workspace would have so many pairs of coordinates and a value, which pass the limit.
     WorkspaceLimit(u64),
     /// Reading this file failed, or it isn't there.
@@ -65,7 +67,7 @@ impl<'a> Fault<'a> {
             Fault::Usage => 2,
             Fault::Notation(fault) => status_of_notation(fault),
             Fault::Named { fault, .. } => status_of_named(fault),
-            Fault::BadFile { .. } => 1,
+            Fault::NoMinus(_) | Fault::BadFile { .. } => 1,
             Fault::ReadFault(_) => 3,
             Fault::WriteFault(_) => 4,
             Fault::FileBytes(_) | Fault::WorkspaceLimit(_) => 6,

@@ -7,7 +7,7 @@ ghost use Rattle.bindings.specs.declared.fault.WordFault.TheVariants.{RangeLimit
 ghost use Rattle.index_notation.specs.declared.fault.NotationFault.TheVariants as notation;
 ghost use Rattle.refusals.specs.Lines.{of_word, of_name, limit_at, too_many_at, notation_line, name_line, word_line, bad_format_text};
 ghost use Rattle.refusals.specs.Lines.{binding_line, no_range_text, conflict_text, above_text, range_line, size_text, workspace_text};
-ghost use Rattle.refusals.specs.Lines.{names_behind, cycle_text, named_line, kind_text, file_bytes_text, bad_line_text, line_of};
+ghost use Rattle.refusals.specs.Lines.{names_behind, cycle_text, named_line, no_minus_text, kind_text, file_bytes_text, bad_line_text, line_of};
 
 use crate::fault::{Fault, NamedFault};
 use bindings::{BindingFault, WordFault, name_at};
@@ -25,8 +25,9 @@ use text_lines::{LineKind, Piece, put_all, put_pieces};
 const MEMORY: &[u8] = b"taco: out of memory\n";
 
 const USAGE: &[u8] =
-    b"usage: taco run EXPR WORD.. | taco kernel EXPR WORD.. | taco report EXPR WORD.. | taco gen N \
-      | taco auto EXPR WORD.. | taco plan EXPR WORD..\n";
+    b"usage: taco run [--over S] EXPR WORD.. | taco kernel [--over S] EXPR WORD.. | \
+      taco report [--over S] EXPR WORD.. | taco gen N | taco auto [--over S] EXPR WORD.. | \
+      taco plan EXPR WORD..\n";
 
 /// What is wrong with a format.
 fn text_of_format(fault: FormatFault) -> &'static [u8]
@@ -58,6 +59,7 @@ fn text_of_kind(kind: LineKind) -> &'static [u8]
         LineKind::ZeroCoordinate => b": ZeroCoordinate\n",
         LineKind::CoordRange => b": CoordRange\n",
         LineKind::SkewDiagonal => b": SkewDiagonal\n",
+        LineKind::Negative => b": Negative\n",
         LineKind::Truncated => b": Truncated\n",
     }
 }
@@ -491,6 +493,19 @@ fn put_named_line<S: Sink>(
     }
 }
 
+/// Appends the line of a minus that the semiring of this name has no meaning for.
+fn put_no_minus<S: Sink>(sink: &mut S, over: &str) -> Result<(), Refusal>
+    ensures whole { OnOk result (Appends (S.state sink.old) (S.state sink.new) (no_minus_text over.now)) }
+    ensures part { IfErr result (AppendsPart (S.state sink.old) (S.state sink.new) (no_minus_text over.now)) }
+{
+    let pieces = [
+        Piece::Text(b"taco: minus has no meaning over "),
+        Piece::Text(over.as_bytes()),
+        Piece::Text(b"\n"),
+    ];
+    put_pieces(sink, &pieces)
+}
+
 /// Appends the line of a file with a bad line.
 fn put_bad_line<S: Sink>(sink: &mut S, path: &str, line: u64, kind: LineKind) -> Result<(), Refusal>
     ensures whole { OnOk result (Appends (S.state sink.old) (S.state sink.new) (bad_line_text path.now line kind)) }
@@ -516,6 +531,7 @@ pub fn put_line<S: Sink>(sink: &mut S, fault: &Fault<'_>) -> Result<(), Refusal>
         Fault::Usage => put_all(sink, USAGE),
         Fault::Notation(fault) => put_notation_line(sink, fault),
         Fault::Named { statement, fault } => put_named_line(sink, statement, fault),
+        Fault::NoMinus(over) => put_no_minus(sink, over),
         Fault::WorkspaceLimit(count) => put_workspace(sink, *count),
         Fault::ReadFault(path) => put_of_path(sink, path, b": read fault\n"),
         Fault::FileBytes(path) => put_file_bytes(sink, path, greatest_bytes_of_file()),

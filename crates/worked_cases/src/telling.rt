@@ -1,7 +1,7 @@
 //! What texts of the program tell, with their kernels and their numbers of turns apart.
 use case_files::Answer;
 
-/// Tells a text, with `kernel {..}` in place of a kernel, and `turns ..` in place of numbers of turns that aren't shown.
+/// Tells a text, with `kernel {..}` or `kernel minplus {..}` in place of a kernel, and `turns ..` in place of numbers of turns that aren't shown.
 pub(crate) fn tell_text(answer: &mut Answer, text: &str, shows_turns: bool) {
     let mut is_inside = false;
     for line in text.split_inclusive('\n') {
@@ -9,9 +9,10 @@ pub(crate) fn tell_text(answer: &mut Answer, text: &str, shows_turns: bool) {
             // A line inside a kernel.
             continue;
         }
-        is_inside = line == "kernel {\n";
+        is_inside = line.starts_with("kernel ") && line.ends_with("{\n");
         if is_inside {
-            answer.tell("kernel {..");
+            answer.tell(line.trim_end());
+            answer.tell("..");
             continue;
         }
         match split_turns(line) {
@@ -27,7 +28,8 @@ pub(crate) fn tell_text(answer: &mut Answer, text: &str, shows_turns: bool) {
 
 /// The kernel of a text.
 pub(crate) fn kernel_in(text: &str) -> Option<&str> {
-    let (_before, kernel) = text.split_once("kernel {\n")?;
+    let (_before, kernel) = text.split_once("kernel ")?;
+    let (_semiring, kernel) = kernel.split_once("{\n")?;
     match kernel.split_once("\n}\n") {
         Some((kernel, _behind)) => Some(kernel),
         None => Some(kernel),

@@ -1,6 +1,6 @@
 use Rattle.std.proofs.Common.{ap, ap₂, codes, true, ◌≡◌, ◌∙◌}
 use Rattle.clap.specs.Simple.{App, Shape, app_of, app_of_fields, new_app, on_top, with_subcommand}
-use Rattle.command_line.specs.Clap.{bare_app, statement_app}
+use Rattle.command_line.specs.Clap.{bare_app, plan_app, statement_app}
 use Rattle.command_line.proofs.taco_command.Goals as goal
 
 abbrev top_of : App → Shape
@@ -17,11 +17,11 @@ returns c =
     ap app_of_fields c.disable_help_subcommand.ensures ∙ ap help flag_is in
     let bare_is : app_of c.subcommand_required.result ≡ bare_app =
     ap app_of_fields c.subcommand_required.ensures ∙ ap needs help_is in
-    let run : App = with_subcommand bare_app (statement_app (codes "run")).top in
-    let kernel : App = with_subcommand run (statement_app (codes "kernel")).top in
-    let report : App = with_subcommand kernel (statement_app (codes "report")).top in
-    let auto : App = with_subcommand report (statement_app (codes "auto")).top in
-    let plan : App = with_subcommand auto (statement_app (codes "plan")).top in
+    let run : App = with_subcommand bare_app (statement_app c.args.parser (codes "run")).top in
+    let kernel : App = with_subcommand run (statement_app c.args.parser (codes "kernel")).top in
+    let report : App = with_subcommand kernel (statement_app c.args.parser (codes "report")).top in
+    let auto : App = with_subcommand report (statement_app c.args.parser (codes "auto")).top in
+    let plan : App = with_subcommand auto plan_app.top in
     let run_is : app_of c.in_ok-subcommand.field-0 ≡ run =
     c.in_ok-subcommand.ensures.shape c.in_ok-run.ensures.local
     ∙ ap₂ with_subcommand bare_is (ap top_of c.in_ok-run.ensures.app) in
