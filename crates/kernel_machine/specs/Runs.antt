@@ -40,11 +40,12 @@ abbrev pub AreThese : List Letter → List ℕ → Arrays → List StorageLevel 
 AreThese letters sizes arrays these = (levels : List StorageLevel) → map meaning.kind levels ≡ letters → map meaning.size levels ≡ sizes
     → AreHeld levels 0 1 arrays → AreDone 1 levels → AllAlike levels these
 
--- the kernel finishes on the given arrays after these turns, and the tensor has what it leaves of the result: a storage of the store's
--- format and ranges, whose levels are finished and keep the rules of their kinds
-pub record HasRun (a : Arithmetic) (kernel : Kernel) (store : Store) (given : Arrays) (tensor : Storage) (turns : Turns) : Type 0 where
+-- the kernel finishes on the given arrays after these turns, so many at most, and the tensor has what it leaves of the result: a storage
+-- of the store's format and ranges, whose levels are finished and keep the rules of their kinds
+pub record HasRunWithin (a : Arithmetic) (kernel : Kernel) (store : Store) (given : Arrays) (budget : ℕ) (tensor : Storage) (turns : Turns)
+    : Type 0 where
   pub arrays : Arrays
-  pub ends : go a (length store.format) kernel given most_turns ≡ Finished arrays (count_of turns)
+  pub ends : go a (length store.format) kernel given budget ≡ Finished arrays (count_of turns)
   pub format_is : tensor.format ≡ store.format
   pub is_left : IsLeft store arrays tensor.levels tensor.values
   pub storage : IsStorage tensor
@@ -52,6 +53,10 @@ pub record HasRun (a : Arithmetic) (kernel : Kernel) (store : Store) (given : Ar
   pub keeps : All meaning.keeps tensor.levels
   pub sizes : map meaning.size tensor.levels ≡ result_sizes store
   pub alike : AreThese (letters_of store.format) (result_sizes store) (summed arrays) tensor.levels
+
+-- so it does within the turns that a run may make
+abbrev pub HasRun : Arithmetic → Kernel → Store → Arrays → Storage → Turns → Type 0
+HasRun a kernel store given tensor turns = HasRunWithin a kernel store given most_turns tensor turns
 
 -- the kernel appends no words, and sorts neither a scratch list nor a workspace
 abbrev pub WorksInPlace : Kernel → Type 0

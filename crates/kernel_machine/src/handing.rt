@@ -1,15 +1,16 @@
 //! The arrays of the result's levels, taken out of the machine.
-ghost use Rattle.std.specs.Prelude.{◌≡◌, ℕ, List, Some, false, true};
+ghost use Rattle.std.specs.Prelude.{◌≡◌, ℕ, List, Some, false, true, length};
 ghost use Rattle.kernel_code.specs.declared.syntax.Arr.{Arr};
 ghost use Rattle.kernel_code.specs.Arrays.{same_arr, may_write};
 ghost use Rattle.level_core.specs.Fragments.{IsOf};
 ghost use Rattle.kernel_interpreter.specs.Store.{state_of};
-ghost use Rattle.kernel_machine.specs.Runs.{WordsLeft};
+ghost use Rattle.kernel_machine.specs.Runs.{WordsLeft, WasHanded};
 
 use kernel_code::Arr;
 use kernel_interpreter::Machine;
 use seg_buffer::Segment;
 use std::alloc::Global;
+use storage_builder::Builder;
 use tensor_storage::LevelWords;
 
 /// The words of an array, taken out of the machine: none where the array isn't there.
@@ -36,5 +37,22 @@ pub(crate) fn taken_words(machine: &mut Machine, alloc: Global, level: u64) -> L
         ends,
         width,
         coordinates,
+    }
+}
+
+/// Hands over the arrays of each level.
+pub(crate) fn hand_over(
+    machine: &mut Machine,
+    builder: &mut Builder,
+    alloc: Global,
+    order: usize,
+)
+    requires order { order ≡ length builder.old.format }
+    requires long { length builder.old.parts ≡ order }
+    ensures { WasHanded builder.old (state_of machine.old).arrays builder.new (state_of machine.new).arrays }
+{
+    for number in 0..order {
+        let words = taken_words(machine, alloc, number as u64 + 1);
+        builder.hand_over(number + 1, words);
     }
 }

@@ -7,6 +7,8 @@
 //! what `go arithmetic order kernel given` says within 2^64 - 1 turns.
 #![tactic(auto)]
 
+mod checked_fault;
+mod checking;
 mod handing;
 mod prepared;
 mod preparing;
@@ -14,6 +16,8 @@ mod refusal;
 mod running;
 mod sizes;
 
+pub use checked_fault::CheckedFault;
+pub use checking::run_checked;
 pub use prepared::Prepared;
 pub use preparing::prepare;
 pub use refusal::RunRefusal;

@@ -11,9 +11,9 @@ ghost use Rattle.kernel_correctness.specs.Kernels.{IsSoundOn};
 ghost use Rattle.kernel_correctness.specs.Results.{LeavesStorage, IsLeft};
 ghost use Rattle.kernel_correctness.specs.Stores.{Store, result_sizes};
 ghost use Rattle.kernel_machine.specs.Begins.{IsReadyFor};
-ghost use Rattle.kernel_machine.specs.Runs.{most_turns, HasRun, IsRunRefusal, WasHanded, IsMadeFrom};
+ghost use Rattle.kernel_machine.specs.Runs.{most_turns, HasRun, IsRunRefusal, IsMadeFrom};
 
-use crate::handing::{taken_array, taken_words};
+use crate::handing::{hand_over, taken_array};
 use crate::prepared::Prepared;
 use crate::refusal::RunRefusal;
 use kernel_code::{Arr, Place, Turns};
@@ -32,7 +32,7 @@ fn most_turns() -> u64
 }
 
 /// Where an array that grew too long stands.
-fn place_of(order: usize, a: Arr) -> Place
+pub(crate) fn place_of(order: usize, a: Arr) -> Place
     ensures { result ≡ place_of order a }
 {
     match a {
@@ -45,18 +45,6 @@ fn place_of(order: usize, a: Arr) -> Place
         Arr::Key(_, _) | Arr::Sums(_) | Arr::ListCoordinates(_) | Arr::ListPositions(_) => {
             Place::Workspace
         }
-    }
-}
-
-/// Hands over the arrays of each level.
-fn hand_over(machine: &mut Machine, builder: &mut Builder, alloc: Global, order: usize)
-    requires order { order ≡ length builder.old.format }
-    requires long { length builder.old.parts ≡ order }
-    ensures { WasHanded builder.old (state_of machine.old).arrays builder.new (state_of machine.new).arrays }
-{
-    for number in 0..order {
-        let words = taken_words(machine, alloc, number as u64 + 1);
-        builder.hand_over(number + 1, words);
     }
 }
 

@@ -1,2 +1,4 @@
 pub mod Building
+pub mod Checked
+pub mod Cleared
 pub mod Made

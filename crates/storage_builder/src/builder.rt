@@ -1,15 +1,19 @@
 //! `Builder`: takes the arrays of a tensor's levels, and makes the tensor.
-ghost use Rattle.std.specs.Prelude.{◌≡◌, ◌≤◌, ◌-◌, List, [], All, length, replicate, slice_set, vec_capacity, IfOk, IsOk};
+ghost use Rattle.std.specs.Prelude.{◌≡◌, ◌≤◌, ◌-◌, List, [], All, length, replicate, slice_set, vec_capacity};
+ghost use Rattle.std.specs.Prelude.{Decides, IfOk, IsOk, MatchOption};
 ghost use Rattle.limits.specs.Limits.{greatest_position_count};
 ghost use Rattle.format_spec.specs.Formats.{IsFormat, letters_of};
 ghost use Rattle.tensor_storage.specs.Handed.{no_words};
 ghost use Rattle.tensor_storage.specs.Storages.{in_level_order};
 ghost use Rattle.tensor_storage.specs.declared.level.StorageLevel.{StorageLevel as Level};
 ghost use Rattle.storage_builder.specs.Building.{AreDense, dense_room, MayFinish};
+ghost use Rattle.storage_builder.specs.Checked.{HaveLevels, IsWhole, IsMadeOf};
 ghost use Rattle.storage_builder.specs.Made.{AllAlike, AreHandedOver};
 
+use crate::paths::have_paths;
 use crate::sizes::level_sizes;
 use format_spec::{Format, FormatLevel};
+use level_checks::{is_level, level_positions};
 use limits::greatest_positions;
 use seg_buffer::Segment;
 use std::alloc::{AllocError, Global};
@@ -75,6 +79,25 @@ fn make_levels(
         levels.push_reserved(level);
     }
     Ok(levels)
+}
+
+/// Whether there are levels of these kinds and ranges, one below another, that have the words which were handed over, and whether the
+/// last of them has so many positions.
+fn have_levels(format: &[FormatLevel], sizes: &[u64], parts: &[LevelWords], values: u64) -> bool
+    requires sizes_long { length sizes.now ≡ length format.now }
+    requires parts_long { length parts.now ≡ length format.now }
+    requires small { All (λ size. size ≤ greatest_position_count) sizes.now }
+    ensures { Decides result (HaveLevels (letters_of format.now) sizes.now parts.now 1 values) }
+{
+    let mut parents = 1;
+    for number in 0..format.len() {
+        let letter = format[number].letter;
+        if !is_level(&parts[number], letter, sizes[number], parents) {
+            return false;
+        }
+        parents = level_positions(&parts[number], letter, sizes[number], parents);
+    }
+    parents == values
 }
 
 /// The values of a segment, in a vector that has room for them or gets it.
@@ -173,5 +196,36 @@ impl Builder {
         let levels = make_levels(alloc, format.levels(), &sizes, parts, levels)?;
         let values = fill(room, &values)?;
         Ok(Tensor::from_levels(format, Items::from_vec(levels), Items::from_vec(values)))
+    }
+
+    /// The tensor of what was handed over, and of these values, where nothing is known of them: none exactly where they make no storage
+    /// that keeps every rule, with `nothing` at each value where no path ends. Refused for want of memory alone.
+    pub fn finish_checked(
+        self,
+        nothing: u64,
+        values: Segment<u64>,
+    ) -> Result<Option<Tensor>, AllocError>
+        ensures { IfOk result (λ made. MatchOption made (IsWhole nothing self values.items → ⊥)
+            (λ t. IsWhole nothing self values.items × IsMadeOf self values.items t)) }
+    {
+        let Builder {
+            alloc,
+            format,
+            sizes,
+            parts,
+            levels,
+            values: room,
+        } = self;
+        if !have_levels(format.levels(), &sizes, &parts, values.len() as u64) {
+            return Ok(None);
+        }
+        let levels = make_levels(alloc, format.levels(), &sizes, parts, levels)?;
+        let values = fill(room, &values)?;
+        if !have_paths(alloc, &levels, nothing, &values)? {
+            return Ok(None);
+        }
+        let levels = Items::from_vec(levels);
+        let values = Items::from_vec(values);
+        Ok(Some(Tensor::from_levels(format, levels, values)))
     }
 }

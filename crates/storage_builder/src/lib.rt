@@ -3,6 +3,7 @@
 #![tactic(auto)]
 
 mod builder;
+mod paths;
 mod sizes;
 
 pub use builder::Builder;

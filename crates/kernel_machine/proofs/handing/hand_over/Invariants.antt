@@ -1,6 +1,6 @@
 use Rattle.kernel_interpreter.specs.Store.{state_of}
 use Rattle.kernel_machine.proofs.HandedParts.{Handing}
-use Rattle.kernel_machine.proofs.running.hand_over.Given as goal
+use Rattle.kernel_machine.proofs.handing.hand_over.Given as goal
 
 -- the levels so far were handed over
 abbrev pub invariant-loop-number : goal.invariant-loop-number

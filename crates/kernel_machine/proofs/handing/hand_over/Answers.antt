@@ -3,7 +3,7 @@ use Rattle.std.specs.Prelude.{slice_set}
 use Rattle.storage_builder.specs.Building.{Building, building}
 use Rattle.kernel_interpreter.specs.Store.{state_of}
 use Rattle.kernel_machine.proofs.HandedParts.{Handing, handing_none, handing_more, handing_done}
-use Rattle.kernel_machine.proofs.running.hand_over.Goals as goal
+use Rattle.kernel_machine.proofs.handing.hand_over.Goals as goal
 
 pub loop-number-init : goal.loop-number-init
 loop-number-init c = handing_none c.args.builder.now (state_of c.args.machine.now).arrays

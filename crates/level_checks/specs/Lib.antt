@@ -1,0 +1,4 @@
+pub mod Found
+pub mod Orders
+pub mod Slots
+pub mod Widths
