@@ -2,14 +2,13 @@
 use Rattle.std.specs.Prelude.{◌≡◌, ◌≢◌, ℕ, ◌+◌, ◌%◌, ◌<◌}
 use Rattle.hashed_level.specs.Slots.{empty_slot, place}
 
--- coordinate x is sought from slot x mod w of the block on, wrapping, and slot j is met with neither an empty slot nor another one of x
--- before it
+-- coordinate x is sought from slot x mod w of the block on, wrapping, and slot j is met with no empty slot before it, nor another of x
 pub record IsFoundAt (f : ℕ → ℕ) (w base x j : ℕ) : Type 0 where
   pub steps : ℕ
   pub few : steps < w
   pub at : (x + steps) % w ≡ j
   pub filled : (k : ℕ) → k < steps → f (place w base x k) ≢ empty_slot
-  pub others : (k : ℕ) → k < steps → f (place w base x k) ≢ x
+  pub alone : (k : ℕ) → k < steps → f (place w base x k) ≡ x → (x + k) % w ≡ j
 
 -- a slot is empty, or holds a coordinate below n that is found there
 abbrev pub KeepsSlot : (ℕ → ℕ) → ℕ → ℕ → ℕ → ℕ → Type 0

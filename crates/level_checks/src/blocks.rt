@@ -3,6 +3,7 @@ ghost use Rattle.std.specs.Prelude.{Decides, ◌≡◌, ◌≢◌, ◌≤◌, �
 ghost use Rattle.limits.specs.Limits.{greatest_position_count};
 ghost use Rattle.hashed_level.specs.Slots.{empty_slot, filled, KeepsBlock};
 ghost use Rattle.level_checks.specs.Found.{IsFoundAt, KeepsSlot};
+ghost use Rattle.level_checks.specs.Widths.{coordinates_in};
 
 use hashed_level::coordinate_of;
 
@@ -58,7 +59,17 @@ pub(crate) fn keeps_block(slots: &[u64], size: u64, base: usize, width: usize) -
     true
 }
 
-/// How many slots of a block hold a coordinate.
+/// How many coordinates a slot holds: one, or none where it is empty.
+fn coordinates_in(word: u64) -> u64
+    ensures { result ≡ coordinates_in word }
+{
+    match coordinate_of(word) {
+        None => 0,
+        Some(_) => 1,
+    }
+}
+
+/// How many coordinates stand in the slots of a block.
 pub(crate) fn filled_slots(slots: &[u64], base: usize, width: usize) -> u64
     requires inside { base + width ≤ length slots.now }
     requires few { length slots.now ≤ greatest_position_count }
@@ -67,9 +78,7 @@ pub(crate) fn filled_slots(slots: &[u64], base: usize, width: usize) -> u64
 {
     let mut count = 0;
     for at in 0..width {
-        if coordinate_of(slots[base + at]).is_some() {
-            count += 1;
-        }
+        count += coordinates_in(slots[base + at]);
     }
     count
 }

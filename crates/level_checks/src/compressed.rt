@@ -51,13 +51,19 @@ pub(crate) fn is_compressed(
     requires few { parents ≤ greatest_position_count }
     ensures { Decides result ((l : CompressedLevel) × HasWords size unique parents numbers.now coords.now l) }
 {
-    if numbers.len() as u64 != parents + 1 || numbers[0] != 0 {
+    if numbers.len() as u64 != parents + 1 {
         return false;
     }
-    let counts = &numbers[1..];
+    if numbers[0] != 0 {
+        return false;
+    }
+    let (_zero, counts) = numbers.split_at(1);
     let count = coords.len() as u64;
-    count <= greatest_positions()
-        && add_up(counts, count)
-        && are_below(size, coords)
-        && parts_rise(unique, counts, coords)
+    if count > greatest_positions() {
+        return false;
+    }
+    if !add_up(counts, count) {
+        return false;
+    }
+    are_below(size, coords) && parts_rise(unique, counts, coords)
 }

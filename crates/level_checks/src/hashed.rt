@@ -58,7 +58,7 @@ pub(crate) fn is_hashed(size: u64, parents: u64, width: &[u64], slots: &[u64]) -
         return false;
     }
     let width = width[0];
-    if parents.checked_mul(width) != Some(slots.len() as u64) {
+    if parents as u128 * width as u128 != slots.len() as u128 {
         return false;
     }
     let width = width as usize;

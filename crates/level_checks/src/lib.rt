@@ -8,3 +8,6 @@ mod coordinates;
 mod dense;
 mod hashed;
 mod singleton;
+mod words;
+
+pub use words::{is_level, level_positions, may_ask};

@@ -15,7 +15,10 @@ pub(crate) fn is_singleton(size: u64, unique: bool, parents: u64, coords: &[u64]
     requires few { parents ≤ greatest_position_count }
     ensures { Decides result ((l : Level) × HasWords size unique parents coords.now l) }
 {
-    coords.len() as u64 == parents && are_below(size, coords)
+    if coords.len() as u64 != parents {
+        return false;
+    }
+    are_below(size, coords)
 }
 
 /// Whether positions may be asked as one parent: whether their coordinates keep the order.

@@ -12,7 +12,7 @@ use crate::compressed::is_compressed;
 use crate::dense::is_dense;
 use crate::hashed::is_hashed;
 use crate::singleton::{is_singleton, may_ask_singleton};
-use level_core::{Letter, Span};
+use level_core::{Letter, Span, props_of};
 use tensor_storage::{LevelWords, StorageLevel};
 
 /// Whether a finished level of this kind and range, below so many parents, has these words, and keeps the rules of its kind. Blocks of a
@@ -41,7 +41,8 @@ pub fn level_positions(words: &LevelWords, letter: Letter, size: u64, parents: u
     ensures is { result ≡ positions_by letter size parents words.now }
     ensures few { result ≤ greatest_position_count }
 {
-    if letter == Letter::Dense {
+    let full = props_of(letter).full;
+    if full {
         parents * size
     } else {
         words.coordinates.len() as u64

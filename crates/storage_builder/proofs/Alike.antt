@@ -59,13 +59,13 @@ stores_alike l m parents positions rows place a s = record {
           (sym (ap (λ es. coord_at es pos) (a.entries parent)) ∙ is);
     }
 
-alike_kinds : (ls ms : List StorageLevel) → AllAlike ls ms → map meaning.kind ms ≡ map meaning.kind ls
+pub alike_kinds : (ls ms : List StorageLevel) → AllAlike ls ms → map meaning.kind ms ≡ map meaning.kind ls
 alike_kinds [] [] same = refl
 alike_kinds [] (m ∷ ms) same = absurd same
 alike_kinds (l ∷ ls) [] same = absurd same
 alike_kinds (l ∷ ls) (m ∷ ms) same = λ i. same.0.kind i ∷ alike_kinds ls ms same.1 i
 
-alike_open : (ls ms : List StorageLevel) (positions : ℕ) (span : Span) → AllAlike ls ms → IsOpen meaning ls positions span
+pub alike_open : (ls ms : List StorageLevel) (positions : ℕ) (span : Span) → AllAlike ls ms → IsOpen meaning ls positions span
     → IsOpen meaning ms positions span
 alike_open [] [] positions span same o = o
 alike_open [] (m ∷ ms) positions span same o = absurd same

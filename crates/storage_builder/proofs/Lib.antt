@@ -1,4 +1,8 @@
 pub mod Alike
+pub mod Clearing
+pub mod Descending
 pub mod Finishing
+pub mod Having
 pub mod Making
 pub mod Room
+pub mod Wholes

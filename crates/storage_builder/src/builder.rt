@@ -92,10 +92,12 @@ fn have_levels(format: &[FormatLevel], sizes: &[u64], parts: &[LevelWords], valu
     let mut parents = 1;
     for number in 0..format.len() {
         let letter = format[number].letter;
-        if !is_level(&parts[number], letter, sizes[number], parents) {
+        let size = sizes[number];
+        let part = &parts[number];
+        if !is_level(part, letter, size, parents) {
             return false;
         }
-        parents = level_positions(&parts[number], letter, sizes[number], parents);
+        parents = level_positions(part, letter, size, parents);
     }
     parents == values
 }
@@ -220,10 +222,11 @@ impl Builder {
             return Ok(None);
         }
         let levels = make_levels(alloc, format.levels(), &sizes, parts, levels)?;
-        let values = fill(room, &values)?;
-        if !have_paths(alloc, &levels, nothing, &values)? {
+        let mut copies = fill(Vec::new(alloc), &values)?;
+        if !have_paths(alloc, &levels, nothing, &mut copies)? {
             return Ok(None);
         }
+        let values = fill(room, &values)?;
         let levels = Items::from_vec(levels);
         let values = Items::from_vec(values);
         Ok(Some(Tensor::from_levels(format, levels, values)))

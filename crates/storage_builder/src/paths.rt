@@ -15,7 +15,8 @@ use tensor_storage::StorageLevel;
 
 /// Whether a span is the position of a value, in whose place `nothing` is put then.
 fn clear_value(span: Span, nothing: u64, values: &mut [u64]) -> bool
-    ensures { Decides result ((span.hi ≡ span.lo + 1) × (span.lo < length values.old)) }
+    requires { span.lo < span.hi }
+    ensures one { Decides result ((span.hi ≡ span.lo + 1) × (span.lo < length values.old)) }
     ensures long { length values.new ≡ length values.old }
     ensures cleared { result ≡ true → values.new ≡ slice_set values.old span.lo nothing }
 {
@@ -55,7 +56,8 @@ fn clear_paths(
     }
     let count = positions_of(level, parents);
     let entries = walk(alloc, level, span)?;
-    for entry in entries.as_slice() {
+    let found = entries.as_slice();
+    for entry in found {
         if !clear_paths(
             alloc,
             levels,
@@ -75,25 +77,29 @@ fn clear_paths(
 fn are_all(nothing: u64, values: &[u64]) -> bool
     ensures { Decides result (All (λ value. value ≡ nothing) values.now) }
 {
-    values.iter().all(|value| *value == nothing)
+    for value in values {
+        if *value != nothing {
+            return false;
+        }
+    }
+    true
 }
 
 /// Whether below each path through the levels the next one may be asked, each path ends at one of the values, and `nothing` is each value
-/// where no path ends. Refused for want of memory alone.
+/// where no path ends. `nothing` is put in the place of the others. Refused for want of memory alone.
 pub(crate) fn have_paths(
     alloc: Global,
     levels: &[StorageLevel],
     nothing: u64,
-    values: &[u64],
+    values: &mut [u64],
 ) -> Result<bool, AllocError>
     requires { AreDone 1 levels.now }
     ensures { IfOk result (λ b. Decides b
-        (IsOpen meaning levels.now (length values.now) (one 0) × HasZeros nothing levels.now values.now)) }
+        (IsOpen meaning levels.now (length values.old) (one 0) × HasZeros nothing levels.now values.old)) }
 {
-    let mut left = values.to_vec(alloc)?;
     let top = Span { lo: 0, hi: 1 };
-    if !clear_paths(alloc, levels, 0, 1, top, nothing, &mut left)? {
+    if !clear_paths(alloc, levels, 0, 1, top, nothing, values)? {
         return Ok(false);
     }
-    Ok(are_all(nothing, &left))
+    Ok(are_all(nothing, values))
 }
