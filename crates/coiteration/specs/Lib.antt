@@ -1,6 +1,7 @@
 pub mod Cursors
 pub mod Either
 pub mod EitherLaws
+pub mod Ending
 pub mod Fronts
 pub mod Laws
 pub mod Merges

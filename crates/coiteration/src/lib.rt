@@ -12,6 +12,6 @@ mod pieces;
 mod sides;
 
 pub use cursor::Cursor;
-pub use merging::{merged_loop, ranged_loop};
+pub use merging::{below_range, merged_loop, ranged_loop};
 pub use pieces::{LevelCursor, RangeCursor};
 pub use sides::EitherCursor;

@@ -1,5 +1,7 @@
 pub mod AddLaws
 pub mod BothLaws
+pub mod Coming
+pub mod EndingLaws
 pub mod Equations
 pub mod Fits
 pub mod Kept
@@ -9,6 +11,7 @@ pub mod OffRange
 pub mod Pieces
 pub mod Rows
 pub mod Sequences
+pub mod TellingLaws
 pub mod Turns
 pub mod Walks
 pub mod Whole

@@ -3,9 +3,11 @@
 //! code adds the contributions of a loop tree, within how many turns, and what a state that it is run from has to hold.
 #![tactic(auto)]
 
+mod alone;
 mod beginning;
 mod closing;
 mod emitting;
+mod ending;
 mod opening;
 
 pub use emitting::emit;

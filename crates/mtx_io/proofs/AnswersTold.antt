@@ -20,10 +20,10 @@ kind_of_fault : Result Matrix BadLine → LineKind
 kind_of_fault (Ok matrix) = Truncated
 kind_of_fault (Err bad) = bad.kind
 
-module _ (a : Arithmetic) (has_minus : Bool) (reader : MtxReader) (calm : reader.wants ≡ false) where
-  answer_by : (what : Result Matrix BadLine) → matrix_of_text a has_minus reader.order reader.text ≡ what
+module _ (a : Arithmetic) (has_minus signed : Bool) (reader : MtxReader) (calm : reader.wants ≡ false) where
+  answer_by : (what : Result Matrix BadLine) → matrix_of_text a has_minus signed reader.order reader.text ≡ what
       → (r : Result (Entries × ℕ × ℕ) FileFault) → Tells (told what) reader.order r
-      → MatchResult r (IsRead a has_minus reader) (Refuses a has_minus reader)
+      → MatchResult r (IsRead a has_minus signed reader) (Refuses a has_minus signed reader)
   unfolding number_of_fault kind_of_fault
   answer_by (Ok matrix) e (Ok read) tells = record { wants = calm; order_is = tells.1; matrix_is = e ∙ tells.0 }
   answer_by (Err bad) e (Ok read) tells = let never = tells.0 in absurd (cc)
@@ -39,6 +39,6 @@ module _ (a : Arithmetic) (has_minus : Bool) (reader : MtxReader) (calm : reader
   answer_by what e (Err (Memory error)) tells = absurd tells
 
   pub answer_told : (r : Result (Entries × ℕ × ℕ) FileFault)
-      → Tells (told (matrix_of_text a has_minus reader.order reader.text)) reader.order r
-      → MatchResult r (IsRead a has_minus reader) (Refuses a has_minus reader)
-  answer_told r tells = answer_by (matrix_of_text a has_minus reader.order reader.text) refl r tells
+      → Tells (told (matrix_of_text a has_minus signed reader.order reader.text)) reader.order r
+      → MatchResult r (IsRead a has_minus signed reader) (Refuses a has_minus signed reader)
+  answer_told r tells = answer_by (matrix_of_text a has_minus signed reader.order reader.text) refl r tells

@@ -166,7 +166,7 @@ index_below size (Some (suc i)) = by (nat_lt i greatest_file_coordinate) (nat_lt
     by true false e = tt
     by true true e = ltb-true i size e
 
-module _ (header : Header) where
+module _ (signed : Bool) (header : Header) where
   place_within : (which : Symmetry) (row column : Result ℕ LineKind) → IfOk row (λ i. i < header.rows)
       → IfOk column (λ j. j < header.columns)
       → IfOk (place_from which row column) (IsWithin header)
@@ -185,13 +185,13 @@ module _ (header : Header) where
   placed_within (Ok place) (Ok value) within = within
 
   entry_within : (slot : Slot) (words : List (List ℕ)) → IsSlot header slot
-      → IfOk (entry_of header slot words) (λ told. IsWithin header told.place)
+      → IfOk (entry_of signed header slot words) (λ told. IsWithin header told.place)
   entry_within Anywhere words inside = by (three_tokens words)
     where
-      by : (t : Option (List ℕ × List ℕ × List ℕ)) → IfOk (entry_of_three header t) (λ told. IsWithin header told.place)
+      by : (t : Option (List ℕ × List ℕ × List ℕ)) → IfOk (entry_of_three signed header t) (λ told. IsWithin header told.place)
       by None = tt
       by (Some t) =
-          placed_within (place_from header.symmetry (index_of header.rows t.0) (index_of header.columns t.1)) (value_of t.2)
+          placed_within (place_from header.symmetry (index_of header.rows t.0) (index_of header.columns t.1)) (value_of signed t.2)
           (place_within header.symmetry (index_of header.rows t.0) (index_of header.columns t.1)
           (index_below header.rows (number_of t.0)) (index_below header.columns (number_of t.1)))
   entry_within (Valued value) words inside = by (two_tokens words)
@@ -204,20 +204,20 @@ module _ (header : Header) where
           (index_below header.rows (number_of t.0)) (index_below header.columns (number_of t.1)))
   entry_within (At place) words inside = by (one_token words)
     where
-      by : (t : Option (List ℕ)) → IfOk (entry_of_one place t) (λ told. IsWithin header told.place)
+      by : (t : Option (List ℕ)) → IfOk (entry_of_one signed place t) (λ told. IsWithin header told.place)
       by None = tt
-      by (Some t) = placed_within (Ok place) (value_of t) inside
+      by (Some t) = placed_within (Ok place) (value_of signed t) inside
 
   due_within : (slots : List Slot) (words : List (List ℕ)) → All (IsSlot header) slots
-      → IfOk (entry_due header slots words) (λ told. IsWithin header told.place)
+      → IfOk (entry_due signed header slots words) (λ told. IsWithin header told.place)
   due_within [] words inside = tt
   due_within (slot ∷ slots) words inside = entry_within slot words (inside 0 slot (omega arith))
 
   line_within : (slots : List Slot) (line : List ℕ) → All (IsSlot header) slots
-      → IfOk (entry_line header slots line) (λ told. IsWithin header told.place)
+      → IfOk (entry_line signed header slots line) (λ told. IsWithin header told.place)
   line_within slots line inside = by (is_long line)
     where
-      by : (b : Bool) → IfOk (cond b (Err LongLine) (entry_due header slots (tokens line))) (λ told. IsWithin header told.place)
+      by : (b : Bool) → IfOk (cond b (Err LongLine) (entry_due signed header slots (tokens line))) (λ told. IsWithin header told.place)
       by true = tt
       by false = due_within slots (tokens line) inside
 
@@ -230,7 +230,7 @@ below_by order rows columns row column is r c = by (order == 1)
     by true = (r, tt)
     by false = (r, (c, tt))
 
-module _ (a : Arithmetic) (order : ℕ) (is : IsMatrixOrder order) (header : Header) (sizes : AreSizes order header) where
+module _ (a : Arithmetic) (signed : Bool) (order : ℕ) (is : IsMatrixOrder order) (header : Header) (sizes : AreSizes order header) where
   abbrev IsBelowSizes : Entry → Type 0
   IsBelowSizes entry = IsBelow (coords_of order header.rows header.columns) entry.coords
 
@@ -283,18 +283,18 @@ module _ (a : Arithmetic) (order : ℕ) (is : IsMatrixOrder order) (header : Hea
   slots_left (slot ∷ slots) inside = All-tail (IsSlot header) slot slots inside
 
   lines_below : (end : ℕ) (slots : List Slot) (taken : List NumberedLine) → All (IsSlot header) slots
-      → IfOk (entries_from a header end slots taken) (All IsBelowSizes)
+      → IfOk (entries_from a signed header end slots taken) (All IsBelowSizes)
   lines_below end [] [] inside = All-nil IsBelowSizes
   lines_below end (slot ∷ slots) [] inside = tt
   lines_below end slots (line ∷ more) inside =
-      before_below line.number (entry_line header slots line.bytes) (entries_from a header end (drop 1 slots) more)
-      (line_within header slots line.bytes inside) (lines_below end (drop 1 slots) more (slots_left slots inside))
+      before_below line.number (entry_line signed header slots line.bytes) (entries_from a signed header end (drop 1 slots) more)
+      (line_within signed header slots line.bytes inside) (lines_below end (drop 1 slots) more (slots_left slots inside))
 
 -- a matrix with such a header
 one_column : (order columns : ℕ) → suits order columns ≡ true → order ≡ 1 → columns ≡ 1
 one_column order columns e is = eqb-true columns 1 (sym (ap (λ b. not b || (columns == 1)) (eq-eqb order 1 is)) ∙ e)
 
-module _ (a : Arithmetic) (order : ℕ) (is : IsMatrixOrder order) where
+module _ (a : Arithmetic) (signed : Bool) (order : ℕ) (is : IsMatrixOrder order) where
   with_below : (header : Header) → AreSizes order header → (read : Result (List Entry) BadLine)
       → IfOk read (All (λ entry. IsBelow (coords_of order header.rows header.columns) entry.coords))
       → IfOk (matrix_with header read) (IsOfSizes order)
@@ -307,11 +307,11 @@ module _ (a : Arithmetic) (order : ℕ) (is : IsMatrixOrder order) where
   }
 
   behind_size_below : (end number : ℕ) (sized : Result Sized LineKind) (more : List NumberedLine) → IfOk sized (IsSizedWell order)
-      → IfOk (behind_size a end number sized more) (IsOfSizes order)
+      → IfOk (behind_size a signed end number sized more) (IsOfSizes order)
   behind_size_below end number (Err kind) more well = tt
   behind_size_below end number (Ok sized) more well =
-      with_below sized.header well.sizes (entries_from a sized.header end sized.slots more)
-      (lines_below a order is sized.header well.sizes end sized.slots more well.slots_in)
+      with_below sized.header well.sizes (entries_from a signed sized.header end sized.slots more)
+      (lines_below a signed order is sized.header well.sizes end sized.slots more well.slots_in)
 
   size_line_well : (banner : Banner) (line : List ℕ) → IfOk (size_line a.one order banner line) (IsSizedWell order)
   size_line_well banner line = by (is_long line) (size_of a.one order banner (tokens line)) (size_well a.one order banner (tokens line))
@@ -322,23 +322,24 @@ module _ (a : Arithmetic) (order : ℕ) (is : IsMatrixOrder order) where
       by false None well = tt
       by false (Some sized) well = well
 
-  sized_below : (end : ℕ) (banner : Banner) (taken : List NumberedLine) → IfOk (sized_from a order end banner taken) (IsOfSizes order)
+  sized_below : (end : ℕ) (banner : Banner) (taken : List NumberedLine)
+      → IfOk (sized_from a signed order end banner taken) (IsOfSizes order)
   sized_below end banner [] = tt
   sized_below end banner (line ∷ more) =
       behind_size_below end line.number (size_line a.one order banner line.bytes) more (size_line_well banner line.bytes)
 
   banner_below : (end number : ℕ) (banner : Result Banner LineKind) (more : List NumberedLine)
-      → IfOk (behind_banner a order end number banner more) (IsOfSizes order)
+      → IfOk (behind_banner a signed order end number banner more) (IsOfSizes order)
   banner_below end number (Err kind) more = tt
   banner_below end number (Ok banner) more = sized_below end banner (kept more)
 
   matrix_below : (has_minus : Bool) (number : ℕ) (taken : List (List ℕ))
-      → IfOk (matrix_from a has_minus order number taken) (IsOfSizes order)
+      → IfOk (matrix_from a has_minus signed order number taken) (IsOfSizes order)
   matrix_below has_minus number [] = tt
   matrix_below has_minus number (line ∷ more) =
       banner_below (number + length (line ∷ more)) number (banner_line has_minus line) (numbered (number + 1) more)
 
 -- what a text says
-pub text_below : (a : Arithmetic) (has_minus : Bool) (order : ℕ) (text : List ℕ) → IsMatrixOrder order
-    → IfOk (matrix_of_text a has_minus order text) (IsOfSizes order)
-text_below a has_minus order text is = matrix_below a order is has_minus 1 (lines text)
+pub text_below : (a : Arithmetic) (has_minus signed : Bool) (order : ℕ) (text : List ℕ) → IsMatrixOrder order
+    → IfOk (matrix_of_text a has_minus signed order text) (IsOfSizes order)
+text_below a has_minus signed order text is = matrix_below a signed order is has_minus 1 (lines text)

@@ -73,37 +73,39 @@ entry_more taken line some kept here =
 ended_told : (text : List ℕ) → has_long_line text ≡ false → ended_lines text ≡ told_lines text
 ended_told text short = sym (all_told (ended_lines text) (short_now text short).0)
 
-known_of : (stage : Stage) (taken : List (List ℕ)) (line : List ℕ) → TellsEntry stage line → IsKnown stage taken
+known_of : (signed : Bool) (stage : Stage) (taken : List (List ℕ)) (line : List ℕ) → TellsEntry signed stage line → IsKnown stage taken
     → (0 < length taken) × (0 < length (kept_lines taken))
-known_of First taken line is known = absurd is
-known_of (Begun banner) taken line is known = absurd is
-known_of (Sized sized) taken line is known = known
-known_of (Bad bad kind) taken line is known = absurd is
+known_of signed First taken line is known = absurd is
+known_of signed (Begun banner) taken line is known = absurd is
+known_of signed (Sized sized) taken line is known = known
+known_of signed (Bad bad kind) taken line is known = absurd is
 
 -- with an entry line that is read no line is bad
 told_good : (r : Result Matrix BadLine) → IsGoodSoFar (told r) → IsGoodSoFar r
 told_good (Ok matrix) good = tt
 told_good (Err bad) good = good
 
-module _ (a : Arithmetic) (has_minus : Bool) (order : ℕ) where
+module _ (a : Arithmetic) (has_minus signed : Bool) (order : ℕ) where
   sized_good : (entries : List Entry) (header : Header) (slots : List Slot) (number : ℕ)
-      → IsGoodSoFar (told (rest_of a has_minus order entries (Sized (record { header = header; slots = slots })) number []))
+      → IsGoodSoFar (told (rest_of a has_minus signed order entries (Sized (record { header = header; slots = slots })) number []))
   sized_good entries header [] number = tt
   sized_good entries header (slot ∷ slots) number = refl
 
   good_so_far : (taken : List (List ℕ)) (line : List ℕ) (entries : List Entry) (sized : Sized') (what : PlacedValue)
-      → Leaves a has_minus order taken entries (Sized sized) → is_long line ≡ false → is_skipped line ≡ false
-      → Ok what ≡ entry_due sized.header sized.slots (tokens line) → IsGoodSoFar (matrix_from a has_minus order 1 (taken ++ line ∷ []))
+      → Leaves a has_minus signed order taken entries (Sized sized) → is_long line ≡ false → is_skipped line ≡ false
+      → Ok what ≡ entry_due signed sized.header sized.slots (tokens line)
+      → IsGoodSoFar (matrix_from a has_minus signed order 1 (taken ++ line ∷ []))
   good_so_far taken line entries sized what leaves short here e =
       let number : ℕ = length taken + 1 in
-      told_good (matrix_from a has_minus order 1 (taken ++ line ∷ []))
-      (subst IsGoodSoFar (entry_good a has_minus order (counted number) line entries sized what short here e number [] refl
+      told_good (matrix_from a has_minus signed order 1 (taken ++ line ∷ []))
+      (subst IsGoodSoFar (entry_good a has_minus signed order (counted number) line entries sized what short here e number [] refl
       ∙ sym (leaves (line ∷ [])))
       (sized_good (entries ++ entries_of a sized.header what) sized.header (drop 1 sized.slots) (number + 1)))
 
-  good_by : (taken : List (List ℕ)) (line : List ℕ) (entries : List Entry) (stage : Stage) → Leaves a has_minus order taken entries stage
-      → is_long line ≡ false → is_skipped line ≡ false → TellsEntry stage line
-      → IsGoodSoFar (matrix_from a has_minus order 1 (taken ++ line ∷ []))
+  good_by : (taken : List (List ℕ)) (line : List ℕ) (entries : List Entry) (stage : Stage)
+      → Leaves a has_minus signed order taken entries stage
+      → is_long line ≡ false → is_skipped line ≡ false → TellsEntry signed stage line
+      → IsGoodSoFar (matrix_from a has_minus signed order 1 (taken ++ line ∷ []))
   good_by taken line entries First leaves short here tells = absurd tells
   good_by taken line entries (Begun banner) leaves short here tells = absurd tells
   good_by taken line entries (Sized sized) leaves short here tells = good_so_far taken line entries sized tells.0 leaves short here tells.1
@@ -111,14 +113,14 @@ module _ (a : Arithmetic) (has_minus : Bool) (order : ℕ) where
 
   -- an entry line was told
   pub entry_ends : (fed : List ℕ) (old new : LineReader) (bytes line : List ℕ) (entries : List Entry) (stage : Stage)
-      → new.text ≡ old.text ++ bytes → TellsThis old new line → ReadsOn a has_minus order fed old.text entries stage
-      → is_skipped line ≡ false → TellsEntry stage line → EndsEntry a has_minus order fed bytes
+      → new.text ≡ old.text ++ bytes → TellsThis old new line → ReadsOn a has_minus signed order fed old.text entries stage
+      → is_skipped line ≡ false → TellsEntry signed stage line → EndsEntry a has_minus signed order fed bytes
   entry_ends fed old new bytes line entries stage grows tells on here entry =
-      let known = known_of stage (told_lines old.text) line entry on.3 in
+      let known = known_of signed stage (told_lines old.text) line entry on.3 in
       let told_now : ended_lines old.text ≡ told_lines old.text = ended_told old.text on.1 in
       let front : told_lines old.text ≡ ended_lines old.text ++ [] = sym told_now ∙ sym (append-nil (ended_lines old.text)) in
       let short = told_line_short new.text line (told_lines old.text) tells.short tells.told in
-      subst (λ text. EndsEntry a has_minus order text bytes) on.0 (record {
+      subst (λ text. EndsEntry a has_minus signed order text bytes) on.0 (record {
         before = [];
         line = line;
         behind = [];
@@ -126,12 +128,13 @@ module _ (a : Arithmetic) (has_minus : Bool) (order : ℕ) where
             ∙ ap (λ ls. ls ++ line ∷ []) (sym told_now);
         entry = subst (λ ls. length (entry_lines ls) < length (entry_lines (ls ++ line ∷ []))) front
             (entry_more (told_lines old.text) line known.0 known.1 here);
-        good = subst (λ ls. IsGoodSoFar (matrix_from a has_minus order 1 (ls ++ line ∷ []))) front
+        good = subst (λ ls. IsGoodSoFar (matrix_from a has_minus signed order 1 (ls ++ line ∷ []))) front
             (good_by (told_lines old.text) line entries stage on.2 short here entry);
       })
 
   -- in a longer piece, and behind other bytes
-  pub ends_in_more : (text piece more : List ℕ) → EndsEntry a has_minus order text piece → EndsEntry a has_minus order text (piece ++ more)
+  pub ends_in_more : (text piece more : List ℕ) → EndsEntry a has_minus signed order text piece
+      → EndsEntry a has_minus signed order text (piece ++ more)
   ends_in_more text piece more ends =
       let others : List (List ℕ) = ended_lines (begun_line (text ++ piece) ++ more) in
       record {
@@ -146,8 +149,8 @@ module _ (a : Arithmetic) (has_minus : Bool) (order : ℕ) where
         good = ends.good;
       }
 
-  pub ends_behind : (text front piece : List ℕ) → EndsEntry a has_minus order (text ++ front) piece
-      → EndsEntry a has_minus order text (front ++ piece)
+  pub ends_behind : (text front piece : List ℕ) → EndsEntry a has_minus signed order (text ++ front) piece
+      → EndsEntry a has_minus signed order text (front ++ piece)
   ends_behind text front piece ends =
       let ended : List (List ℕ) = ended_lines (begun_line text ++ front) in
       let there : ended_lines (text ++ front) ++ ends.before ≡ ended_lines text ++ (ended ++ ends.before) =
@@ -161,7 +164,7 @@ module _ (a : Arithmetic) (has_minus : Bool) (order : ℕ) where
             ∙ ap (λ ls. ls ++ ends.line ∷ ends.behind) there
             ∙ append_assoc (ended_lines text) (ended ++ ends.before) (ends.line ∷ ends.behind);
         entry = subst (λ ls. length (entry_lines ls) < length (entry_lines (ls ++ ends.line ∷ []))) there ends.entry;
-        good = subst (λ ls. IsGoodSoFar (matrix_from a has_minus order 1 (ls ++ ends.line ∷ []))) there ends.good;
+        good = subst (λ ls. IsGoodSoFar (matrix_from a has_minus signed order 1 (ls ++ ends.line ∷ []))) there ends.good;
       }
 
 pub on_err : {A E : Type 0} (r : Result A E) (P : Type 0) → P → OnErr r P

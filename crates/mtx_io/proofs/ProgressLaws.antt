@@ -57,102 +57,106 @@ behind_more a header number entries what (Ok others) =
     ap (λ (all : List Entry). Ok all) (append_assoc entries (entries_of a header what) others)
 behind_more a header number entries what (Err bad) = refl
 
-module _ (a : Arithmetic) (has_minus : Bool) (order : ℕ) where
+module _ (a : Arithmetic) (has_minus signed : Bool) (order : ℕ) where
   -- the first line
   pub first_good : (count : ℕ) (line : List ℕ) (entries : List Entry) (banner : Banner) → Ok banner ≡ banner_line has_minus line
-      → Follows a has_minus order count line entries First entries (Begun banner)
+      → Follows a has_minus signed order count line entries First entries (Begun banner)
   first_good count line entries banner e number more counts =
       ap told (
-      (λ i. sized_from a order (next_end number line more i) banner (kept (numbered (number + 1) more)))
-      ∙ (λ i. behind_banner a order (number + length (line ∷ more)) number (e i) (numbered (number + 1) more)))
+      (λ i. sized_from a signed order (next_end number line more i) banner (kept (numbered (number + 1) more)))
+      ∙ (λ i. behind_banner a signed order (number + length (line ∷ more)) number (e i) (numbered (number + 1) more)))
 
   pub first_bad : (count : ℕ) (line : List ℕ) (entries : List Entry) (kind : LineKind) → Err kind ≡ banner_line has_minus line
-      → Follows a has_minus order count line entries First entries (Bad count kind)
+      → Follows a has_minus signed order count line entries First entries (Bad count kind)
   first_bad count line entries kind e number more counts =
       bad_told number count kind counts
-      ∙ ap told (λ i. behind_banner a order (number + length (line ∷ more)) number (e i) (numbered (number + 1) more))
+      ∙ ap told (λ i. behind_banner a signed order (number + length (line ∷ more)) number (e i) (numbered (number + 1) more))
 
   -- lines that are skipped
   pub begun_skips : (count : ℕ) (line : List ℕ) (entries : List Entry) (banner : Banner) → is_skipped line ≡ true
-      → Follows a has_minus order count line entries (Begun banner) entries (Begun banner)
+      → Follows a has_minus signed order count line entries (Begun banner) entries (Begun banner)
   begun_skips count line entries banner e number more counts =
-      ap told (λ i. sized_from a order (next_end number line more i) banner (sym (kept_none number line more e) i))
+      ap told (λ i. sized_from a signed order (next_end number line more i) banner (sym (kept_none number line more e) i))
 
   pub sized_skips : (count : ℕ) (line : List ℕ) (entries : List Entry) (sized : Sized) → is_skipped line ≡ true
-      → Follows a has_minus order count line entries (SizedStage sized) entries (SizedStage sized)
+      → Follows a has_minus signed order count line entries (SizedStage sized) entries (SizedStage sized)
   sized_skips count line entries sized e number more counts =
       ap told (λ i. matrix_with sized.header
       (behind_entries entries
-      (entries_from a sized.header (next_end number line more i) sized.slots (sym (kept_none number line more e) i))))
+      (entries_from a signed sized.header (next_end number line more i) sized.slots (sym (kept_none number line more e) i))))
 
   -- the size line
   pub size_good : (count : ℕ) (line : List ℕ) (banner : Banner) (sized : Sized) → is_long line ≡ false → is_skipped line ≡ false
-      → Some sized ≡ size_of a.one order banner (tokens line) → Follows a has_minus order count line [] (Begun banner) [] (SizedStage sized)
+      → Some sized ≡ size_of a.one order banner (tokens line)
+      → Follows a has_minus signed order count line [] (Begun banner) [] (SizedStage sized)
   size_good count line banner sized short here e number more counts =
       ap told (
       (λ i. matrix_with sized.header
-      (behind_none (entries_from a sized.header (next_end number line more i) sized.slots (kept (numbered (number + 1) more))) i))
-      ∙ (λ i. behind_size a (number + length (line ∷ more)) number (or_fault BadSize (e i)) (kept (numbered (number + 1) more)))
-      ∙ (λ i. behind_size a (number + length (line ∷ more)) number
+      (behind_none (entries_from a signed sized.header (next_end number line more i) sized.slots (kept (numbered (number + 1) more))) i))
+      ∙ (λ i. behind_size a signed (number + length (line ∷ more)) number (or_fault BadSize (e i)) (kept (numbered (number + 1) more)))
+      ∙ (λ i. behind_size a signed (number + length (line ∷ more)) number
       (sym (short_line line (or_fault BadSize (size_of a.one order banner (tokens line))) short) i) (kept (numbered (number + 1) more)))
-      ∙ (λ i. sized_from a order (number + length (line ∷ more)) banner (sym (kept_more number line more here) i)))
+      ∙ (λ i. sized_from a signed order (number + length (line ∷ more)) banner (sym (kept_more number line more here) i)))
 
   pub size_bad : (count : ℕ) (line : List ℕ) (entries : List Entry) (banner : Banner) → is_long line ≡ false → is_skipped line ≡ false
       → None ≡ size_of a.one order banner (tokens line)
-      → Follows a has_minus order count line entries (Begun banner) entries (Bad count BadSize)
+      → Follows a has_minus signed order count line entries (Begun banner) entries (Bad count BadSize)
   size_bad count line entries banner short here e number more counts =
       bad_told number count BadSize counts
       ∙ ap told (
-      (λ i. behind_size a (number + length (line ∷ more)) number (or_fault BadSize (e i)) (kept (numbered (number + 1) more)))
-      ∙ (λ i. behind_size a (number + length (line ∷ more)) number
+      (λ i. behind_size a signed (number + length (line ∷ more)) number (or_fault BadSize (e i)) (kept (numbered (number + 1) more)))
+      ∙ (λ i. behind_size a signed (number + length (line ∷ more)) number
       (sym (short_line line (or_fault BadSize (size_of a.one order banner (tokens line))) short) i) (kept (numbered (number + 1) more)))
-      ∙ (λ i. sized_from a order (number + length (line ∷ more)) banner (sym (kept_more number line more here) i)))
+      ∙ (λ i. sized_from a signed order (number + length (line ∷ more)) banner (sym (kept_more number line more here) i)))
 
   -- an entry line
   pub entry_good : (count : ℕ) (line : List ℕ) (entries : List Entry) (sized : Sized) (what : PlacedValue) → is_long line ≡ false
-      → is_skipped line ≡ false → Ok what ≡ entry_due sized.header sized.slots (tokens line)
-      → Follows a has_minus order count line entries (SizedStage sized) (entries ++ entries_of a sized.header what)
+      → is_skipped line ≡ false → Ok what ≡ entry_due signed sized.header sized.slots (tokens line)
+      → Follows a has_minus signed order count line entries (SizedStage sized) (entries ++ entries_of a sized.header what)
       (SizedStage (record { header = sized.header; slots = drop 1 sized.slots }))
   entry_good count line entries sized what short here e number more counts =
       let end : ℕ = number + length (line ∷ more) in
       let rest : List NumberedLine = kept (numbered (number + 1) more) in
-      let others : Result (List Entry) BadLine = entries_from a sized.header end (drop 1 sized.slots) rest in
+      let others : Result (List Entry) BadLine = entries_from a signed sized.header end (drop 1 sized.slots) rest in
       ap told (
       (λ i. matrix_with sized.header
       (behind_entries (entries ++ entries_of a sized.header what)
-      (entries_from a sized.header (next_end number line more i) (drop 1 sized.slots) rest)))
+      (entries_from a signed sized.header (next_end number line more i) (drop 1 sized.slots) rest)))
       ∙ ap (matrix_with sized.header) (
       behind_more a sized.header number entries what others
       ∙ (λ i. behind_entries entries (before_others a sized.header number (e i) others))
       ∙ (λ i. behind_entries entries
-      (before_others a sized.header number (sym (short_line line (entry_due sized.header sized.slots (tokens line)) short) i) others))
-      ∙ (λ i. behind_entries entries (entries_from a sized.header end sized.slots (sym (kept_more number line more here) i)))))
+      (before_others a sized.header number
+      (sym (short_line line (entry_due signed sized.header sized.slots (tokens line)) short) i) others))
+      ∙ (λ i. behind_entries entries (entries_from a signed sized.header end sized.slots (sym (kept_more number line more here) i)))))
 
   pub entry_bad : (count : ℕ) (line : List ℕ) (entries entries' : List Entry) (sized : Sized) (kind : LineKind) → is_long line ≡ false
-      → is_skipped line ≡ false → Err kind ≡ entry_due sized.header sized.slots (tokens line)
-      → Follows a has_minus order count line entries (SizedStage sized) entries' (Bad count kind)
+      → is_skipped line ≡ false → Err kind ≡ entry_due signed sized.header sized.slots (tokens line)
+      → Follows a has_minus signed order count line entries (SizedStage sized) entries' (Bad count kind)
   entry_bad count line entries entries' sized kind short here e number more counts =
       let end : ℕ = number + length (line ∷ more) in
       let rest : List NumberedLine = kept (numbered (number + 1) more) in
-      let others : Result (List Entry) BadLine = entries_from a sized.header end (drop 1 sized.slots) rest in
+      let others : Result (List Entry) BadLine = entries_from a signed sized.header end (drop 1 sized.slots) rest in
       bad_told number count kind counts
       ∙ ap told (ap (matrix_with sized.header) (
       (λ i. behind_entries entries (before_others a sized.header number (e i) others))
       ∙ (λ i. behind_entries entries
-      (before_others a sized.header number (sym (short_line line (entry_due sized.header sized.slots (tokens line)) short) i) others))
-      ∙ (λ i. behind_entries entries (entries_from a sized.header end sized.slots (sym (kept_more number line more here) i)))))
+      (before_others a sized.header number
+      (sym (short_line line (entry_due signed sized.header sized.slots (tokens line)) short) i) others))
+      ∙ (λ i. behind_entries entries (entries_from a signed sized.header end sized.slots (sym (kept_more number line more here) i)))))
 
   -- nothing follows a bad line
   pub bad_stays : (count : ℕ) (line : List ℕ) (entries : List Entry) (bad : ℕ) (kind : LineKind)
-      → Follows a has_minus order count line entries (Bad bad kind) entries (Bad bad kind)
+      → Follows a has_minus signed order count line entries (Bad bad kind) entries (Bad bad kind)
   bad_stays count line entries bad kind number more counts = refl
 
   -- the same, for what a call left
   pub entry_taken : (count : ℕ) (line : List ℕ) (entries entries' : List Entry) (sized sized' : Sized) (what : PlacedValue)
-      → is_long line ≡ false → is_skipped line ≡ false → Ok what ≡ entry_due sized.header sized.slots (tokens line)
+      → is_long line ≡ false → is_skipped line ≡ false → Ok what ≡ entry_due signed sized.header sized.slots (tokens line)
       → entries' ≡ entries ++ entries_of a sized.header what → sized'.header ≡ sized.header → sized'.slots ≡ drop 1 sized.slots
-      → Follows a has_minus order count line entries (SizedStage sized) entries' (SizedStage sized')
+      → Follows a has_minus signed order count line entries (SizedStage sized) entries' (SizedStage sized')
   entry_taken count line entries entries' sized sized' what short here e pushed header slots number more counts =
       (λ i. told (matrix_with (header i)
-      (behind_entries (pushed i) (entries_from a (header i) (number + 1 + length more) (slots i) (kept (numbered (number + 1) more))))))
+      (behind_entries (pushed i)
+      (entries_from a signed (header i) (number + 1 + length more) (slots i) (kept (numbered (number + 1) more))))))
       ∙ entry_good count line entries sized what short here e number more counts

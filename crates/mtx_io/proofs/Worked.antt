@@ -4,10 +4,10 @@ use Rattle.limits.specs.Limits.{greatest_file_coordinate, greatest_line_bytes, g
 use Rattle.numbers.specs.Ring.{ring, word_product}
 use Rattle.mtx_io.specs.Matrix.{matrix_of_text}
 use Rattle.text_lines.specs.declared.line_kind.LineKind.TheVariants.{BadBanner, NoMinus, BadSize, Fields, Extra, Truncated, CoordRange}
-use Rattle.text_lines.specs.declared.line_kind.LineKind.TheVariants.{SkewDiagonal}
+use Rattle.text_lines.specs.declared.line_kind.LineKind.TheVariants.{Negative, SkewDiagonal}
 
 -- an entry and its mirror image
-pub mirrored_entry : matrix_of_text ring true 2
+pub mirrored_entry : matrix_of_text ring true true 2
     (codes "%%MatrixMarket MATRIX Coordinate Integer Symmetric\n%\n2 2 2\n\n1 2 3\r\n2 2 4\n% end")
     ≡ Ok (record {
       rows = 2;
@@ -19,7 +19,7 @@ unfolding greatest_file_coordinate greatest_line_bytes greatest_matrix_entries g
 mirrored_entry = refl
 
 -- a pattern, whose entries are ones
-pub mirrored_pattern : matrix_of_text ring true 2
+pub mirrored_pattern : matrix_of_text ring true true 2
     (codes "%%MatrixMarket matrix coordinate pattern symmetric\n2 2 2\n1 1\n2 1\n")
     ≡ Ok (record {
       rows = 2;
@@ -31,7 +31,7 @@ unfolding greatest_file_coordinate greatest_line_bytes greatest_matrix_entries g
 mirrored_pattern = refl
 
 -- the places of arrays
-pub skew_places : matrix_of_text ring true 2 (codes "%%MatrixMarket matrix array integer skew-symmetric\n3 3\n1\n2\n0\n")
+pub skew_places : matrix_of_text ring true true 2 (codes "%%MatrixMarket matrix array integer skew-symmetric\n3 3\n1\n2\n0\n")
     ≡ Ok (record {
       rows = 3;
       columns = 3;
@@ -42,7 +42,7 @@ pub skew_places : matrix_of_text ring true 2 (codes "%%MatrixMarket matrix array
 unfolding greatest_file_coordinate greatest_line_bytes greatest_matrix_entries greatest_matrix_size ring word_product
 skew_places = refl
 
-pub general_places : matrix_of_text ring true 1 (codes "%%MatrixMarket matrix array integer general\n2 1\n7\n-1")
+pub general_places : matrix_of_text ring true true 1 (codes "%%MatrixMarket matrix array integer general\n2 1\n7\n-1")
     ≡ Ok (record {
       rows = 2;
       columns = 1;
@@ -53,46 +53,51 @@ unfolding greatest_file_coordinate greatest_line_bytes greatest_matrix_entries g
 general_places = refl
 
 -- first bad lines
-pub skew_pattern : matrix_of_text ring true 2 (codes "%%MatrixMarket matrix coordinate pattern skew-symmetric\n2 2 0\n")
+pub value_without_sign : matrix_of_text ring true false 1 (codes "%%MatrixMarket matrix array integer general\n2 1\n-0\n-1")
+    ≡ Err (record { number = 4; kind = Negative })
+unfolding greatest_file_coordinate greatest_line_bytes greatest_matrix_entries greatest_matrix_size ring word_product
+value_without_sign = refl
+
+pub skew_pattern : matrix_of_text ring true true 2 (codes "%%MatrixMarket matrix coordinate pattern skew-symmetric\n2 2 0\n")
     ≡ Err (record { number = 1; kind = BadBanner })
 unfolding greatest_file_coordinate greatest_line_bytes greatest_matrix_entries greatest_matrix_size ring word_product
 skew_pattern = refl
 
-pub pattern_with_value : matrix_of_text ring true 2 (codes "%%MatrixMarket matrix coordinate pattern general\n2 2 1\n1 1 1\n")
+pub pattern_with_value : matrix_of_text ring true true 2 (codes "%%MatrixMarket matrix coordinate pattern general\n2 2 1\n1 1 1\n")
     ≡ Err (record { number = 3; kind = Fields })
 unfolding greatest_file_coordinate greatest_line_bytes greatest_matrix_entries greatest_matrix_size ring word_product
 pattern_with_value = refl
 
-pub empty_text : matrix_of_text ring true 2 [] ≡ Err (record { number = 1; kind = BadBanner })
+pub empty_text : matrix_of_text ring true true 2 [] ≡ Err (record { number = 1; kind = BadBanner })
 unfolding greatest_file_coordinate greatest_line_bytes greatest_matrix_entries greatest_matrix_size ring word_product
 empty_text = refl
 
-pub skew_without_minus : matrix_of_text ring false 2 (codes "%%MatrixMarket matrix array integer skew-symmetric\n")
+pub skew_without_minus : matrix_of_text ring false true 2 (codes "%%MatrixMarket matrix array integer skew-symmetric\n")
     ≡ Err (record { number = 1; kind = NoMinus })
 unfolding greatest_file_coordinate greatest_line_bytes greatest_matrix_entries greatest_matrix_size ring word_product
 skew_without_minus = refl
 
-pub text_without_size : matrix_of_text ring true 2 (codes "%%MatrixMarket matrix coordinate integer general\n2 2\n") ≡ Err
+pub text_without_size : matrix_of_text ring true true 2 (codes "%%MatrixMarket matrix coordinate integer general\n2 2\n") ≡ Err
     (record { number = 2; kind = BadSize })
 unfolding greatest_file_coordinate greatest_line_bytes greatest_matrix_entries greatest_matrix_size ring word_product
 text_without_size = refl
 
-pub truncated_text : matrix_of_text ring true 2 (codes "%%MatrixMarket matrix coordinate integer general\n2 2 2\n1 1 0\n%\n")
+pub truncated_text : matrix_of_text ring true true 2 (codes "%%MatrixMarket matrix coordinate integer general\n2 2 2\n1 1 0\n%\n")
     ≡ Err (record { number = 5; kind = Truncated })
 unfolding greatest_file_coordinate greatest_line_bytes greatest_matrix_entries greatest_matrix_size ring word_product
 truncated_text = refl
 
-pub line_too_many : matrix_of_text ring true 2 (codes "%%MatrixMarket matrix coordinate integer general\n2 2 1\n1 1 0\n% \n0\n")
+pub line_too_many : matrix_of_text ring true true 2 (codes "%%MatrixMarket matrix coordinate integer general\n2 2 1\n1 1 0\n% \n0\n")
     ≡ Err (record { number = 5; kind = Extra })
 unfolding greatest_file_coordinate greatest_line_bytes greatest_matrix_entries greatest_matrix_size ring word_product
 line_too_many = refl
 
-pub coordinate_outside : matrix_of_text ring true 2 (codes "%%MatrixMarket matrix coordinate integer general\n2 2 1\n3 1 x\n")
+pub coordinate_outside : matrix_of_text ring true true 2 (codes "%%MatrixMarket matrix coordinate integer general\n2 2 1\n3 1 x\n")
     ≡ Err (record { number = 3; kind = CoordRange })
 unfolding greatest_file_coordinate greatest_line_bytes greatest_matrix_entries greatest_matrix_size ring word_product
 coordinate_outside = refl
 
-pub skew_diagonal : matrix_of_text ring true 2 (codes "%%MatrixMarket matrix coordinate integer skew-symmetric\n2 2 1\n1 1 x\n")
+pub skew_diagonal : matrix_of_text ring true true 2 (codes "%%MatrixMarket matrix coordinate integer skew-symmetric\n2 2 1\n1 1 x\n")
     ≡ Err (record { number = 3; kind = SkewDiagonal })
 unfolding greatest_file_coordinate greatest_line_bytes greatest_matrix_entries greatest_matrix_size ring word_product
 skew_diagonal = refl

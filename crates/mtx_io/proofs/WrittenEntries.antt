@@ -32,21 +32,22 @@ module _ (a : Arithmetic) (entries : List Entry) (i : ℕ) (d : Entry) (value : 
       ∙ omega arith
 
 -- what is left to be written
-pub left_is : (a : Arithmetic) (entries : List Entry) (i : ℕ) (d : Entry) → i < length entries
-    → entries_text (filter (is_nonzero a) (drop i entries)) ≡ entries_text (filter (is_nonzero a) (slice_index_or entries i d ∷ []))
-    ++ entries_text (filter (is_nonzero a) (drop (i + 1) entries))
-left_is a entries i d within =
-    ap (λ es. entries_text (filter (is_nonzero a) es)) (drop-cons entries i d within)
+pub left_is : (a : Arithmetic) (signed : Bool) (entries : List Entry) (i : ℕ) (d : Entry) → i < length entries
+    → entries_text signed (filter (is_nonzero a) (drop i entries))
+    ≡ entries_text signed (filter (is_nonzero a) (slice_index_or entries i d ∷ []))
+    ++ entries_text signed (filter (is_nonzero a) (drop (i + 1) entries))
+left_is a signed entries i d within =
+    ap (λ es. entries_text signed (filter (is_nonzero a) es)) (drop-cons entries i d within)
     ∙ by (is_nonzero a (slice_index_or entries i d))
-    ∙ ap (λ n. entries_text (filter (is_nonzero a) (slice_index_or entries i d ∷ [])) ++ entries_text
+    ∙ ap (λ n. entries_text signed (filter (is_nonzero a) (slice_index_or entries i d ∷ [])) ++ entries_text signed
     (filter (is_nonzero a) (drop n entries))) (sym (add-one i))
   where
     others : List Entry
     others = filter (is_nonzero a) (drop (suc i) entries)
 
-    by : (b : Bool) → entries_text (cond b (slice_index_or entries i d ∷ others) others) ≡ entries_text
-        (cond b (slice_index_or entries i d ∷ []) []) ++ entries_text others
-    by true = ap (λ t. t ++ entries_text others) (sym (append-nil (entry_text (slice_index_or entries i d))))
+    by : (b : Bool) → entries_text signed (cond b (slice_index_or entries i d ∷ others) others) ≡ entries_text signed
+        (cond b (slice_index_or entries i d ∷ []) []) ++ entries_text signed others
+    by true = ap (λ t. t ++ entries_text signed others) (sym (append-nil (entry_text signed (slice_index_or entries i d))))
     by false = refl
 
 -- coordinates below ranges can be counted from 1

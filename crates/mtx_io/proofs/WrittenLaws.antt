@@ -11,7 +11,7 @@ use Rattle.limits.specs.Limits.{greatest_file_coordinate, greatest_line_bytes, g
 use Rattle.limits.proofs.Limits.{file_coordinates_are_ranges, matrix_sizes_are_ranges, matrix_entries_are_small, positions_are_small}
 use Rattle.limits.proofs.Limits.{some_file_coordinates}
 use Rattle.numbers.specs.Arithmetic.{Arithmetic, Laws}
-use Rattle.numbers.specs.Signed.{signed_of, word_of_signed}
+use Rattle.numbers.specs.Signed.{written_of}
 use Rattle.tensor_map.specs.Entries.{IsEntry, value_at, is_nonzero, StrictlyIncreasing}
 use Rattle.tensor_map.specs.declared.entries.Entry.{Entry}
 use Rattle.tensor_map.proofs.Lemmas.{value_nonzero, increasing_filter, none_zero_filter, all_nonzero, one_row}
@@ -28,7 +28,8 @@ use Rattle.text_lines.proofs.PrintedLaws.{signed_short, high_line}
 use Rattle.text_lines.specs.TokenLaws.{IsToken}
 use Rattle.text_lines.proofs.TokenLaws.{tokens_more, tokens_last}
 use Rattle.text_lines.specs.Tokens.{tokens}
-use Rattle.mtx_io.specs.Entry.{PlacedValue, index_from, index_of, value_from, value_of, placed, place_from, coords_of, entries_of}
+use Rattle.mtx_io.specs.Entry.{PlacedValue, index_from, index_of, word_from, value_from, value_of, placed, place_from, coords_of}
+use Rattle.mtx_io.specs.Entry.{entries_of}
 use Rattle.mtx_io.specs.Matrix.{NumberedLine, is_skipped, numbered, kept, or_fault, banner_line, size_line, entry_due, entry_line}
 use Rattle.mtx_io.specs.Matrix.{before_others, entries_from, matrix_with, behind_size, sized_from, behind_banner, matrix_from}
 use Rattle.mtx_io.specs.Matrix.{matrix_of_text}
@@ -36,27 +37,29 @@ use Rattle.mtx_io.specs.Progress.{IsMatrixOrder}
 use Rattle.mtx_io.specs.Size.{Slot, Anywhere, number_to, header_from, entries_due, size_of}
 use Rattle.mtx_io.specs.Text.{IsBelow, line_of, banner_text, rows_of, columns_of, row_of, column_of, entry_text, entries_text}
 use Rattle.mtx_io.specs.Text.{matrix_text, IsMatrixText}
-use Rattle.mtx_io.specs.WrittenLaws.{bare_line, StandsFor}
+use Rattle.mtx_io.specs.WrittenLaws.{bare_line, IsReadBack, StandsFor}
 use Rattle.mtx_io.specs.declared.banner.Banner.{Banner}
 use Rattle.mtx_io.specs.declared.banner.Layout.TheVariants.{Coordinate}
 use Rattle.mtx_io.specs.declared.banner.Symmetry.TheVariants.{General}
 use Rattle.mtx_io.specs.declared.header.Header.{Header}
 use Rattle.text_lines.specs.declared.line_kind.LineKind.TheVariants.{LongLine, BadSize, CoordRange, NumRange}
 
--- a word is the word of its signed number, which is one of 64 bits
-signed_by : (v : ℕ) (b : Bool) → nat_lt v (2 ^ 63) ≡ b → v < 2 ^ 64 → word_of_signed (cond b (pos v) (negsuc (2 ^ 64 - 1 - v))) ≡ v
-signed_by v true e h = refl
-signed_by v false e h = omega arith
+-- a value is read back from the number that is written for it, which is one of 64 bits
+back_by : (v : ℕ) (b : Bool) → nat_lt v (2 ^ 63) ≡ b → v < 2 ^ 64 → word_from true (cond b (pos v) (negsuc (2 ^ 64 - 1 - v))) ≡ Ok v
+back_by v true e h = refl
+back_by v false e h = let same : 2 ^ 64 - 1 - (2 ^ 64 - 1 - v) ≡ v = omega arith in ap (λ (x : ℕ). Ok x) same
 
-word_back : (v : ℕ) → v < 2 ^ 64 → word_of_signed (signed_of v) ≡ v
-word_back v h = signed_by v (nat_lt v (2 ^ 63)) refl h
+written_back : (signed : Bool) (v : ℕ) → IsReadBack signed v → word_from signed (written_of signed v) ≡ Ok v
+written_back true v back = back_by v (nat_lt v (2 ^ 63)) refl back.word
+written_back false v back = refl
 
 fits_by : (v : ℕ) (b : Bool) → nat_lt v (2 ^ 63) ≡ b → v < 2 ^ 64 → fits_word (cond b (pos v) (negsuc (2 ^ 64 - 1 - v))) ≡ true
 fits_by v true e h = e
 fits_by v false e h = let high : 2 ^ 63 ≤ v = ltb-false v (2 ^ 63) e in lt-ltb (2 ^ 64 - 1 - v) (2 ^ 63) (omega arith)
 
-signed_fits : (v : ℕ) → v < 2 ^ 64 → fits_word (signed_of v) ≡ true
-signed_fits v h = fits_by v (nat_lt v (2 ^ 63)) refl h
+written_fits : (signed : Bool) (v : ℕ) → IsReadBack signed v → fits_word (written_of signed v) ≡ true
+written_fits true v back = fits_by v (nat_lt v (2 ^ 63)) refl back.word
+written_fits false v back = lt-ltb v (2 ^ 63) (back.short refl)
 
 -- texts that stand on a line: tokens of filled bytes, of which none is long
 record IsPrinted (text : List ℕ) : Type 0 where
@@ -68,11 +71,11 @@ decimal_printed : (n : ℕ) → n < 2 ^ 64 → IsPrinted (decimal n)
 decimal_printed n h = let short =
     decimal_short n h in record { token = decimal_is_token n h; filled = decimal_filled n h; short = omega arith }
 
-signed_printed : (v : ℕ) → v < 2 ^ 64 → IsPrinted (signed_decimal (signed_of v))
-signed_printed v h = let fits = signed_fits v h in record {
-  token = signed_decimal_is_token (signed_of v) fits;
-  filled = signed_filled (signed_of v) fits;
-  short = signed_short (signed_of v) fits;
+value_printed : (signed : Bool) (v : ℕ) → IsReadBack signed v → IsPrinted (signed_decimal (written_of signed v))
+value_printed signed v back = let fits = written_fits signed v back in record {
+  token = signed_decimal_is_token (written_of signed v) fits;
+  filled = signed_filled (written_of signed v) fits;
+  short = signed_short (written_of signed v) fits;
 }
 
 lines_have_room : 66 ≤ greatest_line_bytes
@@ -262,18 +265,20 @@ index_read size i h file =
     ∙ ap (λ b. cond b (cond (nat_lt i size) (Ok i) (Err CoordRange)) (Err NumRange)) (lt-ltb i greatest_file_coordinate file)
     ∙ ap (λ b. cond b (Ok i) (Err CoordRange)) (lt-ltb i size h)
 
-value_read : (v : ℕ) → v < 2 ^ 64 → value_of (signed_decimal (signed_of v)) ≡ Ok v
-value_read v h = ap value_from (read_whole_of_signed_decimal (signed_of v) (signed_fits v h)) ∙ ap (λ (x : ℕ). Ok x) (word_back v h)
+value_read : (signed : Bool) (v : ℕ) → IsReadBack signed v → value_of signed (signed_decimal (written_of signed v)) ≡ Ok v
+value_read signed v back =
+    ap (value_from signed) (read_whole_of_signed_decimal (written_of signed v) (written_fits signed v back)) ∙ written_back signed v back
 
-bare_entry : Entry → List ℕ
-bare_entry entry = bare_line (decimal (row_of entry.coords + 1)) (decimal (column_of entry.coords + 1))
-    (signed_decimal (signed_of entry.value))
+bare_entry : Bool → Entry → List ℕ
+bare_entry signed entry = bare_line (decimal (row_of entry.coords + 1)) (decimal (column_of entry.coords + 1))
+    (signed_decimal (written_of signed entry.value))
 
 abbrev placed_entry : Entry → PlacedValue
 placed_entry entry = record { place = record { row = row_of entry.coords; column = column_of entry.coords }; value = entry.value }
 
 -- an entry's line
-module _ (ranges : List ℕ) (are : AreRanges ranges) (entry : Entry) (below : IsBelow ranges entry.coords) (word : entry.value < 2 ^ 64)
+module _ (signed : Bool) (ranges : List ℕ) (are : AreRanges ranges) (entry : Entry) (below : IsBelow ranges entry.coords)
+    (back : IsReadBack signed entry.value)
   where
     place : (row_of entry.coords < rows_of ranges) × (column_of entry.coords < columns_of ranges) ×
         (coords_of (length ranges) (row_of entry.coords) (column_of entry.coords) ≡ entry.coords)
@@ -291,98 +296,108 @@ module _ (ranges : List ℕ) (are : AreRanges ranges) (entry : Entry) (below : I
     column_printed : IsPrinted (decimal (column_of entry.coords + 1))
     column_printed = decimal_printed (column_of entry.coords + 1) (file_word (column_of entry.coords) column_file)
 
-    entry_is_line : IsLine (bare_entry entry)
+    entry_is_line : IsLine (bare_entry signed entry)
     unfolding bare_entry
-    entry_is_line = bare_is_line _ _ _ row_printed column_printed (signed_printed entry.value word)
+    entry_is_line = bare_is_line _ _ _ row_printed column_printed (value_printed signed entry.value back)
 
-    entry_kept : is_skipped (bare_entry entry) ≡ false
+    entry_kept : is_skipped (bare_entry signed entry) ≡ false
     unfolding bare_entry
-    entry_kept = bare_kept _ _ _ row_printed column_printed (signed_printed entry.value word)
+    entry_kept = bare_kept _ _ _ row_printed column_printed (value_printed signed entry.value back)
 
-    entry_read : (slots : List Slot) → entry_line (written_header ranges) (Anywhere ∷ slots) (bare_entry entry) ≡ Ok (placed_entry entry)
+    entry_read : (slots : List Slot)
+        → entry_line signed (written_header ranges) (Anywhere ∷ slots) (bare_entry signed entry) ≡ Ok (placed_entry entry)
     unfolding bare_entry
     entry_read slots =
         let a : List ℕ = decimal (row_of entry.coords + 1) in
         let b : List ℕ = decimal (column_of entry.coords + 1) in
-        let c : List ℕ = signed_decimal (signed_of entry.value) in
-        let printed = signed_printed entry.value word in
-        ap (λ long. cond long (Err LongLine) (entry_due (written_header ranges) (Anywhere ∷ slots) (tokens (bare_line a b c))))
+        let c : List ℕ = signed_decimal (written_of signed entry.value) in
+        let printed = value_printed signed entry.value back in
+        ap (λ long. cond long (Err LongLine) (entry_due signed (written_header ranges) (Anywhere ∷ slots) (tokens (bare_line a b c))))
         (bare_short a b c row_printed column_printed printed)
-        ∙ ap (entry_due (written_header ranges) (Anywhere ∷ slots)) (bare_tokens a b c row_printed column_printed printed)
+        ∙ ap (entry_due signed (written_header ranges) (Anywhere ∷ slots)) (bare_tokens a b c row_printed column_printed printed)
         ∙ (λ i. placed (place_from General (index_read (rows_of ranges) (row_of entry.coords) place.0 row_file i)
-        (index_read (columns_of ranges) (column_of entry.coords) place.1 column_file i)) (value_read entry.value word i))
+        (index_read (columns_of ranges) (column_of entry.coords) place.1 column_file i)) (value_read signed entry.value back i))
 
     entry_back : (a : Arithmetic) (others : List Entry)
         → entries_of a (written_header ranges) (placed_entry entry) ++ others ≡ entry ∷ others
     entry_back a others = ap (λ (coords : List ℕ). record { coords = coords; value = entry.value } ∷ others) place.2
 
 -- what is known of the entries that are written
-record AreWritten (ranges : List ℕ) (entries : List Entry) : Type 0 where
-  each : All (IsEntry (length ranges)) entries
+record AreWritten (signed : Bool) (ranges : List ℕ) (entries : List Entry) : Type 0 where
+  back : All (λ entry. IsReadBack signed entry.value) entries
   below : All (λ entry. IsBelow ranges entry.coords) entries
 
-tail_written : (ranges : List ℕ) (entry : Entry) (entries : List Entry) → AreWritten ranges (entry ∷ entries) → AreWritten ranges entries
-tail_written ranges entry entries written = record {
-  each = All-tail (IsEntry (length ranges)) entry entries written.each;
+tail_written : (signed : Bool) (ranges : List ℕ) (entry : Entry) (entries : List Entry) → AreWritten signed ranges (entry ∷ entries)
+    → AreWritten signed ranges entries
+tail_written signed ranges entry entries written = record {
+  back = All-tail (λ e. IsReadBack signed e.value) entry entries written.back;
   below = All-tail (λ e. IsBelow ranges e.coords) entry entries written.below;
 }
 
-first_word : (ranges : List ℕ) (entry : Entry) (entries : List Entry) → AreWritten ranges (entry ∷ entries) → entry.value < 2 ^ 64
-first_word ranges entry entries written = let first = written.each 0 entry (omega arith) in first.word
+first_back : (signed : Bool) (ranges : List ℕ) (entry : Entry) (entries : List Entry) → AreWritten signed ranges (entry ∷ entries)
+    → IsReadBack signed entry.value
+first_back signed ranges entry entries written = written.back 0 entry (omega arith)
 
-first_below : (ranges : List ℕ) (entry : Entry) (entries : List Entry) → AreWritten ranges (entry ∷ entries) → IsBelow ranges entry.coords
-first_below ranges entry entries written = written.below 0 entry (omega arith)
+first_below : (signed : Bool) (ranges : List ℕ) (entry : Entry) (entries : List Entry) → AreWritten signed ranges (entry ∷ entries)
+    → IsBelow ranges entry.coords
+first_below signed ranges entry entries written = written.below 0 entry (omega arith)
 
-module _ (ranges : List ℕ) (are : AreRanges ranges) where
+module _ (signed : Bool) (ranges : List ℕ) (are : AreRanges ranges) where
   -- the lines of the entries
-  entries_are_lines : (entries : List Entry) → AreWritten ranges entries → All IsLine (map bare_entry entries)
+  entries_are_lines : (entries : List Entry) → AreWritten signed ranges entries → All IsLine (map (bare_entry signed) entries)
   entries_are_lines [] written = All-nil IsLine
   entries_are_lines (entry ∷ entries) written =
-      All-cons IsLine (bare_entry entry) (map bare_entry entries)
-      (entry_is_line ranges are entry (first_below ranges entry entries written) (first_word ranges entry entries written))
-      (entries_are_lines entries (tail_written ranges entry entries written))
+      All-cons IsLine (bare_entry signed entry) (map (bare_entry signed) entries)
+      (entry_is_line signed ranges are entry (first_below signed ranges entry entries written)
+      (first_back signed ranges entry entries written))
+      (entries_are_lines entries (tail_written signed ranges entry entries written))
 
-  entry_is_bare : (entry : Entry) → IsBelow ranges entry.coords → entry.value < 2 ^ 64 → entry_text entry ≡ bare_entry entry ++ 10 ∷ []
+  entry_is_bare : (entry : Entry) → IsBelow ranges entry.coords → IsReadBack signed entry.value
+      → entry_text signed entry ≡ bare_entry signed entry ++ 10 ∷ []
   unfolding bare_entry
-  entry_is_bare entry below word =
-      line_is_bare _ _ _ (row_printed ranges are entry below word) (column_printed ranges are entry below word)
-      (signed_printed entry.value word)
+  entry_is_bare entry below back =
+      line_is_bare _ _ _ (row_printed signed ranges are entry below back) (column_printed signed ranges are entry below back)
+      (value_printed signed entry.value back)
 
-  entries_joined : (entries : List Entry) → AreWritten ranges entries → entries_text entries ≡ joined_lines (map bare_entry entries)
+  entries_joined : (entries : List Entry) → AreWritten signed ranges entries
+      → entries_text signed entries ≡ joined_lines (map (bare_entry signed) entries)
   entries_joined [] written = refl
   entries_joined (entry ∷ entries) written =
-      (λ i. entry_is_bare entry (first_below ranges entry entries written) (first_word ranges entry entries written) i ++ entries_joined
-      entries (tail_written ranges entry entries written) i)
+      (λ i. entry_is_bare entry (first_below signed ranges entry entries written) (first_back signed ranges entry entries written) i
+      ++ entries_joined
+      entries (tail_written signed ranges entry entries written) i)
 
   -- they are read as the entries
-  entries_read : (a : Arithmetic) (end number : ℕ) (entries : List Entry) → AreWritten ranges entries
-      → entries_from a (written_header ranges) end (replicate (length entries) Anywhere)
-      (kept (numbered number (map bare_entry entries))) ≡ Ok entries
+  entries_read : (a : Arithmetic) (end number : ℕ) (entries : List Entry) → AreWritten signed ranges entries
+      → entries_from a signed (written_header ranges) end (replicate (length entries) Anywhere)
+      (kept (numbered number (map (bare_entry signed) entries))) ≡ Ok entries
   entries_read a end number [] written = refl
   entries_read a end number (entry ∷ entries) written =
-      let below = first_below ranges entry entries written in
-      let word = first_word ranges entry entries written in
+      let below = first_below signed ranges entry entries written in
+      let back = first_back signed ranges entry entries written in
       let h : Header = written_header ranges in
       let slots : List Slot = replicate (length entries) Anywhere in
-      let rest : List NumberedLine = kept (numbered (number + 1) (map bare_entry entries)) in
-      let line : NumberedLine = record { number = number; bytes = bare_entry entry } in
-      ap (λ b. entries_from a h end (Anywhere ∷ slots) (cond (not b) (line ∷ rest) rest)) (entry_kept ranges are entry below word)
-      ∙ ap (λ what. before_others a h number what (entries_from a h end slots rest)) (entry_read ranges are entry below word slots)
+      let rest : List NumberedLine = kept (numbered (number + 1) (map (bare_entry signed) entries)) in
+      let line : NumberedLine = record { number = number; bytes = bare_entry signed entry } in
+      ap (λ b. entries_from a signed h end (Anywhere ∷ slots) (cond (not b) (line ∷ rest) rest))
+      (entry_kept signed ranges are entry below back)
+      ∙ ap (λ what. before_others a h number what (entries_from a signed h end slots rest))
+      (entry_read signed ranges are entry below back slots)
       ∙ ap (before_others a h number (Ok (placed_entry entry)))
-      (entries_read a end (number + 1) entries (tail_written ranges entry entries written))
-      ∙ ap (λ (all : List Entry). Ok all) (entry_back ranges are entry below word a entries)
+      (entries_read a end (number + 1) entries (tail_written signed ranges entry entries written))
+      ∙ ap (λ (all : List Entry). Ok all) (entry_back signed ranges are entry below back a entries)
 
   -- the whole text
-  text_lines_are : (entries : List Entry) → AreWritten ranges entries → length entries ≤ greatest_matrix_entries
-      → lines (matrix_text ranges entries) ≡ bare_banner ∷ bare_size ranges (length entries) ∷ map bare_entry entries
+  text_lines_are : (entries : List Entry) → AreWritten signed ranges entries → length entries ≤ greatest_matrix_entries
+      → lines (matrix_text signed ranges entries) ≡ bare_banner ∷ bare_size ranges (length entries) ∷ map (bare_entry signed) entries
   unfolding bare_size
   text_lines_are entries written few =
       let printed = decimal_printed (length entries) (count_fits ranges are (length entries) few) in
-      let all : List (List ℕ) = bare_banner ∷ bare_size ranges (length entries) ∷ map bare_entry entries in
+      let all : List (List ℕ) = bare_banner ∷ bare_size ranges (length entries) ∷ map (bare_entry signed) entries in
       let size = line_is_bare _ _ _ (rows_printed ranges are) (columns_printed ranges are) printed in
       (λ i. lines (banner_is_bare i ++ (size i ++ entries_joined entries written i)))
-      ∙ lines_joined all (All-cons IsLine bare_banner (bare_size ranges (length entries) ∷ map bare_entry entries) banner_is_line
-      (All-cons IsLine (bare_size ranges (length entries)) (map bare_entry entries)
+      ∙ lines_joined all (All-cons IsLine bare_banner (bare_size ranges (length entries) ∷ map (bare_entry signed) entries) banner_is_line
+      (All-cons IsLine (bare_size ranges (length entries)) (map (bare_entry signed) entries)
       (bare_is_line _ _ _ (rows_printed ranges are) (columns_printed ranges are) printed) (entries_are_lines entries written)))
 
   size_kept : (count : ℕ) → count ≤ greatest_matrix_entries → is_skipped (bare_size ranges count) ≡ false
@@ -390,29 +405,31 @@ module _ (ranges : List ℕ) (are : AreRanges ranges) where
   size_kept count few =
       bare_kept _ _ _ (rows_printed ranges are) (columns_printed ranges are) (decimal_printed count (count_fits ranges are count few))
 
-  text_read : (a : Arithmetic) (has_minus : Bool) (entries : List Entry) → AreWritten ranges entries
+  text_read : (a : Arithmetic) (has_minus : Bool) (entries : List Entry) → AreWritten signed ranges entries
       → length entries ≤ greatest_matrix_entries
-      → matrix_of_text a has_minus (length ranges) (matrix_text ranges entries) ≡ Ok
+      → matrix_of_text a has_minus signed (length ranges) (matrix_text signed ranges entries) ≡ Ok
       (record { rows = rows_of ranges; columns = columns_of ranges; entries = entries })
   unfolding general
   text_read a has_minus entries written few =
       let order : ℕ = length ranges in
       let size : List ℕ = bare_size ranges (length entries) in
-      let rest : List (List ℕ) = map bare_entry entries in
+      let rest : List (List ℕ) = map (bare_entry signed) entries in
       let end : ℕ = 1 + length (bare_banner ∷ size ∷ rest) in
       let others : List NumberedLine = kept (numbered 3 rest) in
-      ap (matrix_from a has_minus order 1) (text_lines_are entries written few)
-      ∙ ap (λ banner. behind_banner a order end 1 banner (numbered 2 (size ∷ rest))) (banner_read has_minus)
-      ∙ ap (λ b. sized_from a order end general (cond (not b) (record { number = 2; bytes = size } ∷ others) others))
+      ap (matrix_from a has_minus signed order 1) (text_lines_are entries written few)
+      ∙ ap (λ banner. behind_banner a signed order end 1 banner (numbered 2 (size ∷ rest))) (banner_read has_minus)
+      ∙ ap (λ b. sized_from a signed order end general (cond (not b) (record { number = 2; bytes = size } ∷ others) others))
       (size_kept (length entries) few)
-      ∙ ap (λ sized. behind_size a end 2 sized others) (size_read ranges are a.one (length entries) few)
+      ∙ ap (λ sized. behind_size a signed end 2 sized others) (size_read ranges are a.one (length entries) few)
       ∙ ap (matrix_with (written_header ranges)) (entries_read a end 3 entries written)
 
 -- what entries are written as is the text of their tensor
-pub text_of_entries : (a : Arithmetic) → Laws a → (ranges : List ℕ) (entries : List Entry) → All (IsEntry (length ranges)) entries
+pub text_of_entries : (a : Arithmetic) (signed : Bool) → Laws a → (ranges : List ℕ) (entries : List Entry)
+    → All (IsEntry (length ranges)) entries
     → All (λ entry. IsBelow ranges entry.coords) entries
-    → StrictlyIncreasing entries → IsMatrixText a ranges (value_at a entries) (matrix_text ranges (filter (is_nonzero a) entries))
-text_of_entries a laws ranges entries each below up = record {
+    → StrictlyIncreasing entries
+    → IsMatrixText a signed ranges (value_at a entries) (matrix_text signed ranges (filter (is_nonzero a) entries))
+text_of_entries a signed laws ranges entries each below up = record {
   entries = filter (is_nonzero a) entries;
   each = All-filter (is_nonzero a) (IsEntry (length ranges)) entries each;
   below = All-filter (is_nonzero a) (λ entry. IsBelow ranges entry.coords) entries below;
@@ -423,22 +440,27 @@ text_of_entries a laws ranges entries each below up = record {
 }
 
 -- a tensor has one text at most
-pub one_text : (a : Arithmetic) → Laws a → (ranges : List ℕ) (value : List ℕ → ℕ) (first second : List ℕ)
-    → IsMatrixText a ranges value first → IsMatrixText a ranges value second → first ≡ second
-one_text a laws ranges value first second one two =
+pub one_text : (a : Arithmetic) (signed : Bool) → Laws a → (ranges : List ℕ) (value : List ℕ → ℕ) (first second : List ℕ)
+    → IsMatrixText a signed ranges value first → IsMatrixText a signed ranges value second → first ≡ second
+one_text a signed laws ranges value first second one two =
     let same : one.entries ≡ two.entries = one_row a laws one.entries two.entries one.increasing two.increasing
     (all_nonzero a (length ranges) one.entries one.each one.nonzero) (all_nonzero a (length ranges) two.entries two.each two.nonzero)
     (λ coords. one.values coords ∙ sym (two.values coords)) in
-    one.text_is ∙ ap (matrix_text ranges) same ∙ sym two.text_is
+    one.text_is ∙ ap (matrix_text signed ranges) same ∙ sym two.text_is
 
 -- a written text, read again, stands for the tensor that was written
-pub written_stands : (a : Arithmetic) (has_minus : Bool) (ranges : List ℕ) (value : List ℕ → ℕ) (text : List ℕ)
-    (is : IsMatrixText a ranges value text) → IsMatrixOrder (length ranges) → All (λ range. range ≤ greatest_matrix_size) ranges
+pub written_stands : (a : Arithmetic) (has_minus signed : Bool) (ranges : List ℕ) (value : List ℕ → ℕ) (text : List ℕ)
+    (is : IsMatrixText a signed ranges value text) → IsMatrixOrder (length ranges) → All (λ range. range ≤ greatest_matrix_size) ranges
     → All (λ range. range ≤ greatest_file_coordinate) ranges → length is.entries ≤ greatest_matrix_entries
-    → StandsFor a ranges value (matrix_of_text a has_minus (length ranges) text)
-written_stands a has_minus ranges value text is order sizes file few =
+    → (signed ≡ false → All (λ entry. entry.value < 2 ^ 63) is.entries)
+    → StandsFor a ranges value (matrix_of_text a has_minus signed (length ranges) text)
+written_stands a has_minus signed ranges value text is order sizes file few short =
     let are : AreRanges ranges = record { order = order; sizes = sizes; file = file } in
-    let written : AreWritten ranges is.entries = record { each = is.each; below = is.below } in
+    let written : AreWritten signed ranges is.entries = record {
+      back = λ k d h. record { word = (is.each k d h).word; short = λ none. short none k d h };
+      below = is.below;
+    } in
     subst (StandsFor a ranges value)
-    (sym (ap (matrix_of_text a has_minus (length ranges)) is.text_is ∙ text_read ranges are a has_minus is.entries written few))
+    (sym (ap (matrix_of_text a has_minus signed (length ranges)) is.text_is
+    ∙ text_read signed ranges are a has_minus is.entries written few))
     (refl, refl, is.values)

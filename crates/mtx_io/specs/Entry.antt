@@ -1,5 +1,5 @@
 -- The entry lines of a Matrix Market file: what each tells, what is wrong with it, and the entries that it gives the matrix.
-use Rattle.std.specs.Prelude.{ℕ, zero, suc, ℤ, ◌&&◌, ◌==◌, nat_lt, List, [], ◌∷◌}
+use Rattle.std.specs.Prelude.{ℕ, zero, suc, ℤ, pos, negsuc, Bool, ◌&&◌, ◌==◌, nat_lt, List, [], ◌∷◌}
 use Rattle.std.specs.Prelude.{Option, Some, None, Result, Ok, Err, if◌then◌else◌}
 use Rattle.limits.specs.Limits.{greatest_file_coordinate}
 use Rattle.numbers.specs.Arithmetic.{Arithmetic}
@@ -15,8 +15,8 @@ use Rattle.mtx_io.specs.declared.banner.Symmetry.{Symmetry}
 use Rattle.mtx_io.specs.declared.banner.Symmetry.TheVariants.{General, Symmetric, SkewSymmetric}
 use Rattle.mtx_io.specs.declared.header.Header.{Header}
 use Rattle.text_lines.specs.declared.line_kind.LineKind.{LineKind}
-use Rattle.text_lines.specs.declared.line_kind.LineKind.TheVariants.{Fields, NotNumber, NotWhole, NumRange, ZeroCoordinate, CoordRange}
-use Rattle.text_lines.specs.declared.line_kind.LineKind.TheVariants.{SkewDiagonal}
+use Rattle.text_lines.specs.declared.line_kind.LineKind.TheVariants.{Fields, NotNumber, NotWhole, NumRange, Negative, ZeroCoordinate}
+use Rattle.text_lines.specs.declared.line_kind.LineKind.TheVariants.{CoordRange, SkewDiagonal}
 use Rattle.mtx_io.specs.declared.place.Place.{Place}
 pub use Rattle.mtx_io.specs.declared.place.PlacedValue.{PlacedValue}
 
@@ -30,15 +30,20 @@ index_from size (Some (suc i)) =
 abbrev pub index_of : ℕ → List ℕ → Result ℕ LineKind
 index_of size token = index_from size (number_of token)
 
--- a value as a word, where the token is a whole number of 64 bits with a sign
-abbrev pub value_from : Result ℤ NumFault → Result ℕ LineKind
-value_from (Ok z) = Ok (word_of_signed z)
-value_from (Err NoNumber) = Err NotNumber
-value_from (Err NoWhole) = Err NotWhole
-value_from (Err NoRange) = Err NumRange
+-- the word of a number. Where values have no sign, none is below 0
+abbrev pub word_from : Bool → ℤ → Result ℕ LineKind
+word_from signed (pos n) = Ok n
+word_from signed (negsuc n) = if signed then Ok (word_of_signed (negsuc n)) else Err Negative
 
-abbrev pub value_of : List ℕ → Result ℕ LineKind
-value_of token = value_from (read_whole_of token)
+-- a value as a word, where the token is a whole number of 64 bits with a sign
+abbrev pub value_from : Bool → Result ℤ NumFault → Result ℕ LineKind
+value_from signed (Ok z) = word_from signed z
+value_from signed (Err NoNumber) = Err NotNumber
+value_from signed (Err NoWhole) = Err NotWhole
+value_from signed (Err NoRange) = Err NumRange
+
+abbrev pub value_of : Bool → List ℕ → Result ℕ LineKind
+value_of signed token = value_from signed (read_whole_of token)
 
 -- the diagonal of a skew-symmetric matrix is zero and is not told
 abbrev pub place_at : Symmetry → ℕ → ℕ → Result Place LineKind
@@ -56,10 +61,10 @@ placed (Err kind) value = Err kind
 placed (Ok place) (Err kind) = Err kind
 placed (Ok place) (Ok value) = Ok (record { place = place; value = value })
 
-abbrev pub entry_of_three : Header → Option (List ℕ × List ℕ × List ℕ) → Result PlacedValue LineKind
-entry_of_three header None = Err Fields
-entry_of_three header (Some words) =
-    placed (place_from header.symmetry (index_of header.rows words.0) (index_of header.columns words.1)) (value_of words.2)
+abbrev pub entry_of_three : Bool → Header → Option (List ℕ × List ℕ × List ℕ) → Result PlacedValue LineKind
+entry_of_three signed header None = Err Fields
+entry_of_three signed header (Some words) =
+    placed (place_from header.symmetry (index_of header.rows words.0) (index_of header.columns words.1)) (value_of signed words.2)
 
 -- a line that tells where an entry of this value stands
 abbrev pub entry_of_two : Header → ℕ → Option (List ℕ × List ℕ) → Result PlacedValue LineKind
@@ -67,15 +72,15 @@ entry_of_two header value None = Err Fields
 entry_of_two header value (Some words) =
     placed (place_from header.symmetry (index_of header.rows words.0) (index_of header.columns words.1)) (Ok value)
 
-abbrev pub entry_of_one : Place → Option (List ℕ) → Result PlacedValue LineKind
-entry_of_one place None = Err Fields
-entry_of_one place (Some token) = placed (Ok place) (value_of token)
+abbrev pub entry_of_one : Bool → Place → Option (List ℕ) → Result PlacedValue LineKind
+entry_of_one signed place None = Err Fields
+entry_of_one signed place (Some token) = placed (Ok place) (value_of signed token)
 
--- what the tokens of an entry line tell
-abbrev pub entry_of : Header → Slot → List (List ℕ) → Result PlacedValue LineKind
-entry_of header Anywhere tokens = entry_of_three header (three_tokens tokens)
-entry_of header (Valued value) tokens = entry_of_two header value (two_tokens tokens)
-entry_of header (At place) tokens = entry_of_one place (one_token tokens)
+-- what the tokens of an entry line tell, where values have a sign or none
+abbrev pub entry_of : Bool → Header → Slot → List (List ℕ) → Result PlacedValue LineKind
+entry_of signed header Anywhere tokens = entry_of_three signed header (three_tokens tokens)
+entry_of signed header (Valued value) tokens = entry_of_two header value (two_tokens tokens)
+entry_of signed header (At place) tokens = entry_of_one signed place (one_token tokens)
 
 -- the coordinates of a place: in a tensor of order 1 the row alone
 abbrev pub coords_of : ℕ → ℕ → ℕ → List ℕ

@@ -71,12 +71,12 @@ abbrev pub size_line : ℕ → ℕ → Banner → List ℕ → Result Sized Line
 size_line one order banner line = unless_long line (or_fault BadSize (size_of one order banner (tokens line)))
 
 -- what is due on an entry line, or that none is
-abbrev pub entry_due : Header → List Slot → List (List ℕ) → Result PlacedValue LineKind
-entry_due header [] tokens = Err Extra
-entry_due header (slot ∷ slots) tokens = entry_of header slot tokens
+abbrev pub entry_due : Bool → Header → List Slot → List (List ℕ) → Result PlacedValue LineKind
+entry_due signed header [] tokens = Err Extra
+entry_due signed header (slot ∷ slots) tokens = entry_of signed header slot tokens
 
-abbrev pub entry_line : Header → List Slot → List ℕ → Result PlacedValue LineKind
-entry_line header slots line = unless_long line (entry_due header slots (tokens line))
+abbrev pub entry_line : Bool → Header → List Slot → List ℕ → Result PlacedValue LineKind
+entry_line signed header slots line = unless_long line (entry_due signed header slots (tokens line))
 
 -- the entries of a line before those of the lines behind it
 abbrev pub before_others : Arithmetic → Header → ℕ → Result PlacedValue LineKind → Result (List Entry) BadLine → Result (List Entry) BadLine
@@ -91,34 +91,34 @@ entries_at_end end (slot ∷ slots) = Err (record { number = end; kind = Truncat
 
 -- the entries of these lines, one line for each slot, or the first fault: a line that is bad or one too many, or the end of
 -- the file before the last entry
-abbrev pub entries_from : Arithmetic → Header → ℕ → List Slot → List NumberedLine → Result (List Entry) BadLine
-entries_from a header end slots [] = entries_at_end end slots
-entries_from a header end slots (line ∷ more) =
-    before_others a header line.number (entry_line header slots line.bytes) (entries_from a header end (drop 1 slots) more)
+abbrev pub entries_from : Arithmetic → Bool → Header → ℕ → List Slot → List NumberedLine → Result (List Entry) BadLine
+entries_from a signed header end slots [] = entries_at_end end slots
+entries_from a signed header end slots (line ∷ more) =
+    before_others a header line.number (entry_line signed header slots line.bytes) (entries_from a signed header end (drop 1 slots) more)
 
 abbrev pub matrix_with : Header → Result (List Entry) BadLine → Result Matrix BadLine
 matrix_with header (Err bad) = Err bad
 matrix_with header (Ok entries) = Ok (record { rows = header.rows; columns = header.columns; entries = entries })
 
-abbrev pub behind_size : Arithmetic → ℕ → ℕ → Result Sized LineKind → List NumberedLine → Result Matrix BadLine
-behind_size a end number (Err kind) more = Err (record { number = number; kind = kind })
-behind_size a end number (Ok sized) more = matrix_with sized.header (entries_from a sized.header end sized.slots more)
+abbrev pub behind_size : Arithmetic → Bool → ℕ → ℕ → Result Sized LineKind → List NumberedLine → Result Matrix BadLine
+behind_size a signed end number (Err kind) more = Err (record { number = number; kind = kind })
+behind_size a signed end number (Ok sized) more = matrix_with sized.header (entries_from a signed sized.header end sized.slots more)
 
 -- of the lines that are kept behind the banner the first is the size line
-abbrev pub sized_from : Arithmetic → ℕ → ℕ → Banner → List NumberedLine → Result Matrix BadLine
-sized_from a order end banner [] = Err (record { number = end; kind = Truncated })
-sized_from a order end banner (line ∷ more) = behind_size a end line.number (size_line a.one order banner line.bytes) more
+abbrev pub sized_from : Arithmetic → Bool → ℕ → ℕ → Banner → List NumberedLine → Result Matrix BadLine
+sized_from a signed order end banner [] = Err (record { number = end; kind = Truncated })
+sized_from a signed order end banner (line ∷ more) = behind_size a signed end line.number (size_line a.one order banner line.bytes) more
 
-abbrev pub behind_banner : Arithmetic → ℕ → ℕ → ℕ → Result Banner LineKind → List NumberedLine → Result Matrix BadLine
-behind_banner a order end number (Err kind) more = Err (record { number = number; kind = kind })
-behind_banner a order end number (Ok banner) more = sized_from a order end banner (kept more)
+abbrev pub behind_banner : Arithmetic → Bool → ℕ → ℕ → ℕ → Result Banner LineKind → List NumberedLine → Result Matrix BadLine
+behind_banner a signed order end number (Err kind) more = Err (record { number = number; kind = kind })
+behind_banner a signed order end number (Ok banner) more = sized_from a signed order end banner (kept more)
 
 -- what a file of these lines says for a tensor of this order, or the first bad line. The first line has this number
-abbrev pub matrix_from : Arithmetic → Bool → ℕ → ℕ → List (List ℕ) → Result Matrix BadLine
-matrix_from a has_minus order number [] = Err (record { number = number; kind = BadBanner })
-matrix_from a has_minus order number (line ∷ more) =
-    behind_banner a order (number + length (line ∷ more)) number (banner_line has_minus line) (numbered (number + 1) more)
+abbrev pub matrix_from : Arithmetic → Bool → Bool → ℕ → ℕ → List (List ℕ) → Result Matrix BadLine
+matrix_from a has_minus signed order number [] = Err (record { number = number; kind = BadBanner })
+matrix_from a has_minus signed order number (line ∷ more) =
+    behind_banner a signed order (number + length (line ∷ more)) number (banner_line has_minus line) (numbered (number + 1) more)
 
--- what the text of a file says
-abbrev pub matrix_of_text : Arithmetic → Bool → ℕ → List ℕ → Result Matrix BadLine
-matrix_of_text a has_minus order text = matrix_from a has_minus order 1 (lines text)
+-- what the text of a file says, where values have a minus or none, and a sign or none
+abbrev pub matrix_of_text : Arithmetic → Bool → Bool → ℕ → List ℕ → Result Matrix BadLine
+matrix_of_text a has_minus signed order text = matrix_from a has_minus signed order 1 (lines text)

@@ -37,37 +37,38 @@ IsGoodSoFar (Ok matrix) = Unit {0}
 IsGoodSoFar (Err bad) = bad.kind ≡ Truncated
 
 -- an entry's line, which may have begun before the piece, ends in it, and neither it nor a line before it is bad
-pub record EndsEntry (a : Arithmetic) (has_minus : Bool) (order : ℕ) (text piece : List ℕ) : Type 0 where
+pub record EndsEntry (a : Arithmetic) (has_minus signed : Bool) (order : ℕ) (text piece : List ℕ) : Type 0 where
   pub before : List (List ℕ)
   pub line : List ℕ
   pub behind : List (List ℕ)
   pub lines_are : ended_lines (text ++ piece) ≡ ended_lines text ++ (before ++ line ∷ behind)
   pub entry : length (entry_lines (ended_lines text ++ before)) < length (entry_lines ((ended_lines text ++ before) ++ line ∷ []))
-  pub good : IsGoodSoFar (matrix_from a has_minus order 1 ((ended_lines text ++ before) ++ line ∷ []))
+  pub good : IsGoodSoFar (matrix_from a has_minus signed order 1 ((ended_lines text ++ before) ++ line ∷ []))
 
 -- a piece was refused: memory was wanted before, or an entry's line ends in it
-pub record WantsMemory (a : Arithmetic) (has_minus : Bool) (old : MtxReader) (piece : List ℕ) (new : MtxReader) : Type 0 where
+pub record WantsMemory (a : Arithmetic) (has_minus signed : Bool) (old : MtxReader) (piece : List ℕ) (new : MtxReader) : Type 0 where
   pub wants : new.wants ≡ true
   pub order_is : new.order ≡ old.order
   pub text_is : new.text ≡ old.text ++ piece
-  pub cause : (old.wants ≡ true) ⊎ EndsEntry a has_minus old.order old.text piece
+  pub cause : (old.wants ≡ true) ⊎ EndsEntry a has_minus signed old.order old.text piece
 
 -- the first bad line is of this kind and has this number, or the greatest one of 64 bits where it has a greater
-pub record IsBadText (a : Arithmetic) (has_minus : Bool) (order : ℕ) (text : List ℕ) (line : ℕ) (kind : LineKind) : Type 0 where
+pub record IsBadText (a : Arithmetic) (has_minus signed : Bool) (order : ℕ) (text : List ℕ) (line : ℕ) (kind : LineKind) : Type 0 where
   pub number : ℕ
   pub line_is : line ≡ counted number
-  pub bad : matrix_of_text a has_minus order text ≡ Err (record { number = number; kind = kind })
+  pub bad : matrix_of_text a has_minus signed order text ≡ Err (record { number = number; kind = kind })
 
 -- why a text is refused at its end
-abbrev pub Refuses : Arithmetic → Bool → MtxReader → FileFault → Type 0
-Refuses a has_minus reader (Line line kind) = (reader.wants ≡ false) × IsBadText a has_minus reader.order reader.text line kind
-Refuses a has_minus reader (Memory e) = (reader.wants ≡ true) ⊎ EndsEntry a has_minus reader.order reader.text (10 ∷ [])
+abbrev pub Refuses : Arithmetic → Bool → Bool → MtxReader → FileFault → Type 0
+Refuses a has_minus signed reader (Line line kind) = (reader.wants
+    ≡ false) × IsBadText a has_minus signed reader.order reader.text line kind
+Refuses a has_minus signed reader (Memory e) = (reader.wants ≡ true) ⊎ EndsEntry a has_minus signed reader.order reader.text (10 ∷ [])
 
 -- the matrix that the text stands for: its entries, and the numbers of rows and columns
-pub record IsRead (a : Arithmetic) (has_minus : Bool) (reader : MtxReader) (read : Entries × ℕ × ℕ) : Type 0 where
+pub record IsRead (a : Arithmetic) (has_minus signed : Bool) (reader : MtxReader) (read : Entries × ℕ × ℕ) : Type 0 where
   pub wants : reader.wants ≡ false
   pub order_is : read.0.order ≡ reader.order
-  pub matrix_is : matrix_of_text a has_minus reader.order reader.text ≡ Ok
+  pub matrix_is : matrix_of_text a has_minus signed reader.order reader.text ≡ Ok
       (record { rows = read.1; columns = read.2; entries = read.0.list })
 
 -- a reader that was fed this text and has wanted no memory

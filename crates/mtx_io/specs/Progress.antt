@@ -22,21 +22,21 @@ behind_entries front (Err bad) = Err bad
 behind_entries front (Ok entries) = Ok (front ++ entries)
 
 -- what the file says, if these lines are left, of which the first has this number
-abbrev pub rest_of : Arithmetic → Bool → ℕ → List Entry → Stage → ℕ → List (List ℕ) → Result Matrix BadLine
-rest_of a has_minus order entries First number more = matrix_from a has_minus order number more
-rest_of a has_minus order entries (Begun banner) number more =
-    sized_from a order (number + length more) banner (kept (numbered number more))
-rest_of a has_minus order entries (Sized sized) number more =
+abbrev pub rest_of : Arithmetic → Bool → Bool → ℕ → List Entry → Stage → ℕ → List (List ℕ) → Result Matrix BadLine
+rest_of a has_minus signed order entries First number more = matrix_from a has_minus signed order number more
+rest_of a has_minus signed order entries (Begun banner) number more =
+    sized_from a signed order (number + length more) banner (kept (numbered number more))
+rest_of a has_minus signed order entries (Sized sized) number more =
     matrix_with sized.header
-    (behind_entries entries (entries_from a sized.header (number + length more) sized.slots (kept (numbered number more))))
-rest_of a has_minus order entries (Bad line kind) number more = Err (record { number = line; kind = kind })
+    (behind_entries entries (entries_from a signed sized.header (number + length more) sized.slots (kept (numbered number more))))
+rest_of a has_minus signed order entries (Bad line kind) number more = Err (record { number = line; kind = kind })
 
 -- with the line taken the file still says the same, whatever lines are left
-abbrev pub Follows : Arithmetic → Bool → ℕ → ℕ → List ℕ → List Entry → Stage → List Entry → Stage → Type 0
-Follows a has_minus order count line entries stage entries' stage' =
+abbrev pub Follows : Arithmetic → Bool → Bool → ℕ → ℕ → List ℕ → List Entry → Stage → List Entry → Stage → Type 0
+Follows a has_minus signed order count line entries stage entries' stage' =
     (number : ℕ) (more : List (List ℕ)) → counted number ≡ count
-    → told (rest_of a has_minus order entries' stage' (number + 1) more)
-    ≡ told (rest_of a has_minus order entries stage number (line ∷ more))
+    → told (rest_of a has_minus signed order entries' stage' (number + 1) more)
+    ≡ told (rest_of a has_minus signed order entries stage number (line ∷ more))
 
 -- a tensor that a matrix can be read as
 abbrev pub IsMatrixOrder : ℕ → Type 0

@@ -146,9 +146,9 @@ impl EntryLines {
         matches!(self.due, Due::Entries { count: 0, .. } | Due::Values(None))
     }
 
-    /// What an entry line tells, or what is wrong with it: it is then no longer due.
-    pub(crate) fn take(&mut self, line: &[u8]) -> Result<PlacedValue, LineKind>
-        ensures told { result ≡ entry_due self.old.header self.old.slots (tokens line.now) }
+    /// What an entry line tells, whose value may have a sign or none, or what is wrong with it: it is then no longer due.
+    pub(crate) fn take(&mut self, line: &[u8], signed: bool) -> Result<PlacedValue, LineKind>
+        ensures told { result ≡ entry_due signed self.old.header self.old.slots (tokens line.now) }
         ensures header { self.new.header ≡ self.old.header }
         ensures left { self.new.slots ≡ drop 1 self.old.slots }
     {
@@ -159,12 +159,12 @@ impl EntryLines {
                 }
                 let count = count - 1;
                 self.due = Due::Entries { count, value };
-                read_entry(&self.header, value, line)
+                read_entry(&self.header, value, line, signed)
             }
             Due::Values(None) => Err(LineKind::Extra),
             Due::Values(Some(place)) => {
                 self.due = Due::Values(place_behind(&self.header, place));
-                read_value_at(place, line)
+                read_value_at(place, line, signed)
             }
         }
     }

@@ -2,7 +2,8 @@
 ghost use Rattle.std.specs.Prelude.{◌≡◌, ◌++◌, ◌∷◌, [], true, OnOk};
 ghost use Rattle.mtx_io.specs.Banner.{needs_minus};
 ghost use Rattle.mtx_io.specs.Due.{slot_with};
-ghost use Rattle.mtx_io.specs.Entry.{index_of, value_of, place_at, place_from, entry_of, entry_of_one, entry_of_two, entry_of_three};
+ghost use Rattle.mtx_io.specs.Entry.{index_of, word_from, value_of, place_at, place_from, entry_of, entry_of_one, entry_of_two};
+ghost use Rattle.mtx_io.specs.Entry.{entry_of_three};
 ghost use Rattle.mtx_io.specs.Entry.{entries_by, coords_of};
 ghost use Rattle.mtx_io.specs.Fields.{one_token as one, two_tokens as two, three_tokens as three};
 ghost use Rattle.mtx_io.specs.Progress.{IsMatrixOrder};
@@ -31,12 +32,23 @@ fn read_index_in(token: &[u8], size: u64) -> Result<u64, LineKind>
     }
 }
 
+/// The word of a number. Where values have no sign, none is below 0.
+fn word(number: i64, signed: bool) -> Result<u64, LineKind>
+    ensures { result ≡ word_from signed number }
+{
+    if signed || number >= 0 {
+        Ok(numbers::unsigned(number))
+    } else {
+        Err(LineKind::Negative)
+    }
+}
+
 /// A value as a word: the token is a whole number of 64 bits with a sign.
-fn read_value(token: &[u8]) -> Result<u64, LineKind>
-    ensures { result ≡ value_of token.now }
+fn read_value(token: &[u8], signed: bool) -> Result<u64, LineKind>
+    ensures { result ≡ value_of signed token.now }
 {
     match read_whole(token) {
-        Ok(value) => Ok(numbers::unsigned(value)),
+        Ok(number) => word(number, signed),
         Err(NumFault::NotNumber) => Err(LineKind::NotNumber),
         Err(NumFault::NotWhole) => Err(LineKind::NotWhole),
         Err(NumFault::NumRange) => Err(LineKind::NumRange),
@@ -64,14 +76,14 @@ fn read_place(header: &Header, row: &[u8], column: &[u8]) -> Result<Place, LineK
 }
 
 /// What a line that has a row, a column and a value tells.
-fn read_whole_entry(header: &Header, line: &[u8]) -> Result<PlacedValue, LineKind>
-    ensures { result ≡ entry_of_three header.now (three (tokens line.now)) }
+fn read_whole_entry(header: &Header, line: &[u8], signed: bool) -> Result<PlacedValue, LineKind>
+    ensures { result ≡ entry_of_three signed header.now (three (tokens line.now)) }
 {
     let Some((row, column, value)) = three_tokens(line) else {
         return Err(LineKind::Fields);
     };
     let place = read_place(header, row, column)?;
-    let value = read_value(value)?;
+    let value = read_value(value, signed)?;
     Ok(PlacedValue { place, value })
 }
 
@@ -91,23 +103,28 @@ pub(crate) fn read_entry(
     header: &Header,
     value: Option<u64>,
     line: &[u8],
+    signed: bool,
 ) -> Result<PlacedValue, LineKind>
-    ensures { result ≡ entry_of header.now (slot_with value) (tokens line.now) }
+    ensures { result ≡ entry_of signed header.now (slot_with value) (tokens line.now) }
 {
     match value {
-        None => read_whole_entry(header, line),
+        None => read_whole_entry(header, line, signed),
         Some(value) => read_entry_of(header, value, line),
     }
 }
 
 /// What a line that has the value at this place tells.
-pub(crate) fn read_value_at(place: Place, line: &[u8]) -> Result<PlacedValue, LineKind>
-    ensures { result ≡ entry_of_one place (one (tokens line.now)) }
+pub(crate) fn read_value_at(
+    place: Place,
+    line: &[u8],
+    signed: bool,
+) -> Result<PlacedValue, LineKind>
+    ensures { result ≡ entry_of_one signed place (one (tokens line.now)) }
 {
     let Some(token) = one_token(line) else {
         return Err(LineKind::Fields);
     };
-    let value = read_value(token)?;
+    let value = read_value(token, signed)?;
     Ok(PlacedValue { place, value })
 }
 

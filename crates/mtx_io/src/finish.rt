@@ -14,8 +14,8 @@ pub(crate) type Read = Result<(Entries, u64, u64), FileFault>;
 
 /// What a file says of which no line is left. The line behind its last one would have this number.
 pub(crate) fn answer_at_end(stage: Stage, entries: Entries, line: u64) -> Read
-    ensures { (a : Arithmetic) (has_minus : Bool) (number : ℕ) → line ≡ counted number
-        → Tells (told (rest_of a has_minus entries.order entries.list stage number [])) entries.order result }
+    ensures { (a : Arithmetic) (has_minus signed : Bool) (number : ℕ) → line ≡ counted number
+        → Tells (told (rest_of a has_minus signed entries.order entries.list stage number [])) entries.order result }
 {
     match stage {
         Stage::First => Err(FileFault::Line {

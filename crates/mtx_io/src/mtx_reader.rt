@@ -12,7 +12,7 @@ use tensor_map::Entries;
 use text_lines::{Fed, LineReader};
 
 /// Reads the text of a Matrix Market file, in whatever pieces it comes, as the entries of a tensor of order 1 or 2. It keeps
-/// the entries and one line, and no text. Values are negated as `S` says.
+/// the entries and one line, and no text. Values are negated as `S` says, and below 0 where `S` has a sign alone.
 ///
 /// The first bad line is kept and told by `finish`; what follows it is passed over. After want of memory every call says so.
 #[derive(Drop)]
@@ -33,7 +33,7 @@ impl<S: Semiring> Model for MtxReader<S> {
 
     ghost view = { λ r. record { order = r.entries.order; text = r.fed.bytes; wants = r.wants } };
 
-    ghost invariant = { λ r. IsReading S.arithmetic S.has_minus r.entries r.fed.bytes r.lines r.stage r.wants };
+    ghost invariant = { λ r. IsReading S.arithmetic S.has_minus S.is_signed r.entries r.fed.bytes r.lines r.stage r.wants };
 }
 
 impl<S: Semiring> MtxReader<S> {
@@ -62,7 +62,8 @@ impl<S: Semiring> MtxReader<S> {
     /// The entries that the file stands for, each before its mirror image, and its numbers of rows and columns; or the
     /// first bad line.
     pub fn finish(self) -> Result<(Entries, u64, u64), FileFault>
-        ensures { MatchResult result (IsRead S.arithmetic S.has_minus self) (Refuses S.arithmetic S.has_minus self) }
+        ensures { MatchResult result (IsRead S.arithmetic S.has_minus S.is_signed self)
+            (Refuses S.arithmetic S.has_minus S.is_signed self) }
     {
         let MtxReader {
             mut lines,
@@ -88,12 +89,12 @@ impl<S: Semiring> Eater for MtxReader<S> {
 
     ghost eaten = { given_to };
 
-    ghost refused = { WantsMemory S.arithmetic S.has_minus };
+    ghost refused = { WantsMemory S.arithmetic S.has_minus S.is_signed };
 
     /// Takes a piece. Memory is wanted for an entry alone, and once it was, at every later call.
     fn feed(&mut self, piece: &[u8]) -> Result<(), AllocError>
         ensures ok { OnOk result (given_to self.new ≡ given_to self.old ++ piece.now) }
-        ensures err { OnErr result (WantsMemory S.arithmetic S.has_minus self.old piece.now self.new) }
+        ensures err { OnErr result (WantsMemory S.arithmetic S.has_minus S.is_signed self.old piece.now self.new) }
         ensures calm { OnOk result (self.new.wants ≡ false) }
         ensures stuck { self.old.wants ≡ true → IsErr result }
     {

@@ -30,11 +30,13 @@ fn take_step<S: Semiring>(
     ensures within { IfOk result (λ taken. taken.0 ≤ length piece.now) }
     ensures progress { IfOk result (λ taken. 0 < taken.0) }
     ensures read { IfOk result
-        (λ taken. (fed : List ℕ) → IsReadSoFar S.arithmetic S.has_minus entries.old.order fed lines.old.text entries.old.list stage
-        → IsReadSoFar S.arithmetic S.has_minus entries.old.order (fed ++ take taken.0 piece.now) lines.new.text entries.new.list taken.1) }
+        (λ taken. (fed : List ℕ)
+        → IsReadSoFar S.arithmetic S.has_minus S.is_signed entries.old.order fed lines.old.text entries.old.list stage
+        → IsReadSoFar S.arithmetic S.has_minus S.is_signed entries.old.order (fed
+        ++ take taken.0 piece.now) lines.new.text entries.new.list taken.1) }
     ensures ended { OnErr result
-        ((fed : List ℕ) → IsReadSoFar S.arithmetic S.has_minus entries.old.order fed lines.old.text entries.old.list stage
-        → EndsEntry S.arithmetic S.has_minus entries.old.order fed piece.now) }
+        ((fed : List ℕ) → IsReadSoFar S.arithmetic S.has_minus S.is_signed entries.old.order fed lines.old.text entries.old.list stage
+        → EndsEntry S.arithmetic S.has_minus S.is_signed entries.old.order fed piece.now) }
 {
     if let Some((n, line)) = lines.take_whole(piece) {
         let number = lines.number();
@@ -65,11 +67,12 @@ pub(crate) fn take_piece<S: Semiring>(
     ensures order { entries.new.order ≡ entries.old.order }
     ensures stage { IfOk result (λ after. IsStage S.has_minus entries.old.order entries.new.list after) }
     ensures read { IfOk result
-        (λ after. (fed : List ℕ) → IsReadSoFar S.arithmetic S.has_minus entries.old.order fed lines.old.text entries.old.list stage
-        → IsReadSoFar S.arithmetic S.has_minus entries.old.order (fed ++ piece.now) lines.new.text entries.new.list after) }
+        (λ after. (fed : List ℕ)
+        → IsReadSoFar S.arithmetic S.has_minus S.is_signed entries.old.order fed lines.old.text entries.old.list stage
+        → IsReadSoFar S.arithmetic S.has_minus S.is_signed entries.old.order (fed ++ piece.now) lines.new.text entries.new.list after) }
     ensures ended { OnErr result
-        ((fed : List ℕ) → IsReadSoFar S.arithmetic S.has_minus entries.old.order fed lines.old.text entries.old.list stage
-        → EndsEntry S.arithmetic S.has_minus entries.old.order fed piece.now) }
+        ((fed : List ℕ) → IsReadSoFar S.arithmetic S.has_minus S.is_signed entries.old.order fed lines.old.text entries.old.list stage
+        → EndsEntry S.arithmetic S.has_minus S.is_signed entries.old.order fed piece.now) }
 {
     let mut stage = stage;
     let mut rest = piece;
@@ -94,12 +97,14 @@ pub(crate) fn take_end<S: Semiring>(
     requires stage { IsStage S.has_minus entries.old.order entries.old.list stage }
     ensures order { entries.new.order ≡ entries.old.order }
     ensures read { IfOk result
-        (λ after. (fed : List ℕ) → IsReadSoFar S.arithmetic S.has_minus entries.old.order fed lines.old.text entries.old.list stage
-        → told (matrix_of_text S.arithmetic S.has_minus entries.old.order fed)
-        ≡ told (rest_of S.arithmetic S.has_minus entries.old.order entries.new.list after (length (told_lines lines.new.text) + 1) [])) }
+        (λ after. (fed : List ℕ)
+        → IsReadSoFar S.arithmetic S.has_minus S.is_signed entries.old.order fed lines.old.text entries.old.list stage
+        → told (matrix_of_text S.arithmetic S.has_minus S.is_signed entries.old.order fed)
+        ≡ told (rest_of S.arithmetic S.has_minus S.is_signed entries.old.order entries.new.list after
+        (length (told_lines lines.new.text) + 1) [])) }
     ensures ended { OnErr result
-        ((fed : List ℕ) → IsReadSoFar S.arithmetic S.has_minus entries.old.order fed lines.old.text entries.old.list stage
-        → EndsEntry S.arithmetic S.has_minus entries.old.order fed (10 ∷ [])) }
+        ((fed : List ℕ) → IsReadSoFar S.arithmetic S.has_minus S.is_signed entries.old.order fed lines.old.text entries.old.list stage
+        → EndsEntry S.arithmetic S.has_minus S.is_signed entries.old.order fed (10 ∷ [])) }
 {
     if stage.is_bad() {
         return Ok(stage);

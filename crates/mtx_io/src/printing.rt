@@ -2,7 +2,7 @@
 ghost use Rattle.std.specs.Prelude.{◌≡◌, ◌≤◌, ◌<◌, ◌+◌, ◌++◌, ◌∷◌, []};
 ghost use Rattle.std.specs.Prelude.{All, slice_index_or, length, filter, codes, OnOk, IfErr};
 ghost use Rattle.std.specs.Fmt.{decimal, signed_decimal};
-ghost use Rattle.numbers.specs.Signed.{signed_of};
+ghost use Rattle.numbers.specs.Signed.{written_of};
 ghost use Rattle.outside.specs.Sink.{Appends};
 ghost use Rattle.tensor_map.specs.declared.entries.Entry.{Entry};
 ghost use Rattle.tensor_map.specs.Entries.{is_nonzero, StrictlyIncreasing};
@@ -31,11 +31,22 @@ fn put_count<K: Sink>(sink: &mut K, number: u64) -> Result<(), Refusal>
     put_all(sink, b"\n")
 }
 
-/// Appends a value with its sign and a line feed.
-fn put_value<K: Sink>(sink: &mut K, value: u64) -> Result<(), Refusal>
-    ensures { Prints (K.state sink.old) (K.state sink.new) (signed_decimal (signed_of value) ++ codes "\n") result }
+/// Appends a value, with its sign where values have one.
+fn put_number<S: Semiring, K: Sink>(sink: &mut K, value: u64) -> Result<(), Refusal>
+    ensures { Prints (K.state sink.old) (K.state sink.new) (signed_decimal (written_of S.is_signed value)) result }
 {
-    put_i64(sink, numbers::signed(value))?;
+    if S::is_signed() {
+        put_i64(sink, numbers::signed(value))
+    } else {
+        put_u64(sink, value)
+    }
+}
+
+/// Appends a value and a line feed.
+fn put_value<S: Semiring, K: Sink>(sink: &mut K, value: u64) -> Result<(), Refusal>
+    ensures { Prints (K.state sink.old) (K.state sink.new) (signed_decimal (written_of S.is_signed value) ++ codes "\n") result }
+{
+    put_number::<S, K>(sink, value)?;
     put_all(sink, b"\n")
 }
 
@@ -49,13 +60,18 @@ fn put_size<K: Sink>(sink: &mut K, rows: u64, columns: u64, count: u64) -> Resul
 }
 
 /// Appends an entry's line. Row and column are counted from 1.
-fn put_entry<K: Sink>(sink: &mut K, row: u64, column: u64, value: u64) -> Result<(), Refusal>
+fn put_entry<S: Semiring, K: Sink>(
+    sink: &mut K,
+    row: u64,
+    column: u64,
+    value: u64,
+) -> Result<(), Refusal>
     ensures { Prints (K.state sink.old) (K.state sink.new)
-        (line_of (decimal row) (decimal column) (signed_decimal (signed_of value))) result }
+        (line_of (decimal row) (decimal column) (signed_decimal (written_of S.is_signed value))) result }
 {
     put_spaced(sink, row)?;
     put_spaced(sink, column)?;
-    put_value(sink, value)
+    put_value::<S, K>(sink, value)
 }
 
 /// How many of the entries have another value than zero.
@@ -81,7 +97,7 @@ fn put_if_nonzero<S: Semiring, K: Sink>(
     requires order { IsMatrixOrder entries.now.order }
     requires small { All (λ entry. AreSmall entry.coords) entries.now.list }
     ensures { (d : Entry) → Prints (K.state sink.old) (K.state sink.new)
-        (entries_text (filter (is_nonzero S.arithmetic) (slice_index_or entries.now.list i d ∷ []))) result }
+        (entries_text S.is_signed (filter (is_nonzero S.arithmetic) (slice_index_or entries.now.list i d ∷ []))) result }
 {
     let value = entries.value(i);
     if value == S::zero() {
@@ -90,8 +106,8 @@ fn put_if_nonzero<S: Semiring, K: Sink>(
     let coords = entries.coords(i);
     let numbers = coords.as_slice();
     match numbers {
-        [row, column] => put_entry(sink, *row + 1, *column + 1, value),
-        [row, ..] => put_entry(sink, *row + 1, 1, value),
+        [row, column] => put_entry::<S, K>(sink, *row + 1, *column + 1, value),
+        [row, ..] => put_entry::<S, K>(sink, *row + 1, 1, value),
         [] => Ok(()),
     }
 }
@@ -100,7 +116,8 @@ fn put_if_nonzero<S: Semiring, K: Sink>(
 fn put_entries<S: Semiring, K: Sink>(sink: &mut K, entries: &Entries) -> Result<(), Refusal>
     requires order { IsMatrixOrder entries.now.order }
     requires small { All (λ entry. AreSmall entry.coords) entries.now.list }
-    ensures { Prints (K.state sink.old) (K.state sink.new) (entries_text (filter (is_nonzero S.arithmetic) entries.now.list)) result }
+    ensures { Prints (K.state sink.old) (K.state sink.new)
+        (entries_text S.is_signed (filter (is_nonzero S.arithmetic) entries.now.list)) result }
 {
     for i in 0..entries.len() {
         put_if_nonzero::<S, K>(sink, entries, i)?;
@@ -127,7 +144,8 @@ fn put_matrix<S: Semiring, K: Sink>(
     requires order { IsMatrixOrder entries.now.order }
     requires same { length shape.now ≡ entries.now.order }
     requires below { All (λ entry. IsBelow shape.now entry.coords) entries.now.list }
-    ensures { Prints (K.state sink.old) (K.state sink.new) (matrix_text shape.now (filter (is_nonzero S.arithmetic) entries.now.list))
+    ensures { Prints (K.state sink.old) (K.state sink.new)
+        (matrix_text S.is_signed shape.now (filter (is_nonzero S.arithmetic) entries.now.list))
         result }
 {
     let ranges = shape.ranges();
@@ -150,9 +168,11 @@ pub fn put_mtx<S: Semiring, K: Sink>(
     requires below { All (λ entry. IsBelow shape.now entry.coords) entries.now.list }
     requires increasing { StrictlyIncreasing entries.now.list }
     ensures whole { OnOk result
-        (Appends (K.state sink.old) (K.state sink.new) (matrix_text shape.now (filter (is_nonzero S.arithmetic) entries.now.list))) }
+        (Appends (K.state sink.old) (K.state sink.new)
+        (matrix_text S.is_signed shape.now (filter (is_nonzero S.arithmetic) entries.now.list))) }
     ensures part { IfErr result
-        (AppendsPart (K.state sink.old) (K.state sink.new) (matrix_text shape.now (filter (is_nonzero S.arithmetic) entries.now.list))) }
+        (AppendsPart (K.state sink.old) (K.state sink.new)
+        (matrix_text S.is_signed shape.now (filter (is_nonzero S.arithmetic) entries.now.list))) }
 {
     put_matrix::<S, K>(sink, shape, entries)
 }

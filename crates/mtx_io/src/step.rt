@@ -30,7 +30,7 @@ fn is_passed_over(line: &[u8]) -> bool
 fn after_first<S: Semiring>(line: &[u8], number: u64) -> Stage
     requires { is_long line.now ≡ false }
     ensures stage { (order : ℕ) → IsStage S.has_minus order [] result }
-    ensures follows { (order : ℕ) → Follows S.arithmetic S.has_minus order number line.now [] First [] result }
+    ensures follows { (order : ℕ) → Follows S.arithmetic S.has_minus S.is_signed order number line.now [] First [] result }
     ensures known { (taken : List (List ℕ)) → IsKnown result (taken ++ line.now ∷ []) }
 {
     match read_first_line::<S>(line) {
@@ -44,7 +44,7 @@ fn after_size<S: Semiring>(order: usize, banner: Banner, line: &[u8], number: u6
     requires short { is_long line.now ≡ false }
     requires kept { is_skipped line.now ≡ false }
     ensures stage { (has_minus : Bool) → IsStage has_minus order [] (Begun banner) → IsStage has_minus order [] result }
-    ensures follows { (has_minus : Bool) → Follows S.arithmetic has_minus order number line.now [] (Begun banner) [] result }
+    ensures follows { (has_minus : Bool) → Follows S.arithmetic has_minus S.is_signed order number line.now [] (Begun banner) [] result }
     ensures known { (taken : List (List ℕ)) → 0 < length taken → IsKnown result (taken ++ line.now ∷ []) }
 {
     match EntryLines::read(order, banner, S::one(), line) {
@@ -70,13 +70,14 @@ fn after_entry<S: Semiring>(
     ensures order { entries.new.order ≡ entries.old.order }
     ensures stage { IfOk result (λ stage. IsStage S.has_minus entries.old.order entries.new.list stage) }
     ensures follows { IfOk result
-        (λ stage. Follows S.arithmetic S.has_minus entries.old.order number line.now entries.old.list (Sized lines) entries.new.list
+        (λ stage. Follows S.arithmetic S.has_minus S.is_signed entries.old.order number line.now entries.old.list
+        (Sized lines) entries.new.list
         stage) }
     ensures known { IfOk result (λ stage. (taken : List (List ℕ)) → IsKnown (Sized lines) taken → IsKnown stage (taken ++ line.now ∷ [])) }
-    ensures tells { OnErr result (TellsEntry (Sized lines) line.now) }
+    ensures tells { OnErr result (TellsEntry S.is_signed (Sized lines) line.now) }
 {
     let mut lines = lines;
-    match lines.take(line) {
+    match lines.take(line, S::is_signed()) {
         Ok(told) => {
             push_entries::<S>(entries, lines.header().symmetry, told)?;
             Ok(Stage::Sized(lines))
@@ -98,9 +99,10 @@ pub(crate) fn after_line<S: Semiring>(
     ensures order { entries.new.order ≡ entries.old.order }
     ensures stage { IfOk result (λ after. IsStage S.has_minus entries.old.order entries.new.list after) }
     ensures follows { IfOk result
-        (λ after. Follows S.arithmetic S.has_minus entries.old.order number line.now entries.old.list stage entries.new.list after) }
+        (λ after. Follows S.arithmetic S.has_minus S.is_signed entries.old.order number line.now entries.old.list stage entries.new.list
+        after) }
     ensures known { IfOk result (λ after. (taken : List (List ℕ)) → IsKnown stage taken → IsKnown after (taken ++ line.now ∷ [])) }
-    ensures tells { OnErr result (TellsEntry stage line.now) }
+    ensures tells { OnErr result (TellsEntry S.is_signed stage line.now) }
     ensures kept { OnErr result (is_skipped line.now ≡ false) }
 {
     match stage {

@@ -55,19 +55,19 @@ file_read means order path bytes old new (Err Memory) given whole quiet decodes 
     } in
     (tt, (may, record { read_faults_are = quiet.read_faults_are; faulted_is = quiet.faulted_is }))
 
-pub of_matrix_path : (a : Arithmetic) (has_minus : Bool) (order : ℕ) (path bytes : List ℕ) → is_mtx path ≡ true
-    → of_matrix order (matrix_of_text a has_minus order bytes) ≡ operand_of a has_minus order path bytes
+pub of_matrix_path : (a : Arithmetic) (has_minus signed : Bool) (order : ℕ) (path bytes : List ℕ) → is_mtx path ≡ true
+    → of_matrix order (matrix_of_text a has_minus signed order bytes) ≡ operand_of a has_minus signed order path bytes
 unfolding operand_of
-of_matrix_path a has_minus order path bytes e =
-    sym (ap (λ (b : Bool). if b then of_matrix order (matrix_of_text a has_minus order bytes) else of_entries order
-    (entries_of_text order bytes)) e)
+of_matrix_path a has_minus signed order path bytes e =
+    sym (ap (λ (b : Bool). if b then of_matrix order (matrix_of_text a has_minus signed order bytes) else of_entries order
+    (entries_of_text signed order bytes)) e)
 
-pub of_entries_path : (a : Arithmetic) (has_minus : Bool) (order : ℕ) (path bytes : List ℕ) → is_mtx path ≡ false
-    → of_entries order (entries_of_text order bytes) ≡ operand_of a has_minus order path bytes
+pub of_entries_path : (a : Arithmetic) (has_minus signed : Bool) (order : ℕ) (path bytes : List ℕ) → is_mtx path ≡ false
+    → of_entries order (entries_of_text signed order bytes) ≡ operand_of a has_minus signed order path bytes
 unfolding operand_of
-of_entries_path a has_minus order path bytes e =
-    sym (ap (λ (b : Bool). if b then of_matrix order (matrix_of_text a has_minus order bytes) else of_entries order
-    (entries_of_text order bytes)) e)
+of_entries_path a has_minus signed order path bytes e =
+    sym (ap (λ (b : Bool). if b then of_matrix order (matrix_of_text a has_minus signed order bytes) else of_entries order
+    (entries_of_text signed order bytes)) e)
 
 -- what a reader was fed that knew its order
 record IsFed (order : ℕ) (bytes : List ℕ) (order' : ℕ) (text' : List ℕ) : Type 0 where
@@ -94,27 +94,30 @@ answer_of_fed means meaning order path old new first text order' text' result sa
     file_read means order path feeds.bytes old new result feeds.given_is feeds.whole feeds.quiet (subst
     (λ w. DecodesTo w path result) what decodes)
 
-pub matrix_read : (a : Arithmetic) (has_minus : Bool) (order : ℕ) (path : List ℕ) (old new : FolderState) (first : ℕ) (text : List ℕ)
+pub matrix_read : (a : Arithmetic) (has_minus signed : Bool) (order : ℕ) (path : List ℕ) (old new : FolderState) (first : ℕ) (text : List ℕ)
     (order' : ℕ) (text' : List ℕ)
     (result : Result (Entries × Vec Bound Global) OperandFault) → is_mtx path ≡ true → first ≡ order → text ≡ []
     → FeedsFile path old new (first ∷ text) (order' ∷ text')
-    → DecodesTo (of_matrix order' (matrix_of_text a has_minus order' text')) path result
-    → IfOk result (λ operand. ReadsOperand (operand_of a has_minus) order path old new
+    → DecodesTo (of_matrix order' (matrix_of_text a has_minus signed order' text')) path result
+    → IfOk result (λ operand. ReadsOperand (operand_of a has_minus signed) order path old new
     (record { entries = operand.0; bounds = operand.1.items }))
-    × IfErr result (FileRefused (operand_of a has_minus) order path old new)
-matrix_read a has_minus order path old new first text order' text' result ending =
-    answer_of_fed (operand_of a has_minus) (λ n w. of_matrix n (matrix_of_text a has_minus n w)) order path old new first text order'
+    × IfErr result (FileRefused (operand_of a has_minus signed) order path old new)
+matrix_read a has_minus signed order path old new first text order' text' result ending =
+    answer_of_fed (operand_of a has_minus signed)
+    (λ n w. of_matrix n (matrix_of_text a has_minus signed n w)) order path old new first text order'
     text' result
-    (λ bytes. of_matrix_path a has_minus order path bytes ending)
+    (λ bytes. of_matrix_path a has_minus signed order path bytes ending)
 
-pub entries_read : (a : Arithmetic) (has_minus : Bool) (order : ℕ) (path : List ℕ) (old new : FolderState) (first : ℕ) (text : List ℕ)
+pub entries_read : (a : Arithmetic) (has_minus signed : Bool) (order : ℕ) (path : List ℕ) (old new : FolderState) (first : ℕ)
+    (text : List ℕ)
     (order' : ℕ) (text' : List ℕ)
     (result : Result (Entries × Vec Bound Global) OperandFault) → is_mtx path ≡ false → first ≡ order → text ≡ []
     → FeedsFile path old new (first ∷ text) (order' ∷ text')
-    → DecodesTo (of_entries order' (entries_of_text order' text')) path result
-    → IfOk result (λ operand. ReadsOperand (operand_of a has_minus) order path old new
+    → DecodesTo (of_entries order' (entries_of_text signed order' text')) path result
+    → IfOk result (λ operand. ReadsOperand (operand_of a has_minus signed) order path old new
     (record { entries = operand.0; bounds = operand.1.items }))
-    × IfErr result (FileRefused (operand_of a has_minus) order path old new)
-entries_read a has_minus order path old new first text order' text' result ending =
-    answer_of_fed (operand_of a has_minus) (λ n w. of_entries n (entries_of_text n w)) order path old new first text order' text' result
-    (λ bytes. of_entries_path a has_minus order path bytes ending)
+    × IfErr result (FileRefused (operand_of a has_minus signed) order path old new)
+entries_read a has_minus signed order path old new first text order' text' result ending =
+    answer_of_fed (operand_of a has_minus signed)
+    (λ n w. of_entries n (entries_of_text signed n w)) order path old new first text order' text' result
+    (λ bytes. of_entries_path a has_minus signed order path bytes ending)

@@ -176,16 +176,16 @@ matrix_order order (Ok matrix) operand small e =
     let same : one ≡ operand = cc in
     subst (IsOfOrder order) same (record { order_is = refl; bounds_are = sizes_order order matrix.rows matrix.columns small })
 
-pub operand_order : (a : Arithmetic) (has_minus : Bool) (order : ℕ) (path bytes : List ℕ) (operand : Operand) → IsReadable order path
-    → operand_of a has_minus order path bytes ≡ Ok operand
+pub operand_order : (a : Arithmetic) (has_minus signed : Bool) (order : ℕ) (path bytes : List ℕ) (operand : Operand) → IsReadable order path
+    → operand_of a has_minus signed order path bytes ≡ Ok operand
     → (operand.entries.order ≡ order) × (length operand.bounds ≡ order)
-operand_order a has_minus order path bytes operand readable e = by (is_mtx path) refl
+operand_order a has_minus signed order path bytes operand readable e = by (is_mtx path) refl
   where
     pair : IsOfOrder order operand → (operand.entries.order ≡ order) × (length operand.bounds ≡ order)
     pair is = (is.order_is, is.bounds_are)
 
     by : (b : Bool) → is_mtx path ≡ b → (operand.entries.order ≡ order) × (length operand.bounds ≡ order)
-    by true ending = pair (matrix_order order (matrix_of_text a has_minus order bytes) operand (readable.matrix ending)
-        (of_matrix_path a has_minus order path bytes ending ∙ e))
-    by false ending = pair (entries_order order (entries_of_text order bytes) operand
-        (of_entries_path a has_minus order path bytes ending ∙ e))
+    by true ending = pair (matrix_order order (matrix_of_text a has_minus signed order bytes) operand (readable.matrix ending)
+        (of_matrix_path a has_minus signed order path bytes ending ∙ e))
+    by false ending = pair (entries_order order (entries_of_text signed order bytes) operand
+        (of_entries_path a has_minus signed order path bytes ending ∙ e))

@@ -48,7 +48,9 @@ of_matrix order (Ok matrix) =
     Ok (record { entries = record { order = order; list = matrix.entries }; bounds = sizes order matrix.rows matrix.columns })
 of_matrix order (Err bad) = Err bad
 
--- what the bytes of a file stand for, read for this order, or its first bad line: `.mtx`, or else `.tns`
-unfoldable pub operand_of : Arithmetic → Bool → ℕ → (path bytes : List ℕ) → Result Operand BadLine
-operand_of a has_minus order path bytes =
-    if is_mtx path then of_matrix order (matrix_of_text a has_minus order bytes) else of_entries order (entries_of_text order bytes)
+-- what the bytes of a file stand for, read for this order, or its first bad line: `.mtx`, or else `.tns`. Values have a minus or none,
+-- and a sign or none
+unfoldable pub operand_of : Arithmetic → Bool → Bool → ℕ → (path bytes : List ℕ) → Result Operand BadLine
+operand_of a has_minus signed order path bytes =
+    if is_mtx path then of_matrix order (matrix_of_text a has_minus signed order bytes) else of_entries order
+    (entries_of_text signed order bytes)

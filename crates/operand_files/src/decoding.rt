@@ -16,12 +16,12 @@ use tensor_map::Entries;
 use tns_io::{FileFault as TnsFault, TnsReader};
 
 /// What a `.tns` file stands for that was fed to its end.
-pub(crate) fn decode_entries<'a>(
+pub(crate) fn decode_entries<'a, S: Semiring>(
     alloc: Global,
-    reader: TnsReader,
+    reader: TnsReader<S>,
     path: &'a str,
 ) -> Result<(Entries, Vec<Bound>), OperandFault<'a>>
-    ensures { DecodesTo (of_entries reader.order (entries_of_text reader.order reader.text)) path.now result }
+    ensures { DecodesTo (of_entries reader.order (entries_of_text S.is_signed reader.order reader.text)) path.now result }
 {
     match reader.finish() {
         Ok(entries) => {
@@ -40,7 +40,7 @@ pub(crate) fn decode_matrix<'a, S: Semiring>(
     path: &'a str,
 ) -> Result<(Entries, Vec<Bound>), OperandFault<'a>>
     ensures { DecodesTo (of_matrix file.reader.order
-        (matrix_of_text S.arithmetic S.has_minus file.reader.order file.reader.text)) path.now result }
+        (matrix_of_text S.arithmetic S.has_minus S.is_signed file.reader.order file.reader.text)) path.now result }
 {
     let MatrixFile { reader } = file;
     match reader.finish() {

@@ -59,12 +59,12 @@ fn read_entries<'a, F: Folder, S: Semiring>(
     requires readable { IsReadable order path.now }
     requires ending { is_mtx path.now ≡ false }
     ensures only_reads { OnlyReads (F.state files.old) (F.state files.new) }
-    ensures operand { IfOk result (λ operand. ReadsOperand (operand_of S.arithmetic S.has_minus) order path.now
+    ensures operand { IfOk result (λ operand. ReadsOperand (operand_of S.arithmetic S.has_minus S.is_signed) order path.now
         (F.state files.old) (F.state files.new) (record { entries = operand.0; bounds = operand.1.items })) }
-    ensures refused { IfErr result (FileRefused (operand_of S.arithmetic S.has_minus) order path.now
+    ensures refused { IfErr result (FileRefused (operand_of S.arithmetic S.has_minus S.is_signed) order path.now
         (F.state files.old) (F.state files.new)) }
 {
-    let mut reader = TnsReader::new(alloc, order)?;
+    let mut reader = TnsReader::<S>::new(alloc, order)?;
     match feed_file(files, path, &mut reader) {
         Ok(()) => decode_entries(alloc, reader, path),
         Err(fault) => Err(fault),
@@ -81,9 +81,9 @@ fn read_matrix<'a, F: Folder, S: Semiring>(
     requires readable { IsReadable order path.now }
     requires ending { is_mtx path.now ≡ true }
     ensures only_reads { OnlyReads (F.state files.old) (F.state files.new) }
-    ensures operand { IfOk result (λ operand. ReadsOperand (operand_of S.arithmetic S.has_minus) order path.now
+    ensures operand { IfOk result (λ operand. ReadsOperand (operand_of S.arithmetic S.has_minus S.is_signed) order path.now
         (F.state files.old) (F.state files.new) (record { entries = operand.0; bounds = operand.1.items })) }
-    ensures refused { IfErr result (FileRefused (operand_of S.arithmetic S.has_minus) order path.now
+    ensures refused { IfErr result (FileRefused (operand_of S.arithmetic S.has_minus S.is_signed) order path.now
         (F.state files.old) (F.state files.new)) }
 {
     let mut file = matrix_file::<S>(alloc, order)?;
@@ -102,9 +102,9 @@ fn read_file<'a, F: Folder, S: Semiring>(
 ) -> Result<(Entries, Vec<Bound>), OperandFault<'a>>
     requires { IsReadable order file.path.now }
     ensures only_reads { OnlyReads (F.state files.old) (F.state files.new) }
-    ensures operand { IfOk result (λ operand. ReadsOperand (operand_of S.arithmetic S.has_minus) order file.entry.path.now
+    ensures operand { IfOk result (λ operand. ReadsOperand (operand_of S.arithmetic S.has_minus S.is_signed) order file.entry.path.now
         (F.state files.old) (F.state files.new) (record { entries = operand.0; bounds = operand.1.items })) }
-    ensures refused { IfErr result (FileRefused (operand_of S.arithmetic S.has_minus) order file.entry.path.now
+    ensures refused { IfErr result (FileRefused (operand_of S.arithmetic S.has_minus S.is_signed) order file.entry.path.now
         (F.state files.old) (F.state files.new)) }
 {
     if file.is_matrix() {
@@ -132,12 +132,13 @@ pub fn read_operands<'a, F: Folder, S: Semiring>(
     ensures only_reads { OnlyReads (F.state files.old) (F.state files.new) }
 
     // The files opened are those of the paths, in order; each operand is what reads gave of its file.
-    ensures operands { IfOk result (λ operands. HaveRead (operand_of S.arithmetic S.has_minus) (F.state files.old) (F.state files.new)
+    ensures operands { IfOk result
+        (λ operands. HaveRead (operand_of S.arithmetic S.has_minus S.is_signed) (F.state files.old) (F.state files.new)
         orders.now (paths_in sources.now) (length sources.now)
         operands.entries.items (map (λ bounds. bounds.items) operands.bounds.items)) }
 
     // The files before the refused one are good, and why it is refused.
-    ensures refused { IfErr result (IsRefused (operand_of S.arithmetic S.has_minus) (F.state files.old) (F.state files.new)
+    ensures refused { IfErr result (IsRefused (operand_of S.arithmetic S.has_minus S.is_signed) (F.state files.old) (F.state files.new)
         orders.now (paths_in sources.now)) }
 {
     let mut operands = Operands::new(alloc);

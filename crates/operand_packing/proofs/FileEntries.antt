@@ -47,16 +47,17 @@ pub record IsKept (order : ℕ) (operand : Operand) : Type 0 where
   pub small : (mode : ℕ) → limit_of (bound_in operand.bounds mode) ≤ greatest_position_count
 
 -- ---- the length of a `.tns` file's coordinate lists
-entry_long : (ts : List (List ℕ)) (entry : Entry) → entry_of ts ≡ Ok entry → length entry.coords + 1 ≡ length ts
-entry_long [] entry e = absurd cc
-entry_long (token ∷ []) entry e = alone (value_of token) e
+entry_long : (signed : Bool) (ts : List (List ℕ)) (entry : Entry) → entry_of signed ts ≡ Ok entry → length entry.coords + 1 ≡ length ts
+entry_long signed [] entry e = absurd cc
+entry_long signed (token ∷ []) entry e = alone (value_of signed token) e
   where
     alone : (value : Result ℕ LineKind) → value_alone value ≡ Ok entry → length entry.coords + 1 ≡ 1
     alone (Err kind) e = absurd cc
     alone (Ok v) e =
         let same : record { coords = []; value = v } ≡ entry = cc in
         let none : 0 ≡ length entry.coords = ap (λ (x : Entry). length x.coords) same in omega (arith, none)
-entry_long (token ∷ next ∷ more) entry e = by (coordinate_of token) (entry_of (next ∷ more)) e (λ x h. entry_long (next ∷ more) x h)
+entry_long signed (token ∷ next ∷ more) entry e = by (coordinate_of token) (entry_of signed (next ∷ more)) e
+    (λ x h. entry_long signed (next ∷ more) x h)
   where
     by : (first : Result ℕ LineKind) (others : Result Entry LineKind) → with_first first others ≡ Ok entry
         → ((x : Entry) → others ≡ Ok x → length x.coords + 1 ≡ length (next ∷ more)) → length entry.coords + 1 ≡ length
@@ -73,35 +74,39 @@ read_is : (r : Result Entry LineKind) (entry : Entry) → read_or_bad r ≡ Read
 read_is (Ok x) entry e = let same : x ≡ entry = cc in ap Ok same
 read_is (Err kind) entry e = absurd cc
 
-tokens_long : (order : ℕ) (ts : List (List ℕ)) (entry : Entry) → reading_of_tokens order ts ≡ Read entry → length entry.coords ≡ order
-tokens_long order [] entry e = absurd cc
-tokens_long order (token ∷ more) entry e = by (is_comment token) (length more == order) refl e
+tokens_long : (signed : Bool) (order : ℕ) (ts : List (List ℕ)) (entry : Entry) → reading_of_tokens signed order ts ≡ Read entry
+    → length entry.coords ≡ order
+tokens_long signed order [] entry e = absurd cc
+tokens_long signed order (token ∷ more) entry e = by (is_comment token) (length more == order) refl e
   where
     by : (comment long : Bool) → (length more == order) ≡ long
-        → cond comment Skipped (cond long (read_or_bad (entry_of (token ∷ more))) (Bad Fields)) ≡ Read entry → length entry.coords ≡ order
+        → cond comment Skipped (cond long (read_or_bad (entry_of signed (token ∷ more))) (Bad Fields)) ≡ Read entry
+        → length entry.coords ≡ order
     by true long t h = absurd cc
     by false false t h = absurd cc
     by false true t h =
-        let long = entry_long (token ∷ more) entry (read_is (entry_of (token ∷ more)) entry h) in
+        let long = entry_long signed (token ∷ more) entry (read_is (entry_of signed (token ∷ more)) entry h) in
         let same = eqb-true (length more) order t in
         omega (arith, long, same)
 
-line_long : (order : ℕ) (line : List ℕ) (entry : Entry) → reading order line ≡ Read entry → length entry.coords ≡ order
-line_long order line entry e = by (is_long line) e
+line_long : (signed : Bool) (order : ℕ) (line : List ℕ) (entry : Entry) → reading signed order line ≡ Read entry
+    → length entry.coords ≡ order
+line_long signed order line entry e = by (is_long line) e
   where
-    by : (b : Bool) → cond b (Bad LongLine) (reading_of_tokens order (tokens line)) ≡ Read entry → length entry.coords ≡ order
+    by : (b : Bool) → cond b (Bad LongLine) (reading_of_tokens signed order (tokens line)) ≡ Read entry → length entry.coords ≡ order
     by true h = absurd cc
-    by false h = tokens_long order (tokens line) entry h
+    by false h = tokens_long signed order (tokens line) entry h
 
 abbrev AreLong : ℕ → List Entry → Type 0
 AreLong order list = All (λ entry. length entry.coords ≡ order) list
 
-lines_long : (order number : ℕ) (ls : List (List ℕ)) (list : List Entry) → entries_from order number ls ≡ Ok list → AreLong order list
-lines_long order number [] list e =
+lines_long : (signed : Bool) (order number : ℕ) (ls : List (List ℕ)) (list : List Entry) → entries_from signed order number ls ≡ Ok list
+    → AreLong order list
+lines_long signed order number [] list e =
     let none : [] ≡ list = cc in subst (AreLong order) none (All-nil (λ (entry : Entry). length entry.coords ≡ order))
-lines_long order number (line ∷ ls) list e =
-    by (reading order line) (entries_from order (number + 1) ls) e (λ entry h. line_long order line entry h)
-    (λ found h. lines_long order (number + 1) ls found h)
+lines_long signed order number (line ∷ ls) list e =
+    by (reading signed order line) (entries_from signed order (number + 1) ls) e (λ entry h. line_long signed order line entry h)
+    (λ found h. lines_long signed order (number + 1) ls found h)
   where
     by : (r : Reading) (others : Result (List Entry) BadLine) → before_others number r others ≡ Ok list
         → ((entry : Entry) → r ≡ Read entry → length entry.coords ≡ order)
@@ -145,11 +150,11 @@ reached_each : (list : List Entry) (from count : ℕ) → All (λ entry. AreInFi
 reached_each list from zero all = tt
 reached_each list from (suc count) all = (reach_small list from all, reached_each list (from + 1) count all)
 
-entries_kept : (order : ℕ) (text : List ℕ) (list : List Entry) → entries_of_text order text ≡ Ok list
+entries_kept : (signed : Bool) (order : ℕ) (text : List ℕ) (list : List Entry) → entries_of_text signed order text ≡ Ok list
     → IsKept order (record { entries = record { order = order; list = list }; bounds = reached order list })
-entries_kept order text list e =
-    let long : AreLong order list = lines_long order 1 (lines text) list e in
-    let inside = entries_in_file order text list e in
+entries_kept signed order text list e =
+    let long : AreLong order list = lines_long signed order 1 (lines text) list e in
+    let inside = entries_in_file signed order text list e in
     record {
       order_is = refl;
       bounded = λ k d h. record {
@@ -213,10 +218,10 @@ matrix_kept order is m of_sizes = record {
 }
 
 -- ---- a file
-pub file_kept : (a : Arithmetic) (has_minus : Bool) (order : ℕ) (path bytes : List ℕ) (operand : Operand) → IsReadable order path
-    → operand_of a has_minus order path bytes ≡ Ok operand → IsKept order operand
+pub file_kept : (a : Arithmetic) (has_minus signed : Bool) (order : ℕ) (path bytes : List ℕ) (operand : Operand) → IsReadable order path
+    → operand_of a has_minus signed order path bytes ≡ Ok operand → IsKept order operand
 unfolding operand_of
-file_kept a has_minus order path bytes operand readable e = by (is_mtx path) refl e
+file_kept a has_minus signed order path bytes operand readable e = by (is_mtx path) refl e
   where
     matrix_is : IsMatrixOrder order → (what : Result Matrix matrix.BadLine) → IfOk what (IsOfSizes order)
         → of_matrix order what ≡ Ok operand → IsKept order operand
@@ -225,17 +230,20 @@ file_kept a has_minus order path bytes operand readable e = by (is_mtx path) ref
         let same : record { entries = record { order = order; list = m.entries }; bounds = sizes order m.rows m.columns } ≡ operand = cc in
         subst (IsKept order) same (matrix_kept order is m good)
 
-    entries_are : (what : Result (List Entry) BadLine) → entries_of_text order bytes ≡ what → of_entries order what ≡ Ok operand → IsKept
+    entries_are : (what : Result (List Entry) BadLine) → entries_of_text signed order bytes ≡ what → of_entries order what ≡ Ok operand
+        → IsKept
         order operand
     entries_are (Err bad) is e = absurd cc
     entries_are (Ok list) is e =
         let same : record { entries = record { order = order; list = list }; bounds = reached order list } ≡ operand = cc in
-        subst (IsKept order) same (entries_kept order bytes list is)
+        subst (IsKept order) same (entries_kept signed order bytes list is)
 
     by : (b : Bool) → is_mtx path ≡ b
-        → (if b then of_matrix order (matrix_of_text a has_minus order bytes) else of_entries order (entries_of_text order bytes)) ≡ Ok
+        → (if b then of_matrix order (matrix_of_text a has_minus signed order bytes) else of_entries order
+        (entries_of_text signed order bytes)) ≡ Ok
         operand
         → IsKept order operand
     by true is e =
-        matrix_is (readable.matrix is) (matrix_of_text a has_minus order bytes) (text_below a has_minus order bytes (readable.matrix is)) e
-    by false is e = entries_are (entries_of_text order bytes) refl e
+        matrix_is (readable.matrix is) (matrix_of_text a has_minus signed order bytes)
+        (text_below a has_minus signed order bytes (readable.matrix is)) e
+    by false is e = entries_are (entries_of_text signed order bytes) refl e

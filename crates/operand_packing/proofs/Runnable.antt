@@ -66,27 +66,27 @@ record IsKeptAt (orders : List ℕ) (n : ℕ) (operand : Operand) : Type 0 where
   order_at : slice_get orders n ≡ Some order
   kept : IsKept order operand
 
-operand_at : (a : Arithmetic) (has_minus : Bool) (holds : List ℕ → Told) (orders : List ℕ) (paths : List (List ℕ))
+operand_at : (a : Arithmetic) (has_minus signed : Bool) (holds : List ℕ → Told) (orders : List ℕ) (paths : List (List ℕ))
     (operands : List Operand) (files : List Given) (n : ℕ) (operand : Operand)
-    → reads.AreOperands (decoded.operand_of a has_minus) holds orders operands files
+    → reads.AreOperands (decoded.operand_of a has_minus signed) holds orders operands files
     → paths_of files ≡ take (length files) paths → AreReadable orders paths → slice_get operands n ≡ Some operand
     → IsKeptAt orders n operand
-operand_at a m holds orders paths [] files n operand are along readable is = absurd cc
-operand_at a m holds orders paths (first ∷ operands) [] n operand are along readable is = absurd are
-operand_at a m holds [] paths (first ∷ operands) (file ∷ files) n operand are along readable is = absurd are
-operand_at a m holds (order ∷ orders) [] (first ∷ operands) (file ∷ files) n operand are along readable is = absurd readable
-operand_at a m holds (order ∷ orders) (path ∷ paths) (first ∷ operands) (file ∷ files) zero operand are along readable is =
+operand_at a m signed holds orders paths [] files n operand are along readable is = absurd cc
+operand_at a m signed holds orders paths (first ∷ operands) [] n operand are along readable is = absurd are
+operand_at a m signed holds [] paths (first ∷ operands) (file ∷ files) n operand are along readable is = absurd are
+operand_at a m signed holds (order ∷ orders) [] (first ∷ operands) (file ∷ files) n operand are along readable is = absurd readable
+operand_at a m signed holds (order ∷ orders) (path ∷ paths) (first ∷ operands) (file ∷ files) zero operand are along readable is =
     let same : first ≡ operand = cc in
     let at : file.0 ≡ path = cc in
     record {
       order = order;
       order_at = refl;
       kept = subst (IsKept order) same
-          (file_kept a m order file.0 file.1 first (subst (IsReadable order) (sym at) readable.0) are.0.stands_for);
+          (file_kept a m signed order file.0 file.1 first (subst (IsReadable order) (sym at) readable.0) are.0.stands_for);
     }
-operand_at a m holds (order ∷ orders) (path ∷ paths) (first ∷ operands) (file ∷ files) (suc n) operand are along readable is =
+operand_at a m signed holds (order ∷ orders) (path ∷ paths) (first ∷ operands) (file ∷ files) (suc n) operand are along readable is =
     let behind : paths_of files ≡ take (length files) paths = cc in
-    let rest = operand_at a m holds orders paths operands files n operand are.1 behind readable.1 is in
+    let rest = operand_at a m signed holds orders paths operands files n operand are.1 behind readable.1 is in
     record { order = rest.order; order_at = rest.order_at; kept = rest.kept }
 
 readable_long : (orders : List ℕ) (paths : List (List ℕ)) → AreReadable orders paths → length orders ≡ length paths
@@ -106,10 +106,11 @@ entries_there : (entries : List Entries) (tensor : ℕ) → entries_of entries t
 entries_there entries zero = refl
 entries_there entries (suc n) = refl
 
-module _ (a : Arithmetic) (has_minus : Bool) (s : Statement) (old new : FolderState) (paths : List (List ℕ)) (count : ℕ)
+module _ (a : Arithmetic) (has_minus signed : Bool) (s : Statement) (old new : FolderState) (paths : List (List ℕ)) (count : ℕ)
     (entries : List Entries) (bounds : List (Vec Bound Global)) (readable : AreReadable (operand_orders s) paths)
     (all : count ≡ length paths)
-    (read : HaveRead (decoded.operand_of a has_minus) old new (operand_orders s) paths count entries (map (λ b. b.items) bounds)) where
+    (read : HaveRead (decoded.operand_of a has_minus signed) old new (operand_orders s) paths count entries
+    (map (λ b. b.items) bounds)) where
   many : length entries ≡ length s.tensors - 1
   many =
       let orders : length (operand_orders s) ≡ length s.tensors - 1 = length-map-range_with_len (order_of s) 1 (length s.tensors - 1) in
@@ -122,7 +123,7 @@ module _ (a : Arithmetic) (has_minus : Bool) (s : Statement) (old new : FolderSt
 
   kept_at : (n : ℕ) (operand : Operand) → slice_get read.operands n ≡ Some operand → IsKept (order_of s (n + 1)) operand
   kept_at n operand is =
-      let there = operand_at a has_minus old.holds (operand_orders s) paths read.operands read.read.files n operand read.read.are
+      let there = operand_at a has_minus signed old.holds (operand_orders s) paths read.operands read.read.files n operand read.read.are
       read.read.in_order readable is in
       let order : there.order ≡ order_of s (1 + n) = range_at (order_of s) 1 (length s.tensors - 1) n there.order there.order_at in
       let next : 1 + n ≡ n + 1 = omega arith in
@@ -193,16 +194,16 @@ module _ (a : Arithmetic) (has_minus : Bool) (s : Statement) (old new : FolderSt
         there.kept.bounded))
 
 -- a statement each of whose tensors but the result is read, over the operands that were read for it
-pub read_is_runnable : (a : Arithmetic) (has_minus : Bool) (s : Statement) → IsNumbered s → IsWellNamed s → EachIsRead s
+pub read_is_runnable : (a : Arithmetic) (has_minus signed : Bool) (s : Statement) → IsNumbered s → IsWellNamed s → EachIsRead s
     → (words : List (List ℕ)) (need : Bool) (formats : List (List FormatLevel))
     (files : List (ℕ × List ℕ)) (given : List (Option ℕ)) → Binds s words need formats files given
     → (old new : FolderState) (paths : List (List ℕ)) (count : ℕ) (entries : List Entries) (bounds : List (Vec Bound Global))
     → AreReadable (operand_orders s) paths → count ≡ length paths
-    → HaveRead (decoded.operand_of a has_minus) old new (operand_orders s) paths count entries (map (λ b. b.items) bounds)
+    → HaveRead (decoded.operand_of a has_minus signed) old new (operand_orders s) paths count entries (map (λ b. b.items) bounds)
     → IsRunnable s formats given entries bounds
-read_is_runnable a has_minus s numbered named each_read words need formats files given binds old new paths count entries
+read_is_runnable a has_minus signed s numbered named each_read words need formats files given binds old new paths count entries
     bounds readable all read =
-    let long = many a has_minus s old new paths count entries bounds readable all read in
+    let long = many a has_minus signed s old new paths count entries bounds readable all read in
     let fit = formats_fit s words need formats files given binds numbered named in
     record {
       operands_are = record {
@@ -212,14 +213,14 @@ read_is_runnable a has_minus s numbered named each_read words need formats files
         formats_many = binds.formats_are.tensors;
         result_format = fit.0;
         formats_fit = fit.1;
-        reads = each_reads a has_minus s old new paths count entries bounds readable all read numbered named;
+        reads = each_reads a has_minus signed s old new paths count entries bounds readable all read numbered named;
         read = λ n h. each_read n (omega (arith, long, h));
       };
       ranges_fit = λ ranges found. record {
         long = ranges_long s (given_at given) (bound_at bounds) ranges found;
         small = ranges_small s (given_at given) (bound_at bounds) ranges (given_small s words need formats files given binds)
-            (bounds_small a has_minus s old new paths count entries bounds readable all read) found;
+            (bounds_small a has_minus signed s old new paths count entries bounds readable all read) found;
         below = bounded_below s numbered entries (given_at given) (bound_at bounds) ranges found
-            (are_bounded a has_minus s old new paths count entries bounds readable all read numbered named);
+            (are_bounded a has_minus signed s old new paths count entries bounds readable all read numbered named);
       };
     }

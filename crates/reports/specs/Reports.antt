@@ -1,5 +1,5 @@
 -- The texts that are printed: their lines, and what is printed of a kernel and of its run.
-use Rattle.std.specs.Prelude.{ℕ, suc, List, [], ◌∷◌, ◌++◌, codes}
+use Rattle.std.specs.Prelude.{ℕ, suc, Bool, List, [], ◌∷◌, ◌++◌, codes}
 use Rattle.std.specs.List.{flat_map}
 use Rattle.std.specs.Fmt.{decimal, signed_decimal}
 use Rattle.numbers.specs.Signed.{signed_of}
@@ -61,11 +61,11 @@ heading_text s order formats = order_line s.vars order ++ tensor_lines 0 s.tenso
 abbrev pub kernel_report : Statement → List ℕ → List (List FormatLevel) → Kernel → List ℕ
 kernel_report statement order formats kernel = heading_text statement order formats ++ kernel_text kernel
 
--- the turns that loops made, and the storage of the result, which is tensor 0
-abbrev pub result_report : Statement → Turns → Storage → List ℕ
-result_report statement turns tensor = turns_line turns ++ store_text 0 (name_at statement.tensors 0) tensor
+-- the turns that loops made, and the storage of the result, which is tensor 0 and whose values have a sign or none
+abbrev pub result_report : Bool → Statement → Turns → Storage → List ℕ
+result_report signed statement turns tensor = turns_line turns ++ store_text signed 0 (name_at statement.tensors 0) tensor
 
 -- a kernel, the turns that its loops made in a run, and the storage of the result
-abbrev pub run_report : Statement → List ℕ → List (List FormatLevel) → Kernel → Turns → Storage → List ℕ
-run_report statement order formats kernel turns tensor =
-    kernel_report statement order formats kernel ++ result_report statement turns tensor
+abbrev pub run_report : Bool → Statement → List ℕ → List (List FormatLevel) → Kernel → Turns → Storage → List ℕ
+run_report signed statement order formats kernel turns tensor =
+    kernel_report statement order formats kernel ++ result_report signed statement turns tensor

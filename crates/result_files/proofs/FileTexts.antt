@@ -21,36 +21,37 @@ below_matrix [] (c ∷ cs) h = absurd h
 below_matrix (n ∷ ns) [] h = absurd h
 below_matrix (n ∷ ns) (c ∷ cs) h = (h.0, below_matrix ns cs h.1)
 
-pub are_text : (b : Bool) (a : Arithmetic) → Laws a → (ranges : List ℕ) (entries : Entries) → AreEntries entries
-    → MayBeWritten b ranges entries → IsTextIn b a ranges (value_at a entries.list) (result_text b a ranges entries.list)
-are_text b a laws ranges entries are may = by b
+pub are_text : (b : Bool) (a : Arithmetic) (signed : Bool) → Laws a → (ranges : List ℕ) (entries : Entries) → AreEntries entries
+    → MayBeWritten b ranges entries → IsTextIn b a signed ranges (value_at a entries.list) (result_text b a signed ranges entries.list)
+are_text b a signed laws ranges entries are may = by b
   where
     each : All (IsEntry (length ranges)) entries.list
     each = subst (λ (n : ℕ). All (IsEntry n) entries.list) may.order_is are.each
 
-    by : (b : Bool) → IsTextIn b a ranges (value_at a entries.list) (result_text b a ranges entries.list)
+    by : (b : Bool) → IsTextIn b a signed ranges (value_at a entries.list) (result_text b a signed ranges entries.list)
     by true = record {
       tensor = value_at a entries.list;
       inside = λ coords h. refl;
-      text_is = text_of_entries a laws ranges entries.list each (λ k d h. below_matrix ranges _ (may.below k d h)) may.increasing;
+      text_is = text_of_entries a signed laws ranges entries.list each (λ k d h. below_matrix ranges _ (may.below k d h)) may.increasing;
     }
-    by false = entries_are_text a laws ranges entries.list may.increasing each may.below
+    by false = entries_are_text a signed laws ranges entries.list may.increasing each may.below
 
 -- a result whose text was put where its path says was written, or refused behind a part of it
-module _ (a : Arithmetic) (laws : Laws a) (ranges : List ℕ) (entries : Entries) (are : AreEntries entries)
+module _ (a : Arithmetic) (signed : Bool) (laws : Laws a) (ranges : List ℕ) (entries : Entries) (are : AreEntries entries)
     (path : Option (List ℕ)) (b : Bool) (asked : b ≡ asks_matrix path) (may : MayBeWritten (asks_matrix path) ranges entries)
     (files files' : FolderState) (out out' : SinkState) where
-  is_text : IsResultText a path ranges (value_at a entries.list) (result_text b a ranges entries.list)
-  is_text = subst (λ (is_matrix : Bool). IsTextIn is_matrix a ranges (value_at a entries.list) (result_text b a ranges entries.list)) asked
-      (are_text b a laws ranges entries are (subst (λ (is_matrix : Bool). MayBeWritten is_matrix ranges entries) (sym asked) may))
+  is_text : IsResultText a signed path ranges (value_at a entries.list) (result_text b a signed ranges entries.list)
+  is_text = subst (λ (is_matrix : Bool). IsTextIn is_matrix a signed ranges (value_at a entries.list)
+      (result_text b a signed ranges entries.list)) asked
+      (are_text b a signed laws ranges entries are (subst (λ (is_matrix : Bool). MayBeWritten is_matrix ranges entries) (sym asked) may))
 
-  pub result_written : Puts path (result_text b a ranges entries.list) files files' out out'
-      → WritesResult a path ranges (value_at a entries.list) files files' out out'
-  result_written puts = record { text = result_text b a ranges entries.list; text_is = is_text; puts = puts }
+  pub result_written : Puts path (result_text b a signed ranges entries.list) files files' out out'
+      → WritesResult a signed path ranges (value_at a entries.list) files files' out out'
+  result_written puts = record { text = result_text b a signed ranges entries.list; text_is = is_text; puts = puts }
 
-  pub result_refused : (why : WriteRefusal) → PutsPart path (result_text b a ranges entries.list) files files' out out' why
-      → RefusesResult a path ranges (value_at a entries.list) files files' out out' why
-  result_refused why puts = record { text = result_text b a ranges entries.list; text_is = is_text; puts = puts }
+  pub result_refused : (why : WriteRefusal) → PutsPart path (result_text b a signed ranges entries.list) files files' out out' why
+      → RefusesResult a signed path ranges (value_at a entries.list) files files' out out' why
+  result_refused why puts = record { text = result_text b a signed ranges entries.list; text_is = is_text; puts = puts }
 
 -- where a text was put, by the path
 module _ (path : Option (List ℕ)) (text : List ℕ) (files files' : FolderState) (out out' : SinkState) where

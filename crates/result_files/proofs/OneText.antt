@@ -38,15 +38,15 @@ tell_below (n ∷ ns) (c ∷ cs) = by (cases_lt c n) (tell_below ns cs)
     by (inr over) rest = inr (λ both. let here : c < n = both.0 in omega (arith, over, here))
 
 -- two matrix texts of one tensor below the ranges
-module _ (a : Arithmetic) (laws : Laws a) (ranges : List ℕ) (value : List ℕ → ℕ) where
-  one_matrix : (first second : List ℕ) → IsMatrixOf a ranges value first → IsMatrixOf a ranges value second → first ≡ second
+module _ (a : Arithmetic) (signed : Bool) (laws : Laws a) (ranges : List ℕ) (value : List ℕ → ℕ) where
+  one_matrix : (first second : List ℕ) → IsMatrixOf a signed ranges value first → IsMatrixOf a signed ranges value second → first ≡ second
   one_matrix first second one two =
       let same : one.text_is.entries ≡ two.text_is.entries = one_row a laws one.text_is.entries two.text_is.entries
       one.text_is.increasing two.text_is.increasing
       (all_nonzero a (length ranges) one.text_is.entries one.text_is.each one.text_is.nonzero)
       (all_nonzero a (length ranges) two.text_is.entries two.text_is.each two.text_is.nonzero)
       (λ coords. agree coords (tell_below ranges coords)) in
-      one.text_is.text_is ∙ ap (matrix_text ranges) same ∙ sym two.text_is.text_is
+      one.text_is.text_is ∙ ap (matrix_text signed ranges) same ∙ sym two.text_is.text_is
     where
       agree : (coords : List ℕ) → IsBelow ranges coords ⊎ (IsBelow ranges coords → ⊥)
           → value_at a one.text_is.entries coords ≡ value_at a two.text_is.entries coords
@@ -58,10 +58,12 @@ module _ (a : Arithmetic) (laws : Laws a) (ranges : List ℕ) (value : List ℕ 
           ∙ sym (value_unlisted a laws coords two.text_is.entries
           (λ listed. above (listed_below ranges two.text_is.entries coords two.text_is.below listed)))
 
-  one_in : (b : Bool) (first second : List ℕ) → IsTextIn b a ranges value first → IsTextIn b a ranges value second → first ≡ second
+  one_in : (b : Bool) (first second : List ℕ) → IsTextIn b a signed ranges value first → IsTextIn b a signed ranges value second
+      → first ≡ second
   one_in true first second one two = one_matrix first second one two
-  one_in false first second one two = tns.one_text a ranges value first second one two
+  one_in false first second one two = tns.one_text a signed ranges value first second one two
 
-pub one_text : (a : Arithmetic) → Laws a → (path : Option (List ℕ)) (ranges : List ℕ) (value : List ℕ → ℕ) (first second : List ℕ)
-    → IsResultText a path ranges value first → IsResultText a path ranges value second → first ≡ second
-one_text a laws path ranges value first second one two = one_in a laws ranges value (asks_matrix path) first second one two
+pub one_text : (a : Arithmetic) (signed : Bool) → Laws a
+    → (path : Option (List ℕ)) (ranges : List ℕ) (value : List ℕ → ℕ) (first second : List ℕ)
+    → IsResultText a signed path ranges value first → IsResultText a signed path ranges value second → first ≡ second
+one_text a signed laws path ranges value first second one two = one_in a signed laws ranges value (asks_matrix path) first second one two

@@ -7,17 +7,18 @@ use Rattle.tns_io.specs.Positions.{IsBelow}
 use Rattle.tns_io.specs.Text.{IsAmong, line_text}
 use Rattle.result_files.specs.ResultText.{IsResultText, IsTextIn, asks_matrix}
 
-same_lines : (value other : List ℕ → ℕ) (places : List (List ℕ))
+same_lines : (signed : Bool) (value other : List ℕ → ℕ) (places : List (List ℕ))
     → ((coords : List ℕ) → IsAmong places coords → value coords ≡ other coords)
-    → flat_map (λ coords. line_text coords (value coords)) places ≡ flat_map (λ coords. line_text coords (other coords)) places
-same_lines value other [] same = refl
-same_lines value other (place ∷ places) same =
+    → flat_map (λ coords. line_text signed coords (value coords)) places
+    ≡ flat_map (λ coords. line_text signed coords (other coords)) places
+same_lines signed value other [] same = refl
+same_lines signed value other (place ∷ places) same =
     let here : value place ≡ other place = same place (inl refl) in
-    λ i. line_text place (here i) ++ same_lines value other places (λ coords among. same coords (inr among)) i
+    λ i. line_text signed place (here i) ++ same_lines signed value other places (λ coords among. same coords (inr among)) i
 
-module _ (a : Arithmetic) (ranges : List ℕ) (value other : List ℕ → ℕ) (text : List ℕ)
+module _ (a : Arithmetic) (signed : Bool) (ranges : List ℕ) (value other : List ℕ → ℕ) (text : List ℕ)
     (same : (coords : List ℕ) → IsBelow ranges coords → value coords ≡ other coords) where
-  same_in : (b : Bool) → IsTextIn b a ranges value text → IsTextIn b a ranges other text
+  same_in : (b : Bool) → IsTextIn b a signed ranges value text → IsTextIn b a signed ranges other text
   same_in true is = record {
     tensor = is.tensor;
     inside = λ coords below. is.inside coords below ∙ same coords below;
@@ -31,10 +32,10 @@ module _ (a : Arithmetic) (ranges : List ℕ) (value other : List ℕ → ℕ) (
           let both = (is.exact coords).0 among in (both.0, λ none. both.1 (same coords both.0 ∙ none)),
       λ both. (is.exact coords).1 (both.0, λ none. both.1 (sym (same coords both.0) ∙ none)),
     );
-    lines = is.lines ∙ same_lines value other is.places (λ coords among. same coords ((is.exact coords).0 among).0);
+    lines = is.lines ∙ same_lines signed value other is.places (λ coords among. same coords ((is.exact coords).0 among).0);
   }
 
-pub same_text : (a : Arithmetic) (path : Option (List ℕ)) (ranges : List ℕ) (value other : List ℕ → ℕ) (text : List ℕ)
+pub same_text : (a : Arithmetic) (signed : Bool) (path : Option (List ℕ)) (ranges : List ℕ) (value other : List ℕ → ℕ) (text : List ℕ)
     → ((coords : List ℕ) → IsBelow ranges coords → value coords ≡ other coords)
-    → IsResultText a path ranges value text → IsResultText a path ranges other text
-same_text a path ranges value other text same is = same_in a ranges value other text same (asks_matrix path) is
+    → IsResultText a signed path ranges value text → IsResultText a signed path ranges other text
+same_text a signed path ranges value other text same is = same_in a signed ranges value other text same (asks_matrix path) is

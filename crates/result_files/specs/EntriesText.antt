@@ -10,9 +10,9 @@ use Rattle.mtx_io.specs.Progress.{IsMatrixOrder}
 use Rattle.mtx_io.specs.Text.{matrix_text}
 
 -- as a Matrix Market file, or else as a `.tns` file
-abbrev pub result_text : Bool → Arithmetic → List ℕ → List Entry → List ℕ
-result_text is_matrix a ranges entries =
-    if is_matrix then matrix_text ranges (filter (is_nonzero a) entries) else entries_text a entries
+abbrev pub result_text : Bool → Arithmetic → Bool → List ℕ → List Entry → List ℕ
+result_text is_matrix a signed ranges entries =
+    if is_matrix then matrix_text signed ranges (filter (is_nonzero a) entries) else entries_text a signed entries
 
 -- what is true of all entries and of a shape, and the entries are below the ranges and increase, and a matrix has order 1 or 2
 pub record MayBeWritten (is_matrix : Bool) (ranges : List ℕ) (entries : Entries) : Type 0 where

@@ -12,15 +12,15 @@ asks_matrix None = false
 asks_matrix (Some path) = is_mtx path
 
 -- the Matrix Market text of the tensor that has these values below the ranges
-pub record IsMatrixOf (a : Arithmetic) (ranges : List ℕ) (value : List ℕ → ℕ) (text : List ℕ) : Type 0 where
+pub record IsMatrixOf (a : Arithmetic) (signed : Bool) (ranges : List ℕ) (value : List ℕ → ℕ) (text : List ℕ) : Type 0 where
   pub tensor : List ℕ → ℕ
   pub inside : (coords : List ℕ) → IsBelow ranges coords → tensor coords ≡ value coords
-  pub text_is : IsMatrixText a ranges tensor text
+  pub text_is : IsMatrixText a signed ranges tensor text
 
-abbrev pub IsTextIn : Bool → Arithmetic → List ℕ → (List ℕ → ℕ) → List ℕ → Type 0
-IsTextIn true a ranges value text = IsMatrixOf a ranges value text
-IsTextIn false a ranges value text = IsTnsText a ranges value text
+abbrev pub IsTextIn : Bool → Arithmetic → Bool → List ℕ → (List ℕ → ℕ) → List ℕ → Type 0
+IsTextIn true a signed ranges value text = IsMatrixOf a signed ranges value text
+IsTextIn false a signed ranges value text = IsTnsText a signed ranges value text
 
--- the text of the tensor that has these values below the ranges, as the path's ending asks
-abbrev pub IsResultText : Arithmetic → Option (List ℕ) → List ℕ → (List ℕ → ℕ) → List ℕ → Type 0
-IsResultText a path ranges value text = IsTextIn (asks_matrix path) a ranges value text
+-- the text of the tensor that has these values below the ranges, as the path's ending asks; a value is written with its sign or without
+abbrev pub IsResultText : Arithmetic → Bool → Option (List ℕ) → List ℕ → (List ℕ → ℕ) → List ℕ → Type 0
+IsResultText a signed path ranges value text = IsTextIn (asks_matrix path) a signed ranges value text

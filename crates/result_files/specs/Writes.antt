@@ -1,5 +1,5 @@
 -- What stands after a result was written, or its writing was refused.
-use Rattle.std.specs.Prelude.{◌≡◌, ℕ, ◌⊎◌, false, List, ◌++◌, Option, Some, None}
+use Rattle.std.specs.Prelude.{◌≡◌, ℕ, ◌⊎◌, Bool, false, List, ◌++◌, Option, Some, None}
 use Rattle.numbers.specs.Arithmetic.{Arithmetic}
 use Rattle.outside.specs.Count.{Rises}
 use Rattle.outside.specs.Told.{told_bytes, emptied}
@@ -77,15 +77,15 @@ PutsPart None text files files' out out' why = (files' ≡ files) × PutsFront o
 PutsPart (Some name) text files files' out out' why = FailsToFill files files' name text why × (out' ≡ out)
 
 -- the result was written: its text is that of the tensor that has these values below the ranges
-pub record WritesResult (a : Arithmetic) (path : Option (List ℕ)) (ranges : List ℕ) (value : List ℕ → ℕ)
+pub record WritesResult (a : Arithmetic) (signed : Bool) (path : Option (List ℕ)) (ranges : List ℕ) (value : List ℕ → ℕ)
     (files files' : FolderState) (out out' : SinkState) : Type 0 where
   pub text : List ℕ
-  pub text_is : IsResultText a path ranges value text
+  pub text_is : IsResultText a signed path ranges value text
   pub puts : Puts path text files files' out out'
 
 -- its writing was refused
-pub record RefusesResult (a : Arithmetic) (path : Option (List ℕ)) (ranges : List ℕ) (value : List ℕ → ℕ)
+pub record RefusesResult (a : Arithmetic) (signed : Bool) (path : Option (List ℕ)) (ranges : List ℕ) (value : List ℕ → ℕ)
     (files files' : FolderState) (out out' : SinkState) (why : WriteRefusal) : Type 0 where
   pub text : List ℕ
-  pub text_is : IsResultText a path ranges value text
+  pub text_is : IsResultText a signed path ranges value text
   pub puts : PutsPart path text files files' out out' why

@@ -19,7 +19,7 @@ pub(crate) struct TensorText<'a, S: Semiring> {
 }
 
 impl<'a, S: Semiring> Text for TensorText<'a, S> {
-    ghost text = { λ t. result_text t.is_matrix S.arithmetic t.shape.now t.entries.now.list };
+    ghost text = { λ t. result_text t.is_matrix S.arithmetic S.is_signed t.shape.now t.entries.now.list };
 
     ghost may_be_put = { λ t. MayBeWritten t.is_matrix t.shape.now t.entries.now };
 

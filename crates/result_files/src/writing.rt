@@ -50,10 +50,10 @@ pub fn write_result<S: Semiring, F: Folder, O: Sink>(
     entries: &Entries,
 ) -> Result<(), WriteRefusal>
     requires { MayBeWritten (asks_matrix (path_to file)) shape.now entries.now }
-    ensures written { OnOk result (WritesResult S.arithmetic (path_to file.entry) shape.now
+    ensures written { OnOk result (WritesResult S.arithmetic S.is_signed (path_to file.entry) shape.now
         (value_at S.arithmetic entries.now.list)
         (F.state files.old) (F.state files.new) (O.state out.old) (O.state out.new)) }
-    ensures refused { IfErr result (RefusesResult S.arithmetic (path_to file.entry) shape.now
+    ensures refused { IfErr result (RefusesResult S.arithmetic S.is_signed (path_to file.entry) shape.now
         (value_at S.arithmetic entries.now.list)
         (F.state files.old) (F.state files.new) (O.state out.old) (O.state out.new)) }
 {

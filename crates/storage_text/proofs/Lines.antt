@@ -1,5 +1,5 @@
 -- The lines of levels, as they are appended.
-use Rattle.std.specs.Prelude.{◌≡◌, ℕ, zero, suc, ◌+◌, codes, List, [], ◌∷◌, ◌++◌, length, drop, Option, Some, None, slice_get, refl}
+use Rattle.std.specs.Prelude.{◌≡◌, ℕ, zero, suc, ◌+◌, Bool, codes, List, [], ◌∷◌, ◌++◌, length, drop, Option, Some, None, slice_get, refl}
 use Rattle.std.specs.List.{flat_map}
 use Rattle.std.proofs.Common.{◌∙◌, sym, ap, add-one, append_assoc, append-nil}
 use Rattle.std.proofs.lemmas.Grind.{flat_map-append}
@@ -70,8 +70,9 @@ lines_step levels i l h =
     ∙ ap (λ (k : ℕ). text_of (level_lines (i + 1) l) ++ text_of (lines_from (i + 1 + 1) (drop k levels))) (sym (add-one i))
 
 -- the line of the values, and that of the name and format, in pieces
-pub values_is : (s : Storage) → codes "val" ++ (flat_map value_text s.values ++ 10 ∷ []) ≡ text_of (values_line s ∷ [])
-values_is s = sym (append-nil (codes "val" ++ (flat_map value_text s.values ++ 10 ∷ [])))
+pub values_is : (signed : Bool) (s : Storage)
+    → codes "val" ++ (flat_map (value_text signed) s.values ++ 10 ∷ []) ≡ text_of (values_line signed s ∷ [])
+values_is signed s = sym (append-nil (codes "val" ++ (flat_map (value_text signed) s.values ++ 10 ∷ [])))
 
 pub first_is : (number : ℕ) (name : List ℕ) (s : Storage)
     → (codes "T" ++ (decimal number ++ (codes " = " ++ name))) ++ (codes ":" ++ (format_text s.format ++ 10 ∷ []))
@@ -85,9 +86,10 @@ first_is number name s =
     ∙ sym (append-nil (first_line number name s ++ 10 ∷ []))
 
 -- the whole text, in pieces
-pub store_is : (number : ℕ) (name : List ℕ) (s : Storage)
-    → text_of (first_line number name s ∷ []) ++ (text_of (lines_from 1 s.levels) ++ text_of (values_line s ∷ []))
-    ≡ store_text number name s
-store_is number name s =
-    ap (λ (t : List ℕ). text_of (first_line number name s ∷ []) ++ t) (sym (text_behind (lines_from 1 s.levels) (values_line s ∷ [])))
-    ∙ sym (text_behind (first_line number name s ∷ []) (lines_from 1 s.levels ++ values_line s ∷ []))
+pub store_is : (signed : Bool) (number : ℕ) (name : List ℕ) (s : Storage)
+    → text_of (first_line number name s ∷ []) ++ (text_of (lines_from 1 s.levels) ++ text_of (values_line signed s ∷ []))
+    ≡ store_text signed number name s
+store_is signed number name s =
+    ap (λ (t : List ℕ). text_of (first_line number name s ∷ [])
+    ++ t) (sym (text_behind (lines_from 1 s.levels) (values_line signed s ∷ [])))
+    ∙ sym (text_behind (first_line number name s ∷ []) (lines_from 1 s.levels ++ values_line signed s ∷ []))

@@ -1,8 +1,8 @@
 -- The text of a packed tensor, line by line: its format, the arrays of each level from the top, and the values.
-use Rattle.std.specs.Prelude.{ℕ, suc, codes, List, [], ◌∷◌, ◌++◌, Option, Some, None}
+use Rattle.std.specs.Prelude.{ℕ, suc, Bool, codes, List, [], ◌∷◌, ◌++◌, Option, Some, None}
 use Rattle.std.specs.List.{flat_map}
 use Rattle.std.specs.Fmt.{decimal, signed_decimal}
-use Rattle.numbers.specs.Signed.{signed_of}
+use Rattle.numbers.specs.Signed.{written_of}
 use Rattle.level_core.specs.declared.letter.Letter.{Letter}
 use Rattle.level_core.specs.declared.arrays.LevelArray.{LevelArray}
 use Rattle.level_core.specs.declared.arrays.LevelArray.TheVariants.{Dimension as OfSize, Ends as OfEnds}
@@ -22,9 +22,9 @@ abbrev pub place_text : Option ℕ → List ℕ
 place_text None = codes " -"
 place_text (Some x) = number_text x
 
--- a value behind a blank, with its sign
-abbrev pub value_text : ℕ → List ℕ
-value_text v = codes " " ++ signed_decimal (signed_of v)
+-- a value behind a blank, with its sign where values have one
+abbrev pub value_text : Bool → ℕ → List ℕ
+value_text signed v = codes " " ++ signed_decimal (written_of signed v)
 
 -- what a line of the level of this number and kind begins with
 abbrev pub head_text : ℕ → Letter → List ℕ
@@ -75,16 +75,17 @@ first_line number name storage =
     codes "T" ++ (decimal number ++ (codes " = " ++ (name ++ (codes ":" ++ format_text storage.format))))
 
 -- the line of the values
-abbrev pub values_line : Storage → List ℕ
-values_line storage = codes "val" ++ flat_map value_text storage.values
+abbrev pub values_line : Bool → Storage → List ℕ
+values_line signed storage = codes "val" ++ flat_map (value_text signed) storage.values
 
 -- the lines of a tensor of this number and name
-abbrev pub store_lines : ℕ → List ℕ → Storage → List (List ℕ)
-store_lines number name storage = first_line number name storage ∷ (lines_from 1 storage.levels ++ values_line storage ∷ [])
+abbrev pub store_lines : Bool → ℕ → List ℕ → Storage → List (List ℕ)
+store_lines signed number name storage = first_line number name storage ∷ (lines_from 1 storage.levels ++ values_line signed storage ∷ [])
 
 -- lines one after another, each ended by a line feed
 abbrev pub text_of : List (List ℕ) → List ℕ
 text_of lines = flat_map (λ line. line ++ 10 ∷ []) lines
 
-abbrev pub store_text : ℕ → List ℕ → Storage → List ℕ
-store_text number name storage = text_of (store_lines number name storage)
+-- the text of a tensor, whose values have a sign or none
+abbrev pub store_text : Bool → ℕ → List ℕ → Storage → List ℕ
+store_text signed number name storage = text_of (store_lines signed number name storage)

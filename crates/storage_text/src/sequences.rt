@@ -3,14 +3,14 @@ ghost use Rattle.std.specs.Prelude.{◌≡◌, ℕ, Some};
 ghost use Rattle.std.specs.Fmt.{signed_decimal};
 ghost use Rattle.std.specs.List.{flat_map};
 ghost use Rattle.kernel_code.specs.Meaning.{length_of, word_at};
-ghost use Rattle.numbers.specs.Signed.{signed_of};
+ghost use Rattle.numbers.specs.Signed.{written_of};
 ghost use Rattle.text_lines.specs.Puts.{Prints};
 ghost use Rattle.tensor_storage.specs.Levels.{meaning};
 ghost use Rattle.storage_text.specs.StoreText.{number_text, place_text, word_text, value_text, all_words};
 
 use hashed_level::coordinate_of;
 use level_core::{Level, LevelArray};
-use numbers::signed;
+use numbers::{Semiring, signed};
 use outside::{Refusal, Sink};
 use tensor_storage::StorageLevel;
 use text_lines::{put_all, put_i64, put_u64};
@@ -33,19 +33,23 @@ fn put_place<S: Sink>(sink: &mut S, place: Option<u64>) -> Result<(), Refusal>
     }
 }
 
-/// Appends a word with its sign.
-fn put_signed<S: Sink>(sink: &mut S, word: u64) -> Result<(), Refusal>
-    ensures { Prints (S.state sink.old) (S.state sink.new) (signed_decimal (signed_of word)) result }
+/// Appends a value alone, with its sign where values have one.
+fn put_written<S: Semiring, K: Sink>(sink: &mut K, value: u64) -> Result<(), Refusal>
+    ensures { Prints (K.state sink.old) (K.state sink.new) (signed_decimal (written_of S.is_signed value)) result }
 {
-    put_i64(sink, signed(word))
+    if S::is_signed() {
+        put_i64(sink, signed(value))
+    } else {
+        put_u64(sink, value)
+    }
 }
 
 /// Appends a value.
-fn put_value<S: Sink>(sink: &mut S, value: u64) -> Result<(), Refusal>
-    ensures { Prints (S.state sink.old) (S.state sink.new) (value_text value) result }
+fn put_value<S: Semiring, K: Sink>(sink: &mut K, value: u64) -> Result<(), Refusal>
+    ensures { Prints (K.state sink.old) (K.state sink.new) (value_text S.is_signed value) result }
 {
     put_all(sink, b" ")?;
-    put_signed(sink, value)
+    put_written::<S, K>(sink, value)
 }
 
 /// Appends the word of an array at a place, if it is there.
@@ -81,11 +85,11 @@ pub(crate) fn put_words<S: Sink>(
 }
 
 /// Appends values.
-pub(crate) fn put_values<S: Sink>(sink: &mut S, values: &[u64]) -> Result<(), Refusal>
-    ensures { Prints (S.state sink.old) (S.state sink.new) (flat_map value_text values.now) result }
+pub(crate) fn put_values<S: Semiring, K: Sink>(sink: &mut K, values: &[u64]) -> Result<(), Refusal>
+    ensures { Prints (K.state sink.old) (K.state sink.new) (flat_map (value_text S.is_signed) values.now) result }
 {
     for value in values {
-        put_value(sink, *value)?;
+        put_value::<S, K>(sink, *value)?;
     }
     Ok(())
 }

@@ -8,6 +8,7 @@ ghost use Rattle.storage_text.specs.StoreText.{first_line, values_line, text_of,
 
 use crate::levels::put_levels;
 use crate::sequences::put_values;
+use numbers::Semiring;
 use outside::{Refusal, Sink};
 use tensor_storage::Tensor;
 use text_lines::{put_all, put_u64};
@@ -39,28 +40,28 @@ fn put_first_line<S: Sink>(
 }
 
 /// Appends the line of a tensor's values.
-fn put_values_line<S: Sink>(sink: &mut S, tensor: &Tensor) -> Result<(), Refusal>
-    ensures { Prints (S.state sink.old) (S.state sink.new) (text_of (values_line tensor.now ∷ [])) result }
+fn put_values_line<S: Semiring, K: Sink>(sink: &mut K, tensor: &Tensor) -> Result<(), Refusal>
+    ensures { Prints (K.state sink.old) (K.state sink.new) (text_of (values_line S.is_signed tensor.now ∷ [])) result }
 {
     let values = tensor.values();
     put_all(sink, b"val")?;
-    put_values(sink, values)?;
+    put_values::<S, K>(sink, values)?;
     put_all(sink, b"\n")
 }
 
-/// Appends the text of a packed tensor, by its number and name: its format, the arrays of each level, and the values. After a
-/// refusal a part of it at its front was appended. It takes no memory but what the sink takes.
-pub fn put_store_text<S: Sink>(
-    sink: &mut S,
+/// Appends the text of a packed tensor, by its number and name: its format, the arrays of each level, and the values, with their signs
+/// where `S` has one. After a refusal a part of it at its front was appended. It takes no memory but what the sink takes.
+pub fn put_store_text<S: Semiring, K: Sink>(
+    sink: &mut K,
     number: u64,
     name: &[u8],
     tensor: &Tensor,
 ) -> Result<(), Refusal>
-    ensures whole { OnOk result (Appends (S.state sink.old) (S.state sink.new) (store_text number name.now tensor.now)) }
-    ensures part { IfErr result (AppendsPart (S.state sink.old) (S.state sink.new) (store_text number name.now tensor.now)) }
+    ensures whole { OnOk result (Appends (K.state sink.old) (K.state sink.new) (store_text S.is_signed number name.now tensor.now)) }
+    ensures part { IfErr result (AppendsPart (K.state sink.old) (K.state sink.new) (store_text S.is_signed number name.now tensor.now)) }
 {
     let levels = tensor.levels();
     put_first_line(sink, number, name, tensor)?;
     put_levels(sink, levels)?;
-    put_values_line(sink, tensor)
+    put_values_line::<S, K>(sink, tensor)
 }

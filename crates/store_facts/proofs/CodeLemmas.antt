@@ -244,6 +244,13 @@ pub refines_appended : (F : List StoreFact) (out new : List KStmt) (k s : KStmt)
 refines_appended F out new k s p q =
     refines_then F new (out ++ k ∷ []) (out ++ s ∷ []) p (refines_append F out (s ∷ []) out (k ∷ []) (refines_same F out) q)
 
+-- a statement behind code that does what other code does
+pub refines_appended_to : (F : List StoreFact) (old out new : List KStmt) (s : KStmt) → Refines (KeepsFacts F) out old
+    → Refines (KeepsFacts F) new (out ++ s ∷ []) → Refines (KeepsFacts F) new (old ++ s ∷ [])
+refines_appended_to F old out new s p q =
+    refines_then F new (out ++ s ∷ []) (old ++ s ∷ []) q
+    (refines_append F old (s ∷ []) out (s ∷ []) p (refines_same F (s ∷ [])))
+
 module _ {A : Type 0} where
   pub if_ok_more : (r : Result A AllocError) (P Q : A → Type 0) → IfOk r P → ((x : A) → P x → Q x) → IfOk r Q
   if_ok_more (Ok x) P Q h f = f x h

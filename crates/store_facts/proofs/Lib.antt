@@ -2,3 +2,4 @@ pub mod CodeLemmas
 pub mod FactLemmas
 pub mod Keeping
 pub mod LoopLemmas
+pub mod NameLemmas

@@ -29,7 +29,7 @@ use Rattle.store_facts.proofs.FactLemmas.{read_word}
 use Rattle.store_facts.proofs.Keeping.{KeptAfter, code_keeps, turn_kept, variable_kept}
 
 -- what a load does
-abbrev loaded : ℕ → ℕ → State → Option ℕ → Option ℕ → Outcome
+abbrev pub loaded : ℕ → ℕ → State → Option ℕ → Option ℕ → Outcome
 loaded x last s test coordinate = choice s test (set_outcome s x coordinate) (Ended (set_var s x last))
 
 -- a loop that ends at once
@@ -96,10 +96,10 @@ set_plain : (s : State) (x : ℕ) (v : Option ℕ) → unnumbered (set_outcome s
 set_plain s x None = refl
 set_plain s x (Some v) = refl
 
-plain_set : (c : Setting) (n x : ℕ) (e : KExpr) (s : State) → plain c n (Set x e ∷ []) s ≡ set_outcome s x (value e s)
+pub plain_set : (c : Setting) (n x : ℕ) (e : KExpr) (s : State) → plain c n (Set x e ∷ []) s ≡ set_outcome s x (value e s)
 plain_set c n x e s = alone c n (Set x e) s ∙ set_plain s x (value e s)
 
-plain_load : (c : Setting) (n : ℕ) (load : Load) (s : State)
+pub plain_load : (c : Setting) (n : ℕ) (load : Load) (s : State)
     → plain c n (load_code load ∷ []) s
     ≡ loaded load.variable 18446744073709551615 s (value load.test s) (value load.coordinate s)
 plain_load c n load s =

@@ -6,6 +6,7 @@
 mod facts;
 mod loads;
 mod loops;
+mod names;
 mod sizes;
 
 pub use facts::StoreFact;

@@ -25,7 +25,7 @@ fn sets_only(code: &[KStmt], x: u64, e: &KExpr) -> bool
 }
 
 /// Whether code gives the variable the last word and does nothing else.
-fn sets_last(code: &[KStmt], x: u64) -> bool
+pub(crate) fn sets_last(code: &[KStmt], x: u64) -> bool
     ensures { IsTrue result → code.now ≡ KStmt.Set x (KExpr.Num 18446744073709551615) ∷ [] }
 {
     match code {

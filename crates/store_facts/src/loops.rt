@@ -7,6 +7,7 @@ ghost use Rattle.store_facts.specs.Loads.{GoesBy, load_code, loop_code};
 
 use crate::facts::{StoreFact, is_known};
 use crate::loads::{Load, is_load, load_of};
+use crate::names::name_load;
 use kernel_code::{
     Arr, KExpr, KStmt, Kernel, LoopKind, Op, copy_expr, copy_statement, one_statement,
 };
@@ -121,6 +122,7 @@ fn add_loop(
 ) -> Result<(), AllocError>
     ensures { OnOk result (Refines (KeepsFacts facts.now) out.new (out.old ++ KStmt.While kind test body ∷ [])) }
 {
+    name_load(alloc, body.as_slice(), out)?;
     match load_ahead(alloc, facts, out.as_slice(), &test, body.as_slice())? {
         Some(load) => put_loop(alloc, kind, load, body, out),
         None => out.push(KStmt::While(kind, test, body)),

@@ -40,34 +40,35 @@ listed_below ranges (entry ∷ entries) coords below (inl here) = subst (IsBelow
 listed_below ranges (entry ∷ entries) coords below (inr more) =
     listed_below ranges entries coords (All-tail (λ e. IsBelow ranges e.coords) entry entries below) more
 
-module _ (a : Arithmetic) where
+module _ (a : Arithmetic) (signed : Bool) where
   -- zeros are passed over
   text_of_kept : (entries : List Entry)
-      → entries_text a entries ≡ flat_map (λ entry. line_text entry.coords entry.value) (filter (is_nonzero a) entries)
+      → entries_text a signed entries ≡ flat_map (λ entry. line_text signed entry.coords entry.value) (filter (is_nonzero a) entries)
   text_of_kept [] = refl
   text_of_kept (entry ∷ entries) = by (nat_eq entry.value a.zero) (text_of_kept entries)
     where
-      by : (b : Bool) → entries_text a entries ≡ flat_map (λ entry. line_text entry.coords entry.value) (filter (is_nonzero a) entries)
-          → cond b [] (line_text entry.coords entry.value) ++ entries_text a entries
-          ≡ flat_map (λ entry. line_text entry.coords entry.value)
+      by : (b : Bool) → entries_text a signed entries
+          ≡ flat_map (λ entry. line_text signed entry.coords entry.value) (filter (is_nonzero a) entries)
+          → cond b [] (line_text signed entry.coords entry.value) ++ entries_text a signed entries
+          ≡ flat_map (λ entry. line_text signed entry.coords entry.value)
           (cond (not b) (entry ∷ filter (is_nonzero a) entries) (filter (is_nonzero a) entries))
       by true h = h
-      by false h = ap (λ t. line_text entry.coords entry.value ++ t) h
+      by false h = ap (λ t. line_text signed entry.coords entry.value ++ t) h
 
   text_by_values : (value : List ℕ → ℕ) (entries : List Entry) → All (λ entry. value entry.coords ≡ entry.value) entries
-      → flat_map (λ entry. line_text entry.coords entry.value) entries ≡ flat_map (λ coords. line_text coords (value coords))
+      → flat_map (λ entry. line_text signed entry.coords entry.value) entries ≡ flat_map (λ coords. line_text signed coords (value coords))
       (coords_of entries)
   text_by_values value [] each = refl
   text_by_values value (entry ∷ entries) each =
       let here : value entry.coords ≡ entry.value = each 0 entry (omega arith) in
-      (λ i. line_text entry.coords (sym here i) ++ text_by_values value entries
+      (λ i. line_text signed entry.coords (sym here i) ++ text_by_values value entries
       (All-tail (λ e. value e.coords ≡ e.value) entry entries each) i)
 
 -- entries in increasing order, none at the coordinates of another
-pub entries_are_text : (a : Arithmetic) → Laws a → (ranges : List ℕ) (entries : List Entry) → StrictlyIncreasing entries
+pub entries_are_text : (a : Arithmetic) (signed : Bool) → Laws a → (ranges : List ℕ) (entries : List Entry) → StrictlyIncreasing entries
     → All (IsEntry (length ranges)) entries
-    → All (λ entry. IsBelow ranges entry.coords) entries → IsTnsText a ranges (value_at a entries) (entries_text a entries)
-entries_are_text a laws ranges entries up each below =
+    → All (λ entry. IsBelow ranges entry.coords) entries → IsTnsText a signed ranges (value_at a entries) (entries_text a signed entries)
+entries_are_text a signed laws ranges entries up each below =
     let kept : List Entry = filter (is_nonzero a) entries in
     let kept_up : StrictlyIncreasing kept = increasing_filter (is_nonzero a) entries up in
     let kept_each : All (IsEntry (length ranges)) kept = All-filter (is_nonzero a) (IsEntry (length ranges)) entries each in
@@ -86,5 +87,5 @@ entries_are_text a laws ranges entries up each below =
             ),
         λ both. listed_among kept coords ((listed_nonzero a laws kept kept_up some coords).1 (λ zero'. both.1 (sym (same coords) ∙ zero'))),
       );
-      lines = text_of_kept a entries ∙ text_by_values a (value_at a entries) kept values;
+      lines = text_of_kept a signed entries ∙ text_by_values a signed (value_at a entries) kept values;
     }

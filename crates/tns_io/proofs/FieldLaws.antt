@@ -1,5 +1,5 @@
 -- Lemmas about what specs/Fields.antt defines.
-use Rattle.std.specs.Prelude.{◌≡◌, ℕ, ◌+◌, ◌<◌, List, [], ◌∷◌, ◌++◌, length, take, slice_set, Result, Ok, Err, refl}
+use Rattle.std.specs.Prelude.{◌≡◌, ℕ, ◌+◌, ◌<◌, Bool, List, [], ◌∷◌, ◌++◌, length, take, slice_set, Result, Ok, Err, refl}
 use Rattle.std.proofs.Common.{arith, ap, subst, sym, ◌∙◌, append_assoc}
 use Rattle.std.proofs.lemmas.List.{take_more_set}
 use Rattle.tensor_map.specs.declared.entries.Entry.{Entry}
@@ -20,11 +20,11 @@ coordinates_more : (count : ℕ) (ts rs more : List (List ℕ)) (coords : List �
     → rs ≡ token ∷ more → coordinate_of token ≡ Ok c → AreCoordinates (count + 1) ts (coords ++ c ∷ []) more
 coordinates_more count ts rs more coords token c are rs_is is = record {
   long = omega (arith, are.long, ap length rs_is);
-  entry = λ some.
-      are.entry (omega (arith, ap length rs_is))
-      ∙ ap (λ tokens. behind_coords coords (entry_of tokens)) rs_is
-      ∙ ap (behind_coords coords) (entry_of_more token more some ∙ ap (λ first. with_first first (entry_of more)) is)
-      ∙ one_behind coords c (entry_of more);
+  entry = λ signed some.
+      are.entry signed (omega (arith, ap length rs_is))
+      ∙ ap (λ tokens. behind_coords coords (entry_of signed tokens)) rs_is
+      ∙ ap (behind_coords coords) (entry_of_more signed token more some ∙ ap (λ first. with_first first (entry_of signed more)) is)
+      ∙ one_behind coords c (entry_of signed more);
 }
 
 -- it is put aside at its place

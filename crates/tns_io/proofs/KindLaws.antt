@@ -1,5 +1,6 @@
 -- What may be wrong with a line of a `.tns` file.
-use Rattle.std.specs.Prelude.{◌≡◌, ℕ, zero, suc, ◌+◌, ℤ, Bool, true, false, cond, ◌==◌, nat_lt, List, [], ◌∷◌, length, Option, Some, None}
+use Rattle.std.specs.Prelude.{◌≡◌, ℕ, zero, suc, ◌+◌, ℤ, pos, negsuc, Bool, true, false, cond, ◌==◌, nat_lt, List, [], ◌∷◌, length}
+use Rattle.std.specs.Prelude.{Option, Some, None}
 use Rattle.std.specs.Prelude.{Result, Ok, Err, IfErr, MatchResult, refl}
 use Rattle.std.proofs.Common.{subst}
 use Rattle.limits.specs.Limits.{greatest_file_coordinate, greatest_line_bytes}
@@ -43,11 +44,13 @@ coordinate_kinds (Some (suc n)) = by (nat_lt n greatest_file_coordinate)
     by true = refl
     by false = refl
 
-value_kinds : (value : Result ℤ NumFault) → kinds (value_from value) ≡ true
-value_kinds (Ok z) = refl
-value_kinds (Err NoNumber) = refl
-value_kinds (Err NoWhole) = refl
-value_kinds (Err NoRange) = refl
+value_kinds : (signed : Bool) (value : Result ℤ NumFault) → kinds (value_from signed value) ≡ true
+value_kinds signed (Ok (pos n)) = refl
+value_kinds true (Ok (negsuc n)) = refl
+value_kinds false (Ok (negsuc n)) = refl
+value_kinds signed (Err NoNumber) = refl
+value_kinds signed (Err NoWhole) = refl
+value_kinds signed (Err NoRange) = refl
 
 alone_kinds : (value : Result ℕ LineKind) → kinds value ≡ true → kinds (value_alone value) ≡ true
 alone_kinds (Ok v) h = refl
@@ -59,31 +62,33 @@ first_kinds (Err kind) others h g = h
 first_kinds (Ok c) (Err kind) h g = g
 first_kinds (Ok c) (Ok entry) h g = refl
 
-entry_kinds : (ts : List (List ℕ)) → kinds (entry_of ts) ≡ true
-entry_kinds [] = refl
-entry_kinds (token ∷ []) = alone_kinds (value_of token) (value_kinds (read_whole_of token))
-entry_kinds (token ∷ next ∷ more) =
-    first_kinds (coordinate_of token) (entry_of (next ∷ more)) (coordinate_kinds (number_of token)) (entry_kinds (next ∷ more))
+entry_kinds : (signed : Bool) (ts : List (List ℕ)) → kinds (entry_of signed ts) ≡ true
+entry_kinds signed [] = refl
+entry_kinds signed (token ∷ []) = alone_kinds (value_of signed token) (value_kinds signed (read_whole_of token))
+entry_kinds signed (token ∷ next ∷ more) =
+    first_kinds (coordinate_of token) (entry_of signed (next ∷ more)) (coordinate_kinds (number_of token))
+    (entry_kinds signed (next ∷ more))
 
 read_kinds : (r : Result Entry LineKind) → kinds r ≡ true → reading_kinds (read_or_bad r) ≡ true
 read_kinds (Ok entry) h = refl
 read_kinds (Err kind) h = h
 
-tokens_kinds : (order : ℕ) (ts : List (List ℕ)) → reading_kinds (reading_of_tokens order ts) ≡ true
-tokens_kinds order [] = refl
-tokens_kinds order (token ∷ more) = by (is_comment token) (length more == order)
+tokens_kinds : (signed : Bool) (order : ℕ) (ts : List (List ℕ)) → reading_kinds (reading_of_tokens signed order ts) ≡ true
+tokens_kinds signed order [] = refl
+tokens_kinds signed order (token ∷ more) = by (is_comment token) (length more == order)
   where
-    by : (comment same : Bool) → reading_kinds (cond comment Skipped (cond same (read_or_bad (entry_of (token ∷ more))) (Bad Fields))) ≡ true
+    by : (comment same : Bool)
+        → reading_kinds (cond comment Skipped (cond same (read_or_bad (entry_of signed (token ∷ more))) (Bad Fields))) ≡ true
     by true same = refl
-    by false true = read_kinds (entry_of (token ∷ more)) (entry_kinds (token ∷ more))
+    by false true = read_kinds (entry_of signed (token ∷ more)) (entry_kinds signed (token ∷ more))
     by false false = refl
 
-line_kinds : (order : ℕ) (line : List ℕ) → reading_kinds (reading order line) ≡ true
-line_kinds order line = by (nat_lt greatest_line_bytes (length line))
+line_kinds : (signed : Bool) (order : ℕ) (line : List ℕ) → reading_kinds (reading signed order line) ≡ true
+line_kinds signed order line = by (nat_lt greatest_line_bytes (length line))
   where
-    by : (long : Bool) → reading_kinds (cond long (Bad LongLine) (reading_of_tokens order (tokens line))) ≡ true
+    by : (long : Bool) → reading_kinds (cond long (Bad LongLine) (reading_of_tokens signed order (tokens line))) ≡ true
     by true = refl
-    by false = tokens_kinds order (tokens line)
+    by false = tokens_kinds signed order (tokens line)
 
 others_kinds : (number : ℕ) (what : Reading) (others : Result (List Entry) BadLine) → reading_kinds what ≡ true
     → list_kinds others ≡ true → list_kinds (before_others number what others) ≡ true
@@ -92,23 +97,24 @@ others_kinds number (Bad kind) others h g = h
 others_kinds number (Read entry) (Ok entries) h g = refl
 others_kinds number (Read entry) (Err bad) h g = g
 
-lines_kinds : (order number : ℕ) (ls : List (List ℕ)) → list_kinds (entries_from order number ls) ≡ true
-lines_kinds order number [] = refl
-lines_kinds order number (line ∷ more) =
-    others_kinds number (reading order line) (entries_from order (number + 1) more) (line_kinds order line)
-    (lines_kinds order (number + 1) more)
+lines_kinds : (signed : Bool) (order number : ℕ) (ls : List (List ℕ)) → list_kinds (entries_from signed order number ls) ≡ true
+lines_kinds signed order number [] = refl
+lines_kinds signed order number (line ∷ more) =
+    others_kinds number (reading signed order line) (entries_from signed order (number + 1) more) (line_kinds signed order line)
+    (lines_kinds signed order (number + 1) more)
 
 -- the first bad line of a text is of such a kind
-pub bad_kinds : (order : ℕ) (text : List ℕ) (number : ℕ) (kind : LineKind)
-    → entries_of_text order text ≡ Err (record { number = number; kind = kind }) → is_entry_kind kind ≡ true
-bad_kinds order text number kind is = subst (λ r. list_kinds r ≡ true) is (lines_kinds order 1 (lines text))
+pub bad_kinds : (signed : Bool) (order : ℕ) (text : List ℕ) (number : ℕ) (kind : LineKind)
+    → entries_of_text signed order text ≡ Err (record { number = number; kind = kind }) → is_entry_kind kind ≡ true
+bad_kinds signed order text number kind is = subst (λ r. list_kinds r ≡ true) is (lines_kinds signed order 1 (lines text))
 
 -- so is that of a refusal
-pub refused_kinds : (reader : TnsReader) (fault : FileFault) → Refuses reader fault → IsOfEntries fault
-refused_kinds reader (Line line kind) h = bad_kinds reader.order reader.text h.1.number kind h.1.bad
-refused_kinds reader (Memory e) h = tt
+pub refused_kinds : (signed : Bool) (reader : TnsReader) (fault : FileFault) → Refuses signed reader fault → IsOfEntries fault
+refused_kinds signed reader (Line line kind) h = bad_kinds signed reader.order reader.text h.1.number kind h.1.bad
+refused_kinds signed reader (Memory e) h = tt
 
-pub answered_kinds : (reader : TnsReader) (answer : Result Entries FileFault) → MatchResult answer (IsRead reader) (Refuses reader)
+pub answered_kinds : (signed : Bool) (reader : TnsReader) (answer : Result Entries FileFault)
+    → MatchResult answer (IsRead signed reader) (Refuses signed reader)
     → IfErr answer IsOfEntries
-answered_kinds reader (Ok entries) h = tt
-answered_kinds reader (Err fault) h = refused_kinds reader fault h
+answered_kinds signed reader (Ok entries) h = tt
+answered_kinds signed reader (Err fault) h = refused_kinds signed reader fault h

@@ -1,5 +1,5 @@
 -- Lemmas about what specs/Plain.antt defines: what is read from the left is what the line stands for.
-use Rattle.std.specs.Prelude.{◌≡◌, ℕ, zero, suc, ◌+◌, ◌-◌, ◌^◌, ◌<◌, ◌≤◌, Bool, true, false, cond, nat_lt, ◌==◌}
+use Rattle.std.specs.Prelude.{◌≡◌, ℕ, zero, suc, negsuc, ◌+◌, ◌-◌, ◌^◌, ◌<◌, ◌≤◌, Bool, true, false, cond, nat_lt, ◌==◌}
 use Rattle.std.specs.Prelude.{List, [], ◌∷◌, length, take, drop, Option, Some, None, Ok, Err, refl}
 use Rattle.std.specs.Char.{is_ascii_digit}
 use Rattle.std.specs.List.{All, list_all, after_first, position_or_len}
@@ -25,9 +25,9 @@ use Rattle.text_lines.proofs.TokenLaws.{tokens_last, tokens_more}
 use Rattle.tns_io.specs.Fields.{AreCoordinates, behind_coords, IsEntryOf}
 use Rattle.tns_io.specs.Plain.{BeginsWith, FirstIs, IsNumber}
 use Rattle.tns_io.specs.Reading.{coordinate_from, coordinate_of, entry_of, is_comment, read_or_bad, reading, reading_of_tokens}
-use Rattle.tns_io.specs.Reading.{value_alone, value_from, value_of, with_first}
+use Rattle.tns_io.specs.Reading.{value_alone, value_from, value_of, with_first, word_from}
 use Rattle.tns_io.specs.Reading.Reading.{Skipped, Read, Bad}
-use Rattle.text_lines.specs.declared.line_kind.LineKind.TheVariants.{LongLine, Fields, NumRange}
+use Rattle.text_lines.specs.declared.line_kind.LineKind.TheVariants.{LongLine, Fields, Negative, NumRange}
 
 -- a token that stands for a number is digits
 are_digits : (token : List ℕ) (n : ℕ) → number_of token ≡ Some n → is_number token ≡ true
@@ -90,35 +90,45 @@ fits false n h = lt-ltb n (2 ^ 63) h
 fits true zero h = lt-ltb 0 (2 ^ 63) h
 fits true (suc n) h = lt-ltb n (2 ^ 63) (omega arith)
 
-whole_is_value : (token : List ℕ) (negative : Bool) (n : ℕ) → whole_of token ≡ Some (with_sign negative n) → n < 2 ^ 63
-    → value_of token ≡ Ok (word_of_signed (with_sign negative n))
-whole_is_value token negative n e small =
-    ap (λ z. value_from (whole_within (is_decimal token) z)) e
-    ∙ ap (λ b. value_from (cond b (Ok (with_sign negative n)) (Err NoRange))) (fits negative n small)
+word_is : (signed negative : Bool) (n : ℕ) → (negative ≡ true → signed ≡ true)
+    → word_from signed (with_sign negative n) ≡ Ok (word_of_signed (with_sign negative n))
+word_is signed false n may = refl
+word_is signed true zero may = refl
+word_is signed true (suc n) may = ap (λ b. cond b (Ok (word_of_signed (negsuc n))) (Err Negative)) (may refl)
 
-alone : (token : List ℕ) (v : ℕ) → IsToken token → value_of token ≡ Ok v → IsEntryOf 0 (tokens token) [] (Ok v)
-alone token v is value =
-    let one : tokens token ≡ token ∷ [] = tokens_last token is in (ap length one, ap entry_of one ∙ ap value_alone value)
+whole_is_value : (signed : Bool) (token : List ℕ) (negative : Bool) (n : ℕ) → (negative ≡ true → signed ≡ true)
+    → whole_of token ≡ Some (with_sign negative n) → n < 2 ^ 63
+    → value_of signed token ≡ Ok (word_of_signed (with_sign negative n))
+whole_is_value signed token negative n may e small =
+    ap (λ z. value_from signed (whole_within (is_decimal token) z)) e
+    ∙ ap (λ b. value_from signed (cond b (Ok (with_sign negative n)) (Err NoRange))) (fits negative n small)
+    ∙ word_is signed negative n may
 
-pub plain_alone : (token : List ℕ) (n : ℕ) → IsNumber token n → IsEntryOf 0 (tokens token) [] (Ok (word_of_signed (with_sign false n)))
-plain_alone token n number =
-    alone token _ (number_is_token token n number.is)
-    (whole_is_value token false n
+alone : (signed : Bool) (token : List ℕ) (v : ℕ) → IsToken token → value_of signed token ≡ Ok v
+    → IsEntryOf signed 0 (tokens token) [] (Ok v)
+alone signed token v is value =
+    let one : tokens token ≡ token ∷ [] = tokens_last token is in (ap length one, ap (entry_of signed) one ∙ ap value_alone value)
+
+pub plain_alone : (signed : Bool) (token : List ℕ) (n : ℕ) → IsNumber token n
+    → IsEntryOf signed 0 (tokens token) [] (Ok (word_of_signed (with_sign false n)))
+plain_alone signed token n number =
+    alone signed token _ (number_is_token token n number.is)
+    (whole_is_value signed token false n (λ minus. absurd (cc))
     (whole_of_plain token (number_digits token n number.is).1 ∙ ap (option_map (with_sign false)) number.is) number.small)
 
 pub minus_alone : (token : List ℕ) (n : ℕ) → IsNumber token n
-    → IsEntryOf 0 (tokens (45 ∷ token)) [] (Ok (word_of_signed (with_sign true n)))
+    → IsEntryOf true 0 (tokens (45 ∷ token)) [] (Ok (word_of_signed (with_sign true n)))
 minus_alone token n number =
-    alone (45 ∷ token) _ (minus_is_token token (number_is_token token n number.is))
-    (whole_is_value (45 ∷ token) true n
+    alone true (45 ∷ token) _ (minus_is_token token (number_is_token token n number.is))
+    (whole_is_value true (45 ∷ token) true n (λ minus. refl)
     (whole_of_minus token (number_digits token n number.is).1 ∙ ap (option_map (with_sign true)) number.is) number.small)
 
 -- coordinates, and a value alone behind them
-pub entry_behind : (count : ℕ) (ts rest : List (List ℕ)) (coords : List ℕ) (value : ℕ) → AreCoordinates count ts coords rest
-    → IsEntryOf 0 rest [] (Ok value) → IsEntryOf count ts coords (Ok value)
-entry_behind count ts rest coords value are entry = (
+pub entry_behind : (signed : Bool) (count : ℕ) (ts rest : List (List ℕ)) (coords : List ℕ) (value : ℕ) → AreCoordinates count ts coords rest
+    → IsEntryOf signed 0 rest [] (Ok value) → IsEntryOf signed count ts coords (Ok value)
+entry_behind signed count ts rest coords value are entry = (
   omega (arith, are.long, entry.0),
-  are.entry (omega (arith, entry.0))
+  are.entry signed (omega (arith, entry.0))
       ∙ ap (behind_coords coords) entry.1
       ∙ ap (λ (cs : List ℕ). Ok (record { coords = cs; value = value })) (append-nil coords),
 )
@@ -139,45 +149,48 @@ no_whole_of_comment text =
     same true number = refl
     same false number = refl
 
-comment_is_no_entry : (text : List ℕ) (more : List (List ℕ)) (entry : Entry) → entry_of ((35 ∷ text) ∷ more) ≡ Ok entry → ⊥
-comment_is_no_entry text [] entry e = by (is_decimal (35 ∷ text)) (sym value ∙ e)
+comment_is_no_entry : (signed : Bool) (text : List ℕ) (more : List (List ℕ)) (entry : Entry)
+    → entry_of signed ((35 ∷ text) ∷ more) ≡ Ok entry → ⊥
+comment_is_no_entry signed text [] entry e = by (is_decimal (35 ∷ text)) (sym value ∙ e)
   where
-    value : entry_of ((35 ∷ text) ∷ []) ≡ value_alone (value_from (whole_within (is_decimal (35 ∷ text)) None))
+    value : entry_of signed ((35 ∷ text) ∷ []) ≡ value_alone (value_from signed (whole_within (is_decimal (35 ∷ text)) None))
     value =
-        ap (λ z. value_alone (value_from (whole_within (is_decimal (35 ∷ text)) (option_map (with_sign false) z))))
+        ap (λ z. value_alone (value_from signed (whole_within (is_decimal (35 ∷ text)) (option_map (with_sign false) z))))
         (no_whole_of_comment text)
 
-    by : (b : Bool) → value_alone (value_from (whole_within b None)) ≡ Ok entry → ⊥
+    by : (b : Bool) → value_alone (value_from signed (whole_within b None)) ≡ Ok entry → ⊥
     by true h = absurd (cc)
     by false h = absurd (cc)
-comment_is_no_entry text (next ∷ more) entry e =
-    let first : with_first (coordinate_of (35 ∷ text)) (entry_of (next ∷ more))
-    ≡ with_first (coordinate_from None) (entry_of (next ∷ more)) =
-    ap (λ n. with_first (coordinate_from n) (entry_of (next ∷ more))) (no_number_of_comment text) in
+comment_is_no_entry signed text (next ∷ more) entry e =
+    let first : with_first (coordinate_of (35 ∷ text)) (entry_of signed (next ∷ more))
+    ≡ with_first (coordinate_from None) (entry_of signed (next ∷ more)) =
+    ap (λ n. with_first (coordinate_from n) (entry_of signed (next ∷ more))) (no_number_of_comment text) in
     absurd (cc)
 
-no_comment : (token : List ℕ) (more : List (List ℕ)) (entry : Entry) → entry_of (token ∷ more) ≡ Ok entry → is_comment token ≡ false
-no_comment [] more entry e = refl
-no_comment (c ∷ text) more entry e = by (c == 35) refl
+no_comment : (signed : Bool) (token : List ℕ) (more : List (List ℕ)) (entry : Entry) → entry_of signed (token ∷ more) ≡ Ok entry
+    → is_comment token ≡ false
+no_comment signed [] more entry e = refl
+no_comment signed (c ∷ text) more entry e = by (c == 35) refl
   where
     by : (b : Bool) → (c == 35) ≡ b → (c == 35) ≡ false
     by false t = t
     by true t =
-        absurd (comment_is_no_entry text more entry
-        (subst (λ (x : ℕ). entry_of ((x ∷ text) ∷ more) ≡ Ok entry) (eqb-true c 35 t) e))
+        absurd (comment_is_no_entry signed text more entry
+        (subst (λ (x : ℕ). entry_of signed ((x ∷ text) ∷ more) ≡ Ok entry) (eqb-true c 35 t) e))
 
 -- a line whose tokens are an entry is read as that
-pub tokens_are_read : (order : ℕ) (ts : List (List ℕ)) (entry : Entry) → length ts ≡ order + 1 → entry_of ts ≡ Ok entry
-    → reading_of_tokens order ts ≡ Read entry
-tokens_are_read order [] entry long e = absurd (omega arith)
-tokens_are_read order (token ∷ more) entry long e =
-    ap (λ b. cond b Skipped (cond (length more == order) (read_or_bad (entry_of (token ∷ more))) (Bad Fields)))
-    (no_comment token more entry e)
-    ∙ ap (λ b. cond b (read_or_bad (entry_of (token ∷ more))) (Bad Fields)) (eq-eqb (length more) order (omega arith))
+pub tokens_are_read : (signed : Bool) (order : ℕ) (ts : List (List ℕ)) (entry : Entry) → length ts ≡ order + 1
+    → entry_of signed ts ≡ Ok entry
+    → reading_of_tokens signed order ts ≡ Read entry
+tokens_are_read signed order [] entry long e = absurd (omega arith)
+tokens_are_read signed order (token ∷ more) entry long e =
+    ap (λ b. cond b Skipped (cond (length more == order) (read_or_bad (entry_of signed (token ∷ more))) (Bad Fields)))
+    (no_comment signed token more entry e)
+    ∙ ap (λ b. cond b (read_or_bad (entry_of signed (token ∷ more))) (Bad Fields)) (eq-eqb (length more) order (omega arith))
     ∙ ap read_or_bad e
 
-pub plain_is_read : (order : ℕ) (line coords : List ℕ) (value : ℕ) → is_long line ≡ false
-    → IsEntryOf order (tokens line) coords (Ok value) → reading order line ≡ Read (record { coords = coords; value = value })
-plain_is_read order line coords value short entry =
-    ap (λ b. cond b (Bad LongLine) (reading_of_tokens order (tokens line))) short
-    ∙ tokens_are_read order (tokens line) (record { coords = coords; value = value }) entry.0 entry.1
+pub plain_is_read : (signed : Bool) (order : ℕ) (line coords : List ℕ) (value : ℕ) → is_long line ≡ false
+    → IsEntryOf signed order (tokens line) coords (Ok value) → reading signed order line ≡ Read (record { coords = coords; value = value })
+plain_is_read signed order line coords value short entry =
+    ap (λ b. cond b (Bad LongLine) (reading_of_tokens signed order (tokens line))) short
+    ∙ tokens_are_read signed order (tokens line) (record { coords = coords; value = value }) entry.0 entry.1

@@ -1,5 +1,5 @@
 -- The text of entries, piece by piece.
-use Rattle.std.specs.Prelude.{◌≡◌, ℕ, ◌+◌, ◌<◌, List, [], ◌∷◌, ◌++◌, length, drop, slice_index_or}
+use Rattle.std.specs.Prelude.{◌≡◌, ℕ, ◌+◌, ◌<◌, Bool, List, [], ◌∷◌, ◌++◌, length, drop, slice_index_or}
 use Rattle.std.specs.Fmt.{decimal}
 use Rattle.std.proofs.Common.{ap, sym, ◌∙◌, add-one}
 use Rattle.std.proofs.Math.Seq.{drop-cons}
@@ -16,10 +16,12 @@ coords_step coords i inside =
 abbrev pub no_entry : Entry
 no_entry = record { coords = []; value = 0 }
 
-pub entries_step : (a : Arithmetic) (entries : List Entry) (i : ℕ) (coords : List ℕ) (value : ℕ) → i < length entries
+pub entries_step : (a : Arithmetic) (signed : Bool) (entries : List Entry) (i : ℕ) (coords : List ℕ) (value : ℕ) → i < length entries
     → coords ≡ (slice_index_or entries i no_entry).coords → value ≡ (slice_index_or entries i no_entry).value
-    → entries_text a (drop i entries) ≡ entry_text a (record { coords = coords; value = value }) ++ entries_text a (drop (i + 1) entries)
-entries_step a entries i coords value inside coords_are value_is =
-    ap (entries_text a) (drop-cons entries i no_entry inside)
-    ∙ ap (λ (k : ℕ). entry_text a (slice_index_or entries i no_entry) ++ entries_text a (drop k entries)) (sym (add-one i))
-    ∙ (λ j. entry_text a (record { coords = sym coords_are j; value = sym value_is j }) ++ entries_text a (drop (i + 1) entries))
+    → entries_text a signed (drop i entries)
+    ≡ entry_text a signed (record { coords = coords; value = value }) ++ entries_text a signed (drop (i + 1) entries)
+entries_step a signed entries i coords value inside coords_are value_is =
+    ap (entries_text a signed) (drop-cons entries i no_entry inside)
+    ∙ ap (λ (k : ℕ). entry_text a signed (slice_index_or entries i no_entry) ++ entries_text a signed (drop k entries)) (sym (add-one i))
+    ∙ (λ j. entry_text a signed (record { coords = sym coords_are j; value = sym value_is j })
+    ++ entries_text a signed (drop (i + 1) entries))

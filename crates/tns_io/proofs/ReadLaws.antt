@@ -43,42 +43,44 @@ first_in_file (Ok c) (Ok x) entry e f g =
     let same : record { coords = c ∷ x.coords; value = x.value } ≡ entry = cc in
     subst (λ (y : Entry). AreInFile y.coords) same (All-cons (λ n. n < greatest_file_coordinate) c x.coords (f c refl) (g x refl))
 
-entry_in_file : (ts : List (List ℕ)) (entry : Entry) → entry_of ts ≡ Ok entry → AreInFile entry.coords
-entry_in_file [] entry e = absurd (cc)
-entry_in_file (token ∷ []) entry e = alone_in_file (value_of token) entry e
-entry_in_file (token ∷ next ∷ more) entry e =
-    first_in_file (coordinate_of token) (entry_of (next ∷ more)) entry e (λ c h. coordinate_in_file (number_of token) c h)
-    (λ x h. entry_in_file (next ∷ more) x h)
+entry_in_file : (signed : Bool) (ts : List (List ℕ)) (entry : Entry) → entry_of signed ts ≡ Ok entry → AreInFile entry.coords
+entry_in_file signed [] entry e = absurd (cc)
+entry_in_file signed (token ∷ []) entry e = alone_in_file (value_of signed token) entry e
+entry_in_file signed (token ∷ next ∷ more) entry e =
+    first_in_file (coordinate_of token) (entry_of signed (next ∷ more)) entry e (λ c h. coordinate_in_file (number_of token) c h)
+    (λ x h. entry_in_file signed (next ∷ more) x h)
 
 read_in_file : (r : Result Entry LineKind) (entry : Entry) → read_or_bad r ≡ Read entry → r ≡ Ok entry
 read_in_file (Ok x) entry e = let same : x ≡ entry = cc in ap Ok same
 read_in_file (Err kind) entry e = absurd (cc)
 
-tokens_in_file : (order : ℕ) (ts : List (List ℕ)) (entry : Entry) → reading_of_tokens order ts ≡ Read entry → AreInFile entry.coords
-tokens_in_file order [] entry e = absurd (cc)
-tokens_in_file order (token ∷ more) entry e = by (is_comment token) (length more == order) e
+tokens_in_file : (signed : Bool) (order : ℕ) (ts : List (List ℕ)) (entry : Entry) → reading_of_tokens signed order ts ≡ Read entry
+    → AreInFile entry.coords
+tokens_in_file signed order [] entry e = absurd (cc)
+tokens_in_file signed order (token ∷ more) entry e = by (is_comment token) (length more == order) e
   where
     by : (comment long : Bool)
-        → cond comment Skipped (cond long (read_or_bad (entry_of (token ∷ more))) (Bad Fields)) ≡ Read entry
+        → cond comment Skipped (cond long (read_or_bad (entry_of signed (token ∷ more))) (Bad Fields)) ≡ Read entry
         → AreInFile entry.coords
     by true long h = absurd (cc)
     by false false h = absurd (cc)
-    by false true h = entry_in_file (token ∷ more) entry (read_in_file (entry_of (token ∷ more)) entry h)
+    by false true h = entry_in_file signed (token ∷ more) entry (read_in_file (entry_of signed (token ∷ more)) entry h)
 
-line_in_file : (order : ℕ) (line : List ℕ) (entry : Entry) → reading order line ≡ Read entry → AreInFile entry.coords
-line_in_file order line entry e = by (is_long line) e
+line_in_file : (signed : Bool) (order : ℕ) (line : List ℕ) (entry : Entry) → reading signed order line ≡ Read entry → AreInFile entry.coords
+line_in_file signed order line entry e = by (is_long line) e
   where
-    by : (b : Bool) → cond b (Bad LongLine) (reading_of_tokens order (tokens line)) ≡ Read entry → AreInFile entry.coords
+    by : (b : Bool) → cond b (Bad LongLine) (reading_of_tokens signed order (tokens line)) ≡ Read entry → AreInFile entry.coords
     by true h = absurd (cc)
-    by false h = tokens_in_file order (tokens line) entry h
+    by false h = tokens_in_file signed order (tokens line) entry h
 
 -- what holds of the entry of each line holds of all entries
-pub lines_each : (P : Entry → Type 0) (order number : ℕ) (ls : List (List ℕ)) (list : List Entry)
-    → ((line : List ℕ) (entry : Entry) → reading order line ≡ Read entry → P entry) → entries_from order number ls ≡ Ok list → All P list
-lines_each P order number [] list each e = let none : [] ≡ list = cc in subst (All P) none (All-nil P)
-lines_each P order number (line ∷ ls) list each e =
-    by (reading order line) (entries_from order (number + 1) ls) e (each line)
-    (λ found h. lines_each P order (number + 1) ls found each h)
+pub lines_each : (signed : Bool) (P : Entry → Type 0) (order number : ℕ) (ls : List (List ℕ)) (list : List Entry)
+    → ((line : List ℕ) (entry : Entry) → reading signed order line ≡ Read entry → P entry) → entries_from signed order number ls ≡ Ok list
+    → All P list
+lines_each signed P order number [] list each e = let none : [] ≡ list = cc in subst (All P) none (All-nil P)
+lines_each signed P order number (line ∷ ls) list each e =
+    by (reading signed order line) (entries_from signed order (number + 1) ls) e (each line)
+    (λ found h. lines_each signed P order (number + 1) ls found each h)
   where
     by : (r : Reading) (others : Result (List Entry) BadLine) → before_others number r others ≡ Ok list
         → ((entry : Entry) → r ≡ Read entry → P entry) → ((found : List Entry) → others ≡ Ok found → All P found) → All P list
@@ -89,9 +91,9 @@ lines_each P order number (line ∷ ls) list each e =
         let same : entry ∷ found ≡ list = cc in subst (All P) same (All-cons P entry found (f entry refl) (g found refl))
 
 -- what is read has coordinates that a file may have
-pub entries_in_file : (order : ℕ) (text : List ℕ) (list : List Entry) → entries_of_text order text ≡ Ok list
+pub entries_in_file : (signed : Bool) (order : ℕ) (text : List ℕ) (list : List Entry) → entries_of_text signed order text ≡ Ok list
     → All (λ entry. AreInFile entry.coords) list
-entries_in_file order text list e = lines_each (λ entry. AreInFile entry.coords) order 1 _ list (line_in_file order) e
+entries_in_file signed order text list e = lines_each signed (λ entry. AreInFile entry.coords) order 1 _ list (line_in_file signed order) e
 
 listed_in_file : (entries : List Entry) (coords : List ℕ) → All (λ entry. AreInFile entry.coords) entries → Listed entries coords
     → AreInFile coords
@@ -101,10 +103,10 @@ listed_in_file (entry ∷ entries) coords each (inr more) =
     listed_in_file entries coords (All-tail (λ (e : Entry). AreInFile e.coords) entry entries each) more
 
 -- so entries with no other coordinates may be written
-pub read_in_range : (order : ℕ) (text : List ℕ) (list others : List Entry) → entries_of_text order text ≡ Ok list
+pub read_in_range : (signed : Bool) (order : ℕ) (text : List ℕ) (list others : List Entry) → entries_of_text signed order text ≡ Ok list
     → SameListed list others → AreInRange others
-read_in_range order text list others e same = λ k d h k' d' h'.
+read_in_range signed order text list others e same = λ k d h k' d' h'.
     let below : AreInFile (slice_index_or others k d).coords =
-    listed_in_file list (slice_index_or others k d).coords (entries_in_file order text list e)
+    listed_in_file list (slice_index_or others k d).coords (entries_in_file signed order text list e)
     ((same (slice_index_or others k d).coords).0 (listed_at others k d h)) in
     omega (arith, below k' d' h', file_coordinates_are_ranges)

@@ -1,5 +1,5 @@
 -- What follows from the definition of a tensor's text.
-use Rattle.std.specs.Prelude.{◌≡◌, ℕ, List, [], ◌∷◌, refl}
+use Rattle.std.specs.Prelude.{◌≡◌, ℕ, Bool, List, [], ◌∷◌, refl}
 use Rattle.std.specs.List.{flat_map}
 use Rattle.std.specs.Ordering.{nat_cmp, MatchOrdering}
 use Rattle.std.specs.declared.cmp.Ordering.{Ordering}
@@ -56,11 +56,12 @@ one_list (x ∷ xs) (y ∷ ys) up up' to from =
     by Equal is rest = λ i. is i ∷ rest is i
 
 -- a tensor has one text
-pub one_text : (a : Arithmetic) (ranges : List ℕ) (value : List ℕ → ℕ) (first second : List ℕ) → IsTnsText a ranges value first
-    → IsTnsText a ranges value second → first ≡ second
-one_text a ranges value first second is is' =
+pub one_text : (a : Arithmetic) (signed : Bool) (ranges : List ℕ) (value : List ℕ → ℕ) (first second : List ℕ)
+    → IsTnsText a signed ranges value first
+    → IsTnsText a signed ranges value second → first ≡ second
+one_text a signed ranges value first second is is' =
     is.lines
-    ∙ ap (flat_map (λ coords. line_text coords (value coords)))
+    ∙ ap (flat_map (λ coords. line_text signed coords (value coords)))
     (one_list is.places is'.places is.increasing is'.increasing
     (λ coords among. (is'.exact coords).1 ((is.exact coords).0 among))
     (λ coords among. (is.exact coords).1 ((is'.exact coords).0 among)))

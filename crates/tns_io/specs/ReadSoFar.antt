@@ -11,13 +11,13 @@ use Rattle.tns_io.specs.declared.file_fault.FileFault.{FileFault}
 use Rattle.tns_io.specs.declared.file_fault.FileFault.TheVariants.{Line, Memory}
 
 -- the entries of the lines that have ended, of which none is bad
-pub record IsReadSoFar (order : ℕ) (text : List ℕ) (list : List Entry) : Type 0 where
+pub record IsReadSoFar (signed : Bool) (order : ℕ) (text : List ℕ) (list : List Entry) : Type 0 where
   pub short : has_long_line text ≡ false
-  pub read : entries_from order 1 (told_lines text) ≡ Ok list
+  pub read : entries_from signed order 1 (told_lines text) ≡ Ok list
 
 -- however the text goes on, its first bad line is this one
-abbrev pub StaysBad : ℕ → List ℕ → ℕ → LineKind → Type 0
-StaysBad order text line kind = (more : List ℕ) → IsBadText order (text ++ more) line kind
+abbrev pub StaysBad : Bool → ℕ → List ℕ → ℕ → LineKind → Type 0
+StaysBad signed order text line kind = (more : List ℕ) → IsBadText signed order (text ++ more) line kind
 
 -- a line was read: no entry or one more
 abbrev pub Takes : Reading → List Entry → List Entry → Type 0
@@ -31,17 +31,18 @@ Fails number r (Line line kind) = (line ≡ number) × (r ≡ Bad kind)
 Fails number r (Memory e) = (entry : Entry) × (r ≡ Read entry)
 
 -- the lines of a piece, so far: those that have ended in it, what is left, and the entries
-pub record ReadsPiece (order : ℕ) (start piece : List ℕ) (lines : LineReader) (rest : List ℕ) (list : List Entry) : Type 0 where
+pub record ReadsPiece (signed : Bool) (order : ℕ) (start piece : List ℕ) (lines : LineReader) (rest : List ℕ) (list : List Entry)
+    : Type 0 where
   pub ended : List (List ℕ)
   pub told : told_lines lines.text ≡ told_lines start ++ ended
   pub text : lines.text ++ rest ≡ start ++ piece
   pub start_short : has_long_line start ≡ false
-  pub so_far : IsReadSoFar order lines.text list
+  pub so_far : IsReadSoFar signed order lines.text list
 
 -- why a piece was not read to its end
-abbrev pub FailsPiece : ℕ → List ℕ → List ℕ → FileFault → Type 0
-FailsPiece order start piece (Line line kind) = StaysBad order (start ++ piece) line kind
-FailsPiece order start piece (Memory e) = EndsEntry order start piece
+abbrev pub FailsPiece : Bool → ℕ → List ℕ → List ℕ → FileFault → Type 0
+FailsPiece signed order start piece (Line line kind) = StaysBad signed order (start ++ piece) line kind
+FailsPiece signed order start piece (Memory e) = EndsEntry signed order start piece
 
 -- whether memory was wanted
 abbrev pub is_want : Option FileFault → Bool

@@ -1,9 +1,10 @@
 // Reads the lines of a `.tns` file one by one.
-ghost use Rattle.std.specs.Prelude.{◌≡◌, ◌+◌, ◌↔◌, [], false, Err, IfErr, IsTrue, OnOk, MatchResult, length};
+ghost use Rattle.std.specs.Prelude.{◌≡◌, ◌+◌, ◌↔◌, [], Bool, false, Err, IfErr, IsTrue, OnOk, MatchResult, length};
 ghost use Rattle.text_lines.specs.Cutting.{is_long};
 ghost use Rattle.text_lines.specs.Tokens.{tokens};
 ghost use Rattle.tns_io.specs.Fields.{AreCoordinates, IsEntry, IsEntryOf, IsReading, fields_of};
 ghost use Rattle.tns_io.specs.Reading.{coordinate_of, entry_of, is_comment as is_comment_token, reading, value_of};
+ghost use Rattle.tns_io.specs.Reading.{word_from};
 ghost use Rattle.tns_io.specs.ReadSoFar.{Fails, Takes};
 
 use crate::file_fault::FileFault;
@@ -14,17 +15,22 @@ use text_lines::{LineKind, NumFault, cut_token, read_index, read_whole};
 /// The greatest order of a tensor.
 const GREATEST_ORDER: usize = 6;
 
-/// Reads a line and appends its entry, if it is one.
+/// Reads a line, whose value may have a sign or none, and appends its entry, if it is one.
 #[tactic(auto, unfolding(limits::specs::Limits::greatest_order))]
-pub(crate) fn take_line(line: &[u8], number: u64, entries: &mut Entries) -> Result<(), FileFault>
+pub(crate) fn take_line(
+    line: &[u8],
+    number: u64,
+    signed: bool,
+    entries: &mut Entries,
+) -> Result<(), FileFault>
     requires { is_long line.now ≡ false }
     ensures order { entries.new.order ≡ entries.old.order }
-    ensures takes { OnOk result (Takes (reading entries.old.order line.now) entries.old.list entries.new.list) }
-    ensures fails { IfErr result (Fails number (reading entries.old.order line.now)) }
+    ensures takes { OnOk result (Takes (reading signed entries.old.order line.now) entries.old.list entries.new.list) }
+    ensures fails { IfErr result (Fails number (reading signed entries.old.order line.now)) }
 {
     let mut numbers = [0; GREATEST_ORDER];
     let coords = &mut numbers[..entries.order()];
-    match read_line(line, coords) {
+    match read_line(line, signed, coords) {
         Ok(None) => Ok(()),
         Ok(Some(value)) => match entries.push(coords, value) {
             Ok(()) => Ok(()),
@@ -36,20 +42,20 @@ pub(crate) fn take_line(line: &[u8], number: u64, entries: &mut Entries) -> Resu
 
 /// Reads a line: the coordinates of an entry into `coords`, and its value. None where the line is skipped. A plainly
 /// written line, as most are, is read in one pass.
-fn read_line(line: &[u8], coords: &mut [u64]) -> Result<Option<u64>, LineKind>
+fn read_line(line: &[u8], signed: bool, coords: &mut [u64]) -> Result<Option<u64>, LineKind>
     requires { is_long line.now ≡ false }
-    ensures { IsReading (reading (length coords.old) line.now) coords.new result }
+    ensures { IsReading (reading signed (length coords.old) line.now) coords.new result }
 {
-    match read_plain(line, coords) {
+    match read_plain(line, signed, coords) {
         Some(value) => Ok(Some(value)),
-        None => read_other(line, coords),
+        None => read_other(line, signed, coords),
     }
 }
 
 /// Reads a line that may be written in any way.
-fn read_other(line: &[u8], coords: &mut [u64]) -> Result<Option<u64>, LineKind>
+fn read_other(line: &[u8], signed: bool, coords: &mut [u64]) -> Result<Option<u64>, LineKind>
     requires { is_long line.now ≡ false }
-    ensures { IsReading (reading (length coords.old) line.now) coords.new result }
+    ensures { IsReading (reading signed (length coords.old) line.now) coords.new result }
 {
     let Some((token, _)) = cut_token(line) else {
         return Ok(None);
@@ -57,7 +63,7 @@ fn read_other(line: &[u8], coords: &mut [u64]) -> Result<Option<u64>, LineKind>
     if is_comment(token) {
         return Ok(None);
     }
-    match read_fields(line, coords) {
+    match read_fields(line, signed, coords) {
         Ok(value) => Ok(Some(value)),
         Err(kind) => Err(kind),
     }
@@ -71,10 +77,10 @@ fn is_comment(token: &[u8]) -> bool
 }
 
 /// Reads the entry of a line. The number of its tokens is looked at first.
-fn read_fields(line: &[u8], coords: &mut [u64]) -> Result<u64, LineKind>
-    ensures { IsEntry (fields_of (length coords.old) (tokens line.now)) coords.new result }
+fn read_fields(line: &[u8], signed: bool, coords: &mut [u64]) -> Result<u64, LineKind>
+    ensures { IsEntry (fields_of signed (length coords.old) (tokens line.now)) coords.new result }
 {
-    match read_tokens(line, coords) {
+    match read_tokens(line, signed, coords) {
         Ok(value) => Ok(value),
         Err(kind) if has_fields(line, coords.len()) => Err(kind),
         Err(_) => Err(LineKind::Fields),
@@ -106,11 +112,11 @@ fn has_one_token(line: &[u8]) -> bool
 }
 
 /// Reads the entry of a line that has a token for each coordinate and one for the value.
-fn read_tokens(line: &[u8], coords: &mut [u64]) -> Result<u64, LineKind>
-    ensures { IsEntryOf (length coords.old) (tokens line.now) coords.new result }
+fn read_tokens(line: &[u8], signed: bool, coords: &mut [u64]) -> Result<u64, LineKind>
+    ensures { IsEntryOf signed (length coords.old) (tokens line.now) coords.new result }
 {
     match read_coordinates(line, coords) {
-        Ok(rest) => read_only_value(rest),
+        Ok(rest) => read_only_value(rest, signed),
         Err(kind) => Err(kind),
     }
 }
@@ -118,7 +124,7 @@ fn read_tokens(line: &[u8], coords: &mut [u64]) -> Result<u64, LineKind>
 /// Reads a line's coordinates into `coords`, and answers what stands behind them.
 fn read_coordinates<'a>(line: &'a [u8], coords: &mut [u64]) -> Result<&'a [u8], LineKind>
     ensures { MatchResult result (λ rest. AreCoordinates (length coords.old) (tokens line.now) coords.new (tokens rest.now))
-        (λ kind. length (tokens line.now) ≡ length coords.old + 1 → entry_of (tokens line.now) ≡ Err kind) }
+        (λ kind. (signed : Bool) → length (tokens line.now) ≡ length coords.old + 1 → entry_of signed (tokens line.now) ≡ Err kind) }
 {
     let mut rest = line;
     for coordinate in coords.iter_mut() {
@@ -132,8 +138,8 @@ fn read_coordinates<'a>(line: &'a [u8], coords: &mut [u64]) -> Result<&'a [u8], 
 }
 
 /// Reads the value of a line of which one token is left.
-fn read_only_value(rest: &[u8]) -> Result<u64, LineKind>
-    ensures { IsEntryOf 0 (tokens rest.now) [] result }
+fn read_only_value(rest: &[u8], signed: bool) -> Result<u64, LineKind>
+    ensures { IsEntryOf signed 0 (tokens rest.now) [] result }
 {
     let Some((token, behind)) = cut_token(rest) else {
         return Err(LineKind::Fields);
@@ -141,7 +147,7 @@ fn read_only_value(rest: &[u8]) -> Result<u64, LineKind>
     if cut_token(behind).is_some() {
         return Err(LineKind::Fields);
     }
-    read_value(token)
+    read_value(token, signed)
 }
 
 /// The coordinate of a token, counted from 0: the file counts from 1.
@@ -156,12 +162,23 @@ fn read_coordinate(token: &[u8]) -> Result<u64, LineKind>
     }
 }
 
+/// The word of a number. Where values have no sign, none is below 0.
+fn word(number: i64, signed: bool) -> Result<u64, LineKind>
+    ensures { result ≡ word_from signed number }
+{
+    if signed || number >= 0 {
+        Ok(numbers::unsigned(number))
+    } else {
+        Err(LineKind::Negative)
+    }
+}
+
 /// The value of a token, as a word.
-fn read_value(token: &[u8]) -> Result<u64, LineKind>
-    ensures { result ≡ value_of token.now }
+fn read_value(token: &[u8], signed: bool) -> Result<u64, LineKind>
+    ensures { result ≡ value_of signed token.now }
 {
     match read_whole(token) {
-        Ok(number) => Ok(numbers::unsigned(number)),
+        Ok(number) => word(number, signed),
         Err(NumFault::NotNumber) => Err(LineKind::NotNumber),
         Err(NumFault::NotWhole) => Err(LineKind::NotWhole),
         Err(NumFault::NumRange) => Err(LineKind::NumRange),

@@ -11,12 +11,12 @@ ghost use Rattle.tns_io.specs.Plain.{BeginsWith, FirstIs, IsNumber};
 /// A number below this is one of 63 bits with one more digit behind it.
 const ROOM: u64 = 100_000_000_000_000_000;
 
-/// Reads the entry of a plainly written line. Nothing is known of any other line.
-pub(crate) fn read_plain(line: &[u8], coords: &mut [u64]) -> Option<u64>
-    ensures { IfSome result (λ value. IsEntryOf (length coords.old) (tokens line.now) coords.new (Ok value)) }
+/// Reads the entry of a plainly written line, which has no minus where values have no sign. Nothing is known of any other line.
+pub(crate) fn read_plain(line: &[u8], signed: bool, coords: &mut [u64]) -> Option<u64>
+    ensures { IfSome result (λ value. IsEntryOf signed (length coords.old) (tokens line.now) coords.new (Ok value)) }
 {
     let rest = read_coordinates(line, coords)?;
-    plain_value(rest)
+    plain_value(rest, signed)
 }
 
 /// Reads a line's coordinates into `coords`, and answers what stands behind them.
@@ -45,12 +45,12 @@ fn first_coordinate(text: &[u8]) -> Option<(u64, &[u8])>
     }
 }
 
-/// The value, as a word, where the text is a minus or nothing and then digits alone.
-fn plain_value(text: &[u8]) -> Option<u64>
-    ensures { IfSome result (λ value. IsEntryOf 0 (tokens text.now) [] (Ok value)) }
+/// The value, as a word, where the text is a minus or nothing and then digits alone. Where values have no sign, it has no minus.
+fn plain_value(text: &[u8], signed: bool) -> Option<u64>
+    ensures { IfSome result (λ value. IsEntryOf signed 0 (tokens text.now) [] (Ok value)) }
 {
     let (first, behind) = text.split_first()?;
-    if *first == b'-' {
+    if signed && *first == b'-' {
         Some(word(true, only_number(behind)?))
     } else {
         Some(word(false, only_number(text)?))

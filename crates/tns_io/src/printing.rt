@@ -2,7 +2,7 @@
 ghost use Rattle.std.specs.Prelude.{◌+◌, ◌<◌, [], ◌∷◌, ◌++◌, All, IfErr, OnOk};
 ghost use Rattle.std.specs.Fmt.{decimal, signed_decimal};
 ghost use Rattle.limits.specs.Limits.{greatest_position_count};
-ghost use Rattle.numbers.specs.Signed.{signed_of};
+ghost use Rattle.numbers.specs.Signed.{written_of};
 ghost use Rattle.outside.specs.Sink.{Appends};
 ghost use Rattle.text_lines.specs.Puts.{AppendsPart, Prints};
 ghost use Rattle.tns_io.specs.Text.{AreInRange, coords_text, line_text, entry_text, entries_text};
@@ -17,8 +17,9 @@ use text_lines::{put_all, put_i64, put_u64};
 /// of the text at its front was appended.
 pub fn put_tns<S: Semiring, K: Sink>(sink: &mut K, entries: &Entries) -> Result<(), Refusal>
     requires { AreInRange entries.now.list }
-    ensures whole { OnOk result (Appends (K.state sink.old) (K.state sink.new) (entries_text S.arithmetic entries.now.list)) }
-    ensures part { IfErr result (AppendsPart (K.state sink.old) (K.state sink.new) (entries_text S.arithmetic entries.now.list)) }
+    ensures whole { OnOk result (Appends (K.state sink.old) (K.state sink.new) (entries_text S.arithmetic S.is_signed entries.now.list)) }
+    ensures part { IfErr result
+        (AppendsPart (K.state sink.old) (K.state sink.new) (entries_text S.arithmetic S.is_signed entries.now.list)) }
 {
     for i in 0..entries.len() {
         let coords = entries.coords(i);
@@ -31,30 +32,34 @@ pub fn put_tns<S: Semiring, K: Sink>(sink: &mut K, entries: &Entries) -> Result<
 fn put_entry<S: Semiring, K: Sink>(sink: &mut K, coords: &[u64], value: u64) -> Result<(), Refusal>
     requires { All (λ c. c < greatest_position_count) coords.now }
     ensures { Prints (K.state sink.old) (K.state sink.new)
-        (entry_text S.arithmetic (record { coords = coords.now; value = value })) result }
+        (entry_text S.arithmetic S.is_signed (record { coords = coords.now; value = value })) result }
 {
     if value == S::zero() {
         Ok(())
     } else {
-        put_line(sink, coords, value)
+        put_line::<S, K>(sink, coords, value)
     }
 }
 
-/// Appends a line: coordinates, counted from 1, and the value with its sign.
-fn put_line<K: Sink>(sink: &mut K, coords: &[u64], value: u64) -> Result<(), Refusal>
+/// Appends a line: coordinates, counted from 1, and the value.
+fn put_line<S: Semiring, K: Sink>(sink: &mut K, coords: &[u64], value: u64) -> Result<(), Refusal>
     requires { All (λ c. c < greatest_position_count) coords.now }
-    ensures { Prints (K.state sink.old) (K.state sink.new) (line_text coords.now value) result }
+    ensures { Prints (K.state sink.old) (K.state sink.new) (line_text S.is_signed coords.now value) result }
 {
     put_coords(sink, coords)?;
-    put_value(sink, value)?;
+    put_value::<S, K>(sink, value)?;
     put_all(sink, b"\n")
 }
 
-/// Appends a value with its sign.
-fn put_value<K: Sink>(sink: &mut K, value: u64) -> Result<(), Refusal>
-    ensures { Prints (K.state sink.old) (K.state sink.new) (signed_decimal (signed_of value)) result }
+/// Appends a value, with its sign where values have one.
+fn put_value<S: Semiring, K: Sink>(sink: &mut K, value: u64) -> Result<(), Refusal>
+    ensures { Prints (K.state sink.old) (K.state sink.new) (signed_decimal (written_of S.is_signed value)) result }
 {
-    put_i64(sink, numbers::signed(value))
+    if S::is_signed() {
+        put_i64(sink, numbers::signed(value))
+    } else {
+        put_u64(sink, value)
+    }
 }
 
 /// Appends coordinates, each with a blank behind it.

@@ -12,27 +12,29 @@ pub returns-then-is_bad-clause-read : goal.returns-then-is_bad-clause-read
 returns-then-is_bad-clause-read g c = λ fed read.
     let a = g.S.Semiring.arithmetic in
     let has_minus = g.S.Semiring.has_minus in
+    let signed = g.S.Semiring.is_signed in
     let order = c.args.entries.now.order in
     let taken = c.loop-rest.invariant.read.0 in
     let rest = c.loop-rest.rest.now in
     let text = c.loop-rest.lines.text in
     let entries = c.loop-rest.entries.list in
-    subst (λ (all : List ℕ). IsReadSoFar a has_minus order all text entries c.loop-rest.stage)
+    subst (λ (all : List ℕ). IsReadSoFar a has_minus signed order all text entries c.loop-rest.stage)
     (append_assoc fed taken rest ∙ ap (λ (piece : List ℕ). fed ++ piece) (sym c.loop-rest.invariant.read.1))
-    (bad_passes a has_minus order (fed ++ taken) rest text text entries entries c.loop-rest.stage
+    (bad_passes a has_minus signed order (fed ++ taken) rest text text entries entries c.loop-rest.stage
     (sym c.is_bad.ensures ∙ c.if-is_bad.true) (c.loop-rest.invariant.read.2 fed read))
 
 pub loop-rest-preserved : goal.loop-rest-preserved
 loop-rest-preserved g c =
     let a = g.S.Semiring.arithmetic in
     let has_minus = g.S.Semiring.has_minus in
+    let signed = g.S.Semiring.is_signed in
     let order = c.args.entries.now.order in
     let taken = c.loop-rest.invariant.read.0 in
     let rest = c.loop-rest.rest.now in
     let n = c.in_ok-n.n in
     let step = subst (λ (k : ℕ). (fed : List ℕ)
-    → IsReadSoFar a has_minus k fed c.loop-rest.lines.text c.loop-rest.entries.list c.loop-rest.stage
-    → IsReadSoFar a has_minus k (fed ++ take n rest) c.take_step.new.lines.text c.take_step.new.entries.list c.in_ok-n.after)
+    → IsReadSoFar a has_minus signed k fed c.loop-rest.lines.text c.loop-rest.entries.list c.loop-rest.stage
+    → IsReadSoFar a has_minus signed k (fed ++ take n rest) c.take_step.new.lines.text c.take_step.new.entries.list c.in_ok-n.after)
     c.loop-rest.invariant.order c.in_ok-n.ensures.read in
     record {
       order = c.in_ok-n.ensures.order ∙ c.loop-rest.invariant.order;
@@ -43,7 +45,8 @@ loop-rest-preserved g c =
         c.loop-rest.invariant.read.1 ∙ ap (λ (back : List ℕ). taken ++ back) (sym (take-append-drop n rest))
             ∙ sym (append_assoc taken (take n rest) (drop n rest))
             ∙ ap (λ (back : List ℕ). (taken ++ take n rest) ++ back) (sym c.split_at.ensures.back),
-        λ fed read. subst (λ (all : List ℕ). IsReadSoFar a has_minus order all c.take_step.new.lines.text c.take_step.new.entries.list
+        λ fed read. subst (λ
+            (all : List ℕ). IsReadSoFar a has_minus signed order all c.take_step.new.lines.text c.take_step.new.entries.list
             c.in_ok-n.after) (append_assoc fed taken (take n rest)) (step (fed ++ taken) (c.loop-rest.invariant.read.2 fed read)),
       );
     }
@@ -56,12 +59,14 @@ pub returns-clause-read : goal.returns-clause-read
 returns-clause-read g c = λ fed read.
     let a = g.S.Semiring.arithmetic in
     let has_minus = g.S.Semiring.has_minus in
+    let signed = g.S.Semiring.is_signed in
     let taken = c.loop-rest.invariant.read.0 in
     let rest = c.loop-rest.rest.now in
     let none = nothing_left rest (eqb-true (length rest) 0 (sym c.is_empty.ensures ∙ c.loop-rest-test.false)) in
     let whole : taken ≡ c.args.piece.now =
     sym (c.loop-rest.invariant.read.1 ∙ ap (λ (back : List ℕ). taken ++ back) none ∙ append-nil taken) in
-    subst (λ (all : List ℕ). IsReadSoFar a has_minus c.args.entries.now.order (fed ++ all) c.loop-rest.lines.text c.loop-rest.entries.list
+    subst (λ (all : List ℕ). IsReadSoFar a has_minus signed c.args.entries.now.order
+    (fed ++ all) c.loop-rest.lines.text c.loop-rest.entries.list
     c.loop-rest.stage) whole
     (c.loop-rest.invariant.read.2 fed read)
 
@@ -69,17 +74,18 @@ pub returns-in_err-n-clause-ended : goal.returns-in_err-n-clause-ended
 returns-in_err-n-clause-ended g c =
     let a = g.S.Semiring.arithmetic in
     let has_minus = g.S.Semiring.has_minus in
+    let signed = g.S.Semiring.is_signed in
     let order = c.args.entries.now.order in
     let taken = c.loop-rest.invariant.read.0 in
     let rest = c.loop-rest.rest.now in
     let text = c.loop-rest.lines.text in
     let entries = c.loop-rest.entries.list in
     let stage = c.loop-rest.stage in
-    let ended : (fed : List ℕ) → IsReadSoFar a has_minus order fed c.args.lines.now.text c.args.entries.now.list c.args.stage
-    → EndsEntry a has_minus order fed c.args.piece.now = λ fed read.
-    let step = subst (λ (k : ℕ). IsReadSoFar a has_minus k (fed ++ taken) text entries stage
-    → EndsEntry a has_minus k (fed ++ taken) rest)
+    let ended : (fed : List ℕ) → IsReadSoFar a has_minus signed order fed c.args.lines.now.text c.args.entries.now.list c.args.stage
+    → EndsEntry a has_minus signed order fed c.args.piece.now = λ fed read.
+    let step = subst (λ (k : ℕ). IsReadSoFar a has_minus signed k (fed ++ taken) text entries stage
+    → EndsEntry a has_minus signed k (fed ++ taken) rest)
     c.loop-rest.invariant.order (c.in_err-n.ensures.ended (fed ++ taken)) in
-    let ends = ends_behind a has_minus order fed taken rest (step (c.loop-rest.invariant.read.2 fed read)) in
-    subst (λ (all : List ℕ). EndsEntry a has_minus order fed all) (sym c.loop-rest.invariant.read.1) ends in
+    let ends = ends_behind a has_minus signed order fed taken rest (step (c.loop-rest.invariant.read.2 fed read)) in
+    subst (λ (all : List ℕ). EndsEntry a has_minus signed order fed all) (sym c.loop-rest.invariant.read.1) ends in
     on_err _ _ ended

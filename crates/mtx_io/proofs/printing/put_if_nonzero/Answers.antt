@@ -24,5 +24,6 @@ overflow_add-row-in-len1-up g c =
     let d : Entry = record { coords = []; value = 0 } in
     let small = subst (λ (coords : List ℕ). AreSmall coords) (sym (c.as_slice-numbers.ensures.value ∙ c.coords-coords.ensures.value d))
     (c.requires.small c.args.i d c.requires.index) in
-    let h : slice_index_or c.as_slice-numbers.result.now 0 0 + 1 < 2 ^ 64 = small 0 0 (omega (arith, ap length c.as_slice-numbers.ensures.value)) in
+    let h : slice_index_or c.as_slice-numbers.result.now 0 0 + 1 < 2 ^ 64 = small 0 0
+    (omega (arith, ap length c.as_slice-numbers.ensures.value)) in
     omega (arith, h)

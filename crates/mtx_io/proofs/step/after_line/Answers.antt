@@ -7,6 +7,7 @@ use Rattle.mtx_io.proofs.step.after_line.Goals as goal
 pub returns-in-First-clause-stage : goal.returns-in-First-clause-stage
 returns-in-First-clause-stage g c =
     let has_minus = g.S.Semiring.has_minus in
+    let signed = g.S.Semiring.is_signed in
     let order = c.args.entries.now.order in
     let none : c.args.entries.now.list ≡ [] =
     subst (λ (s : Stage). IsStage has_minus order c.args.entries.now.list s) c.in-First.is c.requires.stage in
@@ -15,6 +16,7 @@ returns-in-First-clause-stage g c =
 pub returns-in-Begun-2-clause-stage : goal.returns-in-Begun-2-clause-stage
 returns-in-Begun-2-clause-stage g c =
     let has_minus = g.S.Semiring.has_minus in
+    let signed = g.S.Semiring.is_signed in
     let order = c.args.entries.now.order in
     let begun : IsStage has_minus order c.args.entries.now.list (Begun c.in-Begun-2.banner) =
     subst (λ (s : Stage). IsStage has_minus order c.args.entries.now.list s) c.in-Begun-2.is c.requires.stage in

@@ -9,7 +9,8 @@ pub returns-in-Some-clause-follows : goal.returns-in-Some-clause-follows
 returns-in-Some-clause-follows g c =
     let size = c.in-Some.ensures.size
     ∙ ap (λ one. size_of one c.args.order c.args.banner (tokens c.args.line.now)) c.one.ensures in
-    λ has_minus. size_good g.S.Semiring.arithmetic has_minus c.args.order c.args.number c.args.line.now c.args.banner c.in-Some.lines
+    λ has_minus. size_good g.S.Semiring.arithmetic has_minus g.S.Semiring.is_signed c.args.order c.args.number c.args.line.now
+    c.args.banner c.in-Some.lines
     c.requires.short c.requires.kept size
 
 pub returns-in-Some-clause-known : goal.returns-in-Some-clause-known

@@ -9,6 +9,6 @@ returns-in-Err-Line g c =
     let bad = (rw c.in-Err-Line.field-0-is at c.in-Err-Line.ensures).1 in
     rw c.in-Err-Line.field-0-is (
       refl,
-      told_bad file.order (matrix_of_text g.S.Semiring.arithmetic g.S.Semiring.has_minus file.order file.text)
+      told_bad file.order (matrix_of_text g.S.Semiring.arithmetic g.S.Semiring.has_minus g.S.Semiring.is_signed file.order file.text)
           c.in-Err-Line.line bad.number c.in-Err-Line.kind bad.line_is bad.bad,
     )

@@ -5,7 +5,8 @@ pub returns-in-Ok-clause-operand : goal.returns-in-Ok-clause-operand
 returns-in-Ok-clause-operand g c =
     let reader = c.in_ok-reader.reader in
     let eater = c.feed_file.new.eater in
-    (entries_read g.S.Semiring.arithmetic g.S.Semiring.has_minus c.args.order c.args.path.now (g.F.Folder.state c.args.files.now)
+    (entries_read g.S.Semiring.arithmetic g.S.Semiring.has_minus g.S.Semiring.is_signed c.args.order c.args.path.now
+    (g.F.Folder.state c.args.files.now)
     (g.F.Folder.state c.feed_file.new.files)
     reader.order reader.text eater.order eater.text c.decode_entries.result c.requires.ending c.in_ok-reader.ensures.order
     c.in_ok-reader.ensures.empty
@@ -15,7 +16,8 @@ pub returns-in-Ok-clause-refused : goal.returns-in-Ok-clause-refused
 returns-in-Ok-clause-refused g c =
     let reader = c.in_ok-reader.reader in
     let eater = c.feed_file.new.eater in
-    (entries_read g.S.Semiring.arithmetic g.S.Semiring.has_minus c.args.order c.args.path.now (g.F.Folder.state c.args.files.now)
+    (entries_read g.S.Semiring.arithmetic g.S.Semiring.has_minus g.S.Semiring.is_signed c.args.order c.args.path.now
+    (g.F.Folder.state c.args.files.now)
     (g.F.Folder.state c.feed_file.new.files)
     reader.order reader.text eater.order eater.text c.decode_entries.result c.requires.ending c.in_ok-reader.ensures.order
     c.in_ok-reader.ensures.empty

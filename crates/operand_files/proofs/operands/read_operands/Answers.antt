@@ -23,7 +23,7 @@ pub returns-in-Err-clause-refused : goal.returns-in-Err-clause-refused
 returns-in-Err-clause-refused g c =
     let file = c.index-sources-n.result in
     let row = row_at c.args.orders.now c.args.sources.now c.loop-n.n file c.requires c.loop-n-test.true c.index-sources-n.is in
-    refused_next (operand_of g.S.Semiring.arithmetic g.S.Semiring.has_minus) (g.F.Folder.state c.args.files.now)
+    refused_next (operand_of g.S.Semiring.arithmetic g.S.Semiring.has_minus g.S.Semiring.is_signed) (g.F.Folder.state c.args.files.now)
     (g.F.Folder.state c.loop-n.files) (g.F.Folder.state c.read_file.new.files)
     c.args.orders.now (paths_in c.args.sources.now) c.loop-n.n c.loop-n.operands.entries.items (map
     (λ bounds. bounds.items) c.loop-n.operands.bounds.items)
@@ -37,7 +37,8 @@ loop-n-preserved g c =
     record {
       only = only_reads_trans (g.F.Folder.state c.args.files.now) (g.F.Folder.state c.loop-n.files)
           (g.F.Folder.state c.read_file.new.files) c.loop-n.invariant.only c.in-Ok.ensures.only_reads;
-      have = read_more (operand_of g.S.Semiring.arithmetic g.S.Semiring.has_minus) (g.F.Folder.state c.args.files.now)
+      have = read_more (operand_of g.S.Semiring.arithmetic g.S.Semiring.has_minus g.S.Semiring.is_signed)
+          (g.F.Folder.state c.args.files.now)
           (g.F.Folder.state c.loop-n.files) (g.F.Folder.state c.read_file.new.files)
           c.args.orders.now (paths_in c.args.sources.now) c.loop-n.n c.loop-n.operands.entries.items (map
           (λ bounds. bounds.items) c.loop-n.operands.bounds.items)
@@ -55,7 +56,8 @@ pub returns-in_err-push-in-Ok-clause-refused : goal.returns-in_err-push-in-Ok-cl
 returns-in_err-push-in-Ok-clause-refused g c =
     let file = c.index-sources-n.result in
     let row = row_at c.args.orders.now c.args.sources.now c.loop-n.n file c.requires c.loop-n-test.true c.index-sources-n.is in
-    let more = read_more (operand_of g.S.Semiring.arithmetic g.S.Semiring.has_minus) (g.F.Folder.state c.args.files.now)
+    let more = read_more (operand_of g.S.Semiring.arithmetic g.S.Semiring.has_minus g.S.Semiring.is_signed)
+    (g.F.Folder.state c.args.files.now)
     (g.F.Folder.state c.loop-n.files) (g.F.Folder.state c.read_file.new.files)
     c.args.orders.now (paths_in c.args.sources.now) c.loop-n.n c.loop-n.operands.entries.items (map
     (λ bounds. bounds.items) c.loop-n.operands.bounds.items)

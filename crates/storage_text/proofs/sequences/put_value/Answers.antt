@@ -6,4 +6,4 @@ returns-in_err-put_all g c =
     refused c.from_residual.result c.in_err-put_all.field-0.0 _ _ _ _ c.from_residual.ensures.1 c.in_err-put_all.ensures.part
 
 pub returns : goal.returns
-returns g c = then_printed _ _ _ _ _ _ c.in_ok-put_all.ensures.whole c.put_signed.ensures
+returns g c = then_printed _ _ _ _ _ _ c.in_ok-put_all.ensures.whole c.put_written.ensures

@@ -11,7 +11,8 @@ loop-value-preserved g c =
     let xs = c.args.values.now in
     let i : ℕ = c.loop-value.value-index in
     more_so_far _ _ _ _ _ _
-    (rest_told _ _ _ _ _ (text_step value_text xs i (slice_index xs i) (slice_get-get_or xs i 0 c.loop-value-test.true))
+    (rest_told _ _ _ _ _
+    (text_step (value_text g.S.Semiring.is_signed) xs i (slice_index xs i) (slice_get-get_or xs i 0 c.loop-value-test.true))
     c.loop-value.invariant) c.in_ok-put_value.ensures
 
 pub returns-in_err-put_value : goal.returns-in_err-put_value
@@ -19,7 +20,8 @@ returns-in_err-put_value g c =
     let xs = c.args.values.now in
     let i : ℕ = c.loop-value.value-index in
     then_rest _ _ _ _ _ _
-    (rest_told _ _ _ _ _ (text_step value_text xs i (slice_index xs i) (slice_get-get_or xs i 0 c.loop-value-test.true))
+    (rest_told _ _ _ _ _
+    (text_step (value_text g.S.Semiring.is_signed) xs i (slice_index xs i) (slice_get-get_or xs i 0 c.loop-value-test.true))
     c.loop-value.invariant)
-    (refused c.from_residual.result c.in_err-put_value.field-0.0 _ _ _ (flat_map value_text (drop (i + 1) xs))
+    (refused c.from_residual.result c.in_err-put_value.field-0.0 _ _ _ (flat_map (value_text g.S.Semiring.is_signed) (drop (i + 1) xs))
     c.from_residual.ensures.1 c.in_err-put_value.ensures)

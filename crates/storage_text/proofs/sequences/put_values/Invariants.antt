@@ -6,5 +6,5 @@ use Rattle.storage_text.proofs.sequences.put_values.Given as goal
 
 abbrev pub invariant-loop-value : goal.invariant-loop-value
 invariant-loop-value g l =
-    AppendsSoFar (g.S.Sink.state l.fn.sink) (g.S.Sink.state l.sink) (flat_map value_text l.values)
-    (flat_map value_text (drop l.value-index l.values))
+    AppendsSoFar (g.K.Sink.state l.fn.sink) (g.K.Sink.state l.sink) (flat_map (value_text g.S.Semiring.is_signed) l.values)
+    (flat_map (value_text g.S.Semiring.is_signed) (drop l.value-index l.values))

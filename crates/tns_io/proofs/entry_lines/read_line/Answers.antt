@@ -4,4 +4,5 @@ use Rattle.tns_io.proofs.entry_lines.read_line.Goals as goal
 
 pub returns-in-Some : goal.returns-in-Some
 returns-in-Some c =
-    plain_is_read (length c.args.coords.now) c.args.line.now c.read_plain.new.coords c.in-Some.value c.requires c.in-Some.ensures
+    plain_is_read c.args.signed
+    (length c.args.coords.now) c.args.line.now c.read_plain.new.coords c.in-Some.value c.requires c.in-Some.ensures

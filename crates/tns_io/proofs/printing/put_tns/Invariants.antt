@@ -5,5 +5,6 @@ use Rattle.tns_io.proofs.printing.put_tns.Given as goal
 
 abbrev pub invariant-loop-i : goal.invariant-loop-i
 invariant-loop-i g l =
-    AppendsSoFar (g.K.Sink.state l.fn.sink) (g.K.Sink.state l.sink) (entries_text g.S.Semiring.arithmetic l.entries.list)
-    (entries_text g.S.Semiring.arithmetic (drop l.i l.entries.list))
+    AppendsSoFar (g.K.Sink.state l.fn.sink) (g.K.Sink.state l.sink)
+    (entries_text g.S.Semiring.arithmetic g.S.Semiring.is_signed l.entries.list)
+    (entries_text g.S.Semiring.arithmetic g.S.Semiring.is_signed (drop l.i l.entries.list))

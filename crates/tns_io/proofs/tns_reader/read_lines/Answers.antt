@@ -1,4 +1,4 @@
-use Rattle.std.specs.Prelude.{◌≡◌, ℕ, ◌+◌, min, List, [], ◌∷◌, ◌++◌, drop, length}
+use Rattle.std.specs.Prelude.{◌≡◌, ℕ, ◌+◌, min, Bool, List, [], ◌∷◌, ◌++◌, drop, length}
 use Rattle.std.proofs.Common.{ap, subst, sym, ◌∙◌}
 use Rattle.text_lines.specs.Buffered.{count_of}
 use Rattle.text_lines.specs.Cutting.{told_lines}
@@ -19,10 +19,10 @@ line_told : (old new : LineReader) (piece : List ℕ) (taken : ℕ) (step : Step
 line_told old new piece taken step is feeds = subst (Feeds old new piece taken) is feeds
 
 -- what is read so far stays so where no line was taken whole
-reads_still : (order : ℕ) (start piece rest : List ℕ) (list : List Entry) (old new : LineReader) → new ≡ old
-    → ReadsPiece order start piece old rest list → ReadsPiece order start piece new rest list
-reads_still order start piece rest list old new same reads =
-    subst (λ (l : LineReader). ReadsPiece order start piece l rest list) (sym same) reads
+reads_still : (signed : Bool) (order : ℕ) (start piece rest : List ℕ) (list : List Entry) (old new : LineReader) → new ≡ old
+    → ReadsPiece signed order start piece old rest list → ReadsPiece signed order start piece new rest list
+reads_still signed order start piece rest list old new same reads =
+    subst (λ (l : LineReader). ReadsPiece signed order start piece l rest list) (sym same) reads
 
 pub returns-in-LongLine-clause-fails : goal.returns-in-LongLine-clause-fails
 returns-in-LongLine-clause-fails c =
@@ -31,14 +31,14 @@ returns-in-LongLine-clause-fails c =
     let old = c.take_whole.new.self in
     let step : IsTooLong old c.feed-taken.new.self × (c.feed-taken.result.0 ≡ length c.loop-taken.rest.now) =
     subst (Feeds old c.feed-taken.new.self c.loop-taken.rest.now c.feed-taken.result.0) c.in-LongLine.is c.feed-taken.ensures.step in
-    let reads = reads_still _ start piece _ _ _ old c.in_default.ensures c.loop-taken.invariant.reads in
-    let fails : FailsPiece c.loop-taken.entries.order start piece
+    let reads = reads_still _ _ start piece _ _ _ old c.in_default.ensures c.loop-taken.invariant.reads in
+    let fails : FailsPiece c.args.signed c.loop-taken.entries.order start piece
     (Line (min (count_of (told_lines c.feed-taken.new.self.text) + 1) 18446744073709551615) LongLine) =
-    piece_too_long c.loop-taken.entries.order start piece old c.feed-taken.new.self c.loop-taken.rest.now
+    piece_too_long c.args.signed c.loop-taken.entries.order start piece old c.feed-taken.new.self c.loop-taken.rest.now
     c.loop-taken.entries.list c.feed-taken.result.0 reads c.feed-taken.ensures.text step.0 step.1 in
-    subst (λ f. FailsPiece c.args.entries.now.order start piece f)
+    subst (λ f. FailsPiece c.args.signed c.args.entries.now.order start piece f)
     (ap (λ (n : ℕ). Line (min (n + 1) 18446744073709551615) LongLine) (sym c.number-in-LongLine.ensures) ∙ sym c.long_line.ensures)
-    (subst (λ (order : ℕ). FailsPiece order start piece (Line
+    (subst (λ (order : ℕ). FailsPiece c.args.signed order start piece (Line
     (min (count_of (told_lines c.feed-taken.new.self.text) + 1) 18446744073709551615) LongLine)) c.loop-taken.invariant.order fails)
 
 pub take_line-requires : goal.take_line-requires
@@ -58,15 +58,18 @@ loop-taken-preserved-in-Some c =
     let piece : List ℕ = c.args.piece.now in
     let order : ℕ = c.loop-taken.entries.order in
     let whole = c.in-Some.ensures in
-    let more : ReadsPiece order start piece c.take_whole.new.self (drop c.in-Some.taken c.loop-taken.rest.now) c.take_line.new.entries.list =
-    piece_more order start piece c.loop-taken.lines c.take_whole.new.self c.in-Some.line.now c.loop-taken.rest.now c.loop-taken.entries.list
+    let more : ReadsPiece c.args.signed order start piece c.take_whole.new.self
+    (drop c.in-Some.taken c.loop-taken.rest.now) c.take_line.new.entries.list =
+    piece_more c.args.signed order start piece c.loop-taken.lines c.take_whole.new.self c.in-Some.line.now c.loop-taken.rest.now
+    c.loop-taken.entries.list
     c.in-Some.taken c.loop-taken.invariant.reads whole.text whole.tells c.take_line.new.entries.list c.in-Ok.ensures.takes in
     record {
       order = c.take_line.ensures.order ∙ c.loop-taken.invariant.order;
       reads =
-          subst (λ (n : ℕ). ReadsPiece n start piece c.take_whole.new.self c.split_at.result.1.now c.take_line.new.entries.list)
+          subst (λ (n : ℕ). ReadsPiece c.args.signed n start piece c.take_whole.new.self c.split_at.result.1.now
+          c.take_line.new.entries.list)
           (sym c.take_line.ensures.order)
-          (subst (λ (rest : List ℕ). ReadsPiece order start piece c.take_whole.new.self rest c.take_line.new.entries.list)
+          (subst (λ (rest : List ℕ). ReadsPiece c.args.signed order start piece c.take_whole.new.self rest c.take_line.new.entries.list)
           (sym c.split_at.ensures.back) more);
     }
 
@@ -77,20 +80,22 @@ loop-taken-preserved c =
     let order : ℕ = c.loop-taken.entries.order in
     let old = c.take_whole.new.self in
     let tells = line_told _ _ _ _ _ c.in-Line.is c.feed-taken.ensures.step in
-    let reads = reads_still _ start piece _ _ _ old c.in_default.ensures c.loop-taken.invariant.reads in
-    let more : ReadsPiece order start piece c.feed-taken.new.self (drop c.feed-taken.result.0 c.loop-taken.rest.now)
+    let reads = reads_still _ _ start piece _ _ _ old c.in_default.ensures c.loop-taken.invariant.reads in
+    let more : ReadsPiece c.args.signed order start piece c.feed-taken.new.self (drop c.feed-taken.result.0 c.loop-taken.rest.now)
     c.take_line-in-Line.new.entries.list =
-    piece_more order start piece old c.feed-taken.new.self c.feed-taken.new.self.line c.loop-taken.rest.now c.loop-taken.entries.list
+    piece_more c.args.signed order start piece old c.feed-taken.new.self c.feed-taken.new.self.line c.loop-taken.rest.now
+    c.loop-taken.entries.list
     c.feed-taken.result.0 reads c.feed-taken.ensures.text tells c.take_line-in-Line.new.entries.list
-    (subst (λ l. Takes (reading order l) c.loop-taken.entries.list c.take_line-in-Line.new.entries.list) c.line.ensures
+    (subst (λ l. Takes (reading c.args.signed order l) c.loop-taken.entries.list c.take_line-in-Line.new.entries.list) c.line.ensures
     c.in-Ok-take_line.ensures.takes) in
     record {
       order = c.take_line-in-Line.ensures.order ∙ c.loop-taken.invariant.order;
       reads =
-          subst (λ (n : ℕ). ReadsPiece n start piece c.feed-taken.new.self c.split_at-in-Ok-take_line.result.1.now
+          subst (λ (n : ℕ). ReadsPiece c.args.signed n start piece c.feed-taken.new.self c.split_at-in-Ok-take_line.result.1.now
           c.take_line-in-Line.new.entries.list)
           (sym c.take_line-in-Line.ensures.order)
-          (subst (λ (rest : List ℕ). ReadsPiece order start piece c.feed-taken.new.self rest c.take_line-in-Line.new.entries.list)
+          (subst (λ (rest : List ℕ). ReadsPiece c.args.signed order start piece c.feed-taken.new.self rest
+          c.take_line-in-Line.new.entries.list)
           (sym c.split_at-in-Ok-take_line.ensures.back) more);
     }
 
@@ -100,11 +105,12 @@ returns-in-Err-clause-fails c =
     let piece : List ℕ = c.args.piece.now in
     let order : ℕ = c.loop-taken.entries.order in
     let whole = c.in-Some.ensures in
-    let fails : FailsPiece order start piece c.in-Err.fault =
-    piece_fails order start piece c.loop-taken.lines c.take_whole.new.self c.in-Some.line.now c.loop-taken.rest.now c.loop-taken.entries.list
+    let fails : FailsPiece c.args.signed order start piece c.in-Err.fault =
+    piece_fails c.args.signed order start piece c.loop-taken.lines c.take_whole.new.self c.in-Some.line.now c.loop-taken.rest.now
+    c.loop-taken.entries.list
     c.in-Some.taken c.loop-taken.invariant.reads whole.text whole.tells c.in-Err.fault
-    (subst (λ n. Fails n (reading order c.in-Some.line.now) c.in-Err.fault) c.number.ensures c.in-Err.ensures.fails) in
-    subst (λ (n : ℕ). FailsPiece n start piece c.in-Err.fault) c.loop-taken.invariant.order fails
+    (subst (λ n. Fails n (reading c.args.signed order c.in-Some.line.now) c.in-Err.fault) c.number.ensures c.in-Err.ensures.fails) in
+    subst (λ (n : ℕ). FailsPiece c.args.signed n start piece c.in-Err.fault) c.loop-taken.invariant.order fails
 
 pub returns-in-Err-take_line-clause-fails : goal.returns-in-Err-take_line-clause-fails
 returns-in-Err-take_line-clause-fails c =
@@ -114,10 +120,11 @@ returns-in-Err-take_line-clause-fails c =
     let old = c.take_whole.new.self in
     let fault = c.in-Err-take_line.fault in
     let tells = line_told _ _ _ _ _ c.in-Line.is c.feed-taken.ensures.step in
-    let reads = reads_still _ start piece _ _ _ old c.in_default.ensures c.loop-taken.invariant.reads in
-    let fails : FailsPiece order start piece fault =
-    piece_fails order start piece old c.feed-taken.new.self c.feed-taken.new.self.line c.loop-taken.rest.now c.loop-taken.entries.list
+    let reads = reads_still _ _ start piece _ _ _ old c.in_default.ensures c.loop-taken.invariant.reads in
+    let fails : FailsPiece c.args.signed order start piece fault =
+    piece_fails c.args.signed order start piece old c.feed-taken.new.self c.feed-taken.new.self.line c.loop-taken.rest.now
+    c.loop-taken.entries.list
     c.feed-taken.result.0 reads c.feed-taken.ensures.text tells fault
-    (subst (λ n. Fails n (reading order c.feed-taken.new.self.line) fault) c.number-in-Line.ensures
-    (subst (λ l. Fails c.number-in-Line.result (reading order l) fault) c.line.ensures c.in-Err-take_line.ensures.fails)) in
-    subst (λ (n : ℕ). FailsPiece n start piece fault) c.loop-taken.invariant.order fails
+    (subst (λ n. Fails n (reading c.args.signed order c.feed-taken.new.self.line) fault) c.number-in-Line.ensures
+    (subst (λ l. Fails c.number-in-Line.result (reading c.args.signed order l) fault) c.line.ensures c.in-Err-take_line.ensures.fails)) in
+    subst (λ (n : ℕ). FailsPiece c.args.signed n start piece fault) c.loop-taken.invariant.order fails

@@ -5,7 +5,7 @@ use Rattle.tns_io.proofs.tns_reader.read_lines.Given as goal
 abbrev pub invariant-loop-taken : goal.invariant-loop-taken
 invariant-loop-taken l = record {
   order : l.entries.order ≡ l.initial.entries.order;
-  reads : ReadsPiece l.entries.order l.initial.lines.text l.piece l.lines l.rest l.entries.list;
+  reads : ReadsPiece l.signed l.entries.order l.initial.lines.text l.piece l.lines l.rest l.entries.list;
 }
 
 abbrev pub decreases-loop-taken : goal.decreases-loop-taken

@@ -12,7 +12,7 @@ returns-else-count-eq0-clause-told c =
     let slots : c.args.self.now.slots ≡ slot ∷ replicate (c.in-Entries.count - 1) slot =
     sym (ap (λ s. s.slots) c.self.view_is) ∙ ap (slots_of c.self.inside.header) c.in-Entries.is
     ∙ one_of_entries (slot_with c.in-Entries.value) c.in-Entries.count c.if-count-eq0.false in
-    c.read_entry.ensures ∙ (λ i. entry_due (header i) (sym slots i) (tokens c.args.line.now))
+    c.read_entry.ensures ∙ (λ i. entry_due c.args.signed (header i) (sym slots i) (tokens c.args.line.now))
 
 pub returns-else-count-eq0-clause-left : goal.returns-else-count-eq0-clause-left
 returns-else-count-eq0-clause-left c =
