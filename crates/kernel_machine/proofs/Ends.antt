@@ -5,8 +5,8 @@ use Rattle.numbers.specs.Arithmetic.{Arithmetic}
 use Rattle.kernel_code.specs.declared.syntax.Kernel.{Kernel}
 use Rattle.kernel_code.specs.declared.syntax.KStmt.{KStmt}
 use Rattle.kernel_code.specs.declared.syntax.LoopKind.{LoopKind}
-use Rattle.kernel_code.specs.Kernels.{KernelOutcome, Finished, GotStuck, NotFinished, all_turns, go, told, within, start_state}
-use Rattle.kernel_code.specs.Meaning.{State, run_list}
+use Rattle.kernel_code.specs.Kernels.{KernelOutcome, Finished, GotStuck, NotFinished, all_turns, go, told, within, start_state, start_arrays}
+use Rattle.kernel_code.specs.Meaning.{State, Ended, run_list}
 use Rattle.kernel_code.proofs.More.{goes_on}
 use Rattle.level_core.specs.Meaning.{Arrays}
 use Rattle.kernel_interpreter.specs.declared.machine.Machine.{Machine}
@@ -14,12 +14,27 @@ use Rattle.kernel_interpreter.specs.declared.ending.Ending.{Ending}
 use Rattle.kernel_interpreter.specs.Store.{state_of, outcome_of, setting, made}
 use Rattle.kernel_correctness.specs.Kernels.{Ends, IsSoundOutcome}
 use Rattle.kernel_correctness.specs.Results.{LeavesStorage}
-use Rattle.kernel_correctness.specs.Stores.{Store}
+use Rattle.kernel_correctness.specs.Stores.{Store, IsGiven}
+use Rattle.kernel_correctness.proofs.Starts.{starts_on_store}
+use Rattle.kernel_machine.specs.Checked.{HasStarted}
+use Rattle.kernel_machine.specs.Kept.{Keeps}
 use Rattle.kernel_machine.specs.Runs.{most_turns}
+use Rattle.kernel_machine.proofs.Kept.{kept_within}
 
 -- at the start no turn was made
 pub none_made : (m : Machine) (kernel : Kernel) (given : Arrays) → state_of m ≡ start_state kernel given → made m ≡ 0
 none_made m kernel given is = ap (λ (s : State). all_turns s.turns) is
+
+-- what the kernel comes to within so many turns
+pub ends_within : (a : Arithmetic) (order : ℕ) (kernel : Kernel) (given : Arrays) (m m' : Machine) (e : Ending) (code : List KStmt)
+    (workspaces : List ℕ) (limit : ℕ) → code ≡ kernel.body → workspaces ≡ kernel.workspaces → state_of m ≡ start_state kernel given
+    → outcome_of e (state_of m') ≡ within limit (run_list (setting a workspaces) limit code (state_of m))
+    → go a order kernel given limit ≡ told order (outcome_of e (state_of m'))
+ends_within a order kernel given m m' e code workspaces limit body keys starts ends =
+    sym (ap (told order) (ends
+    ∙ ap (λ c. within limit (run_list (setting a workspaces) limit c (state_of m))) body
+    ∙ ap (λ ws. within limit (run_list (setting a ws) limit kernel.body (state_of m))) keys
+    ∙ ap (λ s. within limit (run_list (setting a kernel.workspaces) limit kernel.body s)) starts))
 
 pub ends_told : (a : Arithmetic) (order : ℕ) (kernel : Kernel) (given : Arrays) (m m' : Machine) (e : Ending) (code : List KStmt)
     (workspaces : List ℕ) (limit : ℕ) → code ≡ kernel.body → workspaces ≡ kernel.workspaces → limit ≡ most_turns
@@ -27,11 +42,20 @@ pub ends_told : (a : Arithmetic) (order : ℕ) (kernel : Kernel) (given : Arrays
     → outcome_of e (state_of m') ≡ within limit (run_list (setting a workspaces) limit code (state_of m))
     → go a order kernel given most_turns ≡ told order (outcome_of e (state_of m'))
 ends_told a order kernel given m m' e code workspaces limit body keys most starts ends =
-    sym (ap (told order) (ends
-    ∙ ap (λ n. within n (run_list (setting a workspaces) n code (state_of m))) most
-    ∙ ap (λ c. within most_turns (run_list (setting a workspaces) most_turns c (state_of m))) body
-    ∙ ap (λ ws. within most_turns (run_list (setting a ws) most_turns kernel.body (state_of m))) keys
-    ∙ ap (λ s. within most_turns (run_list (setting a kernel.workspaces) most_turns kernel.body s)) starts))
+    subst (λ n. go a order kernel given n ≡ told order (outcome_of e (state_of m'))) most
+    (ends_within a order kernel given m m' e code workspaces limit body keys starts ends)
+
+-- the arrays that it leaves came of those of its store
+pub started_of : (a : Arithmetic) (kernel : Kernel) (store : Store) (given : Arrays) (m m' : Machine) (code : List KStmt)
+    (workspaces : List ℕ) (limit : ℕ) → IsGiven a.zero store given → state_of m ≡ start_state kernel given
+    → Ended (state_of m') ≡ within limit (run_list (setting a workspaces) limit code (state_of m))
+    → HasStarted a.zero store (state_of m').arrays
+started_of a kernel store given m m' code workspaces limit is_given starts ends = record {
+  given = start_arrays kernel given;
+  is_given = starts_on_store a.zero store kernel given is_given;
+  kept = subst (λ (s : State). Keeps s.arrays (state_of m').arrays) starts
+      (kept_within (setting a workspaces) limit code (state_of m) (state_of m') (sym ends));
+}
 
 one_first : (n m : ℕ) → (n ≤ m) ⊎ (m ≤ n)
 one_first n m = grind arith

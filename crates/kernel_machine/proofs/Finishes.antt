@@ -11,7 +11,7 @@ use Rattle.tensor_storage.specs.Storages.{IsStorage, storage_of}
 use Rattle.storage_arrays.specs.Arrays.{AreDone, positions_in}
 use Rattle.storage_builder.specs.Building.{building, MayFinish}
 use Rattle.storage_builder.specs.Made.{AllAlike, AreHandedOver, values_for}
-use Rattle.storage_builder.proofs.Alike.{alike_held, alike_positions}
+use Rattle.storage_builder.proofs.Alike.{alike_held}
 use Rattle.kernel_correctness.specs.Results.{LeavesStorage, positions_below, summed}
 use Rattle.kernel_correctness.specs.Stores.{Store, AreHeld, result_sizes}
 use Rattle.kernel_machine.specs.Runs.{WordsLeft}
@@ -47,7 +47,7 @@ handed_levels (l ∷ ls) (part ∷ parts) parents level a long held done left = 
   handed_levels ls parts (positions_in parents l) (suc level) a (omega (arith, long)) held.1 done.1 left.1,
 )
 
-many : (ls : List StorageLevel) (parents : ℕ) → positions_below parents ls ≡ values_for parents ls
+pub many : (ls : List StorageLevel) (parents : ℕ) → positions_below parents ls ≡ values_for parents ls
 many [] parents = refl
 many (l ∷ ls) parents = many ls (positions_in parents l)
 
@@ -77,17 +77,6 @@ alike_are_held [] (m ∷ ms) level a same held = absurd same
 alike_are_held (l ∷ ls) [] level a same held = absurd same
 alike_are_held (l ∷ ls) (m ∷ ms) level a same held =
     (alike_held l m 0 level a same.0 held.0, alike_are_held ls ms (suc level) a same.1 held.1)
-
--- they are finished as well
-pub alike_are_done : (ls ms : List StorageLevel) (parents : ℕ) → AllAlike ls ms → AreDone parents ls → AreDone parents ms
-alike_are_done [] [] parents same done = tt
-alike_are_done [] (m ∷ ms) parents same done = absurd same
-alike_are_done (l ∷ ls) [] parents same done = tt
-alike_are_done (l ∷ ls) (m ∷ ms) parents same done = (
-  same.0.has_parents parents done.0,
-  subst (λ n. AreDone n ms) (alike_positions l m parents same.0 done.0)
-      (alike_are_done ls ms (positions_in parents l) same.1 done.1),
-)
 
 -- they keep the rules of their kinds, and have the same ranges
 pub alike_keep : (ls ts : List StorageLevel) → AllAlike ls ts → All meaning.keeps ts

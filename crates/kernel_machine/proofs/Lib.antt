@@ -1,7 +1,10 @@
 pub mod Ends
 pub mod Finishes
 pub mod HandedParts
+pub mod Held
 pub mod InPlace
+pub mod Kept
+pub mod Leaving
 pub mod LevelSizes
 pub mod Parts
 pub mod Starts

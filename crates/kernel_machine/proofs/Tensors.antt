@@ -11,13 +11,15 @@ use Rattle.tensor_storage.specs.Handed.{no_words}
 use Rattle.tensor_storage.specs.Levels.{meaning}
 use Rattle.tensor_storage.specs.Storages.{Storage, IsStorage, storage_of}
 use Rattle.storage_builder.specs.Building.{Building, building, MayFinish}
+use Rattle.storage_builder.specs.Checked.{AreLeastWide, HasZeros, IsWhole}
 use Rattle.storage_builder.specs.Made.{AllAlike, AreHandedOver}
 use Rattle.storage_builder.proofs.Alike.{alike_storage}
+use Rattle.storage_builder.proofs.Wholes.{alike_are_done}
 use Rattle.kernel_correctness.specs.Results.{LeavesStorage, summed}
 use Rattle.kernel_correctness.specs.Stores.{Store, result_sizes}
 use Rattle.kernel_machine.specs.Runs.{WordsLeft, WasHanded, AreThese, IsMadeFrom}
-use Rattle.kernel_machine.proofs.Finishes.{HoldParts, collected, handed_of, may_finish}
-use Rattle.kernel_machine.proofs.Finishes.{alike_are_held, alike_are_done, alike_keep, alike_sizes}
+use Rattle.kernel_machine.proofs.Finishes.{HoldParts, collected, handed_of, many, may_finish}
+use Rattle.kernel_machine.proofs.Finishes.{alike_are_held, alike_keep, alike_sizes}
 
 get_inside : {X : Type 0} (xs : List X) (i : ℕ) (x : X) → slice_get xs i ≡ Some x → i < length xs
 get_inside [] i x h = absurd (cc)
@@ -46,30 +48,49 @@ pub both_ok : {X E : Type 0} (r : Result X E) (P Q R : X → Type 0) → IfOk r 
 both_ok (Ok x) P Q R p q h = h x p q
 both_ok (Err e) P Q R p q h = tt
 
+-- what was handed over of a machine's arrays
+module _ (store : Store) (before after : Arrays) (old new : Building)
+    (is : old ≡ building store.format (result_sizes store) (replicate (length store.format) no_words))
+    (handed : WasHanded old before new after) where
+  pub new_format : new.format ≡ store.format
+  new_format = handed.format ∙ ap (λ (b : Building). b.format) is
+
+  pub new_sizes : new.sizes ≡ result_sizes store
+  new_sizes = handed.sizes ∙ ap (λ (b : Building). b.sizes) is
+
+  pub new_building : new ≡ building store.format (result_sizes store) new.parts
+  new_building = λ i. record { format = new_format i; sizes = new_sizes i; parts = new.parts }
+
+  one_more : (i : ℕ) → suc i ≡ 1 + i
+  one_more i = omega arith
+
+  pub new_many : length new.parts ≡ length old.format
+  new_many = handed.long ∙ parts_long old store.format (result_sizes store) is
+
+  -- it is what is left of the levels
+  pub new_parts : HoldParts new.parts 1 before
+  new_parts = collected new.parts 1 before (λ i part there.
+      let inside : i < length old.format = subst (λ n. i < n) new_many (get_inside new.parts i part there) in
+      subst (λ k. WordsLeft k part before) (one_more i) (handed.handed i part inside there))
+
 module _ (nothing : ℕ) (store : Store) (before after : Arrays) (old new : Building) (values : List ℕ)
     (left : LeavesStorage nothing store before)
     (is : old ≡ building store.format (result_sizes store) (replicate (length store.format) no_words))
     (handed : WasHanded old before new after) (words : (xs : List ℕ) → after (Values 0) ≡ Some xs → xs ≡ values) where
   format_is : new.format ≡ store.format
-  format_is = handed.format ∙ ap (λ (b : Building). b.format) is
+  format_is = new_format store before after old new is handed
 
   sizes_is : new.sizes ≡ result_sizes store
-  sizes_is = handed.sizes ∙ ap (λ (b : Building). b.sizes) is
+  sizes_is = new_sizes store before after old new is handed
 
   new_is : new ≡ building store.format (result_sizes store) new.parts
-  new_is = λ i. record { format = format_is i; sizes = sizes_is i; parts = new.parts }
-
-  one_more : (i : ℕ) → suc i ≡ 1 + i
-  one_more i = omega arith
+  new_is = new_building store before after old new is handed
 
   many_parts : length new.parts ≡ length old.format
-  many_parts = handed.long ∙ parts_long old store.format (result_sizes store) is
+  many_parts = new_many store before after old new is handed
 
-  -- what was handed over is what is left of the levels
   handed_parts : HoldParts new.parts 1 before
-  handed_parts = collected new.parts 1 before (λ i part there.
-      let inside : i < length old.format = subst (λ n. i < n) many_parts (get_inside new.parts i part there) in
-      subst (λ k. WordsLeft k part before) (one_more i) (handed.handed i part inside there))
+  handed_parts = new_parts store before after old new is handed
 
   many_levels : (ls : List StorageLevel) → map meaning.kind ls ≡ letters_of store.format → length new.parts ≡ length ls
   many_levels ls kinds = many_parts ∙ ap (λ (b : Building). length b.format) is
@@ -81,6 +102,18 @@ module _ (nothing : ℕ) (store : Store) (before after : Arrays) (old new : Buil
   pub may : MayFinish new values
   may = subst (λ b. MayFinish b values) (sym new_is)
       (may_finish nothing store before new.parts values left (many_levels left.levels left.storage.letters) handed_parts values_are)
+
+  -- where blocks are no wider than they have to be, what is left keeps every rule
+  pub may_whole : AreLeastWide 1 left.levels → IsWhole nothing new values
+  may_whole widths = subst (λ b. IsWhole nothing b values) (sym new_is) (record {
+    levels = left.levels;
+    handed = handed_of store left.levels new.parts before (many_levels left.levels left.storage.letters) left.storage.letters left.sizes
+        left.is_left.held left.done handed_parts;
+    widths = widths;
+    many = ap length values_are ∙ left.many ∙ many left.levels 1;
+    whole = subst (λ vs. IsStorage (storage_of store.format left.levels vs)) (sym values_are) left.storage;
+    zeros = subst (HasZeros nothing left.levels) (sym values_are) left.zeros;
+  })
 
   -- levels that are the same as all that have what was handed over
   abbrev AreAlikeAll : List StorageLevel → Type 0

@@ -37,10 +37,10 @@ fn checked_tensor(
     requires started { (store : Store) × HasStarted nothing store (state_of machine).arrays
         × (builder ≡ building store.format (result_sizes store) (replicate (length store.format) no_words)) }
     ensures { IfOk result (λ made. (store : Store) → HasStarted nothing store (state_of machine.entry).arrays
-        → builder.entry ≡ building store.format (result_sizes store) (replicate (length store.format) no_words)
+        → builder ≡ building store.format (result_sizes store) (replicate (length store.format) no_words)
         → MatchOption made (LeavesWhole nothing store (state_of machine.entry).arrays → ⊥)
         (λ t. LeavesWhole nothing store (state_of machine.entry).arrays
-        × IsMadeFrom builder.entry.format builder.entry.sizes (state_of machine.entry).arrays t)) }
+        × IsMadeFrom builder.format builder.sizes (state_of machine.entry).arrays t)) }
 {
     hand_over(&mut machine, &mut builder, alloc, order);
     let values = taken_array(&mut machine, alloc, Arr::Values(0));

@@ -41,12 +41,7 @@ pub(crate) fn taken_words(machine: &mut Machine, alloc: Global, level: u64) -> L
 }
 
 /// Hands over the arrays of each level.
-pub(crate) fn hand_over(
-    machine: &mut Machine,
-    builder: &mut Builder,
-    alloc: Global,
-    order: usize,
-)
+pub(crate) fn hand_over(machine: &mut Machine, builder: &mut Builder, alloc: Global, order: usize)
     requires order { order ≡ length builder.old.format }
     requires long { length builder.old.parts ≡ order }
     ensures { WasHanded builder.old (state_of machine.old).arrays builder.new (state_of machine.new).arrays }
