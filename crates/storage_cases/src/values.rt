@@ -78,7 +78,7 @@ fn tell_store(answer: &mut Answer, tensor: &Tensor) -> Option<()>
 {
     let mut sink = MemSink::new(answer.alloc());
     answer.note(sink.cut_into(&[1, 4]));
-    put_store_text(&mut sink, 1, b"A", tensor).ok()?;
+    put_store_text::<Ring, MemSink>(&mut sink, 1, b"A", tensor).ok()?;
     answer.tell(str::from_utf8(sink.written()).ok()?);
     Some(())
 }
