@@ -11,6 +11,8 @@ use Rattle.iteration_graph.specs.Edges.{HasFormat}
 use Rattle.expr_terms.specs.Expanded.{moved, moved_in, with_old}
 use Rattle.expr_terms.specs.Minus.{HasMeaning, has_minus, has_minus_in}
 use Rattle.expr_terms.proofs.ExpandLaws.{expanded_named}
+use Rattle.expr_terms.proofs.Meanings.{has_minus_binary}
+use Rattle.index_notation.specs.declared.operator.Operator.TheVariants as op
 use Rattle.expr_terms.proofs.WellNamed.{notation_well_named}
 use Rattle.operand_packing.proofs.FormatsBound.{formats_fit}
 use Rattle.taco_top.specs.Values.{values_of}
@@ -33,7 +35,7 @@ abbrev mutual
 expanded_meant : (b accumulate : Bool) (s : Statement) → HasMeaning b s.expr
     → HasMeaning b (if accumulate then with_old s else s).expr
 expanded_meant true accumulate s meant = tt
-expanded_meant false true s meant = moved_minus s.expr ∙ meant
+expanded_meant false true s meant = has_minus_binary op.Add (AccessOf 0) (moved s.expr) ∙ moved_minus s.expr ∙ meant
 expanded_meant false false s meant = meant
 
 module _ (words : List (List ℕ)) (r : Request) (asks : AsksFor words r) where

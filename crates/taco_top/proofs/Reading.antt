@@ -43,7 +43,7 @@ request_readable words r reads accepted numbered =
     paths_readable r.statement accepted.asks.rest (needs_files r.task) reads r.formats r.files r.given accepted.asks.binds numbered
     (text_keeps_orders names.text names.written r.statement names.notation written.result names.stands_for)
   where
-    names : Names words r.task r.statement accepted.asks.rest
+    names : Names words r.task r.over r.statement accepted.asks.rest
     names = accepted.asks.names
 
     written : IsWellNamed names.written

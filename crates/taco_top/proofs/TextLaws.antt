@@ -144,7 +144,7 @@ module _ (over : Values) (words : List (List ℕ)) (files files' : FolderState) 
   by_name s why (t, o, text, rest, is, notation, other) = no_statement is
 
   by_minus : (name : Bor (List ℕ)) → IsRefusedByWords words (fault.NoMinus name) → ⊥
-  by_minus name (t, o, text, rest, is, s, notation, other) = no_statement is
+  by_minus name (t, o, text, rest, is, s, notation, names, other) = no_statement is
 
   by_binding : (s : Statement) (why : BindingFault) → IsRefusedByWords words (fault.Named s (named.Binding why)) → ⊥
   by_binding s why (t, o, rest, names, other) = no_statement names.line

@@ -11,7 +11,7 @@ use Rattle.expr_terms.specs.declared.range_fault.RangeFault.TheVariants as range
 use Rattle.bindings.specs.declared.fault.WordFault.{WordFault}
 use Rattle.bindings.specs.declared.fault.WordFault.TheVariants.{BadBinding, UnknownName, Twice, NotMatrix, RangeLimit}
 use Rattle.bindings.specs.declared.fault.BindingFault.TheVariants as binding
-use Rattle.refusals.specs.Lines.{named_status, notation_status, word_status}
+use Rattle.refusals.specs.Lines.{named_status, notation_status, status_of, word_status}
 use Rattle.refusals.specs.declared.fault.NamedFault.{NamedFault}
 use Rattle.refusals.specs.declared.fault.NamedFault.TheVariants as named
 use Rattle.refusals.specs.declared.fault.Fault.TheVariants as fault
@@ -92,8 +92,8 @@ module _ (over : Values) (words : List (List ℕ)) (files files' : FolderState) 
         by (task, o, text, rest, line, is) = absurd (never line)
     found (Refused (fault.NoMinus name)) cause = by cause.stops.refused
       where
-        by : IsRefusedByWords words (fault.NoMinus name) → (1 ≡ 2) ⊎ (1 ≡ 5)
-        by (task, o, text, rest, line, s, is) = absurd (never line)
+        by : IsRefusedByWords words (fault.NoMinus name) → (status_of (fault.NoMinus name) ≡ 2) ⊎ (status_of (fault.NoMinus name) ≡ 5)
+        by (task, o, text, rest, line, s, notation, names, is) = absurd (never line)
     found (Refused (fault.Named s (named.Name why))) cause = by cause.stops.refused
       where
         by : IsRefusedByWords words (fault.Named s (named.Name why))

@@ -1,6 +1,6 @@
-use Rattle.std.proofs.Common.{rules}
 use Rattle.index_notation.specs.Statement.{IsNumbered}
 use Rattle.taco_top.specs.Asked.{Names, texts_in}
+use Rattle.taco_top.proofs.Asking.{asked_for}
 use Rattle.taco_top.proofs.asked.ask_statement.Goals as goal
 
 -- the words ask for the statement that the written one stands for
@@ -16,4 +16,5 @@ returns-in_ok-expand-in-Ok c = λ all line.
       stands_for = c.in_ok-expand-in-Ok.ensures.whole;
     } in
     let numbered : IsNumbered c.in_ok-expand-in-Ok.field-0 = c.in_ok-expand-in-Ok.ensures.numbered in
-    search (rules, names, numbered)
+    asked_for all c.args.task c.args.over c.in_ok-expand-in-Ok.field-0 (texts_in c.args.words.now) names numbered c.bind_names.result
+    c.bind_names.ensures
