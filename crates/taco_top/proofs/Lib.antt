@@ -1,5 +1,5 @@
 pub mod Accepted
-pub mod Asking
+pub mod BoundNames
 pub mod CycleLaws
 pub mod Mended
 pub mod OneRequest

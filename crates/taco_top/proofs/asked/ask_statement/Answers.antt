@@ -1,6 +1,6 @@
 use Rattle.index_notation.specs.Statement.{IsNumbered}
 use Rattle.taco_top.specs.Asked.{Names, texts_in}
-use Rattle.taco_top.proofs.Asking.{asked_for}
+use Rattle.taco_top.proofs.BoundNames.{asked_for}
 use Rattle.taco_top.proofs.asked.ask_statement.Goals as goal
 
 -- the words ask for the statement that the written one stands for
