@@ -13,6 +13,7 @@ use Rattle.mode_planner.specs.declared.planned.Planned.{Planned}
 use Rattle.command_line.specs.declared.Task.TheVariants as task
 use Rattle.refusals.specs.declared.fault.Fault.TheVariants.{Named}
 use Rattle.refusals.specs.declared.fault.NamedFault.TheVariants.{Cycle}
+use Rattle.taco_top.specs.Values.{values_in}
 use Rattle.taco_top.specs.Asked.{needs_order}
 use Rattle.taco_top.specs.Run.{Request, AsksFor}
 use Rattle.taco_top.specs.Written.{HasResult}
@@ -27,8 +28,9 @@ pub auto_has_no_cycle : (words : List (String Global)) (r : Request) (files file
     (status : ℕ) (s : Statement) (cycle : List ℕ) → AsksFor (map string_bytes words) r → r.task ≡ task.Auto
     → (ends : Ends words files files' out out' err err' status) → ends.ended ≡ Refused (Named s (Cycle cycle)) → ⊥
 auto_has_no_cycle words r files files' out out' err err' status s cycle asks task_is ends is =
-    let refused : Cause (map string_bytes words) files files' out out' (Refused (Named s (Cycle cycle))) =
-    subst (Cause (map string_bytes words) files files' out out') is ends.cause in
+    let refused : Cause (values_in (map string_bytes words)) (map string_bytes words) files files' out out' (Refused (Named s
+        (Cycle cycle))) =
+    subst (Cause (values_in (map string_bytes words)) (map string_bytes words) files files' out out') is ends.cause in
     let told = refused.stops.1 in
     needs_none (sym (ap (λ x. needs_order x.task) (one_request (map string_bytes words) told.request r told.asks asks)
     ∙ ap needs_order task_is) ∙ told.needs)
@@ -40,8 +42,8 @@ unplanned s formats None order answers = refl
 unplanned s formats (Some plan) order answers =
     absurd (no_order (length s.vars) (statement_edges s formats) answers.cycle order.loops answers.names_cycle order.is)
 
-pub order_needs_no_plan : (words : List (List ℕ)) (files between : FolderState) (values : HasResult words files between)
-    → HaveOrder values.request.statement values.request.formats → (computed : IsComputed words files between values)
+pub order_needs_no_plan : (words : List (List ℕ)) (files between : FolderState) (values : HasResult (values_in words) words files between)
+    → HaveOrder values.request.statement values.request.formats → (computed : IsComputed (values_in words) words files between values)
     → computed.plan ≡ None
 order_needs_no_plan words files between values order computed =
     unplanned values.request.statement values.request.formats computed.plan order computed.is_plan

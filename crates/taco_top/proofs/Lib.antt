@@ -1,4 +1,5 @@
 pub mod Accepted
+pub mod BoundNames
 pub mod CycleLaws
 pub mod Mended
 pub mod OneRequest

@@ -1,7 +1,8 @@
 -- A statement is compiled as it is stored: in its loop order, or by the plan that mends its storage orders.
-use Rattle.std.specs.Prelude.{◌≡◌, ℕ, ◌⊎◌, List, length, Option, None, Some, IfSome, Ok, true, refl}
+use Rattle.std.specs.Prelude.{◌≡◌, ℕ, Bool, ◌⊎◌, List, length, Option, None, Some, IfSome, Ok, true, refl}
 use Rattle.std.proofs.Common.{sym, subst, inl, inr}
-use Rattle.numbers.specs.Ring.{ring}
+use Rattle.kernel_code.specs.Semirings.{semiring_of}
+use Rattle.expr_terms.specs.Minus.{HasMeaning}
 use Rattle.format_spec.specs.declared.format.FormatLevel.{FormatLevel}
 use Rattle.index_notation.specs.declared.syntax.Statement.{Statement}
 use Rattle.iteration_graph.specs.Edges.{statement_edges}
@@ -12,6 +13,7 @@ use Rattle.command_line.specs.declared.Task.{Task}
 use Rattle.command_line.specs.declared.Task.TheVariants as task
 use Rattle.taco_compiler.specs.Compiled.{Answers, IsOrder, HasCycle}
 use Rattle.taco_compiler.specs.declared.compiled.Compiled.{Compiled}
+use Rattle.taco_top.specs.Values.{Values}
 use Rattle.taco_top.specs.Asked.{needs_files, needs_kernel, needs_order, writes_result}
 use Rattle.taco_top.specs.Run.{Request}
 use Rattle.taco_top.specs.Stored.{IsRunBy, stored_statement, stored_formats}
@@ -67,11 +69,26 @@ module _ (r : Request) (formats : List (List FormatLevel)) (formats_are : format
       by (inl needed) = subst (λ p. IsRunBy r p) (sym (unplanned needed)) (ordered order is needed)
       by (inr mends) = subst (λ fs. PlanAnswers r.statement fs plan) formats_are (planned mends)
 
-  pub kernel_is : (c : Compiled) → Answers ring (stored_statement r.statement plan) (stored_formats formats plan) (Ok c)
-      → IsKernelOf (stored_statement r.statement plan) (stored_formats r.formats plan) c.order c.kernel
-  kernel_is c is =
-      subst (λ fs. IsKernelOf (stored_statement r.statement plan) (stored_formats fs plan) c.order c.kernel) formats_are
-      (record { is_order = is.0; compiled = is.1 })
+  pub kernel_is : (over : Values) (c : Compiled)
+      → Answers over.arithmetic (stored_statement r.statement plan) (stored_formats formats plan) (Ok c)
+      → c.kernel.semiring ≡ semiring_of over.is_ring over.name
+      → IsKernelOf over (stored_statement r.statement plan) (stored_formats r.formats plan) c.order c.kernel
+  kernel_is over c is named =
+      subst (λ fs. IsKernelOf over (stored_statement r.statement plan) (stored_formats fs plan) c.order c.kernel) formats_are
+      (record { is_order = is.0; compiled = is.1; over_is = named })
+
+  -- each minus has a meaning in what is stored, where it has one in what is asked for
+  pub stored_meant : (b : Bool) → needs_kernel r.task ≡ true → HasMeaning b r.statement.expr
+      → HasMeaning b (stored_statement r.statement plan).expr
+  stored_meant b needs meant = by (of_task r.task needs)
+    where
+      of_plan : (p : Option Planned) → PlanAnswers r.statement formats p → HasMeaning b (stored_statement r.statement p).expr
+      of_plan None answers = meant
+      of_plan (Some planned) answers = subst (HasMeaning b) (sym answers.planned.expr) meant
+
+      by : (needs_order r.task ≡ true) ⊎ (r.task ≡ task.Auto) → HasMeaning b (stored_statement r.statement plan).expr
+      by (inl needed) = subst (λ p. HasMeaning b (stored_statement r.statement p).expr) (sym (unplanned needed)) meant
+      by (inr mends) = of_plan plan (planned mends)
 
   -- a cycle is told only where an order is needed
   pub cyclic : IfSome plan (λ planned. CanBeCompiled planned.statement planned.formats) → (cycle : List ℕ)

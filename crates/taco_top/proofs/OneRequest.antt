@@ -1,13 +1,17 @@
 -- A command line asks for one thing, or is refused.
-use Rattle.std.specs.Prelude.{◌≡◌, ℕ, Bool, List, [], Option, Some, None}
-use Rattle.std.proofs.Common.{◌∙◌, sym, ap, subst}
+use Rattle.std.specs.Prelude.{◌≡◌, ℕ, Bool, true, false, List, [], Option, Some, None}
+use Rattle.std.proofs.Common.{◌∙◌, sym, ap, subst, true≢false}
 use Rattle.format_spec.specs.declared.format.FormatLevel.{FormatLevel}
 use Rattle.index_notation.specs.declared.syntax.Statement.{Statement}
+use Rattle.index_notation.specs.declared.syntax.Expr.{Expr}
 use Rattle.index_notation.specs.Notation.{IsNotationOf}
 use Rattle.notation_reader.proofs.NotationLaws as notations
 use Rattle.expr_terms.proofs.NameOnce.{names_never_both}
 use Rattle.expr_terms.specs.Expanded.{expanded}
+use Rattle.expr_terms.specs.Minus.{HasMeaning, has_minus}
 use Rattle.expr_terms.specs.Names.{HasNoNameFault}
+use Rattle.command_line.specs.declared.Over.{Over}
+use Rattle.command_line.specs.declared.Over.TheVariants.{Ring}
 use Rattle.command_line.specs.declared.Task.{Task}
 use Rattle.command_line.specs.declared.Task.TheVariants.{Run}
 use Rattle.command_line.specs.CommandLine.{CommandLine, Workload, command_line_of}
@@ -19,56 +23,70 @@ use Rattle.bindings.specs.declared.fault.BindingFault.TheVariants as binding
 use Rattle.refusals.specs.declared.fault.NamedFault.TheVariants as named
 use Rattle.refusals.specs.declared.fault.Fault.{Fault}
 use Rattle.refusals.specs.declared.fault.Fault.TheVariants as fault
+use Rattle.taco_top.specs.Values.{values_of}
 use Rattle.taco_top.specs.Asked.{Asks, AsksOf, Names, IsRefusedByWords, IsBindingFault, IsWant, needs_files}
 
 abbrev task_of : Option CommandLine → Task
 task_of None = Run
-task_of (Some (command_line.Statement task expr words)) = task
+task_of (Some (command_line.Statement task over expr words)) = task
 task_of (Some (Workload size)) = Run
+
+abbrev over_of : Option CommandLine → Over
+over_of None = Ring
+over_of (Some (command_line.Statement task over expr words)) = over
+over_of (Some (Workload size)) = Ring
 
 abbrev expr_of : Option CommandLine → List ℕ
 expr_of None = []
-expr_of (Some (command_line.Statement task expr words)) = expr
+expr_of (Some (command_line.Statement task over expr words)) = expr
 expr_of (Some (Workload size)) = []
 
 abbrev words_of : Option CommandLine → List (List ℕ)
 words_of None = []
-words_of (Some (command_line.Statement task expr words)) = words
+words_of (Some (command_line.Statement task over expr words)) = words
 words_of (Some (Workload size)) = []
 
 -- two readings of a command line
-one_task : (words : List (List ℕ)) (task other : Task) (text texts : List ℕ) (rest others : List (List ℕ))
-    → AsksOf words task text rest → AsksOf words other texts others → task ≡ other
-one_task words task other text texts rest others is be = ap task_of (sym is ∙ be)
+one_task : (words : List (List ℕ)) (task other : Task) (over under : Over) (text texts : List ℕ) (rest others : List (List ℕ))
+    → AsksOf words task over text rest → AsksOf words other under texts others → task ≡ other
+one_task words task other over under text texts rest others is be = ap task_of (sym is ∙ be)
 
-one_text : (words : List (List ℕ)) (task other : Task) (text texts : List ℕ) (rest others : List (List ℕ))
-    → AsksOf words task text rest → AsksOf words other texts others → text ≡ texts
-one_text words task other text texts rest others is be = ap expr_of (sym is ∙ be)
+one_over : (words : List (List ℕ)) (task other : Task) (over under : Over) (text texts : List ℕ) (rest others : List (List ℕ))
+    → AsksOf words task over text rest → AsksOf words other under texts others → over ≡ under
+one_over words task other over under text texts rest others is be = ap over_of (sym is ∙ be)
 
-one_rest : (words : List (List ℕ)) (task other : Task) (text texts : List ℕ) (rest others : List (List ℕ))
-    → AsksOf words task text rest → AsksOf words other texts others → rest ≡ others
-one_rest words task other text texts rest others is be = ap words_of (sym is ∙ be)
+one_text : (words : List (List ℕ)) (task other : Task) (over under : Over) (text texts : List ℕ) (rest others : List (List ℕ))
+    → AsksOf words task over text rest → AsksOf words other under texts others → text ≡ texts
+one_text words task other over under text texts rest others is be = ap expr_of (sym is ∙ be)
 
-one_statement : (words : List (List ℕ)) (task other : Task) (s t : Statement) (rest others : List (List ℕ))
-    → Names words task s rest → Names words other t others → s ≡ t
-one_statement words task other s t rest others is be =
+one_rest : (words : List (List ℕ)) (task other : Task) (over under : Over) (text texts : List ℕ) (rest others : List (List ℕ))
+    → AsksOf words task over text rest → AsksOf words other under texts others → rest ≡ others
+one_rest words task other over under text texts rest others is be = ap words_of (sym is ∙ be)
+
+one_statement : (words : List (List ℕ)) (task other : Task) (over under : Over) (s t : Statement) (rest others : List (List ℕ))
+    → Names words task over s rest → Names words other under t others → s ≡ t
+one_statement words task other over under s t rest others is be =
     is.stands_for
     ∙ ap expanded (notations.statement_once be.text is.written be.written
-    (subst (λ text. IsNotationOf text is.written) (one_text words task other is.text be.text rest others is.line be.line) is.notation)
+    (subst (λ text. IsNotationOf text is.written)
+    (one_text words task other over under is.text be.text rest others is.line be.line) is.notation)
     be.notation)
     ∙ sym be.stands_for
 
-module _ (words : List (List ℕ)) (task other : Task) (s t : Statement) (formats layouts : List (List FormatLevel))
+module _ (words : List (List ℕ)) (task other : Task) (over under : Over) (s t : Statement) (formats layouts : List (List FormatLevel))
     (files others : List (ℕ × List ℕ)) (ranges given : List (Option ℕ))
-    (asks : Asks words task s formats files ranges) (ask : Asks words other t layouts others given) where
+    (asks : Asks words task over s formats files ranges) (ask : Asks words other under t layouts others given) where
   pub same_task : task ≡ other
-  same_task = one_task words task other asks.names.text ask.names.text asks.rest ask.rest asks.names.line ask.names.line
+  same_task = one_task words task other over under asks.names.text ask.names.text asks.rest ask.rest asks.names.line ask.names.line
+
+  pub same_over : over ≡ under
+  same_over = one_over words task other over under asks.names.text ask.names.text asks.rest ask.rest asks.names.line ask.names.line
 
   pub same_statement : s ≡ t
-  same_statement = one_statement words task other s t asks.rest ask.rest asks.names ask.names
+  same_statement = one_statement words task other over under s t asks.rest ask.rest asks.names ask.names
 
   same_rest : asks.rest ≡ ask.rest
-  same_rest = one_rest words task other asks.names.text ask.names.text asks.rest ask.rest asks.names.line ask.names.line
+  same_rest = one_rest words task other over under asks.names.text ask.names.text asks.rest ask.rest asks.names.line ask.names.line
 
   -- what the other reading binds, for the same task, statement and words
   same_binds : Binds s asks.rest (needs_files task) layouts others given
@@ -89,6 +107,11 @@ module _ (words : List (List ℕ)) (task other : Task) (s t : Statement) (format
 apart : {A : Type 0} {x : A} → None ≡ Some x → ⊥
 apart h = cc
 
+-- where there is no minus, none stands in an expression with a meaning
+lacks_none : (b : Bool) (e : Expr) → HasMeaning b e → b ≡ false → has_minus e ≡ true → ⊥
+lacks_none true e meant none stands = absurd (true≢false none)
+lacks_none false e meant none stands = true≢false (sym stands ∙ meant)
+
 -- what is bound isn't refused
 binding_apart : (s : Statement) (words : List (List ℕ)) (need : Bool) (formats : List (List FormatLevel)) (files : List (ℕ × List ℕ))
     (ranges : List (Option ℕ)) (why : BindingFault) → Binds s words need formats files ranges
@@ -101,35 +124,42 @@ binding_apart s words need formats files ranges (binding.BadFormat tensor why) b
     bindings.never_both s words need formats files ranges (binding.BadFormat tensor why) binds is
 binding_apart s words need formats files ranges (binding.Memory error) binds is = is
 
-module _ (words : List (List ℕ)) (task : Task) (s : Statement) (formats : List (List FormatLevel)) (files : List (ℕ × List ℕ))
-    (ranges : List (Option ℕ)) (asks : Asks words task s formats files ranges) where
+module _ (words : List (List ℕ)) (task : Task) (over : Over) (s : Statement) (formats : List (List FormatLevel)) (files : List (ℕ × List ℕ))
+    (ranges : List (Option ℕ)) (asks : Asks words task over s formats files ranges) where
   -- the text of another reading is that of this one
-  notation_of : (other : Task) (text : List ℕ) (rest : List (List ℕ)) → AsksOf words other text rest → IsNotationOf text asks.names.written
-  notation_of other text rest line =
+  notation_of : (other : Task) (under : Over) (text : List ℕ) (rest : List (List ℕ)) → AsksOf words other under text rest
+      → IsNotationOf text asks.names.written
+  notation_of other under text rest line =
       subst (λ t. IsNotationOf t asks.names.written)
-      (one_text words task other asks.names.text text asks.rest rest asks.names.line line) asks.names.notation
+      (one_text words task other over under asks.names.text text asks.rest rest asks.names.line line) asks.names.notation
 
   -- what is bound is so for the task and the words of another reading
-  binds_of : (other : Task) (t : Statement) (rest : List (List ℕ)) → Names words other t rest
+  binds_of : (other : Task) (under : Over) (t : Statement) (rest : List (List ℕ)) → Names words other under t rest
       → Binds t rest (needs_files other) formats files ranges
-  binds_of other t rest names =
+  binds_of other under t rest names =
       subst (λ u. Binds u rest (needs_files other) formats files ranges)
-      (one_statement words task other s t asks.rest rest asks.names names)
+      (one_statement words task other over under s t asks.rest rest asks.names names)
       (subst (λ r. Binds s r (needs_files other) formats files ranges)
-      (one_rest words task other asks.names.text names.text asks.rest rest asks.names.line names.line)
+      (one_rest words task other over under asks.names.text names.text asks.rest rest asks.names.line names.line)
       (subst (λ for. Binds s asks.rest (needs_files for) formats files ranges)
-      (one_task words task other asks.names.text names.text asks.rest rest asks.names.line names.line) asks.binds))
+      (one_task words task other over under asks.names.text names.text asks.rest rest asks.names.line names.line) asks.binds))
 
   only_want : (why : Fault) → IsRefusedByWords words why → IsWant why
   only_want fault.Usage is = apart (sym is ∙ asks.names.line)
-  only_want (fault.Notation why) (other, text, rest, line, is) =
-      notations.never_both text asks.names.written why (notation_of other text rest line) is
-  only_want (fault.Named t (named.Name why)) (other, text, rest, line, notation, is) =
+  only_want (fault.Notation why) (other, under, text, rest, line, is) =
+      notations.never_both text asks.names.written why (notation_of other under text rest line) is
+  only_want (fault.Named t (named.Name why)) (other, under, text, rest, line, notation, is) =
       names_never_both t why
-      (subst HasNoNameFault (notations.statement_once text asks.names.written t (notation_of other text rest line) notation)
+      (subst HasNoNameFault (notations.statement_once text asks.names.written t (notation_of other under text rest line) notation)
       asks.names.names) is
-  only_want (fault.Named t (named.Binding why)) (other, rest, names, is) =
-      binding_apart t rest (needs_files other) formats files ranges why (binds_of other t rest names) is
+  only_want (fault.NoMinus name) (other, under, text, rest, line, t, notation, named, is) =
+      lacks_none (values_of over).has_minus asks.names.written.expr asks.names.meant
+      (ap (λ o. (values_of o).has_minus) (one_over words task other over under asks.names.text text asks.rest rest asks.names.line line)
+      ∙ is.0.has_none)
+      (ap (λ u. has_minus u.expr) (notations.statement_once text asks.names.written t (notation_of other under text rest line) notation)
+      ∙ is.0.stands)
+  only_want (fault.Named t (named.Binding why)) (other, under, rest, names, is) =
+      binding_apart t rest (needs_files other) formats files ranges why (binds_of other under t rest names) is
   only_want (fault.Named t (named.Cycle cycle)) is = is
   only_want (fault.Named t (named.Range why)) is = is
   only_want (fault.Named t (named.SizeLimit large)) is = is
@@ -140,35 +170,39 @@ module _ (words : List (List ℕ)) (task : Task) (s : Statement) (formats : List
   only_want (fault.WriteFault path) is = is
   only_want fault.Memory is = is
 
-pub never_both : (words : List (List ℕ)) (task : Task) (s : Statement) (formats : List (List FormatLevel)) (files : List (ℕ × List ℕ))
+pub never_both : (words : List (List ℕ)) (task : Task) (over : Over) (s : Statement) (formats : List (List FormatLevel)) (files : List
+    (ℕ × List ℕ))
     (ranges : List (Option ℕ)) (why : Fault)
-    → Asks words task s formats files ranges → IsRefusedByWords words why → IsWant why
-never_both words task s formats files ranges why asks is = only_want words task s formats files ranges asks why is
+    → Asks words task over s formats files ranges → IsRefusedByWords words why → IsWant why
+never_both words task over s formats files ranges why asks is = only_want words task over s formats files ranges asks why is
 
 -- a command line is no statement's and a workload's both
 abbrev IsStatement : Option CommandLine → Type 0
 IsStatement None = ⊥
-IsStatement (Some (command_line.Statement task expr words)) = Unit {0}
+IsStatement (Some (command_line.Statement task over expr words)) = Unit {0}
 IsStatement (Some (Workload size)) = ⊥
 
-no_statement : (words : List (List ℕ)) (size : ℕ) (task : Task) (text : List ℕ) (rest : List (List ℕ))
-    → command_line_of words ≡ Some (Workload size) → AsksOf words task text rest → ⊥
-no_statement words size task text rest is be = subst IsStatement (sym be ∙ is) tt
+no_statement : (words : List (List ℕ)) (size : ℕ) (task : Task) (over : Over) (text : List ℕ) (rest : List (List ℕ))
+    → command_line_of words ≡ Some (Workload size) → AsksOf words task over text rest → ⊥
+no_statement words size task over text rest is be = subst IsStatement (sym be ∙ is) tt
 
-pub workload_alone : (words : List (List ℕ)) (size : ℕ) (task : Task) (s : Statement) (formats : List (List FormatLevel))
+pub workload_alone : (words : List (List ℕ)) (size : ℕ) (task : Task) (over : Over) (s : Statement) (formats : List (List FormatLevel))
     (files : List (ℕ × List ℕ)) (ranges : List (Option ℕ))
-    → command_line_of words ≡ Some (Workload size) → Asks words task s formats files ranges → ⊥
-workload_alone words size task s formats files ranges is asks =
-    no_statement words size task asks.names.text asks.rest is asks.names.line
+    → command_line_of words ≡ Some (Workload size) → Asks words task over s formats files ranges → ⊥
+workload_alone words size task over s formats files ranges is asks =
+    no_statement words size task over asks.names.text asks.rest is asks.names.line
 
 pub workload_taken : (words : List (List ℕ)) (size : ℕ) (why : Fault)
     → command_line_of words ≡ Some (Workload size) → IsRefusedByWords words why → IsWant why
 workload_taken words size fault.Usage is refused = apart (sym refused ∙ is)
-workload_taken words size (fault.Notation why) is (task, text, rest, line, h) = absurd (no_statement words size task text rest is line)
-workload_taken words size (fault.Named t (named.Name why)) is (task, text, rest, line, notation, h) =
-    absurd (no_statement words size task text rest is line)
-workload_taken words size (fault.Named t (named.Binding why)) is (task, rest, names, h) =
-    absurd (no_statement words size task names.text rest is names.line)
+workload_taken words size (fault.Notation why) is (task, over, text, rest, line, h) =
+    absurd (no_statement words size task over text rest is line)
+workload_taken words size (fault.Named t (named.Name why)) is (task, over, text, rest, line, notation, h) =
+    absurd (no_statement words size task over text rest is line)
+workload_taken words size (fault.NoMinus name) is (task, over, text, rest, line, s, notation, named, h) =
+    absurd (no_statement words size task over text rest is line)
+workload_taken words size (fault.Named t (named.Binding why)) is (task, over, rest, names, h) =
+    absurd (no_statement words size task over names.text rest is names.line)
 workload_taken words size (fault.Named t (named.Cycle cycle)) is h = h
 workload_taken words size (fault.Named t (named.Range why)) is h = h
 workload_taken words size (fault.Named t (named.SizeLimit large)) is h = h

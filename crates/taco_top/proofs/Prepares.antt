@@ -5,7 +5,6 @@ use Rattle.std.proofs.lemmas.List.{length-map}
 use Rattle.std.specs.declared.alloc.Global.{Global}
 use Rattle.limits.specs.Limits.{greatest_position_count}
 use Rattle.numbers.specs.Arithmetic.{Arithmetic}
-use Rattle.numbers.specs.Ring.{ring}
 use Rattle.outside.specs.Folder.{FolderState}
 use Rattle.tensor_map.specs.Coords.{IsShape}
 use Rattle.tensor_map.specs.Entries.{AreEntries, Entries}
@@ -24,6 +23,7 @@ use Rattle.kernel_runs.specs.Runs.{IsStoreFor, IsTensorOf, RunsKernel}
 use Rattle.kernel_runs.proofs.Shapes.{ranges_shape}
 use Rattle.result_files.specs.EntriesText.{MayBeWritten}
 use Rattle.result_files.specs.ResultText.{asks_matrix}
+use Rattle.taco_top.specs.Values.{Values}
 use Rattle.taco_top.specs.Asked.{needs_files}
 use Rattle.taco_top.specs.Run.{Request, path_of}
 use Rattle.taco_top.specs.Written.{HasOperands}
@@ -47,86 +47,89 @@ may_be_written a s operands ranges shape entries are is_shape t is_matrix order 
   matrix = λ is. subst IsMatrixOrder (sym (t.order_is ∙ ap length t.shape_is ∙ length-map s.left.vars ranges)) (order is);
 }
 
--- the kernel of what words ask for ran, as it is stored
-record Ran (r : Request) (plan : Option Planned) (kernel : Kernel) (entries : List Entries) (bounds : List (Vec Bound Global))
-    (shape : List ℕ) (result : Entries) (tensor : Storage) (turns : Turns) : Type 0 where
-  ranges : List ℕ
-  ranges_are : told_ranges r.statement r.given bounds ≡ Ok ranges
-  store : Store
-  is_store : IsStoreFor ring (stored_statement r.statement plan) (stored_formats r.formats plan) ranges (stored_entries entries plan) store
-  runs : RunsKernel ring (stored_statement r.statement plan) kernel store tensor turns
-  tensor_of : IsTensorOf ring r.statement entries (slice_index ranges) shape result
+module _ (over : Values) where
+  -- the kernel of what words ask for ran, as it is stored
+  record Ran (r : Request) (plan : Option Planned) (kernel : Kernel) (entries : List Entries) (bounds : List (Vec Bound Global))
+      (shape : List ℕ) (result : Entries) (tensor : Storage) (turns : Turns) : Type 0 where
+    ranges : List ℕ
+    ranges_are : told_ranges r.statement r.given bounds ≡ Ok ranges
+    store : Store
+    is_store : IsStoreFor over.arithmetic (stored_statement r.statement plan) (stored_formats r.formats plan) ranges
+        (stored_entries entries plan) store
+    runs : RunsKernel over.arithmetic (stored_statement r.statement plan) kernel store tensor turns
+    tensor_of : IsTensorOf over.arithmetic r.statement entries (slice_index ranges) shape result
 
-ran : (r : Request) (plan : Option Planned) (kernel : Kernel) (entries : List Entries) (bounds : List (Vec Bound Global))
-    (shape : List ℕ) (result : Entries) (tensor : Storage) (turns : Turns)
-    → IsStoredRun r.statement r.formats plan kernel r.given entries bounds shape result tensor turns
-    → Ran r plan kernel entries bounds shape result tensor turns
-ran r None kernel entries bounds shape result tensor turns run = record {
-  ranges = run.ranges;
-  ranges_are = run.ranges_are;
-  store = run.store;
-  is_store = run.is_store;
-  runs = run.runs;
-  tensor_of = run.tensor_of;
-}
-ran r (Some plan) kernel entries bounds shape result tensor turns run = record {
-  ranges = run.ranges;
-  ranges_are = run.ranges_are;
-  store = run.store;
-  is_store = run.is_store;
-  runs = run.runs;
-  tensor_of = run.tensor_of;
-}
+  ran : (r : Request) (plan : Option Planned) (kernel : Kernel) (entries : List Entries) (bounds : List (Vec Bound Global))
+      (shape : List ℕ) (result : Entries) (tensor : Storage) (turns : Turns)
+      → IsStoredRun over r.statement r.formats plan kernel r.given entries bounds shape result tensor turns
+      → Ran r plan kernel entries bounds shape result tensor turns
+  ran r None kernel entries bounds shape result tensor turns run = record {
+    ranges = run.ranges;
+    ranges_are = run.ranges_are;
+    store = run.store;
+    is_store = run.is_store;
+    runs = run.runs;
+    tensor_of = run.tensor_of;
+  }
+  ran r (Some plan) kernel entries bounds shape result tensor turns run = record {
+    ranges = run.ranges;
+    ranges_are = run.ranges_are;
+    store = run.store;
+    is_store = run.is_store;
+    runs = run.runs;
+    tensor_of = run.tensor_of;
+  }
 
-pub prepared : (words : List (List ℕ)) (old new : FolderState) (r : Request) (kept : Computed) (entries : List Entries)
-    (bounds : List (Vec Bound Global)) (plan : Option Planned) → IsRunBy r plan → path_to kept.file ≡ path_of r.files 0
-    → r.statement ≡ kept.statement → kept.formats.items ≡ r.formats → HasOperands words old new r entries bounds
-    → IsKernelOf (stored_statement r.statement plan) (stored_formats r.formats plan) kept.compiled.order kept.compiled.kernel
-    → IsStoredRun r.statement r.formats plan kept.compiled.kernel r.given entries bounds kept.result.shape kept.result.entries
-    kept.result.tensor kept.result.turns
-    → AreEntries kept.result.entries → IsNumbered r.statement → IsPrepared words r.task old new kept
-prepared words old new r kept entries bounds plan is_plan path_is statement_is formats_are operands is_kernel is_run are numbered =
-    let run = ran r plan kept.compiled.kernel entries bounds kept.result.shape kept.result.entries kept.result.tensor kept.result.turns
-    is_run in
-    let named = well_named words r operands.accepted.asks in
-    let small = subst (All (λ range. range ≤ greatest_position_count)) run.is_store.ranges_are run.is_store.is_store.small in
-    let is_shape = subst IsShape (sym run.tensor_of.shape_is)
-    (ranges_shape run.ranges r.statement.left.vars numbered.left.order small) in
-    record {
-      values = record {
-        request = r;
-        entries = entries;
-        bounds = bounds;
-        operands = operands;
-        ranges = run.ranges;
-        ranges_are = run.ranges_are;
-      };
-      computed = record {
-        plan = plan;
-        is_plan = is_plan;
-        order = kept.compiled.order;
-        kernel = kept.compiled.kernel;
-        is_kernel = is_kernel;
-        store = run.store;
-        is_store = run.is_store;
-        tensor = kept.result.tensor;
-        turns = kept.result.turns;
-        runs = run.runs;
-      };
-      task_is = refl;
-      path_is = sym path_is;
-      statement_is = statement_is;
-      formats_are = sym formats_are;
-      each_format = ap length formats_are ∙ operands.accepted.asks.binds.formats_are.tensors
-          ∙ ap (λ s. length s.tensors) statement_is;
-      order_is = refl;
-      kernel_is = refl;
-      storage_is = refl;
-      turns_are = refl;
-      tensor = run.tensor_of;
-      written = subst (λ p. MayBeWritten (asks_matrix p) kept.result.shape kept.result.entries) (sym path_is)
-          (may_be_written ring r.statement entries (slice_index run.ranges) kept.result.shape kept.result.entries are is_shape run.tensor_of
-          (asks_matrix (path_of r.files 0)) (λ matrix. result_is_matrix r.statement operands.accepted.asks.rest (needs_files r.task)
-          r.formats r.files r.given operands.accepted.asks.binds named.result matrix));
-      finished = run.runs.has_run.done;
-    }
+  pub prepared : (words : List (List ℕ)) (old new : FolderState) (r : Request) (kept : Computed) (entries : List Entries)
+      (bounds : List (Vec Bound Global)) (plan : Option Planned) → IsRunBy r plan → path_to kept.file ≡ path_of r.files 0
+      → r.statement ≡ kept.statement → kept.formats.items ≡ r.formats → HasOperands over words old new r entries bounds
+      → IsKernelOf over (stored_statement r.statement plan) (stored_formats r.formats plan) kept.compiled.order kept.compiled.kernel
+      → IsStoredRun over r.statement r.formats plan kept.compiled.kernel r.given entries bounds kept.result.shape kept.result.entries
+      kept.result.tensor kept.result.turns
+      → AreEntries kept.result.entries → IsNumbered r.statement → IsPrepared over words r.task old new kept
+  prepared words old new r kept entries bounds plan is_plan path_is statement_is formats_are operands is_kernel is_run are numbered =
+      let run = ran r plan kept.compiled.kernel entries bounds kept.result.shape kept.result.entries kept.result.tensor kept.result.turns
+      is_run in
+      let named = well_named words r operands.accepted.asks in
+      let small = subst (All (λ range. range ≤ greatest_position_count)) run.is_store.ranges_are run.is_store.is_store.small in
+      let is_shape = subst IsShape (sym run.tensor_of.shape_is)
+      (ranges_shape run.ranges r.statement.left.vars numbered.left.order small) in
+      record {
+        values = record {
+          request = r;
+          entries = entries;
+          bounds = bounds;
+          operands = operands;
+          ranges = run.ranges;
+          ranges_are = run.ranges_are;
+        };
+        computed = record {
+          plan = plan;
+          is_plan = is_plan;
+          order = kept.compiled.order;
+          kernel = kept.compiled.kernel;
+          is_kernel = is_kernel;
+          store = run.store;
+          is_store = run.is_store;
+          tensor = kept.result.tensor;
+          turns = kept.result.turns;
+          runs = run.runs;
+        };
+        task_is = refl;
+        path_is = sym path_is;
+        statement_is = statement_is;
+        formats_are = sym formats_are;
+        each_format = ap length formats_are ∙ operands.accepted.asks.binds.formats_are.tensors
+            ∙ ap (λ s. length s.tensors) statement_is;
+        order_is = refl;
+        kernel_is = refl;
+        storage_is = refl;
+        turns_are = refl;
+        tensor = run.tensor_of;
+        written = subst (λ p. MayBeWritten (asks_matrix p) kept.result.shape kept.result.entries) (sym path_is)
+            (may_be_written over.arithmetic r.statement entries
+            (slice_index run.ranges) kept.result.shape kept.result.entries are is_shape run.tensor_of
+            (asks_matrix (path_of r.files 0)) (λ matrix. result_is_matrix r.statement operands.accepted.asks.rest (needs_files r.task)
+            r.formats r.files r.given operands.accepted.asks.binds named.result matrix));
+        finished = run.runs.has_run.done;
+      }

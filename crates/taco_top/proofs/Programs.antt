@@ -6,6 +6,7 @@ use Rattle.outside.specs.Folder.{FolderState}
 use Rattle.outside.specs.Sink.{SinkState}
 use Rattle.refusals.specs.Lines.{status_of, line_of}
 use Rattle.refusals.specs.declared.fault.Fault.TheVariants as fault
+use Rattle.taco_top.specs.Values.{values_in}
 use Rattle.taco_top.specs.Ends.{Ends, Cause, PutsLine, Refused}
 use Rattle.taco_top.proofs.Stopped.{stopped, reads_nothing}
 
@@ -15,7 +16,8 @@ pub ends_same : (words same : List (String Global)) (files files' : FolderState)
 ends_same words same files files' out out' err err' status told words_are status_is ends = record {
   ended = ends.ended;
   status_is = status_is ∙ ends.status_is;
-  cause = subst (λ ws. Cause (map (string_bytes {Z = Global}) ws) files files' out out' ends.ended) words_are ends.cause;
+  cause = subst (λ ws. Cause (values_in (map (string_bytes {Z = Global}) ws)) (map (string_bytes {Z = Global}) ws) files files' out out'
+      ends.ended) words_are ends.cause;
   line = ends.line;
 }
 
@@ -25,6 +27,7 @@ pub wants_memory : (words : List (String Global)) (files : FolderState) (out err
 wants_memory words files out err err' status is line = record {
   ended = Refused fault.Memory;
   status_is = is;
-  cause = stopped (map (string_bytes {Z = Global}) words) files files out fault.Memory (reads_nothing files) (inl refl);
+  cause = stopped (values_in (map (string_bytes {Z = Global}) words)) (map
+      (string_bytes {Z = Global}) words) files files out fault.Memory (reads_nothing files) (inl refl);
   line = line;
 }

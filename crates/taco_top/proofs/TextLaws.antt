@@ -1,6 +1,7 @@
 -- Where a kernel, a plan or a workload is asked for, a command ends with its text.
 use Rattle.std.specs.Prelude.{◌≡◌, ℕ, ◌⊎◌, List, Option, None, Some, true, length, map, String, string_bytes, refl}
 use Rattle.std.specs.Option.{option_map}
+use denote.Ref.{Bor}
 use Rattle.std.proofs.Common.{◌∙◌, sym, ap, subst, inl, inr}
 use Rattle.std.specs.declared.alloc.Global.{Global}
 use Rattle.outside.specs.Count.{Rose}
@@ -14,6 +15,7 @@ use Rattle.iteration_graph.specs.Edges.{statement_edges}
 use Rattle.iteration_graph.proofs.OrderLaws.{no_order}
 use Rattle.taco_compiler.specs.Compiled.{HasCycle}
 use Rattle.command_line.specs.CommandLine.{Statement as StatementLine, Workload as WorkloadLine, command_line_of}
+use Rattle.command_line.specs.declared.Over.{Over}
 use Rattle.command_line.specs.declared.Task.{Task}
 use Rattle.command_line.specs.declared.Task.TheVariants as task
 use Rattle.refusals.specs.Lines.{status_of}
@@ -21,6 +23,7 @@ use Rattle.refusals.specs.declared.fault.NamedFault.TheVariants as named
 use Rattle.refusals.specs.declared.fault.Fault.{Fault}
 use Rattle.refusals.specs.declared.fault.Fault.TheVariants as fault
 use Rattle.mode_planner.specs.Planned.{HaveOrder}
+use Rattle.taco_top.specs.Values.{Values, values_in}
 use Rattle.taco_top.specs.Asked.{IsRefusedByWords, IsWant, needs_files, needs_order, writes_result}
 use Rattle.taco_top.proofs.OneRequest as request
 use Rattle.taco_top.specs.Run.{Request, AsksFor}
@@ -30,7 +33,7 @@ use Rattle.taco_top.specs.Ends.{Ends, Ending, Written, Printed, Refused, Cause, 
 use Rattle.taco_top.proofs.WholeLaws.{one_request}
 
 -- ---- a kernel or a plan: what is asked for reads no file, and no cycle refuses it
-module _ (words : List (List ℕ)) (files files' : FolderState) (out out' : SinkState) (r : Request) (asks : AsksFor words r)
+module _ (over : Values) (words : List (List ℕ)) (files files' : FolderState) (out out' : SinkState) (r : Request) (asks : AsksFor words r)
     (no_files : needs_files r.task ≡ true → ⊥) (no_writing : writes_result r.task ≡ true → ⊥)
     (no_cycle : (s : Statement) (cycle : List ℕ) → HasCycleFault words s cycle → ⊥) (no_out : Rose out.faults out'.faults → ⊥) where
   -- nothing else is asked for
@@ -41,15 +44,16 @@ module _ (words : List (List ℕ)) (files files' : FolderState) (out out' : Sink
   writes_none q asks' writes = no_writing (sym (ap (λ x. writes_result x.task) (one_request words q r asks' asks)) ∙ writes)
 
   never_by_words : (why : Fault) → IsRefusedByWords words why → IsWant why
-  never_by_words why is = request.never_both words r.task r.statement r.formats r.files r.given why asks is
+  never_by_words why is = request.never_both words r.task r.over r.statement r.formats r.files r.given why asks is
 
-  not_failed : (path : Option (List ℕ)) → FailsToWrite words files files' out out' path → ⊥
+  not_failed : (path : Option (List ℕ)) → FailsToWrite over words files files' out out' path → ⊥
   not_failed path (inl is) = writes_none is.values.request is.values.operands.accepted.asks is.task_writes
   not_failed path (inr is) = no_out is.1.puts.cause.0.rose
 
-  text_refused : (why : Fault) → Refuses words files files' out out' why → why ≡ fault.Memory
+  text_refused : (why : Fault) → Refuses over words files files' out out' why → why ≡ fault.Memory
   text_refused fault.Usage is = absurd (never_by_words fault.Usage is.stops.refused)
   text_refused (fault.Notation why) is = absurd (never_by_words (fault.Notation why) is.stops.refused)
+  text_refused (fault.NoMinus name) is = absurd (never_by_words (fault.NoMinus name) is.stops.refused)
   text_refused (fault.Named s (named.Name why)) is = absurd (never_by_words (fault.Named s (named.Name why)) is.stops.refused)
   text_refused (fault.Named s (named.Binding why)) is = absurd (never_by_words (fault.Named s (named.Binding why)) is.stops.refused)
   text_refused (fault.Named s (named.Cycle cycle)) is = absurd (no_cycle s cycle is.stops.1)
@@ -65,7 +69,7 @@ module _ (words : List (List ℕ)) (files files' : FolderState) (out out' : Sink
   text_refused (fault.WriteFault path) is = absurd (not_failed (option_map (λ p. p.now) path) is)
   text_refused fault.Memory is = refl
 
-  text_ends_well : (ended : Ending) → Cause words files files' out out' ended → (status_of_end ended ≡ 0) ⊎ (status_of_end ended ≡ 5)
+  text_ends_well : (ended : Ending) → Cause over words files files' out out' ended → (status_of_end ended ≡ 0) ⊎ (status_of_end ended ≡ 5)
   text_ends_well (Written turns) cause = inl refl
   text_ends_well Printed cause = inl refl
   text_ends_well (Refused why) cause = inr (ap status_of (text_refused why cause))
@@ -116,13 +120,15 @@ module _ (words : List (List ℕ)) (r : Request) (asks : AsksFor words r) (task_
       never e = cc
 
 -- ---- a workload
-module _ (words : List (List ℕ)) (files files' : FolderState) (out out' : SinkState) (size : ℕ)
+module _ (over : Values) (words : List (List ℕ)) (files files' : FolderState) (out out' : SinkState) (size : ℕ)
     (line : command_line_of words ≡ Some (WorkloadLine size)) (no_out : Rose out.faults out'.faults → ⊥) where
   -- no statement is asked for, and the words are a command line
-  no_statement : {t : Task} {expr : List ℕ} {rest : List (List ℕ)} → command_line_of words ≡ Some (StatementLine t expr rest) → ⊥
+  no_statement : {t : Task} {o : Over} {expr : List ℕ} {rest : List (List ℕ)}
+      → command_line_of words ≡ Some (StatementLine t o expr rest) → ⊥
   no_statement is = never (sym line ∙ is)
     where
-      never : {t : Task} {expr : List ℕ} {rest : List (List ℕ)} → Some (WorkloadLine size) ≡ Some (StatementLine t expr rest) → ⊥
+      never : {t : Task} {o : Over} {expr : List ℕ} {rest : List (List ℕ)}
+          → Some (WorkloadLine size) ≡ Some (StatementLine t o expr rest) → ⊥
       never e = cc
 
   some : command_line_of words ≡ None → ⊥
@@ -132,21 +138,25 @@ module _ (words : List (List ℕ)) (files files' : FolderState) (out out' : Sink
       never e = cc
 
   by_notation : (why : NotationFault) → IsRefusedByWords words (fault.Notation why) → ⊥
-  by_notation why (t, text, rest, is, other) = no_statement is
+  by_notation why (t, o, text, rest, is, other) = no_statement is
 
   by_name : (s : Statement) (why : NameFault) → IsRefusedByWords words (fault.Named s (named.Name why)) → ⊥
-  by_name s why (t, text, rest, is, notation, other) = no_statement is
+  by_name s why (t, o, text, rest, is, notation, other) = no_statement is
+
+  by_minus : (name : Bor (List ℕ)) → IsRefusedByWords words (fault.NoMinus name) → ⊥
+  by_minus name (t, o, text, rest, is, s, notation, names, other) = no_statement is
 
   by_binding : (s : Statement) (why : BindingFault) → IsRefusedByWords words (fault.Named s (named.Binding why)) → ⊥
-  by_binding s why (t, rest, names, other) = no_statement names.line
+  by_binding s why (t, o, rest, names, other) = no_statement names.line
 
-  unfailed : (path : Option (List ℕ)) → FailsToWrite words files files' out out' path → ⊥
+  unfailed : (path : Option (List ℕ)) → FailsToWrite over words files files' out out' path → ⊥
   unfailed path (inl is) = no_statement is.values.operands.accepted.asks.names.line
   unfailed path (inr is) = no_out is.1.puts.cause.0.rose
 
-  workload_refused : (why : Fault) → Refuses words files files' out out' why → why ≡ fault.Memory
+  workload_refused : (why : Fault) → Refuses over words files files' out out' why → why ≡ fault.Memory
   workload_refused fault.Usage is = absurd (some is.stops.refused)
   workload_refused (fault.Notation why) is = absurd (by_notation why is.stops.refused)
+  workload_refused (fault.NoMinus name) is = absurd (by_minus name is.stops.refused)
   workload_refused (fault.Named s (named.Name why)) is = absurd (by_name s why is.stops.refused)
   workload_refused (fault.Named s (named.Binding why)) is = absurd (by_binding s why is.stops.refused)
   workload_refused (fault.Named s (named.Cycle cycle)) is = absurd (no_statement is.stops.1.asks.names.line)
@@ -160,7 +170,7 @@ module _ (words : List (List ℕ)) (files files' : FolderState) (out out' : Sink
   workload_refused (fault.WriteFault path) is = absurd (unfailed (option_map (λ p. p.now) path) is)
   workload_refused fault.Memory is = refl
 
-  workload_ends_well : (ended : Ending) → Cause words files files' out out' ended
+  workload_ends_well : (ended : Ending) → Cause over words files files' out out' ended
       → (status_of_end ended ≡ 0) ⊎ (status_of_end ended ≡ 5)
   workload_ends_well (Written turns) cause = inl refl
   workload_ends_well Printed cause = inl refl
@@ -172,7 +182,7 @@ pub kernel_ends : (words : List (String Global)) (request : Request) (files file
 kernel_ends words request files files' out out' err err' status accepted task_is no_out ends =
     let ws = map string_bytes words in
     subst (λ n. (n ≡ 0) ⊎ (n ≡ 5)) (sym ends.status_is)
-    (text_ends_well ws files files' out out' request accepted.asks (kernel_reads_none ws request accepted task_is)
+    (text_ends_well (values_in ws) ws files files' out out' request accepted.asks (kernel_reads_none ws request accepted task_is)
     (kernel_writes_none ws request accepted task_is) (kernel_has_no_cycle ws request accepted task_is) no_out ends.ended ends.cause)
 
 pub plan_ends : (words : List (String Global)) (request : Request) (files files' : FolderState) (out out' err err' : SinkState)
@@ -181,7 +191,7 @@ pub plan_ends : (words : List (String Global)) (request : Request) (files files'
 plan_ends words request files files' out out' err err' status asks task_is no_out ends =
     let ws = map string_bytes words in
     subst (λ n. (n ≡ 0) ⊎ (n ≡ 5)) (sym ends.status_is)
-    (text_ends_well ws files files' out out' request asks (plan_reads_none ws request asks task_is)
+    (text_ends_well (values_in ws) ws files files' out out' request asks (plan_reads_none ws request asks task_is)
     (plan_writes_none ws request asks task_is) (plan_has_no_cycle ws request asks task_is) no_out ends.ended ends.cause)
 
 pub workload_ends : (words : List (String Global)) (size : ℕ) (files files' : FolderState) (out out' err err' : SinkState)
@@ -189,4 +199,5 @@ pub workload_ends : (words : List (String Global)) (size : ℕ) (files files' : 
     → Ends words files files' out out' err err' status → (status ≡ 0) ⊎ (status ≡ 5)
 workload_ends words size files files' out out' err err' status line no_out ends =
     subst (λ n. (n ≡ 0) ⊎ (n ≡ 5)) (sym ends.status_is)
-    (workload_ends_well (map string_bytes words) files files' out out' size line no_out ends.ended ends.cause)
+    (workload_ends_well (values_in (map string_bytes words))
+    (map string_bytes words) files files' out out' size line no_out ends.ended ends.cause)

@@ -11,11 +11,12 @@ use Rattle.expr_terms.specs.declared.range_fault.RangeFault.TheVariants as range
 use Rattle.bindings.specs.declared.fault.WordFault.{WordFault}
 use Rattle.bindings.specs.declared.fault.WordFault.TheVariants.{BadBinding, UnknownName, Twice, NotMatrix, RangeLimit}
 use Rattle.bindings.specs.declared.fault.BindingFault.TheVariants as binding
-use Rattle.refusals.specs.Lines.{named_status, notation_status, word_status}
+use Rattle.refusals.specs.Lines.{named_status, notation_status, status_of, word_status}
 use Rattle.refusals.specs.declared.fault.NamedFault.{NamedFault}
 use Rattle.refusals.specs.declared.fault.NamedFault.TheVariants as named
 use Rattle.refusals.specs.declared.fault.Fault.TheVariants as fault
 use Rattle.command_line.specs.CommandLine.{CommandLine, command_line_of}
+use Rattle.taco_top.specs.Values.{Values, values_in}
 use Rattle.taco_top.specs.Asked.{IsRefusedByWords}
 use Rattle.taco_top.specs.Told.{Tells}
 use Rattle.taco_top.specs.Refused.{FailsToWrite}
@@ -53,12 +54,13 @@ named_not_two (named.Range (range.OutOfRange tensor coordinate exact)) is = cc
 named_not_two (named.Range (range.Memory error)) is = cc
 named_not_two (named.SizeLimit large) is = cc
 
-module _ (words : List (List ℕ)) (files files' : FolderState) (out out' : SinkState) where
-  told : (ended : Ending) → 2 ≡ status_of_end ended → Cause words files files' out out' ended → command_line_of words ≡ None
+module _ (over : Values) (words : List (List ℕ)) (files files' : FolderState) (out out' : SinkState) where
+  told : (ended : Ending) → 2 ≡ status_of_end ended → Cause over words files files' out out' ended → command_line_of words ≡ None
   told (Written turns) is cause = absurd cc
   told Printed is cause = absurd cc
   told (Refused fault.Usage) is cause = cause.stops.refused
   told (Refused (fault.Notation why)) is cause = absurd (notation_not_two why is)
+  told (Refused (fault.NoMinus name)) is cause = absurd cc
   told (Refused (fault.Named s why)) is cause = absurd (named_not_two why is)
   told (Refused (fault.WorkspaceLimit count)) is cause = absurd cc
   told (Refused (fault.ReadFault path)) is cause = absurd cc
@@ -73,13 +75,13 @@ module _ (words : List (List ℕ)) (files files' : FolderState) (out out' : Sink
     never is = apart (sym none ∙ is)
 
     -- there is no text for them
-    nothing_told : {text : List ℕ} → Tells words files files' text → ⊥
+    nothing_told : {text : List ℕ} → Tells over words files files' text → ⊥
     nothing_told (inl is) = never is.accepted.asks.names.line
     nothing_told (inr (inl is)) = never is.values.operands.accepted.asks.names.line
     nothing_told (inr (inr (inl is))) = never is.line
     nothing_told (inr (inr (inr is))) = never is.asks.names.line
 
-    found : (ended : Ending) → Cause words files files' out out' ended
+    found : (ended : Ending) → Cause over words files files' out out' ended
         → (status_of_end ended ≡ 2) ⊎ (status_of_end ended ≡ 5)
     found (Written turns) cause = absurd (never cause.written.values.operands.accepted.asks.names.line)
     found Printed cause = absurd (nothing_told cause.tells)
@@ -87,17 +89,21 @@ module _ (words : List (List ℕ)) (files files' : FolderState) (out out' : Sink
     found (Refused (fault.Notation why)) cause = by cause.stops.refused
       where
         by : IsRefusedByWords words (fault.Notation why) → (notation_status why ≡ 2) ⊎ (notation_status why ≡ 5)
-        by (task, text, rest, line, is) = absurd (never line)
+        by (task, o, text, rest, line, is) = absurd (never line)
+    found (Refused (fault.NoMinus name)) cause = by cause.stops.refused
+      where
+        by : IsRefusedByWords words (fault.NoMinus name) → (status_of (fault.NoMinus name) ≡ 2) ⊎ (status_of (fault.NoMinus name) ≡ 5)
+        by (task, o, text, rest, line, s, notation, names, is) = absurd (never line)
     found (Refused (fault.Named s (named.Name why))) cause = by cause.stops.refused
       where
         by : IsRefusedByWords words (fault.Named s (named.Name why))
             → (named_status (named.Name why) ≡ 2) ⊎ (named_status (named.Name why) ≡ 5)
-        by (task, text, rest, line, notation, is) = absurd (never line)
+        by (task, o, text, rest, line, notation, is) = absurd (never line)
     found (Refused (fault.Named s (named.Binding why))) cause = by cause.stops.refused
       where
         by : IsRefusedByWords words (fault.Named s (named.Binding why))
             → (named_status (named.Binding why) ≡ 2) ⊎ (named_status (named.Binding why) ≡ 5)
-        by (task, rest, names, is) = absurd (never names.line)
+        by (task, o, rest, names, is) = absurd (never names.line)
     found (Refused (fault.Named s (named.Cycle cycle))) cause = absurd (never cause.stops.1.asks.names.line)
     found (Refused (fault.Named s (named.Range why))) cause = absurd (never cause.stops.operands.accepted.asks.names.line)
     found (Refused (fault.Named s (named.SizeLimit large))) cause =
@@ -108,7 +114,7 @@ module _ (words : List (List ℕ)) (files files' : FolderState) (out out' : Sink
     found (Refused (fault.BadFile path line kind)) cause = absurd (never cause.stops.accepted.asks.names.line)
     found (Refused (fault.WriteFault path)) cause = absurd (by cause)
       where
-        by : FailsToWrite words files files' out out' (option_map (λ p. p.now) path) → ⊥
+        by : FailsToWrite over words files files' out out' (option_map (λ p. p.now) path) → ⊥
         by (inl is) = never is.values.operands.accepted.asks.names.line
         by (inr is) = nothing_told is.1.tells
     found (Refused fault.Memory) cause = inr refl
@@ -116,11 +122,11 @@ module _ (words : List (List ℕ)) (files files' : FolderState) (out out' : Sink
 pub usage_told : (words : List (String Global)) (files files' : FolderState) (out out' err err' : SinkState)
     → Ends words files files' out out' err err' 2 → command_line_of (map string_bytes words) ≡ None
 usage_told words files files' out out' err err' ends =
-    told (map string_bytes words) files files' out out' ends.ended ends.status_is ends.cause
+    told (values_in (map string_bytes words)) (map string_bytes words) files files' out out' ends.ended ends.status_is ends.cause
 
 pub usage_found : (words : List (String Global)) (files files' : FolderState) (out out' err err' : SinkState) (status : ℕ)
     → command_line_of (map string_bytes words) ≡ None → Ends words files files' out out' err err' status
     → (status ≡ 2) ⊎ (status ≡ 5)
 usage_found words files files' out out' err err' status none ends =
     subst (λ n. (n ≡ 2) ⊎ (n ≡ 5)) (sym ends.status_is)
-    (found (map string_bytes words) files files' out out' none ends.ended ends.cause)
+    (found (values_in (map string_bytes words)) (map string_bytes words) files files' out out' none ends.ended ends.cause)

@@ -5,8 +5,13 @@ use Rattle.std.specs.Option.{option_map}
 use Rattle.std.proofs.Common.{◌∙◌, sym, ap, subst, inl, inr}
 use Rattle.std.proofs.lemmas.List.FromFn.{length-map-range_with_len}
 use Rattle.std.specs.declared.alloc.Global.{Global}
-use Rattle.numbers.specs.Ring.{ring}
+use Rattle.numbers.specs.Arithmetic.{Laws}
 use Rattle.numbers.specs.RingLaws.{ring_laws}
+use Rattle.semirings.specs.MinPlus.{length_laws}
+use Rattle.semirings.specs.Bits.{flag_laws}
+use Rattle.command_line.specs.CommandLine.{CommandLine, Statement as StatementLine, Workload, command_line_of}
+use Rattle.command_line.specs.declared.Over.{Over}
+use Rattle.command_line.specs.declared.Over.TheVariants as semiring
 use Rattle.outside.specs.Count.{Rose}
 use Rattle.outside.specs.Folder.{FolderState}
 use Rattle.outside.specs.Sink.{SinkState}
@@ -40,6 +45,7 @@ use Rattle.refusals.specs.declared.fault.NamedFault.TheVariants as named
 use Rattle.refusals.specs.declared.fault.Fault.{Fault}
 use Rattle.refusals.specs.declared.fault.Fault.TheVariants as fault
 use Rattle.refusals.specs.Lines.{status_of}
+use Rattle.taco_top.specs.Values.{Values, values_of, values_of_line, values_in}
 use Rattle.taco_top.specs.Asked.{IsRefusedByWords, IsWant, needs_order}
 use Rattle.taco_top.proofs.OneRequest as request
 use Rattle.taco_top.specs.Run.{Request, AsksFor, operand_path, path_of}
@@ -78,18 +84,26 @@ fault_rose (Some name) text between files' out out' puts = inl puts.0.cause.0.ro
 -- the words ask for one thing
 pub one_request : (words : List (List ℕ)) (r q : Request) → AsksFor words r → AsksFor words q → r ≡ q
 one_request words r q asks other =
-    let t = request.same_task words r.task q.task r.statement q.statement r.formats q.formats r.files q.files r.given q.given asks other in
-    let s = request.same_statement words r.task q.task r.statement q.statement r.formats q.formats r.files q.files r.given q.given asks
+    let t = request.same_task words r.task q.task r.over q.over r.statement q.statement r.formats q.formats r.files q.files r.given
+        q.given asks other in
+    let o = request.same_over words r.task q.task r.over q.over r.statement q.statement r.formats q.formats r.files q.files r.given
+        q.given asks
     other in
-    let formats = request.same_formats words r.task q.task r.statement q.statement r.formats q.formats r.files q.files r.given q.given asks
+    let s = request.same_statement words r.task q.task r.over q.over r.statement q.statement r.formats q.formats r.files q.files r.given
+        q.given asks
     other in
-    let fs = request.same_files words r.task q.task r.statement q.statement r.formats q.formats r.files q.files r.given q.given asks
+    let formats = request.same_formats words r.task q.task r.over q.over r.statement q.statement r.formats q.formats r.files q.files
+        r.given q.given asks
     other in
-    let gs = request.same_ranges words r.task q.task r.statement q.statement r.formats q.formats r.files q.files r.given q.given asks
+    let fs = request.same_files words r.task q.task r.over q.over r.statement q.statement r.formats q.formats r.files q.files r.given
+        q.given asks
     other in
-    λ i. record { task = t i; statement = s i; formats = formats i; files = fs i; given = gs i }
+    let gs = request.same_ranges words r.task q.task r.over q.over r.statement q.statement r.formats q.formats r.files q.files r.given
+        q.given asks
+    other in
+    λ i. record { task = t i; over = o i; statement = s i; formats = formats i; files = fs i; given = gs i }
 
-module _ (words : List (List ℕ)) (files : FolderState) (whole : IsWhole words files.holds) where
+module _ (over : Values) (words : List (List ℕ)) (files : FolderState) (whole : IsWhole over words files.holds) where
   as_many : length (asked_orders whole.request) ≡ length (asked_paths whole.request)
   as_many = length-map-range_with_len (order_of whole.request.statement) 1 (length whole.request.statement.tensors - 1)
       ∙ sym (length-map-range_with_len (operand_path whole.request.statement whole.request.files) 1
@@ -105,10 +119,11 @@ module _ (words : List (List ℕ)) (files : FolderState) (whole : IsWhole words 
 
   -- ---- the operands that were read are those that the folder tells
   module _ (new : FolderState) (entries : List Entries) (bounds : List (Vec Bound Global))
-      (operands : HasOperands words files new whole.request entries bounds) where
+      (operands : HasOperands over words files new whole.request entries bounds) where
     operands_are : operands.read.operands ≡ whole.operands
     operands_are = ap (ok_of [])
-        (sym (told_answer means files new (asked_orders whole.request) (asked_paths whole.request) entries (map (λ b. b.items) bounds)
+        (sym (told_answer (means over) files new (asked_orders whole.request) (asked_paths whole.request) entries (map
+        (λ b. b.items) bounds)
         whole.told as_many operands.read)
         ∙ whole.operands_are)
 
@@ -124,36 +139,37 @@ module _ (words : List (List ℕ)) (files : FolderState) (whole : IsWhole words 
 
     -- no size passes a limit, as the operands are stored
     fits : (plan : Option Planned) → IsRunBy whole.request plan
-        → AllFit ring (stored_statement whole.request.statement plan) (stored_formats whole.request.formats plan) whole.ranges
+        → AllFit over.arithmetic (stored_statement whole.request.statement plan) (stored_formats whole.request.formats plan) whole.ranges
         (stored_entries entries plan)
     fits plan is_plan =
-        subst (λ es. AllFit ring (stored_statement whole.request.statement plan) (stored_formats whole.request.formats plan) whole.ranges
+        subst (λ es. AllFit over.arithmetic (stored_statement whole.request.statement plan)
+            (stored_formats whole.request.formats plan) whole.ranges
         (stored_entries es plan)) (sym entries_are) (whole.fits plan is_plan)
 
     no_size_fault : (plan : Option Planned) (why : RunFault) → IsRunBy whole.request plan
-        → MayRefuseStored whole.request.statement whole.request.formats plan whole.request.given entries bounds why → IsOfSizes why → ⊥
+        → MayRefuseStored over whole.request.statement whole.request.formats plan whole.request.given entries bounds why → IsOfSizes why → ⊥
     no_size_fault None why is_plan may of_sizes =
-        none_refused ring whole.request.statement whole.request.formats whole.request.given entries bounds whole.ranges why
+        none_refused over.arithmetic whole.request.statement whole.request.formats whole.request.given entries bounds whole.ranges why
         told_there (fits None is_plan) may of_sizes
     no_size_fault (Some plan) why is_plan may of_sizes =
-        planned_none_refused ring whole.request.statement plan whole.request.given entries bounds whole.ranges why
+        planned_none_refused over.arithmetic whole.request.statement plan whole.request.given entries bounds whole.ranges why
         told_there (fits (Some plan) is_plan) may of_sizes
 
   operands_at : (new : FolderState) (r : Request) (entries : List Entries) (bounds : List (Vec Bound Global))
-      → HasOperands words files new r entries bounds → HasOperands words files new whole.request entries bounds
+      → HasOperands over words files new r entries bounds → HasOperands over words files new whole.request entries bounds
   operands_at new r entries bounds operands =
-      subst (λ q. HasOperands words files new q entries bounds) (request_is r operands.accepted.asks) operands
+      subst (λ q. HasOperands over words files new q entries bounds) (request_is r operands.accepted.asks) operands
 
   -- what is too large, as the run's refusal
   large_stored : (plan : Option Planned) (entries : List Entries) (bounds : List (Vec Bound Global)) (large : LargeLevel)
-      → IsLargeStoredLevel whole.request.statement whole.request.formats plan whole.request.given entries bounds large
-      → MayRefuseStored whole.request.statement whole.request.formats plan whole.request.given entries bounds (SizeLimit large)
+      → IsLargeStoredLevel over whole.request.statement whole.request.formats plan whole.request.given entries bounds large
+      → MayRefuseStored over whole.request.statement whole.request.formats plan whole.request.given entries bounds (SizeLimit large)
   large_stored None entries bounds large is = is
   large_stored (Some plan) entries bounds large is = is
 
   pairs_stored : (plan : Option Planned) (entries : List Entries) (bounds : List (Vec Bound Global)) (count : ℕ)
-      → NeedsStoredPairs whole.request.statement whole.request.formats plan whole.request.given entries bounds count
-      → MayRefuseStored whole.request.statement whole.request.formats plan whole.request.given entries bounds (Workspace count)
+      → NeedsStoredPairs over whole.request.statement whole.request.formats plan whole.request.given entries bounds count
+      → MayRefuseStored over whole.request.statement whole.request.formats plan whole.request.given entries bounds (Workspace count)
   pairs_stored None entries bounds count is = is
   pairs_stored (Some plan) entries bounds count is = is
 
@@ -161,10 +177,11 @@ module _ (words : List (List ℕ)) (files : FolderState) (whole : IsWhole words 
   module _ (new : FolderState) (no_fault : Rose files.read_faults new.read_faults → ⊥) where
     never_by_words : (why : Fault) → IsRefusedByWords words why → IsWant why
     never_by_words why is =
-        request.never_both words whole.request.task whole.request.statement whole.request.formats whole.request.files whole.request.given
+        request.never_both words whole.request.task whole.request.over whole.request.statement whole.request.formats whole.request.files
+            whole.request.given
         why whole.accepted.asks is
 
-    no_range_fault : (s : Statement) (why : RangeFault) → HasRangeFault words files new s why → ⊥
+    no_range_fault : (s : Statement) (why : RangeFault) → HasRangeFault over words files new s why → ⊥
     no_range_fault s why is =
         let r = request_is is.request is.operands.accepted.asks in
         let there = told_there new is.entries is.bounds (operands_at new is.request is.entries is.bounds is.operands) in
@@ -172,21 +189,21 @@ module _ (words : List (List ℕ)) (files : FolderState) (whole : IsWhole words 
         subst (λ q. told_ranges q.statement q.given is.bounds ≡ Ok whole.ranges) (sym r) there in
         apart (sym here ∙ ap (λ u. told_ranges u is.request.given is.bounds) is.statement_is ∙ is.is)
 
-    no_level_fault : (s : Statement) (large : LargeLevel) → HasLargeLevel words files new s large → ⊥
+    no_level_fault : (s : Statement) (large : LargeLevel) → HasLargeLevel over words files new s large → ⊥
     no_level_fault s large is =
         no_size_fault new is.entries is.bounds (operands_at new is.request is.entries is.bounds is.operands) is.plan (SizeLimit large)
         (subst (λ q. IsRunBy q is.plan) (request_is is.request is.operands.accepted.asks) is.is_plan)
         (large_stored is.plan is.entries is.bounds large
-        (subst (λ q. IsLargeStoredLevel q.statement q.formats is.plan q.given is.entries is.bounds large)
+        (subst (λ q. IsLargeStoredLevel over q.statement q.formats is.plan q.given is.entries is.bounds large)
         (request_is is.request is.operands.accepted.asks) is.is))
         tt
 
-    no_pairs_fault : (count : ℕ) → HasManyPairs words files new count → ⊥
+    no_pairs_fault : (count : ℕ) → HasManyPairs over words files new count → ⊥
     no_pairs_fault count is =
         no_size_fault new is.entries is.bounds (operands_at new is.request is.entries is.bounds is.operands) is.plan (Workspace count)
         (subst (λ q. IsRunBy q is.plan) (request_is is.request is.operands.accepted.asks) is.is_plan)
         (pairs_stored is.plan is.entries is.bounds count
-        (subst (λ q. NeedsStoredPairs q.statement q.formats is.plan q.given is.entries is.bounds count)
+        (subst (λ q. NeedsStoredPairs over q.statement q.formats is.plan q.given is.entries is.bounds count)
         (request_is is.request is.operands.accepted.asks) is.needs))
         tt
 
@@ -202,9 +219,10 @@ module _ (words : List (List ℕ)) (files : FolderState) (whole : IsWhole words 
         order : HaveOrder whole.request.statement whole.request.formats
         order = whole.accepted.ordered (sym (ap (λ q. needs_order q.task) (request_is is.request is.asks)) ∙ is.needs)
 
-    never_stops : (why : Fault) → Stops words files new why → why ≡ fault.Memory
+    never_stops : (why : Fault) → Stops over words files new why → why ≡ fault.Memory
     never_stops fault.Usage is = absurd (never_by_words fault.Usage is.refused)
     never_stops (fault.Notation why) is = absurd (never_by_words (fault.Notation why) is.refused)
+    never_stops (fault.NoMinus name) is = absurd (never_by_words (fault.NoMinus name) is.refused)
     never_stops (fault.Named s (named.Name why)) is = absurd (never_by_words (fault.Named s (named.Name why)) is.refused)
     never_stops (fault.Named s (named.Binding why)) is = absurd (never_by_words (fault.Named s (named.Binding why)) is.refused)
     never_stops (fault.Named s (named.Cycle cycle)) (same, is) = absurd (no_cycle_fault s cycle is)
@@ -212,21 +230,23 @@ module _ (words : List (List ℕ)) (files : FolderState) (whole : IsWhole words 
     never_stops (fault.Named s (named.SizeLimit large)) is = absurd (no_level_fault s large is)
     never_stops (fault.WorkspaceLimit count) is = absurd (no_pairs_fault count is)
     never_stops (fault.ReadFault path) is =
-        absurd (told_others means files new (asked_orders whole.request) (asked_paths whole.request) (operand.ReadFault path) whole.told
-        no_fault (reading_at (λ orders paths. RefusedAtFault means files new orders paths path.now) is))
+        absurd (told_others (means over) files new (asked_orders whole.request) (asked_paths whole.request)
+            (operand.ReadFault path) whole.told
+        no_fault (reading_at (λ orders paths. RefusedAtFault (means over) files new orders paths path.now) is))
     never_stops (fault.FileBytes path) is =
-        absurd (told_others means files new (asked_orders whole.request) (asked_paths whole.request) (operand.FileBytes path) whole.told
-        no_fault (reading_at (λ orders paths. RefusedAtLength means files new orders paths path.now) is))
+        absurd (told_others (means over) files new (asked_orders whole.request) (asked_paths whole.request)
+            (operand.FileBytes path) whole.told
+        no_fault (reading_at (λ orders paths. RefusedAtLength (means over) files new orders paths path.now) is))
     never_stops (fault.BadFile path line kind) is =
         absurd (apart (sym whole.operands_are
-        ∙ told_bad_line means files new (asked_orders whole.request) (asked_paths whole.request) path.now line kind whole.told
-        (reading_at (λ orders paths. RefusedAtLine means files new orders paths path.now line kind) is)))
+        ∙ told_bad_line (means over) files new (asked_orders whole.request) (asked_paths whole.request) path.now line kind whole.told
+        (reading_at (λ orders paths. RefusedAtLine (means over) files new orders paths path.now line kind) is)))
     never_stops (fault.WriteFault path) is = absurd is
     never_stops fault.Memory is = refl
 
   never_written_off : (files' : FolderState) (out out' : SinkState) (path : Option (List ℕ))
       → (Rose files.write_faults files'.write_faults → ⊥) → (Rose out.faults out'.faults → ⊥)
-      → IsUnwritten words files files' out out' path write.Fault → ⊥
+      → IsUnwritten over words files files' out out' path write.Fault → ⊥
   never_written_off files' out out' path no_write no_out is =
       by (fault_rose path is.refuses.text is.between files' out out' is.refuses.puts)
     where
@@ -236,13 +256,13 @@ module _ (words : List (List ℕ)) (files : FolderState) (whole : IsWhole words 
 
   never_failed : (files' : FolderState) (out out' : SinkState) (path : Option (List ℕ))
       → (Rose files.write_faults files'.write_faults → ⊥) → (Rose out.faults out'.faults → ⊥)
-      → FailsToWrite words files files' out out' path → ⊥
+      → FailsToWrite over words files files' out out' path → ⊥
   never_failed files' out out' path no_write no_out (inl is) = never_written_off files' out out' path no_write no_out is
   never_failed files' out out' path no_write no_out (inr is) = no_out is.1.puts.cause.0.rose
 
   pub ends_well : (files' : FolderState) (out out' : SinkState) (ended : Ending) → (Rose files.read_faults files'.read_faults → ⊥)
       → (Rose files.write_faults files'.write_faults → ⊥) → (Rose out.faults out'.faults → ⊥)
-      → Cause words files files' out out' ended → (status_of_end ended ≡ 0) ⊎ (status_of_end ended ≡ 5)
+      → Cause over words files files' out out' ended → (status_of_end ended ≡ 0) ⊎ (status_of_end ended ≡ 5)
   ends_well files' out out' (Written turns) no_read no_write no_out cause = inl refl
   ends_well files' out out' Printed no_read no_write no_out cause = inl refl
   ends_well files' out out' (Refused fault.Memory) no_read no_write no_out cause = inr refl
@@ -252,6 +272,8 @@ module _ (words : List (List ℕ)) (files : FolderState) (whole : IsWhole words 
       inr (ap status_of (never_stops files' no_read fault.Usage cause.stops))
   ends_well files' out out' (Refused (fault.Notation why)) no_read no_write no_out cause =
       inr (ap status_of (never_stops files' no_read (fault.Notation why) cause.stops))
+  ends_well files' out out' (Refused (fault.NoMinus name)) no_read no_write no_out cause =
+      inr (ap status_of (never_stops files' no_read (fault.NoMinus name) cause.stops))
   ends_well files' out out' (Refused (fault.Named s why)) no_read no_write no_out cause =
       inr (ap status_of (never_stops files' no_read (fault.Named s why) cause.stops))
   ends_well files' out out' (Refused (fault.WorkspaceLimit count)) no_read no_write no_out cause =
@@ -264,44 +286,58 @@ module _ (words : List (List ℕ)) (files : FolderState) (whole : IsWhole words 
       inr (ap status_of (never_stops files' no_read (fault.BadFile path line kind) cause.stops))
 
   -- ---- the text is that of the values over the operands that the folder tells
-  text_at : (new : FolderState) (c : HasResult words files new) (text : List ℕ)
-      → IsResultText ring (path_of c.request.files 0) (result_ranges c.request.statement c.ranges)
-      (result_value c.request.statement c.entries c.ranges) text
-      → IsResultText ring (path_of whole.request.files 0) (result_ranges whole.request.statement whole.ranges)
-      (result_value whole.request.statement (map (λ operand. operand.entries) whole.operands) whole.ranges) text
+  text_at : (new : FolderState) (c : HasResult over words files new) (text : List ℕ)
+      → IsResultText over.arithmetic over.is_signed (path_of c.request.files 0) (result_ranges c.request.statement c.ranges)
+      (result_value over c.request.statement c.entries c.ranges) text
+      → IsResultText over.arithmetic over.is_signed (path_of whole.request.files 0) (result_ranges whole.request.statement whole.ranges)
+      (result_value over whole.request.statement (map (λ operand. operand.entries) whole.operands) whole.ranges) text
   text_at new c text is =
       let r = request_is c.request c.operands.accepted.asks in
       let here = operands_at new c.request c.entries c.bounds c.operands in
       let told : told_ranges whole.request.statement whole.request.given c.bounds ≡ Ok c.ranges =
       subst (λ q. told_ranges q.statement q.given c.bounds ≡ Ok c.ranges) r c.ranges_are in
       let ranges : c.ranges ≡ whole.ranges = ap (ok_of []) (sym told ∙ told_there new c.entries c.bounds here) in
-      subst (λ q. IsResultText ring (path_of q.files 0) (result_ranges q.statement whole.ranges)
-      (result_value q.statement (map (λ operand. operand.entries) whole.operands) whole.ranges) text) r
-      (subst (λ rs. IsResultText ring (path_of c.request.files 0) (result_ranges c.request.statement rs)
-      (result_value c.request.statement (map (λ operand. operand.entries) whole.operands) rs) text) ranges
-      (subst (λ xs. IsResultText ring (path_of c.request.files 0) (result_ranges c.request.statement c.ranges)
-      (result_value c.request.statement xs c.ranges) text) (entries_are new c.entries c.bounds here) is))
+      subst (λ q. IsResultText over.arithmetic over.is_signed (path_of q.files 0) (result_ranges q.statement whole.ranges)
+      (result_value over q.statement (map (λ operand. operand.entries) whole.operands) whole.ranges) text) r
+      (subst (λ rs. IsResultText over.arithmetic over.is_signed (path_of c.request.files 0) (result_ranges c.request.statement rs)
+      (result_value over c.request.statement (map (λ operand. operand.entries) whole.operands) rs) text) ranges
+      (subst (λ xs. IsResultText over.arithmetic over.is_signed (path_of c.request.files 0) (result_ranges c.request.statement c.ranges)
+      (result_value over c.request.statement xs c.ranges) text) (entries_are new c.entries c.bounds here) is))
+
+-- sums and products keep the laws, whatever semiring the words name
+values_keep_laws : (over : Over) → Laws (values_of over).arithmetic
+values_keep_laws semiring.Ring = ring_laws
+values_keep_laws semiring.MinPlus = length_laws
+values_keep_laws semiring.Bits = flag_laws
+
+line_keeps_laws : (line : Option CommandLine) → Laws (values_of_line line).arithmetic
+line_keeps_laws None = ring_laws
+line_keeps_laws (Some (StatementLine task over expr words)) = values_keep_laws over
+line_keeps_laws (Some (Workload size)) = ring_laws
 
 pub whole_ends : (words : List (String Global)) (files files' : FolderState) (out out' err err' : SinkState) (status : ℕ)
-    → IsWhole (map string_bytes words) files.holds → (Rose files.read_faults files'.read_faults → ⊥)
+    → IsWhole (values_in (map string_bytes words)) (map string_bytes words) files.holds → (Rose files.read_faults files'.read_faults → ⊥)
     → (Rose files.write_faults files'.write_faults → ⊥) → (Rose out.faults out'.faults → ⊥)
     → Ends words files files' out out' err err' status → (status ≡ 0) ⊎ (status ≡ 5)
 whole_ends words files files' out out' err err' status whole no_read no_write no_out ends =
     subst (λ n. (n ≡ 0) ⊎ (n ≡ 5)) (sym ends.status_is)
-    (ends_well (map string_bytes words) files whole files' out out' ends.ended no_read no_write no_out ends.cause)
+    (ends_well (values_in (map string_bytes words)) (map string_bytes words) files whole files' out out' ends.ended no_read no_write no_out
+    ends.cause)
 
 pub whole_text : (words : List (List ℕ)) (files files' others others' : FolderState) (out out' away away' : SinkState)
-    → IsWhole words files.holds → others.holds ≡ files.holds
-    → (first : IsWritten words files files' out out') → (second : IsWritten words others others' away away')
-    → first.writes.text ≡ second.writes.text
+    → IsWhole (values_in words) words files.holds → others.holds ≡ files.holds
+    → (first : IsWritten (values_in words) words files files' out out')
+    → (second : IsWritten (values_in words) words others others' away away') → first.writes.text ≡ second.writes.text
 whole_text words files files' others others' out out' away away' whole holds first second =
-    one_text ring ring_laws (path_of whole.request.files 0) (result_ranges whole.request.statement whole.ranges)
-    (result_value whole.request.statement (map (λ operand. operand.entries) whole.operands) whole.ranges)
+    one_text (values_in words).arithmetic (values_in words).is_signed (line_keeps_laws (command_line_of words))
+        (path_of whole.request.files 0)
+    (result_ranges whole.request.statement whole.ranges)
+    (result_value (values_in words) whole.request.statement (map (λ operand. operand.entries) whole.operands) whole.ranges)
     first.writes.text second.writes.text
-    (text_at words files whole first.between first.values first.writes.text first.writes.text_is)
-    (text_at words others there second.between second.values second.writes.text second.writes.text_is)
+    (text_at (values_in words) words files whole first.between first.values first.writes.text first.writes.text_is)
+    (text_at (values_in words) words others there second.between second.values second.writes.text second.writes.text_is)
   where
-    there : IsWhole words others.holds
+    there : IsWhole (values_in words) words others.holds
     there = record {
       request = whole.request;
       operands = whole.operands;
@@ -309,8 +345,8 @@ whole_text words files files' others others' out out' away away' whole holds fir
       accepted = whole.accepted;
       reads = whole.reads;
       told = subst (λ h. AreTold h (asked_paths whole.request)) (sym holds) whole.told;
-      operands_are = subst (λ h. told_operands means h (asked_orders whole.request) (asked_paths whole.request) ≡ Ok whole.operands)
-          (sym holds) whole.operands_are;
+      operands_are = subst (λ h. told_operands (means (values_in words)) h (asked_orders whole.request) (asked_paths whole.request)
+          ≡ Ok whole.operands) (sym holds) whole.operands_are;
       ranges_are = whole.ranges_are;
       fits = whole.fits;
     }

@@ -8,9 +8,11 @@ use Rattle.index_notation.specs.declared.syntax.Statement.{Statement}
 use Rattle.index_notation.specs.Notation.{IsNotationOf, IsFaultOf}
 use Rattle.index_notation.specs.Statement.{IsNumbered}
 use Rattle.expr_terms.specs.Expanded.{expanded}
+use Rattle.expr_terms.specs.Minus.{HasMeaning, has_minus}
 use Rattle.expr_terms.specs.Names.{HasNoNameFault, IsFirstNameFault}
 use Rattle.command_line.specs.CommandLine.{command_line_of}
 use Rattle.command_line.specs.CommandLine as command_line
+use Rattle.command_line.specs.declared.Over.{Over}
 use Rattle.command_line.specs.declared.Task.{Task}
 use Rattle.command_line.specs.declared.Task.TheVariants as task
 use Rattle.bindings.specs.Outcome.{Binds, IsRefused}
@@ -19,7 +21,8 @@ use Rattle.bindings.specs.declared.fault.BindingFault.{BindingFault}
 use Rattle.bindings.specs.declared.fault.BindingFault.TheVariants as binding
 use Rattle.refusals.specs.declared.fault.NamedFault.TheVariants.{Name, Binding}
 use Rattle.refusals.specs.declared.fault.Fault.{Fault}
-use Rattle.refusals.specs.declared.fault.Fault.TheVariants.{Usage, Notation, Named, Memory}
+use Rattle.refusals.specs.declared.fault.Fault.TheVariants.{Usage, Notation, Named, NoMinus, Memory}
+use Rattle.taco_top.specs.Values.{values_of}
 use Rattle.taco_top.specs.declared.asked.Work.{Work}
 use Rattle.taco_top.specs.declared.asked.Work.TheVariants as work
 
@@ -59,29 +62,36 @@ writes_result task.Auto = true
 writes_result task.Plan = false
 
 -- the command line asks this task for a statement of this text
-abbrev pub AsksOf : List (List ℕ) → Task → List ℕ → List (List ℕ) → Type 0
-AsksOf words task text rest = command_line_of words ≡ Some (command_line.Statement task text rest)
+abbrev pub AsksOf : List (List ℕ) → Task → Over → List ℕ → List (List ℕ) → Type 0
+AsksOf words task over text rest = command_line_of words ≡ Some (command_line.Statement task over text rest)
 
--- the command line asks this task for a statement, whose names are in order as it is written; and this is the one that it stands for
-pub record Names (words : List (List ℕ)) (task : Task) (s : Statement) (rest : List (List ℕ)) : Type 0 where
+-- a minus stands on the right of the statement, and the semiring has none
+pub record LacksMinus (over : Over) (s : Statement) : Type 0 where
+  pub has_none : (values_of over).has_minus ≡ false
+  pub stands : has_minus s.expr ≡ true
+
+-- the command line asks this task for a statement, whose names are in order as it is written, and each minus has a meaning; and this is the
+-- one that it stands for
+pub record Names (words : List (List ℕ)) (task : Task) (over : Over) (s : Statement) (rest : List (List ℕ)) : Type 0 where
   pub text : List ℕ
-  pub line : AsksOf words task text rest
+  pub line : AsksOf words task over text rest
   pub written : Statement
   pub notation : IsNotationOf text written
   pub names : HasNoNameFault written
+  pub meant : HasMeaning (values_of over).has_minus written.expr
   pub stands_for : s ≡ expanded written
 
 -- what the words ask for
-pub record Asks (words : List (List ℕ)) (task : Task) (s : Statement) (formats : List (List FormatLevel))
+pub record Asks (words : List (List ℕ)) (task : Task) (over : Over) (s : Statement) (formats : List (List FormatLevel))
     (files : List (ℕ × List ℕ)) (ranges : List (Option ℕ)) : Type 0 where
   pub rest : List (List ℕ)
-  pub names : Names words task s rest
+  pub names : Names words task over s rest
   pub binds : Binds s rest (needs_files task) formats files ranges
 
 -- what is asked for: this task of a statement, or the generated workload of this size
 abbrev pub IsAsked : List (List ℕ) → Work → Type 0
 IsAsked words (work.Statement asked) =
-    Asks words asked.task asked.statement asked.bindings.formats.items (map file_in asked.bindings.files.entries)
+    Asks words asked.task asked.over asked.statement asked.bindings.formats.items (map file_in asked.bindings.files.entries)
     asked.bindings.ranges.items
     × IsNumbered asked.statement
 IsAsked words (work.Workload size) =
@@ -98,6 +108,14 @@ IsTextRefused text (Notation fault) = IsFaultOf text fault
 IsTextRefused text Memory = Unit {0}
 IsTextRefused text _ = ⊥
 
+-- a minus has no meaning over the semiring of this name
+abbrev pub IsMinusFault : Over → Statement → Bor (List ℕ) → Type 0
+IsMinusFault over s name = LacksMinus over s × (name.now ≡ (values_of over).name)
+
+abbrev pub IsMinusRefused : Over → Statement → Fault → Type 0
+IsMinusRefused over s (NoMinus name) = IsMinusFault over s name
+IsMinusRefused over s _ = ⊥
+
 -- why words bind nothing to the names of a statement, with files needed or not
 abbrev pub IsBindingFault : Statement → List (List ℕ) → Bool → BindingFault → Type 0
 IsBindingFault s words need (binding.Memory error) = ⊥
@@ -112,12 +130,15 @@ IsBindingRefused s words need _ = ⊥
 abbrev pub IsRefusedByWords : List (List ℕ) → Fault → Type 0
 IsRefusedByWords words Usage = command_line_of words ≡ None
 IsRefusedByWords words (Notation fault) =
-    (task : Task) × (text : List ℕ) × (rest : List (List ℕ)) × AsksOf words task text rest × IsFaultOf text fault
+    (task : Task) × (over : Over) × (text : List ℕ) × (rest : List (List ℕ)) × AsksOf words task over text rest × IsFaultOf text fault
 IsRefusedByWords words (Named s (Name fault)) =
-    (task : Task) × (text : List ℕ) × (rest : List (List ℕ)) × AsksOf words task text rest
+    (task : Task) × (over : Over) × (text : List ℕ) × (rest : List (List ℕ)) × AsksOf words task over text rest
     × IsNotationOf text s × IsFirstNameFault s fault
+IsRefusedByWords words (NoMinus name) =
+    (task : Task) × (over : Over) × (text : List ℕ) × (rest : List (List ℕ)) × AsksOf words task over text rest
+    × (s : Statement) × IsNotationOf text s × HasNoNameFault s × IsMinusFault over s name
 IsRefusedByWords words (Named s (Binding fault)) =
-    (task : Task) × (rest : List (List ℕ)) × Names words task s rest × IsBindingFault s rest (needs_files task) fault
+    (task : Task) × (over : Over) × (rest : List (List ℕ)) × Names words task over s rest × IsBindingFault s rest (needs_files task) fault
 IsRefusedByWords words Memory = Unit {0}
 IsRefusedByWords words _ = ⊥
 

@@ -11,6 +11,7 @@ use Rattle.kernel_code.specs.declared.syntax.Turns.{Turns}
 use Rattle.reports.specs.Reports.{turns_line}
 use Rattle.refusals.specs.Lines.{status_of, line_of}
 use Rattle.refusals.specs.declared.fault.Fault.{Fault}
+use Rattle.taco_top.specs.Values.{Values, values_in}
 use Rattle.taco_top.specs.Told.{IsWrittenIn, IsPrinted}
 use Rattle.taco_top.specs.Refused.{Refuses}
 
@@ -25,11 +26,11 @@ status_of_end (Written turns) = 0
 status_of_end Printed = 0
 status_of_end (Refused why) = status_of why
 
--- why a command ends so
-abbrev pub Cause : List (List ℕ) → FolderState → FolderState → SinkState → SinkState → Ending → Type 0
-Cause words files files' out out' (Written turns) = IsWrittenIn words files files' out out' turns
-Cause words files files' out out' Printed = IsPrinted words files files' out out'
-Cause words files files' out out' (Refused why) = Refuses words files files' out out' why
+-- why a command ends so, over these values
+abbrev pub Cause : Values → List (List ℕ) → FolderState → FolderState → SinkState → SinkState → Ending → Type 0
+Cause over words files files' out out' (Written turns) = IsWrittenIn over words files files' out out' turns
+Cause over words files files' out out' Printed = IsPrinted over words files files' out out'
+Cause over words files files' out out' (Refused why) = Refuses over words files files' out out' why
 
 -- the line was appended whole; or a part of it at its front, and then the sink failed or wanted memory. Nothing else of the sink
 -- changed but for the count of that, and whether a finish is due
@@ -42,9 +43,9 @@ PutsEnd old new (Written turns) = PutsLine old new (turns_line turns)
 PutsEnd old new Printed = new ≡ old
 PutsEnd old new (Refused why) = PutsLine old new (line_of why)
 
--- a call with this status ended so: it has its cause, and its line was told on standard error
+-- a call with this status ended so: it has its cause, over the semiring that the words name, and its line was told on standard error
 pub record Ends (words : List (String Global)) (files files' : FolderState) (out out' err err' : SinkState) (status : ℕ) : Type 0 where
   pub ended : Ending
   pub status_is : status ≡ status_of_end ended
-  pub cause : Cause (map string_bytes words) files files' out out' ended
+  pub cause : Cause (values_in (map string_bytes words)) (map string_bytes words) files files' out out' ended
   pub line : PutsEnd err err' ended

@@ -1,3 +1,4 @@
+pub mod Values
 pub mod Asked
 pub mod Ends
 pub mod Prepared

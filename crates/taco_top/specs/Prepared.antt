@@ -1,7 +1,6 @@
 -- What is told between the parts of a command: how it ends, why a statement isn't computed, and what was computed.
 use Rattle.std.specs.Prelude.{◌≡◌, ℕ, List, Option, None, Some, Result, Ok, Err, Vec, length, slice_index}
 use Rattle.std.specs.declared.alloc.Global.{Global}
-use Rattle.numbers.specs.Ring.{ring}
 use Rattle.outside.specs.Folder.{FolderState}
 use Rattle.tensor_map.specs.Entries.{Entries}
 use Rattle.format_spec.specs.declared.format.FormatLevel.{FormatLevel}
@@ -25,6 +24,7 @@ use Rattle.command_line.specs.declared.Task.{Task}
 use Rattle.refusals.specs.declared.fault.NamedFault.TheVariants as named
 use Rattle.refusals.specs.declared.fault.Fault.{Fault}
 use Rattle.refusals.specs.declared.fault.Fault.TheVariants as fault
+use Rattle.taco_top.specs.Values.{Values}
 use Rattle.taco_top.specs.Written.{HasResult}
 use Rattle.taco_top.specs.Told.{IsComputed}
 use Rattle.taco_top.specs.Ends.{Ending, Written, Printed, Refused}
@@ -47,33 +47,34 @@ end_of_printing (Err write.Fault) = Refused (fault.WriteFault None)
 end_of_printing (Err (write.Memory error)) = Refused fault.Memory
 
 -- the kernel of a statement, as it is stored, runs over these operands
-abbrev pub IsStoredRun : Statement → List (List FormatLevel) → Option Planned → Kernel → List (Option ℕ) → List Entries
+abbrev pub IsStoredRun : Values → Statement → List (List FormatLevel) → Option Planned → Kernel → List (Option ℕ) → List Entries
     → List (Vec Bound Global) → List ℕ → Entries → Storage → Turns → Type 0
-IsStoredRun s formats None kernel given entries bounds shape result tensor turns =
-    IsRun ring s formats kernel given entries bounds shape result tensor turns
-IsStoredRun s formats (Some plan) kernel given entries bounds shape result tensor turns =
-    IsPlannedRun ring s plan kernel given entries bounds shape result tensor turns
+IsStoredRun over s formats None kernel given entries bounds shape result tensor turns =
+    IsRun over.arithmetic s formats kernel given entries bounds shape result tensor turns
+IsStoredRun over s formats (Some plan) kernel given entries bounds shape result tensor turns =
+    IsPlannedRun over.arithmetic s plan kernel given entries bounds shape result tensor turns
 
 -- why it doesn't
-abbrev pub MayRefuseStored : Statement → List (List FormatLevel) → Option Planned → List (Option ℕ) → List Entries
+abbrev pub MayRefuseStored : Values → Statement → List (List FormatLevel) → Option Planned → List (Option ℕ) → List Entries
     → List (Vec Bound Global) → RunFault → Type 0
-MayRefuseStored s formats None given entries bounds why = MayRefuseRun ring s formats given entries bounds why
-MayRefuseStored s formats (Some plan) given entries bounds why = MayRefusePlanned ring s plan given entries bounds why
+MayRefuseStored over s formats None given entries bounds why = MayRefuseRun over.arithmetic s formats given entries bounds why
+MayRefuseStored over s formats (Some plan) given entries bounds why = MayRefusePlanned over.arithmetic s plan given entries bounds why
 
 -- and that as the program's fault
-abbrev pub IsUncomputed : Statement → List (List FormatLevel) → Option Planned → List (Option ℕ) → List Entries
+abbrev pub IsUncomputed : Values → Statement → List (List FormatLevel) → Option Planned → List (Option ℕ) → List Entries
     → List (Vec Bound Global) → Fault → Type 0
-IsUncomputed s formats plan given entries bounds (fault.Named t (named.Range why)) = (t ≡ s) × (told_ranges s given bounds ≡ Err why)
-IsUncomputed s formats plan given entries bounds (fault.Named t (named.SizeLimit large)) =
-    (t ≡ stored_statement s plan) × IsLargeStoredLevel s formats plan given entries bounds large
-IsUncomputed s formats plan given entries bounds (fault.WorkspaceLimit count) = NeedsStoredPairs s formats plan given entries bounds count
-IsUncomputed s formats plan given entries bounds fault.Memory = Unit {0}
-IsUncomputed s formats plan given entries bounds _ = ⊥
+IsUncomputed over s formats plan given entries bounds (fault.Named t (named.Range why)) = (t ≡ s) × (told_ranges s given bounds ≡ Err why)
+IsUncomputed over s formats plan given entries bounds (fault.Named t (named.SizeLimit large)) =
+    (t ≡ stored_statement s plan) × IsLargeStoredLevel over s formats plan given entries bounds large
+IsUncomputed over s formats plan given entries bounds
+    (fault.WorkspaceLimit count) = NeedsStoredPairs over s formats plan given entries bounds count
+IsUncomputed over s formats plan given entries bounds fault.Memory = Unit {0}
+IsUncomputed over s formats plan given entries bounds _ = ⊥
 
 -- what the words ask for was computed, for this task, and this is kept of it
-pub record IsPrepared (words : List (List ℕ)) (task : Task) (old new : FolderState) (kept : Computed) : Type 0 where
-  pub values : HasResult words old new
-  pub computed : IsComputed words old new values
+pub record IsPrepared (over : Values) (words : List (List ℕ)) (task : Task) (old new : FolderState) (kept : Computed) : Type 0 where
+  pub values : HasResult over words old new
+  pub computed : IsComputed over words old new values
   pub task_is : values.request.task ≡ task
   pub path_is : path_of values.request.files 0 ≡ path_to kept.file
   pub statement_is : values.request.statement ≡ kept.statement
@@ -83,7 +84,7 @@ pub record IsPrepared (words : List (List ℕ)) (task : Task) (old new : FolderS
   pub kernel_is : computed.kernel ≡ kept.compiled.kernel
   pub storage_is : computed.tensor ≡ kept.result.tensor
   pub turns_are : computed.turns ≡ kept.result.turns
-  pub tensor : IsTensorOf ring values.request.statement values.entries (slice_index values.ranges) kept.result.shape
+  pub tensor : IsTensorOf over.arithmetic values.request.statement values.entries (slice_index values.ranges) kept.result.shape
       kept.result.entries
   pub written : MayBeWritten (asks_matrix (path_to kept.file)) kept.result.shape kept.result.entries
   pub finished : AreDone 1 kept.result.tensor.levels

@@ -4,7 +4,6 @@ use Rattle.std.specs.Prelude.{◌≡◌, ℕ, ◌⊎◌, List, Option, None, Err
 use Rattle.std.specs.declared.alloc.Global.{Global}
 use Rattle.std.specs.declared.alloc.AllocError.{AllocError}
 use Rattle.std.specs.Option.{option_map}
-use Rattle.numbers.specs.Ring.{ring}
 use Rattle.outside.specs.Folder.{FolderState}
 use Rattle.outside.specs.Sink.{SinkState}
 use Rattle.tensor_map.specs.Entries.{Entries}
@@ -22,6 +21,7 @@ use Rattle.refusals.specs.declared.fault.NamedFault.TheVariants as named
 use Rattle.refusals.specs.declared.fault.Fault.{Fault}
 use Rattle.refusals.specs.declared.fault.Fault.TheVariants as fault
 use Rattle.mode_planner.specs.declared.planned.Planned.{Planned}
+use Rattle.taco_top.specs.Values.{Values}
 use Rattle.taco_top.specs.Asked.{IsRefusedByWords, needs_files, needs_order, writes_result}
 use Rattle.taco_top.specs.Run.{Request, AsksFor, path_of}
 use Rattle.taco_top.specs.Stored.{IsRunBy, stored_statement, IsLargeStoredLevel, NeedsStoredPairs}
@@ -52,34 +52,34 @@ pub record StopsReading (words : List (List ℕ)) (Why : (orders : List ℕ) (pa
   pub why : Why (asked_orders request) (asked_paths request)
 
 -- why the ranges of this statement don't agree
-pub record HasRangeFault (words : List (List ℕ)) (old new : FolderState) (s : Statement) (why : RangeFault) : Type 0 where
+pub record HasRangeFault (over : Values) (words : List (List ℕ)) (old new : FolderState) (s : Statement) (why : RangeFault) : Type 0 where
   pub request : Request
   pub statement_is : request.statement ≡ s
   pub entries : List Entries
   pub bounds : List (Vec Bound Global)
-  pub operands : HasOperands words old new request entries bounds
+  pub operands : HasOperands over words old new request entries bounds
   pub is : told_ranges s request.given bounds ≡ Err why
 
 -- this level of a tensor of the statement that is run has too many positions
-pub record HasLargeLevel (words : List (List ℕ)) (old new : FolderState) (s : Statement) (large : LargeLevel) : Type 0 where
+pub record HasLargeLevel (over : Values) (words : List (List ℕ)) (old new : FolderState) (s : Statement) (large : LargeLevel) : Type 0 where
   pub request : Request
   pub plan : Option Planned
   pub is_plan : IsRunBy request plan
   pub statement_is : stored_statement request.statement plan ≡ s
   pub entries : List Entries
   pub bounds : List (Vec Bound Global)
-  pub operands : HasOperands words old new request entries bounds
-  pub is : IsLargeStoredLevel request.statement request.formats plan request.given entries bounds large
+  pub operands : HasOperands over words old new request entries bounds
+  pub is : IsLargeStoredLevel over request.statement request.formats plan request.given entries bounds large
 
 -- the result's workspace needs too many pairs
-pub record HasManyPairs (words : List (List ℕ)) (old new : FolderState) (count : ℕ) : Type 0 where
+pub record HasManyPairs (over : Values) (words : List (List ℕ)) (old new : FolderState) (count : ℕ) : Type 0 where
   pub request : Request
   pub plan : Option Planned
   pub is_plan : IsRunBy request plan
   pub entries : List Entries
   pub bounds : List (Vec Bound Global)
-  pub operands : HasOperands words old new request entries bounds
-  pub needs : NeedsStoredPairs request.statement request.formats plan request.given entries bounds count
+  pub operands : HasOperands over words old new request entries bounds
+  pub needs : NeedsStoredPairs over request.statement request.formats plan request.given entries bounds count
 
 -- no file was opened, and the words are refused so
 pub record RefusesWords (words : List (List ℕ)) (old new : FolderState) (why : Fault) : Type 0 where
@@ -87,57 +87,62 @@ pub record RefusesWords (words : List (List ℕ)) (old new : FolderState) (why :
   pub refused : IsRefusedByWords words why
 
 -- why nothing is computed, and what of the folder was opened then
-abbrev pub Stops : List (List ℕ) → FolderState → FolderState → Fault → Type 0
-Stops words old new (fault.ReadFault path) = StopsReading words (λ orders paths. RefusedAtFault means old new orders paths path.now)
-Stops words old new (fault.FileBytes path) = StopsReading words (λ orders paths. RefusedAtLength means old new orders paths path.now)
-Stops words old new (fault.BadFile path line kind) =
-    StopsReading words (λ orders paths. RefusedAtLine means old new orders paths path.now line kind)
-Stops words old new (fault.Named s (named.Cycle cycle)) = (new ≡ old) × HasCycleFault words s cycle
-Stops words old new (fault.Named s (named.Range why)) = HasRangeFault words old new s why
-Stops words old new (fault.Named s (named.SizeLimit large)) = HasLargeLevel words old new s large
-Stops words old new (fault.WorkspaceLimit count) = HasManyPairs words old new count
-Stops words old new (fault.WriteFault path) = ⊥
-Stops words old new fault.Memory = (new ≡ old) ⊎ OpensOperands words old new
-Stops words old new why = RefusesWords words old new why
+abbrev pub Stops : Values → List (List ℕ) → FolderState → FolderState → Fault → Type 0
+Stops over words old new (fault.ReadFault path) = StopsReading words (λ orders paths. RefusedAtFault
+    (means over) old new orders paths path.now)
+Stops over words old new (fault.FileBytes path) = StopsReading words (λ orders paths. RefusedAtLength
+    (means over) old new orders paths path.now)
+Stops over words old new (fault.BadFile path line kind) =
+    StopsReading words (λ orders paths. RefusedAtLine (means over) old new orders paths path.now line kind)
+Stops over words old new (fault.Named s (named.Cycle cycle)) = (new ≡ old) × HasCycleFault words s cycle
+Stops over words old new (fault.Named s (named.Range why)) = HasRangeFault over words old new s why
+Stops over words old new (fault.Named s (named.SizeLimit large)) = HasLargeLevel over words old new s large
+Stops over words old new (fault.WorkspaceLimit count) = HasManyPairs over words old new count
+Stops over words old new (fault.WriteFault path) = ⊥
+Stops over words old new fault.Memory = (new ≡ old) ⊎ OpensOperands words old new
+Stops over words old new why = RefusesWords words old new why
 
 -- the writing of a result that was computed was refused
-pub record IsUnwritten (words : List (List ℕ)) (files files' : FolderState) (out out' : SinkState) (path : Option (List ℕ))
+pub record IsUnwritten (over : Values) (words : List (List ℕ)) (files files' : FolderState) (out out' : SinkState) (path : Option (List ℕ))
     (why : WriteRefusal) : Type 0 where
   pub between : FolderState
   pub only_reads : OnlyReads files between
-  pub values : HasResult words files between
-  pub computed : IsComputed words files between values
+  pub values : HasResult over words files between
+  pub computed : IsComputed over words files between values
   pub task_writes : writes_result values.request.task ≡ true
   pub path_is : path_of values.request.files 0 ≡ path
-  pub refuses : RefusesResult ring path (result_ranges values.request.statement values.ranges)
-      (result_value values.request.statement values.entries values.ranges) between files' out out' why
+  pub refuses : RefusesResult over.arithmetic over.is_signed path (result_ranges values.request.statement values.ranges)
+      (result_value over values.request.statement values.entries values.ranges) between files' out out' why
 
 -- its printing was refused
-pub record IsUnprinted (words : List (List ℕ)) (files files' : FolderState) (out out' : SinkState) (why : WriteRefusal) : Type 0 where
+pub record IsUnprinted (over : Values) (words : List (List ℕ)) (files files' : FolderState) (out out' : SinkState)
+    (why : WriteRefusal) : Type 0 where
   pub text : List ℕ
   pub only_reads : OnlyReads files files'
-  pub tells : Tells words files files' text
+  pub tells : Tells over words files files' text
   pub puts : PutsFront out out' text why
 
 -- nothing was written, and why
-pub record IsStopped (words : List (List ℕ)) (files files' : FolderState) (out out' : SinkState) (why : Fault) : Type 0 where
+pub record IsStopped (over : Values) (words : List (List ℕ)) (files files' : FolderState) (out out' : SinkState)
+    (why : Fault) : Type 0 where
   pub only_reads : OnlyReads files files'
-  pub stops : Stops words files files' why
+  pub stops : Stops over words files files' why
   pub out_is : out' ≡ out
 
 -- the writing of a result failed, to its path or to the output; or the printing of a text did, to the output
-abbrev pub FailsToWrite : List (List ℕ) → FolderState → FolderState → SinkState → SinkState → Option (List ℕ) → Type 0
-FailsToWrite words files files' out out' path = IsUnwritten words files files' out out' path write.Fault
-    ⊎ ((path ≡ None) × IsUnprinted words files files' out out' write.Fault)
+abbrev pub FailsToWrite : Values → List (List ℕ) → FolderState → FolderState → SinkState → SinkState → Option (List ℕ) → Type 0
+FailsToWrite over words files files' out out' path = IsUnwritten over words files files' out out' path write.Fault
+    ⊎ ((path ≡ None) × IsUnprinted over words files files' out out' write.Fault)
 
 -- memory was wanted, before anything was written or in the writing
-abbrev pub WantsMemory : List (List ℕ) → FolderState → FolderState → SinkState → SinkState → Type 0
-WantsMemory words files files' out out' = IsStopped words files files' out out' fault.Memory
-    ⊎ ((path : Option (List ℕ)) × (error : AllocError) × IsUnwritten words files files' out out' path (write.Memory error))
-    ⊎ ((error : AllocError) × IsUnprinted words files files' out out' (write.Memory error))
+abbrev pub WantsMemory : Values → List (List ℕ) → FolderState → FolderState → SinkState → SinkState → Type 0
+WantsMemory over words files files' out out' = IsStopped over words files files' out out' fault.Memory
+    ⊎ ((path : Option (List ℕ)) × (error : AllocError) × IsUnwritten over words files files' out out' path (write.Memory error))
+    ⊎ ((error : AllocError) × IsUnprinted over words files files' out out' (write.Memory error))
 
 -- why a command ends with a fault
-abbrev pub Refuses : List (List ℕ) → FolderState → FolderState → SinkState → SinkState → Fault → Type 0
-Refuses words files files' out out' (fault.WriteFault path) = FailsToWrite words files files' out out' (option_map (λ path. path.now) path)
-Refuses words files files' out out' fault.Memory = WantsMemory words files files' out out'
-Refuses words files files' out out' why = IsStopped words files files' out out' why
+abbrev pub Refuses : Values → List (List ℕ) → FolderState → FolderState → SinkState → SinkState → Fault → Type 0
+Refuses over words files files' out out' (fault.WriteFault path) = FailsToWrite over words files files' out out' (option_map
+    (λ path. path.now) path)
+Refuses over words files files' out out' fault.Memory = WantsMemory over words files files' out out'
+Refuses over words files files' out out' why = IsStopped over words files files' out out' why

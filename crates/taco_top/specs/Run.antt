@@ -7,6 +7,7 @@ use Rattle.index_notation.specs.declared.syntax.Statement.{Statement}
 use Rattle.bindings.specs.Bindings.{order_of}
 use Rattle.bindings.specs.Outcome.{first_named}
 use Rattle.bindings.specs.Tables.{file_in}
+use Rattle.command_line.specs.declared.Over.{Over}
 use Rattle.command_line.specs.declared.Task.{Task}
 use Rattle.taco_top.specs.declared.asked.Asked.{Asked}
 use Rattle.taco_top.specs.Asked.{Asks}
@@ -31,21 +32,24 @@ operand_path s files tensor = unwrap_or (path_of files (first_named s.tensors te
 abbrev pub paths_of : Statement → List (ℕ × List ℕ) → List (List ℕ)
 paths_of s files = map (operand_path s files) (operands_of s)
 
--- what words ask for: a task, a statement, a format for each tensor, the files of tensors, and the ranges that words give variables
+-- what words ask for: a task, the semiring of the values, a statement, a format for each tensor, the files of tensors, and the ranges
+-- that words give variables
 pub record Request : Type 0 where
   pub task : Task
+  pub over : Over
   pub statement : Statement
   pub formats : List (List FormatLevel)
   pub files : List (ℕ × List ℕ)
   pub given : List (Option ℕ)
 
 abbrev pub AsksFor : List (List ℕ) → Request → Type 0
-AsksFor words r = Asks words r.task r.statement r.formats r.files r.given
+AsksFor words r = Asks words r.task r.over r.statement r.formats r.files r.given
 
 -- what the words ask for, as it is kept
 abbrev pub request_of : Asked → Request
 request_of asked = record {
   task = asked.task;
+  over = asked.over;
   statement = asked.statement;
   formats = asked.bindings.formats.items;
   files = map file_in asked.bindings.files.entries;

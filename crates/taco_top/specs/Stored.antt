@@ -2,7 +2,6 @@
 -- tensors have a cycle, with some of them stored in other orders of their modes.
 use Rattle.std.specs.Prelude.{ℕ, List, Option, None, Some, Vec}
 use Rattle.std.specs.declared.alloc.Global.{Global}
-use Rattle.numbers.specs.Ring.{ring}
 use Rattle.tensor_map.specs.Entries.{Entries}
 use Rattle.format_spec.specs.declared.format.FormatLevel.{FormatLevel}
 use Rattle.index_notation.specs.declared.syntax.Statement.{Statement}
@@ -13,6 +12,7 @@ use Rattle.operand_packing.specs.Drawn.{drawn}
 use Rattle.operand_packing.specs.declared.large_level.LargeLevel.{LargeLevel}
 use Rattle.kernel_runs.specs.Planned.{IsLargePlannedLevel, NeedsPlannedPairs}
 use Rattle.kernel_runs.specs.Runs.{IsLargeLevel, NeedsPairs}
+use Rattle.taco_top.specs.Values.{Values}
 use Rattle.taco_top.specs.Run.{Request}
 
 -- it is run by this plan: by none where its loops have an order, and by one that mends its storage orders where they have a cycle
@@ -35,13 +35,14 @@ stored_entries entries None = entries
 stored_entries entries (Some plan) = drawn plan.origins entries
 
 -- a level of a tensor, as it is stored, has too many positions by the ranges of the statement that is asked for
-abbrev pub IsLargeStoredLevel : Statement → List (List FormatLevel) → Option Planned → List (Option ℕ) → List Entries
+abbrev pub IsLargeStoredLevel : Values → Statement → List (List FormatLevel) → Option Planned → List (Option ℕ) → List Entries
     → List (Vec Bound Global) → LargeLevel → Type 0
-IsLargeStoredLevel s formats None given entries bounds large = IsLargeLevel ring s formats given entries bounds large
-IsLargeStoredLevel s formats (Some plan) given entries bounds large = IsLargePlannedLevel ring s plan given entries bounds large
+IsLargeStoredLevel over s formats None given entries bounds large = IsLargeLevel over.arithmetic s formats given entries bounds large
+IsLargeStoredLevel over s formats
+    (Some plan) given entries bounds large = IsLargePlannedLevel over.arithmetic s plan given entries bounds large
 
 -- the workspace of the result, as it is stored, needs too many pairs
-abbrev pub NeedsStoredPairs : Statement → List (List FormatLevel) → Option Planned → List (Option ℕ) → List Entries
+abbrev pub NeedsStoredPairs : Values → Statement → List (List FormatLevel) → Option Planned → List (Option ℕ) → List Entries
     → List (Vec Bound Global) → ℕ → Type 0
-NeedsStoredPairs s formats None given entries bounds count = NeedsPairs ring s formats given entries bounds count
-NeedsStoredPairs s formats (Some plan) given entries bounds count = NeedsPlannedPairs ring s plan given entries bounds count
+NeedsStoredPairs over s formats None given entries bounds count = NeedsPairs over.arithmetic s formats given entries bounds count
+NeedsStoredPairs over s formats (Some plan) given entries bounds count = NeedsPlannedPairs over.arithmetic s plan given entries bounds count

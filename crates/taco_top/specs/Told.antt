@@ -1,10 +1,10 @@
 -- What a kernel's turns and storage say. Second of the three parts of what a command ends with (`Ends.antt`): which kernel computes a
 -- statement's values, how its run ends, and the texts that tell of kernels and runs.
 use Rattle.std.specs.Prelude.{◌≡◌, ℕ, ◌≤◌, ◌⊎◌, List, Option, Some}
-use Rattle.numbers.specs.Ring.{ring}
 use Rattle.outside.specs.Folder.{FolderState}
 use Rattle.outside.specs.Sink.{SinkState}
 use Rattle.operand_files.specs.Reads.{OnlyReads}
+use Rattle.kernel_code.specs.Semirings.{semiring_of}
 use Rattle.kernel_code.specs.declared.syntax.Kernel.{Kernel}
 use Rattle.kernel_code.specs.declared.syntax.Turns.{Turns}
 use Rattle.tensor_storage.specs.Storages.{Storage}
@@ -23,53 +23,57 @@ use Rattle.mode_planner.specs.declared.planned.Planned.{Planned}
 use Rattle.mode_planner.specs.declared.plans.Repack.{Repack}
 use Rattle.reports.specs.Plans.{plan_text}
 use Rattle.reports.specs.Reports.{workload_line, kernel_report, run_report}
+use Rattle.taco_top.specs.Values.{Values}
 use Rattle.taco_top.specs.Run.{Request, AsksFor}
 use Rattle.taco_top.specs.Stored.{IsRunBy, stored_statement, stored_formats, stored_entries}
 use Rattle.taco_top.specs.Written.{IsAccepted, HasResult, IsWritten}
 
--- a kernel that is right for the statement and its formats, in their loop order
-pub record IsKernelOf (s : Statement) (formats : List (List FormatLevel)) (order : List ℕ) (kernel : Kernel) : Type 0 where
+-- a kernel that is right for the statement and its formats, in their loop order, and names the semiring
+pub record IsKernelOf (over : Values) (s : Statement) (formats : List (List FormatLevel)) (order : List ℕ) (kernel : Kernel) : Type 0 where
   pub is_order : IsOrder s formats order
-  pub compiled : IsCompiled ring s formats order kernel
+  pub compiled : IsCompiled over.arithmetic s formats order kernel
+  pub over_is : kernel.semiring ≡ semiring_of over.is_ring over.name
 
 -- a kernel that is right for the statement, as it is stored, runs on the operands, packed in their formats. It leaves the storage that
 -- stands for the statement's values, named by its support
-pub record IsComputed (words : List (List ℕ)) (old new : FolderState) (values : HasResult words old new) : Type 0 where
+pub record IsComputed (over : Values) (words : List (List ℕ)) (old new : FolderState) (values : HasResult over words old new) : Type 0 where
   pub plan : Option Planned
   pub is_plan : IsRunBy values.request plan
   pub order : List ℕ
   pub kernel : Kernel
-  pub is_kernel : IsKernelOf (stored_statement values.request.statement plan) (stored_formats values.request.formats plan) order kernel
+  pub is_kernel : IsKernelOf over (stored_statement values.request.statement plan) (stored_formats values.request.formats plan) order kernel
   pub store : Store
-  pub is_store : IsStoreFor ring (stored_statement values.request.statement plan) (stored_formats values.request.formats plan)
+  pub is_store : IsStoreFor over.arithmetic (stored_statement values.request.statement plan) (stored_formats values.request.formats plan)
       values.ranges (stored_entries values.entries plan) store
   pub tensor : Storage
   pub turns : Turns
-  pub runs : RunsKernel ring (stored_statement values.request.statement plan) kernel store tensor turns
+  pub runs : RunsKernel over.arithmetic (stored_statement values.request.statement plan) kernel store tensor turns
 
 -- the result of `run` or `auto` was written, of a kernel's run of so many turns
-pub record IsWrittenIn (words : List (List ℕ)) (files files' : FolderState) (out out' : SinkState) (turns : Turns) : Type 0 where
-  pub written : IsWritten words files files' out out'
-  pub computed : IsComputed words files written.between written.values
+pub record IsWrittenIn (over : Values) (words : List (List ℕ)) (files files' : FolderState) (out out' : SinkState)
+    (turns : Turns) : Type 0 where
+  pub written : IsWritten over words files files' out out'
+  pub computed : IsComputed over words files written.between written.values
   pub turns_are : computed.turns ≡ turns
 
 -- `kernel`: that of a kernel which is right for the statement and its formats; no file is opened
-pub record TellsKernel (words : List (List ℕ)) (old new : FolderState) (text : List ℕ) : Type 0 where
+pub record TellsKernel (over : Values) (words : List (List ℕ)) (old new : FolderState) (text : List ℕ) : Type 0 where
   pub request : Request
   pub accepted : IsAccepted words request
   pub task_is : request.task ≡ task.Kernel
   pub order : List ℕ
   pub kernel : Kernel
-  pub is_kernel : IsKernelOf request.statement request.formats order kernel
+  pub is_kernel : IsKernelOf over request.statement request.formats order kernel
   pub folder_is : new ≡ old
   pub text_is : text ≡ kernel_report request.statement order request.formats kernel
 
 -- `report`: that of a kernel, the turns of its run on the operands, and the storage that this run leaves
-pub record TellsRun (words : List (List ℕ)) (old new : FolderState) (text : List ℕ) : Type 0 where
-  pub values : HasResult words old new
-  pub computed : IsComputed words old new values
+pub record TellsRun (over : Values) (words : List (List ℕ)) (old new : FolderState) (text : List ℕ) : Type 0 where
+  pub values : HasResult over words old new
+  pub computed : IsComputed over words old new values
   pub task_is : values.request.task ≡ task.Report
-  pub text_is : text ≡ run_report values.request.statement computed.order values.request.formats computed.kernel computed.turns
+  pub text_is : text ≡ run_report over.is_signed values.request.statement computed.order values.request.formats computed.kernel
+      computed.turns
       computed.tensor
 
 -- `plan`: the accesses of the statement that have to be stored in another order of their modes; no file is opened
@@ -92,13 +96,13 @@ pub record TellsWorkload (words : List (List ℕ)) (old new : FolderState) (text
   pub folder_is : new ≡ old
   pub text_is : text ≡ workload_line workload
 
-abbrev pub Tells : List (List ℕ) → FolderState → FolderState → List ℕ → Type 0
-Tells words old new text =
-    TellsKernel words old new text ⊎ TellsRun words old new text ⊎ TellsWorkload words old new text ⊎ TellsPlan words old new text
+abbrev pub Tells : Values → List (List ℕ) → FolderState → FolderState → List ℕ → Type 0
+Tells over words old new text =
+    TellsKernel over words old new text ⊎ TellsRun over words old new text ⊎ TellsWorkload words old new text ⊎ TellsPlan words old new text
 
 -- the text was printed; no file is written
-pub record IsPrinted (words : List (List ℕ)) (files files' : FolderState) (out out' : SinkState) : Type 0 where
+pub record IsPrinted (over : Values) (words : List (List ℕ)) (files files' : FolderState) (out out' : SinkState) : Type 0 where
   pub text : List ℕ
   pub only_reads : OnlyReads files files'
-  pub tells : Tells words files files' text
+  pub tells : Tells over words files files' text
   pub puts : PutsAll out out' text

@@ -1,6 +1,5 @@
 -- Where all input is whole: then `run`, `auto` and `report` end with what they are to give, unless a fault occurs or memory is wanted.
 use Rattle.std.specs.Prelude.{◌≡◌, ℕ, zero, suc, List, [], map, Option, Result, Ok, true, slice_get, unwrap_or}
-use Rattle.numbers.specs.Ring.{ring}
 use Rattle.outside.specs.Told.{Told}
 use Rattle.index_notation.specs.declared.syntax.Statement.{Statement}
 use Rattle.expr_terms.specs.Ranges.{ranges_of}
@@ -11,6 +10,7 @@ use Rattle.operand_files.specs.Decoded.{Operand}
 use Rattle.operand_files.specs.Laws.{AreTold, told_operands}
 use Rattle.mode_planner.specs.declared.planned.Planned.{Planned}
 use Rattle.kernel_runs.specs.Runs.{AllFit}
+use Rattle.taco_top.specs.Values.{Values}
 use Rattle.taco_top.specs.Asked.{needs_files}
 use Rattle.taco_top.specs.Written.{IsAccepted, asked_orders, asked_paths, means}
 use Rattle.taco_top.specs.Run.{Request}
@@ -31,15 +31,15 @@ ranges_told s given operands = ranges_of s (given_at given) (bound_told (map (λ
 -- the words of `run`, `auto` or `report` pass, with a loop order where the task needs one; every operand's file is there and stands for
 -- entries; the ranges agree; no level of an operand or of the result has more positions than may be, as they are stored; and no workspace
 -- needs more pairs
-pub record IsWhole (words : List (List ℕ)) (holds : List ℕ → Told) : Type 0 where
+pub record IsWhole (over : Values) (words : List (List ℕ)) (holds : List ℕ → Told) : Type 0 where
   pub request : Request
   pub operands : List Operand
   pub ranges : List ℕ
   pub accepted : IsAccepted words request
   pub reads : needs_files request.task ≡ true
   pub told : AreTold holds (asked_paths request)
-  pub operands_are : told_operands means holds (asked_orders request) (asked_paths request) ≡ Ok operands
+  pub operands_are : told_operands (means over) holds (asked_orders request) (asked_paths request) ≡ Ok operands
   pub ranges_are : ranges_told request.statement request.given operands ≡ Ok ranges
   pub fits : (plan : Option Planned) → IsRunBy request plan
-      → AllFit ring (stored_statement request.statement plan) (stored_formats request.formats plan) ranges
+      → AllFit over.arithmetic (stored_statement request.statement plan) (stored_formats request.formats plan) ranges
       (stored_entries (map (λ operand. operand.entries) operands) plan)

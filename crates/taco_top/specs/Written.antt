@@ -2,7 +2,6 @@
 -- files of its operands, and where their text stands. It speaks of no kernel.
 use Rattle.std.specs.Prelude.{◌≡◌, ℕ, List, Ok, length, map, slice_index, true, Vec}
 use Rattle.std.specs.declared.alloc.Global.{Global}
-use Rattle.numbers.specs.Ring.{ring}
 use Rattle.outside.specs.Folder.{FolderState}
 use Rattle.outside.specs.Sink.{SinkState}
 use Rattle.tensor_map.specs.Entries.{Entries}
@@ -15,12 +14,13 @@ use Rattle.operand_files.specs.Reads.{OnlyReads, HaveRead, Decoding}
 use Rattle.mode_planner.specs.Planned.{HaveOrder}
 use Rattle.operand_packing.specs.Runnable.{told_ranges}
 use Rattle.result_files.specs.Writes.{WritesResult}
+use Rattle.taco_top.specs.Values.{Values}
 use Rattle.taco_top.specs.Asked.{needs_files, needs_order, writes_result}
 use Rattle.taco_top.specs.Run.{Request, AsksFor, path_of, orders_of, paths_of}
 
--- what the bytes of an operand's file stand for, where values are added and multiplied modulo 2^64
-abbrev pub means : Decoding
-means = operand_of ring true
+-- what the bytes of an operand's file stand for, over these values
+abbrev pub means : Values → Decoding
+means over = operand_of over.arithmetic over.has_minus over.is_signed
 
 -- the words ask for a statement, and where the task needs it, it has a loop order by the formats of its tensors
 pub record IsAccepted (words : List (List ℕ)) (r : Request) : Type 0 where
@@ -35,18 +35,18 @@ abbrev pub asked_paths : Request → List (List ℕ)
 asked_paths r = paths_of r.statement r.files
 
 -- and its operands were read: these are their entries, and what their modes give
-pub record HasOperands (words : List (List ℕ)) (old new : FolderState) (r : Request) (entries : List Entries)
+pub record HasOperands (over : Values) (words : List (List ℕ)) (old new : FolderState) (r : Request) (entries : List Entries)
     (bounds : List (Vec Bound Global)) : Type 0 where
   pub accepted : IsAccepted words r
   pub reads : needs_files r.task ≡ true
-  pub read : HaveRead means old new (asked_orders r) (asked_paths r) (length (asked_paths r)) entries (map (λ b. b.items) bounds)
+  pub read : HaveRead (means over) old new (asked_orders r) (asked_paths r) (length (asked_paths r)) entries (map (λ b. b.items) bounds)
 
 -- and the ranges of its variables agree: so what the words ask for has a result
-pub record HasResult (words : List (List ℕ)) (old new : FolderState) : Type 0 where
+pub record HasResult (over : Values) (words : List (List ℕ)) (old new : FolderState) : Type 0 where
   pub request : Request
   pub entries : List Entries
   pub bounds : List (Vec Bound Global)
-  pub operands : HasOperands words old new request entries bounds
+  pub operands : HasOperands over words old new request entries bounds
   pub ranges : List ℕ
   pub ranges_are : told_ranges request.statement request.given bounds ≡ Ok ranges
 
@@ -54,14 +54,15 @@ pub record HasResult (words : List (List ℕ)) (old new : FolderState) : Type 0 
 abbrev pub result_ranges : Statement → List ℕ → List ℕ
 result_ranges s ranges = map (slice_index ranges) s.left.vars
 
-abbrev pub result_value : Statement → List Entries → List ℕ → List ℕ → ℕ
-result_value s entries ranges = statement_value ring s (operand_values ring entries) (slice_index ranges)
+abbrev pub result_value : Values → Statement → List Entries → List ℕ → List ℕ → ℕ
+result_value over s entries ranges = statement_value over.arithmetic s (operand_values over.arithmetic entries) (slice_index ranges)
 
 -- the result of `run` or `auto` was written: the text of its values; `between` is the folder as it was when the writing began
-pub record IsWritten (words : List (List ℕ)) (files files' : FolderState) (out out' : SinkState) : Type 0 where
+pub record IsWritten (over : Values) (words : List (List ℕ)) (files files' : FolderState) (out out' : SinkState) : Type 0 where
   pub between : FolderState
   pub only_reads : OnlyReads files between
-  pub values : HasResult words files between
+  pub values : HasResult over words files between
   pub task_writes : writes_result values.request.task ≡ true
-  pub writes : WritesResult ring (path_of values.request.files 0) (result_ranges values.request.statement values.ranges)
-      (result_value values.request.statement values.entries values.ranges) between files' out out'
+  pub writes : WritesResult over.arithmetic over.is_signed (path_of values.request.files 0)
+      (result_ranges values.request.statement values.ranges)
+      (result_value over values.request.statement values.entries values.ranges) between files' out out'

@@ -1,4 +1,4 @@
-ghost use Rattle.std.specs.Prelude.{◌≡◌, ℕ, Bool, List, Some, None, map, string_bytes, IfOk, IfErr, MatchResult};
+ghost use Rattle.std.specs.Prelude.{◌≡◌, ℕ, Bool, List, Some, None, map, string_bytes, IfOk, IfErr, OnOk, MatchResult, IsTrue};
 ghost use Rattle.index_notation.specs.Notation.{IsNotationOf};
 ghost use Rattle.index_notation.specs.Statement.{IsNumbered};
 ghost use Rattle.command_line.specs.CommandLine.{command_line_of};
@@ -6,21 +6,26 @@ ghost use Rattle.command_line.specs.Told.{told};
 ghost use Rattle.bindings.specs.Tables.{file_in};
 ghost use Rattle.bindings.specs.Outcome.{Binds};
 ghost use Rattle.taco_top.specs.Asked.{Asks, AsksOf, IsAsked, IsRefusedByWords, IsLineRefused, IsTextRefused, IsBindingRefused};
-ghost use Rattle.taco_top.specs.Asked.{needs_files, texts_in};
+ghost use Rattle.taco_top.specs.Asked.{IsMinusRefused, needs_files, texts_in};
+ghost use Rattle.taco_top.specs.Values.{values_of};
+ghost use Rattle.expr_terms.specs.Minus.{HasMeaning};
 ghost use Rattle.refusals.specs.declared.fault.Fault.TheVariants.{Named};
 
 use bindings::{BindingFault, Bindings, bind};
-use command_line::{Request, RequestFault, Task, read_request};
-use expr_terms::{check_names, expand};
-use index_notation::{NotationFault, Statement};
+use command_line::{Over, Request, RequestFault, Task, read_request};
+use expr_terms::{check_names, expand, has_meaning};
+use index_notation::{Expr, NotationFault, Statement};
 use notation_reader::parse;
+use numbers::{Ring, Semiring};
 use refusals::{Fault, NamedFault};
+use semirings::{Bits, MinPlus};
 use std::alloc::Global;
 
-/// A statement as it stands for the written one, what is asked for it, and what the words bind to its names.
+/// A statement as it stands for the written one, what is asked for it, the semiring of its values, and what the words bind to its names.
 #[derive(Drop)]
 pub struct Asked<'a> {
     pub task: Task,
+    pub over: Over,
     pub statement: Statement,
     pub bindings: Bindings<'a>,
 }
@@ -69,22 +74,60 @@ fn read_statement<'a>(alloc: Global, text: &str) -> Result<Statement, Fault<'a>>
     }
 }
 
+/// Whether a minus that may stand in an expression has a meaning over a semiring.
+fn has_meaning_over(over: Over, expr: &Expr) -> bool
+    ensures told { IsTrue result → HasMeaning (values_of over).has_minus expr.now }
+    ensures found { HasMeaning (values_of over).has_minus expr.now → IsTrue result }
+{
+    match over {
+        Over::Ring => has_meaning::<Ring>(expr),
+        Over::MinPlus => has_meaning::<MinPlus>(expr),
+        Over::Bits => has_meaning::<Bits>(expr),
+    }
+}
+
+/// The name of a semiring.
+fn name_of(over: Over) -> &'static str
+    ensures { result.now ≡ (values_of over).name }
+{
+    match over {
+        Over::Ring => Ring::name(),
+        Over::MinPlus => MinPlus::name(),
+        Over::Bits => Bits::name(),
+    }
+}
+
+/// Refused where a minus stands on the right of a statement, and the semiring has none.
+fn check_minus<'a>(over: Over, statement: &Statement) -> Result<(), Fault<'a>>
+    ensures meant { OnOk result (HasMeaning (values_of over).has_minus statement.now.expr) }
+    ensures refused { IfErr result (IsMinusRefused over statement.now) }
+{
+    if has_meaning_over(over, &statement.expr) {
+        Ok(())
+    } else {
+        Err(Fault::NoMinus(name_of(over)))
+    }
+}
+
 /// What the words bind to the names of a statement, as the program's faults tell where they bind nothing.
 fn bind_names<'a>(
     alloc: Global,
     task: Task,
+    over: Over,
     statement: Statement,
     words: &[&'a str],
 ) -> Result<Asked<'a>, Fault<'a>>
     requires { IsNumbered statement }
     ensures { MatchResult result
-        (λ asked. (asked.task ≡ task) × (asked.statement ≡ statement) × Binds statement (texts_in words.now) (needs_files task)
+        (λ asked. (asked.task ≡ task) × (asked.over ≡ over) × (asked.statement ≡ statement)
+        × Binds statement (texts_in words.now) (needs_files task)
         asked.bindings.formats.items (map file_in asked.bindings.files.entries) asked.bindings.ranges.items)
         (IsBindingRefused statement (texts_in words.now) (needs_files task)) }
 {
     match bind(alloc, &statement, words, reads_files(task)) {
         Ok(bindings) => Ok(Asked {
             task,
+            over,
             statement,
             bindings,
         }),
@@ -104,29 +147,39 @@ fn named<'a>(statement: Statement, fault: NamedFault) -> Fault<'a>
 fn ask_statement<'a>(
     alloc: Global,
     task: Task,
+    over: Over,
     text: &str,
     words: &[&'a str],
 ) -> Result<Asked<'a>, Fault<'a>>
-    ensures { (all : List (List ℕ)) → AsksOf all task text.now (texts_in words.now)
-        → MatchResult result (λ asked. Asks all asked.task asked.statement asked.bindings.formats.items
+    ensures { (all : List (List ℕ)) → AsksOf all task over text.now (texts_in words.now)
+        → MatchResult result (λ asked. Asks all asked.task asked.over asked.statement asked.bindings.formats.items
         (map file_in asked.bindings.files.entries) asked.bindings.ranges.items × IsNumbered asked.statement) (IsRefusedByWords all) }
 {
     let statement = read_statement(alloc, text)?;
     match check_names(&statement) {
-        Ok(()) => bind_names(alloc, task, expand(alloc, statement)?, words),
+        Ok(()) => {
+            check_minus(over, &statement)?;
+            bind_names(alloc, task, over, expand(alloc, statement)?, words)
+        }
         Err(fault) => Err(named(statement, NamedFault::Name(fault))),
     }
 }
 
 /// What the words of the command line ask for, or the first refusal in order: of the command line, the statement's text, its
-/// names, the words behind it, missing files where the task reads them, formats. Refused for want of memory besides.
+/// names, a minus that the semiring has no meaning for, the words behind it, missing files where the task reads them, formats. Refused
+/// for want of memory besides.
 pub(crate) fn ask<'a>(alloc: Global, words: &'a [String]) -> Result<Work<'a>, Fault<'a>>
     ensures asked { IfOk result (IsAsked (map string_bytes words.now)) }
     ensures refused { IfErr result (IsRefusedByWords (map string_bytes words.now)) }
 {
     match read_words(alloc, words)? {
-        Request::Statement { task, expr, words } => {
-            let asked = ask_statement(alloc, task, expr, words.as_slice())?;
+        Request::Statement {
+            task,
+            over,
+            expr,
+            words,
+        } => {
+            let asked = ask_statement(alloc, task, over, expr, words.as_slice())?;
             Ok(Work::Statement(asked))
         }
         Request::Workload { size } => Ok(Work::Workload(size)),

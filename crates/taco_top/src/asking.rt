@@ -1,7 +1,9 @@
 //! What the words ask for, with its kernel.
 ghost use Rattle.std.specs.Prelude.{◌≡◌, ℕ, List, None, IfOk, IfErr, IfSome, true};
 ghost use Rattle.lists.specs.Each.{Each};
-ghost use Rattle.numbers.specs.Ring.{ring};
+ghost use Rattle.kernel_code.specs.Semirings.{semiring_of};
+ghost use Rattle.expr_terms.specs.Minus.{HasMeaning};
+ghost use Rattle.taco_top.specs.Values.{semiring, values_of};
 ghost use Rattle.index_notation.specs.Statement.{IsNumbered, IsWellNamed};
 ghost use Rattle.iteration_graph.specs.Edges.{HasFormat};
 ghost use Rattle.mode_planner.specs.Planned.{Answers as PlanAnswers, CanBeCompiled};
@@ -20,7 +22,7 @@ use command_line::Task;
 use format_spec::Format;
 use index_notation::Statement;
 use mode_planner::{Planned, plan_statement};
-use numbers::Ring;
+use numbers::Semiring;
 use refusals::{Fault, NamedFault};
 use std::alloc::{AllocError, Global};
 use taco_compiler::{CompileFault, Compiled, compile};
@@ -55,7 +57,7 @@ fn mended(
 }
 
 /// A kernel for a statement, as its plan tells to store it.
-fn compile_stored(
+fn compile_stored<S: Semiring>(
     alloc: Global,
     statement: &Statement,
     formats: &[Format],
@@ -66,33 +68,40 @@ fn compile_stored(
     requires left { HasFormat formats.now statement.now.left }
     requires right { Each (HasFormat formats.now) statement.now.accesses }
     requires plan { IfSome plan.now (λ planned. CanBeCompiled planned.statement planned.formats) }
-    ensures { Answers ring (stored_statement statement.now plan.now) (stored_formats formats.now plan.now) result }
+    requires meant { HasMeaning S.has_minus (stored_statement statement.now plan.now).expr }
+    ensures answers { Answers S.arithmetic (stored_statement statement.now plan.now) (stored_formats formats.now plan.now) result }
+    ensures over { IfOk result (λ compiled. compiled.kernel.semiring ≡ semiring_of S.is_ring S.name) }
 {
     match plan {
-        None => compile::<Ring>(alloc, statement, formats),
-        Some(plan) => compile::<Ring>(alloc, &plan.statement, plan.formats.as_slice()),
+        None => compile::<S>(alloc, statement, formats),
+        Some(plan) => compile::<S>(alloc, &plan.statement, plan.formats.as_slice()),
     }
 }
 
 /// A kernel for what the words ask for; or the cycle of storage orders because of which there is none.
-pub(crate) fn accept<'a>(alloc: Global, asked: Asked<'a>) -> Result<Accepted<'a>, Fault<'a>>
+pub(crate) fn accept<'a, S: Semiring>(
+    alloc: Global,
+    asked: Asked<'a>,
+) -> Result<Accepted<'a>, Fault<'a>>
     requires asked { (words : List (List ℕ)) × AsksFor words (request_of asked) }
+    requires over { values_of asked.over ≡ semiring S.arithmetic S.has_minus S.is_ring S.is_signed S.name }
     requires numbered { IsNumbered asked.statement }
     requires needs { needs_kernel asked.task ≡ true }
     ensures accepted { IfOk result (λ accepted. (words : List (List ℕ)) → AsksFor words (request_of asked.entry)
         → IsAccepted words (request_of accepted.asked)) }
     ensures plan { IfOk result (λ accepted. IsRunBy (request_of accepted.asked) accepted.plan) }
     ensures unplanned { IfOk result (λ accepted. needs_order asked.entry.task ≡ true → accepted.plan ≡ None) }
-    ensures kernel { IfOk result (λ accepted. IsKernelOf (stored_statement accepted.asked.statement accepted.plan)
+    ensures kernel { IfOk result (λ accepted. IsKernelOf (semiring S.arithmetic S.has_minus S.is_ring S.is_signed S.name)
+        (stored_statement accepted.asked.statement accepted.plan)
         (stored_formats accepted.asked.bindings.formats.items accepted.plan) accepted.compiled.order accepted.compiled.kernel) }
     ensures task { IfOk result (λ accepted. accepted.asked.task ≡ asked.entry.task) }
     ensures numbered { IfOk result (λ accepted. IsNumbered accepted.asked.statement) }
     ensures refused { IfErr result (λ fault. (words : List (List ℕ)) → AsksFor words (request_of asked.entry) → (files : FolderState)
-        → Stops words files files fault) }
+        → Stops (semiring S.arithmetic S.has_minus S.is_ring S.is_signed S.name) words files files fault) }
 {
     let formats = asked.bindings.formats.as_slice();
     let plan = mended(alloc, asked.task, &asked.statement, formats)?;
-    match compile_stored(alloc, &asked.statement, formats, &plan) {
+    match compile_stored::<S>(alloc, &asked.statement, formats, &plan) {
         Ok(compiled) => Ok(Accepted {
             asked,
             plan,

@@ -1,7 +1,7 @@
 //! The result of what the words ask for, over the operands that were read.
 ghost use Rattle.std.specs.Prelude.{◌≡◌, ℕ, List, Option, true, IfOk, IfErr, Vec};
 ghost use Rattle.std.specs.declared.alloc.Global.{Global as AGlobal};
-ghost use Rattle.numbers.specs.Ring.{ring};
+ghost use Rattle.taco_top.specs.Values.{Values, semiring};
 ghost use Rattle.kernel_correctness.specs.Kernels.{IsRightKernel};
 ghost use Rattle.mode_planner.specs.Planned.{Answers};
 ghost use Rattle.operand_packing.specs.Runnable.{IsRunnable};
@@ -27,7 +27,7 @@ use index_notation::Statement;
 use kernel_code::Kernel;
 use kernel_runs::{KernelRun, RunFault, run_kernel, run_planned};
 use mode_planner::Planned;
-use numbers::Ring;
+use numbers::Semiring;
 use operand_files::Operands;
 use outside::Folder;
 use refusals::{Fault, NamedFault};
@@ -56,9 +56,10 @@ fn stored(statement: Statement, plan: Option<Planned>) -> Statement
 
 /// The refusal of a run, told by the names of the statement.
 fn fault_of<'a>(statement: Statement, plan: Option<Planned>, why: RunFault) -> Fault<'a>
-    ensures { (formats : List (List FormatLevel)) (given : List (Option ℕ)) (entries : List Entries) (bounds : List (Vec Bound AGlobal))
-        → MayRefuseStored statement formats plan given entries bounds why
-        → IsUncomputed statement formats plan given entries bounds result }
+    ensures { (over : Values) (formats : List (List FormatLevel)) (given : List (Option ℕ)) (entries : List Entries) (bounds : List
+        (Vec Bound AGlobal))
+        → MayRefuseStored over statement formats plan given entries bounds why
+        → IsUncomputed over statement formats plan given entries bounds result }
 {
     match why {
         RunFault::Range(why) => Fault::Named {
@@ -75,7 +76,7 @@ fn fault_of<'a>(statement: Statement, plan: Option<Planned>, why: RunFault) -> F
 }
 
 /// Runs the kernel of a statement, as its plan tells to store it, over the operands that were read.
-fn run_stored(
+fn run_stored<S: Semiring>(
     alloc: Global,
     statement: &Statement,
     formats: &[Format],
@@ -86,37 +87,39 @@ fn run_stored(
 ) -> Result<KernelRun, RunFault>
     requires runnable { IsRunnable statement.now formats.now given.now operands.entries.items operands.bounds.items }
     requires plan { Answers statement.now formats.now plan.now }
-    requires right { IsRightKernel ring (stored_statement statement.now plan.now) (stored_formats formats.now plan.now) kernel.now }
-    ensures run { IfOk result (λ run. IsStoredRun statement.now formats.now plan.now kernel.now given.now operands.entries.items
-        operands.bounds.items run.shape run.entries run.tensor run.turns) }
+    requires right { IsRightKernel S.arithmetic (stored_statement statement.now plan.now) (stored_formats formats.now plan.now) kernel.now }
+    ensures run { IfOk result (λ run. IsStoredRun (semiring S.arithmetic S.has_minus S.is_ring S.is_signed S.name) statement.now
+        formats.now plan.now kernel.now given.now operands.entries.items operands.bounds.items run.shape run.entries run.tensor run.turns) }
     ensures entries { IfOk result (λ run. AreEntries run.entries) }
-    ensures refused { IfErr result (MayRefuseStored statement.now formats.now plan.now given.now operands.entries.items
-        operands.bounds.items) }
+    ensures refused { IfErr result (MayRefuseStored (semiring S.arithmetic S.has_minus S.is_ring S.is_signed S.name) statement.now
+        formats.now plan.now given.now operands.entries.items operands.bounds.items) }
 {
     match plan {
-        None => run_kernel::<Ring>(alloc, statement, formats, kernel, given, operands),
-        Some(plan) => run_planned::<Ring>(alloc, statement, plan, kernel, given, operands),
+        None => run_kernel::<S>(alloc, statement, formats, kernel, given, operands),
+        Some(plan) => run_planned::<S>(alloc, statement, plan, kernel, given, operands),
     }
 }
 
 /// Does all that comes before the first write: reads the operands, and runs the kernel. All memory of the program's own is taken
 /// here.
-pub(crate) fn compute<'a, F: Folder>(
+pub(crate) fn compute<'a, S: Semiring, F: Folder>(
     alloc: Global,
     accepted: Accepted<'a>,
     files: &mut F,
 ) -> Result<Computed<'a>, Fault<'a>>
     requires accepted { (words : List (List ℕ)) × IsAccepted words (request_of accepted.asked) }
     requires plan { IsRunBy (request_of accepted.asked) accepted.plan }
-    requires kernel { IsKernelOf (stored_statement accepted.asked.statement accepted.plan)
+    requires kernel { IsKernelOf (semiring S.arithmetic S.has_minus S.is_ring S.is_signed S.name)
+        (stored_statement accepted.asked.statement accepted.plan)
         (stored_formats accepted.asked.bindings.formats.items accepted.plan) accepted.compiled.order accepted.compiled.kernel }
     requires numbered { IsNumbered accepted.asked.statement }
     requires reads { needs_files accepted.asked.task ≡ true }
     ensures only_reads { OnlyReads (F.state files.old) (F.state files.new) }
     ensures computed { IfOk result (λ computed. (words : List (List ℕ)) → IsAccepted words (request_of accepted.entry.asked)
-        → IsPrepared words accepted.entry.asked.task (F.state files.old) (F.state files.new) computed) }
+        → IsPrepared (semiring S.arithmetic S.has_minus S.is_ring S.is_signed S.name) words accepted.entry.asked.task
+        (F.state files.old) (F.state files.new) computed) }
     ensures stops { IfErr result (λ fault. (words : List (List ℕ)) → IsAccepted words (request_of accepted.entry.asked)
-        → Stops words (F.state files.old) (F.state files.new) fault) }
+        → Stops (semiring S.arithmetic S.has_minus S.is_ring S.is_signed S.name) words (F.state files.old) (F.state files.new) fault) }
 {
     let Accepted {
         asked,
@@ -124,12 +127,13 @@ pub(crate) fn compute<'a, F: Folder>(
         compiled,
     } = accepted;
     let file = file_of(&asked.bindings, 0);
-    let operands = match operands_of(alloc, &asked, files) {
+    let operands = match operands_of::<S, F>(alloc, &asked, files) {
         Ok(operands) => operands,
         Err(fault) => return Err(fault),
     };
     let Asked {
         task: _,
+        over: _,
         statement,
         bindings,
     } = asked;
@@ -138,7 +142,7 @@ pub(crate) fn compute<'a, F: Folder>(
         files: _,
         ranges,
     } = bindings;
-    match run_stored(
+    match run_stored::<S>(
         alloc,
         &statement,
         formats.as_slice(),

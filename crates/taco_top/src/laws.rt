@@ -8,6 +8,7 @@ ghost use Rattle.outside.specs.Sink.{SinkState};
 ghost use Rattle.command_line.specs.CommandLine.{Workload, command_line_of};
 ghost use Rattle.format_spec.specs.declared.format.FormatLevel.{FormatLevel};
 ghost use Rattle.index_notation.specs.declared.syntax.Statement.{Statement};
+ghost use Rattle.command_line.specs.declared.Over.{Over};
 ghost use Rattle.command_line.specs.declared.Task.{Task};
 ghost use Rattle.mode_planner.specs.Planned.{HaveOrder};
 ghost use Rattle.refusals.specs.declared.fault.Fault.{Fault};
@@ -19,46 +20,61 @@ ghost use Rattle.taco_top.specs.Written.{HasResult, IsAccepted, IsWritten};
 ghost use Rattle.taco_top.specs.Told.{IsComputed};
 ghost use Rattle.taco_top.specs.Ends.{Ends, Refused};
 ghost use Rattle.taco_top.specs.Run.{AsksFor, Request};
+ghost use Rattle.taco_top.specs.Values.{values_in};
 ghost use Rattle.taco_top.specs.Whole.{IsWhole};
 
-/// Claim: a command line asks for one task of one statement, with one list of formats, of files and of ranges; or it asks for a workload,
+/// Claim: a command line asks for one task of one statement over one semiring, with one list of formats, of files and of ranges; or it
+/// asks for a workload,
 /// and then for no statement. One that asks for something is refused for want of memory alone.
 pub fn one_request_a_command_line()
-    ensures task { (words : List (List ℕ)) (task other : Task) (s t : Statement) (formats layouts : List (List FormatLevel))
+    ensures task { (words : List (List ℕ)) (task other : Task) (over under : Over) (s t : Statement) (formats layouts : List
+        (List FormatLevel))
         (files others : List (ℕ × List ℕ)) (ranges given : List (Option ℕ))
-        → Asks words task s formats files ranges → Asks words other t layouts others given → task ≡ other }
-    ensures statement { (words : List (List ℕ)) (task other : Task) (s t : Statement) (formats layouts : List (List FormatLevel))
+        → Asks words task over s formats files ranges → Asks words other under t layouts others given → task ≡ other }
+    ensures over { (words : List (List ℕ)) (task other : Task) (over under : Over) (s t : Statement) (formats layouts : List
+        (List FormatLevel))
         (files others : List (ℕ × List ℕ)) (ranges given : List (Option ℕ))
-        → Asks words task s formats files ranges → Asks words other t layouts others given → s ≡ t }
-    ensures formats { (words : List (List ℕ)) (task other : Task) (s t : Statement) (formats layouts : List (List FormatLevel))
+        → Asks words task over s formats files ranges → Asks words other under t layouts others given → over ≡ under }
+    ensures statement { (words : List (List ℕ)) (task other : Task) (over under : Over) (s t : Statement) (formats layouts : List
+        (List FormatLevel))
         (files others : List (ℕ × List ℕ)) (ranges given : List (Option ℕ))
-        → Asks words task s formats files ranges → Asks words other t layouts others given → formats ≡ layouts }
-    ensures files { (words : List (List ℕ)) (task other : Task) (s t : Statement) (formats layouts : List (List FormatLevel))
+        → Asks words task over s formats files ranges → Asks words other under t layouts others given → s ≡ t }
+    ensures formats { (words : List (List ℕ)) (task other : Task) (over under : Over) (s t : Statement) (formats layouts : List
+        (List FormatLevel))
         (files others : List (ℕ × List ℕ)) (ranges given : List (Option ℕ))
-        → Asks words task s formats files ranges → Asks words other t layouts others given → files ≡ others }
-    ensures ranges { (words : List (List ℕ)) (task other : Task) (s t : Statement) (formats layouts : List (List FormatLevel))
+        → Asks words task over s formats files ranges → Asks words other under t layouts others given → formats ≡ layouts }
+    ensures files { (words : List (List ℕ)) (task other : Task) (over under : Over) (s t : Statement) (formats layouts : List
+        (List FormatLevel))
         (files others : List (ℕ × List ℕ)) (ranges given : List (Option ℕ))
-        → Asks words task s formats files ranges → Asks words other t layouts others given → ranges ≡ given }
-    ensures never_both { (words : List (List ℕ)) (task : Task) (s : Statement) (formats : List (List FormatLevel))
+        → Asks words task over s formats files ranges → Asks words other under t layouts others given → files ≡ others }
+    ensures ranges { (words : List (List ℕ)) (task other : Task) (over under : Over) (s t : Statement) (formats layouts : List
+        (List FormatLevel))
+        (files others : List (ℕ × List ℕ)) (ranges given : List (Option ℕ))
+        → Asks words task over s formats files ranges → Asks words other under t layouts others given → ranges ≡ given }
+    ensures never_both { (words : List (List ℕ)) (task : Task) (over : Over) (s : Statement) (formats : List (List FormatLevel))
         (files : List (ℕ × List ℕ)) (ranges : List (Option ℕ)) (fault : Fault)
-        → Asks words task s formats files ranges → IsRefusedByWords words fault → IsWant fault }
-    ensures workload_alone { (words : List (List ℕ)) (size : ℕ) (task : Task) (s : Statement) (formats : List (List FormatLevel))
+        → Asks words task over s formats files ranges → IsRefusedByWords words fault → IsWant fault }
+    ensures workload_alone { (words : List (List ℕ)) (size : ℕ) (task : Task) (over : Over) (s : Statement) (formats : List
+        (List FormatLevel))
         (files : List (ℕ × List ℕ)) (ranges : List (Option ℕ))
-        → command_line_of words ≡ Some (Workload size) → Asks words task s formats files ranges → ⊥ }
+        → command_line_of words ≡ Some (Workload size) → Asks words task over s formats files ranges → ⊥ }
     ensures workload_taken { (words : List (List ℕ)) (size : ℕ) (fault : Fault)
         → command_line_of words ≡ Some (Workload size) → IsRefusedByWords words fault → IsWant fault }
 {}
 
-/// Claim: where all input of `run`, `auto` or `report` is whole and no count of faults rose, a call ends with status 0, and so with its file
+/// Claim: where all input of `run`, `auto` or `report` is whole and no count of faults rose, a call ends with status 0, and so with its
+/// file
 /// or its text, or with want of memory. A result's file is one, whatever else the folder and the streams have seen.
 pub fn whole_input_is_computed()
     ensures ends { (words : List (String Global)) (files files' : FolderState) (out out' err err' : SinkState) (status : ℕ)
-        → IsWhole (map string_bytes words) files.holds → (Rose files.read_faults files'.read_faults → ⊥)
+        → IsWhole (values_in (map string_bytes words)) (map string_bytes words) files.holds
+        → (Rose files.read_faults files'.read_faults → ⊥)
         → (Rose files.write_faults files'.write_faults → ⊥) → (Rose out.faults out'.faults → ⊥)
         → Ends words files files' out out' err err' status → (status ≡ 0) ⊎ (status ≡ 5) }
     ensures texts { (words : List (List ℕ)) (files files' others others' : FolderState) (out out' away away' : SinkState)
-        → IsWhole words files.holds → others.holds ≡ files.holds
-        → (first : IsWritten words files files' out out') → (second : IsWritten words others others' away away')
+        → IsWhole (values_in words) words files.holds → others.holds ≡ files.holds
+        → (first : IsWritten (values_in words) words files files' out out')
+        → (second : IsWritten (values_in words) words others others' away away')
         → first.writes.text ≡ second.writes.text }
 {}
 
@@ -82,8 +98,8 @@ pub fn cycles_are_mended()
     ensures no_cycle { (words : List (String Global)) (request : Request) (files files' : FolderState) (out out' err err' : SinkState)
         (status : ℕ) (s : Statement) (cycle : List ℕ) → AsksFor (map string_bytes words) request → request.task ≡ task.Auto
         → (ends : Ends words files files' out out' err err' status) → ends.ended ≡ Refused (Named s (Cycle cycle)) → ⊥ }
-    ensures as_asked { (words : List (List ℕ)) (files between : FolderState) (values : HasResult words files between)
-        → HaveOrder values.request.statement values.request.formats → (computed : IsComputed words files between values)
+    ensures as_asked { (words : List (List ℕ)) (files between : FolderState) (values : HasResult (values_in words) words files between)
+        → HaveOrder values.request.statement values.request.formats → (computed : IsComputed (values_in words) words files between values)
         → computed.plan ≡ None }
 {}
 

@@ -6,6 +6,7 @@ ghost use Rattle.operand_files.specs.Reads.{OnlyReads};
 ghost use Rattle.taco_top.specs.Asked.{needs_files};
 ghost use Rattle.taco_top.specs.Written.{IsAccepted, HasOperands};
 ghost use Rattle.taco_top.specs.Refused.{Stops};
+ghost use Rattle.taco_top.specs.Values.{semiring};
 ghost use Rattle.taco_top.specs.Run.{orders_of as orders_of_operands, operand_path, path_of as path_of_tensor};
 ghost use Rattle.taco_top.specs.Run.{paths_of as paths_of_operands};
 ghost use Rattle.taco_top.specs.Run.{request_of};
@@ -13,7 +14,7 @@ ghost use Rattle.taco_top.specs.Run.{request_of};
 use crate::asked::Asked;
 use bindings::{Bindings, FileFormat, TensorFile, first_named, order_of};
 use index_notation::Statement;
-use numbers::Ring;
+use numbers::Semiring;
 use operand_files::{OperandFault, Operands, read_operands};
 use outside::Folder;
 use refusals::Fault;
@@ -67,7 +68,7 @@ fn files_of<'a>(
 }
 
 /// Reads the operands' files, each to its end, in the order of the tensors' numbers.
-pub(crate) fn operands_of<'a, F: Folder>(
+pub(crate) fn operands_of<'a, S: Semiring, F: Folder>(
     alloc: Global,
     asked: &Asked<'a>,
     files: &mut F,
@@ -77,13 +78,14 @@ pub(crate) fn operands_of<'a, F: Folder>(
     requires reads { needs_files asked.now.task ≡ true }
     ensures only_reads { OnlyReads (F.state files.old) (F.state files.new) }
     ensures read { IfOk result (λ operands. (words : List (List ℕ)) → IsAccepted words (request_of asked.now)
-        → HasOperands words (F.state files.old) (F.state files.new) (request_of asked.now) operands.entries.items operands.bounds.items) }
+        → HasOperands (semiring S.arithmetic S.has_minus S.is_ring S.is_signed S.name) words (F.state files.old) (F.state files.new)
+        (request_of asked.now) operands.entries.items operands.bounds.items) }
     ensures refused { IfErr result (λ fault. (words : List (List ℕ)) → IsAccepted words (request_of asked.now)
-        → Stops words (F.state files.old) (F.state files.new) fault) }
+        → Stops (semiring S.arithmetic S.has_minus S.is_ring S.is_signed S.name) words (F.state files.old) (F.state files.new) fault) }
 {
     let orders = orders_of(alloc, &asked.statement)?;
     let sources = files_of(alloc, &asked.statement, &asked.bindings)?;
-    match read_operands::<F, Ring>(alloc, files, orders.as_slice(), sources.as_slice()) {
+    match read_operands::<F, S>(alloc, files, orders.as_slice(), sources.as_slice()) {
         Ok(operands) => Ok(operands),
         Err(OperandFault::ReadFault(path)) => Err(Fault::ReadFault(path)),
         Err(OperandFault::FileBytes(path)) => Err(Fault::FileBytes(path)),

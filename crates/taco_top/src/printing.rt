@@ -8,6 +8,7 @@ ghost use Rattle.command_line.specs.declared.Task.TheVariants as task;
 ghost use Rattle.operand_files.specs.Reads.{OnlyReads};
 ghost use Rattle.taco_top.specs.Written.{IsAccepted};
 ghost use Rattle.taco_top.specs.Told.{IsKernelOf};
+ghost use Rattle.taco_top.specs.Values.{Values, semiring};
 ghost use Rattle.taco_top.specs.Ends.{Cause};
 ghost use Rattle.taco_top.specs.Run.{AsksFor, request_of};
 ghost use Rattle.taco_top.specs.Prepared.{IsPrepared, end_of};
@@ -18,6 +19,7 @@ use crate::computing::Computed;
 use crate::ending::{Done, printed};
 use generated_runs::run_workload;
 use mode_planner::plan;
+use numbers::Semiring;
 use outside::Sink;
 use refusals::Fault;
 use reports::{print_kernel_report, print_plan, print_run_report, print_workload};
@@ -29,11 +31,12 @@ pub(crate) fn tell_kernel<'a, O: Sink>(
     accepted: &Accepted<'a>,
 ) -> Result<Done, Fault<'a>>
     requires accepted { (words : List (List ℕ)) × IsAccepted words (request_of accepted.now.asked) }
-    requires kernel { IsKernelOf accepted.now.asked.statement accepted.now.asked.bindings.formats.items
+    requires kernel { (over : Values) × IsKernelOf over accepted.now.asked.statement accepted.now.asked.bindings.formats.items
         accepted.now.compiled.order accepted.now.compiled.kernel }
     requires task { accepted.now.asked.task ≡ task.Kernel }
-    ensures { (words : List (List ℕ)) (files : FolderState) → IsAccepted words (request_of accepted.now.asked)
-        → Cause words files files (O.state out.old) (O.state out.new) (end_of result) }
+    ensures { (over : Values) (words : List (List ℕ)) (files : FolderState) → IsAccepted words (request_of accepted.now.asked)
+        → IsKernelOf over accepted.now.asked.statement accepted.now.asked.bindings.formats.items accepted.now.compiled.order
+        accepted.now.compiled.kernel → Cause over words files files (O.state out.old) (O.state out.new) (end_of result) }
 {
     let asked = &accepted.asked;
     let compiled = &accepted.compiled;
@@ -47,15 +50,19 @@ pub(crate) fn tell_kernel<'a, O: Sink>(
 }
 
 /// Prints the report of a run.
-pub(crate) fn tell_run<'a, O: Sink>(out: &mut O, computed: &Computed<'a>) -> Result<Done, Fault<'a>>
+pub(crate) fn tell_run<'a, S: Semiring, O: Sink>(
+    out: &mut O,
+    computed: &Computed<'a>,
+) -> Result<Done, Fault<'a>>
     requires { (words : List (List ℕ)) × (files : FolderState) × (between : FolderState)
-        × IsPrepared words task.Report files between computed.now }
+        × IsPrepared (semiring S.arithmetic S.has_minus S.is_ring S.is_signed S.name) words task.Report files between computed.now }
     ensures { (words : List (List ℕ)) (files between : FolderState) → OnlyReads files between
-        → IsPrepared words task.Report files between computed.now
-        → Cause words files between (O.state out.old) (O.state out.new) (end_of result) }
+        → IsPrepared (semiring S.arithmetic S.has_minus S.is_ring S.is_signed S.name) words task.Report files between computed.now
+        → Cause (semiring S.arithmetic S.has_minus S.is_ring S.is_signed S.name) words files between (O.state out.old) (O.state out.new)
+        (end_of result) }
 {
     let result = &computed.result;
-    printed(print_run_report(
+    printed(print_run_report::<S, O>(
         out,
         &computed.statement,
         computed.compiled.order.as_slice(),
@@ -75,8 +82,8 @@ pub(crate) fn tell_plan<'a, O: Sink>(
     requires asked { (words : List (List ℕ)) × AsksFor words (request_of asked.now) }
     requires numbered { IsNumbered asked.now.statement }
     requires task { asked.now.task ≡ task.Plan }
-    ensures { (words : List (List ℕ)) (files : FolderState) → AsksFor words (request_of asked.now)
-        → Cause words files files (O.state out.old) (O.state out.new) (end_of result) }
+    ensures { (over : Values) (words : List (List ℕ)) (files : FolderState) → AsksFor words (request_of asked.now)
+        → Cause over words files files (O.state out.old) (O.state out.new) (end_of result) }
 {
     let statement = &asked.statement;
     match plan(alloc, statement, asked.bindings.formats.as_slice()) {
@@ -92,8 +99,8 @@ pub(crate) fn tell_workload<'a, O: Sink>(
     out: &mut O,
 ) -> Result<Done, Fault<'a>>
     requires { size ≤ greatest_workload }
-    ensures { (words : List (List ℕ)) (files : FolderState) → command_line_of words ≡ Some (WorkloadLine size)
-        → Cause words files files (O.state out.old) (O.state out.new) (end_of result) }
+    ensures { (over : Values) (words : List (List ℕ)) (files : FolderState) → command_line_of words ≡ Some (WorkloadLine size)
+        → Cause over words files files (O.state out.old) (O.state out.new) (end_of result) }
 {
     match run_workload(alloc, size) {
         Ok(workload) => printed(print_workload(out, &workload)),

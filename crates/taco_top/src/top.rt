@@ -8,6 +8,7 @@ ghost use Rattle.taco_top.specs.Asked.{writes_result};
 ghost use Rattle.taco_top.specs.Ends.{Cause, Ends, PutsLine};
 ghost use Rattle.taco_top.specs.Run.{AsksFor, request_of};
 ghost use Rattle.taco_top.specs.Prepared.{end_of};
+ghost use Rattle.taco_top.specs.Values.{semiring, values_of, values_in};
 
 use crate::asked::{Asked, Work, ask};
 use crate::asking::accept;
@@ -15,73 +16,107 @@ use crate::computing::compute;
 use crate::ending::Done;
 use crate::printing::{tell_kernel, tell_plan, tell_run, tell_workload};
 use crate::writing::write;
-use command_line::Task;
+use command_line::{Over, Task};
+use numbers::{Ring, Semiring};
 use outside::{Folder, Sink};
 use refusals::{Fault, put_line};
 use reports::put_turns;
+use semirings::{Bits, MinPlus};
 use std::alloc::Global;
 
 /// Writes the result of what the words ask for, with storage orders mended where the task does so.
-fn run<'a, F: Folder, O: Sink>(
+fn run<'a, S: Semiring, F: Folder, O: Sink>(
     alloc: Global,
     asked: Asked<'a>,
     files: &mut F,
     out: &mut O,
 ) -> Result<Done, Fault<'a>>
     requires asked { (words : List (List ℕ)) × AsksFor words (request_of asked) }
+    requires over { values_of asked.over ≡ semiring S.arithmetic S.has_minus S.is_ring S.is_signed S.name }
     requires numbered { IsNumbered asked.statement }
     requires task { writes_result asked.task ≡ true }
     ensures { (words : List (List ℕ)) → AsksFor words (request_of asked.entry)
-        → Cause words (F.state files.old) (F.state files.new) (O.state out.old) (O.state out.new) (end_of result) }
+        → Cause (semiring S.arithmetic S.has_minus S.is_ring S.is_signed S.name) words (F.state files.old) (F.state files.new)
+        (O.state out.old) (O.state out.new) (end_of result) }
 {
-    let accepted = match accept(alloc, asked) {
+    let accepted = match accept::<S>(alloc, asked) {
         Ok(accepted) => accepted,
         Err(fault) => return Err(fault),
     };
-    match compute(alloc, accepted, files) {
-        Ok(computed) => write(files, out, &computed),
+    match compute::<S, F>(alloc, accepted, files) {
+        Ok(computed) => write::<S, F, O>(files, out, &computed),
         Err(fault) => Err(fault),
     }
 }
 
 /// Prints the kernel of what the words ask for.
-fn kernel<'a, O: Sink>(alloc: Global, asked: Asked<'a>, out: &mut O) -> Result<Done, Fault<'a>>
+fn kernel<'a, S: Semiring, O: Sink>(
+    alloc: Global,
+    asked: Asked<'a>,
+    out: &mut O,
+) -> Result<Done, Fault<'a>>
     requires asked { (words : List (List ℕ)) × AsksFor words (request_of asked) }
+    requires over { values_of asked.over ≡ semiring S.arithmetic S.has_minus S.is_ring S.is_signed S.name }
     requires numbered { IsNumbered asked.statement }
     requires task { asked.task ≡ task.Kernel }
     ensures { (words : List (List ℕ)) (files : FolderState) → AsksFor words (request_of asked.entry)
-        → Cause words files files (O.state out.old) (O.state out.new) (end_of result) }
+        → Cause (semiring S.arithmetic S.has_minus S.is_ring S.is_signed S.name) words files files (O.state out.old) (O.state out.new)
+        (end_of result) }
 {
-    match accept(alloc, asked) {
+    match accept::<S>(alloc, asked) {
         Ok(accepted) => tell_kernel(out, &accepted),
         Err(fault) => Err(fault),
     }
 }
 
 /// Prints a report of the run of what the words ask for.
-fn report<'a, F: Folder, O: Sink>(
+fn report<'a, S: Semiring, F: Folder, O: Sink>(
     alloc: Global,
     asked: Asked<'a>,
     files: &mut F,
     out: &mut O,
 ) -> Result<Done, Fault<'a>>
     requires asked { (words : List (List ℕ)) × AsksFor words (request_of asked) }
+    requires over { values_of asked.over ≡ semiring S.arithmetic S.has_minus S.is_ring S.is_signed S.name }
     requires numbered { IsNumbered asked.statement }
     requires task { asked.task ≡ task.Report }
     ensures { (words : List (List ℕ)) → AsksFor words (request_of asked.entry)
-        → Cause words (F.state files.old) (F.state files.new) (O.state out.old) (O.state out.new) (end_of result) }
+        → Cause (semiring S.arithmetic S.has_minus S.is_ring S.is_signed S.name) words (F.state files.old) (F.state files.new)
+        (O.state out.old) (O.state out.new) (end_of result) }
 {
-    let accepted = match accept(alloc, asked) {
+    let accepted = match accept::<S>(alloc, asked) {
         Ok(accepted) => accepted,
         Err(fault) => return Err(fault),
     };
-    match compute(alloc, accepted, files) {
-        Ok(computed) => tell_run(out, &computed),
+    match compute::<S, F>(alloc, accepted, files) {
+        Ok(computed) => tell_run::<S, O>(out, &computed),
         Err(fault) => Err(fault),
     }
 }
 
-/// Does what the words ask for with a statement.
+/// Does what the words ask for with a statement, over a semiring.
+fn answer_over<'a, S: Semiring, F: Folder, O: Sink>(
+    alloc: Global,
+    asked: Asked<'a>,
+    files: &mut F,
+    out: &mut O,
+) -> Result<Done, Fault<'a>>
+    requires asked { (words : List (List ℕ)) × AsksFor words (request_of asked) }
+    requires over { values_of asked.over ≡ semiring S.arithmetic S.has_minus S.is_ring S.is_signed S.name }
+    requires numbered { IsNumbered asked.statement }
+    ensures { (words : List (List ℕ)) → AsksFor words (request_of asked.entry)
+        → Cause (semiring S.arithmetic S.has_minus S.is_ring S.is_signed S.name) words (F.state files.old) (F.state files.new)
+        (O.state out.old) (O.state out.new) (end_of result) }
+{
+    match asked.task {
+        Task::Run | Task::Auto => run::<S, F, O>(alloc, asked, files, out),
+        Task::Kernel => kernel::<S, O>(alloc, asked, out),
+        Task::Report => report::<S, F, O>(alloc, asked, files, out),
+        Task::Plan => tell_plan(alloc, out, &asked),
+    }
+}
+
+/// Does what the words ask for with a statement, over the semiring that they name.
 fn answer_statement<'a, F: Folder, O: Sink>(
     alloc: Global,
     asked: Asked<'a>,
@@ -91,13 +126,13 @@ fn answer_statement<'a, F: Folder, O: Sink>(
     requires asked { (words : List (List ℕ)) × AsksFor words (request_of asked) }
     requires numbered { IsNumbered asked.statement }
     ensures { (words : List (List ℕ)) → AsksFor words (request_of asked.entry)
-        → Cause words (F.state files.old) (F.state files.new) (O.state out.old) (O.state out.new) (end_of result) }
+        → Cause (values_of asked.entry.over) words (F.state files.old) (F.state files.new) (O.state out.old) (O.state out.new)
+        (end_of result) }
 {
-    match asked.task {
-        Task::Run | Task::Auto => run(alloc, asked, files, out),
-        Task::Kernel => kernel(alloc, asked, out),
-        Task::Report => report(alloc, asked, files, out),
-        Task::Plan => tell_plan(alloc, out, &asked),
+    match asked.over {
+        Over::Ring => answer_over::<Ring, F, O>(alloc, asked, files, out),
+        Over::MinPlus => answer_over::<MinPlus, F, O>(alloc, asked, files, out),
+        Over::Bits => answer_over::<Bits, F, O>(alloc, asked, files, out),
     }
 }
 
@@ -108,7 +143,8 @@ fn answer<'a, F: Folder, O: Sink>(
     files: &mut F,
     out: &mut O,
 ) -> Result<Done, Fault<'a>>
-    ensures { Cause (map string_bytes words.now) (F.state files.old) (F.state files.new) (O.state out.old) (O.state out.new)
+    ensures { Cause (values_in (map string_bytes words.now)) (map string_bytes words.now) (F.state files.old) (F.state files.new)
+        (O.state out.old) (O.state out.new)
         (end_of result) }
 {
     match ask(alloc, words) {

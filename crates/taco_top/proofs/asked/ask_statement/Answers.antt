@@ -1,18 +1,20 @@
-use Rattle.std.proofs.Common.{rules}
 use Rattle.index_notation.specs.Statement.{IsNumbered}
 use Rattle.taco_top.specs.Asked.{Names, texts_in}
+use Rattle.taco_top.proofs.BoundNames.{asked_for}
 use Rattle.taco_top.proofs.asked.ask_statement.Goals as goal
 
 -- the words ask for the statement that the written one stands for
 pub returns-in_ok-expand-in-Ok : goal.returns-in_ok-expand-in-Ok
 returns-in_ok-expand-in-Ok c = λ all line.
-    let names : Names all c.args.task c.in_ok-expand-in-Ok.field-0 (texts_in c.args.words.now) = record {
+    let names : Names all c.args.task c.args.over c.in_ok-expand-in-Ok.field-0 (texts_in c.args.words.now) = record {
       text = c.args.text.now;
       line = line;
       written = c.in_ok-statement.statement;
       notation = c.in_ok-statement.ensures.statement.0;
       names = c.in-Ok.ensures;
+      meant = c.in_ok-check_minus-in-Ok.ensures.meant;
       stands_for = c.in_ok-expand-in-Ok.ensures.whole;
     } in
     let numbered : IsNumbered c.in_ok-expand-in-Ok.field-0 = c.in_ok-expand-in-Ok.ensures.numbered in
-    search (rules, names, numbered)
+    asked_for all c.args.task c.args.over c.in_ok-expand-in-Ok.field-0 (texts_in c.args.words.now) names numbered c.bind_names.result
+    c.bind_names.ensures

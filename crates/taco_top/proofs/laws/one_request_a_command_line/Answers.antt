@@ -1,9 +1,12 @@
-use Rattle.taco_top.proofs.OneRequest.{same_task, same_statement, same_formats, same_files, same_ranges, never_both}
+use Rattle.taco_top.proofs.OneRequest.{same_task, same_over, same_statement, same_formats, same_files, same_ranges, never_both}
 use Rattle.taco_top.proofs.OneRequest.{workload_alone, workload_taken}
 use Rattle.taco_top.proofs.laws.one_request_a_command_line.Goals as goal
 
 pub returns-clause-task : goal.returns-clause-task
 returns-clause-task c = same_task
+
+pub returns-clause-over : goal.returns-clause-over
+returns-clause-over c = same_over
 
 pub returns-clause-statement : goal.returns-clause-statement
 returns-clause-statement c = same_statement

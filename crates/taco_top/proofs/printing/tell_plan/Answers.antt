@@ -17,10 +17,10 @@ plan-requires-clause-right g c =
     c.as_slice.ensures.value
 
 pub returns-in-Ok : goal.returns-in-Ok
-returns-in-Ok g c = λ words files asks.
-    let told = tells_plan words files (request_of c.args.asked.now) c.in-Ok.plan asks c.requires.task c.as_slice.result.now
+returns-in-Ok g c = λ over words files asks.
+    let told = tells_plan over words files (request_of c.args.asked.now) c.in-Ok.plan asks c.requires.task c.as_slice.result.now
     c.as_slice.ensures.value c.in-Ok.ensures in
-    cause_of_printing words files files (g.O.Sink.state c.args.out.now) (g.O.Sink.state c.print_plan.new.out)
+    cause_of_printing over words files files (g.O.Sink.state c.args.out.now) (g.O.Sink.state c.print_plan.new.out)
     (plan_text c.args.asked.now.statement c.as_slice-in-Ok.result.now) (reads_nothing files)
-    (subst (λ plan. Tells words files files (plan_text c.args.asked.now.statement plan)) (sym c.as_slice-in-Ok.ensures) told)
+    (subst (λ plan. Tells over words files files (plan_text c.args.asked.now.statement plan)) (sym c.as_slice-in-Ok.ensures) told)
     c.print_plan.result c.printed.result c.printed.ensures c.print_plan.ensures.whole c.print_plan.ensures.part

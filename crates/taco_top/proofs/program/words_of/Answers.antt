@@ -24,7 +24,8 @@ pub returns : goal.returns
 returns c = elim c.match-args.branch [
   | in-Ok+in-None w ↦ rw w.words-is (sym (w.loop-word.invariant
       ∙ ap (λ ws. w.loop-word.words.items ++ ws)
-      (none_left (into_iter_items w.loop-word.word-iterator) (omega (arith, w.in-None.ensures.steps.0, w.loop-word.word-iterator.rest.ok.0)))
+      (none_left (into_iter_items w.loop-word.word-iterator) (omega
+      (arith, w.in-None.ensures.steps.0, w.loop-word.word-iterator.rest.ok.0)))
       ∙ append-nil w.loop-word.words.items))
   | in-Err+else-eq w ↦ rw w.words-is (c.new-words.ensures.items ∙ sym (ap words_in w.in-Err.is))
 ]

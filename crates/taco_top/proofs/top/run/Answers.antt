@@ -1,4 +1,5 @@
 use Rattle.std.proofs.Common.{◌∙◌, ap}
+use Rattle.taco_top.specs.Values.{semiring}
 use Rattle.taco_top.specs.Asked.{writes_result}
 use Rattle.taco_top.proofs.Mended.{writing_needs_files, writing_needs_kernel}
 use Rattle.taco_top.proofs.Stopped.{stopped, reads_nothing}
@@ -6,7 +7,8 @@ use Rattle.taco_top.proofs.top.run.Goals as goal
 
 pub returns-in-Err : goal.returns-in-Err
 returns-in-Err g c = λ words asks.
-    stopped words (g.F.Folder.state c.args.files.now) (g.F.Folder.state c.args.files.now) (g.O.Sink.state c.args.out.now)
+    let over = semiring g.S.Semiring.arithmetic g.S.Semiring.has_minus g.S.Semiring.is_ring g.S.Semiring.is_signed g.S.Semiring.name in
+    stopped over words (g.F.Folder.state c.args.files.now) (g.F.Folder.state c.args.files.now) (g.O.Sink.state c.args.out.now)
     c.in-Err.fault (reads_nothing (g.F.Folder.state c.args.files.now))
     (c.in-Err.ensures.refused words asks (g.F.Folder.state c.args.files.now))
 
@@ -36,6 +38,7 @@ returns-in-Ok-compute g c = λ words asks.
 
 pub returns-in-Err-compute : goal.returns-in-Err-compute
 returns-in-Err-compute g c = λ words asks.
-    stopped words (g.F.Folder.state c.args.files.now) (g.F.Folder.state c.compute.new.files) (g.O.Sink.state c.args.out.now)
+    let over = semiring g.S.Semiring.arithmetic g.S.Semiring.has_minus g.S.Semiring.is_ring g.S.Semiring.is_signed g.S.Semiring.name in
+    stopped over words (g.F.Folder.state c.args.files.now) (g.F.Folder.state c.compute.new.files) (g.O.Sink.state c.args.out.now)
     c.in-Err-compute.fault c.in-Err-compute.ensures.only_reads
     (c.in-Err-compute.ensures.stops words (c.in-Ok.ensures.accepted words asks))

@@ -1,0 +1,62 @@
+-- What the words bind to a statement's names is what they ask for.
+use Rattle.std.specs.Prelude.{◌≡◌, ℕ, List, map, Result, Ok, Err, MatchResult, refl}
+use Rattle.std.proofs.Common.{sym, subst}
+use Rattle.index_notation.specs.Statement.{IsNumbered}
+use Rattle.index_notation.specs.declared.syntax.Statement.{Statement}
+use Rattle.command_line.specs.declared.Over.{Over}
+use Rattle.command_line.specs.declared.Task.{Task}
+use Rattle.bindings.specs.Outcome.{Binds}
+use Rattle.bindings.specs.Tables.{file_in}
+use Rattle.refusals.specs.declared.fault.NamedFault.TheVariants as named
+use Rattle.refusals.specs.declared.fault.Fault.{Fault}
+use Rattle.refusals.specs.declared.fault.Fault.TheVariants as fault
+use Rattle.taco_top.specs.Asked.{Asks, Names, IsRefusedByWords, IsBindingFault, IsBindingRefused, needs_files}
+use Rattle.taco_top.specs.declared.asked.Asked.{Asked}
+
+module _ (words : List (List ℕ)) (task : Task) (over : Over) (s : Statement) (rest : List (List ℕ)) (names : Names words task over s rest)
+    (numbered : IsNumbered s) where
+  abbrev IsBound : Asked → Type 0
+  IsBound asked = (asked.task ≡ task) × (asked.over ≡ over) × (asked.statement ≡ s)
+      × Binds s rest (needs_files task) asked.bindings.formats.items (map file_in asked.bindings.files.entries) asked.bindings.ranges.items
+
+  abbrev IsFor : Asked → Type 0
+  IsFor asked = Asks words asked.task asked.over asked.statement asked.bindings.formats.items
+      (map file_in asked.bindings.files.entries) asked.bindings.ranges.items × IsNumbered asked.statement
+
+  bound : (asked : Asked) → IsBound asked → IsFor asked
+  bound asked (task_is, over_is, statement_is, binds) = (
+    subst (λ t. Asks words t asked.over asked.statement asked.bindings.formats.items (map file_in asked.bindings.files.entries)
+        asked.bindings.ranges.items) (sym task_is)
+        (subst (λ o. Asks words task o asked.statement asked.bindings.formats.items (map file_in asked.bindings.files.entries)
+        asked.bindings.ranges.items) (sym over_is)
+        (subst (λ u. Asks words task over u asked.bindings.formats.items (map file_in asked.bindings.files.entries)
+        asked.bindings.ranges.items) (sym statement_is) (record { rest = rest; names = names; binds = binds }))),
+    subst IsNumbered (sym statement_is) numbered,
+  )
+
+  unbound : (why : Fault) → IsBindingRefused s rest (needs_files task) why → IsRefusedByWords words why
+  unbound (fault.Named t (named.Binding why)) (same, is) = (
+    task,
+    over,
+    rest,
+    subst (λ u. Names words task over u rest) (sym same) names,
+    subst (λ u. IsBindingFault u rest (needs_files task) why) (sym same) is,
+  )
+  unbound fault.Memory is = tt
+  unbound fault.Usage is = absurd is
+  unbound (fault.Notation why) is = absurd is
+  unbound (fault.Named t (named.Name why)) is = absurd is
+  unbound (fault.Named t (named.Cycle cycle)) is = absurd is
+  unbound (fault.Named t (named.Range why)) is = absurd is
+  unbound (fault.Named t (named.SizeLimit large)) is = absurd is
+  unbound (fault.NoMinus name) is = absurd is
+  unbound (fault.WorkspaceLimit count) is = absurd is
+  unbound (fault.ReadFault path) is = absurd is
+  unbound (fault.FileBytes path) is = absurd is
+  unbound (fault.BadFile path line kind) is = absurd is
+  unbound (fault.WriteFault path) is = absurd is
+
+  pub asked_for : (result : Result Asked Fault) → MatchResult result IsBound (IsBindingRefused s rest (needs_files task))
+      → MatchResult result IsFor (IsRefusedByWords words)
+  asked_for (Ok asked) is = bound asked is
+  asked_for (Err why) is = unbound why is
