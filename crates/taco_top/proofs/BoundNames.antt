@@ -1,6 +1,7 @@
 -- What the words bind to a statement's names is what they ask for.
-use Rattle.std.specs.Prelude.{◌≡◌, ℕ, List, map, Result, Ok, Err, MatchResult, refl}
+use Rattle.std.specs.Prelude.{◌≡◌, ℕ, List, map, Result, Ok, Err, IsErrAnd, MatchResult, refl}
 use Rattle.std.proofs.Common.{sym, subst}
+use Rattle.index_notation.specs.Notation.{IsNotationOf}
 use Rattle.index_notation.specs.Statement.{IsNumbered}
 use Rattle.index_notation.specs.declared.syntax.Statement.{Statement}
 use Rattle.command_line.specs.declared.Over.{Over}
@@ -10,7 +11,8 @@ use Rattle.bindings.specs.Tables.{file_in}
 use Rattle.refusals.specs.declared.fault.NamedFault.TheVariants as named
 use Rattle.refusals.specs.declared.fault.Fault.{Fault}
 use Rattle.refusals.specs.declared.fault.Fault.TheVariants as fault
-use Rattle.taco_top.specs.Asked.{Asks, Names, IsRefusedByWords, IsBindingFault, IsBindingRefused, needs_files}
+use Rattle.expr_terms.specs.Names.{HasNoNameFault}
+use Rattle.taco_top.specs.Asked.{Asks, AsksOf, Names, IsRefusedByWords, IsBindingFault, IsBindingRefused, IsMinusRefused, needs_files}
 use Rattle.taco_top.specs.declared.asked.Asked.{Asked}
 
 module _ (words : List (List ℕ)) (task : Task) (over : Over) (s : Statement) (rest : List (List ℕ)) (names : Names words task over s rest)
@@ -60,3 +62,26 @@ module _ (words : List (List ℕ)) (task : Task) (over : Over) (s : Statement) (
       → MatchResult result IsFor (IsRefusedByWords words)
   asked_for (Ok asked) is = bound asked is
   asked_for (Err why) is = unbound why is
+
+-- a minus that means nothing, in a statement whose names are in order
+by_minus : (words : List (List ℕ)) (task : Task) (over : Over) (text : List ℕ) (rest : List (List ℕ)) (s : Statement)
+    → AsksOf words task over text rest → IsNotationOf text s → HasNoNameFault s → (why : Fault) → IsMinusRefused over s why
+    → IsRefusedByWords words why
+by_minus words task over text rest s line notation names (fault.NoMinus name) is = (task, over, text, rest, line, s, notation, names, is)
+by_minus words task over text rest s line notation names fault.Memory is = absurd is
+by_minus words task over text rest s line notation names fault.Usage is = absurd is
+by_minus words task over text rest s line notation names (fault.Notation why) is = absurd is
+by_minus words task over text rest s line notation names (fault.Named t why) is = absurd is
+by_minus words task over text rest s line notation names (fault.WorkspaceLimit count) is = absurd is
+by_minus words task over text rest s line notation names (fault.ReadFault path) is = absurd is
+by_minus words task over text rest s line notation names (fault.FileBytes path) is = absurd is
+by_minus words task over text rest s line notation names (fault.BadFile path number kind) is = absurd is
+by_minus words task over text rest s line notation names (fault.WriteFault path) is = absurd is
+
+pub minus_refused : (P : Asked → Type 0) (words : List (List ℕ)) (task : Task) (over : Over) (text : List ℕ) (rest : List (List ℕ))
+    (s : Statement) (result : Result Asked Fault) (why : Fault) → AsksOf words task over text rest → IsNotationOf text s
+    → HasNoNameFault s → IsErrAnd result (λ other. other ≡ why) → IsMinusRefused over s why
+    → MatchResult result P (IsRefusedByWords words)
+minus_refused P words task over text rest s (Ok asked) why line notation names is minus = absurd is
+minus_refused P words task over text rest s (Err other) why line notation names is minus =
+    subst (IsRefusedByWords words) (sym is) (by_minus words task over text rest s line notation names why minus)

@@ -29,7 +29,7 @@ pub auto_has_no_cycle : (words : List (String Global)) (r : Request) (files file
     → (ends : Ends words files files' out out' err err' status) → ends.ended ≡ Refused (Named s (Cycle cycle)) → ⊥
 auto_has_no_cycle words r files files' out out' err err' status s cycle asks task_is ends is =
     let refused : Cause (values_in (map string_bytes words)) (map string_bytes words) files files' out out' (Refused (Named s
-        (Cycle cycle))) =
+    (Cycle cycle))) =
     subst (Cause (values_in (map string_bytes words)) (map string_bytes words) files files' out out') is ends.cause in
     let told = refused.stops.1 in
     needs_none (sym (ap (λ x. needs_order x.task) (one_request (map string_bytes words) told.request r told.asks asks)

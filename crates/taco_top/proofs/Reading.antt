@@ -112,7 +112,7 @@ module _ (over : Values) where
       let names = operands.accepted.asks.names in
       let each_read = text_read names.text names.written r.statement names.notation names.stands_for in
       read_is_runnable over.arithmetic over.has_minus over.is_signed r.statement numbered
-          (well_named words r operands.accepted.asks) each_read operands.accepted.asks.rest
+      (well_named words r operands.accepted.asks) each_read operands.accepted.asks.rest
       (needs_files r.task) r.formats r.files r.given operands.accepted.asks.binds old new (asked_paths r) (length (asked_paths r)) entries
       bounds
       (request_readable words r operands.reads operands.accepted numbered) refl operands.read

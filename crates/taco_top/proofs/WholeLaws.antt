@@ -85,21 +85,21 @@ fault_rose (Some name) text between files' out out' puts = inl puts.0.cause.0.ro
 pub one_request : (words : List (List ℕ)) (r q : Request) → AsksFor words r → AsksFor words q → r ≡ q
 one_request words r q asks other =
     let t = request.same_task words r.task q.task r.over q.over r.statement q.statement r.formats q.formats r.files q.files r.given
-        q.given asks other in
+    q.given asks other in
     let o = request.same_over words r.task q.task r.over q.over r.statement q.statement r.formats q.formats r.files q.files r.given
-        q.given asks
+    q.given asks
     other in
     let s = request.same_statement words r.task q.task r.over q.over r.statement q.statement r.formats q.formats r.files q.files r.given
-        q.given asks
+    q.given asks
     other in
     let formats = request.same_formats words r.task q.task r.over q.over r.statement q.statement r.formats q.formats r.files q.files
-        r.given q.given asks
+    r.given q.given asks
     other in
     let fs = request.same_files words r.task q.task r.over q.over r.statement q.statement r.formats q.formats r.files q.files r.given
-        q.given asks
+    q.given asks
     other in
     let gs = request.same_ranges words r.task q.task r.over q.over r.statement q.statement r.formats q.formats r.files q.files r.given
-        q.given asks
+    q.given asks
     other in
     λ i. record { task = t i; over = o i; statement = s i; formats = formats i; files = fs i; given = gs i }
 
@@ -143,7 +143,7 @@ module _ (over : Values) (words : List (List ℕ)) (files : FolderState) (whole 
         (stored_entries entries plan)
     fits plan is_plan =
         subst (λ es. AllFit over.arithmetic (stored_statement whole.request.statement plan)
-            (stored_formats whole.request.formats plan) whole.ranges
+        (stored_formats whole.request.formats plan) whole.ranges
         (stored_entries es plan)) (sym entries_are) (whole.fits plan is_plan)
 
     no_size_fault : (plan : Option Planned) (why : RunFault) → IsRunBy whole.request plan
@@ -178,7 +178,7 @@ module _ (over : Values) (words : List (List ℕ)) (files : FolderState) (whole 
     never_by_words : (why : Fault) → IsRefusedByWords words why → IsWant why
     never_by_words why is =
         request.never_both words whole.request.task whole.request.over whole.request.statement whole.request.formats whole.request.files
-            whole.request.given
+        whole.request.given
         why whole.accepted.asks is
 
     no_range_fault : (s : Statement) (why : RangeFault) → HasRangeFault over words files new s why → ⊥
@@ -231,11 +231,11 @@ module _ (over : Values) (words : List (List ℕ)) (files : FolderState) (whole 
     never_stops (fault.WorkspaceLimit count) is = absurd (no_pairs_fault count is)
     never_stops (fault.ReadFault path) is =
         absurd (told_others (means over) files new (asked_orders whole.request) (asked_paths whole.request)
-            (operand.ReadFault path) whole.told
+        (operand.ReadFault path) whole.told
         no_fault (reading_at (λ orders paths. RefusedAtFault (means over) files new orders paths path.now) is))
     never_stops (fault.FileBytes path) is =
         absurd (told_others (means over) files new (asked_orders whole.request) (asked_paths whole.request)
-            (operand.FileBytes path) whole.told
+        (operand.FileBytes path) whole.told
         no_fault (reading_at (λ orders paths. RefusedAtLength (means over) files new orders paths path.now) is))
     never_stops (fault.BadFile path line kind) is =
         absurd (apart (sym whole.operands_are
@@ -330,7 +330,7 @@ pub whole_text : (words : List (List ℕ)) (files files' others others' : Folder
     → (second : IsWritten (values_in words) words others others' away away') → first.writes.text ≡ second.writes.text
 whole_text words files files' others others' out out' away away' whole holds first second =
     one_text (values_in words).arithmetic (values_in words).is_signed (line_keeps_laws (command_line_of words))
-        (path_of whole.request.files 0)
+    (path_of whole.request.files 0)
     (result_ranges whole.request.statement whole.ranges)
     (result_value (values_in words) whole.request.statement (map (λ operand. operand.entries) whole.operands) whole.ranges)
     first.writes.text second.writes.text

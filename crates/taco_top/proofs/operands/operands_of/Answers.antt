@@ -9,7 +9,7 @@ use Rattle.taco_top.proofs.operands.operands_of.Goals as goal
 pub read_operands-requires : goal.read_operands-requires
 read_operands-requires g c =
     readable (semiring g.S.Semiring.arithmetic g.S.Semiring.has_minus g.S.Semiring.is_ring g.S.Semiring.is_signed g.S.Semiring.name)
-        c.requires.accepted.0 (g.F.Folder.state c.args.files.now) (g.F.Folder.state c.args.files.now) (request_of c.args.asked.now)
+    c.requires.accepted.0 (g.F.Folder.state c.args.files.now) (g.F.Folder.state c.args.files.now) (request_of c.args.asked.now)
     c.as_slice.result.now (paths_in c.as_slice-2.result.now)
     (c.as_slice.ensures.value ∙ c.in_ok-orders.ensures)
     (ap paths_in c.as_slice-2.ensures.value ∙ c.in_ok-sources.ensures) c.requires.reads

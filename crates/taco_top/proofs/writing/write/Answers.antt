@@ -25,7 +25,7 @@ returns-in-Err-Fault g c = λ words task before writes reads is.
     (g.O.Sink.state c.args.out.now) (g.O.Sink.state c.write_result.new.out) c.args.computed.now reads is write.Fault
     (subst (λ why. RefusesResult g.S.Semiring.arithmetic g.S.Semiring.is_signed (path_to c.args.computed.now.file)
     c.args.computed.now.result.shape (value_at g.S.Semiring.arithmetic c.args.computed.now.result.entries.list)
-        (g.F.Folder.state c.args.files.now)
+    (g.F.Folder.state c.args.files.now)
     (g.F.Folder.state c.write_result.new.files) (g.O.Sink.state c.args.out.now) (g.O.Sink.state c.write_result.new.out) why) same
     c.in-Err-Fault.ensures.refused)))
 
@@ -42,7 +42,7 @@ returns-in-Err-Memory g c = λ words task before writes reads is.
           (write.Memory c.in-Err-Memory.field-0-0)
           (subst (λ why. RefusesResult g.S.Semiring.arithmetic g.S.Semiring.is_signed (path_to c.args.computed.now.file)
           c.args.computed.now.result.shape (value_at g.S.Semiring.arithmetic c.args.computed.now.result.entries.list)
-              (g.F.Folder.state c.args.files.now)
+          (g.F.Folder.state c.args.files.now)
           (g.F.Folder.state c.write_result.new.files) (g.O.Sink.state c.args.out.now) (g.O.Sink.state c.write_result.new.out) why) same
           c.in-Err-Memory.ensures.refused),
     ))
