@@ -47,6 +47,16 @@
 //! name come how the run ended, where it is stuck the number of the statement, the turns of each kind, and the arrays that have words, with
 //! these.
 //!
+//! Kernels of which nothing is known are run by `run_checked`, on a result of their own and on the workspaces and lists of the case:
+//!
+//! ```text
+//! checked BUDGET FORMAT | RANGES | NAME
+//! ```
+//!
+//! The ranges are those of the result's modes. Below the case stand the turns of each kind and the text of the result as tensor 0, named
+//! `A`; or the statement at which the run can't go on, that the budget isn't enough, which size limit is passed, or that what is left is
+//! no storage. A new kernel begins.
+//!
 //! Texts are read as kernels:
 //!
 //! ```text
@@ -61,6 +71,7 @@
 //! or why it is no kernel's.
 #![tactic(auto)]
 
+mod checked;
 mod kinds;
 mod levels;
 mod names;

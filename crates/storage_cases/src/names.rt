@@ -14,8 +14,10 @@ pub(crate) const OWN: [(&'static str, (Arr, usize)); 8] = [
 ];
 
 /// The other arrays that cases name.
-const OTHERS: [(&'static str, Arr); 20] = [
+const OTHERS: [(&'static str, Arr); 22] = [
     ("range", Arr::Range),
+    ("T0_1_wid", Arr::Width(0, 1)),
+    ("T0_2_pos", Arr::Ends(0, 2)),
     ("T0_2_crd", Arr::Coordinates(0, 2)),
     ("T1_val", Arr::Values(1)),
     ("T1_1_dim", Arr::Dimension(1, 1)),

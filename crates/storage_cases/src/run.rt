@@ -23,7 +23,7 @@ use tensor_storage::Tensor;
 const TURNS: u64 = 1000;
 
 /// The tensor of a line, packed; none where the line says none, or for want of memory.
-fn tensor_of(answer: &mut Answer, line: &str) -> Option<Tensor>
+pub(crate) fn tensor_of(answer: &mut Answer, line: &str) -> Option<Tensor>
     ensures { IfSome result (λ t. AreDone 1 t.levels) }
 {
     match pack(answer, Parts::of(line)?)? {
@@ -93,6 +93,12 @@ fn tell_ending(answer: &mut Answer, ending: Ending, turns: Turns) {
             answer.tell("\n");
         }
     }
+    answer.tell("   ");
+    tell_turns(answer, turns);
+}
+
+/// The turns of each kind, each behind a blank and its name.
+pub(crate) fn tell_turns(answer: &mut Answer, turns: Turns) {
     let counts = [
         ("merge", turns.merge),
         ("skip", turns.skip),
@@ -100,7 +106,6 @@ fn tell_ending(answer: &mut Answer, ending: Ending, turns: Turns) {
         ("drain", turns.drain),
         ("probe", turns.probe),
     ];
-    answer.tell("   ");
     for (kind, count) in &counts {
         answer.tell(" ");
         answer.tell(*kind);

@@ -1,4 +1,5 @@
 //! The lines of case files, one after another.
+use crate::checked::tell_checked;
 use crate::kinds::tell_kind;
 use crate::levels::tell_tensor_levels;
 use crate::postfix::Postfix;
@@ -78,6 +79,7 @@ impl Session {
                 let simple = answer.made(simple)?;
                 tell_kernel(answer, keyword, &simple)
             }
+            "checked" => tell_checked::<S>(answer, self.tensor.as_str(), name, &kernel),
             _ => {
                 answer.tell(name);
                 answer.tell(": ");
@@ -137,7 +139,7 @@ impl Cases for Session {
                 Some(())
             }
             "do" => self.kernel.read_words(rest),
-            "print" | "simplify" | "run" => self.tell_outcome(answer, keyword, rest),
+            "print" | "simplify" | "run" | "checked" => self.tell_outcome(answer, keyword, rest),
             "line" => self.text.add_line(answer, rest),
             "piece" => self.text.add(answer, rest),
             "copies" => self.text.add_copies(answer, rest),

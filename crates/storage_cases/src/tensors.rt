@@ -37,7 +37,7 @@ impl<'a> Parts<'a> {
 }
 
 /// The format of a word `LETTERS` or `LETTERS:ORDER`.
-fn format_of(alloc: Global, word: &str, order: usize) -> Option<Format> {
+pub(crate) fn format_of(alloc: Global, word: &str, order: usize) -> Option<Format> {
     if order as u64 > greatest_order_of_tensor() {
         return None;
     }

@@ -1,10 +1,9 @@
 //! Cases of the values of packed entries, of the entries that the tensor gives back, and of its text.
-ghost use Rattle.storage_arrays.specs.Arrays.{AreDone};
-
 use crate::tensors::{Parts, coords_of, pack};
 use case_files::Answer;
-use numbers::{Ring, signed};
+use numbers::{Ring, Semiring, signed};
 use outside::MemSink;
+use std::fmt::Debug;
 use storage_text::put_store_text;
 use tensor_map::Entries;
 use tensor_storage::{PackRefusal, Tensor};
@@ -72,27 +71,32 @@ fn tell_entries(answer: &mut Answer, entries: &Entries) {
     answer.tell("\n");
 }
 
-/// The text of a tensor, which is written in pieces.
-fn tell_store(answer: &mut Answer, tensor: &Tensor) -> Option<()>
-    requires { AreDone 1 tensor.now.levels }
-{
+/// The text of a tensor of this number, which is written in pieces.
+pub(crate) fn tell_store<S: Semiring>(
+    answer: &mut Answer,
+    number: u64,
+    tensor: &Tensor,
+) -> Option<()> {
     let mut sink = MemSink::new(answer.alloc());
     answer.note(sink.cut_into(&[1, 4]));
-    put_store_text::<Ring, MemSink>(&mut sink, 1, b"A", tensor).ok()?;
+    put_store_text::<S, MemSink>(&mut sink, number, b"A", tensor).ok()?;
     answer.tell(str::from_utf8(sink.written()).ok()?);
     Some(())
+}
+
+/// A level that would have more positions than may be, of which it would have so many.
+pub(crate) fn tell_level_limit<T: Debug + Drop>(answer: &mut Answer, level: usize, count: T) {
+    answer.tell("size limit: level ");
+    answer.show(level);
+    answer.tell(" would have ");
+    answer.show(count);
+    answer.tell(" positions");
 }
 
 fn tell_refusal(answer: &mut Answer, refusal: PackRefusal) {
     match refusal {
         PackRefusal::Memory => answer.tell("no memory"),
-        PackRefusal::SizeLimit { level, count } => {
-            answer.tell("size limit: level ");
-            answer.show(level);
-            answer.tell(" would have ");
-            answer.show(count);
-            answer.tell(" positions");
-        }
+        PackRefusal::SizeLimit { level, count } => tell_level_limit(answer, level, count),
     }
 }
 
@@ -114,5 +118,5 @@ pub(crate) fn tell_values(answer: &mut Answer, parts: Parts<'_>) -> Option<()> {
     let entries = tensor.to_entries::<Ring>(answer.alloc());
     let entries = answer.made(entries)?;
     tell_entries(answer, &entries);
-    tell_store(answer, &tensor)
+    tell_store::<Ring>(answer, 1, &tensor)
 }
