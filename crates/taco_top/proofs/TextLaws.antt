@@ -29,7 +29,8 @@ use Rattle.taco_top.proofs.OneRequest as request
 use Rattle.taco_top.specs.Run.{Request, AsksFor}
 use Rattle.taco_top.specs.Written.{IsAccepted}
 use Rattle.taco_top.specs.Refused.{HasCycleFault, FailsToWrite, Refuses}
-use Rattle.taco_top.specs.Ends.{Ends, Ending, Written, Printed, Refused, Cause, status_of_end}
+use Rattle.taco_top.specs.Ends.{Ends, Ending, Written, Printed, Refused, Executed, Unexecuted, Cause, status_of_end}
+use Rattle.taco_top.proofs.ExecLines.{no_execution, no_workload, refuses_line}
 use Rattle.taco_top.proofs.WholeLaws.{one_request}
 
 -- ---- a kernel or a plan: what is asked for reads no file, and no cycle refuses it
@@ -66,6 +67,7 @@ module _ (over : Values) (words : List (List ℕ)) (files files' : FolderState) 
   text_refused (fault.ReadFault path) is = absurd (reads_none is.stops.request is.stops.accepted.asks is.stops.reads)
   text_refused (fault.FileBytes path) is = absurd (reads_none is.stops.request is.stops.accepted.asks is.stops.reads)
   text_refused (fault.BadFile path line kind) is = absurd (reads_none is.stops.request is.stops.accepted.asks is.stops.reads)
+  text_refused (fault.Kernel why) is = absurd (never_by_words (fault.Kernel why) is.stops.refused)
   text_refused (fault.WriteFault path) is = absurd (not_failed (option_map (λ p. p.now) path) is)
   text_refused fault.Memory is = refl
 
@@ -73,6 +75,9 @@ module _ (over : Values) (words : List (List ℕ)) (files files' : FolderState) 
   text_ends_well (Written turns) cause = inl refl
   text_ends_well Printed cause = inl refl
   text_ends_well (Refused why) cause = inr (ap status_of (text_refused why cause))
+  text_ends_well (Executed turns) cause = inl refl
+  text_ends_well (Unexecuted why) cause =
+      absurd (no_execution words asks.names.line (refuses_line words files files' out out' why cause))
 
 -- a kernel whose statement has a loop order
 module _ (words : List (List ℕ)) (r : Request) (accepted : IsAccepted words r) (task_is : r.task ≡ task.Kernel) where
@@ -167,6 +172,7 @@ module _ (over : Values) (words : List (List ℕ)) (files files' : FolderState) 
   workload_refused (fault.ReadFault path) is = absurd (no_statement is.stops.accepted.asks.names.line)
   workload_refused (fault.FileBytes path) is = absurd (no_statement is.stops.accepted.asks.names.line)
   workload_refused (fault.BadFile path bad kind) is = absurd (no_statement is.stops.accepted.asks.names.line)
+  workload_refused (fault.Kernel why) is = absurd is.stops.refused
   workload_refused (fault.WriteFault path) is = absurd (unfailed (option_map (λ p. p.now) path) is)
   workload_refused fault.Memory is = refl
 
@@ -175,6 +181,9 @@ module _ (over : Values) (words : List (List ℕ)) (files files' : FolderState) 
   workload_ends_well (Written turns) cause = inl refl
   workload_ends_well Printed cause = inl refl
   workload_ends_well (Refused why) cause = inr (ap status_of (workload_refused why cause))
+  workload_ends_well (Executed turns) cause = inl refl
+  workload_ends_well (Unexecuted why) cause =
+      absurd (no_workload words size line (refuses_line words files files' out out' why cause))
 
 pub kernel_ends : (words : List (String Global)) (request : Request) (files files' : FolderState) (out out' err err' : SinkState)
     (status : ℕ) → IsAccepted (map string_bytes words) request → request.task ≡ task.Kernel → (Rose out.faults out'.faults → ⊥)
