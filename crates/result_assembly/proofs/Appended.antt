@@ -151,8 +151,8 @@ module _ (letters rest : List Letter) (letter : Letter) (w g d n base : ℕ) (co
               (pass_here letters rest letter d rows.count left) (r.0 j)),
           record {
             array = inl r.1.1.array;
-            above = (let same = r.1.1.told in let more = r.1.1.above in omega (arith, same, more));
-            within = (let same = r.1.1.told in omega (arith, same, upto, told));
+            above = (let is = r.1.1.told in let over = r.1.1.above in omega (arith, is, over));
+            within = (let is = r.1.1.told in omega (arith, is, upto, told));
           },
         ),
       )

@@ -92,8 +92,8 @@ module _ (letters rest : List Letter) (letter : Letter) (w g d n base : ℕ) (co
     pub refused_at : (a : Arr) (k : ℕ) → PassesLimitWithin 0 (suc d) needed a k → PassesAt letters sizes table d a k
     refused_at a k r = record {
       array = inl r.1.array;
-      above = (let same = r.1.told in let more = r.1.above in omega (arith, same, more));
-      within = (let same = r.1.told in let upto = r.2 in let told = told_level in omega (arith, same, upto, told));
+      above = (let is = r.1.told in let over = r.1.above in omega (arith, is, over));
+      within = (let is = r.1.told in let upto = r.2 in let told = told_level in omega (arith, is, upto, told));
     }
 
     pub may_insert : MayInsertRows (meaning.size start.start) dr.parents rows
