@@ -125,7 +125,6 @@ given_is a laws s formats kernel given operands bounds budget ranges told are st
   where
     shape_is : shape ≡ map (slice_index ranges) s.left.vars
     shape_is = run.shape_is ∙ ap (λ (rs : List ℕ). map (slice_index rs) s.left.vars) is_store.ranges_are
-
     left = run.runs.ends.run
 
     order : length tensor.format ≡ length s.left.vars

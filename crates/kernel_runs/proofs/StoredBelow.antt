@@ -24,13 +24,13 @@ some_level = record { letter = Dense; mode = 0 }
 -- each coordinate of a path is below the size of its level
 path_below : (levels : List StorageLevel) (positions : ℕ) (span : Span) (xs : List ℕ) (pos : ℕ) → IsOpen meaning levels positions span
     → Path meaning levels span xs pos → (k : ℕ) → k < length levels → slice_index xs k < slice_index (map meaning.size levels) k
-path_below [] positions span xs pos open path k h = absurd (omega (arith, h))
-path_below (l ∷ levels) positions span [] pos open path k h = absurd path
-path_below (l ∷ levels) positions span (x ∷ xs) pos open path zero h =
+path_below [] positions span xs pos opened path k h = absurd (omega (arith, h))
+path_below (l ∷ levels) positions span [] pos opened path k h = absurd path
+path_below (l ∷ levels) positions span (x ∷ xs) pos opened path zero h =
     subst (λ y. y < meaning.size l) path.2
-    (below_at (meaning.size l) path.0.child.lo path.0 (meaning.entries l span) (laws.entries l span open.0).below path.1)
-path_below (l ∷ levels) positions span (x ∷ xs) pos open path (suc k) h =
-    path_below levels positions path.0.child xs pos (open.1 path.0 path.1) path.3 k (omega (arith, h))
+    (below_at (meaning.size l) path.0.child.lo path.0 (meaning.entries l span) (laws.entries l span opened.0).below path.1)
+path_below (l ∷ levels) positions span (x ∷ xs) pos opened path (suc k) h =
+    path_below levels positions path.0.child xs pos (opened.1 path.0 path.1) path.3 k (omega (arith, h))
 
 -- a coordinate list that ends at a position is below the ranges, mode by mode
 pub mode_below_range : (tensor : Storage) (ranges coords : List ℕ) (pos : ℕ) → IsStorage tensor

@@ -183,4 +183,3 @@ returns-clause-refused g c =
     c.deref.result.now c.deref.ensures.value c.as_mut_slice-entries.result.now c.as_mut_slice-entries.ensures.value c.in_ok-tensors.tensors.items
     c.in_ok-tensors.ensures c.deref-2.result.now c.deref-2.ensures.value given bounds told c.args.kernel.now c.args.budget
     c.in-Err.fault c.in-Err.ensures.refused
-
