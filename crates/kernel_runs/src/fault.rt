@@ -24,7 +24,7 @@ pub enum RunFault {
 }
 
 /// The refusal of a growth at a place of the result, which is tensor 0, to so many positions or pairs.
-pub(crate) fn large(place: Place, count: u64) -> RunFault
+pub(crate) fn large(place: Place, count: u128) -> RunFault
     ensures { result ≡ of_place place count }
 {
     match place {
