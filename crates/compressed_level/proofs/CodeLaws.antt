@@ -11,7 +11,7 @@ use Rattle.kernel_code.specs.declared.syntax.Arr.TheVariants.{Ends, Coordinates}
 use Rattle.kernel_code.specs.declared.syntax.Op.TheVariants.{Add, Sub, Less}
 use Rattle.kernel_code.specs.declared.syntax.KExpr.{KExpr, Num, Len, At, Bin}
 use Rattle.kernel_code.specs.declared.syntax.KStmt.{KStmt, Extend}
-use Rattle.kernel_code.specs.Arrays.{same_arr, may_have, word_count}
+use Rattle.kernel_code.specs.Arrays.{same_arr, may_have}
 use Rattle.kernel_code.proofs.ArrayNames.{same_arr_self}
 use Rattle.kernel_code.specs.Meaning.{Setting, State, value, length_of, set_array}
 use Rattle.kernel_code.specs.Does.{Never}
@@ -127,7 +127,7 @@ more_ends c l level free parents e s k reservable held fewer more_is =
       λ k. omega arith,
       record {
         array = (refl, refl);
-        told = ap word_count (ap (λ n. n - 1) size ∙ omega arith);
+        told = ap (λ n. n - 1) size ∙ omega arith;
         above =
             omega (arith, many, size);
       },

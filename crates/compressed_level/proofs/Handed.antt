@@ -1,8 +1,7 @@
 -- The level of the words that a kernel leaves keeps the rules, and is the level that has them.
-use Rattle.std.specs.Prelude.{◌≡◌, ◌≢◌, ℕ, ◌+◌, ◌-◌, ◌≤◌, ◌<◌, Bool, List, [], ◌∷◌, ◌++◌, length, take, slice_index, All, Some, refl}
+use Rattle.std.specs.Prelude.{◌≡◌, ◌≢◌, ℕ, ◌+◌, ◌-◌, ◌≤◌, ◌<◌, Bool, List, [], ◌∷◌, ◌++◌, length, take, slice_index, Some, refl}
 use Rattle.std.proofs.Common.{◌∙◌, sym, ap, subst, arith}
 use Rattle.std.proofs.lemmas.List.{take_more}
-use Rattle.std.proofs.lemmas.List.Elements.{All-nil, All-cons}
 use Rattle.limits.specs.Limits.{greatest_position_count}
 use Rattle.level_core.specs.declared.arrays.LevelArray.{LevelArray}
 use Rattle.level_core.specs.declared.arrays.LevelArray.TheVariants.{Dimension as OfSize, Ends as OfEnds}
@@ -61,12 +60,6 @@ numbers_tell (x ∷ xs) counts h =
     let rest : running (0 + x) xs ≡ running 0 counts = cc in
     let none : x ≡ 0 = omega (arith, first) in
     ap (λ n. n ∷ xs) none ∙ ap (λ ns. 0 ∷ ns) (running_tells 0 xs counts (ap (λ n. running n xs) (sym first) ∙ rest))
-
-all_small : (n : ℕ) (coords : List ℕ) → n ≤ greatest_position_count → CoordsBelow n coords → All (λ x. x ≤ greatest_position_count) coords
-all_small n [] small below = All-nil (λ x. x ≤ greatest_position_count)
-all_small n (x ∷ xs) small below =
-    let h = below.0 in
-    All-cons (λ x. x ≤ greatest_position_count) x xs (omega (arith, h, small)) (all_small n xs small below.1)
 
 none_from_end : (ns : List ℕ) → NoneFrom (length ns) ns
 none_from_end [] = tt
@@ -130,9 +123,9 @@ module _ (n : ℕ) (unique : Bool) (parents : ℕ) (numbers coords : List ℕ) (
       let few = keeps.few in
       omega (arith, few, all_given, sum)
 
-  pub coords_small : All (λ x. x ≤ greatest_position_count) coords
-  coords_small = subst (All (λ x. x ≤ greatest_position_count)) h.coords_are
-      (all_small l.size l.log.coords keeps.small keeps.below)
+  -- its coordinates are below its range
+  pub coords_below : CoordsBelow n coords
+  coords_below = subst (CoordsBelow n) h.coords_are (subst (λ m. CoordsBelow m l.log.coords) h.size_is keeps.below)
 
 -- arrays that hold a level have its words
 pub held_words : (l : CompressedLevel) (tensor level : ℕ) (arrays : Arrays) → Holds l tensor level arrays

@@ -1,8 +1,9 @@
-ghost use Rattle.std.specs.Prelude.{◌≡◌, ◌≤◌, IfOk};
+ghost use Rattle.std.specs.Prelude.{◌≡◌, ◌≤◌, true, IfOk};
 ghost use Rattle.limits.specs.Limits.{greatest_position_count};
 
-use coordinate_lists::Indices;
+use coordinate_lists::{Indices, needs_wide};
 use level_core::Stage;
+use seg_buffer::Lent;
 use std::alloc::{AllocError, Global};
 use std::marker::Model;
 
@@ -23,6 +24,8 @@ pub struct CompressedLevel {
 }
 
 impl Model for CompressedLevel {
+    ghost use Rattle.std.specs.Prelude.{◌≡◌, true};
+    ghost use Rattle.coordinate_lists.specs.Widths.{needs_wide};
     ghost use Rattle.compressed_level.specs.Compressed.{CompressedLevel as Level, stored, KeepsRules, IsStored};
 
     ghost Value = { Level };
@@ -30,18 +33,20 @@ impl Model for CompressedLevel {
     ghost view = { λ l. stored l.size l.unique l.stage l.ends.items l.coords.items l.next l.coords.spare };
 
     ghost invariant = { λ l. KeepsRules (stored l.size l.unique l.stage l.ends.items l.coords.items l.next l.coords.spare)
-        × IsStored l.stage l.ends.items };
+        × IsStored l.stage l.ends.items × (l.coords.wide ≡ needs_wide l.size) × (l.ends.wide ≡ true) };
 }
 
 impl CompressedLevel {
-    ghost use Rattle.compressed_level.specs.Compressed.{fresh};
+    ghost use Rattle.seg_buffer.specs.WordBuffer.{lent_items, lent_wide};
+    ghost use Rattle.coordinate_lists.specs.Widths.{needs_wide};
+    ghost use Rattle.compressed_level.specs.Compressed.{fresh, ends_of};
 
     /// A level without parents, for coordinates below `n`. Refused for want of memory alone.
     pub fn new(alloc: Global, n: u64, unique: bool) -> Result<CompressedLevel, AllocError>
         requires { n ≤ greatest_position_count }
         ensures { IfOk result (λ l. l ≡ fresh n unique) }
     {
-        let mut ends = Indices::new(alloc);
+        let mut ends = Indices::new(alloc, true);
         ends.reserve(1)?;
         ends.push(0);
         Ok(CompressedLevel {
@@ -49,8 +54,23 @@ impl CompressedLevel {
             unique,
             stage: Stage::Fresh,
             ends,
-            coords: Indices::new(alloc),
+            coords: Indices::new(alloc, needs_wide(n)),
             next: 0,
         })
+    }
+    /// The coordinates of the positions: eight bytes each where the range is above 2^32, and else four.
+    pub fn coordinates(&self) -> Lent<'_>
+        ensures items { lent_items result ≡ self.now.log.coords }
+        ensures wide { lent_wide result ≡ needs_wide self.now.size }
+    {
+        self.coords.lent()
+    }
+
+    /// The array of segment ends, eight bytes each.
+    pub fn ends(&self) -> Lent<'_>
+        ensures items { lent_items result ≡ ends_of self.now.log.stage self.now.log.counts }
+        ensures wide { lent_wide result ≡ true }
+    {
+        self.ends.lent()
     }
 }

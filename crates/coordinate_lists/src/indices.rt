@@ -1,54 +1,62 @@
-//! `Indices`: a list of coordinates or positions. A clause sees it as its `items` and its `spare`.
+//! `Indices`: a list of coordinates or positions. A clause sees it as its `items`, its `spare`, and whether it is `wide`.
 ghost use Rattle.std.specs.Prelude.{◌≡◌, ◌+◌, ◌-◌, ◌^◌, ◌<◌, ◌≤◌, [], ◌∷◌};
 ghost use Rattle.std.specs.Prelude.{◌++◌, All, length, replicate, slice_get, slice_set, Some, IfOk, OnOk};
 ghost use Rattle.std.specs.Prelude.{OnErr, IsOk};
-ghost use Rattle.limits.specs.Limits.{greatest_position_count};
+ghost use Rattle.seg_buffer.specs.WordBuffer.{FitsWord, lent_items, lent_wide};
+ghost use Rattle.coordinate_lists.specs.Widths.{needs_wide};
 ghost use Rattle.level_core.specs.declared.span.Span.{Span};
 ghost use Rattle.level_core.specs.declared.span.Entry.{Entry};
 ghost use Rattle.level_core.specs.Entries.{StandsAt};
 ghost use Rattle.level_core.specs.Logs.{entries_between};
 
-use seg_buffer::Segment;
+use seg_buffer::{Lent, Words};
 use std::alloc::{AllocError, Global};
 use std::marker::Model;
 
-/// A growable list of coordinates, or of positions, none of them above the limit on positions.
-///
-/// It keeps each in 32 bits. No clause says so.
+/// The first number that takes more than four bytes: 2^32.
+const FIRST_WIDE: u64 = 0x1_0000_0000;
+
+/// Whether coordinates below a range may need more than four bytes.
+pub fn needs_wide(range: u64) -> bool
+    ensures { result ≡ needs_wide range }
+{
+    range > FIRST_WIDE
+}
+
+/// A growable list of coordinates, or of positions. Each takes eight bytes where the list is wide, and else four, and is then below
+/// 2^32.
 #[derive(Drop)]
 pub struct Indices {
-    words: Segment<u32>,
+    words: Words,
 }
 
 impl Model for Indices {
-    ghost use Rattle.std.specs.Prelude.{ℕ};
-    ghost use Rattle.std.specs.Coded.{coded_ℕ};
-    ghost use Rattle.seg_buffer.specs.Buffer.{Buffer, buffer_code};
+    ghost use Rattle.seg_buffer.specs.WordBuffer.{WordBuffer};
 
-    ghost Value = { Buffer ℕ };
-
-    ghost coded = { buffer_code coded_ℕ };
+    ghost Value = { WordBuffer };
 
     ghost view = { λ i. i.words };
 }
 
 impl Indices {
     /// An empty list with no spare room. It takes no memory.
-    pub fn new(alloc: Global) -> Self
+    pub fn new(alloc: Global, wide: bool) -> Self
         ensures items { result.items ≡ [] }
         ensures spare { result.spare ≡ 0 }
+        ensures wide { result.wide ≡ wide }
     {
         Indices {
-            words: Segment::new(alloc),
+            words: Words::new(alloc, wide),
         }
     }
 
-    /// A copy of numbers within the limit. Refused for want of memory alone.
-    pub fn copied(alloc: Global, numbers: &[u64]) -> Result<Indices, AllocError>
-        requires { All (λ number. number ≤ greatest_position_count) numbers.now }
-        ensures { IfOk result (λ copy. copy.items ≡ numbers.now) }
+    /// A copy of numbers, each below 2^32 where it isn't wide. Refused for want of memory alone.
+    pub fn copied(alloc: Global, wide: bool, numbers: &[u64]) -> Result<Indices, AllocError>
+        requires { All (FitsWord wide) numbers.now }
+        ensures items { IfOk result (λ copy. copy.items ≡ numbers.now) }
+        ensures wide { IfOk result (λ copy. copy.wide ≡ wide) }
     {
-        let mut copy = Indices::new(alloc);
+        let mut copy = Indices::new(alloc, wide);
         copy.reserve(numbers.len() as u64)?;
         for number in numbers {
             copy.push(*number);
@@ -70,12 +78,20 @@ impl Indices {
         self.words.spare() as u64
     }
 
+    /// The items.
+    pub fn lent(&self) -> Lent<'_>
+        ensures items { lent_items result ≡ self.now.items }
+        ensures wide { lent_wide result ≡ self.now.wide }
+    {
+        self.words.lent()
+    }
+
     /// The item at `i`, counted from 0.
     pub fn get(&self, i: u64) -> u64
         requires { i < length self.now.items }
         ensures { slice_get self.now.items i ≡ Some result }
     {
-        self.words.get(i as usize) as u64
+        self.words.get(i as usize)
     }
 
     /// The item at `i`, counted from 0, if there is one.
@@ -104,10 +120,11 @@ impl Indices {
         end
     }
 
-    /// Makes room for at least `n` more items, as `Segment::reserve` does. Refused for want of memory, the list is as
+    /// Makes room for at least `n` more items, as `Words::reserve` does. Refused for want of memory, the list is as
     /// before.
     pub fn reserve(&mut self, n: u64) -> Result<(), AllocError>
         ensures items { self.new.items ≡ self.old.items }
+        ensures wide { self.new.wide ≡ self.old.wide }
         ensures ok { OnOk result (n ≤ self.new.spare) }
         ensures err { OnErr result (self.new ≡ self.old) }
         ensures enough { n ≤ self.old.spare → IsOk result × (self.new ≡ self.old) }
@@ -116,22 +133,23 @@ impl Indices {
     }
 
     /// Appends an item. `reserve` makes the room for it.
-    #[tactic(auto, using(crate::proofs::Words::positions_fit_32_bits))]
     pub fn push(&mut self, x: u64)
         requires room { 0 < self.old.spare }
-        requires within { x ≤ greatest_position_count }
+        requires fits { FitsWord self.old.wide x }
         ensures items { self.new.items ≡ self.old.items ++ x ∷ [] }
         ensures spare { self.new.spare + 1 ≡ self.old.spare }
+        ensures wide { self.new.wide ≡ self.old.wide }
     {
-        self.words.push_reserved(x as u32);
+        self.words.push_reserved(x);
     }
 
     /// Appends `n` items, each of them `x`. `reserve` makes the room for them.
     pub fn push_copies(&mut self, n: u64, x: u64)
         requires room { n ≤ self.old.spare }
-        requires within { x ≤ greatest_position_count }
+        requires fits { FitsWord self.old.wide x }
         ensures items { self.new.items ≡ self.old.items ++ replicate n x }
         ensures spare { self.new.spare + n ≡ self.old.spare }
+        ensures wide { self.new.wide ≡ self.old.wide }
     {
         for _pushed in 0..n {
             self.push(x);
@@ -139,13 +157,13 @@ impl Indices {
     }
 
     /// Puts `x` in the place of the item at `i`, counted from 0.
-    #[tactic(auto, using(crate::proofs::Words::positions_fit_32_bits))]
     pub fn set(&mut self, i: u64, x: u64)
         requires place { i < length self.old.items }
-        requires within { x ≤ greatest_position_count }
+        requires fits { FitsWord self.old.wide x }
         ensures items { self.new.items ≡ slice_set self.old.items i x }
         ensures spare { self.new.spare ≡ self.old.spare }
+        ensures wide { self.new.wide ≡ self.old.wide }
     {
-        self.words.set(i as usize, x as u32);
+        self.words.set(i as usize, x);
     }
 }

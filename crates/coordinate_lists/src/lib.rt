@@ -5,4 +5,4 @@ mod codes;
 mod indices;
 
 pub use codes::{append_code, child_code, coord_code};
-pub use indices::Indices;
+pub use indices::{Indices, needs_wide};

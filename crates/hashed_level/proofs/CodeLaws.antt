@@ -2,18 +2,17 @@
 use Rattle.std.specs.Prelude.{◌≡◌, ◌⊎◌, ℕ, ◌+◌, ◌*◌, ◌^◌, ◌≤◌, ◌<◌, min, true, false, List, [], ◌∷◌, ◌++◌, length, replicate, Some, None}
 use Rattle.std.specs.Prelude.{slice_get, slice_index, refl}
 use Rattle.std.proofs.Common.{◌∙◌, sym, ap, subst, arith, inl, inr, lit<}
-use Rattle.std.proofs.Math.Nat.{mul-le-mul_left, mul-le-mul_right}
 use Rattle.std.proofs.lemmas.Bool.Decides.{nat_tests, eqb_tells}
 use Rattle.limits.specs.Limits.{greatest_position_count}
 use Rattle.limits.proofs.Limits.{positions_are_small}
 use Rattle.kernel_code.specs.declared.syntax.Arr.TheVariants.{Coordinates, Width as WidthArray}
 use Rattle.kernel_code.specs.declared.syntax.Op.TheVariants.{Mul}
-use Rattle.kernel_code.specs.declared.syntax.KExpr.{KExpr, Num, Var, At, Bin, Min, Width}
+use Rattle.kernel_code.specs.declared.syntax.KExpr.{KExpr, Num, Var, At, Width}
 use Rattle.kernel_code.specs.declared.syntax.KStmt.{Set, Extend}
-use Rattle.kernel_code.specs.Arrays.{may_write, may_have, word_count}
+use Rattle.kernel_code.specs.Arrays.{may_write, may_have}
 use Rattle.kernel_code.proofs.ArrayNames.{same_arr_self}
-use Rattle.kernel_code.specs.Meaning.{Setting, State, value, width_of, apply_each, set_var, set_array}
-use Rattle.kernel_code.proofs.Equations.{value_min, value_width}
+use Rattle.kernel_code.specs.Meaning.{Setting, State, value, width_of, set_var, set_array}
+use Rattle.kernel_code.proofs.Equations.{value_width}
 use Rattle.kernel_code.specs.Does.{Refusal, Does, Never}
 use Rattle.kernel_code.proofs.Does.{does_nothing, does_set, does_extend, does_if_yes, does_if_no}
 use Rattle.kernel_code.specs.Pieces.{position_and_next}
@@ -30,10 +29,12 @@ use Rattle.level_core.specs.Fragments.{AreBelow, ValuesAre, IsOutside, Reads, Gr
 use Rattle.level_core.proofs.FragmentLaws.{position_set, outside_apart, argument_is, below_kept, span_set, some_set, none_set}
 use Rattle.kernel_code.proofs.Words.{product_is}
 use Rattle.level_core.specs.FragmentLaws.{one_code, two_code}
+use Rattle.level_core.specs.GuardedProducts.{guarded_product, StandsForProduct}
+use Rattle.level_core.proofs.GuardedProducts.{widths_are_factors, guarded_told, all_parents}
 use Rattle.hashed_level.specs.Slots.{empty_slot}
 use Rattle.hashed_level.specs.SlotLaws.{coord_none, coord_some}
 use Rattle.kernel_code.specs.Widths.{slot_width}
-use Rattle.kernel_code.proofs.Widths.{slot_width_wide, slot_width_small, width_is_slot_width}
+use Rattle.kernel_code.proofs.Widths.{width_is_slot_width}
 use Rattle.hashed_level.specs.Hashed.{Hashed, block_width, base_of, width_words, Holds, KeepsRules, IsAllowed, segment_of, entries_of}
 use Rattle.hashed_level.specs.Hashed.{with_blocks, meaning}
 use Rattle.hashed_level.specs.Laws.{block_small, prepared_keeps}
@@ -129,41 +130,6 @@ abbrev pub Made : Hashed → ℕ → ℕ → ℕ → ℕ → State → Type 0
 Made l tensor level parents most t = HoldsPrepared meaning l parents most tensor level t
     × (positions_for HashedLetter l.size parents most ≤ greatest_position_count)
 
--- the slots that are asked for: of no more parents than one above the limit
-abbrev pub asked_slots : ℕ → ℕ → ℕ
-asked_slots parents most = min parents (greatest_position_count + 1) * slot_width most
-
-limit_is_half : greatest_position_count < 2 ^ 31
-unfolding greatest_position_count
-limit_is_half = lit< tt
-
--- they are words
-asked_word : (parents most : ℕ) → most ≤ greatest_position_count → asked_slots parents most < 2 ^ 64
-asked_word parents most few =
-    let half = limit_is_half in
-    let wide : slot_width most ≤ 2 * 2 ^ 31 = slot_width_small most 31 (omega (arith, few, half)) in
-    let fewer : min parents (greatest_position_count + 1) ≤ 2 ^ 31 = omega (arith, half) in
-    let product : asked_slots parents most ≤ 2 ^ 31 * slot_width most = mul-le-mul_right (slot_width most) fewer in
-    omega (arith, product, wide)
-
-fewer_slots : (parents most : ℕ) → asked_slots parents most ≤ parents * slot_width most
-fewer_slots parents most = mul-le-mul_right (slot_width most) (omega arith)
-
-within_or_beyond : (n limit : ℕ) → (min n (limit + 1) ≡ n) ⊎ (min n (limit + 1) ≡ limit + 1)
-within_or_beyond n limit = grind (arith, nat_tests)
-
--- where they are within the limit, they are those of all parents
-asked_all : (parents most : ℕ) → asked_slots parents most ≤ greatest_position_count → asked_slots parents most ≡ parents * slot_width most
-asked_all parents most within = elim (within_or_beyond parents greatest_position_count) [
-  | inl all ↦ ap (λ k. k * slot_width most) all
-  | inr beyond ↦ (
-      let wide = slot_width_wide most in
-      let many : (greatest_position_count + 1) * 1 ≤ (greatest_position_count + 1) * slot_width most =
-      mul-le-mul_left (greatest_position_count + 1) (omega (arith, wide)) in
-      let is : asked_slots parents most ≡ (greatest_position_count + 1) * slot_width most = ap (λ k. k * slot_width most) beyond in
-      absurd (omega (arith, within, is, many)))
-]
-
 slots_within : (tensor level n : ℕ) → may_have (Coordinates tensor level) n ≡ true → n ≤ greatest_position_count
 slots_within tensor level n h = grind (arith, nat_tests, h)
 
@@ -206,30 +172,27 @@ stored c l tensor level free parents most s u R result rules may within left wid
     (λ over. absurd (true_is_false true refl over))
 
 -- the slots are made, or refused where those of all parents pass the limit
-made_slots : (c : Setting) (l : Hashed) (tensor level free parents most : ℕ) (s u : State) → tensor ≡ 0 → KeepsRules l
+made_slots : (c : Setting) (l : Hashed) (tensor level free parents most n : ℕ) (s u : State) → tensor ≡ 0 → KeepsRules l
     → MayPrepare HashedLetter l.width most → Holds l tensor level u.arrays
     → Leaves NoVariable (IsOutside tensor level) free no_turns s u → u.vars free ≡ Some (slot_width most)
-    → u.vars (free + 1) ≡ Some (min parents (greatest_position_count + 1))
-    → Does c (Extend (Coordinates tensor level) (Bin Mul (Var (free + 1)) (Var free)) (Num empty_slot)
+    → u.vars (free + 1) ≡ Some n → StandsForProduct parents (slot_width most) n
+    → Does c (Extend (Coordinates tensor level) (Var (free + 1)) (Num empty_slot)
     ∷ Extend (WidthArray tensor level) (Num 1) (Var free) ∷ []) u (λ t. Leaves NoVariable (IsOutside tensor level) free no_turns s t
     × Made l tensor level parents most t)
     (RefusedWithin no_turns s (PassesLimitWithin tensor level (positions_for HashedLetter l.size parents most)))
-made_slots c l tensor level free parents most s u result rules may held left wide fewer =
+made_slots c l tensor level free parents most n s u result rules may held left wide asked stands =
     let w = slot_width most in
-    let n = asked_slots parents most in
     let R = RefusedWithin no_turns s (PassesLimitWithin tensor level (positions_for HashedLetter l.size parents most)) in
     let none = no_slots l rules may.unprepared in
     let size : length l.slots + n ≡ n = ap (λ ys. length ys + n) none ∙ omega arith in
     let coordinates_written : may_write (Coordinates tensor level) ≡ true = grind (arith, nat_tests) in
     let xs : List ℕ = l.slots ++ replicate n empty_slot in
     let t = set_array u (Coordinates tensor level) xs in
-    let product = product_is (Var (free + 1)) (Var free) (min parents (greatest_position_count + 1)) w u fewer wide
-    (asked_word parents most may.coordinates) in
-    does_extend c (Coordinates tensor level) (Bin Mul (Var (free + 1)) (Var free)) (Num empty_slot)
-    (Extend (WidthArray tensor level) (Num 1) (Var free) ∷ []) u n empty_slot l.slots _ R product refl coordinates_written held.slots
+    does_extend c (Coordinates tensor level) (Var (free + 1)) (Num empty_slot)
+    (Extend (WidthArray tensor level) (Num 1) (Var free) ∷ []) u n empty_slot l.slots _ R asked refl coordinates_written held.slots
     (λ some.
     let few : n ≤ greatest_position_count = let long = slots_within tensor level (length l.slots + n) some in omega (arith, long, size) in
-    let all : n ≡ parents * w = asked_all parents most few in
+    let all : n ≡ parents * w = all_parents parents w n stands few in
     stored c l tensor level free parents most s t R result rules may (omega (arith, few, all))
     (leaves_array NoVariable (IsOutside tensor level) free no_turns s u (Coordinates tensor level) xs
     (λ b out. outside_apart tensor level (Coordinates tensor level) b (refl, refl) out) left)
@@ -241,16 +204,7 @@ made_slots c l tensor level free parents most s u result rules may held left wid
     (λ over.
     let long = slots_beyond tensor level (length l.slots + n) over in (
       left.turns,
-      (
-        n,
-        record {
-          array = (refl, refl);
-          told = ap word_count size;
-          above =
-              omega (arith, long, size);
-        },
-        fewer_slots parents most,
-      ),
+      (n, record { array = (refl, refl); told = size; above = omega (arith, long, size) }, stands.within),
     ))
 
 pub prepare_does : (c : Setting) (l : Hashed) (tensor level free : ℕ) (args : List KExpr) (g e : KExpr) (parents most : ℕ) (s : State)
@@ -261,24 +215,24 @@ pub prepare_does : (c : Setting) (l : Hashed) (tensor level free : ℕ) (args : 
 prepare_does c l tensor level free args g e parents most s result first second below rules may held values =
     let w = slot_width most in
     let R = RefusedWithin no_turns s (PassesLimitWithin tensor level (positions_for HashedLetter l.size parents most)) in
-    let bound = greatest_position_count + 1 in
-    let fewer = min parents bound in
-    let rest = Extend (Coordinates tensor level) (Bin Mul (Var (free + 1)) (Var free)) (Num empty_slot)
+    let count = guarded_product g (Var free) in
+    let rest = Extend (Coordinates tensor level) (Var (free + 1)) (Num empty_slot)
     ∷ Extend (WidthArray tensor level) (Num 1) (Var free) ∷ [] in
     let small = positions_are_small in
     let few = may.coordinates in
     let parent = argument_is args g free 0 parents (parents ∷ most ∷ []) s first refl below values in
     let each = argument_is args e free 1 most (parents ∷ most ∷ []) s second refl below values in
     let s1 = set_var s free w in
-    let s2 = set_var s1 (free + 1) fewer in
     let wide : value (Width e) s ≡ Some w = value_width e s ∙ ap width_of each.0 ∙ width_is_slot_width most (omega (arith, few, small)) in
     let kept : value g s1 ≡ Some parents =
     below_kept free g s s1 parent.1 (λ y h. other_var s free y w (λ is. omega (arith, h, is))) (λ a. refl) ∙ parent.0 in
-    let least : value (Min g (Num bound)) s1 ≡ Some fewer = value_min g (Num bound) s1 ∙ ap (λ o. apply_each min o (Some bound)) kept in
-    let left = leaves_set NoVariable (IsOutside tensor level) free no_turns s s1 (free + 1) fewer (λ y h is. omega (arith, h, is))
+    let product = guarded_told g (Var free) parents w s1 kept (this_var s free w) (widths_are_factors most few) in
+    let n = product.0 in
+    let s2 = set_var s1 (free + 1) n in
+    let left = leaves_set NoVariable (IsOutside tensor level) free no_turns s s1 (free + 1) n (λ y h is. omega (arith, h, is))
     (leaves_set NoVariable (IsOutside tensor level) free no_turns s s free w (λ y h is. omega (arith, h, is))
     (leaves_none NoVariable (IsOutside tensor level) free no_turns s)) in
-    does_set c free (Width e) (Set (free + 1) (Min g (Num bound)) ∷ rest) s w _ R wide
-    (does_set c (free + 1) (Min g (Num bound)) rest s1 fewer _ R least
-    (made_slots c l tensor level free parents most s s2 result rules may held left
-    (other_var s1 (free + 1) free fewer (λ is. omega (arith, is)) ∙ this_var s free w) (this_var s1 (free + 1) fewer)))
+    does_set c free (Width e) (Set (free + 1) count ∷ rest) s w _ R wide
+    (does_set c (free + 1) count rest s1 n _ R product.1
+    (made_slots c l tensor level free parents most n s s2 result rules may held left
+    (other_var s1 (free + 1) free n (λ is. omega (arith, is)) ∙ this_var s free w) (this_var s1 (free + 1) n) product.2))

@@ -1,13 +1,13 @@
 -- The words and the code that fragments of hashed levels are made of. A search keeps the block's first position in the variable
 -- free, how far into the block it is in the next, and the number of its steps in the one after that.
 use Rattle.std.specs.Prelude.{ℕ, ◌+◌, List, [], ◌∷◌, ◌++◌}
-use Rattle.limits.specs.Limits.{greatest_position_count}
 use Rattle.kernel_code.specs.declared.syntax.Arr.TheVariants.{Coordinates, Width as WidthArray}
 use Rattle.kernel_code.specs.declared.syntax.LoopKind.TheVariants.{Probe}
 use Rattle.kernel_code.specs.declared.syntax.Op.TheVariants.{Add, Sub, Mul, BitAnd, Less, NotEqual, And}
-use Rattle.kernel_code.specs.declared.syntax.KExpr.{KExpr, Num, Var, At, Bin, Min, Width}
+use Rattle.kernel_code.specs.declared.syntax.KExpr.{KExpr, Num, Var, At, Bin, Width}
 use Rattle.kernel_code.specs.declared.syntax.KStmt.{KStmt, Set, Put, Extend, If, While}
 use Rattle.level_core.specs.FragmentLaws.{one_code, two_code}
+use Rattle.level_core.specs.GuardedProducts.{guarded_product}
 use Rattle.hashed_level.specs.Slots.{empty_slot}
 
 -- the width of a block
@@ -69,9 +69,7 @@ abbrev pub coord_code : ℕ → ℕ → KExpr → ℕ → List KStmt
 coord_code tensor level pos free = If (filled_test tensor level pos) (two_code free (Num 1) (At (Coordinates tensor level) pos))
     (one_code free (Num 0)) ∷ []
 
--- the width and the number of parents are kept in variables, since arguments may read the arrays that grow; of more parents than
--- the limit on positions one more than the limit is enough to be refused, and their slots are words
+-- the width and the number of slots are kept in variables, since arguments may read the arrays that grow
 abbrev pub prepare_code : ℕ → ℕ → KExpr → KExpr → ℕ → List KStmt
-prepare_code tensor level parents most free = Set free (Width most) ∷ Set (free + 1)
-    (Min parents (Num (greatest_position_count + 1))) ∷ Extend (Coordinates tensor level) (Bin Mul (Var (free + 1)) (Var free))
-    (Num empty_slot) ∷ Extend (WidthArray tensor level) (Num 1) (Var free) ∷ []
+prepare_code tensor level parents most free = Set free (Width most) ∷ Set (free + 1) (guarded_product parents (Var free)) ∷ Extend
+    (Coordinates tensor level) (Var (free + 1)) (Num empty_slot) ∷ Extend (WidthArray tensor level) (Num 1) (Var free) ∷ []

@@ -5,8 +5,7 @@ ghost use Rattle.hashed_level.specs.Code.{coord_code, prepare_code};
 
 use crate::slots::empty_slot;
 use kernel_code::{Arr, KExpr, KStmt, LoopKind, Op, binary, copy_expr, one_statement, word_at};
-use level_core::{leave_one, leave_two};
-use limits::greatest_positions;
+use level_core::{guarded_product, leave_one, leave_two};
 use std::alloc::{AllocError, Global};
 use trees::{Boxed, Items};
 
@@ -202,7 +201,6 @@ pub(crate) fn coord_code(
 }
 
 /// Code that makes so many parents of at most so many coordinates each.
-#[tactic(auto, using(limits::proofs::Limits::positions_are_small))]
 pub(crate) fn prepare_code(
     alloc: Global,
     tensor: u64,
@@ -215,14 +213,12 @@ pub(crate) fn prepare_code(
     ensures { IfOk result (λ code. code ≡ prepare_code tensor level parents most free) }
 {
     let width = KExpr::Width(Boxed::new(alloc, most)?);
-    let bound = KExpr::Num(greatest_positions() + 1);
-    let fewer = KExpr::Min(Boxed::new(alloc, parents)?, Boxed::new(alloc, bound)?);
-    let count = binary(alloc, Op::Mul, KExpr::Var(free + 1), KExpr::Var(free))?;
+    let count = guarded_product(alloc, parents, KExpr::Var(free))?;
     let empty = empty_slot();
     let mut code = one_statement(alloc, KStmt::Set(free, width))?;
-    code.push(KStmt::Set(free + 1, fewer))?;
+    code.push(KStmt::Set(free + 1, count))?;
     let slots = Arr::Coordinates(tensor, level);
-    code.push(KStmt::Extend(slots, count, KExpr::Num(empty)))?;
+    code.push(KStmt::Extend(slots, KExpr::Var(free + 1), KExpr::Num(empty)))?;
     let widths = Arr::Width(tensor, level);
     code.push(KStmt::Extend(widths, KExpr::Num(1), KExpr::Var(free)))?;
     Ok(code)

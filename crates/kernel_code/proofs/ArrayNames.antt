@@ -1,13 +1,10 @@
--- Names of arrays: which of them are one; and lengths that are no words.
-use Rattle.std.specs.Prelude.{◌≡◌, ℕ, ◌+◌, ◌-◌, ◌^◌, ◌<◌, nat_le, true, ◌==◌, ◌&&◌, refl}
-use Rattle.std.proofs.Common.{◌∙◌, ap, arith}
-use Rattle.std.proofs.lemmas.Bool.Decides.{nat_tests}
-use Rattle.limits.specs.Limits.{greatest_position_count, greatest_workspace_pairs}
-use Rattle.limits.proofs.Limits.{positions_are_small, workspace_pairs_are_small}
+-- Names of arrays: which of them are one.
+use Rattle.std.specs.Prelude.{◌≡◌, ℕ, true, ◌==◌, ◌&&◌, refl}
+use Rattle.std.proofs.Common.{◌∙◌, ap}
 use Rattle.kernel_code.specs.declared.syntax.Arr.{Arr}
 use Rattle.kernel_code.specs.declared.syntax.Arr.TheVariants.{Range, Values, Dimension, Ends, Coordinates, Width, Key, Sums}
 use Rattle.kernel_code.specs.declared.syntax.Arr.TheVariants.{ListCoordinates, ListPositions}
-use Rattle.kernel_code.specs.Arrays.{same_arr, may_have, word_count}
+use Rattle.kernel_code.specs.Arrays.{same_arr}
 use Rattle.lists.proofs.Tests.{both_true, same_number, number_same}
 
 one_name : (f : ℕ → Arr) (n m : ℕ) → (n == m) ≡ true → f n ≡ f m
@@ -44,20 +41,3 @@ same_arr_self (Key n k) = same_pair n k
 same_arr_self (Sums n) = number_same n
 same_arr_self (ListCoordinates n) = number_same n
 same_arr_self (ListPositions n) = number_same n
-
-word_within : (limit n : ℕ) → limit < 2 ^ 64 - 1 → nat_le (word_count n) limit ≡ nat_le n limit
-unfolding word_count
-word_within limit n h = grind (arith, nat_tests)
-
--- a length that is no word is above every limit
-pub may_have_word : (a : Arr) (n : ℕ) → may_have a (word_count n) ≡ may_have a n
-may_have_word Range n = refl
-may_have_word (Values t) n = word_within greatest_position_count n (omega (arith, positions_are_small))
-may_have_word (Dimension t k) n = refl
-may_have_word (Ends t k) n = word_within (greatest_position_count + 1) n (omega (arith, positions_are_small))
-may_have_word (Coordinates t k) n = word_within greatest_position_count n (omega (arith, positions_are_small))
-may_have_word (Width t k) n = refl
-may_have_word (Key w k) n = word_within greatest_workspace_pairs n (omega (arith, workspace_pairs_are_small))
-may_have_word (Sums w) n = word_within greatest_workspace_pairs n (omega (arith, workspace_pairs_are_small))
-may_have_word (ListCoordinates g) n = refl
-may_have_word (ListPositions g) n = refl

@@ -55,22 +55,14 @@ within_limit (Some limit) n = nat_le n limit
 abbrev pub may_have : Arr → ℕ → Bool
 may_have a n = within_limit (greatest_length a) n
 
--- a number as a word: the last word where it would be more
+-- a statement's number as a word: the last word where it would be more
 unfoldable pub word_count : ℕ → ℕ
 word_count n = min n (2 ^ 64 - 1)
 
 -- the count that is told of an array of so many words: of positions, which are one fewer than the segment ends
 abbrev pub told_count : Arr → ℕ → ℕ
-told_count (Ends n l) length = word_count (length - 1)
-told_count (Values n) length = word_count length
-told_count (Coordinates n l) length = word_count length
-told_count (Width n l) length = word_count length
-told_count (Dimension n l) length = word_count length
-told_count Range length = word_count length
-told_count (Key w key) length = word_count length
-told_count (Sums w) length = word_count length
-told_count (ListCoordinates g) length = word_count length
-told_count (ListPositions g) length = word_count length
+told_count (Ends n l) length = length - 1
+told_count _ length = length
 
 -- whether an array holds values, which are added by the record of arithmetic; other words are added as words
 abbrev pub holds_values : Arr → Bool

@@ -51,12 +51,12 @@ from_below [] (x ∷ coords) h = absurd h
 from_below (n ∷ ranges) [] h = absurd h
 from_below (n ∷ ranges) (x ∷ coords) h = (h.0, from_below ranges coords h.1)
 
-number_at : (from count mode : ℕ) → mode < count → slice_index (numbers_from from count) mode ≡ from + mode
+pub number_at : (from count mode : ℕ) → mode < count → slice_index (numbers_from from count) mode ≡ from + mode
 number_at from zero mode h = absurd (omega (arith, h))
 number_at from (suc count) zero h = omega arith
 number_at from (suc count) (suc mode) h = let rest = number_at (from + 1) count mode (omega (arith, h)) in omega (arith, rest)
 
-listed_or_not : (entries : List Entry) (coords : List ℕ) → Listed entries coords ⊎ (Listed entries coords → ⊥)
+pub listed_or_not : (entries : List Entry) (coords : List ℕ) → Listed entries coords ⊎ (Listed entries coords → ⊥)
 listed_or_not [] coords = inr (λ l. l)
 listed_or_not (e ∷ es) coords = by_rest (listed_or_not es coords)
   where

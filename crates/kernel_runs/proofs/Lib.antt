@@ -2,11 +2,14 @@ pub mod Alike
 pub mod Calls
 pub mod Entries
 pub mod Fits
+pub mod GivenCalls
+pub mod GivenRuns
 pub mod Outcomes
 pub mod PlannedOperands
 pub mod PlannedRuns
 pub mod Refusals
 pub mod Shapes
+pub mod StoredBelow
 pub mod Stores
 pub mod Support
 pub mod Told

@@ -72,18 +72,23 @@ pub record IsRunBy (a : Arithmetic) (s : Statement) (formats : List (List Format
   pub runs : RunsKernel a s kernel store tensor turns
   pub tensor_of : IsTensorOf a s operands (slice_index ranges) shape entries
 
+-- there is a range for each mode of the result
+pub enough_for : (s : Statement) (formats : List (List FormatLevel)) (operands : List Entries) → AreOperands s formats operands
+    → (ranges : List ℕ) → AreRanges s operands ranges → (format : List FormatLevel) → format ≡ format_of formats 0
+    → length format ≤ length ranges
+enough_for s formats operands are ranges fits format format_is =
+    let long = fits.long in
+    let order : length format ≡ length s.left.vars =
+    ap length format_is ∙ ap (λ t. length (format_of formats t)) (sym are.named.result) ∙ are.result_format.order in
+    let fit = numbers_fit 0 (length s.left.vars) (length s.vars)
+    (subst (Each (λ v. v < length s.vars)) are.named.standing are.numbered.left.vars_stand) (omega arith) in
+    omega (arith, long, order, fit)
+
 module _ (a : Arithmetic) (laws : Laws a) (s : Statement) (formats : List (List FormatLevel)) (kernel : Kernel)
     (right : IsRightKernel a s formats kernel) (operands : List Entries) (are : AreOperands s formats operands) (ranges : List ℕ)
     (fits : AreRanges s operands ranges) (format : List FormatLevel) (format_is : format ≡ format_of formats 0) where
-  -- there is a range for each mode of the result
   pub enough : length format ≤ length ranges
-  enough =
-      let long = fits.long in
-      let order : length format ≡ length s.left.vars =
-      ap length format_is ∙ ap (λ t. length (format_of formats t)) (sym are.named.result) ∙ are.result_format.order in
-      let fit = numbers_fit 0 (length s.left.vars) (length s.vars)
-      (subst (Each (λ v. v < length s.vars)) are.named.standing are.numbered.left.vars_stand) (omega arith) in
-      omega (arith, long, order, fit)
+  enough = enough_for s formats operands are ranges fits format format_is
 
   module _ (is_format : IsFormat format) (storages : List Storage)
       (packed : ArePackedOperands a s formats (slice_index ranges) operands storages) where

@@ -1,3 +1,4 @@
+pub mod Given
 pub mod Planned
 pub mod Refused
 pub mod Runs

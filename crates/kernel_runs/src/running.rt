@@ -11,12 +11,11 @@ ghost use Rattle.kernel_machine.specs.Begins.{store_of, IsBeginRefusal};
 ghost use Rattle.kernel_machine.specs.Runs.{IsRunRefusal};
 ghost use Rattle.kernel_runs.specs.Steps.{CanBegin, EndsOn, RefusedOn};
 
-use crate::fault::RunFault;
+use crate::fault::{RunFault, large};
 use format_spec::Format;
-use kernel_code::{Kernel, Place, Turns};
+use kernel_code::{Kernel, Turns};
 use kernel_machine::{RunRefusal, prepare, run};
 use numbers::Semiring;
-use operand_packing::LargeLevel;
 use std::alloc::{AllocError, Global};
 use tensor_storage::Tensor;
 
@@ -28,14 +27,7 @@ fn fault_of(refusal: RunRefusal) -> RunFault
 {
     match refusal {
         RunRefusal::Memory => RunFault::Memory(AllocError),
-        RunRefusal::SizeLimit { place, count } => match place {
-            Place::Level(level) => RunFault::SizeLimit(LargeLevel {
-                tensor: 0,
-                level,
-                count,
-            }),
-            Place::Workspace => RunFault::Workspace { count },
-        },
+        RunRefusal::SizeLimit { place, count } => large(place, count),
     }
 }
 

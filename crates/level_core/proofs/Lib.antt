@@ -5,4 +5,5 @@ pub mod GroupLaws
 pub mod KindLaws
 pub mod Orders
 pub mod ParentLaws
+pub mod GuardedProducts
 mod Walks

@@ -2,7 +2,6 @@
 use Rattle.std.specs.Prelude.{◌≡◌, ℕ, ◌+◌, ◌-◌, ◌≤◌, ◌<◌, ◌^◌, if◌then◌else◌, List, []}
 use Rattle.std.specs.Prelude.{◌∷◌, length, Option, Some, None}
 use Rattle.limits.specs.Limits.{greatest_position_count}
-use Rattle.kernel_code.specs.Arrays.{word_count}
 pub use Rattle.kernel_code.specs.Meaning.{Setting, State, value, same_kind}
 pub use Rattle.kernel_code.specs.Does.{Refusal, Does, Never}
 pub use Rattle.kernel_code.specs.Keeps.{Below, Leaves, NoVariable, EveryArray, no_turns}
@@ -85,10 +84,10 @@ abbrev pub Grows : Setting → List KStmt → ℕ → ℕ → ℕ → (LoopKind 
 Grows c code free tensor level most s Answer Refused = Runs c code free (IsOutside tensor level) most s Answer
     (RefusedWithin most s Refused)
 
--- a growth of one of the level's arrays to so many positions, which pass the limit, and are told as a word
+-- a growth of one of the level's arrays to so many positions, which pass the limit, and are told
 pub record PassesLimit (tensor level positions : ℕ) (a : Arr) (count : ℕ) : Type 0 where
   pub array : IsOf tensor level a
-  pub told : count ≡ word_count positions
+  pub told : count ≡ positions
   pub above : greatest_position_count < positions
 
 -- the same, of no more positions than so many

@@ -12,3 +12,4 @@ pub mod Logs
 pub mod Meaning
 pub mod Orders
 pub mod ParentLaws
+pub mod GuardedProducts

@@ -8,6 +8,7 @@
 
 mod arrays;
 mod fragments;
+mod guards;
 mod letter;
 mod level;
 mod positions;
@@ -18,6 +19,7 @@ mod writing;
 
 pub use arrays::LevelArray;
 pub use fragments::{argument, leave_one, leave_two};
+pub use guards::guarded_product;
 pub use letter::{
     Capabilities, Letter, Properties, caps_of, positions_at_start, props_of, zeros_at_start,
 };

@@ -37,13 +37,13 @@ pub fn may_be_written(a: Arr) -> bool
 
 /// Whether an array may have so many words.
 #[tactic(auto, using(limits::proofs::Limits::positions_are_small))]
-pub fn may_be_long(a: Arr, count: u64) -> bool
+fn may_be_long(a: Arr, count: u128) -> bool
     ensures { result ≡ may_have a count }
 {
     match a {
-        Arr::Values(_) | Arr::Coordinates(_, _) => count <= greatest_positions(),
-        Arr::Ends(_, _) => count <= greatest_positions() + 1,
-        Arr::Key(_, _) | Arr::Sums(_) => count <= greatest_pairs_of_workspace(),
+        Arr::Values(_) | Arr::Coordinates(_, _) => count <= greatest_positions() as u128,
+        Arr::Ends(_, _) => count <= greatest_positions() as u128 + 1,
+        Arr::Key(_, _) | Arr::Sums(_) => count <= greatest_pairs_of_workspace() as u128,
         _ => true,
     }
 }
@@ -70,18 +70,17 @@ pub fn sum_of_words<S: Semiring>(a: Arr, x: u64, y: u64) -> u64
 pub fn may_grow(a: Arr, length: u64, more: u64) -> bool
     ensures { result ≡ may_have a (length + more) }
 {
-    may_be_long(a, length.saturating_add(more))
+    may_be_long(a, length as u128 + more as u128)
 }
 
 /// The count that is told where an array of so many words is refused so many more: of words, or of positions, which are
-/// one fewer than the segment ends. It is the last word where it would be more.
-#[tactic(auto, unfolding(kernel_code::specs::Arrays::word_count))]
-pub fn count_told(a: Arr, length: u64, more: u64) -> u64
+/// one fewer than the segment ends. It is exact, and may be no word.
+pub fn count_told(a: Arr, length: u64, more: u64) -> u128
     ensures { result ≡ told_count a (length + more) }
 {
+    let words = length as u128 + more as u128;
     match a {
-        Arr::Ends(_, _) if length == 0 => more.saturating_sub(1),
-        Arr::Ends(_, _) => (length - 1).saturating_add(more),
+        Arr::Ends(_, _) => words.saturating_sub(1),
         Arr::Range
         | Arr::Values(_)
         | Arr::Dimension(_, _)
@@ -90,7 +89,7 @@ pub fn count_told(a: Arr, length: u64, more: u64) -> u64
         | Arr::Key(_, _)
         | Arr::Sums(_)
         | Arr::ListCoordinates(_)
-        | Arr::ListPositions(_) => length.saturating_add(more),
+        | Arr::ListPositions(_) => words,
     }
 }
 

@@ -15,7 +15,7 @@ use Rattle.mtx_io.specs.Progress.{counted}
 use Rattle.text_lines.specs.declared.line_kind.LineKind.{LineKind}
 use Rattle.operand_files.specs.Decoded.{Operand, of_entries, of_matrix, operand_of}
 use Rattle.operand_files.specs.Reads.{Decoding, IsToldText, IsFront, IsWholeFile, CountsNothing, HasBadLine, ReadsOperand, FeedsFile}
-use Rattle.operand_files.specs.Reads.{FileRefused, DecodesTo, MayOpen}
+use Rattle.operand_files.specs.Reads.{FileRefused, DecodesTo, MayOpen, WantsMemory}
 use Rattle.operand_files.specs.declared.fault.OperandFault.{OperandFault}
 use Rattle.operand_files.specs.declared.fault.OperandFault.TheVariants.{ReadFault, FileBytes, BadFile, Memory}
 
@@ -28,6 +28,17 @@ whole_is_front : (told : Told) (bytes : List ℕ) → IsToldText told bytes → 
 whole_is_front Untold bytes is = tt
 whole_is_front NoFile bytes is = tt
 whole_is_front (Bytes text) bytes is = ([], is ∙ sym (append-nil bytes))
+
+-- memory was wanted behind a file that was read whole
+pub wants_behind : (path bytes : List ℕ) (old new : FolderState) → new.given ≡ old.given ++ (path, bytes) ∷ []
+    → IsWholeFile (old.holds path) bytes → CountsNothing old new → WantsMemory path old new
+wants_behind path bytes old new given whole quiet =
+    let may : MayOpen path old new = record {
+      last = (path, bytes) ∷ [];
+      given_is = given;
+      last_is = inr (bytes, refl, whole_is_front (old.holds path) bytes whole.told_text);
+    } in
+    (may, record { read_faults_are = quiet.read_faults_are; faulted_is = quiet.faulted_is })
 
 -- a file that was read whole is an operand, or is refused
 pub file_read : (means : Decoding) (order : ℕ) (path bytes : List ℕ) (old new : FolderState) (result : Result
@@ -42,18 +53,7 @@ file_read means order path bytes old new (Err (ReadFault at)) given whole quiet 
 file_read means order path bytes old new (Err (FileBytes at)) given whole quiet decodes = absurd decodes
 file_read means order path bytes old new (Err (BadFile at line kind)) given whole quiet decodes =
     (tt, (decodes.0, record { bytes = bytes; given_is = given; whole = whole; bad = decodes.1; quiet = quiet }))
-file_read means order path bytes old new (Err Memory) given whole quiet decodes =
-    let may : MayOpen path old new = record {
-      last = (path, bytes) ∷ [];
-      given_is = given;
-      last_is = inr (
-        bytes,
-        refl,
-        whole_is_front
-            (old.holds path) bytes whole.told_text,
-      );
-    } in
-    (tt, (may, record { read_faults_are = quiet.read_faults_are; faulted_is = quiet.faulted_is }))
+file_read means order path bytes old new (Err Memory) given whole quiet decodes = (tt, wants_behind path bytes old new given whole quiet)
 
 pub of_matrix_path : (a : Arithmetic) (has_minus signed : Bool) (order : ℕ) (path bytes : List ℕ) → is_mtx path ≡ true
     → of_matrix order (matrix_of_text a has_minus signed order bytes) ≡ operand_of a has_minus signed order path bytes

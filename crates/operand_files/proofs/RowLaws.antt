@@ -263,14 +263,14 @@ refused_next means old mid new orders paths n entries bounds order path fault on
 
     by : (fault : OperandFault) → FileRefused means order path mid new fault → IsRefused means old new orders paths fault
     by (ReadFault at) c =
-        let may : MayOpen path mid new = c.2.0 in
+        let may : MayOpen path mid new = c.1.1.0 in
         let here : RefusedAtFault means old new orders paths path = record {
           order = order;
           last = may.last;
           next = next may.last may.given_is;
           last_is = subst (λ t. IsOpening t path may.last) holds may.last_is;
-          short = c.2.1;
-          fault = later_fault old mid new path only.keeps_writing.holds_is have.quiet.read_faults_are c.1;
+          short = c.1.1.1;
+          fault = later_fault old mid new path only.keeps_writing.holds_is have.quiet.read_faults_are c.1.0;
         } in
         subst (RefusedAtFault means old new orders paths) (sym c.0) here
     by (FileBytes at) c =

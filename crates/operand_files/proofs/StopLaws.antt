@@ -5,7 +5,7 @@ use Rattle.limits.specs.Limits.{greatest_file_bytes}
 use Rattle.outside.specs.Folder.{FolderState, before_rest}
 use Rattle.outside.specs.ReadStop.{StopsAtFault, IsFaultOf, FeedsNone, FeedsFront}
 use Rattle.outside.specs.Told.{Told, Untold, NoFile, Bytes, told_bytes}
-use Rattle.operand_files.specs.Reads.{IsReadFault, IsFront, MayOpen, AreShort}
+use Rattle.operand_files.specs.Reads.{IsReadFault, IsFront, MayOpen, AreShort, FailsToRead}
 
 told_front : (told : Told) (bytes : List ℕ) (rest : Option (List ℕ)) → told_bytes told ≡ before_rest bytes rest → IsFront told bytes
 told_front Untold bytes rest e = tt
@@ -40,6 +40,6 @@ opened_short old new path eaten eaten' budget is under (inr front) =
 
 pub fault_stops : (old new : FolderState) (path eaten eaten' : List ℕ) (budget : ℕ) → budget ≡ greatest_file_bytes
     → StopsAtFault old new path budget eaten eaten'
-    → (path ≡ path) × IsReadFault old new path × ((may : MayOpen path old new) × AreShort may.last)
+    → FailsToRead path old new
 fault_stops old new path eaten eaten' budget is stops =
-    (refl, is_fault old new path stops.cause, opened_short old new path eaten eaten' budget is stops.under stops.feeds)
+    (is_fault old new path stops.cause, opened_short old new path eaten eaten' budget is stops.under stops.feeds)

@@ -1,3 +1,4 @@
 pub mod Decoded
+pub mod KernelFiles
 pub mod Laws
 pub mod Reads

@@ -12,6 +12,8 @@ use Rattle.mtx_io.specs.Matrix.{BadLine}
 use Rattle.mtx_io.specs.Progress.{counted}
 use Rattle.text_lines.specs.declared.line_kind.LineKind.{LineKind}
 use Rattle.operand_files.specs.Decoded.{Operand}
+use Rattle.operand_files.specs.declared.fault.FileStop.{FileStop}
+use Rattle.operand_files.specs.declared.fault.FileStop.TheVariants as stop
 use Rattle.operand_files.specs.declared.fault.OperandFault.{OperandFault}
 use Rattle.operand_files.specs.declared.fault.OperandFault.TheVariants.{ReadFault, FileBytes, BadFile, Memory}
 
@@ -208,19 +210,26 @@ pub record ReadsBadLine (means : Decoding) (order : ℕ) (path : List ℕ) (old 
   pub bad : HasBadLine (means order path bytes) line kind
   pub quiet : CountsNothing old new
 
+-- of one file: reading it failed, or it isn't there; it was opened alone, or nothing was
+abbrev pub FailsToRead : List ℕ → FolderState → FolderState → Type 0
+FailsToRead path old new = IsReadFault old new path × ((may : MayOpen path old new) × AreShort may.last)
+
+-- of one file: memory was wanted, and no read failed
+abbrev pub WantsMemory : List ℕ → FolderState → FolderState → Type 0
+WantsMemory path old new = MayOpen path old new × NoReadFails old new
+
 -- why a file isn't fed to its end
-abbrev pub FileStops : List ℕ → FolderState → FolderState → OperandFault → Type 0
-FileStops path old new (ReadFault at) = (at.now ≡ path) × IsReadFault old new path × ((may : MayOpen path old new) × AreShort may.last)
-FileStops path old new (FileBytes at) = (at.now ≡ path) × ReadsTooMuch path old new
-FileStops path old new (BadFile at line kind) = ⊥
-FileStops path old new Memory = MayOpen path old new × NoReadFails old new
+abbrev pub FileStops : List ℕ → FolderState → FolderState → FileStop → Type 0
+FileStops path old new stop.ReadFault = FailsToRead path old new
+FileStops path old new stop.FileBytes = ReadsTooMuch path old new
+FileStops path old new stop.Memory = WantsMemory path old new
 
 -- why one file isn't an operand
 abbrev pub FileRefused : Decoding → ℕ → List ℕ → FolderState → FolderState → OperandFault → Type 0
-FileRefused means order path old new (ReadFault at) = FileStops path old new (ReadFault at)
-FileRefused means order path old new (FileBytes at) = FileStops path old new (FileBytes at)
+FileRefused means order path old new (ReadFault at) = (at.now ≡ path) × FailsToRead path old new
+FileRefused means order path old new (FileBytes at) = (at.now ≡ path) × ReadsTooMuch path old new
 FileRefused means order path old new (BadFile at line kind) = (at.now ≡ path) × ReadsBadLine means order path old new line kind
-FileRefused means order path old new Memory = FileStops path old new Memory
+FileRefused means order path old new Memory = WantsMemory path old new
 
 -- the answer for a file that stands for this
 abbrev pub DecodesTo : Result Operand BadLine → List ℕ → Result (Entries × Vec Bound Global) OperandFault → Type 0

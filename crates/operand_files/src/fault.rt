@@ -30,3 +30,14 @@ impl<'a> From<AllocError> for OperandFault<'a> {
         OperandFault::Memory
     }
 }
+
+/// Why a file isn't fed to its end.
+#[derive(Debug, Drop)]
+pub(crate) enum FileStop {
+    /// Reading it failed, or it isn't there.
+    ReadFault,
+    /// It has more bytes than may be.
+    FileBytes,
+    /// Memory is wanted.
+    Memory,
+}

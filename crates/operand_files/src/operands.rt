@@ -3,10 +3,12 @@ ghost use Rattle.std.specs.Prelude.{◌≡◌, false, true, ◌++◌, [], ◌∷
 ghost use Rattle.bindings.specs.Tables.{paths_in};
 ghost use Rattle.bindings.specs.Words.{is_mtx};
 ghost use Rattle.operand_files.specs.Decoded.{IsReadable, AreReadable, operand_of};
-ghost use Rattle.operand_files.specs.Reads.{OnlyReads, ReadsOperand, FileRefused, HaveRead, IsRefused};
+ghost use Rattle.std.specs.Prelude.{ℕ};
+ghost use Rattle.outside.specs.Folder.{FolderState};
+ghost use Rattle.operand_files.specs.Reads.{Decoding, FileStops, OnlyReads, ReadsOperand, FileRefused, HaveRead, IsRefused};
 
 use crate::decoding::{decode_entries, decode_matrix};
-use crate::fault::OperandFault;
+use crate::fault::{FileStop, OperandFault};
 use crate::feeding::feed_file;
 use crate::matrix_file::matrix_file;
 use bindings::TensorFile;
@@ -49,6 +51,18 @@ impl Operands {
     }
 }
 
+/// The fault of an operand whose file isn't fed to its end.
+fn fault_of<'a>(stop: FileStop, path: &'a str) -> OperandFault<'a>
+    ensures { (means : Decoding) (order : ℕ) (old new : FolderState) → FileStops path.entry.now old new stop
+        → FileRefused means order path.entry.now old new result }
+{
+    match stop {
+        FileStop::ReadFault => OperandFault::ReadFault(path),
+        FileStop::FileBytes => OperandFault::FileBytes(path),
+        FileStop::Memory => OperandFault::Memory,
+    }
+}
+
 /// Reads the file of an operand of this order to its end, as a `.tns` file.
 fn read_entries<'a, F: Folder, S: Semiring>(
     alloc: Global,
@@ -67,7 +81,7 @@ fn read_entries<'a, F: Folder, S: Semiring>(
     let mut reader = TnsReader::<S>::new(alloc, order)?;
     match feed_file(files, path, &mut reader) {
         Ok(()) => decode_entries(alloc, reader, path),
-        Err(fault) => Err(fault),
+        Err(stop) => Err(fault_of(stop, path)),
     }
 }
 
@@ -89,7 +103,7 @@ fn read_matrix<'a, F: Folder, S: Semiring>(
     let mut file = matrix_file::<S>(alloc, order)?;
     match feed_file(files, path, &mut file) {
         Ok(()) => decode_matrix(alloc, file, path),
-        Err(fault) => Err(fault),
+        Err(stop) => Err(fault_of(stop, path)),
     }
 }
 

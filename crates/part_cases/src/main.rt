@@ -15,9 +15,10 @@
 //! refusals: 9                               So many elements are pushed, each of which may want memory.
 //! ```
 //!
-//! What steps answer comes first, then what they leave. Elements are of 8, 4 and 1 bytes, `u64`, `u32` and `u8`, or of none, `unit`. A
-//! step of a segment is `room N`, `filled N X`, `reserve N`, `push X`, `append X` (with the room for it), `set I X`, `get I`, `turn`
-//! (the other way round), `truncate N`, `len` or `spare`.
+//! What steps answer comes first, then what they leave. Elements are of 8, 4 and 1 bytes, `u64`, `u32` and `u8`, of none, `unit`, or
+//! words, `wide` in 8 bytes and `narrow` in 4. A step of a segment is `room N`, `filled N X`, `reserve N`, `push X`, `append X` (with the
+//! room for it), `set I X`, `get I`, `turn` (the other way round), `truncate N`, `len` or `spare`; words have no `room`, `filled`, `append`
+//! and `turn`.
 //!
 //! Lines, numbers, files and streams. The text behind the `|` has the escapes \t, \r, \n, \\ and \xHH. Behind the keyword stand numbers,
 //! and behind the words `cut` and `fail` the greatest lengths of pieces in turn and the numbers of the calls that fail:

@@ -1,9 +1,10 @@
-//! Cases of segments of memory, and of two lists that grow together.
-ghost use Rattle.std.specs.Prelude.{◌≡◌, ◌<◌, [], ◌∷◌, ◌++◌, length, reverse, slice_index_or, IfOk, OnErr};
+//! Cases of segments of memory, of two lists that grow together, and of words in four bytes or in eight.
+ghost use Rattle.std.specs.Prelude.{◌≡◌, ◌<◌, [], ◌∷◌, ◌++◌, length, reverse, slice_index_or, IfOk, OnErr, IsTrue};
+ghost use Rattle.seg_buffer.specs.WordBuffer.{FitsWord};
 
 use crate::steps::{Steps, tell_refusal, tell_steps};
 use case_files::Answer;
-use seg_buffer::{Segment, Twin};
+use seg_buffer::{Lent, Segment, Twin, Words};
 use std::alloc::AllocError;
 use std::fmt::Debug;
 
@@ -144,6 +145,70 @@ impl Steps for Twin<u64, u32> {
     }
 }
 
+/// Whether words hold a number: narrow ones do so below 2^32.
+fn holds(words: &Words, x: u64) -> bool
+    ensures { IsTrue result → FitsWord words.now.wide x }
+{
+    words.is_wide() || x < 0x1_0000_0000
+}
+
+/// Appends a word, if there is room for it and it fits.
+fn push_word(words: &mut Words, x: u64) -> Option<()> {
+    if words.spare() == 0 || !holds(words, x) {
+        return None;
+    }
+    words.push_reserved(x);
+    Some(())
+}
+
+/// Puts a word at a place, if it is one and the word fits.
+fn set_word(words: &mut Words, place: usize, x: u64) -> Option<()> {
+    if place >= words.len() || !holds(words, x) {
+        return None;
+    }
+    words.set(place, x);
+    Some(())
+}
+
+/// Tells the word at a place, if it is one.
+fn get_word(answer: &mut Answer, words: &Words, place: usize) -> Option<()> {
+    if place >= words.len() {
+        return None;
+    }
+    answer.show_all(&[words.get(place)]);
+    Some(())
+}
+
+impl Steps for Words {
+    fn step(&mut self, answer: &mut Answer, word: &str, numbers: &[u64]) -> Option<()> {
+        let first = numbers.first().copied().unwrap_or(0);
+        match word {
+            "reserve" => tell_refusal(answer, self.reserve(first as usize)),
+            "push" => return push_word(self, first),
+            "set" => return set_word(self, first as usize, *numbers.get(1)?),
+            "get" => return get_word(answer, self, first as usize),
+            "truncate" => self.truncate(first as usize),
+            "len" => answer.show_all(&[self.len()]),
+            "spare" => answer.show_all(&[self.spare()]),
+            _ => return None,
+        }
+        Some(())
+    }
+}
+
+/// What is done with words in eight bytes, or in four.
+fn tell_words(answer: &mut Answer, wide: bool, steps: &str) -> Option<()> {
+    let mut words = Words::new(answer.alloc(), wide);
+    tell_steps(answer, &mut words, steps)?;
+    match words.lent() {
+        Lent::Narrow(items) => answer.show(items),
+        Lent::Wide(items) => answer.show(items),
+    }
+    answer.tell(", spare");
+    answer.show_all(&[words.spare()]);
+    Some(())
+}
+
 /// What is done with a segment of these elements.
 fn tell_segment<T: Element>(answer: &mut Answer, steps: &str) -> Option<()> {
     let mut segment: Segment<T> = Segment::new(answer.alloc());
@@ -174,6 +239,8 @@ pub(crate) fn tell_segments(answer: &mut Answer, text: &str) -> Option<()> {
         "u32" => tell_segment::<u32>(answer, steps),
         "u8" => tell_segment::<u8>(answer, steps),
         "unit" => tell_segment::<()>(answer, steps),
+        "narrow" => tell_words(answer, false, steps),
+        "wide" => tell_words(answer, true, steps),
         _ => None,
     }
 }

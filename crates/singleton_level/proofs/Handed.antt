@@ -1,8 +1,6 @@
 -- The level of the words that a kernel leaves keeps the rules, and is the level that has them.
-use Rattle.std.specs.Prelude.{◌≡◌, ℕ, ◌≤◌, Bool, List, [], ◌∷◌, length, All, Some, refl}
-use Rattle.std.proofs.Common.{◌∙◌, sym, subst, arith}
-use Rattle.std.proofs.lemmas.List.Elements.{All-nil, All-cons}
-use Rattle.limits.specs.Limits.{greatest_position_count}
+use Rattle.std.specs.Prelude.{◌≡◌, ℕ, Bool, List, length, Some, refl}
+use Rattle.std.proofs.Common.{◌∙◌, sym, subst}
 use Rattle.level_core.specs.declared.arrays.LevelArray.{LevelArray}
 use Rattle.level_core.specs.declared.arrays.LevelArray.TheVariants.{Dimension as OfSize, Ends as OfEnds}
 use Rattle.level_core.specs.declared.arrays.LevelArray.TheVariants.{Coordinates as OfCoordinates, Width as OfWidth}
@@ -12,12 +10,6 @@ use Rattle.level_core.specs.declared.stage.Stage.TheVariants.{Finished}
 use Rattle.level_core.specs.Meaning.{Arrays}
 use Rattle.singleton_level.specs.Singleton.{SingletonLevel, Holds, KeepsRules, stored, words_of}
 use Rattle.singleton_level.specs.Handed.{HasWords, listed}
-
-all_small : (n : ℕ) (coords : List ℕ) → n ≤ greatest_position_count → CoordsBelow n coords → All (λ x. x ≤ greatest_position_count) coords
-all_small n [] small below = All-nil (λ x. x ≤ greatest_position_count)
-all_small n (x ∷ xs) small below =
-    let h = below.0 in
-    All-cons (λ x. x ≤ greatest_position_count) x xs (omega (arith, h, small)) (all_small n xs small below.1)
 
 module _ (n : ℕ) (unique : Bool) (parents : ℕ) (coords : List ℕ) (l : SingletonLevel) (h : HasWords n unique parents coords l) where
   keeps : KeepsRules l
@@ -32,9 +24,9 @@ module _ (n : ℕ) (unique : Bool) (parents : ℕ) (coords : List ℕ) (l : Sing
   made_keeps spare =
       subst KeepsRules (sym (made_is spare)) (record { small = keeps.small; few = keeps.few; below = keeps.below; given = λ _. refl })
 
-  -- its words are within the limit
-  pub coords_small : All (λ x. x ≤ greatest_position_count) coords
-  coords_small = subst (All (λ x. x ≤ greatest_position_count)) h.coords_are (all_small l.size l.coords keeps.small keeps.below)
+  -- its coordinates are below its range
+  pub coords_below : CoordsBelow n coords
+  coords_below = subst (CoordsBelow n) h.coords_are (subst (λ m. CoordsBelow m l.coords) h.size_is keeps.below)
 
 -- arrays that hold a level have its words
 pub held_words : (l : SingletonLevel) (tensor level : ℕ) (arrays : Arrays) → Holds l tensor level arrays

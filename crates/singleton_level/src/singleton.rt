@@ -1,8 +1,9 @@
 ghost use Rattle.std.specs.Prelude.{◌≡◌, ◌≤◌, ℕ, IfOk, IsOk};
 ghost use Rattle.limits.specs.Limits.{greatest_position_count};
 
-use coordinate_lists::Indices;
+use coordinate_lists::{Indices, needs_wide};
 use level_core::Stage;
+use seg_buffer::Lent;
 use std::alloc::{AllocError, Global};
 use std::marker::Model;
 
@@ -20,16 +21,21 @@ pub struct SingletonLevel {
 }
 
 impl Model for SingletonLevel {
+    ghost use Rattle.std.specs.Prelude.{◌≡◌};
+    ghost use Rattle.coordinate_lists.specs.Widths.{needs_wide};
     ghost use Rattle.singleton_level.specs.Singleton.{SingletonLevel as Level, stored, KeepsRules};
 
     ghost Value = { Level };
 
     ghost view = { λ l. stored l.size l.unique l.stage l.parents l.coords.items l.coords.spare };
 
-    ghost invariant = { λ l. KeepsRules (stored l.size l.unique l.stage l.parents l.coords.items l.coords.spare) };
+    ghost invariant = { λ l. KeepsRules (stored l.size l.unique l.stage l.parents l.coords.items l.coords.spare)
+        × (l.coords.wide ≡ needs_wide l.size) };
 }
 
 impl SingletonLevel {
+    ghost use Rattle.seg_buffer.specs.WordBuffer.{lent_items, lent_wide};
+    ghost use Rattle.coordinate_lists.specs.Widths.{needs_wide};
     ghost use Rattle.singleton_level.specs.Handed.{HasWords, listed};
     ghost use Rattle.singleton_level.specs.Singleton.{SingletonLevel as Level, fresh};
 
@@ -44,7 +50,7 @@ impl SingletonLevel {
             unique,
             stage: Stage::Fresh,
             parents: 0,
-            coords: Indices::new(alloc),
+            coords: Indices::new(alloc, needs_wide(n)),
         })
     }
 
@@ -58,7 +64,7 @@ impl SingletonLevel {
         requires { (parents : ℕ) × (l : Level) × HasWords n unique parents coords.now l }
         ensures { IfOk result (λ l. (spare : ℕ) × (l ≡ listed n unique coords.now spare)) }
     {
-        let coords = Indices::copied(alloc, coords)?;
+        let coords = Indices::copied(alloc, needs_wide(n), coords)?;
         Ok(SingletonLevel {
             size: n,
             unique,
@@ -66,5 +72,12 @@ impl SingletonLevel {
             parents: coords.len(),
             coords,
         })
+    }
+    /// The coordinates of the positions: eight bytes each where the range is above 2^32, and else four.
+    pub fn coordinates(&self) -> Lent<'_>
+        ensures items { lent_items result ≡ self.now.coords }
+        ensures wide { lent_wide result ≡ needs_wide self.now.size }
+    {
+        self.coords.lent()
     }
 }

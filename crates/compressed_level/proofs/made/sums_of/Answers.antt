@@ -3,6 +3,7 @@ use Rattle.std.proofs.Common.{◌∙◌, sym, ap, arith, rules}
 use Rattle.limits.specs.Limits.{greatest_position_count}
 use Rattle.limits.proofs.Limits.{positions_are_small}
 use Rattle.level_core.specs.Logs.{running, total}
+use Rattle.coordinate_lists.proofs.Words.{fits_wide}
 use Rattle.compressed_level.proofs.Handed.{sum_more, sums_more, sum_within}
 use Rattle.compressed_level.proofs.made.sums_of.Goals as goal
 
@@ -16,15 +17,10 @@ overflow_add-sum c =
     let sum = l.invariant.1 in
     omega (arith, few, within, sum, positions_are_small)
 
-pub push-requires-clause-within : goal.push-requires-clause-within
-push-requires-clause-within c =
-    let words : List ℕ = c.args.numbers.now in
-    let l = c.loop-number in
-    let here : l.number-index < length words = search rules in
-    let few : total words ≤ greatest_position_count = c.requires in
-    let within = sum_within words l.number-index here in
-    let sum = l.invariant.1 in
-    omega (arith, few, within, sum)
+pub push-requires-clause-fits : goal.push-requires-clause-fits
+push-requires-clause-fits c =
+    fits_wide c.loop-number.sums.wide (c.loop-number.sum + slice_index c.args.numbers.now c.loop-number.number-index)
+    c.loop-number.invariant.3
 
 pub loop-number-preserved : goal.loop-number-preserved
 loop-number-preserved c =
@@ -40,4 +36,5 @@ loop-number-preserved c =
           ∙ sym (sums_more words l.number-index here),
       omega (arith, sum, more),
       omega (arith, room, left),
+      c.push.ensures.wide ∙ l.invariant.3,
     )

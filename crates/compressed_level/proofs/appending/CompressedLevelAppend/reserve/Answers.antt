@@ -14,9 +14,14 @@ invariant_of-self-2 c =
     let items : c.push_copies.new.self.items ≡ c.self.inside.ends.items
     ++ replicate c.saturating_sub-more.result 0 = c.push_copies.ensures.items
     ∙ ap (λ xs. xs ++ replicate c.saturating_sub-more.result 0) c.in_ok-reserve.ensures.items in
-    subst (λ xs. KeepsRules
+    let kept = subst (λ xs. KeepsRules
     (stored c.self.inside.size c.self.inside.unique Unfinished c.push_copies.new.self.items xs c.self.inside.next
     c.reserve-2.new.self.spare) × IsStored Unfinished c.push_copies.new.self.items) (sym c.in_ok-reserve-2.ensures.items)
     (parents_keep c.self.inside.size c.self.inside.unique c.self.inside.stage c.self.inside.ends.items c.self.inside.coords.items
     c.self.inside.next c.self.inside.coords.spare c.reserve-2.new.self.spare c.args.parents c.saturating_sub-more.result
-    c.push_copies.new.self.items c.args.self.now c.self.view_is c.self.invariant.0 c.self.invariant.1 c.requires count items)
+    c.push_copies.new.self.items c.args.self.now c.self.view_is c.self.invariant.0 c.self.invariant.1 c.requires count items) in (
+      kept.0,
+      kept.1,
+      c.in_ok-reserve-2.ensures.wide ∙ c.self.invariant.2,
+      c.push_copies.ensures.wide ∙ c.in_ok-reserve.ensures.wide ∙ c.self.invariant.3,
+    )
