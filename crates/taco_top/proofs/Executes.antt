@@ -22,7 +22,7 @@ use Rattle.tensor_storage.specs.Storages.{Storage}
 use Rattle.mtx_io.specs.Progress.{IsMatrixOrder}
 use Rattle.bindings.specs.Tables.{path_to}
 use Rattle.operand_files.specs.Decoded.{AreReadable}
-use Rattle.operand_files.specs.KernelFiles.{IsKernelRefused, ReadsKernel}
+use Rattle.operand_files.specs.KernelFiles.{IsKernelRefused}
 use Rattle.operand_files.specs.Reads.{Given, HaveRead, IsOpening, IsRefused, MayOpen, NoReadFails, OnlyReads, OpensFirst, paths_of}
 use Rattle.operand_files.specs.declared.fault.OperandFault.{OperandFault}
 use Rattle.operand_files.specs.declared.fault.OperandFault.TheVariants as operand
@@ -45,7 +45,7 @@ use Rattle.refusals.specs.declared.fault.KernelFault.TheVariants as kernels
 use Rattle.refusals.specs.declared.fault.Fault.{Fault}
 use Rattle.refusals.specs.declared.fault.Fault.TheVariants as fault
 use Rattle.taco_top.specs.Exec.{AsksExec, ExecNames, ExecRequest, exec_orders, exec_paths}
-use Rattle.taco_top.specs.Executed.{HasInput, IsExecUnwritten, IsExecuted, IsExecution, OpensInput, StopsAtOperands, StopsAtRun, StopsExec}
+use Rattle.taco_top.specs.Executed.{HasInput, HasKernel, IsExecUnwritten, IsExecuted, IsExecution, OpensInput, StopsAtOperands, StopsAtRun, StopsExec}
 use Rattle.taco_top.specs.Executed.{RefusesExec, kernel_values}
 use Rattle.taco_top.specs.Executing.{IsReady, fault_of_run}
 use Rattle.taco_top.specs.Run.{path_of}
@@ -150,21 +150,21 @@ module _ (words : List (List ℕ)) (old new : FolderState) (r : ExecRequest) (as
 -- ---- the operands behind it
 
 module _ (words : List (List ℕ)) (old between new : FolderState) (r : ExecRequest) (asks : AsksExec words r) (kernel : Kernel)
-    (reads_kernel : ReadsKernel r.path old between kernel) where
+    (has_kernel : HasKernel r.path old between kernel) where
   -- what was opened behind the kernel's file was opened behind what was opened before it
   opens_input : OpensFirst between new (exec_paths r) → NoReadFails between new → OpensInput words old new
   opens_input opens no_fault = record {
     request = r;
     asks = asks;
     opens = record {
-      files = (r.path, reads_kernel.bytes) ∷ opens.files;
-      given_is = opens.given_is ∙ ap (λ front. front ++ opens.files) reads_kernel.given_is
-          ∙ append_assoc old.given ((r.path, reads_kernel.bytes) ∷ []) opens.files;
+      files = (r.path, has_kernel.reads.bytes) ∷ opens.files;
+      given_is = opens.given_is ∙ ap (λ front. front ++ opens.files) has_kernel.reads.given_is
+          ∙ append_assoc old.given ((r.path, has_kernel.reads.bytes) ∷ []) opens.files;
       in_order = ap (λ paths. r.path ∷ paths) opens.in_order;
     };
     no_fault = record {
-      read_faults_are = no_fault.read_faults_are ∙ reads_kernel.quiet.read_faults_are;
-      faulted_is = no_fault.faulted_is ∙ reads_kernel.quiet.faulted_is;
+      read_faults_are = no_fault.read_faults_are ∙ has_kernel.reads.quiet.read_faults_are;
+      faulted_is = no_fault.faulted_is ∙ has_kernel.reads.quiet.faulted_is;
     };
   }
 
@@ -172,11 +172,11 @@ module _ (words : List (List ℕ)) (old between new : FolderState) (r : ExecRequ
       → IsRefused (means (kernel_values kernel)) between new (exec_orders r) (exec_paths r) why
       → StopsExec words old new (fault_of why)
   stops_at_operands (operand.ReadFault path) is =
-      inr (record { request = r; asks = asks; kernel = kernel; between = between; reads_kernel = reads_kernel; refused = is })
+      inr (record { request = r; asks = asks; kernel = kernel; between = between; has_kernel = has_kernel; refused = is })
   stops_at_operands (operand.FileBytes path) is =
-      inr (record { request = r; asks = asks; kernel = kernel; between = between; reads_kernel = reads_kernel; refused = is })
+      inr (record { request = r; asks = asks; kernel = kernel; between = between; has_kernel = has_kernel; refused = is })
   stops_at_operands (operand.BadFile path line kind) is =
-      record { request = r; asks = asks; kernel = kernel; between = between; reads_kernel = reads_kernel; refused = is }
+      record { request = r; asks = asks; kernel = kernel; between = between; has_kernel = has_kernel; refused = is }
   stops_at_operands operand.Memory (opens, no_fault) = inr (opens_input opens no_fault)
 
   -- over the kernel's semiring, at the orders and paths that were handed in
@@ -193,7 +193,7 @@ module _ (words : List (List ℕ)) (old between new : FolderState) (r : ExecRequ
     has_input count entries bounds many read = record {
       asks = asks;
       between = between;
-      reads_kernel = reads_kernel;
+      has_kernel = has_kernel;
       reads = as_asked (λ v os ps. HaveRead (means v) between new os ps (length ps) entries (map (λ b. b.items) bounds))
           (subst (λ n. HaveRead (means over) between new orders paths n entries (map (λ b. b.items) bounds)) many read);
     }
@@ -210,7 +210,7 @@ module _ (words : List (List ℕ)) (old new : FolderState) (r : ExecRequest) (ke
     (bounds : List (Vec Bound Global)) (input : HasInput words old new r kernel entries bounds) where
   -- everything was read
   opened : OpensInput words old new
-  opened = opens_input words old input.between new r input.asks kernel input.reads_kernel
+  opened = opens_input words old input.between new r input.asks kernel input.has_kernel
       (record {
         files = input.reads.read.files;
         given_is = input.reads.read.given_is ∙ ap (λ fs. input.between.given ++ fs) (append-nil input.reads.read.files);

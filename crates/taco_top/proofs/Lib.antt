@@ -4,6 +4,7 @@ pub mod BoundNames
 pub mod CycleLaws
 pub mod ExecLines
 pub mod Executes
+pub mod ExecWhole
 pub mod Mended
 pub mod OneRequest
 pub mod Paths

@@ -117,7 +117,7 @@ lacks_none true e meant none stands = absurd (true≢false none)
 lacks_none false e meant none stands = true≢false (sym stands ∙ meant)
 
 -- what is bound isn't refused
-binding_apart : (s : Statement) (words : List (List ℕ)) (need : Bool) (formats : List (List FormatLevel)) (files : List (ℕ × List ℕ))
+pub binding_apart : (s : Statement) (words : List (List ℕ)) (need : Bool) (formats : List (List FormatLevel)) (files : List (ℕ × List ℕ))
     (ranges : List (Option ℕ)) (why : BindingFault) → Binds s words need formats files ranges
     → IsBindingFault s words need why → ⊥
 binding_apart s words need formats files ranges (binding.Word word why) binds is =

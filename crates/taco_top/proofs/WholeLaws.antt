@@ -65,18 +65,18 @@ modes_same [] (suc n) = refl
 modes_same (modes ∷ bounds) (suc zero) = refl
 modes_same (modes ∷ bounds) (suc (suc n)) = modes_same bounds (suc n)
 
-bounds_same : (bounds : List (Vec Bound Global)) → bound_at bounds ≡ bound_told (map (λ b. b.items) bounds)
+pub bounds_same : (bounds : List (Vec Bound Global)) → bound_at bounds ≡ bound_told (map (λ b. b.items) bounds)
 bounds_same bounds = λ i tensor mode. bound_or_none (slice_get (modes_same bounds tensor i) mode)
 
-abbrev ok_of : {A B : Type 0} → A → Result A B → A
+abbrev pub ok_of : {A B : Type 0} → A → Result A B → A
 ok_of d (Ok x) = x
 ok_of d (Err y) = d
 
-apart : {A B : Type 0} {x : A} {y : B} → Ok x ≡ Err y → ⊥
+pub apart : {A B : Type 0} {x : A} {y : B} → Ok x ≡ Err y → ⊥
 apart h = cc
 
 -- a refused writing counted a fault
-fault_rose : (path : Option (List ℕ)) (text : List ℕ) (between files' : FolderState) (out out' : SinkState)
+pub fault_rose : (path : Option (List ℕ)) (text : List ℕ) (between files' : FolderState) (out out' : SinkState)
     → PutsPart path text between files' out out' write.Fault
     → Rose between.write_faults files'.write_faults ⊎ Rose out.faults out'.faults
 fault_rose None text between files' out out' puts = inr puts.1.cause.0.rose

@@ -51,12 +51,17 @@ over_of (semiring.Named name) = over_named name
 abbrev pub kernel_values : Kernel → Values
 kernel_values kernel = values_of (over_of kernel.semiring)
 
+-- the file of this path was read to its end, with nothing else done, and behind comments it is the text of this kernel
+pub record HasKernel (path : List ℕ) (old between : FolderState) (kernel : Kernel) : Type 0 where
+  pub only_reads : OnlyReads old between
+  pub reads : ReadsKernel path old between kernel
+
 -- the kernel's file was read, and then, over the kernel's semiring, those of the operands: these are their entries, and what their modes give
 pub record HasInput (words : List (List ℕ)) (old new : FolderState) (r : ExecRequest) (kernel : Kernel) (entries : List Entries)
     (bounds : List (Vec Bound Global)) : Type 0 where
   pub asks : AsksExec words r
   pub between : FolderState
-  pub reads_kernel : ReadsKernel r.path old between kernel
+  pub has_kernel : HasKernel r.path old between kernel
   pub reads : HaveRead (means (kernel_values kernel)) between new (exec_orders r) (exec_paths r) (length (exec_paths r)) entries
       (map (λ b. b.items) bounds)
 
@@ -105,7 +110,7 @@ pub record StopsAtOperands (words : List (List ℕ)) (old new : FolderState) (wh
   pub asks : AsksExec words request
   pub kernel : Kernel
   pub between : FolderState
-  pub reads_kernel : ReadsKernel request.path old between kernel
+  pub has_kernel : HasKernel request.path old between kernel
   pub refused : IsRefused (means (kernel_values kernel)) between new (exec_orders request) (exec_paths request) why
 
 -- the ranges don't agree, a level is too large, or the kernel's run has no result

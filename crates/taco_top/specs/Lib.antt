@@ -11,5 +11,6 @@ pub mod Run
 pub mod Stored
 pub mod Told
 pub mod Whole
+pub mod WholeExec
 pub mod Work
 pub mod Written

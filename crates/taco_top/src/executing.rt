@@ -2,10 +2,9 @@
 ghost use Rattle.std.specs.Prelude.{◌≡◌, ℕ, List, IfErr, IfOk};
 ghost use Rattle.index_notation.specs.Statement.{IsNumbered};
 ghost use Rattle.outside.specs.Folder.{FolderState};
-ghost use Rattle.operand_files.specs.KernelFiles.{ReadsKernel};
 ghost use Rattle.operand_files.specs.Reads.{OnlyReads};
 ghost use Rattle.taco_top.specs.Exec.{AsksExec, exec_request};
-ghost use Rattle.taco_top.specs.Executed.{HasInput, StopsExec, kernel_values, over_named, over_of as over_of_kernel};
+ghost use Rattle.taco_top.specs.Executed.{HasInput, HasKernel, StopsExec, kernel_values, over_named, over_of as over_of_kernel};
 ghost use Rattle.taco_top.specs.Executing.{EndsExec, IsReady, fault_of_run};
 ghost use Rattle.taco_top.specs.Values.{semiring};
 
@@ -63,7 +62,7 @@ fn read_kernel<'a, F: Folder>(
     files: &mut F,
 ) -> Result<Kernel, Fault<'a>>
     ensures only_reads { OnlyReads (F.state files.old) (F.state files.new) }
-    ensures kernel { IfOk result (ReadsKernel execution.now.path.now (F.state files.old) (F.state files.new)) }
+    ensures kernel { IfOk result (HasKernel execution.now.path.now (F.state files.old) (F.state files.new)) }
     ensures stops { IfErr result (λ fault. (words : List (List ℕ)) → AsksExec words (exec_request execution.now)
         → StopsExec words (F.state files.old) (F.state files.new) fault) }
 {
@@ -94,10 +93,10 @@ fn read_inputs<'a, S: Semiring, F: Folder>(
     requires over { kernel_values kernel.now ≡ semiring S.arithmetic S.has_minus S.is_ring S.is_signed S.name }
     ensures only_reads { OnlyReads (F.state files.old) (F.state files.new) }
     ensures read { IfOk result (λ operands. (words : List (List ℕ)) (before : FolderState) → AsksExec words (exec_request execution.now)
-        → ReadsKernel execution.now.path.now before (F.state files.old) kernel.now
+        → HasKernel execution.now.path.now before (F.state files.old) kernel.now
         → HasInput words before (F.state files.new) (exec_request execution.now) kernel.now operands.entries.items operands.bounds.items) }
     ensures stops { IfErr result (λ fault. (words : List (List ℕ)) (before : FolderState) → AsksExec words (exec_request execution.now)
-        → ReadsKernel execution.now.path.now before (F.state files.old) kernel.now
+        → HasKernel execution.now.path.now before (F.state files.old) kernel.now
         → StopsExec words before (F.state files.new) fault) }
 {
     let orders = orders_of(alloc, &execution.statement)?;
@@ -143,13 +142,13 @@ fn run_kernel<'a, S: Semiring, F: Folder>(
     requires asked { (words : List (List ℕ)) × AsksExec words (exec_request execution) }
     requires numbered { IsNumbered execution.statement }
     requires over { kernel_values kernel.now ≡ semiring S.arithmetic S.has_minus S.is_ring S.is_signed S.name }
-    requires read { (before : FolderState) × ReadsKernel execution.path.now before (F.state files.old) kernel.now }
+    requires read { (before : FolderState) × HasKernel execution.path.now before (F.state files.old) kernel.now }
     ensures only_reads { OnlyReads (F.state files.old) (F.state files.new) }
     ensures ready { IfOk result (λ ready. (words : List (List ℕ)) (before : FolderState) → AsksExec words (exec_request execution.entry)
-        → ReadsKernel execution.entry.path.now before (F.state files.old) kernel.now
+        → HasKernel execution.entry.path.now before (F.state files.old) kernel.now
         → IsReady (semiring S.arithmetic S.has_minus S.is_ring S.is_signed S.name) words before (F.state files.new) ready) }
     ensures stops { IfErr result (λ fault. (words : List (List ℕ)) (before : FolderState) → AsksExec words (exec_request execution.entry)
-        → ReadsKernel execution.entry.path.now before (F.state files.old) kernel.now
+        → HasKernel execution.entry.path.now before (F.state files.old) kernel.now
         → StopsExec words before (F.state files.new) fault) }
 {
     let file = file_of(&execution.bindings, 0);
@@ -214,10 +213,9 @@ fn execute_over<'a, S: Semiring, F: Folder, O: Sink>(
     requires asked { (words : List (List ℕ)) × AsksExec words (exec_request execution) }
     requires numbered { IsNumbered execution.statement }
     requires over { kernel_values kernel.now ≡ semiring S.arithmetic S.has_minus S.is_ring S.is_signed S.name }
-    requires read { (before : FolderState) × ReadsKernel execution.path.now before (F.state files.old) kernel.now }
-    ensures { (words : List (List ℕ)) (before : FolderState) → OnlyReads before (F.state files.old)
-        → AsksExec words (exec_request execution.entry)
-        → ReadsKernel execution.entry.path.now before (F.state files.old) kernel.now
+    requires read { (before : FolderState) × HasKernel execution.path.now before (F.state files.old) kernel.now }
+    ensures { (words : List (List ℕ)) (before : FolderState) → AsksExec words (exec_request execution.entry)
+        → HasKernel execution.entry.path.now before (F.state files.old) kernel.now
         → EndsExec words before (F.state files.new) (O.state out.old) (O.state out.new) result }
 {
     match run_kernel::<S, F>(alloc, execution, kernel, files) {

@@ -11,7 +11,7 @@ execute_over-requires-clause-read g c = (g.F.Folder.state c.args.files.now, c.in
 
 pub returns-in-Ring : goal.returns-in-Ring
 returns-in-Ring g c = λ words asks.
-    c.execute_over.ensures words (g.F.Folder.state c.args.files.now) c.in-Ok.ensures.only_reads asks c.in-Ok.ensures.kernel
+    c.execute_over.ensures words (g.F.Folder.state c.args.files.now) asks c.in-Ok.ensures.kernel
 
 pub execute_over-in-MinPlus-requires-clause-over : goal.execute_over-in-MinPlus-requires-clause-over
 execute_over-in-MinPlus-requires-clause-over g c = ap values_of (sym c.over_of.ensures ∙ c.in-MinPlus.is)
@@ -21,7 +21,7 @@ execute_over-in-MinPlus-requires-clause-read g c = (g.F.Folder.state c.args.file
 
 pub returns-in-MinPlus : goal.returns-in-MinPlus
 returns-in-MinPlus g c = λ words asks.
-    c.execute_over-in-MinPlus.ensures words (g.F.Folder.state c.args.files.now) c.in-Ok.ensures.only_reads asks c.in-Ok.ensures.kernel
+    c.execute_over-in-MinPlus.ensures words (g.F.Folder.state c.args.files.now) asks c.in-Ok.ensures.kernel
 
 pub execute_over-in-Bits-requires-clause-over : goal.execute_over-in-Bits-requires-clause-over
 execute_over-in-Bits-requires-clause-over g c = ap values_of (sym c.over_of.ensures ∙ c.in-Bits.is)
@@ -31,7 +31,7 @@ execute_over-in-Bits-requires-clause-read g c = (g.F.Folder.state c.args.files.n
 
 pub returns-in-Bits : goal.returns-in-Bits
 returns-in-Bits g c = λ words asks.
-    c.execute_over-in-Bits.ensures words (g.F.Folder.state c.args.files.now) c.in-Ok.ensures.only_reads asks c.in-Ok.ensures.kernel
+    c.execute_over-in-Bits.ensures words (g.F.Folder.state c.args.files.now) asks c.in-Ok.ensures.kernel
 
 pub returns-in-Err : goal.returns-in-Err
 returns-in-Err g c = λ words asks.

@@ -15,58 +15,58 @@ read_operands-requires g c =
     (ap paths_in c.as_slice-2.ensures.value ∙ c.in_ok-sources.ensures) c.requires.numbered
 
 pub returns-in-Ok-clause-read : goal.returns-in-Ok-clause-read
-returns-in-Ok-clause-read g c = λ words before asks reads_kernel.
+returns-in-Ok-clause-read g c = λ words before asks has_kernel.
     let over = semiring g.S.Semiring.arithmetic g.S.Semiring.has_minus g.S.Semiring.is_ring g.S.Semiring.is_signed g.S.Semiring.name in
     has_input words before (g.F.Folder.state c.args.files.now) (g.F.Folder.state c.read_operands.new.files)
-    (exec_request c.args.execution.now) asks c.args.kernel.now reads_kernel over c.requires.over
+    (exec_request c.args.execution.now) asks c.args.kernel.now has_kernel over c.requires.over
     c.as_slice.result.now (paths_in c.as_slice-2.result.now)
     (c.as_slice.ensures.value ∙ c.in_ok-orders.ensures)
     (ap paths_in c.as_slice-2.ensures.value ∙ c.in_ok-sources.ensures) _ c.in-Ok.operands.entries.items c.in-Ok.operands.bounds.items
     (sym (length-map c.as_slice-2.result.now (λ source. source.path.now))) c.in-Ok.ensures.operands
 
 pub returns-in-Err-ReadFault-clause-stops : goal.returns-in-Err-ReadFault-clause-stops
-returns-in-Err-ReadFault-clause-stops g c = λ words before asks reads_kernel.
+returns-in-Err-ReadFault-clause-stops g c = λ words before asks has_kernel.
     let over = semiring g.S.Semiring.arithmetic g.S.Semiring.has_minus g.S.Semiring.is_ring g.S.Semiring.is_signed g.S.Semiring.name in
     let told = c.in-Err-ReadFault.field-0-is in
     let same : c.in-Err-ReadFault.field-0 ≡ (operand.ReadFault c.in-Err-ReadFault.path) = cc in
     no_operands words before (g.F.Folder.state c.args.files.now) (g.F.Folder.state c.read_operands.new.files)
-    (exec_request c.args.execution.now) asks c.args.kernel.now reads_kernel over c.requires.over
+    (exec_request c.args.execution.now) asks c.args.kernel.now has_kernel over c.requires.over
     c.as_slice.result.now (paths_in c.as_slice-2.result.now)
     (c.as_slice.ensures.value ∙ c.in_ok-orders.ensures)
     (ap paths_in c.as_slice-2.ensures.value ∙ c.in_ok-sources.ensures)
     c.in-Err-ReadFault.field-0 (operand.ReadFault c.in-Err-ReadFault.path) same c.in-Err-ReadFault.ensures.refused
 
 pub returns-in-Err-FileBytes-clause-stops : goal.returns-in-Err-FileBytes-clause-stops
-returns-in-Err-FileBytes-clause-stops g c = λ words before asks reads_kernel.
+returns-in-Err-FileBytes-clause-stops g c = λ words before asks has_kernel.
     let over = semiring g.S.Semiring.arithmetic g.S.Semiring.has_minus g.S.Semiring.is_ring g.S.Semiring.is_signed g.S.Semiring.name in
     let told = c.in-Err-FileBytes.field-0-is in
     let same : c.in-Err-FileBytes.field-0 ≡ (operand.FileBytes c.in-Err-FileBytes.path) = cc in
     no_operands words before (g.F.Folder.state c.args.files.now) (g.F.Folder.state c.read_operands.new.files)
-    (exec_request c.args.execution.now) asks c.args.kernel.now reads_kernel over c.requires.over
+    (exec_request c.args.execution.now) asks c.args.kernel.now has_kernel over c.requires.over
     c.as_slice.result.now (paths_in c.as_slice-2.result.now)
     (c.as_slice.ensures.value ∙ c.in_ok-orders.ensures)
     (ap paths_in c.as_slice-2.ensures.value ∙ c.in_ok-sources.ensures)
     c.in-Err-FileBytes.field-0 (operand.FileBytes c.in-Err-FileBytes.path) same c.in-Err-FileBytes.ensures.refused
 
 pub returns-in-Err-BadFile-clause-stops : goal.returns-in-Err-BadFile-clause-stops
-returns-in-Err-BadFile-clause-stops g c = λ words before asks reads_kernel.
+returns-in-Err-BadFile-clause-stops g c = λ words before asks has_kernel.
     let over = semiring g.S.Semiring.arithmetic g.S.Semiring.has_minus g.S.Semiring.is_ring g.S.Semiring.is_signed g.S.Semiring.name in
     let told = c.in-Err-BadFile.field-0-is in
     let same : c.in-Err-BadFile.field-0 ≡ (operand.BadFile c.in-Err-BadFile.path c.in-Err-BadFile.line c.in-Err-BadFile.kind) = cc in
     no_operands words before (g.F.Folder.state c.args.files.now) (g.F.Folder.state c.read_operands.new.files)
-    (exec_request c.args.execution.now) asks c.args.kernel.now reads_kernel over c.requires.over
+    (exec_request c.args.execution.now) asks c.args.kernel.now has_kernel over c.requires.over
     c.as_slice.result.now (paths_in c.as_slice-2.result.now)
     (c.as_slice.ensures.value ∙ c.in_ok-orders.ensures)
     (ap paths_in c.as_slice-2.ensures.value ∙ c.in_ok-sources.ensures)
     c.in-Err-BadFile.field-0 (operand.BadFile c.in-Err-BadFile.path c.in-Err-BadFile.line c.in-Err-BadFile.kind) same c.in-Err-BadFile.ensures.refused
 
 pub returns-clause-stops : goal.returns-clause-stops
-returns-clause-stops g c = λ words before asks reads_kernel.
+returns-clause-stops g c = λ words before asks has_kernel.
     let over = semiring g.S.Semiring.arithmetic g.S.Semiring.has_minus g.S.Semiring.is_ring g.S.Semiring.is_signed g.S.Semiring.name in
     let told = c.in-Err-Memory.field-0-is in
     let same : c.in-Err-Memory.field-0 ≡ operand.Memory = cc in
     no_operands words before (g.F.Folder.state c.args.files.now) (g.F.Folder.state c.read_operands.new.files)
-    (exec_request c.args.execution.now) asks c.args.kernel.now reads_kernel over c.requires.over
+    (exec_request c.args.execution.now) asks c.args.kernel.now has_kernel over c.requires.over
     c.as_slice.result.now (paths_in c.as_slice-2.result.now)
     (c.as_slice.ensures.value ∙ c.in_ok-orders.ensures)
     (ap paths_in c.as_slice-2.ensures.value ∙ c.in_ok-sources.ensures)

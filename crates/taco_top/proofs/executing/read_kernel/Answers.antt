@@ -43,3 +43,6 @@ returns-clause-stops g c = λ words asks.
     no_kernel words (g.F.Folder.state c.args.files.now) (g.F.Folder.state c.read_kernel_file.new.files)
     (exec_request c.args.execution.now) asks c.args.execution.now.path refl c.in-Err-Memory.field-0 file.Memory same
     c.in-Err-Memory.ensures.refused
+
+pub returns-in-Ok-clause-kernel : goal.returns-in-Ok-clause-kernel
+returns-in-Ok-clause-kernel g c = record { only_reads = c.in-Ok.ensures.only_reads; reads = c.in-Ok.ensures.kernel }
