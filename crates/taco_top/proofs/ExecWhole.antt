@@ -35,7 +35,7 @@ use Rattle.bindings.specs.Outcome.{Binds}
 use Rattle.kernel_code.specs.declared.syntax.Kernel.{Kernel}
 use Rattle.kernel_read.specs.Answers.{IsAnswer}
 use Rattle.kernel_read.specs.declared.fault.KernelFault.{KernelFault}
-use Rattle.kernel_read.specs.declared.fault.KernelFault.TheVariants as text
+use Rattle.kernel_read.specs.declared.fault.KernelFault.TheVariants as reading
 use Rattle.kernel_machine.specs.declared.checked_fault.CheckedFault.{CheckedFault}
 use Rattle.kernel_machine.specs.declared.checked_fault.CheckedFault.TheVariants as checked
 use Rattle.operand_files.specs.KernelFiles.{ReadsText}
@@ -275,11 +275,11 @@ module _ (words : List (List ℕ)) (files new : FolderState) (whole : IsWholeExe
       not_long is.refused.bytes
       (at_request (λ r. IsTooLong (files.holds r.path) is.refused.bytes) is.request is.asks is.refused.too_long)
   no_kernel_fault path (file.KernelDepth line) is =
-      whole.no_fault (text.KernelDepth line) (read_text new (Err (text.KernelDepth line))
-      (at_request (λ r. ReadsText r.path files new (Err (text.KernelDepth line))) is.request is.asks is.refused))
+      whole.no_fault (reading.KernelDepth line) (read_text new (Err (reading.KernelDepth line))
+      (at_request (λ r. ReadsText r.path files new (Err (reading.KernelDepth line))) is.request is.asks is.refused))
   no_kernel_fault path (file.BadKernel line) is =
-      whole.no_fault (text.BadKernel line) (read_text new (Err (text.BadKernel line))
-      (at_request (λ r. ReadsText r.path files new (Err (text.BadKernel line))) is.request is.asks is.refused))
+      whole.no_fault (reading.BadKernel line) (read_text new (Err (reading.BadKernel line))
+      (at_request (λ r. ReadsText r.path files new (Err (reading.BadKernel line))) is.request is.asks is.refused))
   no_kernel_fault path file.Memory is = tt
 
   -- ---- the operands behind it

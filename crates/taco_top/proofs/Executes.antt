@@ -218,11 +218,10 @@ module _ (words : List (List ℕ)) (old new : FolderState) (r : ExecRequest) (ke
       })
       (record { read_faults_are = input.reads.quiet.read_faults_are; faulted_is = input.reads.quiet.faulted_is })
 
-  Refused : GivenFault → Type 0
+  abbrev Refused : GivenFault → Type 0
   Refused why = MayRefuseGiven (kernel_values kernel).arithmetic r.statement r.formats kernel r.given entries bounds r.budget why
 
   at_run : (why : GivenFault) → Refused why → StopsAtRun words old new why
-  unfolding Refused
   at_run why is = record { request = r; kernel = kernel; entries = entries; bounds = bounds; input = input; refused = is }
 
   stops_at_run : (why : GivenFault) → Refused why → StopsExec words old new (fault_of_run r.statement r.budget why)
@@ -251,7 +250,6 @@ module _ (words : List (List ℕ)) (old new : FolderState) (r : ExecRequest) (ke
 
     pub no_run : (why : GivenFault) → MayRefuseGiven over.arithmetic r.statement formats kernel given_ranges entries bounds r.budget why
         → StopsExec words old new (fault_of_run r.statement r.budget why)
-    unfolding Refused
     no_run why is =
         stops_at_run why (as_run (λ v fs gs. MayRefuseGiven v.arithmetic r.statement fs kernel gs entries bounds r.budget why) is)
 
@@ -278,7 +276,7 @@ module _ (words : List (List ℕ)) (old new : FolderState) (r : ExecRequest) (ke
             result = kept.result.entries;
             tensor = kept.result.tensor;
             turns = kept.result.turns;
-            run = runs;
+            runs = runs;
           };
           over_is = over_is;
           path_is = sym path_is;

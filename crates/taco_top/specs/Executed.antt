@@ -77,7 +77,7 @@ pub record IsExecution (words : List (List ℕ)) (old new : FolderState) : Type 
   pub result : Entries
   pub tensor : Storage
   pub turns : Turns
-  pub run : IsGivenRun (kernel_values kernel).arithmetic request.statement request.formats kernel request.given entries bounds request.budget
+  pub runs : IsGivenRun (kernel_values kernel).arithmetic request.statement request.formats kernel request.given entries bounds request.budget
       shape result tensor turns
 
 -- the text of the tensor with these entries was written; `between` is the folder as it was when the writing began

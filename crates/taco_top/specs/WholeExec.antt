@@ -6,7 +6,7 @@ use Rattle.tensor_map.specs.Entries.{Entries}
 use Rattle.kernel_code.specs.declared.syntax.Kernel.{Kernel}
 use Rattle.kernel_read.specs.Answers.{IsAnswer}
 use Rattle.kernel_read.specs.declared.fault.KernelFault.{KernelFault}
-use Rattle.kernel_read.specs.declared.fault.KernelFault.TheVariants as text
+use Rattle.kernel_read.specs.declared.fault.KernelFault.TheVariants as reading
 use Rattle.kernel_correctness.specs.Stores.{Store}
 use Rattle.kernel_machine.specs.Checked.{IsCheckedFault}
 use Rattle.kernel_machine.specs.declared.checked_fault.CheckedFault.{CheckedFault}
@@ -35,9 +35,9 @@ pub record RunsWhole (r : ExecRequest) (holds : List ℕ → Told) (kernel : Ker
       → (why : CheckedFault) → IsCheckedFault (kernel_values kernel).arithmetic kernel store r.budget why → why ≡ checked.Memory
 
 abbrev pub IsKernelWant : KernelFault → Type 0
-IsKernelWant (text.KernelDepth line) = ⊥
-IsKernelWant (text.BadKernel line) = ⊥
-IsKernelWant (text.Memory error) = ⊤
+IsKernelWant (reading.KernelDepth line) = ⊥
+IsKernelWant (reading.BadKernel line) = ⊥
+IsKernelWant (reading.Memory error) = ⊤
 
 -- the words of `exec` pass; the kernel's file is there, is no longer than may be, and has no bad line; every operand's file is there; and
 -- with the kernel that is read the rest is whole
