@@ -1,7 +1,7 @@
 ghost use Rattle.std.specs.Prelude.{◌≡◌, ◌≤◌, ◌^◌, ℕ, false, length};
 ghost use Rattle.limits.specs.Limits.{greatest_position_count};
 ghost use Rattle.kernel_code.specs.Widths.{slot_width};
-ghost use Rattle.level_core.specs.Kinds.{capabilities};
+ghost use Rattle.level_core.specs.Kinds.{capabilities, positions_for};
 ghost use Rattle.level_rows.specs.Rows.{rows_at};
 ghost use Rattle.level_rows.specs.Filling.{AreNeeded, MayFill, FillAnswer};
 
@@ -9,7 +9,7 @@ use crate::appending::append_rows;
 use crate::counting::{greatest_below, positions_begun};
 use crate::inserting::insert_rows;
 use crate::rows::SortedRows;
-use level_core::{Append, Insert, LevelKind};
+use level_core::{Append, Insert, Letter, LevelKind, caps_of, props_of};
 use limits::greatest_positions;
 
 /// Why a level isn't given its rows.
@@ -35,6 +35,22 @@ fn width_for(most: u64) -> u64
 {
     let power = most.next_power_of_two();
     2 * power
+}
+
+/// How many positions a level of this kind has for its parents' coordinates once they are prepared, each for at most `most`: a full one,
+/// whose range is `size`, all of them, one that is inserted into a block of slots for each parent, and one that is appended to none. It
+/// takes no memory, and the number is exact: it may be no word.
+pub fn prepared_positions(letter: Letter, size: u64, parents: u64, most: u64) -> u128
+    requires { most ≤ 2 ^ 62 }
+    ensures { result ≡ positions_for letter size parents most }
+{
+    if props_of(letter).full {
+        return parents as u128 * size as u128;
+    }
+    if caps_of(letter).insert {
+        return parents as u128 * width_for(most) as u128;
+    }
+    0
 }
 
 /// Counts the positions that a level needs for the rows below so many parents.
