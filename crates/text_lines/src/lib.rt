@@ -21,6 +21,6 @@ pub use line_kind::LineKind;
 pub use line_reader::LineReader;
 pub use num_fault::NumFault;
 pub use pieces::{Piece, put_pieces};
-pub use puts::{put_all, put_i64, put_u64};
+pub use puts::{put_all, put_i64, put_u64, put_u128};
 pub use step::Step;
 pub use whole::read_whole;

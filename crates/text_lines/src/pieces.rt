@@ -4,7 +4,7 @@ ghost use Rattle.outside.specs.Sink.{Appends};
 ghost use Rattle.text_lines.specs.Puts.{AppendsPart};
 ghost use Rattle.text_lines.specs.Pieces.{joined, piece_text};
 
-use crate::puts::{put_all, put_i64, put_u64};
+use crate::puts::{put_all, put_i64, put_u64, put_u128};
 use outside::{Refusal, Sink};
 
 /// A piece of a text.
@@ -14,6 +14,8 @@ pub enum Piece<'a> {
     Text(&'a [u8]),
     /// The decimal text of a number.
     Number(u64),
+    /// The decimal text of a number that may be no word.
+    Wide(u128),
     /// The decimal text of a signed number.
     Signed(i64),
 }
@@ -26,6 +28,7 @@ fn put_piece<S: Sink>(sink: &mut S, piece: &Piece<'_>) -> Result<(), Refusal>
     match piece {
         Piece::Text(bytes) => put_all(sink, bytes),
         Piece::Number(number) => put_u64(sink, *number),
+        Piece::Wide(number) => put_u128(sink, *number),
         Piece::Signed(number) => put_i64(sink, *number),
     }
 }

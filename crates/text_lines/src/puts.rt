@@ -30,6 +30,15 @@ pub fn put_u64<S: Sink>(sink: &mut S, number: u64) -> Result<(), Refusal>
     put_all(sink, buffer.format(number).as_bytes())
 }
 
+/// Appends the decimal text of a number that may be no word. After a refusal a part of it at its front was appended.
+pub fn put_u128<S: Sink>(sink: &mut S, number: u128) -> Result<(), Refusal>
+    ensures whole { OnOk result (Appends (S.state sink.old) (S.state sink.new) (decimal number)) }
+    ensures part { IfErr result (AppendsPart (S.state sink.old) (S.state sink.new) (decimal number)) }
+{
+    let mut buffer = Buffer::new();
+    put_all(sink, buffer.format(number).as_bytes())
+}
+
 /// Appends the decimal text of a signed number. After a refusal a part of it at its front was appended.
 pub fn put_i64<S: Sink>(sink: &mut S, value: i64) -> Result<(), Refusal>
     ensures whole { OnOk result (Appends (S.state sink.old) (S.state sink.new) (signed_decimal value)) }
