@@ -15,8 +15,8 @@ pub enum Ending {
     /// at the last word.
     Stuck { statement: u64 },
     /// An array would have grown past its limit, to this count: of words, or of positions, which are one fewer
-    /// than the segment ends. A count stays at the last word.
-    Over { array: Arr, count: u64 },
+    /// than the segment ends. A count may be no word.
+    Over { array: Arr, count: u128 },
     /// A loop would have gone on with no turn left.
     More,
 }
@@ -49,5 +49,5 @@ impl Step {
 #[derive(Clone, Copy, Debug, Drop)]
 pub(crate) struct Refused {
     pub(crate) array: Arr,
-    pub(crate) count: u64,
+    pub(crate) count: u128,
 }

@@ -1,9 +1,7 @@
 -- The ranges of the result's levels.
-use Rattle.std.specs.Prelude.{◌≡◌, ℕ, zero, suc, ◌+◌, ◌*◌, ◌<◌, ◌≤◌, ◌^◌, List, [], ◌∷◌, length, take, drop, slice_index, slice_index_or}
-use Rattle.std.specs.Prelude.{Bool, true, false, if◌then◌else◌, refl}
+use Rattle.std.specs.Prelude.{◌≡◌, ℕ, zero, suc, ◌+◌, ◌<◌, ◌≤◌, List, [], ◌∷◌, length, take, drop, slice_index, slice_index_or}
+use Rattle.std.specs.Prelude.{refl}
 use Rattle.std.proofs.Common.{sym, ap, subst, arith, inl, inr}
-use Rattle.std.proofs.lemmas.Nat.{mul-lt}
-use Rattle.coordinate_lists.proofs.Words.{positions_fit_32_bits}
 use Rattle.limits.specs.Limits.{greatest_position_count}
 use Rattle.format_spec.specs.declared.format.FormatLevel.{FormatLevel}
 use Rattle.format_spec.specs.Formats.{IsFormat, letters_of}
@@ -12,7 +10,7 @@ use Rattle.tensor_storage.specs.Storages.{in_level_order}
 use Rattle.machine_starts.proofs.Steps.{drop_here}
 use Rattle.kernel_correctness.specs.Stores.{StartsFew}
 use Rattle.level_core.specs.declared.letter.Letter.{Letter}
-use Rattle.level_core.specs.Kinds.{parents_below, properties}
+use Rattle.level_core.specs.Kinds.{parents_below}
 use Rattle.kernel_machine.specs.Begins.{IsTooLarge}
 
 index_taken : (ranges : List ℕ) (n i : ℕ) → i < n → slice_index (take n ranges) i ≡ slice_index ranges i
@@ -37,20 +35,6 @@ taken_order format ranges d is = orders_taken format ranges (length format) d (�
 pub order_long : (format : List FormatLevel) (ranges : List ℕ) → length (in_level_order format ranges) ≡ length format
 order_long [] ranges = refl
 order_long (f ∷ format) ranges = ap suc (order_long format ranges)
-
-pub product_small : (n m : ℕ) → n ≤ greatest_position_count → m ≤ greatest_position_count → n * m < 2 ^ 64
-product_small n m h k =
-    let less = mul-lt n m (2 ^ 32) (2 ^ 32) (omega (arith, h, positions_fit_32_bits)) (omega (arith, k, positions_fit_32_bits)) in
-    omega (arith, less)
-
--- as many positions as a level has when a run starts are a word
-pub start_small : (letter : Letter) (size parents : ℕ) → parents ≤ greatest_position_count → size ≤ greatest_position_count
-    → parents_below letter size parents < 2 ^ 64
-start_small letter size parents p s = by (properties letter).full
-  where
-    by : (full : Bool) → (if full then parents * size else 0) < 2 ^ 64
-    by true = product_small parents size p s
-    by false = omega arith
 
 drop_letters : (format : List FormatLevel) (i : ℕ) (d : FormatLevel) → i < length format
     → drop i (letters_of format) ≡ (slice_index_or format i d).letter ∷ drop (suc i) (letters_of format)

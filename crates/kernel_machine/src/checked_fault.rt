@@ -9,7 +9,7 @@ pub enum CheckedFault {
     /// The run would take more turns than it may.
     Budget,
     /// A level or a workspace would have more positions or pairs than may be, so many.
-    SizeLimit { place: Place, count: u64 },
+    SizeLimit { place: Place, count: u128 },
     /// The run ends, and what it leaves of the result is no storage of its format.
     BadStore,
     /// Memory is wanted.

@@ -13,7 +13,7 @@ pub enum RunFault {
     /// comes behind them.
     SizeLimit(LargeLevel),
     /// The workspace of a result that isn't dense would need more pairs than may be, so many.
-    Workspace { count: u64 },
+    Workspace { count: u128 },
     /// Want of memory.
     Memory(AllocError),
 }

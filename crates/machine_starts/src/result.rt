@@ -92,7 +92,8 @@ pub fn begin_result(
     for number in 0..format.len() {
         let letter = format[number].letter;
         begin_level(machine, alloc, letter, number as u64 + 1, parents)?;
-        parents = positions_at_start(letter, sizes[number], parents);
+        let positions = positions_at_start(letter, sizes[number], parents);
+        parents = positions as u64;
     }
     let values = Segment::filled(alloc, parents as usize, nothing)?;
     machine.add_array(Arr::Values(0), values)?;

@@ -6,5 +6,5 @@ pub struct LargeLevel {
     pub tensor: usize,
     pub level: usize,
     /// How many positions it would have.
-    pub count: u64,
+    pub count: u128,
 }

@@ -39,7 +39,7 @@ impl From<AllocError> for PackFault {
     }
 }
 
-/// Why the tensor of this number isn't packed. A count above a word would want more memory than there is.
+/// Why the tensor of this number isn't packed.
 fn fault_of(tensor: usize, refusal: PackRefusal) -> PackFault
     ensures { (a : Arithmetic) (format : List ALevel) (sizes : List ℕ) (entries summed : List AnEntry)
         → AreSummed a (length format) entries summed → IsRefusalOf format sizes summed refusal
@@ -47,14 +47,11 @@ fn fault_of(tensor: usize, refusal: PackRefusal) -> PackFault
 {
     match refusal {
         PackRefusal::Memory => PackFault::Memory(AllocError),
-        PackRefusal::SizeLimit { level, count } => match u64::try_from(count) {
-            Ok(count) => PackFault::SizeLimit(LargeLevel {
-                tensor,
-                level,
-                count,
-            }),
-            Err(_) => PackFault::Memory(AllocError),
-        },
+        PackRefusal::SizeLimit { level, count } => PackFault::SizeLimit(LargeLevel {
+            tensor,
+            level,
+            count,
+        }),
     }
 }
 

@@ -41,7 +41,7 @@ pub enum Fault<'a> {
     /// A minus stands on the right, and the semiring of this name has none.
     NoMinus(&'a str),
     /// The result's workspace would have so many pairs of coordinates and a value, which pass the limit.
-    WorkspaceLimit(u64),
+    WorkspaceLimit(u128),
     /// Reading this file failed, or it isn't there.
     ReadFault(&'a str),
     /// This file has more bytes than may be.

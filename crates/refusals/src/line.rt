@@ -413,7 +413,7 @@ fn put_range_line<S: Sink>(
 }
 
 /// Appends the line of a level with too many positions.
-fn put_size<S: Sink>(sink: &mut S, tensor: &[u8], level: usize, count: u64) -> Result<(), Refusal>
+fn put_size<S: Sink>(sink: &mut S, tensor: &[u8], level: usize, count: u128) -> Result<(), Refusal>
     ensures whole { OnOk result (Appends (S.state sink.old) (S.state sink.new) (size_text tensor.now level count)) }
     ensures part { IfErr result (AppendsPart (S.state sink.old) (S.state sink.new) (size_text tensor.now level count)) }
 {
@@ -423,20 +423,20 @@ fn put_size<S: Sink>(sink: &mut S, tensor: &[u8], level: usize, count: u64) -> R
         Piece::Text(b" level "),
         Piece::Number(level as u64),
         Piece::Text(b" needs "),
-        Piece::Number(count),
+        Piece::Wide(count),
         Piece::Text(b" positions\n"),
     ];
     put_pieces(sink, &pieces)
 }
 
 /// Appends the line of a workspace with too many pairs.
-fn put_workspace<S: Sink>(sink: &mut S, count: u64) -> Result<(), Refusal>
+fn put_workspace<S: Sink>(sink: &mut S, count: u128) -> Result<(), Refusal>
     ensures whole { OnOk result (Appends (S.state sink.old) (S.state sink.new) (workspace_text count)) }
     ensures part { IfErr result (AppendsPart (S.state sink.old) (S.state sink.new) (workspace_text count)) }
 {
     let pieces = [
         Piece::Text(b"taco: size limit: workspace needs "),
-        Piece::Number(count),
+        Piece::Wide(count),
         Piece::Text(b" pairs\n"),
     ];
     put_pieces(sink, &pieces)

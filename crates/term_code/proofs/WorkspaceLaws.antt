@@ -5,12 +5,11 @@ use Rattle.std.proofs.Common.{◌∙◌, sym, ap, subst, arith, inl, inr}
 use Rattle.std.proofs.lemmas.Bool.Decides.{nat_tests, eqb_tells}
 use Rattle.std.proofs.lemmas.List.{append_assoc, map-append, length-append}
 use Rattle.limits.specs.Limits.{greatest_workspace_pairs}
-use Rattle.limits.proofs.Limits.{workspace_pairs_are_small}
 use Rattle.kernel_code.specs.declared.syntax.Arr.{Arr}
 use Rattle.kernel_code.specs.declared.syntax.Arr.TheVariants.{Key, Sums}
 use Rattle.kernel_code.specs.declared.syntax.LoopKind.{LoopKind}
 use Rattle.kernel_code.specs.declared.syntax.KExpr.{Var}
-use Rattle.kernel_code.specs.Arrays.{same_arr, word_count}
+use Rattle.kernel_code.specs.Arrays.{same_arr}
 use Rattle.kernel_code.proofs.ArrayNames.{same_arr_self, same_arr_is}
 use Rattle.kernel_code.specs.Meaning.{Setting, State, set_array}
 use Rattle.kernel_code.specs.Does.{Does}
@@ -53,20 +52,12 @@ within_pairs n h = grind (arith, nat_tests, h)
 past_pairs : (n : ℕ) → nat_le n greatest_workspace_pairs ≡ false → greatest_workspace_pairs < n
 past_pairs n h = grind (arith, nat_tests, h)
 
-told_above : (n : ℕ) → greatest_workspace_pairs < n → greatest_workspace_pairs < word_count n
-unfolding word_count
-told_above n h = grind (arith, workspace_pairs_are_small, h)
-
-told_within : (n : ℕ) → word_count n ≤ n
-unfolding word_count
-told_within n = grind arith
-
 refused_row : (w : ℕ) (rows : List Entry) (r : Entry) (a : Arr) (n : ℕ) → IsOfWorkspace w a → n ≡ length rows + 1
-    → nat_le n greatest_workspace_pairs ≡ false → PassesPairs w (rows ++ r ∷ []) a (word_count n)
+    → nat_le n greatest_workspace_pairs ≡ false → PassesPairs w (rows ++ r ∷ []) a n
 refused_row w rows r a n is long over = record {
   array = is;
-  above = told_above n (past_pairs n over);
-  within = let l = length_append rows (r ∷ []) in let t = told_within n in omega (arith, l, t, long);
+  above = past_pairs n over;
+  within = let l = length_append rows (r ∷ []) in omega (arith, l, long);
 }
 
 other_key : (w j k : ℕ) → k ≢ j → same_arr (Key w k) (Key w j) ≡ false

@@ -131,7 +131,7 @@ fn tell_further(answer: &mut Answer, case: &Case, line: &str) -> Option<()> {
 fn tell_refused(answer: &mut Answer, text: &str) -> Option<()> {
     let fault = match keyword_of(text) {
         ("bytes", path) => Fault::FileBytes(path),
-        ("pairs", count) => Fault::WorkspaceLimit(count.parse::<u64>().ok()?),
+        ("pairs", count) => Fault::WorkspaceLimit(count.parse::<u128>().ok()?),
         _ => return None,
     };
     let mut err = MemSink::new(answer.alloc());

@@ -1,11 +1,8 @@
-use Rattle.std.specs.Prelude.{◌≤◌, slice_index_or}
 use Rattle.std.proofs.Common.{arith, ◌+◌}
-use Rattle.std.proofs.lemmas.List.Elements.{All-get_or}
-use Rattle.limits.specs.Limits.{greatest_position_count}
 use Rattle.limits.proofs.Limits.{some_positions}
 use Rattle.level_core.specs.declared.letter.Letter.TheVariants.{Dense}
 use Rattle.format_spec.specs.declared.format.FormatLevel.{FormatLevel}
-use Rattle.kernel_machine.proofs.LevelSizes.{start_small, too_large_here, few_before, large_later}
+use Rattle.kernel_machine.proofs.LevelSizes.{too_large_here, few_before, large_later}
 use Rattle.kernel_machine.proofs.sizes.first_too_large.Goals as goal
 
 abbrev none : FormatLevel
@@ -14,19 +11,10 @@ none = record { letter = Dense; mode = 0 }
 pub loop-number-init : goal.loop-number-init
 loop-number-init c = (omega (arith, some_positions), λ h. h, λ level count h. h)
 
-pub positions_at_start-count-requires : goal.positions_at_start-count-requires
-positions_at_start-count-requires c =
-    let l = c.loop-number in
-    let long = c.requires.same in
-    let below = c.loop-number-test.true in
-    let small : slice_index_or c.args.sizes.now l.number 0 ≤ greatest_position_count =
-    All-get_or (λ size. size ≤ greatest_position_count) c.args.sizes.now l.number 0 (omega (arith, long, below)) c.requires.small in
-    start_small (slice_index_or c.args.format.now l.number none).letter (slice_index_or c.args.sizes.now l.number 0) l.parents l.invariant.0 small
-
 pub returns-then-count-greatest_positions : goal.returns-then-count-greatest_positions
 returns-then-count-greatest_positions c =
     let l = c.loop-number in
-    let long = c.requires.same in
+    let long = c.requires in
     l.invariant.2 (l.number + 1) c.positions_at_start-count.result
     (too_large_here c.args.format.now c.args.sizes.now l.number l.parents c.positions_at_start-count.result none c.loop-number-test.true
     (omega (arith, long)) c.positions_at_start-count.ensures (omega arith))
@@ -34,7 +22,7 @@ returns-then-count-greatest_positions c =
 pub loop-number-preserved : goal.loop-number-preserved
 loop-number-preserved c =
     let l = c.loop-number in
-    let long = c.requires.same in
+    let long = c.requires in
     let below = c.loop-number-test.true in
     let count = c.positions_at_start-count.result in (
       omega arith,

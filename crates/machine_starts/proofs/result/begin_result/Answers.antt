@@ -15,13 +15,14 @@ none = record { letter = Dense; mode = 0 }
 pub loop-number-init : goal.loop-number-init
 loop-number-init c = (omega (arith, some_positions), c.requires.few, refl)
 
-pub positions_at_start-parents-requires : goal.positions_at_start-parents-requires
-positions_at_start-parents-requires c =
+pub overflow_cast-parents : goal.overflow_cast-parents
+overflow_cast-parents c =
     let l = c.loop-number in
     let long = c.requires.same in
     let few = few_here c.args.format.now c.args.sizes.now l.number l.parents none c.loop-number-test.true (omega (arith, long)) l.invariant.1 in
     let within = few.0 in
-    omega (arith, within, positions_are_small)
+    let is = c.positions_at_start-positions.ensures in
+    omega (arith, within, is, positions_are_small)
 
 pub loop-number-preserved : goal.loop-number-preserved
 loop-number-preserved c =
@@ -29,11 +30,11 @@ loop-number-preserved c =
     let long = c.requires.same in
     let below = c.loop-number-test.true in
     let few = few_here c.args.format.now c.args.sizes.now l.number l.parents none below (omega (arith, long)) l.invariant.1 in (
-      subst (λ p. p ≤ greatest_position_count) (sym c.positions_at_start-parents.ensures) few.0,
-      few_next c.args.format.now c.args.sizes.now l.number l.parents c.positions_at_start-parents.result none below (omega (arith, long))
-          l.invariant.1 c.positions_at_start-parents.ensures,
-      result_next c.args.nothing c.args.format.now c.args.sizes.now l.number l.parents c.positions_at_start-parents.result none
-          (state_of l.machine) (state_of c.begin_level.new.machine) below (omega (arith, long)) c.positions_at_start-parents.ensures
+      subst (λ p. p ≤ greatest_position_count) (sym c.positions_at_start-positions.ensures) few.0,
+      few_next c.args.format.now c.args.sizes.now l.number l.parents c.positions_at_start-positions.result none below (omega (arith, long))
+          l.invariant.1 c.positions_at_start-positions.ensures,
+      result_next c.args.nothing c.args.format.now c.args.sizes.now l.number l.parents c.positions_at_start-positions.result none
+          (state_of l.machine) (state_of c.begin_level.new.machine) below (omega (arith, long)) c.positions_at_start-positions.ensures
           c.in_ok-begin_level.ensures ∙ l.invariant.2,
     )
 
