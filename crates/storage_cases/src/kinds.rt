@@ -1,7 +1,8 @@
-//! Cases of the properties and the capabilities of a kind.
+//! Cases of the properties and the capabilities of a kind, and of how many positions a level of it has.
 use crate::names::named;
-use case_files::Answer;
+use case_files::{Answer, keyword_of};
 use level_core::{Letter, caps_of, props_of};
+use level_rows::prepared_positions;
 
 /// The kinds by their letters.
 const LETTERS: [(&'static str, Letter); 6] = [
@@ -55,5 +56,26 @@ pub(crate) fn tell_kind(answer: &mut Answer, word: &str) -> Option<()> {
             (capabilities.append, "append"),
         ],
     );
+    Some(())
+}
+
+/// A block of slots has a width for so many coordinates at most.
+const GREATEST_BLOCK: u64 = 1 << 62;
+
+/// How many positions a level of a kind has, of this range and once so many parents are prepared, each for at most so many coordinates.
+pub(crate) fn tell_positions_of(answer: &mut Answer, line: &str) -> Option<()> {
+    let (word, rest) = keyword_of(line);
+    let letter = named(&LETTERS, word)?;
+    let numbers = answer.numbers(rest)?;
+    let [size, parents, most] = numbers.as_slice() else {
+        return None;
+    };
+    if *most > GREATEST_BLOCK {
+        return None;
+    }
+    answer.show(letter);
+    answer.tell(" would have ");
+    answer.show(prepared_positions(letter, *size, *parents, *most));
+    answer.tell(" positions\n");
     Some(())
 }

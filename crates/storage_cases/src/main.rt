@@ -8,6 +8,7 @@
 //! FORMAT | RANGES | ENTRIES | COORDINATES
 //! levels: FORMAT | RANGES | ENTRIES
 //! kind: LETTER
+//! positions: LETTER RANGE PARENTS MOST
 //! ```
 //!
 //! The format is a word, as `ds` or `ds:1,0`, and nothing for a tensor of order 0. The ranges are those of the modes. Entries
@@ -23,6 +24,9 @@
 //! of the coordinates follow, from 0 up to the range itself, with a minus for none.
 //!
 //! Of a case that begins with `kind:`, the properties and the capabilities of the kind of level that the letter names are printed.
+//!
+//! Of a case that begins with `positions:`, it is printed how many positions a level of this kind has, of this range, once so many parents
+//! are prepared, each for at most so many coordinates. No level is made.
 //!
 //! Kernels written by hand are printed, simplified and run:
 //!

@@ -1,6 +1,6 @@
 //! The lines of case files, one after another.
 use crate::checked::tell_checked;
-use crate::kinds::tell_kind;
+use crate::kinds::{tell_kind, tell_positions_of};
 use crate::levels::tell_tensor_levels;
 use crate::postfix::Postfix;
 use crate::reading::Text;
@@ -130,6 +130,7 @@ impl Cases for Session {
         let (keyword, rest) = keyword_of(line);
         match keyword {
             "kind:" => tell_kind(answer, rest),
+            "positions:" => tell_positions_of(answer, rest),
             "levels:" => tell_tensor_levels(answer, Parts::of(rest)?),
             "tensor" => self.set_tensor(answer, rest),
             "over" => self.set_semiring(rest),
