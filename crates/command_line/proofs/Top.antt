@@ -1,5 +1,5 @@
 -- What `clap` makes of a whole command line, and that it is what `command_line_of` says.
-use Rattle.std.proofs.Common.{◌≡◌, ◌∙◌, ◌≤◌, ◌+◌, ◌^◌, ◌++◌, ◌&&◌, ℕ, Bool, cond, true, false, suc, refl, sym, ap, ap₂, subst, arith}
+use Rattle.std.proofs.Common.{◌≡◌, ◌∙◌, ◌≤◌, ◌+◌, ◌^◌, ◌++◌, ◌&&◌, ◌<◌, ℕ, Bool, cond, true, false, suc, refl, sym, ap, ap₂, subst, arith}
 use Rattle.std.proofs.Common.{codes, map, List, [], ◌∷◌, length, Option, Some, None, true≢false, lt-ltb, nat_lt, nat_le}
 use Rattle.std.specs.Prelude.{String, option_map, option_and_then, slice_get, is_some}
 use Rattle.std.specs.List.{All, fold, list_all}
@@ -31,26 +31,29 @@ use Rattle.limits.specs.Limits.{greatest_workload}
 use Rattle.limits.proofs.Limits.{workloads_are_ranges, positions_are_small}
 use Rattle.command_line.specs.declared.Task.{Task}
 use Rattle.command_line.specs.declared.Task.TheVariants.{Run, Kernel, Report, Auto, Plan}
-use Rattle.command_line.specs.CommandLine.{CommandLine, Statement, Workload, is_option, is_size, operands, size_line}
-use Rattle.command_line.specs.CommandLine.{over_line, plan_line, words_from, workload_line, line_of_command, command_line_of}
+use Rattle.command_line.specs.CommandLine.{CommandLine, Statement, Workload, Exec, is_option, is_number, number_in, operands}
+use Rattle.command_line.specs.CommandLine.{over_line, plan_line, words_from, workload_line, size_line, exec_line, budget_line}
+use Rattle.command_line.specs.CommandLine.{greatest_budget, line_of_command, command_line_of}
 use Rattle.command_line.specs.declared.Over.TheVariants.{Ring}
 use Rattle.command_line.specs.Law.{IsRead, ReadsAll}
-use Rattle.command_line.specs.Clap.{TakesNames, taco_app, clap_line, matched_line, statement_matched, u64_read}
+use Rattle.command_line.specs.Clap.{TakesNames, taco_app, clap_line, matched_line, run_matched, statement_matched, u64_read}
 use Rattle.command_line.proofs.Kind.{Kind, dashes, long, short, operand, kind_of_word}
 use Rattle.command_line.proofs.StatementLeaf.{some_kind, first_empty, statement_shape, statement_rows, LevelIs, level_is}
 use Rattle.command_line.proofs.OverWalk.{unnamed, at, over_rules, over_shape}
 use Rattle.command_line.proofs.OverLeaf.{Reads, over_is}
 use Rattle.command_line.proofs.WorkloadLeaf.{workload_shape, size_row, SizeIs, WorkloadIs, workload_is}
+use Rattle.command_line.proofs.Budgets.{budgets_are_small}
+use Rattle.command_line.proofs.ExecLeaf.{exec_shape, exec_rows, is_taken, BudgetIs, ExecIs, exec_is}
+
+pub is_simple_taco : (parser : ValueParser) → is_simple (taco_app parser) ≡ true
+unfolding clap_on_literals
+is_simple_taco parser = refl
+
+pub is_free_taco : (parser : ValueParser) → is_simple_and_free (taco_app parser) ≡ true
+unfolding clap_on_literals
+is_free_taco parser = refl
 
 module _ (parser : ValueParser) (takes_names : TakesNames parser) where
-  pub is_simple_taco : is_simple (taco_app parser) ≡ true
-  unfolding clap_on_literals
-  is_simple_taco = refl
-
-  pub is_free_taco : is_simple_and_free (taco_app parser) ≡ true
-  unfolding clap_on_literals
-  is_free_taco = refl
-
   abbrev top : Shape
   top = (built (taco_app parser)).top
 
@@ -64,7 +67,8 @@ module _ (parser : ValueParser) (takes_names : TakesNames parser) where
   stopped_at name ws = record start { stopped = Some (name, ws) }
 
   subs_are : (built (taco_app parser)).subs ≡ over_shape parser (codes "run") ∷ over_shape parser (codes "kernel")
-      ∷ over_shape parser (codes "report") ∷ over_shape parser (codes "auto") ∷ statement_shape (codes "plan") ∷ workload_shape ∷ []
+      ∷ over_shape parser (codes "report") ∷ over_shape parser (codes "auto") ∷ statement_shape (codes "plan") ∷ workload_shape
+      ∷ exec_shape ∷ []
   subs_are = refl
 
   stopped_passes : (w : Walk) (p : Text × List Text) (ws : List Text) → walk_passes top names (record w { stopped = Some p }) ws ≡ true
@@ -104,6 +108,12 @@ module _ (parser : ValueParser) (takes_names : TakesNames parser) where
       → bytes_eq (codes "auto") c ≡ false → bytes_eq (codes "plan") c ≡ false → bytes_eq (codes "gen") c ≡ true → Stops c (codes "gen")
   unfolding walked
   stops_gen c a b d t f e = (rw (a, b, d, t, f, e) refl, rw (a, b, d, t, f, e) refl, rw (a, b, d, t, f, e) refl)
+
+  stops_exec : (c : Text) → bytes_eq (codes "run") c ≡ false → bytes_eq (codes "kernel") c ≡ false → bytes_eq (codes "report") c ≡ false
+      → bytes_eq (codes "auto") c ≡ false → bytes_eq (codes "plan") c ≡ false → bytes_eq (codes "gen") c ≡ false
+      → bytes_eq (codes "exec") c ≡ true → Stops c (codes "exec")
+  unfolding walked
+  stops_exec c a b d t f e x = (rw (a, b, d, t, f, e, x) refl, rw (a, b, d, t, f, e, x) refl, rw (a, b, d, t, f, e, x) refl)
 
   -- the rest goes to the subcommand
   abbrev Enters : Text → Text → List Text → Type 0
@@ -174,6 +184,10 @@ module _ (parser : ValueParser) (takes_names : TakesNames parser) where
   unfolding defaults_fault
   inside_gen rest = (refl, refl, refl)
 
+  inside_exec : (rest : List Text) → Inside (codes "exec") exec_shape rest
+  unfolding defaults_fault
+  inside_exec rest = (refl, refl, refl)
+
   abbrev Whole : List Text → Text → Shape → List Text → Type 0
   Whole ws name sh rest = (fault_of (taco_app parser) ws ≡ or_else (level_fault sh [] nothing_held rest false []) [])
       × (takes (taco_app parser) ws ≡ (level_passes sh [] nothing_held rest false && true))
@@ -222,24 +236,23 @@ module _ (parser : ValueParser) (takes_names : TakesNames parser) where
       ap (option_and_then matched_line) w.2 ∙ m (rows_after (over_rules parser) [] rest) ∙ l.2,
     )
 
-  -- N passes its parser where it is a size within the limit, and is read as that
-  size_accepted : (n : Text) → is_size n ≡ true → (accepts false (value_parser.Unsigned 0 greatest_workload) n ≡ true)
-      × (u64_read n ≡ Some (digits_value 10 (without_leading_plus n)))
-  size_accepted n h =
+  -- N passes its parser where it is a number within the limit, and is read as that
+  number_accepted : (limit : ℕ) → limit < 2 ^ 64 → (n : Text) → is_number limit n ≡ true
+      → (accepts false (value_parser.Unsigned 0 limit) n ≡ true) × (u64_read n ≡ Some (number_in n))
+  number_accepted limit small n h =
       let ds = without_leading_plus n in
       let a = both (nat_lt 0 (length ds)) _ h in
       let b = both (list_all (λ d. nat_lt (digit_value d) 10) ds) _ a.1 in
-      let most : digits_value 10 ds ≤ greatest_workload = leb-true (digits_value 10 ds) greatest_workload b.1 in
+      let most : digits_value 10 ds ≤ limit = leb-true (digits_value 10 ds) limit b.1 in
       let fits : nat_lt (digits_value 10 ds) (2 ^ 64) ≡ true =
-      lt-ltb (digits_value 10 ds) (2 ^ 64) (omega (arith, most, workloads_are_ranges, positions_are_small)) in
+      lt-ltb (digits_value 10 ds) (2 ^ 64) (omega (arith, most, small)) in
       let least : nat_le 0 (digits_value 10 ds) ≡ true = le-leb 0 (digits_value 10 ds) (omega arith) in
       (rw (a.0, b.0, fits, least, b.1) refl, rw (a.0, b.0, fits) refl)
 
-  size_refused : (n : Text) → is_size n ≡ false → accepts false (value_parser.Unsigned 0 greatest_workload) n ≡ false
-  size_refused n h = go (accepts false (value_parser.Unsigned 0 greatest_workload) n) refl
+  number_refused : (limit : ℕ) (n : Text) → is_number limit n ≡ false → accepts false (value_parser.Unsigned 0 limit) n ≡ false
+  number_refused limit n h = go (accepts false (value_parser.Unsigned 0 limit) n) refl
     where
-      go : (t : Bool) → accepts false (value_parser.Unsigned 0 greatest_workload) n ≡ t
-          → accepts false (value_parser.Unsigned 0 greatest_workload) n ≡ false
+      go : (t : Bool) → accepts false (value_parser.Unsigned 0 limit) n ≡ t → accepts false (value_parser.Unsigned 0 limit) n ≡ false
       go false e = e
       go true e =
           let ds = without_leading_plus n in
@@ -247,26 +260,29 @@ module _ (parser : ValueParser) (takes_names : TakesNames parser) where
           let q = both (nat_lt 0 (length ds)) _ p.0 in
           let r = both (nat_lt (digits_value 10 ds) (2 ^ 64)) _ p.1 in
           let s = both (nat_le 0 (digits_value 10 ds)) _ r.1 in
-          let small : is_size n ≡ true = rw (q.0, q.1, s.1) refl in
+          let small : is_number limit n ≡ true = rw (q.0, q.1, s.1) refl in
           absurd (true≢false (sym small ∙ h))
 
-  size_matched : (n : Text) → u64_read n ≡ Some (digits_value 10 (without_leading_plus n))
-      → matched_line (codes "gen", size_row n ∷ []) ≡ Some (Workload (digits_value 10 (without_leading_plus n)))
+  workloads_are_words : greatest_workload < 2 ^ 64
+  workloads_are_words = omega (arith, workloads_are_ranges, positions_are_small)
+
+  size_matched : (n : Text) → u64_read n ≡ Some (number_in n)
+      → matched_line (codes "gen", size_row n ∷ []) ≡ Some (Workload (number_in n))
   size_matched n e = ap (option_map Workload) e
 
-  size_is : (ws rest : List Text) (n : Text) (b : Bool) → is_size n ≡ b → Whole ws (codes "gen") workload_shape rest
+  size_is : (ws rest : List Text) (n : Text) (b : Bool) → is_number greatest_workload n ≡ b → Whole ws (codes "gen") workload_shape rest
       → SizeIs rest n (accepts false (value_parser.Unsigned 0 greatest_workload) n) → LineIs ws (size_line n)
   size_is ws rest n true h w l =
-      let a = size_accepted n h in
+      let a = number_accepted greatest_workload workloads_are_words n h in
       let k : SizeIs rest n true = subst (SizeIs rest n) a.0 l in
-      let line : LineIs ws (Some (Workload (digits_value 10 (without_leading_plus n)))) = (
+      let line : LineIs ws (Some (Workload (number_in n))) = (
         w.0 ∙ ap (λ k. or_else k []) k.0,
         w.1 ∙ ap (λ b. b && true) k.1,
         ap (option_and_then matched_line) (w.2 ∙ ap (λ r. Some (codes "gen", r)) k.2) ∙ size_matched n a.1,
       ) in
       rw h line
   size_is ws rest n false h w l =
-      let k : SizeIs rest n false = subst (SizeIs rest n) (size_refused n h) l in
+      let k : SizeIs rest n false = subst (SizeIs rest n) (number_refused greatest_workload n h) l in
       let line : LineIs ws None = sub_fails ws (codes "gen") workload_shape rest w k in
       rw h line
 
@@ -274,8 +290,37 @@ module _ (parser : ValueParser) (takes_names : TakesNames parser) where
       → LineIs ws (workload_line o)
   workload_line_is ws rest w None l = sub_fails ws (codes "gen") workload_shape rest w l
   workload_line_is ws rest w (Some []) l = sub_fails ws (codes "gen") workload_shape rest w l
-  workload_line_is ws rest w (Some (n ∷ [])) l = size_is ws rest n (is_size n) refl w l
+  workload_line_is ws rest w (Some (n ∷ [])) l = size_is ws rest n (is_number greatest_workload n) refl w l
   workload_line_is ws rest w (Some (n ∷ m ∷ ms)) l = sub_fails ws (codes "gen") workload_shape rest w l
+
+  exec_read : (p n e : Text) (os : List Text) → u64_read n ≡ Some (number_in n)
+      → matched_line (codes "exec", exec_rows p n (e ∷ os)) ≡ Some (Exec p (number_in n) e os)
+  exec_read p n e [] is = ap (λ o. option_and_then (λ budget. run_matched p budget (exec_rows p n (e ∷ []))) o) is
+  exec_read p n e (w ∷ ws) is = ap (λ o. option_and_then (λ budget. run_matched p budget (exec_rows p n (e ∷ w ∷ ws))) o) is
+
+  budget_line_is : (ws rest : List Text) (p n e : Text) (os : List Text) (b : Bool) → is_number greatest_budget n ≡ b
+      → Whole ws (codes "exec") exec_shape rest → BudgetIs rest p n (e ∷ os) (is_taken n) → LineIs ws (budget_line p n e os)
+  budget_line_is ws rest p n e os true h w l =
+      let a = number_accepted greatest_budget (omega (arith, budgets_are_small)) n h in
+      let k : BudgetIs rest p n (e ∷ os) true = subst (BudgetIs rest p n (e ∷ os)) a.0 l in
+      let line : LineIs ws (Some (Exec p (number_in n) e os)) = (
+        w.0 ∙ ap (λ k. or_else k []) k.0,
+        w.1 ∙ ap (λ b. b && true) k.1,
+        ap (option_and_then matched_line) (w.2 ∙ ap (λ r. Some (codes "exec", r)) k.2) ∙ exec_read p n e os a.1,
+      ) in
+      rw h line
+  budget_line_is ws rest p n e os false h w l =
+      let k : BudgetIs rest p n (e ∷ os) false = subst (BudgetIs rest p n (e ∷ os)) (number_refused greatest_budget n h) l in
+      let line : LineIs ws None = sub_fails ws (codes "exec") exec_shape rest w k in
+      rw h line
+
+  exec_line_is : (ws rest : List Text) → Whole ws (codes "exec") exec_shape rest → (o : Option (List Text)) → ExecIs rest o
+      → LineIs ws (exec_line o)
+  exec_line_is ws rest w None l = sub_fails ws (codes "exec") exec_shape rest w l
+  exec_line_is ws rest w (Some []) l = sub_fails ws (codes "exec") exec_shape rest w l
+  exec_line_is ws rest w (Some (p ∷ [])) l = sub_fails ws (codes "exec") exec_shape rest w l
+  exec_line_is ws rest w (Some (p ∷ n ∷ [])) l = sub_fails ws (codes "exec") exec_shape rest w l
+  exec_line_is ws rest w (Some (p ∷ n ∷ e ∷ os)) l = budget_line_is ws rest p n e os (is_number greatest_budget n) refl w l
 
   -- ---- a word that is no command
 
@@ -284,23 +329,23 @@ module _ (parser : ValueParser) (takes_names : TakesNames parser) where
 
   module _ (c : Text) (a : bytes_eq (codes "run") c ≡ false) (b : bytes_eq (codes "kernel") c ≡ false)
       (d : bytes_eq (codes "report") c ≡ false) (t : bytes_eq (codes "auto") c ≡ false) (q : bytes_eq (codes "plan") c ≡ false)
-      (e : bytes_eq (codes "gen") c ≡ false) where
+      (e : bytes_eq (codes "gen") c ≡ false) (x : bytes_eq (codes "exec") c ≡ false) where
     other_long : (p : Text × Option Text) → bytes_eq c (45 ∷ 45 ∷ []) ≡ false → long_of c ≡ Some p → Refused c (kind.UnknownArgument ∷ [])
-    other_long p f l = (rw (a, b, d, t, q, e, f, l) refl, rw (a, b, d, t, q, e, f, l) refl)
+    other_long p f l = (rw (a, b, d, t, q, e, x, f, l) refl, rw (a, b, d, t, q, e, x, f, l) refl)
 
-    other_short : (x : ℕ) (flags : Text) (y : ℕ) → bytes_eq c (45 ∷ 45 ∷ []) ≡ false → long_of c ≡ None → short_of c ≡ Some (x ∷ flags)
-        → slice_get (chars (x ∷ flags)) 0 ≡ Some y → Refused c (kind.UnknownArgument ∷ [])
+    other_short : (z : ℕ) (flags : Text) (y : ℕ) → bytes_eq c (45 ∷ 45 ∷ []) ≡ false → long_of c ≡ None → short_of c ≡ Some (z ∷ flags)
+        → slice_get (chars (z ∷ flags)) 0 ≡ Some y → Refused c (kind.UnknownArgument ∷ [])
     unfolding flags_fault flags_pass
-    other_short x flags y f l h g = (rw (a, b, d, t, q, e, f, l, h, g) refl, rw (a, b, d, t, q, e, f, l, h, g) refl)
+    other_short z flags y f l h g = (rw (a, b, d, t, q, e, x, f, l, h, g) refl, rw (a, b, d, t, q, e, x, f, l, h, g) refl)
 
     other_operand : bytes_eq c (45 ∷ 45 ∷ []) ≡ false → long_of c ≡ None → short_of c ≡ None
         → Refused c (kind.UnknownArgument ∷ kind.InvalidSubcommand ∷ [])
-    other_operand f l h = (rw (a, b, d, t, q, e, f, l, h) refl, rw (a, b, d, t, q, e, f, l, h) refl)
+    other_operand f l h = (rw (a, b, d, t, q, e, x, f, l, h) refl, rw (a, b, d, t, q, e, x, f, l, h) refl)
 
     other_dashes : bytes_eq c (45 ∷ 45 ∷ []) ≡ true → (walked [] names start c ≡ record start { is_trailing = true })
         × (turn_fault top names start c ≡ []) × (turn_passes top names start c ≡ true)
     unfolding walked
-    other_dashes f = (rw (a, b, d, t, q, e, f) refl, rw (a, b, d, t, q, e, f) refl, rw (a, b, d, t, q, e, f) refl)
+    other_dashes f = (rw (a, b, d, t, q, e, x, f) refl, rw (a, b, d, t, q, e, x, f) refl, rw (a, b, d, t, q, e, x, f) refl)
 
   dashes_end : (after_fault (record start { is_trailing = true }) ≡ kind.MissingSubcommand ∷ [])
       × (taken_after true (record start { is_trailing = true }) ≡ false)
@@ -358,11 +403,12 @@ module _ (parser : ValueParser) (takes_names : TakesNames parser) where
 
   other_fails : (n c : Text) (rest : List Text) → bytes_eq (codes "run") c ≡ false → bytes_eq (codes "kernel") c ≡ false
       → bytes_eq (codes "report") c ≡ false → bytes_eq (codes "auto") c ≡ false → bytes_eq (codes "plan") c ≡ false
-      → bytes_eq (codes "gen") c ≡ false → Kind c → LineIs (n ∷ c ∷ rest) None
-  other_fails n c rest a b d t q e (dashes f u) = dashes_fail n c rest (other_dashes c a b d t q e f)
-  other_fails n c rest a b d t q e (long p f o l parts u) = turn_fails n c rest _ _ (other_long c a b d t q e p f l)
-  other_fails n c rest a b d t q e (short x flags y f o l h g v u) = turn_fails n c rest _ _ (other_short c a b d t q e x flags y f l h g)
-  other_fails n c rest a b d t q e (operand f o l h) = turn_fails n c rest _ _ (other_operand c a b d t q e f l h)
+      → bytes_eq (codes "gen") c ≡ false → bytes_eq (codes "exec") c ≡ false → Kind c → LineIs (n ∷ c ∷ rest) None
+  other_fails n c rest a b d t q e x (dashes f u) = dashes_fail n c rest (other_dashes c a b d t q e x f)
+  other_fails n c rest a b d t q e x (long p f o l parts u) = turn_fails n c rest _ _ (other_long c a b d t q e x p f l)
+  other_fails n c rest a b d t q e x (short z flags y f o l h g v u) =
+      turn_fails n c rest _ _ (other_short c a b d t q e x z flags y f l h g)
+  other_fails n c rest a b d t q e x (operand f o l h) = turn_fails n c rest _ _ (other_operand c a b d t q e x f l h)
 
   -- ---- all lines
 
@@ -422,26 +468,34 @@ module _ (parser : ValueParser) (takes_names : TakesNames parser) where
         workload_line_is (n ∷ c ∷ rest) rest (inner (codes "gen") workload_shape s (inside_gen rest)) (operands rest)
         (workload_is rest later)
 
+    for_exec : Stops c (codes "exec") → LineIs (n ∷ c ∷ rest) (exec_line (operands rest))
+    for_exec s =
+        exec_line_is (n ∷ c ∷ rest) rest (inner (codes "exec") exec_shape s (inside_exec rest)) (operands rest)
+        (exec_is rest later (λ os e. omega (arith, below os e)))
+
     command_is : LineIs (n ∷ c ∷ rest) (line_of_command c rest)
     command_is = go (bytes_eq (codes "run") c) refl (bytes_eq (codes "kernel") c) refl (bytes_eq (codes "report") c) refl
         (bytes_eq (codes "auto") c) refl (bytes_eq (codes "plan") c) refl (bytes_eq (codes "gen") c) refl
+        (bytes_eq (codes "exec") c) refl
       where
         go : (r : Bool) → bytes_eq (codes "run") c ≡ r → (k : Bool) → bytes_eq (codes "kernel") c ≡ k
             → (p : Bool) → bytes_eq (codes "report") c ≡ p → (t : Bool) → bytes_eq (codes "auto") c ≡ t
             → (l : Bool) → bytes_eq (codes "plan") c ≡ l
-            → (g : Bool) → bytes_eq (codes "gen") c ≡ g → LineIs (n ∷ c ∷ rest) (line_of_command c rest)
-        go true a k b p d t h l f g e = rw a (for_task (codes "run") Run (stops_run c a) (inside_run rest) (λ rows. refl))
-        go false a true b p d t h l f g e =
+            → (g : Bool) → bytes_eq (codes "gen") c ≡ g → (x : Bool) → bytes_eq (codes "exec") c ≡ x → LineIs (n ∷ c ∷ rest) (line_of_command c rest)
+        go true a k b p d t h l f g e x y = rw a (for_task (codes "run") Run (stops_run c a) (inside_run rest) (λ rows. refl))
+        go false a true b p d t h l f g e x y =
             rw (a, b) (for_task (codes "kernel") Kernel (stops_kernel c a b) (inside_kernel rest) (λ rows. refl))
-        go false a false b true d t h l f g e =
+        go false a false b true d t h l f g e x y =
             rw (a, b, d) (for_task (codes "report") Report (stops_report c a b d) (inside_report rest) (λ rows. refl))
-        go false a false b false d true h l f g e =
+        go false a false b false d true h l f g e x y =
             rw (a, b, d, h) (for_task (codes "auto") Auto (stops_auto c a b d h) (inside_auto rest) (λ rows. refl))
-        go false a false b false d false h true f g e =
+        go false a false b false d false h true f g e x y =
             rw (a, b, d, h, f) (for_plan (stops_plan c a b d h f))
-        go false a false b false d false h false f true e = rw (a, b, d, h, f, e) (for_workload (stops_gen c a b d h f e))
-        go false a false b false d false h false f false e =
-            rw (a, b, d, h, f, e) (other_fails n c rest a b d h f e (kind_of_word c (All-head IsUtf8 c rest u)))
+        go false a false b false d false h false f true e x y = rw (a, b, d, h, f, e) (for_workload (stops_gen c a b d h f e))
+        go false a false b false d false h false f false e true y =
+            rw (a, b, d, h, f, e, y) (for_exec (stops_exec c a b d h f e y))
+        go false a false b false d false h false f false e false y =
+            rw (a, b, d, h, f, e, y) (other_fails n c rest a b d h f e y (kind_of_word c (All-head IsUtf8 c rest u)))
 
   pub line_is : (ws : List Text) → All IsUtf8 ws → length ws ≤ usize_max → LineIs ws (command_line_of ws)
   line_is [] u fits = (λ e. some_kind _ _ (sym none_fails.0 ∙ e), none_fails.1)

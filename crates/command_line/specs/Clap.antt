@@ -13,7 +13,7 @@ use Rattle.clap.specs.ValueTests.{accepts}
 use Rattle.clap.specs.declared.builder.value_parser.ValueParser.{ValueParser}
 use Rattle.clap.specs.declared.builder.value_parser.ValueParser.TheVariants as value_parser
 use Rattle.limits.specs.Limits.{greatest_workload}
-use Rattle.command_line.specs.CommandLine.{CommandLine, Statement, Workload, over_named}
+use Rattle.command_line.specs.CommandLine.{CommandLine, Statement, Workload, Exec, greatest_budget, over_named}
 use Rattle.command_line.specs.declared.Over.{Over}
 use Rattle.command_line.specs.declared.Over.TheVariants.{Ring}
 use Rattle.command_line.specs.declared.Task.{Task}
@@ -31,6 +31,15 @@ abbrev pub size_rule : Rule
 size_rule = record (new_rule (codes "N")) {
   required = true;
   parser = Some (value_parser.Unsigned 0 greatest_workload);
+}
+
+abbrev pub path_rule : Rule
+path_rule = record (new_rule (codes "PATH")) { required = true }
+
+abbrev pub budget_rule : Rule
+budget_rule = record (new_rule (codes "N")) {
+  required = true;
+  parser = Some (value_parser.Unsigned 0 greatest_budget);
 }
 
 -- the parser takes the names of semirings, and no other text
@@ -52,6 +61,13 @@ statement_app names name = with_rule (with_rule (with_rule (new_app name) expr_r
 abbrev pub workload_app : App
 workload_app = with_rule (new_app (codes "gen")) size_rule
 
+-- PATH and N; and behind them EXPR and WORDs
+abbrev pub budget_app : App
+budget_app = with_rule (with_rule (new_app (codes "exec")) path_rule) budget_rule
+
+abbrev pub exec_app : App
+exec_app = with_rule (with_rule budget_app expr_rule) word_rule
+
 abbrev pub bare_app : App
 bare_app = on_top (λ s. record s {
   disable_help_flag = true;
@@ -60,13 +76,14 @@ bare_app = on_top (λ s. record s {
 }) (new_app (codes "taco"))
 
 abbrev pub taco_app : ValueParser → App
-taco_app names = with_subcommand (with_subcommand (with_subcommand (with_subcommand (with_subcommand
+taco_app names = with_subcommand (with_subcommand (with_subcommand (with_subcommand (with_subcommand (with_subcommand
     (with_subcommand bare_app (statement_app names (codes "run")).top)
     (statement_app names (codes "kernel")).top)
     (statement_app names (codes "report")).top)
     (statement_app names (codes "auto")).top)
     plan_app.top)
-    workload_app.top
+    workload_app.top)
+    exec_app.top
 
 -- digits, after a `+` or none, whose number a `u64` holds
 abbrev pub is_u64_text : Text → Bool
@@ -106,14 +123,27 @@ abbrev pub statement_matched : Task → List Row → Option CommandLine
 statement_matched task rows = option_and_then (λ over. expr_matched task over rows) (over_matched rows)
 
 -- the number that N is read as
+abbrev pub number_matched : List Row → Option ℕ
+number_matched rows = option_and_then u64_read (one_of (codes "N") rows)
+
 abbrev pub workload_matched : List Row → Option CommandLine
-workload_matched rows = option_map Workload (option_and_then u64_read (one_of (codes "N") rows))
+workload_matched rows = option_map Workload (number_matched rows)
+
+-- the texts of PATH and EXPR, the number N, and the WORDs
+abbrev pub run_matched : List ℕ → ℕ → List Row → Option CommandLine
+run_matched path budget rows =
+    option_map (λ expr. Exec path budget expr (unwrap_or (all_of (codes "WORD") rows) [])) (first_of (codes "EXPR") rows)
+
+abbrev pub exec_matched : List Row → Option CommandLine
+exec_matched rows =
+    option_and_then (λ path. option_and_then (λ budget. run_matched path budget rows) (number_matched rows)) (first_of (codes "PATH") rows)
 
 -- what the subcommand's name and its matches say
 abbrev pub matched_line : Text × List Row → Option CommandLine
 matched_line m =
     if bytes_eq m.0 (codes "gen") then workload_matched m.1
-    else option_and_then (λ task. statement_matched task m.1) (task_of m.0)
+    else (if bytes_eq m.0 (codes "exec") then exec_matched m.1
+    else option_and_then (λ task. statement_matched task m.1) (task_of m.0))
 
 -- what `clap`'s matches of the words say
 abbrev pub clap_line : ValueParser → List Text → Option CommandLine

@@ -12,10 +12,16 @@ use Rattle.command_line.specs.declared.Over.TheVariants.{Ring, MinPlus, Bits}
 use Rattle.command_line.specs.declared.Task.{Task}
 use Rattle.command_line.specs.declared.Task.TheVariants.{Run, Kernel, Report, Auto, Plan}
 
--- a statement with the words behind it, what is asked for it, and the semiring of its values; or the size of a generated workload
+-- a statement with the words behind it, what is asked for it, and the semiring of its values; the size of a generated workload; or the path
+-- of a kernel's file, the turns that its run may take, and a statement with the words behind it
 pub data CommandLine : Type 0 where
   Statement : (task : Task) → (over : Over) → (expr : List ℕ) → (words : List (List ℕ)) → CommandLine
   Workload : (size : ℕ) → CommandLine
+  Exec : (path : List ℕ) → (budget : ℕ) → (expr : List ℕ) → (words : List (List ℕ)) → CommandLine
+
+-- the greatest number of turns that the run of a kernel may be given: 2^63 - 1
+unfoldable pub greatest_budget : ℕ
+greatest_budget = 9223372036854775807
 
 -- the word begins with `-` (45), and isn't `-` alone
 abbrev pub is_option : List ℕ → Bool
@@ -98,14 +104,16 @@ over_line task None = None
 over_line task (Some behind) = statement_line task (unwrap_or behind.over Ring) behind.operands
 
 -- digits, after a `+` or none, whose number is no greater than the limit
-abbrev pub is_size : List ℕ → Bool
-is_size text =
+abbrev pub is_number : ℕ → List ℕ → Bool
+is_number limit text =
     let digits = without_leading_plus text in
-    nat_lt 0 (length digits) && (list_all (λ d. nat_lt (digit_value d) 10) digits
-    && nat_le (digits_value 10 digits) greatest_workload)
+    nat_lt 0 (length digits) && (list_all (λ d. nat_lt (digit_value d) 10) digits && nat_le (digits_value 10 digits) limit)
+
+abbrev pub number_in : List ℕ → ℕ
+number_in text = digits_value 10 (without_leading_plus text)
 
 abbrev pub size_line : List ℕ → Option CommandLine
-size_line text = if is_size text then Some (Workload (digits_value 10 (without_leading_plus text))) else None
+size_line text = if is_number greatest_workload text then Some (Workload (number_in text)) else None
 
 -- N alone
 abbrev pub workload_line : Option (List (List ℕ)) → Option CommandLine
@@ -114,6 +122,18 @@ workload_line (Some []) = None
 workload_line (Some (size ∷ [])) = size_line size
 workload_line (Some (size ∷ more ∷ rest)) = None
 
+-- PATH, N, EXPR, and any number of WORDs; there is no option
+abbrev pub budget_line : List ℕ → List ℕ → List ℕ → List (List ℕ) → Option CommandLine
+budget_line path budget expr words =
+    if is_number greatest_budget budget then Some (Exec path (number_in budget) expr words) else None
+
+abbrev pub exec_line : Option (List (List ℕ)) → Option CommandLine
+exec_line None = None
+exec_line (Some []) = None
+exec_line (Some (path ∷ [])) = None
+exec_line (Some (path ∷ budget ∷ [])) = None
+exec_line (Some (path ∷ budget ∷ expr ∷ words)) = budget_line path budget expr words
+
 abbrev pub line_of_command : List ℕ → List (List ℕ) → Option CommandLine
 line_of_command command rest =
     if bytes_eq (codes "run") command then over_line Run (words_from false rest)
@@ -121,7 +141,8 @@ line_of_command command rest =
     else (if bytes_eq (codes "report") command then over_line Report (words_from false rest)
     else (if bytes_eq (codes "auto") command then over_line Auto (words_from false rest)
     else (if bytes_eq (codes "plan") command then plan_line (operands rest)
-    else (if bytes_eq (codes "gen") command then workload_line (operands rest) else None)))))
+    else (if bytes_eq (codes "gen") command then workload_line (operands rest)
+    else (if bytes_eq (codes "exec") command then exec_line (operands rest) else None))))))
 
 -- the program's name, a command and its operands
 abbrev pub command_line_of : List (List ℕ) → Option CommandLine

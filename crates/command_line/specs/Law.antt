@@ -5,7 +5,7 @@ use Rattle.clap.specs.Lexer.{usize_max}
 use Rattle.clap.specs.Takes.{takes}
 use Rattle.clap.specs.declared.builder.value_parser.ValueParser.{ValueParser}
 use Rattle.limits.specs.Limits.{greatest_workload}
-use Rattle.command_line.specs.CommandLine.{CommandLine, Workload, command_line_of}
+use Rattle.command_line.specs.CommandLine.{CommandLine, Workload, Exec, command_line_of, greatest_budget}
 use Rattle.command_line.specs.Clap.{TakesNames, taco_app, clap_line}
 
 -- `clap` takes the words exactly where they are a line, and its matches then say that line
@@ -28,3 +28,8 @@ IsUntold words = (names : ValueParser) → TakesNames names → takes (taco_app 
 -- a workload's size is within the limit
 abbrev pub AreLimited : Type 0
 AreLimited = (words : List (List ℕ)) (size : ℕ) → command_line_of words ≡ Some (Workload size) → size ≤ greatest_workload
+
+-- the turns that a kernel's run may take are, too
+abbrev pub HaveFewTurns : Type 0
+HaveFewTurns = (words : List (List ℕ)) (path : List ℕ) (budget : ℕ) (expr : List ℕ) (rest : List (List ℕ))
+    → command_line_of words ≡ Some (Exec path budget expr rest) → budget ≤ greatest_budget

@@ -2,15 +2,15 @@
 #![tactic(auto)]
 
 ghost use Rattle.std.specs.Prelude.{◌≡◌, IfOk, IfErr, true, false, Some, None, map, string_bytes, [], codes, option_map, option_and_then};
-ghost use Rattle.std.specs.Prelude.{unwrap_or};
+ghost use Rattle.std.specs.Prelude.{unwrap_or, ◌<◌, ◌^◌};
 ghost use Rattle.clap.specs.Words.{app_of, subcommand_of, subcommand_rows_of, takes, fault_of, all_of, first_of, one_of, rows_of, found_of};
 ghost use Rattle.clap.specs.Words.{kind_of};
 ghost use Rattle.clap.specs.Walk.{rule_of};
 ghost use Rattle.clap.specs.declared.builder.command.Command.TheViews.{out-Command};
 ghost use Rattle.limits.specs.Limits.{greatest_workload};
-ghost use Rattle.command_line.specs.CommandLine.{command_line_of, over_named};
-ghost use Rattle.command_line.specs.Clap.{TakesNames, over_rule, plan_app, statement_app, workload_app, taco_app};
-ghost use Rattle.command_line.specs.Clap.{matched_line, over_matched, statement_matched, task_of, u64_read};
+ghost use Rattle.command_line.specs.CommandLine.{command_line_of, greatest_budget, over_named};
+ghost use Rattle.command_line.specs.Clap.{TakesNames, budget_app, budget_rule, exec_app, over_rule, plan_app, statement_app, workload_app, taco_app};
+ghost use Rattle.command_line.specs.Clap.{exec_matched, matched_line, over_matched, statement_matched, task_of, u64_read};
 ghost use Rattle.command_line.specs.Told.{told, IsUsage};
 ghost use Rattle.command_line.specs.Law.{IsToldOf, IsUntold};
 
@@ -60,6 +60,13 @@ pub enum Request<'a> {
     /// N, the size of the generated workload.
     Workload {
         size: u64,
+    },
+    /// PATH, the file of a kernel; N, the turns that its run may take; the text of EXPR, and the WORDs behind it in order.
+    Exec {
+        path: &'a str,
+        budget: u64,
+        expr: &'a str,
+        words: Vec<&'a str>,
     },
 }
 
@@ -117,11 +124,12 @@ fn statement_command<'a>(
     Ok(command)
 }
 
-/// A workload's size, within the limit.
-fn size_parser<'a>() -> ValueParser<'a>
-    ensures { result ≡ ValueParser.Unsigned 0 greatest_workload }
+/// A whole number that is no greater than this one.
+fn number_parser<'a>(greatest: u64) -> ValueParser<'a>
+    requires { greatest < 2 ^ 63 }
+    ensures { result ≡ ValueParser.Unsigned 0 greatest }
 {
-    value_parser!(u64).range(0..=greatest_size_of_workload() as i64)
+    value_parser!(u64).range(0..=greatest as i64)
 }
 
 /// The subcommand of one N.
@@ -131,8 +139,47 @@ fn workload_command<'a>(alloc: Global) -> Result<Command<'a>, AllocError>
 {
     let size = Arg::new(alloc, "N")
         .required(true)
-        .value_parser(size_parser());
+        .value_parser(number_parser(greatest_size_of_workload()));
     let command = Command::new(alloc, "gen").arg(size)?;
+    Ok(command)
+}
+
+/// The greatest number of turns that the run of a kernel may be given.
+fn greatest_turns() -> u64
+    ensures { result ≡ greatest_budget }
+{
+    i64::MAX as u64
+}
+
+/// The turns that a run may be given.
+fn budget_argument<'a>(alloc: Global) -> Arg<'a>
+    ensures rule { rule_of result ≡ budget_rule }
+    ensures local { result.global ≡ false }
+{
+    Arg::new(alloc, "N")
+        .required(true)
+        .value_parser(number_parser(greatest_turns()))
+}
+
+/// A subcommand of one PATH and one N so far.
+fn budget_command<'a>(alloc: Global) -> Result<Command<'a>, AllocError>
+    ensures app { IfOk result (λ c. app_of c ≡ budget_app) }
+    ensures local { IfOk result (λ c. (out-Command c).has_globals ≡ false) }
+{
+    let path = Arg::new(alloc, "PATH").required(true);
+    let budget = budget_argument(alloc);
+    let command = Command::new(alloc, "exec").arg(path)?.arg(budget)?;
+    Ok(command)
+}
+
+/// The subcommand of one PATH, one N, one EXPR and any number of WORDs, and of no option.
+fn exec_command<'a>(alloc: Global) -> Result<Command<'a>, AllocError>
+    ensures app { IfOk result (λ c. app_of c ≡ exec_app) }
+    ensures local { IfOk result (λ c. (out-Command c).has_globals ≡ false) }
+{
+    let expr = Arg::new(alloc, "EXPR").required(true);
+    let word = Arg::new(alloc, "WORD").num_args(0..);
+    let command = budget_command(alloc)?.arg(expr)?.arg(word)?;
     Ok(command)
 }
 
@@ -146,6 +193,7 @@ fn taco_command<'a>(alloc: Global, parser: ValueParser<'a>) -> Result<Command<'a
     let auto = statement_command(alloc, parser, "auto")?;
     let plan = plan_command(alloc)?;
     let workload = workload_command(alloc)?;
+    let exec = exec_command(alloc)?;
     let command = Command::new(alloc, "taco")
         .disable_help_flag(true)
         .disable_help_subcommand(true)
@@ -155,7 +203,8 @@ fn taco_command<'a>(alloc: Global, parser: ValueParser<'a>) -> Result<Command<'a
         .subcommand(report)?
         .subcommand(auto)?
         .subcommand(plan)?
-        .subcommand(workload)?;
+        .subcommand(workload)?
+        .subcommand(exec)?;
     Ok(command)
 }
 
@@ -186,6 +235,13 @@ fn parse_words<'a>(
         },
         Err(_) => Err(RequestFault::Memory),
     }
+}
+
+/// The text of PATH.
+fn path_of<'a>(matches: &ArgMatches<'a>) -> Option<&'a str>
+    ensures { option_map (λ s. s.now) result ≡ first_of (codes "PATH") (rows_of (found_of matches.now)) }
+{
+    matches.get_str("PATH")
 }
 
 /// The text of EXPR.
@@ -228,7 +284,7 @@ fn words_of<'a>(alloc: Global, matches: &ArgMatches<'a>) -> Result<Vec<&'a str>,
 }
 
 /// The number N.
-fn size_of(matches: &ArgMatches<'_>) -> Option<u64>
+fn number_of(matches: &ArgMatches<'_>) -> Option<u64>
     ensures { result ≡ option_and_then u64_read (one_of (codes "N") (rows_of (found_of matches.now))) }
 {
     matches.get_one::<u64>("N")
@@ -268,6 +324,22 @@ fn statement_of<'a>(
     }
 }
 
+/// The run of a kernel's file that the matches of a subcommand say.
+fn exec_of<'a>(alloc: Global, matches: &ArgMatches<'a>) -> Result<Option<Request<'a>>, AllocError>
+    ensures { IfOk result (λ r. option_map told r ≡ exec_matched (rows_of (found_of matches.now))) }
+{
+    let words = words_of(alloc, matches)?;
+    match (path_of(matches), number_of(matches), expr_of(matches)) {
+        (Some(path), Some(budget), Some(expr)) => Ok(Some(Request::Exec {
+            path,
+            budget,
+            expr,
+            words,
+        })),
+        _ => Ok(None),
+    }
+}
+
 /// What the matches of a subcommand say, by its name.
 fn request_of<'a>(
     alloc: Global,
@@ -277,7 +349,10 @@ fn request_of<'a>(
     ensures { IfOk result (λ r. option_map told r ≡ matched_line (name.now, rows_of (found_of matches.now))) }
 {
     if name == "gen" {
-        return Ok(size_of(matches).map(|size| Request::Workload { size }));
+        return Ok(number_of(matches).map(|size| Request::Workload { size }));
+    }
+    if name == "exec" {
+        return exec_of(alloc, matches);
     }
     match task_named(name) {
         Some(task) => statement_of(alloc, task, matches),

@@ -24,6 +24,8 @@ use Rattle.text_lines.specs.declared.line_kind.LineKind.{LineKind}
 use Rattle.text_lines.specs.declared.line_kind.LineKind.TheVariants as line
 use Rattle.refusals.specs.declared.fault.NamedFault.{NamedFault}
 use Rattle.refusals.specs.declared.fault.NamedFault.TheVariants as named
+use Rattle.refusals.specs.declared.fault.KernelFault.{KernelFault}
+use Rattle.refusals.specs.declared.fault.KernelFault.TheVariants as kernel
 use Rattle.refusals.specs.declared.fault.Fault.{Fault}
 use Rattle.refusals.specs.declared.fault.Fault.TheVariants as fault
 use Rattle.text_lines.specs.Pieces.{joined}
@@ -57,6 +59,13 @@ named_status (named.Range (range.OutOfRange tensor coordinate exact)) = 1
 named_status (named.Range (range.Memory error)) = 5
 named_status (named.SizeLimit large) = 6
 
+abbrev pub kernel_status : KernelFault → ℕ
+kernel_status (kernel.KernelDepth path number) = 6
+kernel_status (kernel.BadKernel path number) = 1
+kernel_status (kernel.Trap statement) = 1
+kernel_status (kernel.Budget turns) = 6
+kernel_status kernel.BadStore = 1
+
 abbrev pub status_of : Fault → ℕ
 status_of fault.Usage = 2
 status_of (fault.Notation why) = notation_status why
@@ -66,6 +75,7 @@ status_of (fault.WorkspaceLimit count) = 6
 status_of (fault.ReadFault path) = 3
 status_of (fault.FileBytes path) = 6
 status_of (fault.BadFile path number kind) = 1
+status_of (fault.Kernel why) = kernel_status why
 status_of (fault.WriteFault path) = 4
 status_of fault.Memory = 5
 
@@ -198,10 +208,28 @@ file_bytes_text path limit = of_name path (codes ": more than " ∷ decimal limi
 abbrev pub bad_line_text : List ℕ → ℕ → LineKind → List ℕ
 bad_line_text path number kind = of_name path (codes ": line " ∷ decimal number ∷ kind_text kind ∷ [])
 
+-- a line of a kernel's file is bad; its run can't go on at a statement, wants more turns than it was given, or leaves no storage
+abbrev pub kernel_line_text : List ℕ → ℕ → List ℕ → List ℕ
+kernel_line_text path number text = of_name path (codes ": line " ∷ decimal number ∷ text ∷ [])
+
+abbrev pub trap_text : ℕ → List ℕ
+trap_text statement = joined (codes "taco: trap at statement " ∷ decimal statement ∷ codes "\n" ∷ [])
+
+abbrev pub budget_text : ℕ → List ℕ
+budget_text turns = joined (codes "taco: budget of " ∷ decimal turns ∷ codes " turns used\n" ∷ [])
+
+abbrev pub kernel_line : KernelFault → List ℕ
+kernel_line (kernel.KernelDepth path number) = kernel_line_text path.now number (codes ": KernelDepth\n")
+kernel_line (kernel.BadKernel path number) = kernel_line_text path.now number (codes ": BadKernel\n")
+kernel_line (kernel.Trap statement) = trap_text statement
+kernel_line (kernel.Budget turns) = budget_text turns
+kernel_line kernel.BadStore = codes "taco: the kernel left no storage\n"
+
 -- how a command line may be
 abbrev pub usage_line : List ℕ
 usage_line = codes "usage: taco run [--over S] EXPR WORD.. | taco kernel [--over S] EXPR WORD.. | "
-    ++ codes "taco report [--over S] EXPR WORD.. | taco gen N | taco auto [--over S] EXPR WORD.. | taco plan EXPR WORD..\n"
+    ++ codes "taco report [--over S] EXPR WORD.. | taco gen N | taco auto [--over S] EXPR WORD.. | taco plan EXPR WORD.. | "
+    ++ codes "taco exec PATH N EXPR WORD..\n"
 
 abbrev pub line_of : Fault → List ℕ
 line_of fault.Usage = usage_line
@@ -212,6 +240,7 @@ line_of (fault.WorkspaceLimit count) = workspace_text count
 line_of (fault.ReadFault path) = of_name path.now (codes ": read fault\n" ∷ [])
 line_of (fault.FileBytes path) = file_bytes_text path.now greatest_file_bytes
 line_of (fault.BadFile path number kind) = bad_line_text path.now number kind
+line_of (fault.Kernel why) = kernel_line why
 line_of (fault.WriteFault None) = codes "taco: standard output: write fault\n"
 line_of (fault.WriteFault (Some path)) = of_name path.now (codes ": write fault\n" ∷ [])
 line_of fault.Memory = memory_line

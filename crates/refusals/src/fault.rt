@@ -1,6 +1,6 @@
 // The faults of all layers, gathered.
 ghost use Rattle.std.specs.Prelude.{◌≡◌};
-ghost use Rattle.refusals.specs.Lines.{status_of, notation_status, named_status};
+ghost use Rattle.refusals.specs.Lines.{status_of, notation_status, named_status, kernel_status};
 ghost use Rattle.refusals.specs.declared.fault.Fault.TheVariants.{Memory};
 
 use bindings::{BindingFault, WordFault};
@@ -24,6 +24,21 @@ pub enum NamedFault {
     Range(RangeFault),
     /// This level would have more positions than may be.
     SizeLimit(LargeLevel),
+}
+
+/// Why no kernel is read from a file, or the run of one that was read has no result.
+#[derive(Debug, Drop)]
+pub enum KernelFault<'a> {
+    /// This line of this file, counted from 1, opens a bracket where too many are open.
+    KernelDepth { path: &'a str, line: u64 },
+    /// This line of this file, counted from 1, is the first with which no kernel's text begins.
+    BadKernel { path: &'a str, line: u64 },
+    /// The run can't go on at this statement, counted from 1 in the order of first lines.
+    Trap { statement: u64 },
+    /// The run would take more turns than these, which it was given.
+    Budget { turns: u64 },
+    /// The run ends, and what it leaves is no storage of the result's format.
+    BadStore,
 }
 
 /// Why a command ends without its result.
@@ -52,6 +67,8 @@ pub enum Fault<'a> {
         line: u64,
         kind: LineKind,
     },
+    /// A kernel that is given in a file isn't read, or its run has no result.
+    Kernel(KernelFault<'a>),
     /// Writing the result failed: to this path, or to the output.
     WriteFault(Option<&'a str>),
     /// Memory was wanted.
@@ -68,6 +85,7 @@ impl<'a> Fault<'a> {
             Fault::Notation(fault) => status_of_notation(fault),
             Fault::Named { fault, .. } => status_of_named(fault),
             Fault::NoMinus(_) | Fault::BadFile { .. } => 1,
+            Fault::Kernel(fault) => status_of_kernel(fault),
             Fault::ReadFault(_) => 3,
             Fault::WriteFault(_) => 4,
             Fault::FileBytes(_) | Fault::WorkspaceLimit(_) => 6,
@@ -115,5 +133,15 @@ fn status_of_named(fault: &NamedFault) -> u8
             5,
         NamedFault::Binding(_) | NamedFault::Range(_) => 1,
         NamedFault::SizeLimit(_) => 6,
+    }
+}
+
+/// The status of a kernel that isn't read, or whose run has no result.
+fn status_of_kernel(fault: &KernelFault<'_>) -> u8
+    ensures { result ≡ kernel_status fault.now }
+{
+    match fault {
+        KernelFault::BadKernel { .. } | KernelFault::Trap { .. } | KernelFault::BadStore => 1,
+        KernelFault::KernelDepth { .. } | KernelFault::Budget { .. } => 6,
     }
 }

@@ -4,5 +4,5 @@
 mod fault;
 mod line;
 
-pub use fault::{Fault, NamedFault};
+pub use fault::{Fault, KernelFault, NamedFault};
 pub use line::put_line;

@@ -8,8 +8,9 @@ ghost use Rattle.index_notation.specs.declared.fault.NotationFault.TheVariants a
 ghost use Rattle.refusals.specs.Lines.{of_word, of_name, limit_at, too_many_at, notation_line, name_line, word_line, bad_format_text};
 ghost use Rattle.refusals.specs.Lines.{binding_line, no_range_text, conflict_text, above_text, range_line, size_text, workspace_text};
 ghost use Rattle.refusals.specs.Lines.{names_behind, cycle_text, named_line, no_minus_text, kind_text, file_bytes_text, bad_line_text, line_of};
+ghost use Rattle.refusals.specs.Lines.{kernel_line_text, trap_text, budget_text, kernel_line};
 
-use crate::fault::{Fault, NamedFault};
+use crate::fault::{Fault, KernelFault, NamedFault};
 use bindings::{BindingFault, WordFault, name_at};
 use expr_terms::{NameFault, RangeFault};
 use format_spec::FormatFault;
@@ -27,7 +28,7 @@ const MEMORY: &[u8] = b"taco: out of memory\n";
 const USAGE: &[u8] =
     b"usage: taco run [--over S] EXPR WORD.. | taco kernel [--over S] EXPR WORD.. | \
       taco report [--over S] EXPR WORD.. | taco gen N | taco auto [--over S] EXPR WORD.. | \
-      taco plan EXPR WORD..\n";
+      taco plan EXPR WORD.. | taco exec PATH N EXPR WORD..\n";
 
 /// What is wrong with a format.
 fn text_of_format(fault: FormatFault) -> &'static [u8]
@@ -521,6 +522,76 @@ fn put_bad_line<S: Sink>(sink: &mut S, path: &str, line: u64, kind: LineKind) ->
     put_pieces(sink, &pieces)
 }
 
+/// Appends the line that says this of a line of a kernel's file.
+fn put_kernel_line<'x, S: Sink>(
+    sink: &mut S,
+    path: &'x str,
+    line: u64,
+    text: &'x [u8],
+) -> Result<(), Refusal>
+    ensures whole { OnOk result (Appends (S.state sink.old) (S.state sink.new) (kernel_line_text path.now line text.now)) }
+    ensures part { IfErr result (AppendsPart (S.state sink.old) (S.state sink.new) (kernel_line_text path.now line text.now)) }
+{
+    let pieces = [
+        Piece::Text(b"taco: "),
+        Piece::Text(path.as_bytes()),
+        Piece::Text(b": line "),
+        Piece::Number(line),
+        Piece::Text(text),
+    ];
+    put_pieces(sink, &pieces)
+}
+
+/// Appends the line of a run that can't go on at this statement.
+fn put_trap<S: Sink>(sink: &mut S, statement: u64) -> Result<(), Refusal>
+    ensures whole { OnOk result (Appends (S.state sink.old) (S.state sink.new) (trap_text statement)) }
+    ensures part { IfErr result (AppendsPart (S.state sink.old) (S.state sink.new) (trap_text statement)) }
+{
+    let pieces = [
+        Piece::Text(b"taco: trap at statement "),
+        Piece::Number(statement),
+        Piece::Text(b"\n"),
+    ];
+    put_pieces(sink, &pieces)
+}
+
+/// Appends the line of a run that used all the turns that it was given.
+fn put_budget<S: Sink>(sink: &mut S, turns: u64) -> Result<(), Refusal>
+    ensures whole { OnOk result (Appends (S.state sink.old) (S.state sink.new) (budget_text turns)) }
+    ensures part { IfErr result (AppendsPart (S.state sink.old) (S.state sink.new) (budget_text turns)) }
+{
+    let pieces = [
+        Piece::Text(b"taco: budget of "),
+        Piece::Number(turns),
+        Piece::Text(b" turns used\n"),
+    ];
+    put_pieces(sink, &pieces)
+}
+
+/// Appends the line of a kernel that isn't read, or whose run has no result.
+fn put_kernel_fault<S: Sink>(sink: &mut S, fault: &KernelFault<'_>) -> Result<(), Refusal>
+    ensures whole { OnOk result (Appends (S.state sink.old) (S.state sink.new) (kernel_line fault.now)) }
+    ensures part { IfErr result (AppendsPart (S.state sink.old) (S.state sink.new) (kernel_line fault.now)) }
+{
+    match fault {
+        KernelFault::KernelDepth { path, line } => put_kernel_line(
+            sink,
+            path,
+            *line,
+            b": KernelDepth\n",
+        ),
+        KernelFault::BadKernel { path, line } => put_kernel_line(
+            sink,
+            path,
+            *line,
+            b": BadKernel\n",
+        ),
+        KernelFault::Trap { statement } => put_trap(sink, *statement),
+        KernelFault::Budget { turns } => put_budget(sink, *turns),
+        KernelFault::BadStore => put_all(sink, b"taco: the kernel left no storage\n"),
+    }
+}
+
 /// Appends the line of a fault. It takes no memory but what the sink takes. After a refusal of the sink a part of the line at its
 /// front was appended.
 pub fn put_line<S: Sink>(sink: &mut S, fault: &Fault<'_>) -> Result<(), Refusal>
@@ -536,6 +607,7 @@ pub fn put_line<S: Sink>(sink: &mut S, fault: &Fault<'_>) -> Result<(), Refusal>
         Fault::ReadFault(path) => put_of_path(sink, path, b": read fault\n"),
         Fault::FileBytes(path) => put_file_bytes(sink, path, greatest_bytes_of_file()),
         Fault::BadFile { path, line, kind } => put_bad_line(sink, path, *line, *kind),
+        Fault::Kernel(fault) => put_kernel_fault(sink, fault),
         Fault::WriteFault(None) => put_all(sink, b"taco: standard output: write fault\n"),
         Fault::WriteFault(Some(path)) => put_of_path(sink, path, b": write fault\n"),
         Fault::Memory => put_all(sink, MEMORY),

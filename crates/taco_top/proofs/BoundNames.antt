@@ -1,5 +1,5 @@
 -- What the words bind to a statement's names is what they ask for.
-use Rattle.std.specs.Prelude.{◌≡◌, ℕ, List, map, Result, Ok, Err, IsErrAnd, MatchResult, refl}
+use Rattle.std.specs.Prelude.{◌≡◌, ℕ, true, List, map, Result, Ok, Err, IsErrAnd, MatchResult, refl}
 use Rattle.std.proofs.Common.{sym, subst}
 use Rattle.index_notation.specs.Notation.{IsNotationOf}
 use Rattle.index_notation.specs.Statement.{IsNumbered}
@@ -12,7 +12,10 @@ use Rattle.refusals.specs.declared.fault.NamedFault.TheVariants as named
 use Rattle.refusals.specs.declared.fault.Fault.{Fault}
 use Rattle.refusals.specs.declared.fault.Fault.TheVariants as fault
 use Rattle.expr_terms.specs.Names.{HasNoNameFault}
-use Rattle.taco_top.specs.Asked.{Asks, AsksOf, Names, IsRefusedByWords, IsBindingFault, IsBindingRefused, IsMinusRefused, needs_files}
+use Rattle.taco_top.specs.Asked.{Asks, AsksOf, Names, IsRefusedByWords, IsBindingFault, IsBindingRefused, IsMinusRefused, IsTextRefused}
+use Rattle.taco_top.specs.Asked.{needs_files}
+use Rattle.taco_top.specs.Exec.{AsksExec, AsksExecOf, ExecNames, ExecRequest, IsExecRefused, exec_request}
+use Rattle.taco_top.specs.declared.asked.Execution.{Execution}
 use Rattle.taco_top.specs.declared.asked.Asked.{Asked}
 
 module _ (words : List (List ℕ)) (task : Task) (over : Over) (s : Statement) (rest : List (List ℕ)) (names : Names words task over s rest)
@@ -56,6 +59,7 @@ module _ (words : List (List ℕ)) (task : Task) (over : Over) (s : Statement) (
   unbound (fault.ReadFault path) is = absurd is
   unbound (fault.FileBytes path) is = absurd is
   unbound (fault.BadFile path line kind) is = absurd is
+  unbound (fault.Kernel why) is = absurd is
   unbound (fault.WriteFault path) is = absurd is
 
   pub asked_for : (result : Result Asked Fault) → MatchResult result IsBound (IsBindingRefused s rest (needs_files task))
@@ -76,6 +80,7 @@ by_minus words task over text rest s line notation names (fault.WorkspaceLimit c
 by_minus words task over text rest s line notation names (fault.ReadFault path) is = absurd is
 by_minus words task over text rest s line notation names (fault.FileBytes path) is = absurd is
 by_minus words task over text rest s line notation names (fault.BadFile path number kind) is = absurd is
+by_minus words task over text rest s line notation names (fault.Kernel why) is = absurd is
 by_minus words task over text rest s line notation names (fault.WriteFault path) is = absurd is
 
 pub minus_refused : (P : Asked → Type 0) (words : List (List ℕ)) (task : Task) (over : Over) (text : List ℕ) (rest : List (List ℕ))
@@ -85,3 +90,77 @@ pub minus_refused : (P : Asked → Type 0) (words : List (List ℕ)) (task : Tas
 minus_refused P words task over text rest s (Ok asked) why line notation names is minus = absurd is
 minus_refused P words task over text rest s (Err other) why line notation names is minus =
     subst (IsRefusedByWords words) (sym is) (by_minus words task over text rest s line notation names why minus)
+
+-- ---- the same of a kernel that is given
+
+module _ (words : List (List ℕ)) (path : List ℕ) (budget : ℕ) (s : Statement) (rest : List (List ℕ))
+    (exec_names : ExecNames words path budget s rest) (numbered : IsNumbered s) where
+  abbrev IsExecBound : Execution → Type 0
+  IsExecBound e = (e.path.now ≡ path) × (e.budget ≡ budget) × (e.statement ≡ s)
+      × Binds s rest true e.bindings.formats.items (map file_in e.bindings.files.entries) e.bindings.ranges.items
+
+  abbrev IsExecFor : Execution → Type 0
+  IsExecFor e = AsksExec words (exec_request e) × IsNumbered e.statement
+
+  -- with the path, the turns and the statement that are kept
+  abbrev kept_request : List ℕ → ℕ → Statement → Execution → ExecRequest
+  kept_request path budget s e = record {
+    path = path;
+    budget = budget;
+    statement = s;
+    formats = e.bindings.formats.items;
+    files = map file_in e.bindings.files.entries;
+    given = e.bindings.ranges.items;
+  }
+
+  exec_bound : (e : Execution) → IsExecBound e → IsExecFor e
+  exec_bound e (path_is, budget_is, statement_is, binds) = (
+    subst (λ p. AsksExec words (kept_request p e.budget e.statement e)) (sym path_is)
+        (subst (λ n. AsksExec words (kept_request path n e.statement e)) (sym budget_is)
+        (subst (λ u. AsksExec words (kept_request path budget u e)) (sym statement_is)
+        (record { rest = rest; names = exec_names; binds = binds }))),
+    subst IsNumbered (sym statement_is) numbered,
+  )
+
+  exec_unbound : (why : Fault) → IsBindingRefused s rest true why → IsExecRefused words why
+  exec_unbound (fault.Named t (named.Binding why)) (same, is) = (
+    path,
+    budget,
+    rest,
+    subst (λ u. ExecNames words path budget u rest) (sym same) exec_names,
+    subst (λ u. IsBindingFault u rest true why) (sym same) is,
+  )
+  exec_unbound fault.Memory is = (path, budget, exec_names.text, rest, exec_names.line)
+  exec_unbound fault.Usage is = absurd is
+  exec_unbound (fault.Notation why) is = absurd is
+  exec_unbound (fault.Named t (named.Name why)) is = absurd is
+  exec_unbound (fault.Named t (named.Cycle cycle)) is = absurd is
+  exec_unbound (fault.Named t (named.Range why)) is = absurd is
+  exec_unbound (fault.Named t (named.SizeLimit large)) is = absurd is
+  exec_unbound (fault.NoMinus name) is = absurd is
+  exec_unbound (fault.WorkspaceLimit count) is = absurd is
+  exec_unbound (fault.ReadFault path) is = absurd is
+  exec_unbound (fault.FileBytes path) is = absurd is
+  exec_unbound (fault.BadFile path line kind) is = absurd is
+  exec_unbound (fault.Kernel why) is = absurd is
+  exec_unbound (fault.WriteFault path) is = absurd is
+
+  pub executed_for : (result : Result Execution Fault) → MatchResult result IsExecBound (IsBindingRefused s rest true)
+      → MatchResult result IsExecFor (IsExecRefused words)
+  executed_for (Ok e) is = exec_bound e is
+  executed_for (Err why) is = exec_unbound why is
+
+-- a text that is no statement's
+pub text_unexecuted : (words : List (List ℕ)) (path : List ℕ) (budget : ℕ) (text : List ℕ) (rest : List (List ℕ))
+    → AsksExecOf words path budget text rest → (why : Fault) → IsTextRefused text why → IsExecRefused words why
+text_unexecuted words path budget text rest line (fault.Notation why) is = (path, budget, text, rest, line, is)
+text_unexecuted words path budget text rest line fault.Memory is = (path, budget, text, rest, line)
+text_unexecuted words path budget text rest line fault.Usage is = absurd is
+text_unexecuted words path budget text rest line (fault.Named t why) is = absurd is
+text_unexecuted words path budget text rest line (fault.NoMinus name) is = absurd is
+text_unexecuted words path budget text rest line (fault.WorkspaceLimit count) is = absurd is
+text_unexecuted words path budget text rest line (fault.ReadFault at) is = absurd is
+text_unexecuted words path budget text rest line (fault.FileBytes at) is = absurd is
+text_unexecuted words path budget text rest line (fault.BadFile at number kind) is = absurd is
+text_unexecuted words path budget text rest line (fault.Kernel why) is = absurd is
+text_unexecuted words path budget text rest line (fault.WriteFault at) is = absurd is

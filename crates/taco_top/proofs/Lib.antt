@@ -1,6 +1,10 @@
 pub mod Accepted
+pub mod Answered
 pub mod BoundNames
 pub mod CycleLaws
+pub mod ExecLines
+pub mod Executes
+pub mod ExecWhole
 pub mod Mended
 pub mod OneRequest
 pub mod Paths

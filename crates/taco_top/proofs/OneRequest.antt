@@ -14,7 +14,7 @@ use Rattle.command_line.specs.declared.Over.{Over}
 use Rattle.command_line.specs.declared.Over.TheVariants.{Ring}
 use Rattle.command_line.specs.declared.Task.{Task}
 use Rattle.command_line.specs.declared.Task.TheVariants.{Run}
-use Rattle.command_line.specs.CommandLine.{CommandLine, Workload, command_line_of}
+use Rattle.command_line.specs.CommandLine.{CommandLine, Exec, Workload, command_line_of}
 use Rattle.command_line.specs.CommandLine as command_line
 use Rattle.bindings.proofs.OneAnswer as bindings
 use Rattle.bindings.specs.Outcome.{Binds}
@@ -30,21 +30,25 @@ abbrev task_of : Option CommandLine → Task
 task_of None = Run
 task_of (Some (command_line.Statement task over expr words)) = task
 task_of (Some (Workload size)) = Run
+task_of (Some (Exec path budget expr words)) = Run
 
 abbrev over_of : Option CommandLine → Over
 over_of None = Ring
 over_of (Some (command_line.Statement task over expr words)) = over
 over_of (Some (Workload size)) = Ring
+over_of (Some (Exec path budget expr words)) = Ring
 
 abbrev expr_of : Option CommandLine → List ℕ
 expr_of None = []
 expr_of (Some (command_line.Statement task over expr words)) = expr
 expr_of (Some (Workload size)) = []
+expr_of (Some (Exec path budget expr words)) = []
 
 abbrev words_of : Option CommandLine → List (List ℕ)
 words_of None = []
 words_of (Some (command_line.Statement task over expr words)) = words
 words_of (Some (Workload size)) = []
+words_of (Some (Exec path budget expr words)) = []
 
 -- two readings of a command line
 one_task : (words : List (List ℕ)) (task other : Task) (over under : Over) (text texts : List ℕ) (rest others : List (List ℕ))
@@ -113,7 +117,7 @@ lacks_none true e meant none stands = absurd (true≢false none)
 lacks_none false e meant none stands = true≢false (sym stands ∙ meant)
 
 -- what is bound isn't refused
-binding_apart : (s : Statement) (words : List (List ℕ)) (need : Bool) (formats : List (List FormatLevel)) (files : List (ℕ × List ℕ))
+pub binding_apart : (s : Statement) (words : List (List ℕ)) (need : Bool) (formats : List (List FormatLevel)) (files : List (ℕ × List ℕ))
     (ranges : List (Option ℕ)) (why : BindingFault) → Binds s words need formats files ranges
     → IsBindingFault s words need why → ⊥
 binding_apart s words need formats files ranges (binding.Word word why) binds is =
@@ -167,6 +171,7 @@ module _ (words : List (List ℕ)) (task : Task) (over : Over) (s : Statement) (
   only_want (fault.ReadFault path) is = is
   only_want (fault.FileBytes path) is = is
   only_want (fault.BadFile path line kind) is = is
+  only_want (fault.Kernel reason) is = is
   only_want (fault.WriteFault path) is = is
   only_want fault.Memory is = is
 
@@ -181,6 +186,7 @@ abbrev IsStatement : Option CommandLine → Type 0
 IsStatement None = ⊥
 IsStatement (Some (command_line.Statement task over expr words)) = Unit {0}
 IsStatement (Some (Workload size)) = ⊥
+IsStatement (Some (Exec path budget expr words)) = ⊥
 
 no_statement : (words : List (List ℕ)) (size : ℕ) (task : Task) (over : Over) (text : List ℕ) (rest : List (List ℕ))
     → command_line_of words ≡ Some (Workload size) → AsksOf words task over text rest → ⊥
@@ -210,5 +216,6 @@ workload_taken words size (fault.WorkspaceLimit count) is h = h
 workload_taken words size (fault.ReadFault path) is h = h
 workload_taken words size (fault.FileBytes path) is h = h
 workload_taken words size (fault.BadFile path line kind) is h = h
+workload_taken words size (fault.Kernel reason) is h = h
 workload_taken words size (fault.WriteFault path) is h = h
 workload_taken words size fault.Memory is h = h

@@ -60,6 +60,7 @@ module _ (over : Values) where
   stops_by_words words (fault.ReadFault path) files is = absurd is
   stops_by_words words (fault.FileBytes path) files is = absurd is
   stops_by_words words (fault.BadFile path line kind) files is = absurd is
+  stops_by_words words (fault.Kernel why) files is = absurd is
   stops_by_words words (fault.WriteFault path) files is = absurd is
   stops_by_words words fault.Memory files is = inl refl
 
@@ -122,6 +123,7 @@ module _ (over : Values) where
     stops_uncomputed (fault.ReadFault path) is = absurd is
     stops_uncomputed (fault.FileBytes path) is = absurd is
     stops_uncomputed (fault.BadFile path line kind) is = absurd is
+    stops_uncomputed (fault.Kernel why) is = absurd is
     stops_uncomputed (fault.WriteFault path) is = absurd is
     stops_uncomputed fault.Memory is = inr (opened words old new r entries bounds operands)
 
@@ -136,6 +138,7 @@ module _ (over : Values) where
   stopped words files files' out (fault.ReadFault path) reads is = record { only_reads = reads; stops = is; out_is = refl }
   stopped words files files' out (fault.FileBytes path) reads is = record { only_reads = reads; stops = is; out_is = refl }
   stopped words files files' out (fault.BadFile path line kind) reads is = record { only_reads = reads; stops = is; out_is = refl }
+  stopped words files files' out (fault.Kernel why) reads is = record { only_reads = reads; stops = is; out_is = refl }
   stopped words files files' out (fault.WriteFault path) reads is = absurd is
   stopped words files files' out fault.Memory reads is = inl (record { only_reads = reads; stops = is; out_is = refl })
 

@@ -29,7 +29,8 @@ use Rattle.taco_top.proofs.OneRequest as request
 use Rattle.taco_top.specs.Run.{Request, AsksFor}
 use Rattle.taco_top.specs.Written.{IsAccepted}
 use Rattle.taco_top.specs.Refused.{HasCycleFault, FailsToWrite, Refuses}
-use Rattle.taco_top.specs.Ends.{Ends, Ending, Written, Printed, Refused, Cause, status_of_end}
+use Rattle.taco_top.specs.Ends.{Ends, Ending, Written, Printed, Refused, Executed, Unexecuted, Cause, status_of_end}
+use Rattle.taco_top.proofs.ExecLines.{no_execution, no_workload, refuses_line}
 use Rattle.taco_top.proofs.WholeLaws.{one_request}
 
 -- ---- a kernel or a plan: what is asked for reads no file, and no cycle refuses it
@@ -66,6 +67,7 @@ module _ (over : Values) (words : List (List ℕ)) (files files' : FolderState) 
   text_refused (fault.ReadFault path) is = absurd (reads_none is.stops.request is.stops.accepted.asks is.stops.reads)
   text_refused (fault.FileBytes path) is = absurd (reads_none is.stops.request is.stops.accepted.asks is.stops.reads)
   text_refused (fault.BadFile path line kind) is = absurd (reads_none is.stops.request is.stops.accepted.asks is.stops.reads)
+  text_refused (fault.Kernel why) is = absurd (never_by_words (fault.Kernel why) is.stops.refused)
   text_refused (fault.WriteFault path) is = absurd (not_failed (option_map (λ p. p.now) path) is)
   text_refused fault.Memory is = refl
 
@@ -73,6 +75,9 @@ module _ (over : Values) (words : List (List ℕ)) (files files' : FolderState) 
   text_ends_well (Written turns) cause = inl refl
   text_ends_well Printed cause = inl refl
   text_ends_well (Refused why) cause = inr (ap status_of (text_refused why cause))
+  text_ends_well (Executed turns) cause = inl refl
+  text_ends_well (Unexecuted why) cause =
+      absurd (no_execution words asks.names.line (refuses_line words files files' out out' why cause))
 
 -- a kernel whose statement has a loop order
 module _ (words : List (List ℕ)) (r : Request) (accepted : IsAccepted words r) (task_is : r.task ≡ task.Kernel) where
@@ -119,23 +124,13 @@ module _ (words : List (List ℕ)) (r : Request) (asks : AsksFor words r) (task_
       never : needs_order task.Plan ≡ true → ⊥
       never e = cc
 
--- ---- a workload
-module _ (over : Values) (words : List (List ℕ)) (files files' : FolderState) (out out' : SinkState) (size : ℕ)
-    (line : command_line_of words ≡ Some (WorkloadLine size)) (no_out : Rose out.faults out'.faults → ⊥) where
-  -- no statement is asked for, and the words are a command line
+-- ---- another line than that of a statement
+module _ (over : Values) (words : List (List ℕ)) (files files' : FolderState) (out out' : SinkState)
+    (no_line : (t : Task) (o : Over) (expr : List ℕ) (rest : List (List ℕ)) → command_line_of words ≡ Some (StatementLine t o expr rest) → ⊥)
+    (some : command_line_of words ≡ None → ⊥) (no_out : Rose out.faults out'.faults → ⊥) where
   no_statement : {t : Task} {o : Over} {expr : List ℕ} {rest : List (List ℕ)}
       → command_line_of words ≡ Some (StatementLine t o expr rest) → ⊥
-  no_statement is = never (sym line ∙ is)
-    where
-      never : {t : Task} {o : Over} {expr : List ℕ} {rest : List (List ℕ)}
-          → Some (WorkloadLine size) ≡ Some (StatementLine t o expr rest) → ⊥
-      never e = cc
-
-  some : command_line_of words ≡ None → ⊥
-  some is = never (sym line ∙ is)
-    where
-      never : Some (WorkloadLine size) ≡ None → ⊥
-      never e = cc
+  no_statement {t} {o} {expr} {rest} is = no_line t o expr rest is
 
   by_notation : (why : NotationFault) → IsRefusedByWords words (fault.Notation why) → ⊥
   by_notation why (t, o, text, rest, is, other) = no_statement is
@@ -153,28 +148,49 @@ module _ (over : Values) (words : List (List ℕ)) (files files' : FolderState) 
   unfailed path (inl is) = no_statement is.values.operands.accepted.asks.names.line
   unfailed path (inr is) = no_out is.1.puts.cause.0.rose
 
-  workload_refused : (why : Fault) → Refuses over words files files' out out' why → why ≡ fault.Memory
-  workload_refused fault.Usage is = absurd (some is.stops.refused)
-  workload_refused (fault.Notation why) is = absurd (by_notation why is.stops.refused)
-  workload_refused (fault.NoMinus name) is = absurd (by_minus name is.stops.refused)
-  workload_refused (fault.Named s (named.Name why)) is = absurd (by_name s why is.stops.refused)
-  workload_refused (fault.Named s (named.Binding why)) is = absurd (by_binding s why is.stops.refused)
-  workload_refused (fault.Named s (named.Cycle cycle)) is = absurd (no_statement is.stops.1.asks.names.line)
-  workload_refused (fault.Named s (named.Range why)) is = absurd (no_statement is.stops.operands.accepted.asks.names.line)
-  workload_refused (fault.Named s (named.SizeLimit large)) is =
+  pub other_refused : (why : Fault) → Refuses over words files files' out out' why → why ≡ fault.Memory
+  other_refused fault.Usage is = absurd (some is.stops.refused)
+  other_refused (fault.Notation why) is = absurd (by_notation why is.stops.refused)
+  other_refused (fault.NoMinus name) is = absurd (by_minus name is.stops.refused)
+  other_refused (fault.Named s (named.Name why)) is = absurd (by_name s why is.stops.refused)
+  other_refused (fault.Named s (named.Binding why)) is = absurd (by_binding s why is.stops.refused)
+  other_refused (fault.Named s (named.Cycle cycle)) is = absurd (no_statement is.stops.1.asks.names.line)
+  other_refused (fault.Named s (named.Range why)) is = absurd (no_statement is.stops.operands.accepted.asks.names.line)
+  other_refused (fault.Named s (named.SizeLimit large)) is =
       absurd (no_statement is.stops.operands.accepted.asks.names.line)
-  workload_refused (fault.WorkspaceLimit count) is = absurd (no_statement is.stops.operands.accepted.asks.names.line)
-  workload_refused (fault.ReadFault path) is = absurd (no_statement is.stops.accepted.asks.names.line)
-  workload_refused (fault.FileBytes path) is = absurd (no_statement is.stops.accepted.asks.names.line)
-  workload_refused (fault.BadFile path bad kind) is = absurd (no_statement is.stops.accepted.asks.names.line)
-  workload_refused (fault.WriteFault path) is = absurd (unfailed (option_map (λ p. p.now) path) is)
-  workload_refused fault.Memory is = refl
+  other_refused (fault.WorkspaceLimit count) is = absurd (no_statement is.stops.operands.accepted.asks.names.line)
+  other_refused (fault.ReadFault path) is = absurd (no_statement is.stops.accepted.asks.names.line)
+  other_refused (fault.FileBytes path) is = absurd (no_statement is.stops.accepted.asks.names.line)
+  other_refused (fault.BadFile path bad kind) is = absurd (no_statement is.stops.accepted.asks.names.line)
+  other_refused (fault.Kernel why) is = absurd is.stops.refused
+  other_refused (fault.WriteFault path) is = absurd (unfailed (option_map (λ p. p.now) path) is)
+  other_refused fault.Memory is = refl
+
+-- ---- a workload
+module _ (over : Values) (words : List (List ℕ)) (files files' : FolderState) (out out' : SinkState) (size : ℕ)
+    (line : command_line_of words ≡ Some (WorkloadLine size)) (no_out : Rose out.faults out'.faults → ⊥) where
+  -- no statement is asked for, and the words are a command line
+  no_line : (t : Task) (o : Over) (expr : List ℕ) (rest : List (List ℕ)) → command_line_of words ≡ Some (StatementLine t o expr rest) → ⊥
+  no_line t o expr rest is = never (sym line ∙ is)
+    where
+      never : Some (WorkloadLine size) ≡ Some (StatementLine t o expr rest) → ⊥
+      never e = cc
+
+  some : command_line_of words ≡ None → ⊥
+  some is = never (sym line ∙ is)
+    where
+      never : Some (WorkloadLine size) ≡ None → ⊥
+      never e = cc
 
   workload_ends_well : (ended : Ending) → Cause over words files files' out out' ended
       → (status_of_end ended ≡ 0) ⊎ (status_of_end ended ≡ 5)
   workload_ends_well (Written turns) cause = inl refl
   workload_ends_well Printed cause = inl refl
-  workload_ends_well (Refused why) cause = inr (ap status_of (workload_refused why cause))
+  workload_ends_well (Refused why) cause =
+      inr (ap status_of (other_refused over words files files' out out' no_line some no_out why cause))
+  workload_ends_well (Executed turns) cause = inl refl
+  workload_ends_well (Unexecuted why) cause =
+      absurd (no_workload words size line (refuses_line words files files' out out' why cause))
 
 pub kernel_ends : (words : List (String Global)) (request : Request) (files files' : FolderState) (out out' err err' : SinkState)
     (status : ℕ) → IsAccepted (map string_bytes words) request → request.task ≡ task.Kernel → (Rose out.faults out'.faults → ⊥)

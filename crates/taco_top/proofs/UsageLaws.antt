@@ -11,7 +11,9 @@ use Rattle.expr_terms.specs.declared.range_fault.RangeFault.TheVariants as range
 use Rattle.bindings.specs.declared.fault.WordFault.{WordFault}
 use Rattle.bindings.specs.declared.fault.WordFault.TheVariants.{BadBinding, UnknownName, Twice, NotMatrix, RangeLimit}
 use Rattle.bindings.specs.declared.fault.BindingFault.TheVariants as binding
-use Rattle.refusals.specs.Lines.{named_status, notation_status, status_of, word_status}
+use Rattle.refusals.specs.Lines.{kernel_status, named_status, notation_status, status_of, word_status}
+use Rattle.refusals.specs.declared.fault.KernelFault.{KernelFault}
+use Rattle.refusals.specs.declared.fault.KernelFault.TheVariants as kernel
 use Rattle.refusals.specs.declared.fault.NamedFault.{NamedFault}
 use Rattle.refusals.specs.declared.fault.NamedFault.TheVariants as named
 use Rattle.refusals.specs.declared.fault.Fault.TheVariants as fault
@@ -20,7 +22,8 @@ use Rattle.taco_top.specs.Values.{Values, values_in}
 use Rattle.taco_top.specs.Asked.{IsRefusedByWords}
 use Rattle.taco_top.specs.Told.{Tells}
 use Rattle.taco_top.specs.Refused.{FailsToWrite}
-use Rattle.taco_top.specs.Ends.{Ends, Ending, Written, Printed, Refused, Cause, status_of_end}
+use Rattle.taco_top.specs.Ends.{Ends, Ending, Written, Printed, Refused, Executed, Unexecuted, Cause, status_of_end}
+use Rattle.taco_top.proofs.ExecLines.{IsExecLine, refuses_line}
 
 apart : {A : Type 0} {x : A} → None ≡ Some x → ⊥
 apart h = cc
@@ -54,6 +57,13 @@ named_not_two (named.Range (range.OutOfRange tensor coordinate exact)) is = cc
 named_not_two (named.Range (range.Memory error)) is = cc
 named_not_two (named.SizeLimit large) is = cc
 
+kernel_not_two : (why : KernelFault) → 2 ≡ kernel_status why → ⊥
+kernel_not_two (kernel.KernelDepth path number) is = cc
+kernel_not_two (kernel.BadKernel path number) is = cc
+kernel_not_two (kernel.Trap statement) is = cc
+kernel_not_two (kernel.Budget turns) is = cc
+kernel_not_two kernel.BadStore is = cc
+
 module _ (over : Values) (words : List (List ℕ)) (files files' : FolderState) (out out' : SinkState) where
   told : (ended : Ending) → 2 ≡ status_of_end ended → Cause over words files files' out out' ended → command_line_of words ≡ None
   told (Written turns) is cause = absurd cc
@@ -66,8 +76,21 @@ module _ (over : Values) (words : List (List ℕ)) (files files' : FolderState) 
   told (Refused (fault.ReadFault path)) is cause = absurd cc
   told (Refused (fault.FileBytes path)) is cause = absurd cc
   told (Refused (fault.BadFile path line kind)) is cause = absurd cc
+  told (Refused (fault.Kernel why)) is cause = absurd (kernel_not_two why is)
   told (Refused (fault.WriteFault path)) is cause = absurd cc
   told (Refused fault.Memory) is cause = absurd cc
+  told (Executed turns) is cause = absurd cc
+  told (Unexecuted fault.Usage) is cause = absurd cause.stops
+  told (Unexecuted (fault.Notation why)) is cause = absurd (notation_not_two why is)
+  told (Unexecuted (fault.NoMinus name)) is cause = absurd cc
+  told (Unexecuted (fault.Named s why)) is cause = absurd (named_not_two why is)
+  told (Unexecuted (fault.WorkspaceLimit count)) is cause = absurd cc
+  told (Unexecuted (fault.ReadFault path)) is cause = absurd cc
+  told (Unexecuted (fault.FileBytes path)) is cause = absurd cc
+  told (Unexecuted (fault.BadFile path line kind)) is cause = absurd cc
+  told (Unexecuted (fault.Kernel why)) is cause = absurd (kernel_not_two why is)
+  told (Unexecuted (fault.WriteFault path)) is cause = absurd cc
+  told (Unexecuted fault.Memory) is cause = absurd cc
 
   -- ---- no other cause has words that are no command line
   module _ (none : command_line_of words ≡ None) where
@@ -112,12 +135,18 @@ module _ (over : Values) (words : List (List ℕ)) (files files' : FolderState) 
     found (Refused (fault.ReadFault path)) cause = absurd (never cause.stops.accepted.asks.names.line)
     found (Refused (fault.FileBytes path)) cause = absurd (never cause.stops.accepted.asks.names.line)
     found (Refused (fault.BadFile path line kind)) cause = absurd (never cause.stops.accepted.asks.names.line)
+    found (Refused (fault.Kernel why)) cause = absurd cause.stops.refused
     found (Refused (fault.WriteFault path)) cause = absurd (by cause)
       where
         by : FailsToWrite over words files files' out out' (option_map (λ p. p.now) path) → ⊥
         by (inl is) = never is.values.operands.accepted.asks.names.line
         by (inr is) = nothing_told is.1.tells
     found (Refused fault.Memory) cause = inr refl
+    found (Executed turns) cause = absurd (never cause.execution.input.asks.names.line)
+    found (Unexecuted why) cause = absurd (by (refuses_line words files files' out out' why cause))
+      where
+        by : IsExecLine words → ⊥
+        by (path, budget, text, rest, line) = never line
 
 pub usage_told : (words : List (String Global)) (files files' : FolderState) (out out' err err' : SinkState)
     → Ends words files files' out out' err err' 2 → command_line_of (map string_bytes words) ≡ None

@@ -9,7 +9,7 @@ use Rattle.numbers.specs.Arithmetic.{Laws}
 use Rattle.numbers.specs.RingLaws.{ring_laws}
 use Rattle.semirings.specs.MinPlus.{length_laws}
 use Rattle.semirings.specs.Bits.{flag_laws}
-use Rattle.command_line.specs.CommandLine.{CommandLine, Statement as StatementLine, Workload, command_line_of}
+use Rattle.command_line.specs.CommandLine.{CommandLine, Exec, Statement as StatementLine, Workload, command_line_of}
 use Rattle.command_line.specs.declared.Over.{Over}
 use Rattle.command_line.specs.declared.Over.TheVariants as semiring
 use Rattle.outside.specs.Count.{Rose}
@@ -47,6 +47,7 @@ use Rattle.refusals.specs.declared.fault.Fault.TheVariants as fault
 use Rattle.refusals.specs.Lines.{status_of}
 use Rattle.taco_top.specs.Values.{Values, values_of, values_of_line, values_in}
 use Rattle.taco_top.specs.Asked.{IsRefusedByWords, IsWant, needs_order}
+use Rattle.taco_top.proofs.ExecLines.{no_execution, refuses_line}
 use Rattle.taco_top.proofs.OneRequest as request
 use Rattle.taco_top.specs.Run.{Request, AsksFor, operand_path, path_of}
 use Rattle.taco_top.specs.Stored.{IsRunBy, IsLargeStoredLevel, NeedsStoredPairs, stored_statement, stored_formats, stored_entries}
@@ -54,7 +55,7 @@ use Rattle.taco_top.specs.Prepared.{MayRefuseStored}
 use Rattle.taco_top.specs.Written.{means, asked_orders, asked_paths, HasOperands, HasResult, result_ranges, result_value, IsWritten}
 use Rattle.taco_top.specs.Refused.{StopsReading, HasCycleFault, HasRangeFault, HasLargeLevel}
 use Rattle.taco_top.specs.Refused.{HasManyPairs, Stops, IsUnwritten, FailsToWrite}
-use Rattle.taco_top.specs.Ends.{Ends, Ending, Written, Printed, Refused, Cause, status_of_end}
+use Rattle.taco_top.specs.Ends.{Ends, Ending, Written, Printed, Refused, Executed, Unexecuted, Cause, status_of_end}
 use Rattle.taco_top.specs.Whole.{IsWhole, modes_told, bound_told}
 
 -- ---- bounds that are lent say what they hold
@@ -64,18 +65,18 @@ modes_same [] (suc n) = refl
 modes_same (modes ∷ bounds) (suc zero) = refl
 modes_same (modes ∷ bounds) (suc (suc n)) = modes_same bounds (suc n)
 
-bounds_same : (bounds : List (Vec Bound Global)) → bound_at bounds ≡ bound_told (map (λ b. b.items) bounds)
+pub bounds_same : (bounds : List (Vec Bound Global)) → bound_at bounds ≡ bound_told (map (λ b. b.items) bounds)
 bounds_same bounds = λ i tensor mode. bound_or_none (slice_get (modes_same bounds tensor i) mode)
 
-abbrev ok_of : {A B : Type 0} → A → Result A B → A
+abbrev pub ok_of : {A B : Type 0} → A → Result A B → A
 ok_of d (Ok x) = x
 ok_of d (Err y) = d
 
-apart : {A B : Type 0} {x : A} {y : B} → Ok x ≡ Err y → ⊥
+pub apart : {A B : Type 0} {x : A} {y : B} → Ok x ≡ Err y → ⊥
 apart h = cc
 
 -- a refused writing counted a fault
-fault_rose : (path : Option (List ℕ)) (text : List ℕ) (between files' : FolderState) (out out' : SinkState)
+pub fault_rose : (path : Option (List ℕ)) (text : List ℕ) (between files' : FolderState) (out out' : SinkState)
     → PutsPart path text between files' out out' write.Fault
     → Rose between.write_faults files'.write_faults ⊎ Rose out.faults out'.faults
 fault_rose None text between files' out out' puts = inr puts.1.cause.0.rose
@@ -241,6 +242,7 @@ module _ (over : Values) (words : List (List ℕ)) (files : FolderState) (whole 
         absurd (apart (sym whole.operands_are
         ∙ told_bad_line (means over) files new (asked_orders whole.request) (asked_paths whole.request) path.now line kind whole.told
         (reading_at (λ orders paths. RefusedAtLine (means over) files new orders paths path.now line kind) is)))
+    never_stops (fault.Kernel why) is = absurd (never_by_words (fault.Kernel why) is.refused)
     never_stops (fault.WriteFault path) is = absurd is
     never_stops fault.Memory is = refl
 
@@ -276,6 +278,11 @@ module _ (over : Values) (words : List (List ℕ)) (files : FolderState) (whole 
       inr (ap status_of (never_stops files' no_read (fault.NoMinus name) cause.stops))
   ends_well files' out out' (Refused (fault.Named s why)) no_read no_write no_out cause =
       inr (ap status_of (never_stops files' no_read (fault.Named s why) cause.stops))
+  ends_well files' out out' (Refused (fault.Kernel why)) no_read no_write no_out cause =
+      inr (ap status_of (never_stops files' no_read (fault.Kernel why) cause.stops))
+  ends_well files' out out' (Executed turns) no_read no_write no_out cause = inl refl
+  ends_well files' out out' (Unexecuted why) no_read no_write no_out cause =
+      absurd (no_execution words whole.accepted.asks.names.line (refuses_line words files files' out out' why cause))
   ends_well files' out out' (Refused (fault.WorkspaceLimit count)) no_read no_write no_out cause =
       inr (ap status_of (never_stops files' no_read (fault.WorkspaceLimit count) cause.stops))
   ends_well files' out out' (Refused (fault.ReadFault path)) no_read no_write no_out cause =
@@ -314,6 +321,7 @@ line_keeps_laws : (line : Option CommandLine) → Laws (values_of_line line).ari
 line_keeps_laws None = ring_laws
 line_keeps_laws (Some (StatementLine task over expr words)) = values_keep_laws over
 line_keeps_laws (Some (Workload size)) = ring_laws
+line_keeps_laws (Some (Exec path budget expr words)) = ring_laws
 
 pub whole_ends : (words : List (String Global)) (files files' : FolderState) (out out' err err' : SinkState) (status : ℕ)
     → IsWhole (values_in (map string_bytes words)) (map string_bytes words) files.holds → (Rose files.read_faults files'.read_faults → ⊥)

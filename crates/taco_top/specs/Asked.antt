@@ -1,12 +1,10 @@
 -- What the words of a command line ask for, and why they are refused before any file is opened: the first of the refusals in
 -- order.
-use Rattle.std.specs.Prelude.{◌≡◌, ◌≤◌, ℕ, Bool, List, Option, Some, None, map, true, false}
+use Rattle.std.specs.Prelude.{◌≡◌, ℕ, Bool, List, Option, Some, None, map, true, false}
 use denote.Ref.{Bor}
-use Rattle.limits.specs.Limits.{greatest_workload}
 use Rattle.format_spec.specs.declared.format.FormatLevel.{FormatLevel}
 use Rattle.index_notation.specs.declared.syntax.Statement.{Statement}
 use Rattle.index_notation.specs.Notation.{IsNotationOf, IsFaultOf}
-use Rattle.index_notation.specs.Statement.{IsNumbered}
 use Rattle.expr_terms.specs.Expanded.{expanded}
 use Rattle.expr_terms.specs.Minus.{HasMeaning, has_minus}
 use Rattle.expr_terms.specs.Names.{HasNoNameFault, IsFirstNameFault}
@@ -16,15 +14,12 @@ use Rattle.command_line.specs.declared.Over.{Over}
 use Rattle.command_line.specs.declared.Task.{Task}
 use Rattle.command_line.specs.declared.Task.TheVariants as task
 use Rattle.bindings.specs.Outcome.{Binds, IsRefused}
-use Rattle.bindings.specs.Tables.{file_in}
 use Rattle.bindings.specs.declared.fault.BindingFault.{BindingFault}
 use Rattle.bindings.specs.declared.fault.BindingFault.TheVariants as binding
 use Rattle.refusals.specs.declared.fault.NamedFault.TheVariants.{Name, Binding}
 use Rattle.refusals.specs.declared.fault.Fault.{Fault}
 use Rattle.refusals.specs.declared.fault.Fault.TheVariants.{Usage, Notation, Named, NoMinus, Memory}
 use Rattle.taco_top.specs.Values.{values_of}
-use Rattle.taco_top.specs.declared.asked.Work.{Work}
-use Rattle.taco_top.specs.declared.asked.Work.TheVariants as work
 
 abbrev pub texts_in : List (Bor (List ℕ)) → List (List ℕ)
 texts_in words = map (λ word. word.now) words
@@ -87,15 +82,6 @@ pub record Asks (words : List (List ℕ)) (task : Task) (over : Over) (s : State
   pub rest : List (List ℕ)
   pub names : Names words task over s rest
   pub binds : Binds s rest (needs_files task) formats files ranges
-
--- what is asked for: this task of a statement, or the generated workload of this size
-abbrev pub IsAsked : List (List ℕ) → Work → Type 0
-IsAsked words (work.Statement asked) =
-    Asks words asked.task asked.over asked.statement asked.bindings.formats.items (map file_in asked.bindings.files.entries)
-    asked.bindings.ranges.items
-    × IsNumbered asked.statement
-IsAsked words (work.Workload size) =
-    (command_line_of words ≡ Some (command_line.Workload size)) × (size ≤ greatest_workload)
 
 -- ---- the refusals, stage by stage
 abbrev pub IsLineRefused : List (List ℕ) → Fault → Type 0

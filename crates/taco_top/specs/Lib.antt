@@ -1,6 +1,9 @@
 pub mod Values
 pub mod Asked
 pub mod Ends
+pub mod Exec
+pub mod Executed
+pub mod Executing
 pub mod Prepared
 pub mod Program
 pub mod Refused
@@ -8,4 +11,6 @@ pub mod Run
 pub mod Stored
 pub mod Told
 pub mod Whole
+pub mod WholeExec
+pub mod Work
 pub mod Written

@@ -5,7 +5,7 @@ use Rattle.numbers.specs.Arithmetic.{Arithmetic, on_words}
 use Rattle.numbers.specs.Ring.{ring}
 use Rattle.semirings.specs.MinPlus.{lengths}
 use Rattle.semirings.specs.Bits.{flags}
-use Rattle.command_line.specs.CommandLine.{CommandLine, Statement, Workload, command_line_of}
+use Rattle.command_line.specs.CommandLine.{CommandLine, Statement, Workload, Exec, command_line_of}
 use Rattle.command_line.specs.declared.Over.{Over}
 use Rattle.command_line.specs.declared.Over.TheVariants as named
 
@@ -25,11 +25,12 @@ values_of named.Ring = semiring ring true true true (codes "ring")
 values_of named.MinPlus = semiring (on_words lengths) false false false (codes "minplus")
 values_of named.Bits = semiring (on_words flags) false false true (codes "bits")
 
--- the semiring that a command line names, or the ring
+-- the semiring that a command line names, or the ring; `exec` names none, since its kernel does
 abbrev pub values_of_line : Option CommandLine → Values
 values_of_line None = values_of named.Ring
 values_of_line (Some (Statement task over expr words)) = values_of over
 values_of_line (Some (Workload size)) = values_of named.Ring
+values_of_line (Some (Exec path budget expr words)) = values_of named.Ring
 
 abbrev pub values_in : List (List ℕ) → Values
 values_in words = values_of_line (command_line_of words)

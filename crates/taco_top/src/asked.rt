@@ -1,11 +1,13 @@
-ghost use Rattle.std.specs.Prelude.{◌≡◌, ℕ, Bool, List, Some, None, map, string_bytes, IfOk, IfErr, OnOk, MatchResult, IsTrue};
+ghost use Rattle.std.specs.Prelude.{◌≡◌, ℕ, Bool, true, List, Some, None, map, string_bytes, IfOk, IfErr, OnOk, MatchResult, IsTrue};
 ghost use Rattle.index_notation.specs.Notation.{IsNotationOf};
 ghost use Rattle.index_notation.specs.Statement.{IsNumbered};
 ghost use Rattle.command_line.specs.CommandLine.{command_line_of};
 ghost use Rattle.command_line.specs.Told.{told};
 ghost use Rattle.bindings.specs.Tables.{file_in};
 ghost use Rattle.bindings.specs.Outcome.{Binds};
-ghost use Rattle.taco_top.specs.Asked.{Asks, AsksOf, IsAsked, IsRefusedByWords, IsLineRefused, IsTextRefused, IsBindingRefused};
+ghost use Rattle.taco_top.specs.Asked.{Asks, AsksOf, IsRefusedByWords, IsLineRefused, IsTextRefused, IsBindingRefused};
+ghost use Rattle.taco_top.specs.Work.{IsAsked, IsUnasked};
+ghost use Rattle.taco_top.specs.Exec.{AsksExec, AsksExecOf, IsExecRefused, exec_request};
 ghost use Rattle.taco_top.specs.Asked.{IsMinusRefused, needs_files, texts_in};
 ghost use Rattle.taco_top.specs.Values.{values_of};
 ghost use Rattle.expr_terms.specs.Minus.{HasMeaning};
@@ -30,6 +32,16 @@ pub struct Asked<'a> {
     pub bindings: Bindings<'a>,
 }
 
+/// The path of a kernel's file, the turns that its run may take, a statement as it stands for the written one, and what the words bind
+/// to its names.
+#[derive(Drop)]
+pub struct Execution<'a> {
+    pub path: &'a str,
+    pub budget: u64,
+    pub statement: Statement,
+    pub bindings: Bindings<'a>,
+}
+
 /// What the command line asks for.
 #[derive(Drop)]
 pub enum Work<'a> {
@@ -37,6 +49,8 @@ pub enum Work<'a> {
     Statement(Asked<'a>),
     /// The generated workload of this size.
     Workload(u64),
+    /// The run of a given kernel.
+    Execution(Execution<'a>),
 }
 
 /// What the command line says, as the program's faults tell where it says nothing.
@@ -165,12 +179,57 @@ fn ask_statement<'a>(
     }
 }
 
+/// What a kernel's file is run for, where the words behind a statement, of which all tensors but the result need files, bind its names.
+fn bind_execution<'a>(
+    alloc: Global,
+    path: &'a str,
+    budget: u64,
+    statement: Statement,
+    words: &[&'a str],
+) -> Result<Execution<'a>, Fault<'a>>
+    requires { IsNumbered statement }
+    ensures { MatchResult result
+        (λ e. (e.path.now ≡ path.entry.now) × (e.budget ≡ budget) × (e.statement ≡ statement)
+        × Binds statement (texts_in words.now) true
+        e.bindings.formats.items (map file_in e.bindings.files.entries) e.bindings.ranges.items)
+        (IsBindingRefused statement (texts_in words.now) true) }
+{
+    match bind(alloc, &statement, words, true) {
+        Ok(bindings) => Ok(Execution {
+            path,
+            budget,
+            statement,
+            bindings,
+        }),
+        Err(BindingFault::Memory(_)) => Err(Fault::Memory),
+        Err(fault) => Err(named(statement, NamedFault::Binding(fault))),
+    }
+}
+
+/// What a command line asks for that asks to run a kernel's file for a statement of this text. A minus is taken over any semiring.
+fn ask_execution<'a>(
+    alloc: Global,
+    path: &'a str,
+    budget: u64,
+    text: &str,
+    words: &[&'a str],
+) -> Result<Execution<'a>, Fault<'a>>
+    ensures { (all : List (List ℕ)) → AsksExecOf all path.entry.now budget text.now (texts_in words.now)
+        → MatchResult result (λ e. AsksExec all (exec_request e) × IsNumbered e.statement) (IsExecRefused all) }
+{
+    let statement = read_statement(alloc, text)?;
+    match check_names(&statement) {
+        Ok(()) => bind_execution(alloc, path, budget, expand(alloc, statement)?, words),
+        Err(fault) => Err(named(statement, NamedFault::Name(fault))),
+    }
+}
+
 /// What the words of the command line ask for, or the first refusal in order: of the command line, the statement's text, its
-/// names, a minus that the semiring has no meaning for, the words behind it, missing files where the task reads them, formats. Refused
-/// for want of memory besides.
+/// names, a minus that the named semiring has no meaning for, the words behind it, missing files where the task reads them, formats.
+/// Refused for want of memory besides.
 pub(crate) fn ask<'a>(alloc: Global, words: &'a [String]) -> Result<Work<'a>, Fault<'a>>
     ensures asked { IfOk result (IsAsked (map string_bytes words.now)) }
-    ensures refused { IfErr result (IsRefusedByWords (map string_bytes words.now)) }
+    ensures refused { IfErr result (IsUnasked (map string_bytes words.now)) }
 {
     match read_words(alloc, words)? {
         Request::Statement {
@@ -183,5 +242,14 @@ pub(crate) fn ask<'a>(alloc: Global, words: &'a [String]) -> Result<Work<'a>, Fa
             Ok(Work::Statement(asked))
         }
         Request::Workload { size } => Ok(Work::Workload(size)),
+        Request::Exec {
+            path,
+            budget,
+            expr,
+            words,
+        } => {
+            let execution = ask_execution(alloc, path, budget, expr, words.as_slice())?;
+            Ok(Work::Execution(execution))
+        }
     }
 }

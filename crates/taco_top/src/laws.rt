@@ -22,6 +22,7 @@ ghost use Rattle.taco_top.specs.Ends.{Ends, Refused};
 ghost use Rattle.taco_top.specs.Run.{AsksFor, Request};
 ghost use Rattle.taco_top.specs.Values.{values_in};
 ghost use Rattle.taco_top.specs.Whole.{IsWhole};
+ghost use Rattle.taco_top.specs.WholeExec.{IsWholeExec};
 
 /// Claim: a command line asks for one task of one statement over one semiring, with one list of formats, of files and of ranges; or it
 /// asks for a workload,
@@ -64,11 +65,16 @@ pub fn one_request_a_command_line()
 
 /// Claim: where all input of `run`, `auto` or `report` is whole and no count of faults rose, a call ends with status 0, and so with its
 /// file
-/// or its text, or with want of memory. A result's file is one, whatever else the folder and the streams have seen.
+/// or its text, or with want of memory. So it does where all input of `exec` is whole, a kernel that has a result among it. A result's
+/// file is one, whatever else the folder and the streams have seen.
 pub fn whole_input_is_computed()
     ensures ends { (words : List (String Global)) (files files' : FolderState) (out out' err err' : SinkState) (status : ℕ)
         → IsWhole (values_in (map string_bytes words)) (map string_bytes words) files.holds
         → (Rose files.read_faults files'.read_faults → ⊥)
+        → (Rose files.write_faults files'.write_faults → ⊥) → (Rose out.faults out'.faults → ⊥)
+        → Ends words files files' out out' err err' status → (status ≡ 0) ⊎ (status ≡ 5) }
+    ensures executed { (words : List (String Global)) (files files' : FolderState) (out out' err err' : SinkState) (status : ℕ)
+        → IsWholeExec (map string_bytes words) files.holds → (Rose files.read_faults files'.read_faults → ⊥)
         → (Rose files.write_faults files'.write_faults → ⊥) → (Rose out.faults out'.faults → ⊥)
         → Ends words files files' out out' err err' status → (status ≡ 0) ⊎ (status ≡ 5) }
     ensures texts { (words : List (List ℕ)) (files files' others others' : FolderState) (out out' away away' : SinkState)

@@ -41,7 +41,7 @@ fn operand_file<'a>(statement: &Statement, bindings: &Bindings<'a>, tensor: usiz
 }
 
 /// The order of each operand.
-fn orders_of(alloc: Global, statement: &Statement) -> Result<Vec<usize>, AllocError>
+pub(crate) fn orders_of(alloc: Global, statement: &Statement) -> Result<Vec<usize>, AllocError>
     ensures { IfOk result (λ orders. orders.items ≡ orders_of_operands statement.now) }
 {
     let mut orders = Vec::new(alloc);
@@ -52,7 +52,7 @@ fn orders_of(alloc: Global, statement: &Statement) -> Result<Vec<usize>, AllocEr
 }
 
 /// The file of each operand.
-fn files_of<'a>(
+pub(crate) fn files_of<'a>(
     alloc: Global,
     statement: &Statement,
     bindings: &Bindings<'a>,

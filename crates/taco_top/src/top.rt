@@ -1,11 +1,12 @@
 //! The top call.
-ghost use Rattle.std.specs.Prelude.{◌≡◌, ℕ, List, map, string_bytes, true};
+ghost use Rattle.std.specs.Prelude.{◌≡◌, ◌⊎◌, ℕ, List, map, string_bytes, true};
 ghost use Rattle.command_line.specs.declared.Task.TheVariants as task;
 ghost use Rattle.index_notation.specs.Statement.{IsNumbered};
 ghost use Rattle.outside.specs.Folder.{FolderState};
 ghost use Rattle.refusals.specs.Lines.{status_of, line_of};
 ghost use Rattle.taco_top.specs.Asked.{writes_result};
 ghost use Rattle.taco_top.specs.Ends.{Cause, Ends, PutsLine};
+ghost use Rattle.taco_top.specs.Executing.{EndsExec};
 ghost use Rattle.taco_top.specs.Run.{AsksFor, request_of};
 ghost use Rattle.taco_top.specs.Prepared.{end_of};
 ghost use Rattle.taco_top.specs.Values.{semiring, values_of, values_in};
@@ -14,6 +15,7 @@ use crate::asked::{Asked, Work, ask};
 use crate::asking::accept;
 use crate::computing::compute;
 use crate::ending::Done;
+use crate::executing::execute;
 use crate::printing::{tell_kernel, tell_plan, tell_run, tell_workload};
 use crate::writing::write;
 use command_line::{Over, Task};
@@ -144,12 +146,13 @@ fn answer<'a, F: Folder, O: Sink>(
     out: &mut O,
 ) -> Result<Done, Fault<'a>>
     ensures { Cause (values_in (map string_bytes words.now)) (map string_bytes words.now) (F.state files.old) (F.state files.new)
-        (O.state out.old) (O.state out.new)
-        (end_of result) }
+        (O.state out.old) (O.state out.new) (end_of result)
+        ⊎ EndsExec (map string_bytes words.now) (F.state files.old) (F.state files.new) (O.state out.old) (O.state out.new) result }
 {
     match ask(alloc, words) {
         Ok(Work::Statement(asked)) => answer_statement(alloc, asked, files, out),
         Ok(Work::Workload(size)) => tell_workload(alloc, size, out),
+        Ok(Work::Execution(execution)) => execute(alloc, execution, files, out),
         Err(fault) => Err(fault),
     }
 }
@@ -176,7 +179,8 @@ pub fn taco<F: Folder, O: Sink, E: Sink>(
 ) -> u8
     // The status has its cause: the first refusal in order of the words, the operands' files as reads gave them, ranges and
     // sizes, and the writing; or the file of the statement's values was written; or the text of a kernel, of a run or of a workload
-    // was printed. `err` grew by the line of it, or by a part of that line, and stays as it was beside a printed text.
+    // was printed; or the file of what a given kernel left was written. `err` grew by the line of it, or by a part of that line, and
+    // stays as it was beside a printed text.
     ensures { Ends words.now (F.state files.old) (F.state files.new) (O.state out.old) (O.state out.new)
         (E.state err.old) (E.state err.new) result }
 {

@@ -19,7 +19,7 @@ use refusals::Fault;
 use result_files::{WriteRefusal, write_result};
 
 /// The path of a file, if there is one.
-fn path_of<'a>(file: Option<TensorFile<'a>>) -> Option<&'a str>
+pub(crate) fn path_of<'a>(file: Option<TensorFile<'a>>) -> Option<&'a str>
     ensures { option_map (λ path. path.now) result ≡ path_to file.entry }
 {
     match file {

@@ -1,12 +1,18 @@
 //! Runs of a case, and what is told of how they ended.
 use crate::case::{Case, CaseFile, Place, Shown};
+use crate::given::Tally;
 use crate::telling::{kernel_in, tell_text, turns_in};
 use case_files::{Answer, keyword_of};
 use outside::{MemFolder, MemSink};
 use refusals::{Fault, put_line};
 
 /// Runs a command line over these files, and answers the status.
-fn run(answer: &mut Answer, files: &[CaseFile], words: &[String], place: &mut Place) -> u8 {
+pub(crate) fn run(
+    answer: &mut Answer,
+    files: &[CaseFile],
+    words: &[String],
+    place: &mut Place,
+) -> u8 {
     for file in files {
         if file.is_there {
             let (name, bytes) = (file.name.as_str(), file.bytes.as_slice());
@@ -94,7 +100,7 @@ fn tell_compared(
 
 /// Runs another command line over the files of a case, with no fault, and tells how it ended: another command with the case's words, and
 /// further ones behind them; or, to be compared with the case, another command, or with words of its own these alone.
-fn tell_further(answer: &mut Answer, case: &Case, line: &str) -> Option<()> {
+fn tell_further(answer: &mut Answer, case: &Case, line: &str, tally: &mut Tally) -> Option<()> {
     let (keyword, further) = keyword_of(line);
     let (command, further_own) = keyword_of(further);
     let (_taco, own) = keyword_of(case.line.as_str());
@@ -103,6 +109,7 @@ fn tell_further(answer: &mut Answer, case: &Case, line: &str) -> Option<()> {
     let words = further_words(answer, if has_own { "" } else { own }, further)?;
     let mut place = Place::new(answer.alloc());
     let status = run(answer, case.files.as_slice(), words.as_slice(), &mut place);
+    tally.count(answer, case.files.as_slice(), words.as_slice(), status)?;
     if keyword == "again" {
         answer.tell(line);
         answer.tell("\n");
@@ -148,7 +155,7 @@ fn tell_refused(answer: &mut Answer, text: &str) -> Option<()> {
 
 /// Tells how a case ended: its status and streams, each of its files as it is afterwards, whether a finish of the folder's writing is
 /// due, and what its further lines ask for.
-fn tell_ended(answer: &mut Answer, case: &Case, status: u8) -> Option<()> {
+fn tell_ended(answer: &mut Answer, case: &Case, status: u8, tally: &mut Tally) -> Option<()> {
     tell_streams(answer, status, &case.place, case.shown);
     for file in &case.files {
         tell_file(answer, file, &case.place.folder);
@@ -159,7 +166,7 @@ fn tell_ended(answer: &mut Answer, case: &Case, status: u8) -> Option<()> {
     for line in case.further.as_str().lines() {
         match line.strip_prefix("refused ") {
             Some(text) => tell_refused(answer, text)?,
-            None => tell_further(answer, case, line)?,
+            None => tell_further(answer, case, line, tally)?,
         }
     }
     answer.tell("\n");
@@ -167,12 +174,13 @@ fn tell_ended(answer: &mut Answer, case: &Case, status: u8) -> Option<()> {
 }
 
 /// Runs the case, and tells how it ended.
-pub(crate) fn tell_case(answer: &mut Answer, case: &mut Case) -> Option<()> {
+pub(crate) fn tell_case(answer: &mut Answer, case: &mut Case, tally: &mut Tally) -> Option<()> {
     let status = run(
         answer,
         case.files.as_slice(),
         case.words.as_slice(),
         &mut case.place,
     );
-    tell_ended(answer, case, status)
+    tally.count(answer, case.files.as_slice(), case.words.as_slice(), status)?;
+    tell_ended(answer, case, status, tally)
 }

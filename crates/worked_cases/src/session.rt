@@ -1,14 +1,16 @@
 //! The lines of case files, one after another.
 use crate::case::Case;
+use crate::given::Tally;
 use crate::report::tell_case;
 use case_files::{Answer, Cases};
 use std::alloc::Global;
 
-/// The case that is being read, and the lines that stand at the head of each case of the file.
+/// The case that is being read, the lines that stand at the head of each case of the file, and what was counted of its reports.
 #[derive(Drop)]
 pub(crate) struct Session {
     head: String,
     case: Option<Case>,
+    tally: Tally,
 }
 
 impl Session {
@@ -16,13 +18,14 @@ impl Session {
         Session {
             head: String::new(alloc),
             case: None,
+            tally: Tally::new(),
         }
     }
 
     /// Runs the case that was read, if there is one.
     fn end_case(&mut self, answer: &mut Answer) -> Option<()> {
         match self.case.take() {
-            Some(mut case) => tell_case(answer, &mut case),
+            Some(mut case) => tell_case(answer, &mut case, &mut self.tally),
             None => Some(()),
         }
     }
@@ -62,6 +65,9 @@ impl Cases for Session {
 
     fn end_file(&mut self, answer: &mut Answer) -> Option<()> {
         self.head.clear();
-        self.end_case(answer)
+        self.end_case(answer)?;
+        self.tally.tell(answer);
+        self.tally = Tally::new();
+        Some(())
     }
 }

@@ -1,6 +1,6 @@
 use Rattle.std.proofs.Common.{ap, ap₂, codes, true, ◌≡◌, ◌∙◌}
 use Rattle.clap.specs.Simple.{App, Shape, app_of, app_of_fields, new_app, on_top, with_subcommand}
-use Rattle.command_line.specs.Clap.{bare_app, plan_app, statement_app}
+use Rattle.command_line.specs.Clap.{bare_app, plan_app, statement_app, workload_app}
 use Rattle.command_line.proofs.taco_command.Goals as goal
 
 abbrev top_of : App → Shape
@@ -22,6 +22,7 @@ returns c =
     let report : App = with_subcommand kernel (statement_app c.args.parser (codes "report")).top in
     let auto : App = with_subcommand report (statement_app c.args.parser (codes "auto")).top in
     let plan : App = with_subcommand auto plan_app.top in
+    let workload : App = with_subcommand plan workload_app.top in
     let run_is : app_of c.in_ok-subcommand.field-0 ≡ run =
     c.in_ok-subcommand.ensures.shape c.in_ok-run.ensures.local
     ∙ ap₂ with_subcommand bare_is (ap top_of c.in_ok-run.ensures.app) in
@@ -37,7 +38,10 @@ returns c =
     let plan_is : app_of c.in_ok-subcommand-5.field-0 ≡ plan =
     c.in_ok-subcommand-5.ensures.shape c.in_ok-plan.ensures.local
     ∙ ap₂ with_subcommand auto_is (ap top_of c.in_ok-plan.ensures.app) in
+    let workload_is : app_of c.in_ok-subcommand-6.field-0 ≡ workload =
+    c.in_ok-subcommand-6.ensures.shape c.in_ok-workload.ensures.local
+    ∙ ap₂ with_subcommand plan_is (ap top_of c.in_ok-workload.ensures.app) in
     record {
-      app = c.in_ok-command.ensures.shape c.in_ok-workload.ensures.local
-          ∙ ap₂ with_subcommand plan_is (ap top_of c.in_ok-workload.ensures.app);
+      app = c.in_ok-command.ensures.shape c.in_ok-exec.ensures.local
+          ∙ ap₂ with_subcommand workload_is (ap top_of c.in_ok-exec.ensures.app);
     }

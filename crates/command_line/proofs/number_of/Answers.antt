@@ -5,7 +5,7 @@ use Rattle.clap.specs.Words.{found_of, one_text}
 use Rattle.clap.proofs.WalkLemmas.{one_text-rows}
 use Rattle.command_line.specs.Clap.{u64_read}
 use Rattle.command_line.proofs.Numbers.{one_u64}
-use Rattle.command_line.proofs.size_of.Goals as goal
+use Rattle.command_line.proofs.number_of.Goals as goal
 
 pub returns : goal.returns
 returns c =
