@@ -11,5 +11,5 @@ pub(crate) fn is_dense(size: u64, parents: u64) -> bool
     requires few { parents ≤ greatest_position_count }
     ensures { Decides result (HasParents size parents) }
 {
-    parents * size <= greatest_positions()
+    parents as u128 * size as u128 <= greatest_positions() as u128
 }
