@@ -83,13 +83,12 @@ pub fn caps_of(letter: Letter) -> Capabilities
 }
 
 /// How many positions a level of a kernel's result has as the run starts, below so many parents: a dense one, whose range is `size`,
-/// has them all, and any other none.
-pub fn positions_at_start(letter: Letter, size: u64, parents: u64) -> u64
-    requires { parents_below letter size parents < 2 ^ 64 }
+/// has them all, and any other none. The number is exact, and may be no word.
+pub fn positions_at_start(letter: Letter, size: u64, parents: u64) -> u128
     ensures { result ≡ parents_below letter size parents }
 {
     match letter {
-        Letter::Dense => parents * size,
+        Letter::Dense => parents as u128 * size as u128,
         _ => 0,
     }
 }
