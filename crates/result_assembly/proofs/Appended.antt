@@ -33,7 +33,7 @@ use Rattle.result_assembly.specs.Tests.{begins_test}
 use Rattle.result_assembly.proofs.Holding.{finished_summed}
 use Rattle.result_assembly.proofs.Steps.{size_here, rows_here, few_rows, few_words, begun_here, fill_here, first_told, coord_told}
 use Rattle.result_assembly.proofs.Steps.{told_here, packed_here, drained_here}
-use Rattle.result_assembly.proofs.Turns.{pass_here, counted_at_most, counted_few, counted_above}
+use Rattle.result_assembly.proofs.Turns.{pass_here, counted_at_most}
 
 module _ (letters rest : List Letter) (letter : Letter) (w g d n base : ℕ) (count : KExpr) (code : List KStmt)
     (left : drop d letters ≡ letter ∷ rest) (through : n ≡ d + chain_length (letter ∷ rest)) (able : (capabilities letter).append ≡ true)
@@ -151,8 +151,8 @@ module _ (letters rest : List Letter) (letter : Letter) (w g d n base : ℕ) (co
               (pass_here letters rest letter d rows.count left) (r.0 j)),
           record {
             array = inl r.1.1.array;
-            above = (counted_above r.1.0 k r.1.1.told r.1.1.above);
-            within = (let c = counted_few r.1.0 k r.1.1.told in omega (arith, c, upto, told));
+            above = (let is = r.1.1.told in let over = r.1.1.above in omega (arith, is, over));
+            within = (let is = r.1.1.told in omega (arith, is, upto, told));
           },
         ),
       )

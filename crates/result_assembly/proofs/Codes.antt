@@ -5,11 +5,11 @@ use Rattle.std.proofs.lemmas.List.{append_assoc}
 use Rattle.kernel_code.specs.Keeps.{Below, EveryArray}
 use Rattle.kernel_code.proofs.Keeps.{mentions_at, mentions_more}
 use Rattle.kernel_code.specs.declared.syntax.Arr.TheVariants.{Key, Dimension}
-use Rattle.kernel_code.specs.declared.syntax.KExpr.{KExpr, Num, Var, At, Bin, Width}
+use Rattle.kernel_code.specs.declared.syntax.KExpr.{KExpr, Num, Var, At, Width}
 use Rattle.kernel_code.specs.declared.syntax.KStmt.{KStmt, Set}
-use Rattle.kernel_code.specs.declared.syntax.Op.TheVariants.{Mul}
 use Rattle.level_core.specs.declared.letter.Letter.{Letter}
 use Rattle.level_core.specs.Kinds.{properties, capabilities}
+use Rattle.level_core.specs.GuardedProducts.{guarded_product}
 use Rattle.level_rows.specs.declared.emitting.DrainSite.{DrainSite}
 use Rattle.level_rows.specs.Counting.{FindsGreatest}
 use Rattle.level_rows.specs.Draining.{DrainsRows}
@@ -78,14 +78,14 @@ places_as letter level d base w g through count most test coord insert number te
 pub counted_of : (letter : Letter) (slotted : IsCounted letter) (at site : DrainSite) (through : ℕ) (count test again coord : KExpr) (total : KStmt) (greatest insert code : List KStmt)
     → Below at.base count → site ≡ rows_of at → test ≡ begins_test site.base site.workspace through
     → again ≡ begins_test site.base site.workspace through → coord ≡ At (Key at.workspace (at.level - 1)) (Var site.base)
-    → total ≡ Set at.base (Bin Mul count (Width (Var (site.base + 2))))
+    → total ≡ Set at.base (guarded_product count (Width (Var (site.base + 2))))
     → FindsGreatest site.base site.workspace site.list site.level test greatest
     → PlacesRows meaning letter site.level site.base site.workspace site.list count (Var (site.base + 2)) again coord insert
     → code ≡ (greatest ++ total ∷ []) ++ insert
     → DrainsOf letter at.level through at.workspace at.list at.base count code
 counted_of letter slotted at site through count test again coord total greatest insert code bounded is =
     subst (λ (s : DrainSite). test ≡ begins_test s.base s.workspace through → again ≡ begins_test s.base s.workspace through
-    → coord ≡ At (Key at.workspace (at.level - 1)) (Var s.base) → total ≡ Set at.base (Bin Mul count (Width (Var (s.base + 2))))
+    → coord ≡ At (Key at.workspace (at.level - 1)) (Var s.base) → total ≡ Set at.base (guarded_product count (Width (Var (s.base + 2))))
     → FindsGreatest s.base s.workspace s.list s.level test greatest
     → PlacesRows meaning letter s.level s.base s.workspace s.list count (Var (s.base + 2)) again coord insert
     → code ≡ (greatest ++ total ∷ []) ++ insert
@@ -93,7 +93,7 @@ counted_of letter slotted at site through count test again coord total greatest 
   where
     here : test ≡ begins_test (at.base + 1) at.workspace through → again ≡ begins_test (at.base + 1) at.workspace through
         → coord ≡ At (Key at.workspace (at.level - 1)) (Var (at.base + 1))
-        → total ≡ Set at.base (Bin Mul count (Width (Var (at.base + 1 + 2))))
+        → total ≡ Set at.base (guarded_product count (Width (Var (at.base + 1 + 2))))
         → FindsGreatest (at.base + 1) at.workspace at.list at.level test greatest
         → PlacesRows meaning letter at.level (at.base + 1) at.workspace at.list count (Var (at.base + 1 + 2)) again coord insert
         → code ≡ (greatest ++ total ∷ []) ++ insert
@@ -105,9 +105,9 @@ counted_of letter slotted at site through count test again coord total greatest 
         (subst (λ t. FindsGreatest (base + 1) w g at.level t greatest) tests finds) in
         let places_here = places_as letter at.level d (base + 1) w g through count (Var (base + 1 + 2)) again coord insert number agains
         coords places in
-        let code_is : code ≡ greatest ++ Set base (Bin Mul count (Width (Var (base + 1 + 2)))) ∷ insert =
+        let code_is : code ≡ greatest ++ Set base (guarded_product count (Width (Var (base + 1 + 2)))) ∷ insert =
         codes ∙ ap (λ t. (greatest ++ t ∷ []) ++ insert) totals
-        ∙ append_assoc greatest (Set base (Bin Mul count (Width (Var (base + 1 + 2)))) ∷ []) insert in
+        ∙ append_assoc greatest (Set base (guarded_product count (Width (Var (base + 1 + 2)))) ∷ []) insert in
         subst (λ k. Does c k s (LeavesLevel nothing letters sizes table w g d base s) (RefusesLevel letters sizes table d s)) (sym code_is)
         (counted_level letters rest letter slotted w g d through base count bounded left chain nothing sizes table may s dr greatest insert finds_here places_here
         c)
@@ -115,29 +115,29 @@ counted_of letter slotted at site through count test again coord total greatest 
 pub full_of : (letter : Letter) (full : (properties letter).full ≡ true) (at site : DrainSite) (through : ℕ) (count test coord : KExpr) (total : KStmt) (refuse insert code : List KStmt)
     → Below at.base count → site ≡ rows_of at → test ≡ begins_test site.base site.workspace through
     → coord ≡ At (Key at.workspace (at.level - 1)) (Var site.base)
-    → total ≡ Set at.base (Bin Mul count (At (Dimension 0 at.level) (Num 0))) → refuse ≡ guard_code at.base
+    → total ≡ Set at.base (guarded_product count (At (Dimension 0 at.level) (Num 0))) → refuse ≡ guard_code at.base
     → PlacesRows meaning letter site.level site.base site.workspace site.list count (Num 0) test coord insert
     → code ≡ ((total ∷ []) ++ refuse) ++ insert
     → DrainsOf letter at.level through at.workspace at.list at.base count code
 full_of letter full at site through count test coord total refuse insert code bounded is =
     subst (λ (s : DrainSite). test ≡ begins_test s.base s.workspace through
     → coord ≡ At (Key at.workspace (at.level - 1)) (Var s.base)
-    → total ≡ Set at.base (Bin Mul count (At (Dimension 0 at.level) (Num 0))) → refuse ≡ guard_code at.base
+    → total ≡ Set at.base (guarded_product count (At (Dimension 0 at.level) (Num 0))) → refuse ≡ guard_code at.base
     → PlacesRows meaning letter s.level s.base s.workspace s.list count (Num 0) test coord insert
     → code ≡ ((total ∷ []) ++ refuse) ++ insert
     → DrainsOf letter at.level through at.workspace at.list at.base count code) (sym is) here
   where
     here : test ≡ begins_test (at.base + 1) at.workspace through → coord ≡ At (Key at.workspace (at.level - 1)) (Var (at.base + 1))
-        → total ≡ Set at.base (Bin Mul count (At (Dimension 0 at.level) (Num 0))) → refuse ≡ guard_code at.base
+        → total ≡ Set at.base (guarded_product count (At (Dimension 0 at.level) (Num 0))) → refuse ≡ guard_code at.base
         → PlacesRows meaning letter at.level (at.base + 1) at.workspace at.list count (Num 0) test coord insert
         → code ≡ ((total ∷ []) ++ refuse) ++ insert
         → DrainsOf letter at.level through at.workspace at.list at.base count code
     here tests coords totals refuses places codes letters rest d number left chain c nothing sizes table may s dr =
         let w = at.workspace in let g = at.list in let base = at.base in
         let places_here = places_as letter at.level d (base + 1) w g through count (Num 0) test coord insert number tests coords places in
-        let code_is : code ≡ Set base (Bin Mul count (At (Dimension 0 (suc d)) (Num 0))) ∷ (guard_code base ++ insert) =
+        let code_is : code ≡ Set base (guarded_product count (At (Dimension 0 (suc d)) (Num 0))) ∷ (guard_code base ++ insert) =
         codes ∙ ap (λ t. ((t ∷ []) ++ refuse) ++ insert)
-        (totals ∙ ap (λ k. Set base (Bin Mul count (At (Dimension 0 k) (Num 0)))) number)
-        ∙ ap (λ r. ((Set base (Bin Mul count (At (Dimension 0 (suc d)) (Num 0))) ∷ []) ++ r) ++ insert) refuses in
+        (totals ∙ ap (λ k. Set base (guarded_product count (At (Dimension 0 k) (Num 0)))) number)
+        ∙ ap (λ r. ((Set base (guarded_product count (At (Dimension 0 (suc d)) (Num 0))) ∷ []) ++ r) ++ insert) refuses in
         subst (λ k. Does c k s (LeavesLevel nothing letters sizes table w g d base s) (RefusesLevel letters sizes table d s)) (sym code_is)
         (full_level letters rest letter full w g d through base count insert bounded left chain places_here c nothing sizes table may s dr)

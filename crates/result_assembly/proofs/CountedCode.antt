@@ -4,24 +4,22 @@ use Rattle.std.proofs.Common.{◌∙◌, sym, ap, subst, arith}
 use Rattle.std.proofs.Math.Path.{fun_ext}
 use Rattle.limits.specs.Limits.{greatest_position_count}
 use Rattle.limits.proofs.Limits.{positions_are_small}
-use Rattle.numbers.specs.Ring.{word_product}
-use Rattle.numbers.proofs.WordLaws.{word_product_is}
 use Rattle.kernel_code.specs.Does.{Does}
 use Rattle.kernel_code.proofs.Does.{does_weaker, does_append, does_set}
 use Rattle.kernel_code.specs.Keeps.{Below, EveryArray}
 use Rattle.kernel_code.proofs.Keeps.{this_var, other_var, value_kept}
 use Rattle.kernel_code.proofs.Equations.{value_width}
-use Rattle.kernel_code.proofs.Words.{binary_is}
 use Rattle.kernel_code.proofs.Widths.{width_is_slot_width}
 use Rattle.kernel_code.specs.Meaning.{Setting, State, value, width_of, set_var}
 use Rattle.kernel_code.specs.Widths.{slot_width}
 use Rattle.kernel_code.specs.declared.syntax.Arr.TheVariants.{Values, Key, ListPositions}
-use Rattle.kernel_code.specs.declared.syntax.KExpr.{KExpr, Var, At, Bin, Width}
+use Rattle.kernel_code.specs.declared.syntax.KExpr.{KExpr, Var, At, Width}
 use Rattle.kernel_code.specs.declared.syntax.KStmt.{KStmt, Set}
-use Rattle.kernel_code.specs.declared.syntax.Op.TheVariants.{Mul}
 use Rattle.level_core.specs.declared.letter.Letter.{Letter}
 use Rattle.level_core.specs.Kinds.{capabilities, positions_for}
 use Rattle.level_core.specs.Meaning.{Arrays}
+use Rattle.level_core.specs.GuardedProducts.{guarded_product, StandsForProduct}
+use Rattle.level_core.proofs.GuardedProducts.{guarded_told, widths_are_factors}
 use Rattle.level_core.proofs.KindLaws.{stored_positions}
 use Rattle.level_rows.specs.Rows.{Rows}
 use Rattle.level_rows.specs.Counting.{MayCount, LeavesGreatest, FindsGreatest}
@@ -83,9 +81,6 @@ module _ (letters rest : List Letter) (letter : Letter) (slotted : IsCounted let
   }
 
   module _ (t : State) (l : LeavesGreatest (base + 1) rows s t) where
-    pub total : ℕ
-    total = word_product dr.parents (slot_width l.most)
-
     pub few_most : l.most ≤ greatest_position_count
     few_most =
         let m = greatest_few rows l.most l.greatest in
@@ -95,16 +90,24 @@ module _ (letters rest : List Letter) (letter : Letter) (slotted : IsCounted let
     count_kept = value_kept (λ y. y < base) EveryArray count s t bounded (λ y less. l.leaves.below y (omega (arith, less)) (λ e. e))
         (λ a every. l.leaves.arrays a every)
 
-    pub total_told : value (Bin Mul count (Width (Var (base + 1 + 2)))) t ≡ Some total
-    unfolding total
-    total_told =
+    product : (n : ℕ) × (value (guarded_product count (Width (Var (base + 1 + 2)))) t ≡ Some n)
+        × StandsForProduct dr.parents (slot_width l.most) n
+    product =
         let small = positions_are_small in let few = few_most in
-        binary_is Mul count (Width (Var (base + 1 + 2))) dr.parents (slot_width l.most) t (count_kept ∙ dr.told)
+        guarded_told count (Width (Var (base + 1 + 2))) dr.parents (slot_width l.most) t (count_kept ∙ dr.told)
         (value_width (Var (base + 1 + 2)) t ∙ ap width_of l.answer ∙ width_is_slot_width l.most (omega (arith, small, few)))
+        (widths_are_factors l.most few)
+
+    pub total : ℕ
+    total = product.0
+
+    pub total_told : value (guarded_product count (Width (Var (base + 1 + 2)))) t ≡ Some total
+    unfolding total
+    total_told = product.1
 
     pub counted : dr.parents * slot_width l.most ≤ greatest_position_count → total ≡ dr.parents * slot_width l.most
     unfolding total
-    counted h = let small = positions_are_small in word_product_is dr.parents (slot_width l.most) (omega (arith, h, small))
+    counted h = product.2.same h
 
     -- as many as the kind says
     pub slots : positions_for letter (slice_index sizes d) dr.parents l.most ≡ dr.parents * slot_width l.most
@@ -152,9 +155,9 @@ module _ (letters rest : List Letter) (letter : Letter) (slotted : IsCounted let
           ),
         ))
 
-    pub counted_level : Does c (greatest ++ Set base (Bin Mul count (Width (Var (base + 1 + 2)))) ∷ insert) s
+    pub counted_level : Does c (greatest ++ Set base (guarded_product count (Width (Var (base + 1 + 2)))) ∷ insert) s
         (LeavesLevel nothing letters sizes table w g d base s) (RefusesLevel letters sizes table d s)
     counted_level =
-        does_append c greatest (Set base (Bin Mul count (Width (Var (base + 1 + 2)))) ∷ insert) s (LeavesGreatest (base + 1) rows s) _ _
+        does_append c greatest (Set base (guarded_product count (Width (Var (base + 1 + 2)))) ∷ insert) s (LeavesGreatest (base + 1) rows s) _ _
         (does_weaker c greatest s _ _ _ _ (finds c rows s counts) (λ t l. l) (λ turns a k never. absurd never))
-        (λ t l. does_set c base (Bin Mul count (Width (Var (base + 1 + 2)))) insert t (total t l) _ _ (total_told t l) (inserts t l))
+        (λ t l. does_set c base (guarded_product count (Width (Var (base + 1 + 2)))) insert t (total t l) _ _ (total_told t l) (inserts t l))

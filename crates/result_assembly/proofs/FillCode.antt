@@ -15,15 +15,15 @@ use Rattle.kernel_code.specs.Meaning.{Setting, State, value, set_array, set_var}
 use Rattle.kernel_code.specs.Widths.{slot_width}
 use Rattle.kernel_code.specs.declared.syntax.Arr.{Arr}
 use Rattle.kernel_code.specs.declared.syntax.Arr.TheVariants.{Values, Key, Sums, ListPositions}
-use Rattle.kernel_code.specs.declared.syntax.KExpr.{KExpr, Num, Var, At, Bin, Width}
+use Rattle.kernel_code.specs.declared.syntax.KExpr.{KExpr, Num, Var, At, Width}
 use Rattle.kernel_code.specs.declared.syntax.KStmt.{KStmt, Set, Extend}
 use Rattle.kernel_code.specs.declared.syntax.LoopKind.{LoopKind}
-use Rattle.kernel_code.specs.declared.syntax.Op.TheVariants.{Mul}
 use Rattle.level_core.specs.declared.letter.Letter.{Letter}
 use Rattle.level_core.specs.Codes.{PrepareCode, InsertCode, HoldsPrepared}
 use Rattle.level_core.specs.Fragments.{IsOutside}
 use Rattle.level_core.specs.Kinds.{properties, capabilities, positions_for, MayPrepare}
 use Rattle.level_core.specs.Laws.{HoldsStart}
+use Rattle.level_core.specs.GuardedProducts.{guarded_product}
 use Rattle.level_core.proofs.KindLaws.{are_of_a_kind}
 use Rattle.level_rows.specs.Counting.{LeavesGreatest, FindsGreatest}
 use Rattle.level_rows.specs.Draining.{Stays}
@@ -348,7 +348,7 @@ module _ (letters : List Letter) (letter : Letter) (slotted : IsCounted letter) 
       → PrepareCode meaning letter 0 (suc d) (count ∷ Var (base + 1 + 2) ∷ []) (base + 1 + 6) prepare
       → InsertCode meaning letter 0 (suc d) (Var (base + 1 + 4) ∷ At (Key w d) (Var (base + 1)) ∷ []) (base + 1 + 6) insert
       → (c : Setting)
-      → Does c (greatest ++ Set base (Bin Mul count (Width (Var (base + 1 + 2))))
+      → Does c (greatest ++ Set base (guarded_product count (Width (Var (base + 1 + 2))))
       ∷ (prepare ++ Extend (Values 0) (Var base) (Num nothing) ∷ fill_rows_code (base + 1) w g insert)) s
       (LeavesFilled nothing letters sizes table w g d base s) (RefusesLevel letters sizes table d s)
   last_filled greatest prepare insert finds prepares code c =
@@ -356,6 +356,6 @@ module _ (letters : List Letter) (letter : Letter) (slotted : IsCounted letter) 
       (does_weaker c greatest s _ _ _ _
       (finds c rows_now s (counts letters [] letter slotted w g d n base count bounded left through nothing sizes table may s dr)) (λ t l. l)
       (λ turns a k never. absurd never))
-      (λ t l. does_set c base (Bin Mul count (Width (Var (base + 1 + 2)))) _ t (width_all t l) _ _
+      (λ t l. does_set c base (guarded_product count (Width (Var (base + 1 + 2)))) _ t (width_all t l) _ _
       (total_told letters [] letter slotted w g d n base count bounded left through nothing sizes table may s dr t l)
       (prepared t l prepare insert prepares code c))

@@ -1,25 +1,26 @@
 -- The code of a full level: nothing is stored, but a count of positions that passes the limit is refused.
 use Rattle.std.specs.Prelude.{◌≡◌, ◌⊎◌, ℕ, suc, ◌+◌, ◌*◌, ◌≤◌, ◌<◌, ◌^◌, nat_le, true, false, List, [], ◌∷◌, ◌++◌, drop, length, Some, refl}
 use Rattle.std.specs.Prelude.{slice_index}
-use Rattle.std.proofs.Common.{◌∙◌, sym, ap, subst, arith, inl, inr, lit<}
-use Rattle.std.proofs.Math.Nat.{mul-le-mul}
+use Rattle.std.proofs.Common.{◌∙◌, sym, ap, subst, arith, inl, inr}
 use Rattle.std.proofs.lemmas.Bool.{cases_lt}
 use Rattle.std.proofs.lemmas.Bool.Decides.{nat_tests}
 use Rattle.limits.specs.Limits.{greatest_position_count}
-use Rattle.kernel_code.specs.Arrays.{may_have, word_count}
+use Rattle.kernel_code.specs.Arrays.{may_have}
 use Rattle.kernel_code.specs.Does.{Does}
 use Rattle.kernel_code.proofs.Does.{does_weaker, does_nothing, does_set, does_extend, does_if_yes, does_if_no}
 use Rattle.kernel_code.specs.Keeps.{Below, EveryArray}
 use Rattle.kernel_code.proofs.Keeps.{this_var, other_var, value_kept}
-use Rattle.kernel_code.proofs.Words.{product_is, word_is, less_yes, less_no}
+use Rattle.kernel_code.proofs.Words.{word_is, less_yes, less_no}
 use Rattle.kernel_code.specs.Meaning.{Setting, State, value, set_var}
 use Rattle.kernel_code.specs.Widths.{slot_width}
 use Rattle.kernel_code.specs.declared.syntax.Arr.TheVariants.{Key, Values, Dimension}
 use Rattle.kernel_code.specs.declared.syntax.KExpr.{KExpr, Num, Var, At, Bin}
 use Rattle.kernel_code.specs.declared.syntax.KStmt.{KStmt, Set, Extend}
-use Rattle.kernel_code.specs.declared.syntax.Op.TheVariants.{Mul, Less}
+use Rattle.kernel_code.specs.declared.syntax.Op.TheVariants.{Less}
 use Rattle.level_core.specs.declared.letter.Letter.{Letter}
 use Rattle.level_core.specs.Kinds.{properties, positions_for}
+use Rattle.level_core.specs.GuardedProducts.{guarded_product, StandsForProduct}
+use Rattle.level_core.proofs.GuardedProducts.{guarded_told, all_parents, sizes_are_factors}
 use Rattle.level_core.proofs.KindLaws.{full_positions}
 use Rattle.level_rows.specs.Rows.{Rows}
 use Rattle.level_rows.specs.Placing.{PlacesRows}
@@ -34,12 +35,7 @@ use Rattle.result_assembly.proofs.CountedCode.{still_drained}
 use Rattle.result_assembly.proofs.KindLaws.{full_never}
 use Rattle.result_assembly.proofs.Inserted.{inserted, told_level, needed_is}
 use Rattle.result_assembly.proofs.Steps.{size_here, rows_here, small, starts_here}
-use Rattle.result_assembly.proofs.Turns.{times_of, pass_here, none_then_placed, counted_few, counted_above}
-
--- a product of two counts of positions fits a word
-counts_multiply : greatest_position_count * greatest_position_count < 2 ^ 62
-unfolding greatest_position_count
-counts_multiply = lit< tt
+use Rattle.result_assembly.proofs.Turns.{times_of, pass_here, none_then_placed}
 
 module _ (letters rest : List Letter) (letter : Letter) (full : (properties letter).full ≡ true) (w g d n base : ℕ) (count : KExpr)
     (insert : List KStmt) (bounded : Below base count) (left : drop d letters ≡ letter ∷ rest) (through : n ≡ d + chain_length (letter ∷ rest))
@@ -53,23 +49,25 @@ module _ (letters rest : List Letter) (letter : Letter) (full : (properties lett
   abbrev size : ℕ
   size = size_here letters rest letter w g d n count left through nothing sizes table may s dr
 
+  product : (n : ℕ) × (value (guarded_product count (At (Dimension 0 (suc d)) (Num 0))) s ≡ Some n) × StandsForProduct dr.parents size n
+  product =
+      guarded_told count (At (Dimension 0 (suc d)) (Num 0)) dr.parents size s dr.told
+      (word_is (Dimension 0 (suc d)) (Num 0) (size ∷ []) 0 size s
+      ((starts_here letters rest letter w g d n count left through nothing sizes table may s dr).0.size full) refl refl)
+      (sizes_are_factors size (small letters rest letter w g d n count left through nothing sizes table may s dr))
+
   abbrev total : ℕ
-  total = dr.parents * size
+  total = product.0
 
   -- as many as the kind says
-  needs : positions_for letter size dr.parents 0 ≡ total
+  needs : positions_for letter size dr.parents 0 ≡ dr.parents * size
   needs = full_positions letter size dr.parents 0 full
 
-  fits_word : total < 2 ^ 64
-  fits_word =
-      let m = mul-le-mul dr.few (small letters rest letter w g d n count left through nothing sizes table may s dr) in
-      let l = counts_multiply in omega (arith, m, l)
+  counted : positions_for letter size dr.parents 0 ≤ greatest_position_count → total ≡ positions_for letter size dr.parents 0
+  counted h = let same = needs in product.2.same (omega (arith, h, same)) ∙ sym needs
 
-  total_told : value (Bin Mul count (At (Dimension 0 (suc d)) (Num 0))) s ≡ Some total
-  total_told =
-      product_is count (At (Dimension 0 (suc d)) (Num 0)) dr.parents size s dr.told
-      (word_is (Dimension 0 (suc d)) (Num 0) (size ∷ []) 0 size s
-      ((starts_here letters rest letter w g d n count left through nothing sizes table may s dr).0.size full) refl refl) fits_word
+  all_fit : total ≤ greatest_position_count → positions_for letter size dr.parents 0 ≤ greatest_position_count
+  all_fit fits = let all = all_parents dr.parents size total product.2 fits in let same = needs in omega (arith, fits, all, same)
 
   abbrev then : State
   then = set_var s base total
@@ -85,9 +83,9 @@ module _ (letters rest : List Letter) (letter : Letter) (full : (properties lett
   inserts fits =
       does_weaker c insert then _ _ _ _
       (inserted letters rest letter w g d n base count (Num 0) left through (full_never letter full) nothing sizes table may
-      then drained_then 0 (λ stored. apart (sym full ∙ stored)) (λ _. refl) total (this_var s base total) (λ h. sym needs) c insert places refl
+      then drained_then 0 (λ stored. apart (sym full ∙ stored)) (λ _. refl) total (this_var s base total) counted c insert places refl
       (omega arith)
-      (λ _. subst (λ k. k ≤ greatest_position_count) (sym needs) fits))
+      (λ _. all_fit fits))
       (λ u z. record {
         drained = z.0;
         probes = times_of (slot_width 0) rows.count;
@@ -126,7 +124,7 @@ module _ (letters rest : List Letter) (letter : Letter) (full : (properties lett
               (λ k. omega arith),
               record {
                 array = inr refl;
-                above = counted_above total (word_count (0 + total)) none_more above;
+                above = omega (arith, above);
                 within = at_most;
               },
             ),
@@ -136,12 +134,9 @@ module _ (letters rest : List Letter) (letter : Letter) (full : (properties lett
           too_many : {A : Type 0} → may_have (Values 0) (length {A = ℕ} [] + total) ≡ true → A
           too_many e = let is : nat_le (0 + total) greatest_position_count ≡ false = grind (arith, nat_tests) in apart (sym e ∙ is)
 
-          none_more : word_count (0 + total) ≡ word_count total
-          none_more = let same : 0 + total ≡ total = omega arith in ap word_count same
-
-          at_most : word_count (0 + total) ≤ slice_index (positions_from table 0 1 letters sizes) d
+          at_most : 0 + total ≤ slice_index (positions_from table 0 1 letters sizes) d
           at_most =
-              let f = counted_few total (word_count (0 + total)) none_more in
+              let f = product.2.within in
               let told = told_level letters rest letter w g d n base count (Num 0) left through (full_never letter full) nothing sizes table may
               s dr 0 (λ stored. apart (sym full ∙ stored)) (λ _. refl) in
               let same = needed_is letters rest letter w g d n base count (Num 0) left through (full_never letter full) nothing sizes table may
@@ -156,6 +151,6 @@ module _ (letters rest : List Letter) (letter : Letter) (full : (properties lett
           (RefusesLevel letters sizes table d s))
           (sym is) (inserts fits))
 
-  pub full_level : Does c (Set base (Bin Mul count (At (Dimension 0 (suc d)) (Num 0))) ∷ (guard_code base ++ insert)) s
+  pub full_level : Does c (Set base (guarded_product count (At (Dimension 0 (suc d)) (Num 0))) ∷ (guard_code base ++ insert)) s
       (LeavesLevel nothing letters sizes table w g d base s) (RefusesLevel letters sizes table d s)
-  full_level = does_set c base (Bin Mul count (At (Dimension 0 (suc d)) (Num 0))) (guard_code base ++ insert) s total _ _ total_told guarded
+  full_level = does_set c base (guarded_product count (At (Dimension 0 (suc d)) (Num 0))) (guard_code base ++ insert) s total _ _ product.1 guarded

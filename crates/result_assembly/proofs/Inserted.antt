@@ -34,7 +34,6 @@ use Rattle.result_assembly.specs.Tests.{begins_test}
 use Rattle.result_assembly.proofs.Holding.{inserted_summed}
 use Rattle.result_assembly.proofs.Steps.{size_here, rows_here, few_words, begun_here, fill_here, first_told, coord_told}
 use Rattle.result_assembly.proofs.Steps.{told_here, packed_here, drained_here}
-use Rattle.result_assembly.proofs.Turns.{counted_few, counted_above}
 
 one_more_at_most : (b : Bool) (x n : ℕ) → x ≤ n → (if b then x + 1 else x) ≤ suc n
 one_more_at_most true x n h = omega (arith, h)
@@ -93,8 +92,8 @@ module _ (letters rest : List Letter) (letter : Letter) (w g d n base : ℕ) (co
     pub refused_at : (a : Arr) (k : ℕ) → PassesLimitWithin 0 (suc d) needed a k → PassesAt letters sizes table d a k
     refused_at a k r = record {
       array = inl r.1.array;
-      above = counted_above r.0 k r.1.told r.1.above;
-      within = (let f = counted_few r.0 k r.1.told in let upto = r.2 in let told = told_level in omega (arith, f, upto, told));
+      above = (let is = r.1.told in let over = r.1.above in omega (arith, is, over));
+      within = (let is = r.1.told in let upto = r.2 in let told = told_level in omega (arith, is, upto, told));
     }
 
     pub may_insert : MayInsertRows (meaning.size start.start) dr.parents rows

@@ -5,11 +5,11 @@ use Rattle.std.proofs.lemmas.List.{append_assoc}
 use Rattle.kernel_code.specs.Does.{Does}
 use Rattle.kernel_code.specs.Keeps.{Below}
 use Rattle.kernel_code.specs.declared.syntax.Arr.TheVariants.{Values, Key}
-use Rattle.kernel_code.specs.declared.syntax.KExpr.{KExpr, Num, Var, At, Bin, Width}
+use Rattle.kernel_code.specs.declared.syntax.KExpr.{KExpr, Num, Var, At, Width}
 use Rattle.kernel_code.specs.declared.syntax.KStmt.{KStmt, Set, Extend}
-use Rattle.kernel_code.specs.declared.syntax.Op.TheVariants.{Mul}
 use Rattle.level_core.specs.declared.letter.Letter.{Letter}
 use Rattle.level_core.specs.Codes.{PrepareCode, InsertCode}
+use Rattle.level_core.specs.GuardedProducts.{guarded_product}
 use Rattle.level_rows.specs.declared.emitting.DrainSite.{DrainSite}
 use Rattle.level_rows.specs.Counting.{FindsGreatest}
 use Rattle.tensor_storage.specs.Levels.{meaning}
@@ -31,7 +31,7 @@ in_row a b c e f =
 pub filled_of : (kind : Letter) (slotted : IsCounted kind) (at site : DrainSite) (count test coord : KExpr) (nothing : ℕ) (total : KStmt)
     (greatest prepare insert fill code : List KStmt) → Below at.base count → site ≡ rows_of at
     → test ≡ begins_test site.base site.workspace at.level → coord ≡ At (Key at.workspace (at.level - 1)) (Var site.base)
-    → total ≡ Set at.base (Bin Mul count (Width (Var (site.base + 2))))
+    → total ≡ Set at.base (guarded_product count (Width (Var (site.base + 2))))
     → FindsGreatest site.base site.workspace site.list site.level test greatest
     → PrepareCode meaning kind 0 at.level (count ∷ Var (site.base + 2) ∷ []) (site.base + 6) prepare
     → InsertCode meaning kind 0 at.level (Var (site.base + 4) ∷ coord ∷ []) (site.base + 6) insert
@@ -40,7 +40,7 @@ pub filled_of : (kind : Letter) (slotted : IsCounted kind) (at site : DrainSite)
     → FillsLast nothing at.level at.workspace at.list at.base count code
 filled_of kind slotted at site count test coord nothing total greatest prepare insert fill code bounded is =
     subst (λ (s : DrainSite). test ≡ begins_test s.base s.workspace at.level → coord ≡ At (Key at.workspace (at.level - 1)) (Var s.base)
-    → total ≡ Set at.base (Bin Mul count (Width (Var (s.base + 2))))
+    → total ≡ Set at.base (guarded_product count (Width (Var (s.base + 2))))
     → FindsGreatest s.base s.workspace s.list s.level test greatest
     → PrepareCode meaning kind 0 at.level (count ∷ Var (s.base + 2) ∷ []) (s.base + 6) prepare
     → InsertCode meaning kind 0 at.level (Var (s.base + 4) ∷ coord ∷ []) (s.base + 6) insert
@@ -49,7 +49,7 @@ filled_of kind slotted at site count test coord nothing total greatest prepare i
     → FillsLast nothing at.level at.workspace at.list at.base count code) (sym is) here
   where
     here : test ≡ begins_test (at.base + 1) at.workspace at.level → coord ≡ At (Key at.workspace (at.level - 1)) (Var (at.base + 1))
-        → total ≡ Set at.base (Bin Mul count (Width (Var (at.base + 1 + 2))))
+        → total ≡ Set at.base (guarded_product count (Width (Var (at.base + 1 + 2))))
         → FindsGreatest (at.base + 1) at.workspace at.list at.level test greatest
         → PrepareCode meaning kind 0 at.level (count ∷ Var (at.base + 1 + 2) ∷ []) (at.base + 1 + 6) prepare
         → InsertCode meaning kind 0 at.level (Var (at.base + 1 + 4) ∷ coord ∷ []) (at.base + 1 + 6) insert
@@ -69,13 +69,13 @@ filled_of kind slotted at site count test coord nothing total greatest prepare i
         subst (λ k. InsertCode meaning kind 0 k (Var (base + 1 + 4) ∷ At (Key w d) (Var (base + 1)) ∷ []) (base + 1 + 6) insert) number
         (subst (λ e. InsertCode meaning kind 0 at.level (Var (base + 1 + 4) ∷ e ∷ []) (base + 1 + 6) insert)
         (coords ∙ ap (λ k. At (Key w k) (Var (base + 1))) (one_less at.level d number)) inserts) in
-        let code_is : code ≡ greatest ++ Set base (Bin Mul count (Width (Var (base + 1 + 2))))
+        let code_is : code ≡ greatest ++ Set base (guarded_product count (Width (Var (base + 1 + 2))))
         ∷ (prepare ++ Extend (Values 0) (Var base) (Num nothing) ∷ fill_rows_code (base + 1) w g insert) =
         codes
         ∙ ap (λ t. (((greatest ++ t ∷ []) ++ prepare) ++ Extend (Values 0) (Var base) (Num nothing) ∷ []) ++ fill) totals
-        ∙ ap (λ r. (((greatest ++ Set base (Bin Mul count (Width (Var (base + 1 + 2)))) ∷ []) ++ prepare)
+        ∙ ap (λ r. (((greatest ++ Set base (guarded_product count (Width (Var (base + 1 + 2)))) ∷ []) ++ prepare)
         ++ Extend (Values 0) (Var base) (Num nothing) ∷ []) ++ r) fills
-        ∙ in_row greatest (Set base (Bin Mul count (Width (Var (base + 1 + 2)))) ∷ []) prepare
+        ∙ in_row greatest (Set base (guarded_product count (Width (Var (base + 1 + 2)))) ∷ []) prepare
         (Extend (Values 0) (Var base) (Num nothing) ∷ []) (fill_rows_code (base + 1) w g insert) in
         subst (λ k. Does c k s (LeavesFilled nothing letters sizes table w g d base s) (RefusesLevel letters sizes table d s)) (sym code_is)
         (last_filled letters kind slotted w g d at.level base count bounded left_here

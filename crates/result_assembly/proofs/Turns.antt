@@ -3,9 +3,6 @@ use Rattle.std.specs.Prelude.{◌≡◌, ◌⊎◌, ◌*◌, ℕ, zero, suc, ◌
 use Rattle.std.specs.Prelude.{None, refl}
 use Rattle.std.proofs.Common.{◌∙◌, sym, ap, subst, arith, inl, inr}
 use Rattle.std.proofs.lemmas.Bool.{cases_lt}
-use Rattle.limits.specs.Limits.{greatest_position_count}
-use Rattle.limits.proofs.Limits.{positions_are_small}
-use Rattle.kernel_code.specs.Arrays.{word_count}
 use Rattle.kernel_code.specs.declared.syntax.LoopKind.{LoopKind}
 use Rattle.kernel_code.specs.declared.syntax.LoopKind.TheVariants.{Merge, Skip, Gather, Drain, Probe}
 use Rattle.level_core.specs.declared.letter.Letter.{Letter}
@@ -53,16 +50,6 @@ counted_at_most before after each rows probes Skip m h = omega (arith, h)
 counted_at_most before after each rows probes Gather m h = omega (arith, h)
 counted_at_most before after each rows probes Drain m h = omega (arith, h, m)
 counted_at_most before after each rows probes Probe m h = omega (arith, h)
-
--- a count that is told of a number is no greater
-pub counted_few : (n k : ℕ) → k ≡ word_count n → k ≤ n
-unfolding word_count
-counted_few n k is = omega (arith, is)
-
--- and passes the limit where the number does
-pub counted_above : (n k : ℕ) → k ≡ word_count n → greatest_position_count < n → greatest_position_count < k
-unfolding word_count
-counted_above n k is above = let small = positions_are_small in omega (arith, is, above, small)
 
 -- so many probe turns where each of so many rows takes as many as a block is wide
 abbrev pub times_of : ℕ → ℕ → ℕ

@@ -3,7 +3,7 @@ ghost use Rattle.kernel_code.specs.Keeps.{Below};
 ghost use Rattle.kernel_code.specs.declared.syntax.Arr.{Arr};
 ghost use Rattle.kernel_code.specs.declared.syntax.KExpr.{KExpr};
 ghost use Rattle.kernel_code.specs.declared.syntax.KStmt.{KStmt};
-ghost use Rattle.kernel_code.specs.declared.syntax.Op.TheVariants.{Mul};
+ghost use Rattle.level_core.specs.GuardedProducts.{guarded_product};
 ghost use Rattle.level_core.specs.Kinds.{properties, capabilities};
 ghost use Rattle.tensor_storage.specs.Levels.{meaning};
 ghost use Rattle.result_assembly.specs.Drained.{DrainsOf, IsCounted};
@@ -11,7 +11,7 @@ ghost use Rattle.result_assembly.specs.Tests.{guard_code};
 
 use crate::tests_of_rows::begins_by_keys;
 use kernel_code::{Arr, KExpr, KStmt, Op, binary, copy_expr, one_statement, word_at};
-use level_core::{Letter, caps_of, props_of};
+use level_core::{Letter, caps_of, guarded_product, props_of};
 use level_rows::{DrainSite, emit_append_rows, emit_greatest_below, emit_insert_rows};
 use limits::greatest_positions;
 use std::alloc::{AllocError, Global};
@@ -66,19 +66,19 @@ fn drain_appended(
     Ok(code)
 }
 
-/// The number of positions of a level whose coordinates are counted: as many for each parent as a block is wide. Refused for want of
-/// memory alone.
+/// The number of positions of a level whose coordinates are counted: as many for each parent as a block is wide, or a number that
+/// passes the limit where they do. Refused for want of memory alone.
 pub(crate) fn block_positions(
     alloc: Global,
     base: u64,
     parents: &KExpr,
     most: u64,
 ) -> Result<KStmt, AllocError>
-    ensures { IfOk result (λ code. code ≡ KStmt.Set base (KExpr.Bin Mul parents.now (KExpr.Width (KExpr.Var most)))) }
+    ensures { IfOk result (λ code. code ≡ KStmt.Set base (guarded_product parents.now (KExpr.Width (KExpr.Var most)))) }
 {
     let width = KExpr::Width(Boxed::new(alloc, KExpr::Var(most))?);
     let parents = copy_expr(alloc, parents)?;
-    let total = binary(alloc, Op::Mul, parents, width)?;
+    let total = guarded_product(alloc, parents, width)?;
     Ok(KStmt::Set(base, total))
 }
 
@@ -111,7 +111,8 @@ fn drain_counted(
     Ok(code)
 }
 
-/// The number of positions of a full level: as many for each parent as its range. Refused for want of memory alone.
+/// The number of positions of a full level: as many for each parent as its range, or a number that passes the limit where they do.
+/// Refused for want of memory alone.
 fn full_positions(
     alloc: Global,
     base: u64,
@@ -119,11 +120,11 @@ fn full_positions(
     level: u64,
 ) -> Result<KStmt, AllocError>
     ensures { IfOk result (λ code. code
-        ≡ KStmt.Set base (KExpr.Bin Mul parents.now (KExpr.At (Arr.Dimension 0 level) (KExpr.Num 0)))) }
+        ≡ KStmt.Set base (guarded_product parents.now (KExpr.At (Arr.Dimension 0 level) (KExpr.Num 0)))) }
 {
     let size = word_at(alloc, Arr::Dimension(0, level), KExpr::Num(0))?;
     let parents = copy_expr(alloc, parents)?;
-    let total = binary(alloc, Op::Mul, parents, size)?;
+    let total = guarded_product(alloc, parents, size)?;
     Ok(KStmt::Set(base, total))
 }
 
