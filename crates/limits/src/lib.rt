@@ -10,31 +10,31 @@ ghost use Rattle.limits.specs.Limits.{greatest_accesses, greatest_operands, grea
 ghost use Rattle.limits.specs.Limits.{greatest_line_bytes, greatest_file_bytes, greatest_workload};
 
 /// The greatest number of positions of one level of a tensor's storage, and the greatest range of a mode.
-pub const GREATEST_POSITION_COUNT: u64 = 2_147_483_647;
+pub const GREATEST_POSITION_COUNT: u64 = 1_099_511_627_776;
 
 /// The greatest range that a word `VAR#RANGE` of the command line may give.
-pub const GREATEST_RANGE_WORD: u64 = 2_147_483_647;
+pub const GREATEST_RANGE_WORD: u64 = 1_099_511_627_776;
 
 /// The greatest coordinate, counted from 1, that a file may have.
-pub const GREATEST_FILE_COORDINATE: u64 = 2_147_483_647;
+pub const GREATEST_FILE_COORDINATE: u64 = 1_099_511_627_776;
 
 /// The greatest number of rows, and of columns, that a Matrix Market file may give.
-pub const GREATEST_MATRIX_SIZE: u64 = 2_147_483_647;
+pub const GREATEST_MATRIX_SIZE: u64 = 1_099_511_627_776;
 
 /// The greatest number of entries that a Matrix Market file may announce: 2^40.
 pub const GREATEST_MATRIX_ENTRIES: u64 = 1_099_511_627_776;
 
 /// The greatest number of pairs of coordinates and value that are added to one workspace since it was empty.
-pub const GREATEST_WORKSPACE_PAIRS: u64 = 2_147_483_647;
+pub const GREATEST_WORKSPACE_PAIRS: u64 = 1_099_511_627_776;
 
 /// The greatest order of a tensor, which is the greatest number of variables of one access.
 pub const GREATEST_ORDER: u64 = 6;
 
 /// The greatest number of different variables of one statement.
-pub const GREATEST_VARIABLES: u64 = 6;
+pub const GREATEST_VARIABLES: u64 = 8;
 
 /// The greatest number of accesses on the right side of a statement.
-pub const GREATEST_ACCESSES: u64 = 6;
+pub const GREATEST_ACCESSES: u64 = 8;
 
 /// The greatest number of accesses and numbers on the right side of a statement.
 pub const GREATEST_OPERANDS: u64 = 16;

@@ -5,8 +5,8 @@ use Rattle.tns_io.specs.Reading.{entries_of_text, reading}
 use Rattle.tns_io.specs.Reading.Reading.{Skipped, Read, Bad}
 use Rattle.text_lines.specs.declared.line_kind.LineKind.TheVariants.{Fields, NotNumber, NotWhole, NumRange, Negative, ZeroCoordinate}
 
-pub lines_of_order_two : map (reading true 2) (codes "1 2 3.0" ∷ codes " 2147483647 \t0001 -0 " ∷ codes "2 1 -9223372036854775808" ∷ [])
-    ≡ map Read (record { coords = 0 ∷ 1 ∷ []; value = 3 } ∷ record { coords = 2147483646 ∷ 0 ∷ []; value = 0 }
+pub lines_of_order_two : map (reading true 2) (codes "1 2 3.0" ∷ codes " 1099511627776 \t0001 -0 " ∷ codes "2 1 -9223372036854775808" ∷ [])
+    ≡ map Read (record { coords = 0 ∷ 1 ∷ []; value = 3 } ∷ record { coords = 1099511627775 ∷ 0 ∷ []; value = 0 }
     ∷ record { coords = 1 ∷ 0 ∷ []; value = 2 ^ 63 } ∷ [])
 unfolding greatest_file_coordinate greatest_line_bytes
 lines_of_order_two = refl
@@ -15,7 +15,7 @@ pub skipped_lines : map (reading true 2) (codes "" ∷ codes " \t" ∷ codes "# 
 unfolding greatest_file_coordinate greatest_line_bytes
 skipped_lines = refl
 
-pub bad_lines : map (reading true 2) (codes "1 2 3.5" ∷ codes "0 1 3" ∷ codes "1 2" ∷ codes "1 2 3 #" ∷ codes "2147483648 0 x"
+pub bad_lines : map (reading true 2) (codes "1 2 3.5" ∷ codes "0 1 3" ∷ codes "1 2" ∷ codes "1 2 3 #" ∷ codes "1099511627777 0 x"
     ∷ codes "+1 1 3" ∷ codes "1 1 1e" ∷ codes "1 1 9223372036854775808" ∷ [])
     ≡ map Bad (NotWhole ∷ ZeroCoordinate ∷ Fields ∷ Fields ∷ NumRange ∷ NotNumber ∷ NotNumber ∷ NumRange ∷ [])
 unfolding greatest_file_coordinate greatest_line_bytes
