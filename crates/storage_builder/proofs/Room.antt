@@ -1,12 +1,10 @@
 -- How many values dense levels have, and what ranges levels have.
-use Rattle.std.specs.Prelude.{◌≡◌, ℕ, ◌+◌, ◌*◌, ◌≤◌, ◌<◌, ◌^◌, nat_le, true, if◌then◌else◌, refl}
+use Rattle.std.specs.Prelude.{◌≡◌, ℕ, ◌+◌, ◌*◌, ◌≤◌, ◌<◌, nat_le, true, if◌then◌else◌, refl}
 use Rattle.std.specs.Prelude.{List, [], ◌∷◌, ◌++◌, slice_index, take, length, All}
 use Rattle.std.proofs.Common.{◌∙◌, sym, ap, subst, arith, get_or}
 use Rattle.std.proofs.lemmas.Bool.Decides.{nat_tests}
-use Rattle.std.proofs.lemmas.List.Elements.{All-tail, All-get_or}
+use Rattle.std.proofs.lemmas.List.Elements.{All-tail}
 use Rattle.std.proofs.lemmas.List.{take_more, get_or-map, length-map}
-use Rattle.std.proofs.lemmas.Nat.{mul-lt}
-use Rattle.coordinate_lists.proofs.Words.{positions_fit_32_bits}
 use Rattle.limits.specs.Limits.{greatest_position_count}
 use Rattle.level_core.specs.declared.letter.Letter.{Letter}
 use Rattle.level_core.specs.declared.letter.Letter.TheVariants.{Dense}
@@ -66,12 +64,3 @@ pub size_more : (format : List FormatLevel) (shape : List ℕ) (i : ℕ) (d : Fo
 size_more format shape i d h =
     take_more (in_level_order format shape) i 0 (subst (λ n. i < n) (sym (length-map format (λ level. slice_index shape level.mode))) h)
     ∙ ap (λ n. take i (in_level_order format shape) ++ n ∷ []) (get_or-map (λ level. slice_index shape level.mode) format i d 0 h)
-
--- one range more may be multiplied with
-pub small_product : (count : ℕ) (sizes : List ℕ) (i : ℕ) → count ≤ greatest_position_count
-    → All (λ size. size ≤ greatest_position_count) sizes → i < length sizes → count * slice_index sizes i < 2 ^ 64
-small_product count sizes i h small here =
-    let k : slice_index sizes i ≤ greatest_position_count = All-get_or (λ size. size ≤ greatest_position_count) sizes i 0 here small in
-    let less = mul-lt count (slice_index sizes i) (2 ^ 32) (2 ^ 32) (omega (arith, h, positions_fit_32_bits))
-    (omega (arith, k, positions_fit_32_bits)) in
-    omega (arith, less)

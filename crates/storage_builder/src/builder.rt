@@ -32,11 +32,11 @@ fn room_for(sizes: &[u64]) -> u64
 {
     let mut count = 1;
     for size in sizes {
-        let more = count * *size;
-        if more > greatest_positions() {
+        let more = count as u128 * *size as u128;
+        if more > greatest_positions() as u128 {
             return 0;
         }
-        count = more;
+        count = more as u64;
     }
     count
 }
