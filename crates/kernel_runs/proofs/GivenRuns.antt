@@ -1,5 +1,5 @@
 -- What the run of a given kernel on a store leaves, and why it has no result, as those of the whole run.
-use Rattle.std.specs.Prelude.{◌≡◌, ◌⊎◌, ℕ, zero, suc, ◌+◌, ◌<◌, List, [], ◌∷◌, length, map, All, Option, Ok, Vec, slice_index, slice_index_or, refl}
+use Rattle.std.specs.Prelude.{◌≡◌, ◌⊎◌, ℕ, ◌<◌, List, length, map, Option, Ok, Vec, slice_index, slice_index_or, refl}
 use Rattle.std.specs.declared.alloc.Global.{Global}
 use Rattle.std.proofs.Common.{◌∙◌, sym, ap, subst, arith, inl, inr}
 use Rattle.std.proofs.lemmas.List.{length-map}
@@ -22,6 +22,7 @@ use Rattle.tensor_storage.specs.Levels.{meaning}
 use Rattle.tensor_storage.specs.Storages.{EndsAt, Storage, in_level_order}
 use Rattle.kernel_correctness.specs.Stores.{Store}
 use Rattle.kernel_machine.specs.Checked.{IsCheckedFault}
+use Rattle.kernel_machine.specs.Runs.{HasRunWithin}
 use Rattle.operand_packing.specs.Operands.{AreOperands}
 use Rattle.operand_packing.specs.Packed.{MayNotPack}
 use Rattle.operand_packing.specs.Runnable.{told_ranges}
@@ -125,6 +126,8 @@ given_is a laws s formats kernel given operands bounds budget ranges told are st
   where
     shape_is : shape ≡ map (slice_index ranges) s.left.vars
     shape_is = run.shape_is ∙ ap (λ (rs : List ℕ). map (slice_index rs) s.left.vars) is_store.ranges_are
+
+    left : HasRunWithin a kernel store run.runs.given budget tensor turns
     left = run.runs.ends.run
 
     order : length tensor.format ≡ length s.left.vars

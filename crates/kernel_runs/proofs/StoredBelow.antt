@@ -1,16 +1,14 @@
 -- The coordinates of a storage's paths are below the ranges of the modes that its levels store.
-use Rattle.std.specs.Prelude.{◌≡◌, ℕ, zero, suc, ◌+◌, ◌<◌, ◌≤◌, List, [], ◌∷◌, length, map, All, slice_index, slice_index_or}
-use Rattle.std.proofs.Common.{◌∙◌, sym, ap, subst, arith, get_or, inl, inr}
-use Rattle.std.proofs.lemmas.List.{length-map, get_or-map}
-use Rattle.numbers.specs.Arithmetic.{Arithmetic, Laws}
-use Rattle.tensor_map.specs.declared.entries.Entry.{Entry}
-use Rattle.tensor_map.specs.Entries.{AreEntries, Entries, Listed, value_at}
+use Rattle.std.specs.Prelude.{◌≡◌, ℕ, zero, suc, ◌<◌, List, [], ◌∷◌, length, map, slice_index}
+use Rattle.std.proofs.Common.{◌∙◌, sym, ap, subst, arith, get_or}
+use Rattle.std.proofs.lemmas.List.{get_or-map}
 use Rattle.level_core.specs.declared.letter.Letter.TheVariants.{Dense}
-use Rattle.level_core.specs.Entries.{Span, one}
+use Rattle.level_core.specs.declared.span.Span.{Span}
+use Rattle.level_core.specs.Entries.{one}
 use Rattle.level_rows.specs.Stacks.{Path}
 use Rattle.level_rows.proofs.Entries.{below_at}
 use Rattle.format_spec.specs.declared.format.FormatLevel.{FormatLevel}
-use Rattle.format_spec.specs.Formats.{IsFormat, modes_of}
+use Rattle.format_spec.specs.Formats.{modes_of}
 use Rattle.format_spec.proofs.Pigeonholes.{each_mode_stands}
 use Rattle.tensor_storage.specs.declared.level.StorageLevel.{StorageLevel}
 use Rattle.tensor_storage.specs.Laws.{laws}

@@ -4,7 +4,6 @@ ghost use Rattle.kernel_runs.specs.Refused.{of_place};
 
 use expr_terms::RangeFault;
 use kernel_code::Place;
-use kernel_machine::CheckedFault;
 use operand_packing::{LargeLevel, PackFault};
 use std::alloc::AllocError;
 
@@ -122,22 +121,5 @@ impl From<PackFault> for GivenFault {
 
     fn from(refusal: PackFault) -> GivenFault {
         GivenFault::Run(RunFault::from(refusal))
-    }
-}
-
-impl From<CheckedFault> for GivenFault {
-    ghost use Rattle.std.specs.Prelude.{◌≡◌};
-    ghost use Rattle.kernel_runs.specs.Refused.{of_checked};
-
-    ghost from_gives = { λ refusal fault. fault ≡ of_checked refusal };
-
-    fn from(refusal: CheckedFault) -> GivenFault {
-        match refusal {
-            CheckedFault::Trap { statement } => GivenFault::Trap { statement },
-            CheckedFault::Budget => GivenFault::Budget,
-            CheckedFault::SizeLimit { place, count } => GivenFault::Run(large(place, count)),
-            CheckedFault::BadStore => GivenFault::BadStore,
-            CheckedFault::Memory => GivenFault::Run(RunFault::Memory(AllocError)),
-        }
     }
 }

@@ -1,25 +1,43 @@
 //! A statement's operands computed by a kernel of which nothing is known.
-ghost use Rattle.std.specs.Prelude.{◌≤◌, All, length, IfOk, IfErr};
+ghost use Rattle.std.specs.Prelude.{◌≤◌, ℕ, All, length, IfOk, IfErr};
 ghost use Rattle.limits.specs.Limits.{greatest_order, greatest_position_count};
 ghost use Rattle.index_notation.specs.Statement.{IsWellNamed};
 ghost use Rattle.tensor_map.specs.Entries.{AreEntries};
+ghost use Rattle.numbers.specs.Arithmetic.{Arithmetic};
+ghost use Rattle.kernel_code.specs.declared.syntax.Kernel.{Kernel as AKernel};
+ghost use Rattle.kernel_correctness.specs.Stores.{Store as AStore};
 ghost use Rattle.kernel_machine.specs.Begins.{store_of};
+ghost use Rattle.kernel_machine.specs.Checked.{IsCheckedFault};
 ghost use Rattle.operand_packing.specs.Runnable.{IsRunnable};
 ghost use Rattle.kernel_runs.specs.Given.{IsGivenOn, IsGivenRun, MayRefuseGiven, RefusedGiven};
 
-use crate::fault::GivenFault;
+use crate::fault::{GivenFault, RunFault, large};
 use crate::results::{entries_of, shape_of};
 use crate::runs::KernelRun;
 use expr_terms::ranges;
 use format_spec::Format;
 use index_notation::Statement;
 use kernel_code::Kernel;
-use kernel_machine::run_checked;
+use kernel_machine::{CheckedFault, run_checked};
 use numbers::Semiring;
 use operand_files::Operands;
 use operand_packing::pack_operands;
-use std::alloc::Global;
+use std::alloc::{AllocError, Global};
 use tensor_storage::Tensor;
+
+/// The machine's refusal as that of a run. The result is tensor 0.
+fn fault_of(refusal: CheckedFault) -> GivenFault
+    ensures { (a : Arithmetic) (kernel : AKernel) (store : AStore) (budget : ℕ) → IsCheckedFault a kernel store budget refusal
+        → RefusedGiven a kernel store budget result }
+{
+    match refusal {
+        CheckedFault::Trap { statement } => GivenFault::Trap { statement },
+        CheckedFault::Budget => GivenFault::Budget,
+        CheckedFault::SizeLimit { place, count } => GivenFault::Run(large(place, count)),
+        CheckedFault::BadStore => GivenFault::BadStore,
+        CheckedFault::Memory => GivenFault::Run(RunFault::Memory(AllocError)),
+    }
+}
 
 /// Runs a kernel on packed operands, which are lent, with these ranges of its variables and a result of this format, within the budget, and
 /// takes the values that aren't zero.
@@ -42,7 +60,7 @@ fn check_packed<S: Semiring>(
 {
     let (tensor, turns) = match run_checked::<S>(alloc, kernel, format, operands, ranges, budget) {
         Ok(pair) => pair,
-        Err(fault) => return Err(GivenFault::from(fault)),
+        Err(refusal) => return Err(fault_of(refusal)),
     };
     let entries = entries_of::<S>(alloc, &tensor)?;
     let shape = shape_of(alloc, statement, ranges)?;
