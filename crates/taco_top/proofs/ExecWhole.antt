@@ -33,6 +33,8 @@ use Rattle.bindings.proofs.OneAnswer as bindings
 use Rattle.bindings.specs.Bindings.{order_of}
 use Rattle.bindings.specs.Outcome.{Binds}
 use Rattle.kernel_code.specs.declared.syntax.Kernel.{Kernel}
+use Rattle.kernel_code.specs.declared.syntax.Place.{Place}
+use Rattle.kernel_code.specs.declared.syntax.Place.TheVariants.{Level, Workspace as InWorkspace}
 use Rattle.kernel_read.specs.Answers.{IsAnswer}
 use Rattle.kernel_read.specs.declared.fault.KernelFault.{KernelFault}
 use Rattle.kernel_read.specs.declared.fault.KernelFault.TheVariants as reading
@@ -210,6 +212,19 @@ told_apart told bytes is no = never (sym is ∙ no)
     never : Bytes bytes ≡ NoFile → ⊥
     never e = cc
 
+-- no other fault of a run is want of memory
+size_apart : {at : Place} {count : ℕ} → checked.SizeLimit at count ≡ checked.Memory → ⊥
+size_apart h = cc
+
+trap_apart : {statement : ℕ} → checked.Trap statement ≡ checked.Memory → ⊥
+trap_apart h = cc
+
+budget_apart : checked.Budget ≡ checked.Memory → ⊥
+budget_apart h = cc
+
+store_apart : checked.BadStore ≡ checked.Memory → ⊥
+store_apart h = cc
+
 -- ---- no stage has a cause
 
 -- want of memory in the reading of a kernel's file, and of operands
@@ -361,7 +376,7 @@ module _ (words : List (List ℕ)) (files new : FolderState) (whole : IsWholeExe
     no_large : (tensor level count : ℕ)
         → IsLargeGiven (kernel_values kernel).arithmetic whole.request.statement whole.request.formats kernel whole.request.given entries
         bounds whole.request.budget tensor level count → ⊥
-    no_large zero level count is = let same = no_stop _ is in cc
+    no_large zero level count is = size_apart (no_stop (checked.SizeLimit (Level level) count) is)
     no_large (suc n) level count is =
         let ranges = one_ranges (told_ranges whole.request.statement whole.request.given bounds) is.ranges there.ranges is.ranges_are
         ranges_there in
@@ -377,11 +392,11 @@ module _ (words : List (List ℕ)) (files new : FolderState) (whole : IsWholeExe
         bounds whole.request.budget why → IsRunWant why
     no_run (given.Run (run.Range why)) is = apart (sym ranges_there ∙ is)
     no_run (given.Run (run.SizeLimit large)) is = no_large large.tensor large.level large.count is
-    no_run (given.Run (run.Workspace count)) is = let same = no_stop _ is in cc
+    no_run (given.Run (run.Workspace count)) is = size_apart (no_stop (checked.SizeLimit InWorkspace count) is)
     no_run (given.Run (run.Memory error)) is = tt
-    no_run (given.Trap statement) is = let same = no_stop _ is in cc
-    no_run given.Budget is = let same = no_stop _ is in cc
-    no_run given.BadStore is = let same = no_stop _ is in cc
+    no_run (given.Trap statement) is = trap_apart (no_stop (checked.Trap statement) is)
+    no_run given.Budget is = budget_apart (no_stop checked.Budget is)
+    no_run given.BadStore is = store_apart (no_stop checked.BadStore is)
 
   no_run_fault : (why : GivenFault) → StopsAtRun words files new why → IsRunWant why
   no_run_fault why is =
