@@ -1,12 +1,11 @@
 -- A command that is refused by its words, and how any command ends.
-use Rattle.std.specs.Prelude.{◌≡◌, ℕ, ◌⊎◌, List, Result, Ok, Err, refl}
+use Rattle.std.specs.Prelude.{◌≡◌, ℕ, ◌⊎◌, List, Ok, refl}
 use Rattle.std.proofs.Common.{inl, inr, subst}
 use Rattle.outside.specs.Folder.{FolderState}
 use Rattle.outside.specs.Sink.{SinkState}
 use Rattle.refusals.specs.declared.fault.NamedFault.TheVariants as named
 use Rattle.refusals.specs.declared.fault.Fault.{Fault}
 use Rattle.refusals.specs.declared.fault.Fault.TheVariants as fault
-use Rattle.taco_top.specs.Asked.{IsRefusedByWords}
 use Rattle.kernel_code.specs.declared.syntax.Turns.{Turns}
 use Rattle.taco_top.specs.Ends.{Cause, Printed, Refused, Written}
 use Rattle.taco_top.specs.Exec.{IsExecRefused}

@@ -1,5 +1,5 @@
 -- What the words bind to a statement's names is what they ask for.
-use Rattle.std.specs.Prelude.{◌≡◌, ℕ, true, List, map, Result, Ok, Err, IsErrAnd, MatchResult, refl}
+use Rattle.std.specs.Prelude.{◌≡◌, ℕ, true, List, map, Result, Ok, Err, IsErrAnd, MatchResult}
 use Rattle.std.proofs.Common.{sym, subst}
 use Rattle.index_notation.specs.Notation.{IsNotationOf}
 use Rattle.index_notation.specs.Statement.{IsNumbered}

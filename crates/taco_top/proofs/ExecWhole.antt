@@ -7,7 +7,7 @@ use Rattle.std.proofs.lemmas.List.{length-append}
 use Rattle.std.proofs.lemmas.List.Elements.{All-tail}
 use Rattle.std.proofs.lemmas.List.FromFn.{length-map-range_with_len}
 use Rattle.std.specs.declared.alloc.Global.{Global}
-use Rattle.limits.specs.Limits.{greatest_file_bytes, greatest_position_count}
+use Rattle.limits.specs.Limits.{greatest_position_count}
 use Rattle.outside.specs.Count.{Rose}
 use Rattle.outside.specs.Folder.{FolderState}
 use Rattle.outside.specs.Sink.{SinkState}
@@ -68,7 +68,7 @@ use Rattle.taco_top.specs.Executed.{RefusesExec, kernel_values}
 use Rattle.taco_top.specs.Run.{operand_path}
 use Rattle.taco_top.specs.Values.{Values, values_in}
 use Rattle.taco_top.specs.Whole.{bound_told}
-use Rattle.taco_top.specs.WholeExec.{IsKernelWant, IsWholeExec, RunsWhole, entries_in}
+use Rattle.taco_top.specs.WholeExec.{IsWholeExec, RunsWhole, entries_in}
 use Rattle.taco_top.specs.Written.{means}
 use Rattle.taco_top.proofs.OneRequest.{binding_apart}
 use Rattle.taco_top.proofs.TextLaws.{other_refused}
@@ -207,7 +207,7 @@ one_ranges (Ok zs) xs ys x y =
 one_ranges (Err fault) xs ys x y = absurd cc
 
 told_apart : (told : Told) (bytes : List ℕ) → told ≡ Bytes bytes → told ≡ NoFile → ⊥
-told_apart told bytes is no = never (sym is ∙ no)
+told_apart told bytes is none = never (sym is ∙ none)
   where
     never : Bytes bytes ≡ NoFile → ⊥
     never e = cc
@@ -345,6 +345,7 @@ module _ (words : List (List ℕ)) (files new : FolderState) (whole : IsWholeExe
     there = runs kernel input.between input.has_kernel
 
     operands_are : input.reads.operands ≡ there.operands
+    unfolding there runs
     operands_are = ap (ok_of [])
         (sym (told_answer (means (kernel_values kernel)) input.between new (exec_orders whole.request) (exec_paths whole.request) entries
         (map (λ b. b.items) bounds) (told kernel input.between input.has_kernel) as_many input.reads)

@@ -1,9 +1,8 @@
 -- How `exec` ends, from how its parts do.
-use Rattle.std.specs.Prelude.{◌≡◌, ℕ, ◌∷◌, ◌++◌, ◌⊎◌, [], true, All, List, Option, Ok, length, map, slice_index, take, Vec, refl}
+use Rattle.std.specs.Prelude.{◌≡◌, ℕ, ◌∷◌, ◌++◌, [], true, List, Option, length, map, slice_index, take, Vec, refl}
 use Rattle.std.proofs.Common.{◌∙◌, sym, ap, subst, inl, inr}
 use Rattle.std.proofs.lemmas.List.{append-nil, append_assoc, length-map}
 use Rattle.std.specs.declared.alloc.Global.{Global}
-use Rattle.limits.specs.Limits.{greatest_position_count}
 use denote.Ref.{Bor}
 use Rattle.outside.specs.Folder.{FolderState}
 use Rattle.outside.specs.Told.{Told}
@@ -11,25 +10,21 @@ use Rattle.outside.specs.Sink.{SinkState}
 use Rattle.tensor_map.specs.Coords.{IsShape}
 use Rattle.tensor_map.specs.Entries.{AreEntries, Entries, value_at}
 use Rattle.format_spec.specs.declared.format.FormatLevel.{FormatLevel}
-use Rattle.index_notation.specs.declared.syntax.Statement.{Statement}
 use Rattle.index_notation.specs.Statement.{IsNumbered, IsWellNamed}
 use Rattle.expr_terms.specs.declared.bound.Bound.{Bound}
 use Rattle.expr_terms.proofs.ExpandLaws.{expanded_named}
 use Rattle.expr_terms.proofs.WellNamed.{notation_well_named}
 use Rattle.kernel_code.specs.declared.syntax.Kernel.{Kernel}
-use Rattle.kernel_code.specs.declared.syntax.Turns.{Turns}
-use Rattle.tensor_storage.specs.Storages.{Storage}
 use Rattle.mtx_io.specs.Progress.{IsMatrixOrder}
 use Rattle.bindings.specs.Tables.{path_to}
 use Rattle.operand_files.specs.Decoded.{AreReadable}
 use Rattle.operand_files.specs.KernelFiles.{IsKernelRefused}
-use Rattle.operand_files.specs.Reads.{Given, HaveRead, IsOpening, IsRefused, MayOpen, NoReadFails, OnlyReads, OpensFirst, paths_of}
+use Rattle.operand_files.specs.Reads.{Given, HaveRead, IsOpening, IsRefused, NoReadFails, OnlyReads, OpensFirst, paths_of}
 use Rattle.operand_files.specs.declared.fault.OperandFault.{OperandFault}
 use Rattle.operand_files.specs.declared.fault.OperandFault.TheVariants as operand
 use Rattle.operand_files.specs.declared.kernel_file.KernelFileFault.{KernelFileFault}
 use Rattle.operand_files.specs.declared.kernel_file.KernelFileFault.TheVariants as file
-use Rattle.operand_packing.specs.Operands.{AreRanges}
-use Rattle.operand_packing.specs.Runnable.{IsRunnable, told_ranges}
+use Rattle.operand_packing.specs.Runnable.{IsRunnable}
 use Rattle.operand_packing.proofs.NamesRead.{text_read, text_keeps_orders}
 use Rattle.operand_packing.proofs.Runnable.{read_is_runnable}
 use Rattle.kernel_runs.specs.Given.{IsGivenRun, MayRefuseGiven}
@@ -37,7 +32,6 @@ use Rattle.kernel_runs.specs.declared.fault.GivenFault.{GivenFault}
 use Rattle.kernel_runs.specs.declared.fault.GivenFault.TheVariants as given
 use Rattle.kernel_runs.specs.declared.fault.RunFault.TheVariants as run
 use Rattle.kernel_runs.proofs.Shapes.{ranges_shape}
-use Rattle.result_files.specs.EntriesText.{MayBeWritten}
 use Rattle.result_files.specs.ResultText.{asks_matrix}
 use Rattle.result_files.specs.Writes.{RefusesResult, WritesResult}
 use Rattle.result_files.specs.declared.refusal.WriteRefusal.{WriteRefusal}
@@ -45,7 +39,7 @@ use Rattle.refusals.specs.declared.fault.KernelFault.TheVariants as kernels
 use Rattle.refusals.specs.declared.fault.Fault.{Fault}
 use Rattle.refusals.specs.declared.fault.Fault.TheVariants as fault
 use Rattle.taco_top.specs.Exec.{AsksExec, ExecNames, ExecRequest, exec_orders, exec_paths}
-use Rattle.taco_top.specs.Executed.{HasInput, HasKernel, IsExecUnwritten, IsExecuted, IsExecution, OpensInput, StopsAtOperands, StopsAtRun, StopsExec}
+use Rattle.taco_top.specs.Executed.{HasInput, HasKernel, IsExecUnwritten, IsExecuted, OpensInput, StopsAtRun, StopsExec}
 use Rattle.taco_top.specs.Executed.{RefusesExec, kernel_values}
 use Rattle.taco_top.specs.Executing.{IsReady, fault_of_run}
 use Rattle.taco_top.specs.Run.{path_of}
@@ -206,6 +200,13 @@ module _ (words : List (List ℕ)) (old between new : FolderState) (r : ExecRequ
 
 -- ---- the run
 
+-- memory was wanted behind the kernel's file, and nothing more was opened
+pub wants_behind_kernel : (words : List (List ℕ)) (old here : FolderState) (r : ExecRequest) → AsksExec words r → (kernel : Kernel)
+    → HasKernel r.path old here kernel → StopsExec words old here fault.Memory
+wants_behind_kernel words old here r asks kernel has_kernel = inr (opens_input words old here here r asks kernel has_kernel
+    (record { files = []; given_is = sym (append-nil here.given); in_order = refl })
+    (record { read_faults_are = refl; faulted_is = refl }))
+
 module _ (words : List (List ℕ)) (old new : FolderState) (r : ExecRequest) (kernel : Kernel) (entries : List Entries)
     (bounds : List (Vec Bound Global)) (input : HasInput words old new r kernel entries bounds) where
   -- everything was read
@@ -225,6 +226,7 @@ module _ (words : List (List ℕ)) (old new : FolderState) (r : ExecRequest) (ke
   at_run why is = record { request = r; kernel = kernel; entries = entries; bounds = bounds; input = input; refused = is }
 
   stops_at_run : (why : GivenFault) → Refused why → StopsExec words old new (fault_of_run r.statement r.budget why)
+  unfolding at_run
   stops_at_run (given.Run (run.Range why)) is = record { stops = at_run (given.Run (run.Range why)) is; statement_is = refl }
   stops_at_run (given.Run (run.SizeLimit large)) is =
       record { stops = at_run (given.Run (run.SizeLimit large)) is; statement_is = refl }

@@ -1,7 +1,7 @@
 use Rattle.index_notation.specs.Statement.{IsNumbered}
 use Rattle.taco_top.specs.Asked.{texts_in}
 use Rattle.taco_top.specs.Exec.{ExecNames}
-use Rattle.taco_top.proofs.BoundNames.{executed_for, text_unexecuted}
+use Rattle.taco_top.proofs.BoundNames.{executed_for}
 use Rattle.taco_top.proofs.asked.ask_execution.Goals as goal
 
 -- the words ask for the statement that the written one stands for

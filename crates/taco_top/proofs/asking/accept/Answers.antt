@@ -1,5 +1,5 @@
 use Rattle.std.proofs.Common.{◌≡◌, refl, subst}
-use Rattle.std.specs.Prelude.{Ok, Err}
+use Rattle.std.specs.Prelude.{Err}
 use Rattle.expr_terms.specs.Minus.{HasMeaning}
 use Rattle.taco_compiler.specs.Compiled.{Answers}
 use Rattle.taco_compiler.specs.declared.compiled.CompileFault.TheVariants as compile

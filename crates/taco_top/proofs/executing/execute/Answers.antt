@@ -13,24 +13,24 @@ pub returns-in-Ring : goal.returns-in-Ring
 returns-in-Ring g c = λ words asks.
     c.execute_over.ensures words (g.F.Folder.state c.args.files.now) asks c.in-Ok.ensures.kernel
 
-pub execute_over-in-MinPlus-requires-clause-over : goal.execute_over-in-MinPlus-requires-clause-over
-execute_over-in-MinPlus-requires-clause-over g c = ap values_of (sym c.over_of.ensures ∙ c.in-MinPlus.is)
+pub execute_over-requires-in-MinPlus-clause-over : goal.execute_over-requires-in-MinPlus-clause-over
+execute_over-requires-in-MinPlus-clause-over g c = ap values_of (sym c.over_of.ensures ∙ c.in-MinPlus.is)
 
-pub execute_over-in-MinPlus-requires-clause-read : goal.execute_over-in-MinPlus-requires-clause-read
-execute_over-in-MinPlus-requires-clause-read g c = (g.F.Folder.state c.args.files.now, c.in-Ok.ensures.kernel)
+pub execute_over-requires-in-MinPlus-clause-read : goal.execute_over-requires-in-MinPlus-clause-read
+execute_over-requires-in-MinPlus-clause-read g c = (g.F.Folder.state c.args.files.now, c.in-Ok.ensures.kernel)
 
 pub returns-in-MinPlus : goal.returns-in-MinPlus
 returns-in-MinPlus g c = λ words asks.
     c.execute_over-in-MinPlus.ensures words (g.F.Folder.state c.args.files.now) asks c.in-Ok.ensures.kernel
 
-pub execute_over-in-Bits-requires-clause-over : goal.execute_over-in-Bits-requires-clause-over
-execute_over-in-Bits-requires-clause-over g c = ap values_of (sym c.over_of.ensures ∙ c.in-Bits.is)
+pub execute_over-requires-in-Bits-clause-over : goal.execute_over-requires-in-Bits-clause-over
+execute_over-requires-in-Bits-clause-over g c = ap values_of (sym c.over_of.ensures ∙ c.in-Bits.is)
 
-pub execute_over-in-Bits-requires-clause-read : goal.execute_over-in-Bits-requires-clause-read
-execute_over-in-Bits-requires-clause-read g c = (g.F.Folder.state c.args.files.now, c.in-Ok.ensures.kernel)
+pub execute_over-requires-in-Bits-clause-read : goal.execute_over-requires-in-Bits-clause-read
+execute_over-requires-in-Bits-clause-read g c = (g.F.Folder.state c.args.files.now, c.in-Ok.ensures.kernel)
 
-pub returns-in-Bits : goal.returns-in-Bits
-returns-in-Bits g c = λ words asks.
+pub returns : goal.returns
+returns g c = λ words asks.
     c.execute_over-in-Bits.ensures words (g.F.Folder.state c.args.files.now) asks c.in-Ok.ensures.kernel
 
 pub returns-in-Err : goal.returns-in-Err

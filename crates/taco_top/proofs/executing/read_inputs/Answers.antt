@@ -1,10 +1,14 @@
-use Rattle.std.proofs.Common.{◌≡◌, ◌∙◌, ap, sym}
+use Rattle.std.proofs.Common.{◌≡◌, ◌∙◌, List, ℕ, ap, rules, sym}
 use Rattle.std.proofs.lemmas.List.{length-map}
 use Rattle.bindings.specs.Tables.{paths_in}
 use Rattle.operand_files.specs.declared.fault.OperandFault.TheVariants as operand
 use Rattle.taco_top.specs.Exec.{exec_request}
 use Rattle.taco_top.specs.Values.{semiring}
-use Rattle.taco_top.proofs.Executes.{exec_readable, has_input, no_operands}
+use Rattle.outside.specs.Folder.{FolderState}
+use Rattle.refusals.specs.declared.fault.Fault.TheVariants as fault
+use Rattle.taco_top.specs.Exec.{AsksExec}
+use Rattle.taco_top.specs.Executed.{HasKernel, StopsExec}
+use Rattle.taco_top.proofs.Executes.{exec_readable, has_input, no_operands, wants_behind_kernel}
 use Rattle.taco_top.proofs.executing.read_inputs.Goals as goal
 
 pub read_operands-requires : goal.read_operands-requires
@@ -71,3 +75,21 @@ returns-clause-stops g c = λ words before asks has_kernel.
     (c.as_slice.ensures.value ∙ c.in_ok-orders.ensures)
     (ap paths_in c.as_slice-2.ensures.value ∙ c.in_ok-sources.ensures)
     c.in-Err-Memory.field-0 operand.Memory same c.in-Err-Memory.ensures.refused
+
+pub returns-in_err-orders-clause-stops : goal.returns-in_err-orders-clause-stops
+returns-in_err-orders-clause-stops g c =
+    let h : (words : List (List ℕ)) (before : FolderState) → AsksExec words (exec_request c.args.execution.now)
+    → HasKernel c.args.execution.now.path.now before (g.F.Folder.state c.args.files.now) c.args.kernel.now
+    → StopsExec words before (g.F.Folder.state c.args.files.now) fault.Memory =
+    λ words before asks has_kernel. wants_behind_kernel words before (g.F.Folder.state c.args.files.now)
+    (exec_request c.args.execution.now) asks c.args.kernel.now has_kernel in
+    search (rules, h)
+
+pub returns-in_err-sources-clause-stops : goal.returns-in_err-sources-clause-stops
+returns-in_err-sources-clause-stops g c =
+    let h : (words : List (List ℕ)) (before : FolderState) → AsksExec words (exec_request c.args.execution.now)
+    → HasKernel c.args.execution.now.path.now before (g.F.Folder.state c.args.files.now) c.args.kernel.now
+    → StopsExec words before (g.F.Folder.state c.args.files.now) fault.Memory =
+    λ words before asks has_kernel. wants_behind_kernel words before (g.F.Folder.state c.args.files.now)
+    (exec_request c.args.execution.now) asks c.args.kernel.now has_kernel in
+    search (rules, h)

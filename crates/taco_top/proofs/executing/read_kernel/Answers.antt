@@ -36,8 +36,8 @@ returns-in-Err-BadKernel-clause-stops g c = λ words asks.
     (exec_request c.args.execution.now) asks c.args.execution.now.path refl c.in-Err-BadKernel.field-0
     (file.BadKernel c.in-Err-BadKernel.line) same c.in-Err-BadKernel.ensures.refused
 
-pub returns-clause-stops : goal.returns-clause-stops
-returns-clause-stops g c = λ words asks.
+pub returns-in-Err-Memory-clause-stops : goal.returns-in-Err-Memory-clause-stops
+returns-in-Err-Memory-clause-stops g c = λ words asks.
     let told = c.in-Err-Memory.field-0-is in
     let same : c.in-Err-Memory.field-0 ≡ file.Memory = cc in
     no_kernel words (g.F.Folder.state c.args.files.now) (g.F.Folder.state c.read_kernel_file.new.files)
