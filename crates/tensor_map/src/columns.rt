@@ -2,7 +2,7 @@
 ghost use Rattle.std.specs.Prelude.{◌≡◌, ℕ, ◌<◌, ◌≤◌, ◌^◌, ◌+◌, [], ◌∷◌, ◌++◌, length, slice_index, slice_index_or};
 ghost use Rattle.std.specs.Prelude.{All, IfOk, OnOk, OnErr, take, slice_set};
 ghost use Rattle.limits.specs.Limits.{greatest_order};
-ghost use Rattle.tensor_map.specs.Entries.{Entry};
+ghost use Rattle.tensor_map.specs.Entries.{Entry, column_in};
 ghost use Rattle.tensor_map.specs.Columns.{AreLong, KeepsBelow};
 
 use crate::Coords;
@@ -82,6 +82,17 @@ impl Columns {
     {
         let columns = &self.modes[..self.order];
         columns[mode][i] as u64
+    }
+
+    /// The coordinates of all entries in a mode.
+    #[tactic(auto, unfolding(limits::specs::Limits::greatest_order))]
+    pub(crate) fn column(&self, mode: usize) -> &[u32]
+        requires { mode < self.now.order }
+        ensures { result.now ≡ column_in self.now.list mode }
+    {
+        let columns = &self.modes[..self.order];
+        let column = columns[mode].as_slice();
+        &column[..self.values.len()]
     }
 
     /// The value of an entry.

@@ -3,7 +3,7 @@ ghost use Rattle.std.specs.Prelude.{◌≡◌, ◌≤◌, ◌<◌, ◌^◌, ◌�
 ghost use Rattle.std.specs.Prelude.{length, slice_index, slice_index_or, take, filter};
 ghost use Rattle.std.specs.Prelude.{All, IsTrue, IfOk, OnOk, OnErr, IfSome};
 ghost use Rattle.limits.specs.Limits.{greatest_order};
-ghost use Rattle.tensor_map.specs.Entries.{Entry, IsEntry, ComeLast, is_nonzero};
+ghost use Rattle.tensor_map.specs.Entries.{Entry, IsEntry, ComeLast, column_in, is_nonzero};
 ghost use Rattle.tensor_map.specs.Summed.{SortsAndAdds};
 
 use crate::Coords;
@@ -95,6 +95,17 @@ impl EntryList {
         match &self.form {
             EntryForm::Columns(columns) => columns.coordinate(i, mode),
             EntryForm::Rows(rows) => rows[i].coords.as_slice()[mode],
+        }
+    }
+
+    /// The coordinates of all entries in a mode, where they are columns.
+    pub(crate) fn column(&self, mode: usize) -> Option<&[u32]>
+        requires { mode < self.now.order }
+        ensures { IfSome result (λ column. column.now ≡ column_in self.now.list mode) }
+    {
+        match &self.form {
+            EntryForm::Columns(columns) => Some(columns.column(mode)),
+            EntryForm::Rows(_) => None,
         }
     }
 
