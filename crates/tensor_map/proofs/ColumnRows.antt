@@ -6,8 +6,9 @@ use Rattle.std.proofs.lemmas.List.{length-append, length-take-le, get_or_append_
 use Rattle.std.proofs.lemmas.List.{same_lists, length-map}
 use Rattle.std.proofs.lemmas.List.{get_or-set_same, get_or-set_other, get_or-map}
 use Rattle.std.proofs.lemmas.Bool.{cases_eq}
+use Rattle.std.proofs.lemmas.Grind.{same_number_lists}
 use Rattle.std.proofs.Math.ListN.{set, length-set}
-use Rattle.tensor_map.specs.Entries.{Entry}
+use Rattle.tensor_map.specs.Entries.{Entry, column_in}
 use Rattle.tensor_map.specs.Columns.{row_of, rows_from, rows_of, AreLong, KeepsBelow}
 
 module _ {X : Type 0} (numbers : X → List ℕ) where
@@ -91,6 +92,24 @@ module _ {X : Type 0} (numbers : X → List ℕ) where
       → slice_index_or (rows_of numbers columns values) k d ≡ record { coords = row_of numbers columns k; value = slice_index values k }
   entry_at columns values k d h = row_at columns 0 values k d h
       ∙ ap (λ at. record { coords = row_of numbers columns at; value = slice_index values k }) (omega arith)
+
+  -- the first numbers of a column are the coordinates in its mode
+  pub column_is : (columns : List X) (values : List ℕ) (mode : ℕ) (d : X) → mode < length columns
+      → length values ≤ length (numbers (slice_index_or columns mode d))
+      → take (length values) (numbers (slice_index_or columns mode d)) ≡ column_in (rows_of numbers columns values) mode
+  column_is columns values mode d within long =
+      let column = numbers (slice_index_or columns mode d) in
+      let rows = rows_of numbers columns values in
+      let many : length (take (length values) column) ≡ length values = length-take-le (length values) column long in
+      let none : Entry = record { coords = []; value = 0 } in
+      same_number_lists (take (length values) column) (column_in rows mode)
+      (many ∙ sym (length-map rows (λ entry. slice_index entry.coords mode) ∙ length_rows columns 0 values)) (λ k h.
+      let there : k < length values = omega (arith, many, h) in
+      let row : k < length rows = omega (arith, there, length_rows columns 0 values) in
+      get_or-take (length values) column k 0 there
+      ∙ sym (get_or-map (λ c. slice_index (numbers c) k) columns mode d 0 within)
+      ∙ sym (ap (λ entry. slice_index entry.coords mode) (entry_at columns values k none there))
+      ∙ sym (get_or-map (λ entry. slice_index entry.coords mode) rows k none 0 row))
 
   -- a column is kept below its first numbers where one is put after those
   put_after : (count c : ℕ) (old new : List ℕ) → count ≤ length old → new ≡ take count old ++ c ∷ [] → KeepsBelow count old new
@@ -199,3 +218,10 @@ module _ {X : Type 0} (numbers : X → List ℕ) where
             now ∙ (λ i. record { coords = row i; value = value i }) ∙ sym (entry_at old values k e k_old)
             ∙ sym (get_or-set_other before to k moved e apart))
       ])
+
+-- two coordinates are those of a list of two
+pub two_is : (coords : List ℕ) → length coords ≡ 2 → slice_index coords 0 ∷ slice_index coords 1 ∷ [] ≡ coords
+two_is [] h = absurd (omega arith)
+two_is (x ∷ []) h = absurd (omega arith)
+two_is (x ∷ y ∷ []) h = refl
+two_is (x ∷ y ∷ z ∷ others) h = absurd (omega arith)

@@ -1,5 +1,5 @@
 -- A sort by coordinates: what it leaves never falls, and has the same values at each coordinate list.
-use Rattle.std.specs.Prelude.{◌≡◌, ℕ, suc, ◌<◌, ◌≤◌, Bool, false, List, [], ◌∷◌, ◌++◌, length, take}
+use Rattle.std.specs.Prelude.{◌≡◌, ℕ, suc, ◌<◌, ◌≤◌, false, List, [], ◌∷◌, ◌++◌, length, take}
 use Rattle.std.specs.Prelude.{All, ◌⊎◌, ◌↔◌, refl, slice_index_or}
 use Rattle.std.specs.declared.cmp.Ordering.{Ordering}
 use Rattle.std.specs.declared.cmp.Ordering.TheVariants.{Less, Equal, Greater}
@@ -16,14 +16,11 @@ use Rattle.tensor_map.specs.Order.{IsBefore}
 use Rattle.tensor_map.proofs.OrderLaws.{compared_as}
 use Rattle.tensor_map.specs.Entries.{Entry, IsEntry, value_at, Listed, StrictlyIncreasing}
 use Rattle.tensor_map.specs.Laws.{same, other}
+use Rattle.tensor_map.specs.Sorted.{is_before}
 use Rattle.tensor_map.proofs.Lemmas.{tested}
 use Rattle.tensor_map.specs.Summed.{joined, summed_from, summed, SortsAndAdds}
 use Rattle.tensor_map.proofs.Permutations.{value_permutation, listed_permutation}
 use Rattle.tensor_map.proofs.Summed.{IsNotAfterAll, NeverFalls, summed_same, summed_other, value_summed, listed_summed, increasing_summed}
-
--- whether the first entry's coordinates are before the second's
-abbrev pub is_before : Entry → Entry → Bool
-is_before left right = is_lt (slice_cmp nat_cmp left.coords right.coords)
 
 pub is_before_orders : IsStrictWeakOrder is_before
 is_before_orders = ranks_by nat_list_cmp_total (λ (entry : Entry). entry.coords)

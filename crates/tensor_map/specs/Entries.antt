@@ -77,6 +77,10 @@ pub record IsGreatest (entries : List Entry) (mode coordinate : ℕ) : Type 0 wh
 abbrev pub ComeLast : List Entry → List ℕ → Type 0
 ComeLast entries coords = (k : ℕ) (d : Entry) → k + 1 ≡ length entries → IsBefore (slice_index_or entries k d).coords coords
 
+-- the coordinates of all entries in a mode, one after another
+abbrev pub column_in : List Entry → ℕ → List ℕ
+column_in entries mode = map (λ entry. slice_index entry.coords mode) entries
+
 -- the greatest of the entries' coordinates in a mode, and 0 where there is no entry
 abbrev pub greatest_in : List Entry → ℕ → ℕ
 greatest_in [] mode = 0

@@ -9,4 +9,5 @@ pub use Rattle.numbers.specs.Arithmetic
 pub use Rattle.numbers.specs.Ring
 pub use Rattle.numbers.specs.Signed
 pub use Rattle.numbers.specs.Sums
+pub mod Sorted
 pub mod Summed

@@ -2,10 +2,11 @@
 ghost use Rattle.std.specs.Prelude.{◌≡◌, ℕ, ◌<◌, ◌≤◌, ◌^◌, ◌+◌, [], ◌∷◌, ◌++◌, length, slice_index, slice_index_or};
 ghost use Rattle.std.specs.Prelude.{All, IfOk, OnOk, OnErr, take, slice_set};
 ghost use Rattle.limits.specs.Limits.{greatest_order};
-ghost use Rattle.tensor_map.specs.Entries.{Entry};
+ghost use Rattle.tensor_map.specs.Entries.{Entry, column_in};
 ghost use Rattle.tensor_map.specs.Columns.{AreLong, KeepsBelow};
 
 use crate::Coords;
+use crate::pair_entry::PairEntry;
 use std::alloc::{AllocError, Global};
 use std::marker::Model;
 
@@ -73,15 +74,47 @@ impl Columns {
         coords
     }
 
-    /// The coordinate of an entry in a mode.
+    /// The coordinate of an entry in a mode, in 32 bits.
     #[tactic(auto, unfolding(limits::specs::Limits::greatest_order))]
-    pub(crate) fn coordinate(&self, i: usize, mode: usize) -> u64
+    fn narrow(&self, i: usize, mode: usize) -> u32
         requires entry { i < length self.now.list }
         requires mode { mode < self.now.order }
         ensures { (d : Entry) → result ≡ slice_index (slice_index_or self.now.list i d).coords mode }
     {
         let columns = &self.modes[..self.order];
-        columns[mode][i] as u64
+        columns[mode][i]
+    }
+
+    /// The coordinate of an entry in a mode.
+    pub(crate) fn coordinate(&self, i: usize, mode: usize) -> u64
+        requires entry { i < length self.now.list }
+        requires mode { mode < self.now.order }
+        ensures { (d : Entry) → result ≡ slice_index (slice_index_or self.now.list i d).coords mode }
+    {
+        self.narrow(i, mode) as u64
+    }
+
+    /// The coordinates of all entries in a mode.
+    #[tactic(auto, unfolding(limits::specs::Limits::greatest_order))]
+    pub(crate) fn column(&self, mode: usize) -> &[u32]
+        requires { mode < self.now.order }
+        ensures { result.now ≡ column_in self.now.list mode }
+    {
+        let columns = &self.modes[..self.order];
+        let column = columns[mode].as_slice();
+        &column[..self.values.len()]
+    }
+
+    /// An entry of a matrix as a pair.
+    pub(crate) fn pair(&self, i: usize) -> PairEntry
+        requires entry { i < length self.now.list }
+        requires two { self.now.order ≡ 2 }
+        ensures { (d : Entry) → result ≡ slice_index_or self.now.list i d }
+    {
+        let _ = &self.values;
+        let row = self.narrow(i, 0);
+        let column = self.narrow(i, 1);
+        PairEntry::new(row, column, self.value(i))
     }
 
     /// The value of an entry.

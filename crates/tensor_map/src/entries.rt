@@ -1,8 +1,8 @@
 ghost use Rattle.std.specs.Prelude.{◌≡◌, ℕ, ◌≤◌, ◌<◌, ◌↔◌, [], ◌∷◌, ◌++◌};
-ghost use Rattle.std.specs.Prelude.{length, IsTrue, IsOk, IfOk, OnOk, OnErr, MatchOption};
+ghost use Rattle.std.specs.Prelude.{length, IsTrue, IsOk, IfOk, OnOk, OnErr, IfSome, MatchOption};
 ghost use Rattle.std.specs.Prelude.{slice_index, slice_index_or, max, filter};
 ghost use Rattle.limits.specs.Limits.{greatest_order};
-ghost use Rattle.tensor_map.specs.Entries.{Entry, greatest_in};
+ghost use Rattle.tensor_map.specs.Entries.{Entry, column_in, greatest_in};
 
 use crate::Coords;
 use crate::entry_list::EntryList;
@@ -81,6 +81,16 @@ impl Entries {
     {
         let _ = &self.greatest;
         self.list.coordinate(i, mode)
+    }
+
+    /// The coordinates of all entries in a mode, counted from 0, in the order of the entries, where they stand next to one another with
+    /// four bytes each: so do those of entries that increase and fit. It takes no memory.
+    pub fn column(&self, mode: usize) -> Option<&[u32]>
+        requires { mode < self.now.order }
+        ensures { IfSome result (λ column. column.now ≡ column_in self.now.list mode) }
+    {
+        let _ = &self.greatest;
+        self.list.column(mode)
     }
 
     /// The value of an entry.

@@ -1,14 +1,17 @@
-// A row of entries in one of two forms: as columns while they increase and are narrow, and else whole, so that they can be sorted.
+// A row of entries in one of three forms: as columns while they increase and are narrow; else each by itself, so that they can be sorted:
+// as pairs of narrow coordinates in a matrix, and whole in any other tensor.
 ghost use Rattle.std.specs.Prelude.{◌≡◌, ◌≤◌, ◌<◌, ◌^◌, ◌↔◌, [], ◌∷◌, ◌++◌};
 ghost use Rattle.std.specs.Prelude.{length, slice_index, slice_index_or, take, filter};
 ghost use Rattle.std.specs.Prelude.{All, IsTrue, IfOk, OnOk, OnErr, IfSome};
 ghost use Rattle.limits.specs.Limits.{greatest_order};
-ghost use Rattle.tensor_map.specs.Entries.{Entry, IsEntry, ComeLast, is_nonzero};
+ghost use Rattle.tensor_map.specs.Entries.{Entry, IsEntry, ComeLast, column_in, is_nonzero};
 ghost use Rattle.tensor_map.specs.Summed.{SortsAndAdds};
 
 use crate::Coords;
 use crate::columns::Columns;
 use crate::entries::Entry;
+use crate::pair_entry::PairEntry;
+use crate::rows::Rows;
 use crate::sorted_rows::sort_rows;
 use numbers::Semiring;
 use std::alloc::{AllocError, Global};
@@ -19,6 +22,8 @@ use std::marker::Model;
 pub(crate) enum EntryForm {
     /// As columns: they increase, and their coordinates fit 32 bits.
     Columns(Columns),
+    /// Each by itself, of a matrix: their coordinates fit 32 bits.
+    Pairs(Vec<PairEntry>),
     /// Each whole.
     Rows(Vec<Entry>),
 }
@@ -63,6 +68,7 @@ impl EntryList {
     {
         match &self.form {
             EntryForm::Columns(columns) => columns.len(),
+            EntryForm::Pairs(pairs) => pairs.len(),
             EntryForm::Rows(rows) => rows.len(),
         }
     }
@@ -81,6 +87,7 @@ impl EntryList {
     {
         match &self.form {
             EntryForm::Columns(columns) => columns.coords(i),
+            EntryForm::Pairs(pairs) => pairs[i].coords(self.alloc),
             EntryForm::Rows(rows) => rows[i].coords.copied(),
         }
     }
@@ -94,7 +101,20 @@ impl EntryList {
     {
         match &self.form {
             EntryForm::Columns(columns) => columns.coordinate(i, mode),
+            EntryForm::Pairs(pairs) => pairs[i].coordinate(mode),
             EntryForm::Rows(rows) => rows[i].coords.as_slice()[mode],
+        }
+    }
+
+    /// The coordinates of all entries in a mode, where they are columns.
+    pub(crate) fn column(&self, mode: usize) -> Option<&[u32]>
+        requires { mode < self.now.order }
+        ensures { IfSome result (λ column. column.now ≡ column_in self.now.list mode) }
+    {
+        match &self.form {
+            EntryForm::Columns(columns) => Some(columns.column(mode)),
+            EntryForm::Pairs(_) => None,
+            EntryForm::Rows(_) => None,
         }
     }
 
@@ -105,6 +125,7 @@ impl EntryList {
     {
         match &self.form {
             EntryForm::Columns(columns) => columns.value(i),
+            EntryForm::Pairs(pairs) => pairs[i].value(),
             EntryForm::Rows(rows) => rows[i].value,
         }
     }
@@ -119,9 +140,22 @@ impl EntryList {
     {
         match &mut self.form {
             EntryForm::Rows(rows) => push_row(self.alloc, rows, coords, value)?,
+            EntryForm::Pairs(pairs) => {
+                if let Some(pair) = pair_of(coords, value) {
+                    pairs.push(pair)?;
+                } else {
+                    let mut rows = whole(self.alloc, pairs)?;
+                    push_row(self.alloc, &mut rows, coords, value)?;
+                    self.form = EntryForm::Rows(rows);
+                }
+            }
             EntryForm::Columns(columns) => {
                 if are_narrow(coords) && come_last(columns, coords) {
                     columns.push(coords, value)?;
+                } else if let Some(pair) = pair_of(coords, value) {
+                    let mut pairs = pairs_of(self.alloc, columns)?;
+                    pairs.push(pair)?;
+                    self.form = EntryForm::Pairs(pairs);
                 } else {
                     let mut rows = rows_of(self.alloc, columns)?;
                     push_row(self.alloc, &mut rows, coords, value)?;
@@ -141,10 +175,19 @@ impl EntryList {
         ensures sorts { SortsAndAdds S.arithmetic self.old.list self.new.list }
         ensures shorter { length self.new.list ≤ length self.old.list }
     {
-        if let EntryForm::Rows(rows) = &mut self.form {
-            sort_rows::<S>(rows);
-            if let Some(columns) = columns_of(self.alloc, self.order, rows) {
-                self.form = EntryForm::Columns(columns);
+        match &mut self.form {
+            EntryForm::Columns(_) => {}
+            EntryForm::Pairs(pairs) => {
+                sort_rows::<S, Vec<PairEntry>>(pairs);
+                if let Some(columns) = columns_of(self.alloc, self.order, pairs) {
+                    self.form = EntryForm::Columns(columns);
+                }
+            }
+            EntryForm::Rows(rows) => {
+                sort_rows::<S, Vec<Entry>>(rows);
+                if let Some(columns) = columns_of(self.alloc, self.order, rows) {
+                    self.form = EntryForm::Columns(columns);
+                }
             }
         }
     }
@@ -156,6 +199,7 @@ impl EntryList {
     {
         match &mut self.form {
             EntryForm::Columns(columns) => keep_nonzero::<S>(columns),
+            EntryForm::Pairs(pairs) => pairs.retain(|entry| entry.value() != S::zero()),
             EntryForm::Rows(rows) => rows.retain(|entry| entry.value != S::zero()),
         }
     }
@@ -215,17 +259,56 @@ fn push_row(
     Ok(())
 }
 
+/// An entry of a matrix as a pair, if its coordinates fit.
+fn pair_of(coords: &[u64], value: u64) -> Option<PairEntry>
+    ensures pair { IfSome result (λ pair. pair ≡ record { coords = coords.now; value = value }) }
+    ensures two { IfSome result (λ _. length coords.now ≡ 2) }
+{
+    if coords.len() == 2 && are_narrow(coords) {
+        return Some(PairEntry::new(coords[0] as u32, coords[1] as u32, value));
+    }
+    None
+}
+
+/// So much room that pushes of so many entries and one more would have come to it, so that the next ones want no more than they would.
+fn room_behind(count: usize) -> usize {
+    count
+        .saturating_add(1)
+        .checked_next_power_of_two()
+        .unwrap_or(0)
+}
+
+/// The entries of a matrix as pairs. Refused for want of memory alone.
+fn pairs_of(alloc: Global, columns: &Columns) -> Result<Vec<PairEntry>, AllocError>
+    requires { columns.now.order ≡ 2 }
+    ensures { IfOk result (λ pairs. pairs.items ≡ columns.now.list) }
+{
+    let mut pairs = Vec::with_capacity(alloc, room_behind(columns.len()))?;
+    for i in 0..columns.len() {
+        pairs.push(columns.pair(i))?;
+    }
+    Ok(pairs)
+}
+
+/// The same entries, each whole. Refused for want of memory alone.
+fn whole(alloc: Global, pairs: &[PairEntry]) -> Result<Vec<Entry>, AllocError>
+    ensures { IfOk result (λ rows. rows.items ≡ pairs.now) }
+{
+    let mut rows = Vec::with_capacity(alloc, room_behind(pairs.len()))?;
+    for pair in pairs {
+        rows.push(Entry {
+            coords: pair.coords(alloc),
+            value: pair.value(),
+        })?;
+    }
+    Ok(rows)
+}
+
 /// The entries, each whole. Refused for want of memory alone.
 fn rows_of(alloc: Global, columns: &Columns) -> Result<Vec<Entry>, AllocError>
     ensures { IfOk result (λ rows. rows.items ≡ columns.now.list) }
 {
-    // As much as pushes of whole entries would have come to, so that the next ones want no more than they would.
-    let room = columns
-        .len()
-        .saturating_add(1)
-        .checked_next_power_of_two()
-        .unwrap_or(0);
-    let mut rows = Vec::with_capacity(alloc, room)?;
+    let mut rows = Vec::with_capacity(alloc, room_behind(columns.len()))?;
     for i in 0..columns.len() {
         rows.push(Entry {
             coords: columns.coords(i),
@@ -236,19 +319,19 @@ fn rows_of(alloc: Global, columns: &Columns) -> Result<Vec<Entry>, AllocError>
 }
 
 /// The entries as columns: none where a coordinate doesn't fit, or memory is wanted.
-fn columns_of(alloc: Global, order: usize, rows: &[Entry]) -> Option<Columns>
+fn columns_of<R: Rows>(alloc: Global, order: usize, rows: &R) -> Option<Columns>
     requires short { order ≤ greatest_order }
-    requires long { All (λ row. length row.coords ≡ order) rows.now }
+    requires long { All (λ row. length row.coords ≡ order) (R.entries rows.now) }
     ensures order { IfSome result (λ columns. columns.order ≡ order) }
-    ensures list { IfSome result (λ columns. columns.list ≡ rows.now) }
+    ensures list { IfSome result (λ columns. columns.list ≡ R.entries rows.now) }
 {
     let mut columns = Columns::new(alloc, order);
-    for row in rows {
-        let coords = row.coords.as_slice();
-        if !are_narrow(coords) {
+    for i in 0..rows.count() {
+        let coords = rows.coords_at(alloc, i);
+        if !are_narrow(coords.as_slice()) {
             return None;
         }
-        columns.push(coords, row.value).ok()?;
+        columns.push(coords.as_slice(), rows.value_at(i)).ok()?;
     }
     Some(columns)
 }

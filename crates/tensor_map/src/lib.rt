@@ -8,6 +8,8 @@ mod columns;
 mod coords;
 mod entries;
 mod entry_list;
+mod pair_entry;
+mod rows;
 mod shape;
 mod sorted_rows;
 

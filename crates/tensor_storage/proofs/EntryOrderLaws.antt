@@ -1,18 +1,23 @@
 -- The rows that an order of entries tells, by its numbers and columns.
 use Rattle.std.specs.Prelude.{◌≡◌, ◌⊎◌, ℕ, ◌≤◌, ◌<◌, List, [], length, slice_get, slice_index, Some, None}
+use Rattle.std.specs.List.{range_with_len}
 use Rattle.std.proofs.Common.{◌∙◌, sym, ap, inl, inr, arith, get_or}
 use Rattle.std.proofs.Math.ListN.{get_or-eq_default}
+use Rattle.std.proofs.lemmas.Grind.{same_number_lists}
 use Rattle.std.proofs.lemmas.List.{length-map, get_or-map}
 use Rattle.std.proofs.lemmas.List.FromFn.{length-range_with_len}
 use Rattle.std.proofs.lemmas.Option.{slice_get_cases, slice_get_within, get_or_from_slice_get}
 use Rattle.format_spec.specs.declared.format.FormatLevel.{FormatLevel}
 use Rattle.tensor_map.specs.declared.entries.Entry.{Entry}
+use Rattle.tensor_map.specs.Entries.{column_in}
 use Rattle.tensor_storage.specs.declared.entries.EntryOrder.{EntryOrder}
 use Rattle.tensor_storage.specs.declared.entries.EntryOrder.TheVariants.{Own}
-use Rattle.tensor_storage.specs.Arranged.{no_entry, level_coords}
+use Rattle.tensor_storage.specs.Arranged.{no_entry, level_coords, table_of}
 use Rattle.tensor_storage.specs.Columns.{column_of, AreColumns}
 use Rattle.tensor_storage.specs.EntryOrders.{numbers_of}
-use Rattle.tensor_storage.proofs.Arranging.{number_at}
+use Rattle.tensor_storage.specs.Tables.{level_column}
+use Rattle.tensor_storage.proofs.Arranging.{number_at, level_coord}
+use Rattle.tensor_storage.proofs.Tables.{column_long as level_long, column_at as level_at}
 
 -- in their own order there are as many rows as entries, each the entry of its number
 pub own_count : (count : ℕ) (order : EntryOrder) → order ≡ Own → count ≡ length (numbers_of count order)
@@ -56,3 +61,21 @@ module _ (format : List FormatLevel) (entries : List Entry) (numbers : List ℕ)
           length-map format (λ l. slice_index (get_or entries (slice_index numbers row) no_entry).coords l.mode) in
           let many = are.as_many in
           omega (arith, long, past, many)
+
+-- in their own order the coordinates of entries in a mode are those of its level
+pub own_column : (format : List FormatLevel) (entries : List Entry) (level mode : ℕ) (d : FormatLevel) → level < length format
+    → mode ≡ (get_or format level d).mode
+    → column_in entries mode ≡ level_column (table_of format entries (range_with_len 0 (length entries))) level
+own_column format entries level mode d within is =
+    let numbers = range_with_len 0 (length entries) in
+    let table = table_of format entries numbers in
+    let all : length numbers ≡ length entries = length-range_with_len 0 (length entries) in
+    let long : length (column_in entries mode) ≡ length entries = length-map entries (λ entry. slice_index entry.coords mode) in
+    same_number_lists (column_in entries mode) (level_column table level) (long ∙ sym all ∙ sym (level_long table level)) (λ k h.
+    let row : k < length entries = omega (arith, h, long) in
+    let number : k < length numbers = omega (arith, row, all) in
+    get_or-map (λ entry. slice_index entry.coords mode) entries k no_entry 0 row
+    ∙ ap (slice_index (get_or entries k no_entry).coords) is
+    ∙ sym (level_coord format (get_or entries k no_entry).coords level d within)
+    ∙ ap (λ n. slice_index (level_coords format entries n) level) (sym (number_at (length entries) k number))
+    ∙ sym (level_at table level k number))

@@ -1,11 +1,14 @@
 -- Which rows of a table begin positions.
-use Rattle.std.specs.Prelude.{◌≡◌, ◌⊎◌, ℕ, zero, suc, ◌≤◌, ◌<◌, ◌==◌, ◌&&◌, not, Bool, true, false, List, refl}
+use Rattle.std.specs.Prelude.{◌≡◌, ◌≢◌, ◌⊎◌, ℕ, zero, suc, ◌-◌, ◌≤◌, ◌<◌, ◌==◌, ◌&&◌, not, Bool, true, false, List, length, refl, slice_index}
+use Rattle.std.specs.List.{range_with_len}
 use Rattle.std.proofs.Common.{◌∙◌, sym, ap, subst, arith, inl, inr}
 use Rattle.std.proofs.lemmas.Bool.{cases_lt}
 use Rattle.std.proofs.lemmas.Bool.Decides.{nat_tests}
+use Rattle.std.proofs.lemmas.List.{length-map, get_or-map}
+use Rattle.std.proofs.lemmas.List.FromFn.{length-range_with_len, get_or-range_with_len}
 use Rattle.level_rows.specs.Rows.{rows_at}
-use Rattle.level_rows.specs.Tables.{Agree, Begins, AreRowsOf}
-use Rattle.tensor_storage.specs.Tables.{Table, agree, begins_at, keys_of}
+use Rattle.level_rows.specs.Tables.{Agree, Begins, Increase, AreRowsOf}
+use Rattle.tensor_storage.specs.Tables.{Table, AllApart, agree, begins_at, keys_of, level_column}
 
 pub apart : {A : Type 0} → true ≡ false → A
 apart {A} e = absurd (no_way e)
@@ -58,3 +61,52 @@ begins coords n count = record {
 pub rows_are : (table : Table) (d n size : ℕ) (ps : List ℕ) → ((i : ℕ) → i < table.count → table.coords d i < size)
     → AreRowsOf table.coords d n size (rows_at (keys_of table d n) ps)
 rows_are table d n size ps below = record { coord = λ i h. refl; below = below; begins = begins table.coords n table.count }
+
+-- a column has a coordinate for each row
+pub column_long : (table : Table) (d : ℕ) → length (level_column table d) ≡ table.count
+column_long table d = length-map (range_with_len 0 table.count) (table.coords d) ∙ length-range_with_len 0 table.count
+
+pub column_at : (table : Table) (d i : ℕ) → i < table.count → slice_index (level_column table d) i ≡ table.coords d i
+column_at table d i h =
+    let long = length-range_with_len 0 table.count in
+    let within : i < length (range_with_len 0 table.count) = omega (arith, long, h) in
+    let at : slice_index (range_with_len 0 table.count) i ≡ i =
+    (let is = get_or-range_with_len 0 table.count i 0 h in omega (arith, is)) in
+    get_or-map (table.coords d) (range_with_len 0 table.count) i 0 0 within ∙ ap (table.coords d) at
+
+by_truth : (b : Bool) → (b ≡ true → ⊥) → b ≡ false
+by_truth true never = absurd (never refl)
+by_truth false never = refl
+
+-- rows that increase differ at some level
+pub all_apart : (table : Table) (order n : ℕ) → Increase table.coords order table.count → order ≤ n → AllApart table n
+all_apart table order n up within i h = by_truth (agree table.coords n i (suc i)) (λ same.
+    let before = up i h in
+    let less = before.3 in
+    let d_in = before.1 in
+    let equal = agree_tells table.coords n i (suc i) same before.0 (omega (arith, d_in, within)) in
+    omega (arith, less, equal))
+
+-- a row that isn't the first begins a position exactly where it doesn't agree with the row before
+pub begins_behind : (coords : ℕ → ℕ → ℕ) (n row : ℕ) → row ≢ 0 → begins_at coords n row ≡ not (agree coords n (row - 1) row)
+begins_behind coords n zero some = absurd (some refl)
+begins_behind coords n (suc i) some = let before : i ≡ suc i - 1 = omega arith in ap (λ k. not (agree coords n k (suc i))) before
+
+-- so it does where it differs from that at one of the levels
+pub begins_apart : (coords : ℕ → ℕ → ℕ) (n d row : ℕ) → row ≢ 0 → d < n → coords d (row - 1) ≢ coords d row
+    → begins_at coords n row ≡ true
+begins_apart coords n d row some within apart_here = begins_behind coords n row some
+    ∙ ap not (by_truth (agree coords n (row - 1) row) (λ same. apart_here (agree_tells coords n (row - 1) row same d within)))
+
+-- and one that has the coordinate of the row before at the last of the levels where it differs at another
+pub begins_above : (coords : ℕ → ℕ → ℕ) (n d row : ℕ) → row ≢ 0 → n ≡ suc d → coords d (row - 1) ≡ coords d row
+    → begins_at coords n row ≡ not (agree coords d (row - 1) row)
+begins_above coords n d row some is same = begins_behind coords n row some ∙ ap not (by_last (agree coords d (row - 1) row) refl)
+  where
+    eq : (coords d (row - 1) == coords d row) ≡ true
+    eq = grind (arith, nat_tests, same)
+
+    by_last : (b : Bool) → agree coords d (row - 1) row ≡ b → agree coords n (row - 1) row ≡ agree coords d (row - 1) row
+    by_last true h = ap (λ m. agree coords m (row - 1) row) is ∙ joined _ _ h eq ∙ sym h
+    by_last false h = ap (λ m. agree coords m (row - 1) row) is
+        ∙ ap (λ b. b && (coords d (row - 1) == coords d row)) h ∙ sym h

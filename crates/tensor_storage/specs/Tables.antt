@@ -1,5 +1,6 @@
 -- Rows that a tensor is packed from: coordinates in the order of the levels, in increasing order, each with a value.
-use Rattle.std.specs.Prelude.{ℕ, zero, suc, ◌<◌, ◌==◌, ◌&&◌, not, Bool, true, List, length, slice_index}
+use Rattle.std.specs.Prelude.{◌≡◌, ℕ, zero, suc, ◌<◌, ◌==◌, ◌&&◌, not, Bool, true, false, List, length, map, slice_index}
+use Rattle.std.specs.List.{range_with_len}
 use Rattle.level_rows.specs.Rows.{Keys}
 
 -- how many rows, the coordinate of each at each level, counted from 0, and its value
@@ -21,6 +22,14 @@ begins_at coords n (suc i) = not (agree coords n i (suc i))
 -- the rows for the level numbered d, where positions are begun at each difference at the first n levels
 abbrev pub keys_of : Table → ℕ → ℕ → Keys
 keys_of table d n = record { count = table.count; coord = table.coords d; first = begins_at table.coords n }
+
+-- the coordinates of all rows at the level numbered d, one after another
+abbrev pub level_column : Table → ℕ → List ℕ
+level_column table d = map (table.coords d) (range_with_len 0 table.count)
+
+-- each row differs from the next at one of the first n levels
+abbrev pub AllApart : Table → ℕ → Type 0
+AllApart table n = (i : ℕ) → suc i < table.count → agree table.coords n i (suc i) ≡ false
 
 -- the coordinates of all rows are below the ranges of the levels
 abbrev pub AreBelow : Table → List ℕ → Type 0

@@ -1,5 +1,5 @@
 // The entries of a tensor as rows for the levels of a format.
-ghost use Rattle.std.specs.Prelude.{◌≡◌, ◌<◌, ℕ, length, slice_index, IfOk, IsTrue, OnOk, true};
+ghost use Rattle.std.specs.Prelude.{◌≡◌, ◌<◌, ℕ, length, slice_index, IfOk, IfSome, IsTrue, OnOk, true};
 ghost use Rattle.std.specs.Ordering.{nat_cmp, is_lt};
 ghost use Rattle.std.specs.Cmp.Lexicographic.{slice_cmp};
 ghost use Rattle.std.specs.List.{range_with_len};
@@ -9,6 +9,7 @@ ghost use Rattle.tensor_map.specs.Entries.{StrictlyIncreasing};
 ghost use Rattle.tensor_storage.specs.Arranged.{level_coords, table_of, AreArranged};
 ghost use Rattle.tensor_storage.specs.Columns.{column_of, AreColumns};
 ghost use Rattle.tensor_storage.specs.EntryOrders.{numbers_of, HasColumns};
+ghost use Rattle.tensor_storage.specs.Tables.{level_column};
 ghost use Rattle.std.proofs.Props.{props};
 
 use crate::table::RowTable;
@@ -166,7 +167,7 @@ fn columns_of(
 }
 
 /// The order of the entries by their coordinates, level by level: where they don't stand in it, their numbers are sorted. Refused
-/// for want of memory alone, and never where they do.
+/// for want of memory alone.
 pub(crate) fn arrange(
     alloc: Global,
     format: &[FormatLevel],
@@ -186,6 +187,21 @@ pub(crate) fn arrange(
     sort_numbers(format, entries, &mut numbers)?;
     let columns = columns_of(alloc, format, entries, &numbers)?;
     Ok(EntryOrder::Sorted { numbers, columns })
+}
+
+/// The coordinates at a level of entries in their own order, where they stand next to one another.
+fn lent_column<'a>(format: &[FormatLevel], entries: &'a Entries, level: usize) -> Option<&'a [u32]>
+    ensures { IfSome result (λ column. column.now
+        ≡ level_column (table_of format.now entries.now.list (range_with_len 0 (length entries.now.list))) level) }
+{
+    if level >= format.len() {
+        return None;
+    }
+    let mode = format[level].mode;
+    if mode >= entries.order() {
+        return None;
+    }
+    entries.column(mode)
 }
 
 /// The entries of a tensor as the rows of a table, in an order of theirs.
@@ -237,6 +253,13 @@ impl<'a> RowTable for EntryRows<'a> {
             self.entries.value(number)
         } else {
             0
+        }
+    }
+
+    fn column(&self, level: usize) -> Option<&[u32]> {
+        match self.order {
+            EntryOrder::Own => lent_column(self.format, self.entries, level),
+            EntryOrder::Sorted { .. } => None,
         }
     }
 }

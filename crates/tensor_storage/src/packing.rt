@@ -2,18 +2,20 @@ ghost use Rattle.std.specs.Prelude.{◌≡◌, ◌≢◌, ◌<◌, ◌≤◌, �
 ghost use Rattle.std.specs.Prelude.{IfOk, MatchResult};
 ghost use Rattle.limits.specs.Limits.{greatest_position_count};
 ghost use Rattle.format_spec.specs.Formats.{letters_of, IsFormat};
+ghost use Rattle.level_rows.specs.Rows.{rows_at};
+ghost use Rattle.level_rows.specs.Filling.{AreNeeded, MayFill, FillAnswer};
 ghost use Rattle.level_rows.specs.Tables.{Increase};
 ghost use Rattle.level_rows.specs.Values.{StoresValues};
 ghost use Rattle.tensor_storage.specs.Counts.{positions_of};
 ghost use Rattle.tensor_storage.specs.Packed.{ArePacked, IsRefusal};
 ghost use Rattle.tensor_storage.specs.Stands.{IsPacked};
 ghost use Rattle.tensor_storage.specs.Storages.{IsStorage, storage_of, in_level_order};
-ghost use Rattle.tensor_storage.specs.Tables.{AreBelow};
+ghost use Rattle.tensor_storage.specs.Tables.{AreBelow, keys_of};
 ghost use Rattle.tensor_storage.specs.Levels.{meaning};
 
 use crate::kinds::chain_end;
 use crate::level::{StorageLevel, new_level};
-use crate::table::{LevelRows, RowTable};
+use crate::table::{ColumnRows, LevelRows, RowTable};
 use format_spec::FormatLevel;
 use level_rows::{FillRefusal, fill_level, store_values};
 use numbers::Semiring;
@@ -34,6 +36,45 @@ pub enum PackRefusal {
 struct PackedLevels {
     levels: Items<StorageLevel>,
     positions: u64,
+}
+
+/// Gives a new level its rows, below so many parents, as `fill_level` does. The rows increase by so many `levels`. Where the table has
+/// the coordinates next to one another, they are taken from there.
+fn fill_stored<T: RowTable>(
+    stored: &mut StorageLevel,
+    size: u64,
+    parents: u64,
+    rows: &LevelRows<T>,
+    levels: usize,
+    places: &mut [u64],
+) -> Result<u64, FillRefusal>
+    requires size { size ≡ meaning.size stored.old }
+    requires range { size ≤ greatest_position_count }
+    requires parents { parents ≤ greatest_position_count }
+    requires rows { MayFill meaning parents
+        (rows_at (keys_of (T.table rows.now.table.now) rows.now.level rows.now.through) places.old) stored.old }
+    requires many { length places.old ≡ (T.table rows.now.table.now).count }
+    requires among { rows.now.level < rows.now.through }
+    requires order { Increase (T.table rows.now.table.now).coords levels (T.table rows.now.table.now).count }
+    ensures { (needed : ℕ) × (most : ℕ)
+        × AreNeeded (meaning.kind stored.old) (meaning.size stored.old) parents
+        (rows_at (keys_of (T.table rows.now.table.now) rows.now.level rows.now.through) places.old) needed most
+        × FillAnswer meaning parents (rows_at (keys_of (T.table rows.now.table.now) rows.now.level rows.now.through) places.old)
+        needed most places.old places.new stored.old stored.new result }
+{
+    match rows.table.column(rows.level) {
+        Some(column) => {
+            let narrow = ColumnRows {
+                table: rows.table,
+                level: rows.level,
+                through: rows.through,
+                column,
+                all_begin: rows.through >= levels,
+            };
+            fill_level(stored, size, parents, &narrow, places)
+        }
+        None => fill_level(stored, size, parents, rows, places),
+    }
 }
 
 /// Packs the levels of a format one below another. `sizes` has the ranges of the modes; `places` has a zero for each row, and then
@@ -68,7 +109,7 @@ fn pack_levels<T: RowTable>(
             level,
             through: chain_end(format, level),
         };
-        match fill_level(&mut stored, size, parents, &rows, places) {
+        match fill_stored(&mut stored, size, parents, &rows, format.len(), places) {
             Ok(count) => parents = count,
             Err(FillRefusal::Memory) => return Err(PackRefusal::Memory),
             Err(FillRefusal::TooMany(count)) => {

@@ -1,5 +1,6 @@
-ghost use Rattle.std.specs.Prelude.{◌≡◌, ◌<◌, ◌≤◌, ℕ};
-ghost use Rattle.tensor_storage.specs.Tables.{Table, agree, begins_at, keys_of};
+ghost use Rattle.std.specs.Prelude.{◌≡◌, ◌<◌, ◌≤◌, ℕ, true, IfSome};
+ghost use Rattle.tensor_storage.specs.Tables.{Table, AllApart, agree, begins_at, keys_of, level_column};
+ghost use Rattle.std.proofs.Props.{props};
 
 use level_rows::{RowValues, SortedRows};
 
@@ -21,6 +22,10 @@ pub trait RowTable {
     fn value(&self, row: usize) -> u64
         requires { row < (table self.now).count }
         ensures { result ≡ (table self.now).values row };
+
+    /// The coordinates of all rows at a level, counted from 0, where they stand next to one another with four bytes each.
+    fn column(&self, level: usize) -> Option<&[u32]>
+        ensures { IfSome result (λ column. column.now ≡ level_column (table self.now) level) };
 }
 
 /// Whether two rows have the same coordinates at the first levels. Rows in order mostly differ at the last of these.
@@ -69,5 +74,52 @@ impl<'a, T: RowTable> RowValues for LevelRows<'a, T> {
 
     fn value(&self, row: usize) -> u64 {
         self.table.value(row)
+    }
+}
+
+/// The rows of a table as a level takes them whose coordinates stand next to one another: its number, and how many of the first levels,
+/// it among them, tell rows apart that begin positions.
+#[derive(Drop)]
+pub(crate) struct ColumnRows<'a, T: RowTable> {
+    pub(crate) table: &'a T,
+    pub(crate) level: usize,
+    pub(crate) through: usize,
+    pub(crate) column: &'a [u32],
+    /// Whether it is known that these levels tell all rows apart.
+    pub(crate) all_begin: bool,
+    ghost lent: { column.now ≡ level_column (T.table table.now) level } by { Prim.hlevel props },
+    ghost among: { level < through },
+    ghost apart: { all_begin ≡ true → AllApart (T.table table.now) through } by { Prim.hlevel props },
+}
+
+impl<'a, T: RowTable> SortedRows for ColumnRows<'a, T> {
+    ghost keys = { λ rows. keys_of (T.table rows.table.now) rows.level rows.through };
+
+    fn count(&self) -> usize {
+        self.table.count()
+    }
+
+    fn coord(&self, row: usize) -> u64 {
+        self.column[row] as u64
+    }
+
+    /// Rows mostly differ at the level itself, whose coordinates are at hand: others are looked at where they don't.
+    fn begins(&self, row: usize) -> bool {
+        if row == 0 {
+            return true;
+        }
+        if self.all_begin {
+            return true;
+        }
+        let before = row - 1;
+        if self.column[before] != self.column[row] {
+            return true;
+        }
+        let others = if self.level + 1 == self.through {
+            self.level
+        } else {
+            self.through
+        };
+        !rows_agree(self.table, others, before, row)
     }
 }

@@ -1,11 +1,13 @@
-use Rattle.std.specs.Prelude.{◌<◌, length}
+use Rattle.std.specs.Prelude.{◌<◌, length, drop}
 use Rattle.std.proofs.Common.{arith, get_or}
 use Rattle.limits.proofs.Limits.{orders_are_small, some_positions}
 use Rattle.format_spec.specs.declared.format.FormatLevel.{FormatLevel}
+use Rattle.format_spec.specs.Formats.{letters_of}
 use Rattle.level_core.specs.declared.letter.Letter.TheVariants.{Dense}
 use Rattle.tensor_storage.specs.Levels.{meaning}
 use Rattle.tensor_storage.specs.Laws.{laws}
 use Rattle.tensor_storage.specs.Storages.{in_level_order}
+use Rattle.tensor_storage.proofs.Chains.{chain_some}
 use Rattle.tensor_storage.proofs.Paths.{mode_below}
 use Rattle.tensor_storage.proofs.PackSteps.{none_packed, fill_may, fill_next, refused_here}
 use Rattle.tensor_storage.proofs.packing.pack_levels.Goals as goal
@@ -35,20 +37,26 @@ loop-level-init g c = (
   omega (arith, some_positions),
 )
 
-pub fill_level-requires-clause-rows : goal.fill_level-requires-clause-rows
+pub fill_stored-requires-clause-rows : goal.fill_stored-requires-clause-rows
 unfolding none
-fill_level-requires-clause-rows g c =
+fill_stored-requires-clause-rows g c =
     fill_may meaning laws c.args.format.now c.args.ranges.now (g.T.RowTable.table c.args.table.now) c.requires.order c.requires.below
     c.loop-level.level none c.loop-level-test.true c.loop-level.levels c.loop-level.places c.loop-level.parents c.loop-level.invariant.0
     c.in-Ok.stored c.chain_end.result c.in-Ok.ensures c.chain_end.ensures
+
+pub fill_stored-requires-clause-among : goal.fill_stored-requires-clause-among
+fill_stored-requires-clause-among g c =
+    let some = chain_some (drop c.loop-level.level (letters_of c.args.format.now)) in
+    let end = c.chain_end.ensures in
+    omega (arith, some, end)
 
 pub loop-level-preserved : goal.loop-level-preserved
 unfolding none
 loop-level-preserved g c =
     fill_next meaning laws c.args.format.now c.args.ranges.now (g.T.RowTable.table c.args.table.now) c.requires.order c.requires.below
     c.loop-level.level none c.loop-level-test.true c.loop-level.levels c.loop-level.places c.loop-level.parents c.loop-level.invariant.0
-    c.in-Ok.stored c.chain_end.result c.in-Ok.ensures c.chain_end.ensures c.fill_level.new.positions c.fill_level.new.level
-    c.in-Ok-fill_level.count c.push.new.self c.in-Ok-push.ensures.ok c.in-Ok-fill_level.ensures
+    c.in-Ok.stored c.chain_end.result c.in-Ok.ensures c.chain_end.ensures c.fill_stored.new.places c.fill_stored.new.stored
+    c.in-Ok-fill_stored.count c.push.new.self c.in-Ok-push.ensures.ok c.in-Ok-fill_stored.ensures
 
 pub returns-in-Err-TooMany : goal.returns-in-Err-TooMany
 unfolding none
@@ -56,5 +64,5 @@ returns-in-Err-TooMany g c =
     rw c.in-Err-TooMany.field-0-is
     (refused_here meaning laws c.args.format.now c.args.ranges.now (g.T.RowTable.table c.args.table.now) c.requires.order c.requires.below
     c.loop-level.level none c.loop-level-test.true c.loop-level.levels c.loop-level.places c.loop-level.parents c.loop-level.invariant.0
-    c.in-Ok.stored c.chain_end.result c.in-Ok.ensures c.chain_end.ensures c.fill_level.new.positions c.fill_level.new.level
+    c.in-Ok.stored c.chain_end.result c.in-Ok.ensures c.chain_end.ensures c.fill_stored.new.places c.fill_stored.new.stored
     c.in-Err-TooMany.count (rw c.in-Err-TooMany.field-0-is at c.in-Err-TooMany.ensures))

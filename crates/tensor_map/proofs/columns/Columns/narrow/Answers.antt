@@ -3,7 +3,7 @@ use Rattle.std.proofs.lemmas.List.{get_or_default, length-take-le, get_or-map}
 use Rattle.limits.specs.Limits.{greatest_order}
 use Rattle.tensor_map.specs.Entries.{Entry, Entries}
 use Rattle.tensor_map.proofs.ColumnRows.{length_rows, entry_at}
-use Rattle.tensor_map.proofs.columns.Columns.coordinate.Goals as goal
+use Rattle.tensor_map.proofs.columns.Columns.narrow.Goals as goal
 
 pub index-requires : goal.index-requires
 unfolding greatest_order
