@@ -7,3 +7,4 @@ pub mod OrderLaws
 pub mod Permutations
 pub mod Sorting
 pub mod Summed
+pub mod Words

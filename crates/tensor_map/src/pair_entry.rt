@@ -72,15 +72,13 @@ impl PairEntry {
         self.value = value;
     }
 
-    /// How the coordinates stand to those of another entry, the first mode first.
+    /// How the coordinates stand to those of another entry, the first mode first: as the one word that they make.
     pub(crate) fn compare(&self, other: &PairEntry) -> Ordering
         ensures { result ≡ slice_cmp nat_cmp self.now.coords other.now.coords }
     {
-        match self.row.cmp(&other.row) {
-            Ordering::Less => Ordering::Less,
-            Ordering::Equal => self.column.cmp(&other.column),
-            Ordering::Greater => Ordering::Greater,
-        }
+        let mine = self.row as u64 * 4_294_967_296 + self.column as u64;
+        let others = other.row as u64 * 4_294_967_296 + other.column as u64;
+        mine.cmp(&others)
     }
 
     /// Whether another entry has the same coordinates.
