@@ -47,7 +47,8 @@ number_is_token token n e = let digits = number_digits token n e in filled_token
 -- a line that begins with such a byte has a token
 pub filled_some : (byte : ℕ) (line : List ℕ) → IsFilled byte → 0 < length (tokens (byte ∷ line))
 filled_some byte line filled =
-    let blank : is_blank byte ≡ false = or_from (byte == 32) (byte == 9) (ne_eqb byte 32 (λ e. omega arith)) (ne_eqb byte 9 (λ e. omega arith)) in
+    let blank : is_blank byte ≡ false =
+    or_from (byte == 32) (byte == 9) (ne_eqb byte 32 (λ e. omega arith)) (ne_eqb byte 9 (λ e. omega arith)) in
     let place : position_or_len is_blank (byte ∷ line) ≡ 1 + position_or_len is_blank line =
     ap (λ b. cond (not b) (1 + position_or_len is_blank line) 0) blank in
     omega (arith, ap length (tokens_first (byte ∷ line) (omega arith)))
