@@ -3,6 +3,7 @@ pub mod BelowSizes
 pub mod EndedEntries
 pub mod FieldLaws
 pub mod PlaceLaws
+pub mod PlainLaws
 pub mod ProgressLaws
 pub mod ReaderLaws
 pub mod SlotLaws

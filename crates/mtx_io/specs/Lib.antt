@@ -5,6 +5,7 @@ pub mod Fields
 pub mod Matrix
 pub mod MtxReader
 pub mod Places
+pub mod Plain
 pub mod Progress
 pub mod Reader
 pub mod Size

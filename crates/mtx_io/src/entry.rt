@@ -1,18 +1,19 @@
 //! The entry lines of a file.
-ghost use Rattle.std.specs.Prelude.{◌≡◌, ◌++◌, ◌∷◌, [], true, OnOk};
+ghost use Rattle.std.specs.Prelude.{◌≡◌, ◌++◌, ◌∷◌, [], true, OnOk, Some};
 ghost use Rattle.mtx_io.specs.Banner.{needs_minus};
 ghost use Rattle.mtx_io.specs.Due.{slot_with};
 ghost use Rattle.mtx_io.specs.Entry.{index_of, word_from, value_of, place_at, place_from, entry_of, entry_of_one, entry_of_two};
 ghost use Rattle.mtx_io.specs.Entry.{entry_of_three};
-ghost use Rattle.mtx_io.specs.Entry.{entries_by, coords_of};
+ghost use Rattle.mtx_io.specs.Entry.{entries_by, coords_of, index_from, placed};
 ghost use Rattle.mtx_io.specs.Fields.{one_token as one, two_tokens as two, three_tokens as three};
+ghost use Rattle.mtx_io.specs.Plain.{IsReadTo};
 ghost use Rattle.mtx_io.specs.Progress.{IsMatrixOrder};
 ghost use Rattle.text_lines.specs.Tokens.{tokens};
 
 use crate::banner::Symmetry;
 use crate::fields::{one_token, three_tokens, two_tokens};
 use crate::header::Header;
-use crate::place::{Place, PlacedValue};
+use crate::place::{Place, PlacedValue, PlainLine};
 use limits::greatest_coordinate_in_file;
 use numbers::Semiring;
 use std::alloc::AllocError;
@@ -75,8 +76,56 @@ fn read_place(header: &Header, row: &[u8], column: &[u8]) -> Result<Place, LineK
     place_in(header.symmetry, row, column)
 }
 
-/// What a line that has a row, a column and a value tells.
-fn read_whole_entry(header: &Header, line: &[u8], signed: bool) -> Result<PlacedValue, LineKind>
+/// A row or a column of so many, counted from 0: the number counts from 1.
+fn index_in(number: u64, size: u64) -> Result<u64, LineKind>
+    ensures { result ≡ index_from size (Some number) }
+{
+    if number == 0 {
+        Err(LineKind::ZeroCoordinate)
+    } else if number > greatest_coordinate_in_file() {
+        Err(LineKind::NumRange)
+    } else if number > size {
+        Err(LineKind::CoordRange)
+    } else {
+        Ok(number - 1)
+    }
+}
+
+/// What a line that was read to numbers tells.
+fn entry_of_numbers(
+    header: &Header,
+    plain: PlainLine,
+    signed: bool,
+) -> Result<PlacedValue, LineKind>
+    ensures { result ≡ placed
+        (place_from header.now.symmetry (index_from header.now.rows (Some plain.row)) (index_from header.now.columns (Some plain.column)))
+        (word_from signed plain.value) }
+{
+    let row = index_in(plain.row, header.rows)?;
+    let column = index_in(plain.column, header.columns)?;
+    let place = place_in(header.symmetry, row, column)?;
+    let value = word(plain.value, signed)?;
+    Ok(PlacedValue { place, value })
+}
+
+/// What a line that has a row, a column and a value tells, by its numbers where it was read to them.
+fn read_whole_entry(
+    header: &Header,
+    line: &[u8],
+    plain: Option<PlainLine>,
+    signed: bool,
+) -> Result<PlacedValue, LineKind>
+    requires { IsReadTo (tokens line.now) plain }
+    ensures { result ≡ entry_of_three signed header.now (three (tokens line.now)) }
+{
+    match plain {
+        Some(plain) => entry_of_numbers(header, plain, signed),
+        None => read_full_entry(header, line, signed),
+    }
+}
+
+/// What the tokens of a line that has a row, a column and a value tell.
+fn read_full_entry(header: &Header, line: &[u8], signed: bool) -> Result<PlacedValue, LineKind>
     ensures { result ≡ entry_of_three signed header.now (three (tokens line.now)) }
 {
     let Some((row, column, value)) = three_tokens(line) else {
@@ -103,12 +152,14 @@ pub(crate) fn read_entry(
     header: &Header,
     value: Option<u64>,
     line: &[u8],
+    plain: Option<PlainLine>,
     signed: bool,
 ) -> Result<PlacedValue, LineKind>
+    requires { IsReadTo (tokens line.now) plain }
     ensures { result ≡ entry_of signed header.now (slot_with value) (tokens line.now) }
 {
     match value {
-        None => read_whole_entry(header, line, signed),
+        None => read_whole_entry(header, line, plain, signed),
         Some(value) => read_entry_of(header, value, line),
     }
 }

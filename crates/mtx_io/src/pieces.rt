@@ -1,17 +1,56 @@
 //! A file, piece by piece.
-ghost use Rattle.std.specs.Prelude.{◌≡◌, ℕ, ◌<◌, ◌≤◌, ◌+◌, ◌++◌, ◌∷◌, [], List, false, IfOk, OnErr, length, take};
+ghost use Rattle.std.specs.Prelude.{◌≡◌, ℕ, ◌<◌, ◌≤◌, ◌+◌, ◌++◌, ◌∷◌, [], List, false, IfOk, IfSome, MatchOption, OnErr, length, take};
 ghost use Rattle.mtx_io.specs.Matrix.{matrix_of_text};
 ghost use Rattle.mtx_io.specs.MtxReader.{EndsEntry};
 ghost use Rattle.mtx_io.specs.Progress.{told, rest_of, IsStage, IsMatrixOrder};
+ghost use Rattle.mtx_io.specs.Plain.{IsReadTo};
 ghost use Rattle.text_lines.specs.Cutting.{told_lines};
+ghost use Rattle.text_lines.specs.LineReader.{TakesWhole};
+ghost use Rattle.text_lines.specs.Tokens.{tokens};
 ghost use Rattle.mtx_io.specs.Reader.{IsReadSoFar, is_bad};
 
+use crate::place::PlainLine;
 use crate::stage::{Stage, long_line_behind};
 use crate::step::after_line;
 use numbers::Semiring;
 use std::alloc::AllocError;
 use tensor_map::Entries;
 use text_lines::{LineReader, Step};
+
+/// Takes the line that a piece begins with where it stands whole in it, and the numbers that it was read to, if entries are due that
+/// tell places and values and it is plainly written.
+fn take_whole<'a>(
+    lines: &mut LineReader,
+    stage: &Stage,
+    piece: &'a [u8],
+) -> Option<(usize, &'a [u8], Option<PlainLine>)>
+    ensures taken { MatchOption result (lines.new ≡ lines.old) (λ taken. TakesWhole lines.old lines.new piece.now taken.0 taken.1.now) }
+    ensures plain { IfSome result (λ taken. IsReadTo (tokens taken.1.now) taken.2) }
+{
+    if !stage.has_full_lines() {
+        let (n, line) = lines.take_whole(piece)?;
+        return Some((n, line, None));
+    }
+    let mut numbers = [0; 2];
+    let (n, line, value) = lines.take_numbers(piece, &mut numbers)?;
+    match value {
+        Some(value) => Some((n, line, Some(plain_line(&numbers, value)))),
+        None => Some((n, line, None)),
+    }
+}
+
+/// A line's row and column, and its value.
+fn plain_line(numbers: &[u64], value: i64) -> PlainLine
+    requires { length numbers.now ≡ 2 }
+    ensures numbers { result.row ∷ result.column ∷ [] ≡ numbers.now }
+    ensures value { result.value ≡ value }
+{
+    PlainLine {
+        row: numbers[0],
+        column: numbers[1],
+        value,
+    }
+}
 
 /// Takes bytes of a piece, to the end of a line or all of them: how many, and how far the file is read then. A line that stands whole in
 /// it is read where it stands.
@@ -38,9 +77,9 @@ fn take_step<S: Semiring>(
         ((fed : List ℕ) → IsReadSoFar S.arithmetic S.has_minus S.is_signed entries.old.order fed lines.old.text entries.old.list stage
         → EndsEntry S.arithmetic S.has_minus S.is_signed entries.old.order fed piece.now) }
 {
-    if let Some((n, line)) = lines.take_whole(piece) {
+    if let Some((n, line, plain)) = take_whole(lines, &stage, piece) {
         let number = lines.number();
-        let after = after_line::<S>(stage, entries, line, number)?;
+        let after = after_line::<S>(stage, entries, line, plain, number)?;
         return Ok((n, after));
     }
     let (n, step) = lines.feed(piece);
@@ -49,7 +88,7 @@ fn take_step<S: Semiring>(
         Step::LongLine => Ok((n, long_line_behind(lines.number()))),
         Step::Line => {
             let number = lines.number();
-            let after = after_line::<S>(stage, entries, lines.line(), number)?;
+            let after = after_line::<S>(stage, entries, lines.line(), None, number)?;
             Ok((n, after))
         }
     }
@@ -114,7 +153,7 @@ pub(crate) fn take_end<S: Semiring>(
         Step::LongLine => Ok(long_line_behind(lines.number())),
         Step::Line => {
             let number = lines.number();
-            let after = after_line::<S>(stage, entries, lines.line(), number)?;
+            let after = after_line::<S>(stage, entries, lines.line(), None, number)?;
             Ok(after)
         }
     }

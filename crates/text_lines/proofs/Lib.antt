@@ -5,6 +5,7 @@ pub mod LineLaws
 pub mod ListTexts
 pub mod NumberLaws
 pub mod Parts
+pub mod PlainLaws
 pub mod PrintedLaws
 pub mod PutPieces
 pub mod PutsLemmas

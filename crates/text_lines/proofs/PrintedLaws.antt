@@ -22,7 +22,7 @@ not_blank byte h = or_from _ _ (ne_eqb byte 32 (λ e. omega arith)) (ne_eqb byte
 pub filled_token : (token : List ℕ) → 0 < length token → All IsFilled token → IsToken token
 filled_token token some all = record { some = some; whole = λ k d h. not_blank (slice_index_or token k d) (all k d h) }
 
-digits_filled : (text : List ℕ) → all_ascii_digits text ≡ true → All IsFilled text
+pub digits_filled : (text : List ℕ) → all_ascii_digits text ≡ true → All IsFilled text
 digits_filled [] all = All-nil IsFilled
 digits_filled (c ∷ text) all =
     let parts = and_parts (is_ascii_digit c) (all_ascii_digits text) all in

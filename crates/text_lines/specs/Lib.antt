@@ -8,6 +8,7 @@ pub mod Lines
 pub mod Numbers
 pub mod Parts
 pub mod Pieces
+pub mod Plain
 pub mod PrintedLaws
 pub mod Puts
 pub mod TokenLaws

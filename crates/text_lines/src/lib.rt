@@ -10,6 +10,7 @@ mod line_kind;
 mod line_reader;
 mod num_fault;
 mod pieces;
+mod plain;
 mod puts;
 mod step;
 mod whole;

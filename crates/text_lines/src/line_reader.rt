@@ -1,6 +1,6 @@
 // Cuts a text into lines, in whatever pieces it comes.
 ghost use Rattle.std.specs.Prelude.{◌≡◌, ◌≢◌, ◌+◌, ◌<◌, ◌≤◌, [], ◌∷◌, ◌++◌, Some, All, IsTrue};
-ghost use Rattle.std.specs.Prelude.{IfOk, MatchOption, length, take, not, true, false};
+ghost use Rattle.std.specs.Prelude.{IfOk, IfSome, MatchOption, length, take, not, true, false};
 ghost use Rattle.std.specs.Prelude.{vec_len, vec_capacity};
 ghost use Rattle.std.specs.List.{position};
 ghost use Rattle.std.specs.Str.Lines.{strip_carriage_return};
@@ -8,9 +8,12 @@ ghost use Rattle.limits.specs.Limits.{greatest_line_bytes};
 ghost use Rattle.text_lines.specs.Buffered.{kept, count_of};
 ghost use Rattle.text_lines.specs.Cutting.{begun_line, has_long_line, is_long, told_lines};
 ghost use Rattle.text_lines.specs.Lines.{is_line_feed};
+ghost use Rattle.text_lines.specs.Plain.{AreNumbers};
+ghost use Rattle.text_lines.specs.Tokens.{tokens};
 
 use crate::cuts::{line_feed, without_return};
 use crate::fed::Fed;
+use crate::plain::read_plain_line;
 use crate::step::Step;
 use limits::greatest_bytes_of_line;
 use std::alloc::{AllocError, Global};
@@ -81,13 +84,29 @@ impl LineReader {
         let Some(end) = line_feed(piece) else {
             return None;
         };
-        let (whole, _) = piece.split_at(end);
-        let line = without_return(whole);
-        if line.len() as u64 > greatest_bytes_of_line() {
+        self.take_to(piece, end)
+    }
+
+    /// Takes the line that a piece begins with, as `take_whole` does, and reads it in the same pass if it is plainly written: as many
+    /// numbers as there is room for, digits alone with one space behind each, and then a value, digits with a minus or none, each of 18
+    /// digits at most. The numbers are put into `numbers`, and the value is told; it is None where the line is written in another way.
+    pub fn take_numbers<'a>(
+        &mut self,
+        piece: &'a [u8],
+        numbers: &mut [u64],
+    ) -> Option<(usize, &'a [u8], Option<i64>)>
+        ensures taken { MatchOption result (self.new ≡ self.old) (λ taken. TakesWhole self.old self.new piece.now taken.0 taken.1.now) }
+        ensures numbers { IfSome result (λ taken. IfSome taken.2 (AreNumbers (tokens taken.1.now) numbers.new)) }
+    {
+        if self.is_within_line() {
             return None;
         }
-        self.pass_line(whole);
-        Some((end + 1, line))
+        let Some((end, value)) = read_plain_line(piece, numbers) else {
+            let (taken, line) = self.take_whole(piece)?;
+            return Some((taken, line, None));
+        };
+        let (taken, line) = self.take_to(piece, end)?;
+        Some((taken, line, Some(value)))
     }
 
     /// The text has ended. A last line without an end is told: `line` lends it then.
@@ -123,6 +142,22 @@ impl LineReader {
         ensures { result ≡ false → IsBetweenLines self.now }
     {
         self.is_long || !(self.is_told || self.buffer.is_empty())
+    }
+
+    /// Takes the line that a piece begins with to its line feed, which stands here, unless the line is too long.
+    fn take_to<'a>(&mut self, piece: &'a [u8], end: usize) -> Option<(usize, &'a [u8])>
+        requires between { IsBetweenLines self.old }
+        requires end { Some end ≡ position is_line_feed piece.now }
+        ensures taken { MatchOption result (self.new ≡ self.old) (λ taken. TakesWhole self.old self.new piece.now taken.0 taken.1.now) }
+        ensures line { IfSome result (λ taken. taken.1.now ≡ strip_carriage_return (take end piece.now)) }
+    {
+        let (whole, _) = piece.split_at(end);
+        let line = without_return(whole);
+        if line.len() as u64 > greatest_bytes_of_line() {
+            return None;
+        }
+        self.pass_line(whole);
+        Some((end + 1, line))
     }
 
     /// Takes the bytes of a whole line and a line feed.

@@ -110,7 +110,7 @@ fn is_unsigned(text: &[u8]) -> bool
 }
 
 /// The number with a minus or without, of 64 bits.
-fn signed(negative: bool, number: u64) -> i64
+pub(crate) fn signed(negative: bool, number: u64) -> i64
     requires { number ≤ (if negative then 2 ^ 63 else 2 ^ 63 - 1) }
     ensures { result ≡ with_sign negative number }
 {
