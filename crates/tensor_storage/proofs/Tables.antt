@@ -98,15 +98,13 @@ pub begins_apart : (coords : ℕ → ℕ → ℕ) (n d row : ℕ) → row ≢ 0 
 begins_apart coords n d row some within apart_here = begins_behind coords n row some
     ∙ ap not (by_truth (agree coords n (row - 1) row) (λ same. apart_here (agree_tells coords n (row - 1) row same d within)))
 
--- and one that has the coordinate of the row before at the last of the levels where it differs at another
-pub begins_above : (coords : ℕ → ℕ → ℕ) (n d row : ℕ) → row ≢ 0 → n ≡ suc d → coords d (row - 1) ≡ coords d row
-    → begins_at coords n row ≡ not (agree coords d (row - 1) row)
-begins_above coords n d row some is same = begins_behind coords n row some ∙ ap not (by_last (agree coords d (row - 1) row) refl)
+-- rows that have the same coordinate at the last of the levels agree where they do at the others
+pub agree_above : (coords : ℕ → ℕ → ℕ) (n d i j : ℕ) → n ≡ suc d → coords d i ≡ coords d j → agree coords n i j ≡ agree coords d i j
+agree_above coords n d i j is same = by_others (agree coords d i j) refl
   where
-    eq : (coords d (row - 1) == coords d row) ≡ true
+    eq : (coords d i == coords d j) ≡ true
     eq = grind (arith, nat_tests, same)
 
-    by_last : (b : Bool) → agree coords d (row - 1) row ≡ b → agree coords n (row - 1) row ≡ agree coords d (row - 1) row
-    by_last true h = ap (λ m. agree coords m (row - 1) row) is ∙ joined _ _ h eq ∙ sym h
-    by_last false h = ap (λ m. agree coords m (row - 1) row) is
-        ∙ ap (λ b. b && (coords d (row - 1) == coords d row)) h ∙ sym h
+    by_others : (b : Bool) → agree coords d i j ≡ b → agree coords n i j ≡ agree coords d i j
+    by_others true h = ap (λ m. agree coords m i j) is ∙ joined _ _ h eq ∙ sym h
+    by_others false h = ap (λ m. agree coords m i j) is ∙ ap (λ b. b && (coords d i == coords d j)) h ∙ sym h

@@ -1,4 +1,4 @@
-ghost use Rattle.std.specs.Prelude.{◌≡◌, ◌<◌, ◌≤◌, ℕ, true, IfSome};
+ghost use Rattle.std.specs.Prelude.{◌≡◌, ◌<◌, ◌≤◌, ℕ, not, true, IfSome};
 ghost use Rattle.tensor_storage.specs.Tables.{Table, AllApart, agree, begins_at, keys_of, level_column};
 ghost use Rattle.std.proofs.Props.{props};
 
@@ -77,6 +77,27 @@ impl<'a, T: RowTable> RowValues for LevelRows<'a, T> {
     }
 }
 
+/// Whether two rows differ at one of the first levels: they have the same coordinate at one of these.
+#[inline(never)]
+fn differ_elsewhere<T: RowTable>(
+    table: &T,
+    level: usize,
+    through: usize,
+    row: usize,
+    other: usize,
+) -> bool
+    requires row { row < (T.table table.now).count }
+    requires other { other < (T.table table.now).count }
+    requires level { level < through }
+    requires same { (T.table table.now).coords level row ≡ (T.table table.now).coords level other }
+    ensures { result ≡ not (agree (T.table table.now).coords through row other) }
+{
+    if level + 1 == through {
+        return !rows_agree(table, level, row, other);
+    }
+    !rows_agree(table, through, row, other)
+}
+
 /// The rows of a table as a level takes them whose coordinates stand next to one another: its number, and how many of the first levels,
 /// it among them, tell rows apart that begin positions.
 #[derive(Drop)]
@@ -99,11 +120,13 @@ impl<'a, T: RowTable> SortedRows for ColumnRows<'a, T> {
         self.table.count()
     }
 
+    #[inline(always)]
     fn coord(&self, row: usize) -> u64 {
         self.column[row] as u64
     }
 
     /// Rows mostly differ at the level itself, whose coordinates are at hand: others are looked at where they don't.
+    #[inline(always)]
     fn begins(&self, row: usize) -> bool {
         if row == 0 {
             return true;
@@ -115,11 +138,6 @@ impl<'a, T: RowTable> SortedRows for ColumnRows<'a, T> {
         if self.column[before] != self.column[row] {
             return true;
         }
-        let others = if self.level + 1 == self.through {
-            self.level
-        } else {
-            self.through
-        };
-        !rows_agree(self.table, others, before, row)
+        differ_elsewhere(self.table, self.level, self.through, before, row)
     }
 }

@@ -1,9 +1,7 @@
-use Rattle.std.specs.Prelude.{◌≡◌, ◌<◌, ◌-◌, suc, not, length, slice_index}
+use Rattle.std.specs.Prelude.{◌≡◌, ◌<◌, ◌-◌, length, slice_index}
 use Rattle.std.proofs.Common.{◌∙◌, sym, ap, subst, arith, rules}
-use Rattle.tensor_storage.specs.Tables.{agree}
-use Rattle.tensor_storage.proofs.Tables.{column_long, column_at, begins_behind, begins_apart, begins_above}
+use Rattle.tensor_storage.proofs.Tables.{column_long, column_at, begins_behind, begins_apart}
 use Rattle.tensor_storage.proofs.table.ColumnRowsSortedRows.begins.Goals as goal
-use Rattle.tensor_storage.proofs.table.ColumnRowsSortedRows.begins.Goals.{then-self-2, else-self-2}
 
 pub bounds-self-before : goal.bounds-self-before
 bounds-self-before g c =
@@ -49,8 +47,11 @@ returns-then-self-before g c =
     sym (begins_apart table.coords rows.through rows.level c.args.row c.if-row-eq0.false rows.among
     (λ same. c.if-self-before.true (before ∙ same ∙ sym here)))
 
-pub returns : goal.returns
-returns g c =
+pub differ_elsewhere-requires-clause-level : goal.differ_elsewhere-requires-clause-level
+differ_elsewhere-requires-clause-level g c = c.args.self.now.among
+
+pub differ_elsewhere-requires-clause-same : goal.differ_elsewhere-requires-clause-same
+differ_elsewhere-requires-clause-same g c =
     let rows = c.args.self.now in
     let table = g.T.RowTable.table rows.table.now in
     let before : slice_index rows.column.now (c.args.row - 1) ≡ table.coords rows.level (c.args.row - 1) =
@@ -58,14 +59,10 @@ returns g c =
     ∙ column_at table rows.level (c.args.row - 1) (let within = c.requires in omega (arith, within)) in
     let here : slice_index rows.column.now c.args.row ≡ table.coords rows.level c.args.row =
     ap (λ xs. slice_index xs c.args.row) rows.lent ∙ column_at table rows.level c.args.row c.requires in
-    let same : table.coords rows.level (c.args.row - 1) ≡ table.coords rows.level c.args.row =
-    sym before ∙ c.if-self-before.false ∙ here in
-    elim c.if-self-2.branch [
-      | then-self-2 w ↦ (
-          let last : rows.through ≡ suc rows.level = (let is = w.if-self-2.true in omega (arith, is)) in
-          ap not (c.rows_agree.ensures ∙ ap (λ n. agree table.coords n (c.args.row - 1) c.args.row) w.others-is)
-          ∙ sym (begins_above table.coords rows.through rows.level c.args.row c.if-row-eq0.false last same))
-      | else-self-2 w ↦ (
-          ap not (c.rows_agree.ensures ∙ ap (λ n. agree table.coords n (c.args.row - 1) c.args.row) w.others-is)
-          ∙ sym (begins_behind table.coords rows.through c.args.row c.if-row-eq0.false))
-    ]
+    sym before ∙ c.if-self-before.false ∙ here
+
+pub returns : goal.returns
+returns g c =
+    let rows = c.args.self.now in
+    c.differ_elsewhere.ensures
+    ∙ sym (begins_behind (g.T.RowTable.table rows.table.now).coords rows.through c.args.row c.if-row-eq0.false)
