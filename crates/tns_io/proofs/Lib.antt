@@ -2,6 +2,7 @@ pub mod EntryLaws
 pub mod EntryTexts
 pub mod FieldLaws
 pub mod KindLaws
+pub mod NumberEntries
 pub mod PlainLaws
 pub mod PositionLaws
 pub mod PrintLaws

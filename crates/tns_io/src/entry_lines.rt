@@ -1,6 +1,7 @@
 // Reads the lines of a `.tns` file one by one.
-ghost use Rattle.std.specs.Prelude.{◌≡◌, ◌+◌, ◌↔◌, [], Bool, false, Err, IfErr, IsTrue, OnOk, MatchResult, length};
+ghost use Rattle.std.specs.Prelude.{◌≡◌, ◌+◌, ◌↔◌, [], Bool, false, Err, IfErr, IfSome, IsTrue, OnOk, MatchResult, length};
 ghost use Rattle.text_lines.specs.Cutting.{is_long};
+ghost use Rattle.text_lines.specs.Plain.{AreNumbers};
 ghost use Rattle.text_lines.specs.Tokens.{tokens};
 ghost use Rattle.tns_io.specs.Fields.{AreCoordinates, IsEntry, IsEntryOf, IsReading, fields_of};
 ghost use Rattle.tns_io.specs.Reading.{coordinate_of, entry_of, is_comment as is_comment_token, reading, value_of};
@@ -8,12 +9,12 @@ ghost use Rattle.tns_io.specs.Reading.{word_from};
 ghost use Rattle.tns_io.specs.ReadSoFar.{Fails, Takes};
 
 use crate::file_fault::FileFault;
-use crate::plain_lines::read_plain;
+use crate::plain_lines::entry_of_numbers;
 use tensor_map::Entries;
 use text_lines::{LineKind, NumFault, cut_token, read_index, read_whole};
 
 /// The greatest order of a tensor.
-const GREATEST_ORDER: usize = 6;
+pub(crate) const GREATEST_ORDER: usize = 6;
 
 /// Reads a line, whose value may have a sign or none, and appends its entry, if it is one.
 #[tactic(auto, unfolding(limits::specs::Limits::greatest_order))]
@@ -40,20 +41,36 @@ pub(crate) fn take_line(
     }
 }
 
-/// Reads a line: the coordinates of an entry into `coords`, and its value. None where the line is skipped. A plainly
-/// written line, as most are, is read in one pass.
-fn read_line(line: &[u8], signed: bool, coords: &mut [u64]) -> Result<Option<u64>, LineKind>
-    requires { is_long line.now ≡ false }
-    ensures { IsReading (reading signed (length coords.old) line.now) coords.new result }
+/// Takes a line as `take_line` does. Where `value` is told, it is that of the line's last token, and `numbers` are those of the others:
+/// coordinates of the entry take their place.
+pub(crate) fn take_read_line(
+    line: &[u8],
+    value: Option<i64>,
+    numbers: &mut [u64],
+    number: u64,
+    signed: bool,
+    entries: &mut Entries,
+) -> Result<(), FileFault>
+    requires short { is_long line.now ≡ false }
+    requires order { length numbers.old ≡ entries.old.order }
+    requires numbers { IfSome value (AreNumbers (tokens line.now) numbers.old) }
+    ensures order { entries.new.order ≡ entries.old.order }
+    ensures takes { OnOk result (Takes (reading signed entries.old.order line.now) entries.old.list entries.new.list) }
+    ensures fails { IfErr result (Fails number (reading signed entries.old.order line.now)) }
 {
-    match read_plain(line, signed, coords) {
-        Some(value) => Ok(Some(value)),
-        None => read_other(line, signed, coords),
+    if let Some(value) = value {
+        if let Some(word) = entry_of_numbers(value, signed, numbers) {
+            return match entries.push(numbers, word) {
+                Ok(()) => Ok(()),
+                Err(error) => Err(FileFault::Memory(error)),
+            };
+        }
     }
+    take_line(line, number, signed, entries)
 }
 
-/// Reads a line that may be written in any way.
-fn read_other(line: &[u8], signed: bool, coords: &mut [u64]) -> Result<Option<u64>, LineKind>
+/// Reads a line: the coordinates of an entry into `coords`, and its value. None where the line is skipped.
+fn read_line(line: &[u8], signed: bool, coords: &mut [u64]) -> Result<Option<u64>, LineKind>
     requires { is_long line.now ≡ false }
     ensures { IsReading (reading signed (length coords.old) line.now) coords.new result }
 {
@@ -163,7 +180,7 @@ fn read_coordinate(token: &[u8]) -> Result<u64, LineKind>
 }
 
 /// The word of a number. Where values have no sign, none is below 0.
-fn word(number: i64, signed: bool) -> Result<u64, LineKind>
+pub(crate) fn word(number: i64, signed: bool) -> Result<u64, LineKind>
     ensures { result ≡ word_from signed number }
 {
     if signed || number >= 0 {

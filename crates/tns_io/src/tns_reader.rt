@@ -3,7 +3,7 @@ ghost use Rattle.std.specs.Prelude.{◌≡◌, ◌+◌, ◌++◌, false, true, m
 ghost use Rattle.tns_io.specs.ReadSoFar.{IsReadSoFar, FailsPiece, is_want};
 ghost use Rattle.tns_io.specs.TnsReader.{IsRead, Refuses, read_to};
 
-use crate::entry_lines::take_line;
+use crate::entry_lines::{GREATEST_ORDER, take_line, take_read_line};
 use crate::file_fault::FileFault;
 use numbers::Semiring;
 use outside::Eater;
@@ -118,6 +118,7 @@ fn answer(fault: Option<FileFault>) -> Result<(), AllocError>
 }
 
 /// Reads the lines that end in a piece: each that stands whole in it where it stands.
+#[tactic(auto, unfolding(limits::specs::Limits::greatest_order))]
 fn read_lines(
     lines: &mut LineReader,
     signed: bool,
@@ -130,10 +131,12 @@ fn read_lines(
     ensures read { OnOk result (IsReadSoFar signed entries.new.order lines.new.text entries.new.list) }
     ensures fails { IfErr result (FailsPiece signed entries.old.order lines.old.text piece.now) }
 {
+    let mut numbers = [0; GREATEST_ORDER];
     let mut rest = piece;
     loop {
-        if let Some((taken, line)) = lines.take_whole(rest) {
-            match take_line(line, lines.number(), signed, entries) {
+        let coords = &mut numbers[..entries.order()];
+        if let Some((taken, line, value)) = lines.take_numbers(rest, coords) {
+            match take_read_line(line, value, coords, lines.number(), signed, entries) {
                 Ok(()) => rest = rest.split_at(taken).1,
                 Err(fault) => return Err(fault),
             }
