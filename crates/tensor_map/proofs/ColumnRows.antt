@@ -93,6 +93,11 @@ module _ {X : Type 0} (numbers : X → List ℕ) where
   entry_at columns values k d h = row_at columns 0 values k d h
       ∙ ap (λ at. record { coords = row_of numbers columns at; value = slice_index values k }) (omega arith)
 
+  -- it has a coordinate of each column
+  pub row_long : (columns : List X) (values : List ℕ) (k : ℕ) (d : Entry) → k < length values
+      → length (slice_index_or (rows_of numbers columns values) k d).coords ≡ length columns
+  row_long columns values k d h = ap (λ (entry : Entry). length entry.coords) (entry_at columns values k d h) ∙ length-map _ _
+
   -- the first numbers of a column are the coordinates in its mode
   pub column_is : (columns : List X) (values : List ℕ) (mode : ℕ) (d : X) → mode < length columns
       → length values ≤ length (numbers (slice_index_or columns mode d))

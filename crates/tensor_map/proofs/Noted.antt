@@ -1,5 +1,5 @@
 -- What is noted beside a row of entries: the greatest coordinate of each mode; and how a row that increases goes on.
-use Rattle.std.specs.Prelude.{◌≡◌, ℕ, suc, ◌-◌, ◌<◌, ◌≤◌, Bool, true, false, cond, List, [], ◌∷◌, ◌++◌, length, max, filter, All}
+use Rattle.std.specs.Prelude.{◌≡◌, ℕ, suc, ◌<◌, ◌≤◌, Bool, true, false, cond, List, [], ◌∷◌, ◌++◌, length, max, filter, All}
 use Rattle.std.specs.Prelude.{◌↔◌, IsTrue, refl, slice_index, slice_index_or}
 use Rattle.std.specs.declared.cmp.Ordering.{Ordering}
 use Rattle.std.specs.declared.cmp.Ordering.TheVariants.{Less, Equal, Greater}
@@ -86,22 +86,6 @@ before_tested xs ys Greater e = (
   λ h. absurd (cc),
   λ before. absurd (before_irreflexive xs (before_trans xs ys xs before (compared_as xs ys Greater e))),
 )
-
--- of the last entry's coordinates
-pub last_tested : (entries : List Entry) (last coords : List ℕ) (count : ℕ) (b : Bool) → count ≡ length entries → 0 < count
-    → ((d : Entry) → last ≡ (slice_index_or entries (count - 1) d).coords)
-    → (IsTrue b ↔ IsBefore last coords) → (IsTrue b ↔ ComeLast entries coords)
-last_tested entries last coords count b long some is tested = (forth, back)
-  where
-    forth : IsTrue b → ComeLast entries coords
-    forth holds k d e =
-        let k_is : count - 1 ≡ k = omega arith in
-        subst (λ xs. IsBefore xs coords) (is d ∙ ap (λ n. (slice_index_or entries n d).coords) k_is) (tested.0 holds)
-
-    back : ComeLast entries coords → IsTrue b
-    back after =
-        let blank : Entry = record { coords = coords; value = 0 } in
-        tested.1 (subst (λ xs. IsBefore xs coords) (sym (is blank)) (after (count - 1) blank (omega arith)))
 
 -- an increasing row stays one with an entry after its last
 pub increasing_more : (entries : List Entry) (entry : Entry) → StrictlyIncreasing entries → ComeLast entries entry.coords

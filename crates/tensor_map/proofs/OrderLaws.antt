@@ -1,10 +1,11 @@
 -- What follows from the definition of the order of coordinate lists.
-use Rattle.std.specs.Prelude.{◌≡◌, ℕ, ◌<◌, List, [], ◌∷◌, refl}
+use Rattle.std.specs.Prelude.{◌≡◌, ◌≢◌, ℕ, zero, suc, ◌<◌, nat_lt, List, [], ◌∷◌, length, drop, slice_index, refl}
 use Rattle.std.specs.declared.cmp.Ordering.{Ordering}
 use Rattle.std.specs.declared.cmp.Ordering.TheVariants.{Less, Equal, Greater}
-use Rattle.std.specs.Ordering.{nat_cmp, ordering_then, MatchOrdering}
+use Rattle.std.specs.Ordering.{is_lt, nat_cmp, ordering_then, MatchOrdering}
 use Rattle.std.specs.Cmp.Lexicographic.{slice_cmp}
 use Rattle.std.proofs.Common.{arith, subst, sym, ◌∙◌, inl, inr}
+use Rattle.std.proofs.lemmas.Bool.Decides.{nat_tests}
 use Rattle.std.proofs.lemmas.Cmp.{ranked}
 use Rattle.tensor_map.specs.Order.{IsBefore, IsBeforeAll}
 
@@ -50,3 +51,19 @@ compared_as xs ys r e = subst (λ o. MatchOrdering o (IsBefore xs ys) (xs ≡ ys
 pub before_all_trans : (xs ys : List ℕ) (others : List (List ℕ)) → IsBefore xs ys → IsBeforeAll ys others → IsBeforeAll xs others
 before_all_trans xs ys [] h g = tt
 before_all_trans xs ys (zs ∷ others) h g = (before_trans xs ys zs h g.0, before_all_trans xs ys others h g.1)
+
+-- from a place on, lists whose numbers there are equal stand as from the next place on
+pub compared_more : (xs ys : List ℕ) (k : ℕ) → k < length xs → k < length ys → slice_index xs k ≡ slice_index ys k
+    → slice_cmp nat_cmp (drop k xs) (drop k ys) ≡ slice_cmp nat_cmp (drop (suc k) xs) (drop (suc k) ys)
+compared_more [] ys k h g e = absurd (omega arith)
+compared_more (x ∷ xs) [] k h g e = absurd (omega arith)
+compared_more (x ∷ xs) (y ∷ ys) zero h g e = grind (arith, nat_tests)
+compared_more (x ∷ xs) (y ∷ ys) (suc k) h g e = compared_more xs ys k (omega arith) (omega arith) e
+
+-- and where they differ, as the numbers do
+pub compared_here : (xs ys : List ℕ) (k : ℕ) → k < length xs → k < length ys → slice_index xs k ≢ slice_index ys k
+    → is_lt (slice_cmp nat_cmp (drop k xs) (drop k ys)) ≡ nat_lt (slice_index xs k) (slice_index ys k)
+compared_here [] ys k h g n = absurd (omega arith)
+compared_here (x ∷ xs) [] k h g n = absurd (omega arith)
+compared_here (x ∷ xs) (y ∷ ys) zero h g n = grind (arith, nat_tests)
+compared_here (x ∷ xs) (y ∷ ys) (suc k) h g n = compared_here xs ys k (omega arith) (omega arith) n

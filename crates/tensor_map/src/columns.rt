@@ -1,6 +1,8 @@
 // Entries as columns: few bytes an entry, and the coordinates of a mode stand next to one another.
 ghost use Rattle.std.specs.Prelude.{◌≡◌, ℕ, ◌<◌, ◌≤◌, ◌^◌, ◌+◌, [], ◌∷◌, ◌++◌, length, slice_index, slice_index_or};
 ghost use Rattle.std.specs.Prelude.{All, IfOk, OnOk, OnErr, take, slice_set};
+ghost use Rattle.std.specs.Ordering.{is_lt, nat_cmp};
+ghost use Rattle.std.specs.Cmp.Lexicographic.{slice_cmp};
 ghost use Rattle.limits.specs.Limits.{greatest_order};
 ghost use Rattle.tensor_map.specs.Entries.{Entry, column_in};
 ghost use Rattle.tensor_map.specs.Columns.{AreLong, KeepsBelow};
@@ -103,6 +105,24 @@ impl Columns {
         let columns = &self.modes[..self.order];
         let column = columns[mode].as_slice();
         &column[..self.values.len()]
+    }
+
+    /// Whether the last entry's coordinates are before these.
+    pub(crate) fn is_last_before(&self, coords: &[u64]) -> bool
+        requires some { 0 < length self.now.list }
+        requires long { length coords.now ≡ self.now.order }
+        ensures { (k : ℕ) (d : Entry) → k + 1 ≡ length self.now.list
+            → result ≡ is_lt (slice_cmp nat_cmp (slice_index_or self.now.list k d).coords coords.now) }
+    {
+        let _ = &self.values;
+        let last = self.len() - 1;
+        for (mode, coordinate) in coords.iter().enumerate() {
+            let here = self.narrow(last, mode) as u64;
+            if here != *coordinate {
+                return here < *coordinate;
+            }
+        }
+        false
     }
 
     /// An entry of a matrix as a pair.

@@ -224,14 +224,10 @@ fn keep_nonzero<S: Semiring>(columns: &mut Columns)
 
 /// Whether the coordinates are after those of the last entry.
 fn come_last(columns: &Columns, coords: &[u64]) -> bool
+    requires { length coords.now ≡ columns.now.order }
     ensures { IsTrue result ↔ ComeLast columns.now.list coords.now }
 {
-    let count = columns.len();
-    if count == 0 {
-        return true;
-    }
-    let last = columns.coords(count - 1);
-    last.as_slice().cmp(&coords).is_lt()
+    columns.len() == 0 || columns.is_last_before(coords)
 }
 
 /// Whether each coordinate fits 32 bits.

@@ -1,14 +1,17 @@
-use Rattle.std.proofs.Common.{◌∙◌, ap, sym, nat_cmp, arith}
-use Rattle.std.specs.Prelude.{IsTrue, ◌↔◌}
-use Rattle.std.specs.Cmp.Lexicographic.{slice_cmp}
-use Rattle.tensor_map.specs.Order.{IsBefore}
-use Rattle.tensor_map.proofs.Noted.{before_tested, last_tested}
+use Rattle.std.proofs.Common.{◌≡◌, ◌+◌, ◌-◌, ℕ, sym, subst, refl, length, arith, []}
+use Rattle.std.specs.Prelude.{IsTrue}
+use Rattle.tensor_map.specs.Entries.{Entry}
+use Rattle.tensor_map.proofs.Noted.{before_tested}
 use Rattle.tensor_map.proofs.entry_list.come_last.Goals as goal
 
-pub returns : goal.returns
-returns c =
-    let tested : IsTrue c.is_lt.result ↔ IsBefore c.coords-last.result c.args.coords.now =
-    rw c.is_lt.ensures (before_tested c.coords-last.result c.args.coords.now c.cmp.result
-    (ap (λ xs. slice_cmp nat_cmp xs c.args.coords.now) (sym c.as_slice.ensures.value) ∙ sym c.cmp.ensures)) in
-    last_tested c.args.columns.now.list c.coords-last.result c.args.coords.now c.len-count.result c.is_lt.result c.len-count.ensures
-    (omega arith) c.coords-last.ensures tested
+-- read only past the end of a list
+blank : Entry
+blank = record { coords = []; value = 0 }
+
+pub returns-else-len-eq0 : goal.returns-else-len-eq0
+returns-else-len-eq0 c =
+    let last : ℕ = length c.args.columns.now.list - 1 in
+    let some : last + 1 ≡ length c.args.columns.now.list = omega (arith, c.len.ensures) in (
+      λ tested k d h. (before_tested _ _ _ refl).0 (subst IsTrue (c.is_last_before.ensures k d h) tested),
+      λ comes. subst IsTrue (sym (c.is_last_before.ensures last blank some)) ((before_tested _ _ _ refl).1 (comes last blank some)),
+    )

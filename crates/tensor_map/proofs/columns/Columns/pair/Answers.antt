@@ -1,8 +1,8 @@
 use Rattle.std.proofs.Common.{◌<◌, ◌≡◌, ◌∙◌, sym, ap, length, arith, get_or, take, ◌∷◌, []}
-use Rattle.std.proofs.lemmas.List.{length-take-le, length-map}
+use Rattle.std.proofs.lemmas.List.{length-take-le}
 use Rattle.limits.specs.Limits.{greatest_order}
-use Rattle.tensor_map.specs.Entries.{Entry, Entries}
-use Rattle.tensor_map.proofs.ColumnRows.{length_rows, entry_at, two_is}
+use Rattle.tensor_map.specs.Entries.{Entries}
+use Rattle.tensor_map.proofs.ColumnRows.{length_rows, row_long, two_is}
 use Rattle.tensor_map.proofs.columns.Columns.pair.Goals as goal
 
 pub returns : goal.returns
@@ -16,8 +16,7 @@ returns c d =
     let entry_in : c.args.i < length c.self.inside.values.items = omega (arith, c.requires.entry) in
     let two : length (get_or c.args.self.now.list c.args.i d).coords ≡ 2 =
     sym (ap (λ (row : Entries). length (get_or row.list c.args.i d).coords) c.self.view_is)
-    ∙ ap (λ (entry : Entry). length entry.coords) (entry_at _ _ c.self.inside.values.items c.args.i d entry_in)
-    ∙ length-map _ _ ∙ all ∙ order ∙ c.requires.two in
+    ∙ row_long _ _ c.self.inside.values.items c.args.i d entry_in ∙ all ∙ order ∙ c.requires.two in
     c.new.ensures ∙ (λ j. record {
       coords = ((λ k. c.narrow-row.ensures d k ∷ c.narrow-column.ensures d k ∷ []) ∙ two_is (get_or c.args.self.now.list c.args.i d).coords two) j;
       value = c.value.ensures d j;
