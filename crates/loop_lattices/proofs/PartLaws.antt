@@ -11,7 +11,7 @@ use Rattle.merge_lattice.specs.declared.lattices.Point.{Point}
 use Rattle.merge_lattice.specs.Lattices.{Has, IsLattice, Within}
 use Rattle.merge_lattice.specs.Parts.{joined, left_of, negated, part, part_in, Remains}
 
-abbrev is_left : Option Expr → Bool
+abbrev pub is_left : Option Expr → Bool
 is_left None = false
 is_left (Some e) = true
 
@@ -39,7 +39,7 @@ access_left false e = refl
 
 mutual
   -- a part remains exactly where something is left
-  remains_left : (P : ℕ → Bool) (e : Expr) → remains P e ≡ is_left (part P e)
+  pub remains_left : (P : ℕ → Bool) (e : Expr) → remains P e ≡ is_left (part P e)
   remains_left P (Num n) = refl
   remains_left P (Access k) = access_left (P k) (Access k)
   remains_left P (Binary' o p e q f) =
@@ -47,7 +47,7 @@ mutual
       ∙ joined_left o (part_in P e) (part_in P f)
   remains_left P (Neg' p e) = remains_left_in P e ∙ negated_left (part_in P e)
 
-  remains_left_in : {m : _} (P : ℕ → Bool) (row : Row_of-Expr m) → remains_in P row ≡ is_left (part_in P row)
+  pub remains_left_in : {m : _} (P : ℕ → Bool) (row : Row_of-Expr m) → remains_in P row ≡ is_left (part_in P row)
   remains_left_in P end_of-Expr = refl
   remains_left_in P (more_of-Expr e rest) = remains_left P e
 
@@ -60,7 +60,7 @@ remains_is_left None h = absurd h
 remains_is_left (Some e) h = refl
 
 -- where each access that isn't gone through is present, those that are there are those that are present
-left_at : (b c : Bool) → (b ≡ false → c ≡ true) → (not b || c) ≡ c
+pub left_at : (b c : Bool) → (b ≡ false → c ≡ true) → (not b || c) ≡ c
 left_at true c h = refl
 left_at false c h = sym (h refl)
 

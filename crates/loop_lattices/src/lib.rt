@@ -4,4 +4,6 @@
 
 mod laws;
 
-pub use laws::{parts_remain_by_points, whole_ranges_are_points};
+pub use laws::{
+    parts_remain_by_points, sought_ones_have_others, whole_ranges_are_full, whole_ranges_are_points,
+};

@@ -4,6 +4,7 @@ pub mod NoMore
 pub mod Packed
 pub mod Parts
 pub mod SharedLoops
+pub mod Slots
 pub mod Steps
 pub mod Trees
 pub mod Walks

@@ -105,7 +105,7 @@ module _ (s : Statement) (formats : List (List FormatLevel)) (stored : Stored) w
         by true = refl
         by false = refl
 
-    step_walked : (x : Seek) → uses (concrete_of body) x.access ≡ true → x.level ≡ suc (depth x.access)
+    pub step_walked : (x : Seek) → uses (concrete_of body) x.access ≡ true → x.level ≡ suc (depth x.access)
         → (layout_of s formats).full x.access x.level ≡ false → (layout_of s formats).variable x.access x.level ≡ v
         → x.level ≤ (layout_of s formats).levels x.access → is_walked s formats bound v x.access ≡ true
     step_walked x used level part own within =

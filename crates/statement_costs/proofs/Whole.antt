@@ -43,7 +43,7 @@ all_each P [] g = tt
 all_each P (x ∷ xs) g = (g 0 x (omega arith), all_each P xs (λ k d l. g (suc k) d (omega (arith, l))))
 
 module _ (s : Statement) (formats : List (List FormatLevel)) (stored : Stored) (ranges : ℕ → ℕ) where
-  walked_sums : (of_access : ℕ → ℕ) (xs ys : List Nest) (bound : List ℕ) (point : ℕ → ℕ) (v : ℕ) → AreSame xs ys
+  pub walked_sums : (of_access : ℕ → ℕ) (xs ys : List Nest) (bound : List ℕ) (point : ℕ → ℕ) (v : ℕ) → AreSame xs ys
       → sum_walked s formats stored of_access xs bound point v ≡ sum_walked s formats stored of_access ys bound point v
   walked_sums of_access xs ys bound point v same =
       let alike : (k : ℕ) → some_term (λ e. is_live (is_here s formats stored bound point) e k) xs

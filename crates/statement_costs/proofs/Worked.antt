@@ -4,6 +4,7 @@ use denote.Hole.Carrier.{hidden}
 use Rattle.index_notation.specs.declared.syntax.Expr.TheBlock.{hidden-the_row-Expr-0}
 use Rattle.level_core.specs.declared.letter.Letter.TheVariants.{Compressed, Dense}
 use Rattle.statement_costs.specs.Costs.{statement_cost, statement_repeats}
+use Rattle.statement_costs.specs.Slots.{statement_slots}
 use Rattle.statement_costs.specs.Worked.{alike, list_formats, list_stored, product, rows_formats, rows_stored, sum, sum_formats}
 use Rattle.statement_costs.specs.Worked.{sum_stored}
 
@@ -26,6 +27,11 @@ cost_of_a_list = refl
 pub repeats_of_a_list : statement_repeats product list_formats (0 ∷ 1 ∷ []) list_stored (alike 8) ≡ 4
 unfolding hidden-the_row-Expr-0 hidden
 repeats_of_a_list = refl
+
+-- and the vector's block, four wide, is gathered for each of the two rows
+pub slots_of_a_list : statement_slots product list_formats (0 ∷ 1 ∷ []) list_stored (λ k level. 4) (alike 8) ≡ 8
+unfolding hidden-the_row-Expr-0 hidden
+slots_of_a_list = refl
 
 -- a sum of two compressed vectors: the coordinates of both
 pub cost_of_a_sum : statement_cost sum (sum_formats Compressed) (0 ∷ []) sum_stored (alike 9) ≡ 3
