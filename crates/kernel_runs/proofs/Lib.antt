@@ -4,6 +4,7 @@ pub mod Entries
 pub mod Fits
 pub mod GivenCalls
 pub mod GivenRuns
+pub mod OneCount
 pub mod Outcomes
 pub mod PlannedOperands
 pub mod PlannedRuns

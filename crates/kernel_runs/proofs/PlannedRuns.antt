@@ -44,6 +44,7 @@ module _ (a : Arithmetic) (s : Statement) (plan : Planned) (given : List (Option
     store = run.store;
     is_store = run.is_store;
     runs = run.runs;
+    lists = run.lists;
     tensor_of = planned_tensor s runnable.formats plan runnable.planned operands runnable.runnable.operands_are a (slice_index ranges) shape
         entries run.tensor_of;
   }

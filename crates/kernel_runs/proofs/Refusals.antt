@@ -99,5 +99,6 @@ run_is a s formats kernel given operands bounds ranges told shape entries tensor
   store = run.store;
   is_store = run.is_store;
   runs = run.runs;
+  lists = run.lists;
   tensor_of = run.tensor_of;
 }

@@ -33,7 +33,7 @@ use Rattle.operand_packing.specs.Packed.{ArePackedOperands}
 use Rattle.kernel_runs.specs.declared.fault.RunFault.{RunFault}
 use Rattle.kernel_runs.specs.declared.fault.RunFault.TheVariants.{Range, SizeLimit, Workspace, Memory}
 use Rattle.kernel_runs.specs.Runs.{IsStoreFor, IsLargeLevelBy, IsTensorOf, RunsKernel}
-use Rattle.kernel_runs.specs.Steps.{CanBegin, EndsOn, IsRunOn, RefusedOn, StopsOn}
+use Rattle.kernel_runs.specs.Steps.{CanBegin, EndsOn, IsRunOn, ListsNonzero, RefusedOn, StopsOn}
 use Rattle.kernel_runs.proofs.Alike.{packed_alike}
 use Rattle.kernel_runs.proofs.Entries.{tensor_of}
 use Rattle.kernel_runs.proofs.Outcomes.{outcome_is}
@@ -70,6 +70,7 @@ pub record IsRunBy (a : Arithmetic) (s : Statement) (formats : List (List Format
   pub store : Store
   pub is_store : IsStoreFor a s formats ranges operands store
   pub runs : RunsKernel a s kernel store tensor turns
+  pub lists : ListsNonzero a tensor entries
   pub tensor_of : IsTensorOf a s operands (slice_index ranges) shape entries
 
 -- there is a range for each mode of the result
@@ -152,6 +153,7 @@ module _ (a : Arithmetic) (laws : Laws a) (s : Statement) (formats : List (List 
         named = leaves.named;
         packed = packed_tensor;
       };
+      lists = run.lists;
       tensor_of = tensor_of a laws s formats ranges operands (store_of ranges storages format) are
           (store_for ends.few) tensor leaves.table leaves.named packed_tensor entries run.lists shape run.shape_is run.each;
     }

@@ -22,6 +22,7 @@ use Rattle.operand_packing.specs.Drawn.{drawn}
 use Rattle.operand_packing.specs.Runnable.{IsRunnable, told_ranges}
 use Rattle.operand_packing.specs.declared.large_level.LargeLevel.{LargeLevel}
 use Rattle.kernel_runs.specs.Runs.{AllFit, IsLargeLevelBy, IsOfSizes, IsStoreFor, IsTensorOf, RunsKernel}
+use Rattle.kernel_runs.specs.Steps.{ListsNonzero}
 use Rattle.kernel_runs.specs.declared.fault.RunFault.{RunFault}
 use Rattle.kernel_runs.specs.declared.fault.RunFault.TheVariants.{Range, SizeLimit, Workspace, Memory}
 
@@ -38,7 +39,7 @@ IsPlannedStore a plan ranges operands store =
     IsStoreFor a plan.statement plan.formats ranges (drawn plan.origins operands) store
 
 -- the ranges of the given statement agree, the planned one's kernel runs on a store of the operands, and these are the entries of the given
--- statement's result
+-- statement's result: those of the storage that the kernel leaves
 pub record IsPlannedRun (a : Arithmetic) (s : Statement) (plan : Planned) (kernel : Kernel) (given : List (Option ℕ))
     (operands : List Entries) (bounds : List (Vec Bound Global)) (shape : List ℕ) (entries : Entries) (tensor : Storage)
     (turns : Turns) : Type 0 where
@@ -47,6 +48,7 @@ pub record IsPlannedRun (a : Arithmetic) (s : Statement) (plan : Planned) (kerne
   pub store : Store
   pub is_store : IsPlannedStore a plan ranges operands store
   pub runs : RunsKernel a plan.statement kernel store tensor turns
+  pub lists : ListsNonzero a tensor entries
   pub tensor_of : IsTensorOf a s operands (slice_index ranges) shape entries
 
 -- the ranges of the given statement agree, and by them this level of this tensor of the planned one has too many positions, so many

@@ -29,6 +29,7 @@ use Rattle.kernel_machine.specs.Runs.{HasRun}
 use Rattle.operand_packing.specs.Runnable.{told_ranges}
 use Rattle.operand_packing.specs.declared.large_level.LargeLevel.{LargeLevel}
 use Rattle.operand_packing.specs.Packed.{ArePackedOperands, OperandsFit, IsFirstLargeOperand}
+use Rattle.kernel_runs.specs.Steps.{ListsNonzero}
 use Rattle.kernel_runs.specs.declared.fault.RunFault.{RunFault}
 use Rattle.kernel_runs.specs.declared.fault.RunFault.TheVariants.{Range, SizeLimit, Workspace, Memory}
 
@@ -61,7 +62,7 @@ pub record RunsKernel (a : Arithmetic) (s : Statement) (kernel : Kernel) (store 
   pub named : IsNamedResult a s (told_by a store) store.format table
   pub packed : IsPacked a.zero store.format store.ranges table tensor
 
--- the ranges agree, the kernel runs on a store of the operands, and these are the result's entries
+-- the ranges agree, the kernel runs on a store of the operands, and these are the result's entries: those of the storage that it leaves
 pub record IsRun (a : Arithmetic) (s : Statement) (formats : List (List FormatLevel)) (kernel : Kernel) (given : List (Option ℕ))
     (operands : List Entries) (bounds : List (Vec Bound Global)) (shape : List ℕ) (entries : Entries) (tensor : Storage)
     (turns : Turns) : Type 0 where
@@ -70,6 +71,7 @@ pub record IsRun (a : Arithmetic) (s : Statement) (formats : List (List FormatLe
   pub store : Store
   pub is_store : IsStoreFor a s formats ranges operands store
   pub runs : RunsKernel a s kernel store tensor turns
+  pub lists : ListsNonzero a tensor entries
   pub tensor_of : IsTensorOf a s operands (slice_index ranges) shape entries
 
 -- the sizes of the result's levels

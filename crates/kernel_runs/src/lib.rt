@@ -5,6 +5,7 @@
 
 mod fault;
 mod given_runs;
+mod laws;
 mod planned_runs;
 mod results;
 mod running;
@@ -12,5 +13,6 @@ mod runs;
 
 pub use fault::{GivenFault, RunFault};
 pub use given_runs::run_given;
+pub use laws::operands_have_one_count;
 pub use planned_runs::run_planned;
 pub use runs::{KernelRun, run_kernel};
