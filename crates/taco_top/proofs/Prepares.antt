@@ -20,6 +20,7 @@ use Rattle.tensor_storage.specs.Storages.{Storage}
 use Rattle.mode_planner.specs.declared.planned.Planned.{Planned}
 use Rattle.operand_packing.specs.Runnable.{told_ranges}
 use Rattle.kernel_runs.specs.Runs.{IsStoreFor, IsTensorOf, RunsKernel}
+use Rattle.kernel_runs.specs.Steps.{ListsNonzero}
 use Rattle.kernel_runs.proofs.Shapes.{ranges_shape}
 use Rattle.result_files.specs.EntriesText.{MayBeWritten}
 use Rattle.result_files.specs.ResultText.{asks_matrix}
@@ -57,6 +58,7 @@ module _ (over : Values) where
     is_store : IsStoreFor over.arithmetic (stored_statement r.statement plan) (stored_formats r.formats plan) ranges
         (stored_entries entries plan) store
     runs : RunsKernel over.arithmetic (stored_statement r.statement plan) kernel store tensor turns
+    lists : ListsNonzero over.arithmetic tensor result
     tensor_of : IsTensorOf over.arithmetic r.statement entries (slice_index ranges) shape result
 
   ran : (r : Request) (plan : Option Planned) (kernel : Kernel) (entries : List Entries) (bounds : List (Vec Bound Global))
@@ -69,6 +71,7 @@ module _ (over : Values) where
     store = run.store;
     is_store = run.is_store;
     runs = run.runs;
+    lists = run.lists;
     tensor_of = run.tensor_of;
   }
   ran r (Some plan) kernel entries bounds shape result tensor turns run = record {
@@ -77,6 +80,7 @@ module _ (over : Values) where
     store = run.store;
     is_store = run.is_store;
     runs = run.runs;
+    lists = run.lists;
     tensor_of = run.tensor_of;
   }
 
@@ -125,6 +129,7 @@ module _ (over : Values) where
         kernel_is = refl;
         storage_is = refl;
         turns_are = refl;
+        lists = run.lists;
         tensor = run.tensor_of;
         written = subst (λ p. MayBeWritten (asks_matrix p) kept.result.shape kept.result.entries) (sym path_is)
             (may_be_written over.arithmetic r.statement entries

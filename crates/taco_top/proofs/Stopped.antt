@@ -13,6 +13,7 @@ use Rattle.kernel_code.specs.declared.syntax.Kernel.{Kernel}
 use Rattle.expr_terms.specs.declared.bound.Bound.{Bound}
 use Rattle.bindings.specs.Tables.{path_to}
 use Rattle.operand_files.specs.Reads.{OnlyReads}
+use Rattle.kernel_runs.specs.Steps.{ListsNonzero}
 use Rattle.result_files.specs.Writes.{Puts, PutsAll, PutsFront, WritesResult, RefusesResult}
 use Rattle.result_files.specs.ResultText.{IsResultText}
 use Rattle.result_files.specs.declared.refusal.WriteRefusal.{WriteRefusal}
@@ -28,7 +29,7 @@ use Rattle.mode_planner.specs.Plans.{IsPlan}
 use Rattle.mode_planner.specs.declared.planned.Planned.{Planned}
 use Rattle.mode_planner.specs.declared.plans.Repack.{Repack}
 use Rattle.reports.specs.Plans.{plan_text}
-use Rattle.taco_top.specs.Told.{IsKernelOf, IsWrittenIn, Tells}
+use Rattle.taco_top.specs.Told.{IsKernelOf, IsTextOf, IsWrittenIn, Tells}
 use Rattle.taco_top.specs.Refused.{OpensOperands, Stops, IsUnwritten, IsUnprinted, Refuses}
 use Rattle.operand_packing.specs.Runnable.{told_ranges}
 use Rattle.command_line.specs.CommandLine.{Workload as WorkloadLine, command_line_of}
@@ -175,6 +176,18 @@ module _ (over : Values) where
         (result_value over is.values.request.statement is.values.entries is.values.ranges) text
         is.tensor.values_are text_is)
 
+    -- and that of the storage which the kernel's run leaves
+    text_of_storage : (text : List ℕ) → IsResultText over.arithmetic over.is_signed path kept.result.shape
+        (value_at over.arithmetic kept.result.entries.list) text
+        → IsTextOf over.arithmetic over.is_signed path (result_ranges is.values.request.statement is.values.ranges) is.computed.tensor text
+    unfolding path
+    text_of_storage text text_is = record {
+      entries = kept.result.entries;
+      lists = subst (λ storage. ListsNonzero over.arithmetic storage kept.result.entries) (sym is.storage_is) is.lists;
+      text_is = subst (λ ranges. IsResultText over.arithmetic over.is_signed path ranges
+          (value_at over.arithmetic kept.result.entries.list) text) is.tensor.shape_is text_is;
+    }
+
     pub written : WritesResult over.arithmetic over.is_signed (path_to kept.file) kept.result.shape
         (value_at over.arithmetic kept.result.entries.list)
         between files' out out' → IsWrittenIn over words files files' out out' kept.result.turns
@@ -195,6 +208,8 @@ module _ (over : Values) where
       };
       computed = is.computed;
       turns_are = is.turns_are;
+      text_is = subst (λ p. IsTextOf over.arithmetic over.is_signed p (result_ranges is.values.request.statement is.values.ranges)
+          is.computed.tensor writes.text) (sym is.path_is) (text_of_storage writes.text writes.text_is);
     }
 
     pub unwritten : (why : WriteRefusal) → RefusesResult over.arithmetic over.is_signed (path_to kept.file) kept.result.shape
@@ -213,6 +228,7 @@ module _ (over : Values) where
         text_is = text_of_values refuses.text refuses.text_is;
         puts = refuses.puts;
       };
+      text_is = text_of_storage refuses.text refuses.text_is;
     }
 
   -- ---- the printing of a text

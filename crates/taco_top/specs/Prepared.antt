@@ -13,6 +13,7 @@ use Rattle.tensor_storage.specs.Storages.{Storage}
 use Rattle.mode_planner.specs.declared.planned.Planned.{Planned}
 use Rattle.kernel_runs.specs.Planned.{IsPlannedRun, MayRefusePlanned}
 use Rattle.kernel_runs.specs.Runs.{IsTensorOf, IsRun, MayRefuseRun}
+use Rattle.kernel_runs.specs.Steps.{ListsNonzero}
 use Rattle.kernel_runs.specs.declared.fault.RunFault.{RunFault}
 use Rattle.bindings.specs.Tables.{path_to}
 use Rattle.result_files.specs.EntriesText.{MayBeWritten}
@@ -84,6 +85,7 @@ pub record IsPrepared (over : Values) (words : List (List ℕ)) (task : Task) (o
   pub kernel_is : computed.kernel ≡ kept.compiled.kernel
   pub storage_is : computed.tensor ≡ kept.result.tensor
   pub turns_are : computed.turns ≡ kept.result.turns
+  pub lists : ListsNonzero over.arithmetic kept.result.tensor kept.result.entries
   pub tensor : IsTensorOf over.arithmetic values.request.statement values.entries (slice_index values.ranges) kept.result.shape
       kept.result.entries
   pub written : MayBeWritten (asks_matrix (path_to kept.file)) kept.result.shape kept.result.entries

@@ -26,7 +26,7 @@ use Rattle.taco_top.specs.Asked.{IsRefusedByWords, needs_files, needs_order, wri
 use Rattle.taco_top.specs.Run.{Request, AsksFor, path_of}
 use Rattle.taco_top.specs.Stored.{IsRunBy, stored_statement, IsLargeStoredLevel, NeedsStoredPairs}
 use Rattle.taco_top.specs.Written.{means, IsAccepted, asked_orders, asked_paths, HasOperands, HasResult, result_ranges, result_value}
-use Rattle.taco_top.specs.Told.{IsComputed, Tells}
+use Rattle.taco_top.specs.Told.{IsComputed, IsTextOf, Tells}
 
 -- a statement is accepted, and no more was opened of its operands' files than the first of them, in order
 pub record OpensOperands (words : List (List ℕ)) (old new : FolderState) : Type 0 where
@@ -102,7 +102,7 @@ Stops over words old new (fault.WriteFault path) = ⊥
 Stops over words old new fault.Memory = (new ≡ old) ⊎ OpensOperands words old new
 Stops over words old new why = RefusesWords words old new why
 
--- the writing of a result that was computed was refused
+-- the writing of a result that was computed was refused: of the text of the storage that the kernel's run leaves
 pub record IsUnwritten (over : Values) (words : List (List ℕ)) (files files' : FolderState) (out out' : SinkState) (path : Option (List ℕ))
     (why : WriteRefusal) : Type 0 where
   pub between : FolderState
@@ -113,6 +113,8 @@ pub record IsUnwritten (over : Values) (words : List (List ℕ)) (files files' :
   pub path_is : path_of values.request.files 0 ≡ path
   pub refuses : RefusesResult over.arithmetic over.is_signed path (result_ranges values.request.statement values.ranges)
       (result_value over values.request.statement values.entries values.ranges) between files' out out' why
+  pub text_is : IsTextOf over.arithmetic over.is_signed path (result_ranges values.request.statement values.ranges) computed.tensor
+      refuses.text
 
 -- its printing was refused
 pub record IsUnprinted (over : Values) (words : List (List ℕ)) (files files' : FolderState) (out out' : SinkState)

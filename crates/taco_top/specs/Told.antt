@@ -1,8 +1,10 @@
 -- What a kernel's turns and storage say. Second of the three parts of what a command ends with (`Ends.antt`): which kernel computes a
 -- statement's values, how its run ends, and the texts that tell of kernels and runs.
-use Rattle.std.specs.Prelude.{◌≡◌, ℕ, ◌≤◌, ◌⊎◌, List, Option, Some}
+use Rattle.std.specs.Prelude.{◌≡◌, ℕ, ◌≤◌, ◌⊎◌, Bool, List, Option, Some}
 use Rattle.outside.specs.Folder.{FolderState}
 use Rattle.outside.specs.Sink.{SinkState}
+use Rattle.numbers.specs.Arithmetic.{Arithmetic}
+use Rattle.tensor_map.specs.Entries.{Entries, value_at}
 use Rattle.operand_files.specs.Reads.{OnlyReads}
 use Rattle.kernel_code.specs.Semirings.{semiring_of}
 use Rattle.kernel_code.specs.declared.syntax.Kernel.{Kernel}
@@ -13,6 +15,8 @@ use Rattle.index_notation.specs.declared.syntax.Statement.{Statement}
 use Rattle.kernel_correctness.specs.Stores.{Store}
 use Rattle.taco_compiler.specs.Compiled.{IsOrder, IsCompiled}
 use Rattle.kernel_runs.specs.Runs.{IsStoreFor, RunsKernel}
+use Rattle.kernel_runs.specs.Steps.{ListsNonzero}
+use Rattle.result_files.specs.ResultText.{IsResultText}
 use Rattle.result_files.specs.Writes.{PutsAll}
 use Rattle.command_line.specs.CommandLine.{Workload as WorkloadLine, command_line_of}
 use Rattle.command_line.specs.declared.Task.TheVariants as task
@@ -24,9 +28,9 @@ use Rattle.mode_planner.specs.declared.plans.Repack.{Repack}
 use Rattle.reports.specs.Plans.{plan_text}
 use Rattle.reports.specs.Reports.{workload_line, kernel_report, run_report}
 use Rattle.taco_top.specs.Values.{Values}
-use Rattle.taco_top.specs.Run.{Request, AsksFor}
+use Rattle.taco_top.specs.Run.{Request, AsksFor, path_of}
 use Rattle.taco_top.specs.Stored.{IsRunBy, stored_statement, stored_formats, stored_entries}
-use Rattle.taco_top.specs.Written.{IsAccepted, HasResult, IsWritten}
+use Rattle.taco_top.specs.Written.{IsAccepted, HasResult, IsWritten, result_ranges}
 
 -- a kernel that is right for the statement and its formats, in their loop order, and names the semiring
 pub record IsKernelOf (over : Values) (s : Statement) (formats : List (List FormatLevel)) (order : List ℕ) (kernel : Kernel) : Type 0 where
@@ -49,12 +53,21 @@ pub record IsComputed (over : Values) (words : List (List ℕ)) (old new : Folde
   pub turns : Turns
   pub runs : RunsKernel over.arithmetic (stored_statement values.request.statement plan) kernel store tensor turns
 
--- the result of `run` or `auto` was written, of a kernel's run of so many turns
+-- the text of what a storage holds: of the values at its paths that aren't zero
+pub record IsTextOf (a : Arithmetic) (signed : Bool) (path : Option (List ℕ)) (ranges : List ℕ) (storage : Storage)
+    (text : List ℕ) : Type 0 where
+  pub entries : Entries
+  pub lists : ListsNonzero a storage entries
+  pub text_is : IsResultText a signed path ranges (value_at a entries.list) text
+
+-- the result of `run` or `auto` was written, of a kernel's run of so many turns: the text is that of the storage which this run leaves
 pub record IsWrittenIn (over : Values) (words : List (List ℕ)) (files files' : FolderState) (out out' : SinkState)
     (turns : Turns) : Type 0 where
   pub written : IsWritten over words files files' out out'
   pub computed : IsComputed over words files written.between written.values
   pub turns_are : computed.turns ≡ turns
+  pub text_is : IsTextOf over.arithmetic over.is_signed (path_of written.values.request.files 0)
+      (result_ranges written.values.request.statement written.values.ranges) computed.tensor written.writes.text
 
 -- `kernel`: that of a kernel which is right for the statement and its formats; no file is opened
 pub record TellsKernel (over : Values) (words : List (List ℕ)) (old new : FolderState) (text : List ℕ) : Type 0 where
