@@ -1,5 +1,5 @@
 -- Kernels of code that adds the rows of a statement's loops to a dense result are right.
-use Rattle.std.specs.Prelude.{◌≡◌, ℕ, zero, suc, ◌<◌, ◌==◌, false, List, [], ◌∷◌, ◌++◌, length, map, Some, slice_get, refl}
+use Rattle.std.specs.Prelude.{◌≡◌, ℕ, ◌≤◌, zero, suc, ◌<◌, ◌==◌, false, List, [], ◌∷◌, ◌++◌, length, map, Some, slice_get, refl}
 use Rattle.std.proofs.Common.{◌∙◌, sym, ap, subst, arith}
 use Rattle.std.proofs.lemmas.Bool.Decides.{nat_tests}
 use Rattle.numbers.specs.Arithmetic.{Arithmetic, Laws}
@@ -43,6 +43,9 @@ use Rattle.kernel_correctness.specs.Stores.{Store, IsStoreOf, IsGiven, told_by}
 use Rattle.kernel_correctness.proofs.CodeEnds.{ends_as_code_does}
 use Rattle.kernel_correctness.proofs.Starts.{starts_on_store}
 use Rattle.operand_arrays.specs.Operands.{stored_in, IsOfOperands}
+use Rattle.result_targets.specs.Beside.{beside_lists}
+use Rattle.result_targets.specs.Sinks.{Sink}
+use Rattle.result_targets.proofs.Scratch.{lists_kept, lists_start}
 use Rattle.dense_results.specs.Kernels.{AreAtBase, StartsAreTops, AddsFromTop, IsForDense, DenseKernelsAreRight}
 use Rattle.dense_results.specs.Operands.{IsReadStore, operands_in}
 use Rattle.dense_results.specs.Results.{IsDenseStore, left_ranges}
@@ -139,8 +142,8 @@ module _ (a : Arithmetic) (laws : Laws a) (s : Statement) (formats : List (List 
 
   -- from the start of a run, behind code that puts each access at its top, the rows are added
   module _ (k : DenseSink) (modes : k.modes ≡ modes_of (format_of formats 0)) (base : ℕ) (places : Places) (at : AreAtBase s base places)
-      (top code : List KStmt) (tops : StartsAt base top)
-      (adds_code : AddsFromTop a k s formats places loops code) (kernel : Kernel) (arrays : Arrays)
+      (top code : List KStmt) (tops : StartsAt base top) (list past : ℕ)
+      (adds_code : AddsFromTop a k s formats places loops list past code) (kernel : Kernel) (few : past ≤ kernel.lists) (arrays : Arrays)
       (given : IsGiven a.zero store arrays) where
     abbrev setting : Setting
     setting = record { arithmetic = a; workspaces = kernel.workspaces }
@@ -154,6 +157,9 @@ module _ (a : Arithmetic) (laws : Laws a) (s : Statement) (formats : List (List 
     abbrev HasTop : State → Type 0
     HasTop t = Leaves NoVariable EveryArray base no_turns begin t × ChildLeft base (Some (one 0)) t
 
+    abbrev sink : Sink DenseSink
+    sink = beside_lists dense_sink list past
+
     same_modes : k.modes ≡ modes_of store.format
     same_modes = modes ∙ ap modes_of (sym is.format_is)
 
@@ -163,11 +169,12 @@ module _ (a : Arithmetic) (laws : Laws a) (s : Statement) (formats : List (List 
         let given_here : IsGiven a.zero store t.arrays =
         subst (IsGiven a.zero store) arrays_same (starts_on_store a.zero store kernel arrays given) in
         let there = starts_are_tops a k s formats store dense_store read_store same_modes base places at t given_here h.1 in
-        does_weaker setting code t (λ u. Leaves (dense_sink.mine k) (dense_sink.kept k) adds_code.free (adds_code.most store) t u
-        × dense_sink.holds k a (left_ranges s store) ([] ++ rows) u) HoldsRows
+        let has = lists_kept list past begin t (λ b. h.0.arrays b tt) (lists_start kernel arrays list past few) in
+        does_weaker setting code t (λ u. Leaves (dense_sink.mine k) (sink.kept k) adds_code.free (adds_code.most store) t u
+        × sink.holds k a (left_ranges s store) ([] ++ rows) u) HoldsRows
         (RefusedWithin (adds_code.most store) t (dense_sink.refused k ([] ++ rows))) Never
-        (adds_code.adds setting refl store dense_store read_store t there)
-        (λ u p. subst (λ ms. HoldsSums ms a (left_ranges s store) rows u.arrays) same_modes p.1)
+        (adds_code.adds setting refl store dense_store read_store t there has)
+        (λ u p. subst (λ ms. HoldsSums ms a (left_ranges s store) rows u.arrays) same_modes p.1.0)
         (λ turns b count r. r.1)
 
     ends : kernel.body ≡ top ++ code
@@ -184,6 +191,7 @@ module _ (a : Arithmetic) (laws : Laws a) (s : Statement) (formats : List (List 
         }
 
 pub dense_kernels_are_right : DenseKernelsAreRight
-dense_kernels_are_right a laws s formats f c in_order loops adds k modes base places at top code tops adds_code kernel body store is
-    arrays given =
-    ends a laws s formats f c in_order loops adds store is k modes base places at top code tops adds_code kernel arrays given body
+dense_kernels_are_right a laws s formats f c in_order loops adds k modes base places at top code tops list past adds_code kernel few body
+    store is arrays given =
+    ends a laws s formats f c in_order loops adds store is k modes base places at top code tops list past adds_code kernel few arrays given
+    body

@@ -1,5 +1,5 @@
 -- When a kernel for a dense result is right: by what its code does behind the code that puts each access at its top.
-use Rattle.std.specs.Prelude.{◌≡◌, ℕ, ◌<◌, List, [], ◌++◌, map, Some}
+use Rattle.std.specs.Prelude.{◌≡◌, ℕ, ◌<◌, ◌≤◌, List, [], ◌++◌, map, Some}
 use Rattle.numbers.specs.Arithmetic.{Arithmetic, Laws}
 use Rattle.kernel_code.specs.declared.syntax.Arr.{Arr}
 use Rattle.kernel_code.specs.declared.syntax.Kernel.{Kernel}
@@ -17,6 +17,8 @@ use Rattle.iteration_graph.specs.Edges.{format_of, HasFormat}
 use Rattle.lists.specs.Each.{Each}
 use Rattle.concrete_notation.specs.declared.concrete.Concrete.{Concrete}
 use Rattle.concrete_notation.specs.Workspaces.{AreAllDense}
+use Rattle.result_targets.specs.Beside.{beside_lists}
+use Rattle.result_targets.specs.Scratch.{HasLists}
 use Rattle.result_targets.specs.Sinks.{Adds}
 use Rattle.loop_code.specs.declared.loops.LoopCode.{LoopCode}
 use Rattle.loop_code.specs.Loops.{start}
@@ -55,14 +57,14 @@ StartsAreTops = (a : Arithmetic) (k : DenseSink) (s : Statement) (formats : List
     → (base : ℕ) (places : Places) → AreAtBase s base places
     → (st : State) → IsGiven a.zero store st.arrays → ChildLeft base (Some (one 0)) st → IsAtTop a k s formats store places st
 
--- from the top the code adds the rows of the loops, whatever the store
+-- from the top the code adds the rows of the loops, whatever the store. It may fill scratch lists from one number to the one before another
 pub record AddsFromTop (a : Arithmetic) (k : DenseSink) (s : Statement) (formats : List (List FormatLevel)) (places : Places)
-    (loops : LoopCode) (code : List KStmt) : Type 0 where
+    (loops : LoopCode) (list past : ℕ) (code : List KStmt) : Type 0 where
   pub free : ℕ
   pub most : Store → LoopKind → ℕ
   pub adds : (c : Setting) → c.arithmetic ≡ a → (store : Store) → IsDenseStore s formats store → IsReadStore s formats store
-      → (st : State) → IsAtTop a k s formats store places st
-      → Adds dense_sink k c (left_ranges s store) code free (most store) []
+      → (st : State) → IsAtTop a k s formats store places st → HasLists list past st
+      → Adds (beside_lists dense_sink list past) k c (left_ranges s store) code free (most store) []
       (rows_to a s formats (told_by a store) (stored_in (operands_in s store)) s.left.vars loops) st
 
 -- a statement with a format for each tensor, a dense one for its result
@@ -79,5 +81,5 @@ DenseKernelsAreRight = (a : Arithmetic) → Laws a → (s : Statement) (formats 
     → (c : Concrete) → IsInOrder s formats c → (loops : LoopCode) → AddsRows s formats c loops
     → (k : DenseSink) → k.modes ≡ modes_of (format_of formats 0)
     → (base : ℕ) (places : Places) → AreAtBase s base places
-    → (top code : List KStmt) → StartsAt base top → AddsFromTop a k s formats places loops code
-    → (kernel : Kernel) → kernel.body ≡ top ++ code → IsRightKernel a s formats kernel
+    → (top code : List KStmt) → StartsAt base top → (list past : ℕ) → AddsFromTop a k s formats places loops list past code
+    → (kernel : Kernel) → past ≤ kernel.lists → kernel.body ≡ top ++ code → IsRightKernel a s formats kernel

@@ -9,6 +9,7 @@ use Rattle.kernel_code.specs.Does.{Does}
 use Rattle.kernel_code.specs.Keeps.{Leaves, no_turns}
 use Rattle.level_core.specs.Fragments.{RefusedWithin}
 use Rattle.tensor_map.specs.declared.entries.Entry.{Entry}
+use Rattle.result_targets.specs.Scratch.{SameButLists}
 
 -- what is seen of the sinks of a type. The numbers in a list are the ranges of the modes of the result.
 pub record Sink (K : Type 0) : Type 1 where
@@ -28,9 +29,9 @@ pub record Sink (K : Type 0) : Type 1 where
 pub record SinkLaws {K : Type 0} (sink : Sink K) : Type 0 where
   -- a row that may be given has so many coordinates
   pub long : (k : K) (ranges : List ℕ) (row : Entry) → sink.takes k ranges row → length row.coords ≡ sink.keys k
-  -- what it holds stays while its variables and the arrays do
+  -- what it holds stays while its variables and the arrays do, whatever rows scratch lists have
   pub same : (k : K) (a : Arithmetic) (ranges : List ℕ) (rows : List Entry) (s t : State)
-      → ((y : ℕ) → sink.mine k y → t.vars y ≡ s.vars y) → ((b : Arr) → t.arrays b ≡ s.arrays b)
+      → ((y : ℕ) → sink.mine k y → t.vars y ≡ s.vars y) → SameButLists s t
       → sink.holds k a ranges rows s → sink.holds k a ranges rows t
   -- more rows are refused no less
   pub more : (k : K) (rows others : List Entry) (b : Arr) (count : ℕ) → sink.refused k rows b count

@@ -7,7 +7,8 @@ use Rattle.limits.specs.Limits.{greatest_workspace_pairs}
 use Rattle.numbers.specs.Arithmetic.{Arithmetic}
 use Rattle.kernel_code.specs.Arrays.{same_arr}
 use Rattle.kernel_code.specs.declared.syntax.Arr.{Arr}
-use Rattle.kernel_code.specs.declared.syntax.Arr.TheVariants.{Values, ListPositions}
+use Rattle.kernel_code.specs.declared.syntax.Arr.TheVariants.{Range, Values, Dimension, Ends, Coordinates, Width, Key, Sums}
+use Rattle.kernel_code.specs.declared.syntax.Arr.TheVariants.{ListCoordinates, ListPositions}
 use Rattle.kernel_code.specs.declared.syntax.LoopKind.{LoopKind}
 use Rattle.kernel_code.specs.Keeps.{Leaves}
 use Rattle.kernel_code.specs.Meaning.{State, set_array}
@@ -21,6 +22,8 @@ use Rattle.format_spec.specs.Formats.{letters_of}
 use Rattle.index_notation.specs.declared.syntax.Statement.{Statement}
 use Rattle.tensor_map.specs.declared.entries.Entry.{Entry}
 use Rattle.tensor_storage.specs.Storages.{in_level_order}
+use Rattle.result_targets.specs.Scratch.{is_scratch, IsOffLists}
+use Rattle.result_targets.proofs.Scratch.{off_lists}
 use Rattle.term_code.specs.WorkspaceSinks.{HoldsRows, IsOfWorkspace, column, values}
 use Rattle.kernel_correctness.specs.Stores.{Store, IsStoreOf, StartsBelow}
 use Rattle.result_assembly.specs.Drained.{HoldsTable, MayDrain}
@@ -41,20 +44,48 @@ pub record IsFilled (nothing : ℕ) (letters : List Letter) (sizes : List ℕ) (
   pub list : t.arrays (ListPositions g) ≡ Some []
   pub turns : (k : LoopKind) → t.turns k ≤ most k
 
--- so it stays where nothing but the workspace changes
+not_scratch : (tensor level : ℕ) (x : Arr) → IsOf tensor level x → is_scratch x ≡ false
+not_scratch tensor level Range of = refl
+not_scratch tensor level (Values n) of = refl
+not_scratch tensor level (Dimension n k) of = refl
+not_scratch tensor level (Ends n k) of = refl
+not_scratch tensor level (Coordinates n k) of = refl
+not_scratch tensor level (Width n k) of = refl
+not_scratch tensor level (Key n k) of = refl
+not_scratch tensor level (Sums n) of = refl
+not_scratch tensor level (ListCoordinates n) of = absurd of
+not_scratch tensor level (ListPositions n) of = absurd of
+
+-- so it stays where nothing but the workspace changes, and other scratch lists
+pub still_pushed : (nothing : ℕ) (letters : List Letter) (sizes : List ℕ) (w keys g first past : ℕ)
+    → IsOffLists first past (ListPositions g) → (before after : List Entry)
+    (made more all : LoopKind → ℕ) (mine : ℕ → Type 0) (top : ℕ) (t u : State)
+    → IsFilled nothing letters sizes w keys g before made t
+    → Leaves mine (λ b. (IsOfWorkspace w b → ⊥) × IsOffLists first past b) top more t u
+    → ((k : LoopKind) → made k + more k ≤ all k) → HoldsRows w keys after u.arrays
+    → IsFilled nothing letters sizes w keys g after all u
+still_pushed nothing letters sizes w keys g first past off before after made more all mine top t u f leaves within holds = record {
+  holds = holds;
+  below = starts_kept nothing letters sizes 1 1 t.arrays u.arrays (λ j x from of. leaves.arrays x (
+    levels_beside w 0 j x of,
+    λ i. off_lists first past x (not_scratch 0 j x of) i,
+  )) (leaves.arrays (Values 0) values_off) f.below;
+  values = leaves.arrays (Values 0) values_off ∙ f.values;
+  list = leaves.arrays (ListPositions g) (λ no. no, off) ∙ f.list;
+  turns = λ k. (let first = f.turns k in let then_more = leaves.turns k in let few = within k in omega (arith, first, then_more, few));
+}
+  where
+    values_off : (IsOfWorkspace w (Values 0) → ⊥) × IsOffLists first past (Values 0)
+    values_off = (λ no. no, λ i. off_lists first past (Values 0) refl i)
+
 pub still_filled : (nothing : ℕ) (letters : List Letter) (sizes : List ℕ) (w keys g : ℕ) (before after : List Entry)
     (made more all : LoopKind → ℕ) (mine : ℕ → Type 0) (top : ℕ) (t u : State)
     → IsFilled nothing letters sizes w keys g before made t → Leaves mine (λ b. IsOfWorkspace w b → ⊥) top more t u
     → ((k : LoopKind) → made k + more k ≤ all k) → HoldsRows w keys after u.arrays
     → IsFilled nothing letters sizes w keys g after all u
-still_filled nothing letters sizes w keys g before after made more all mine top t u f leaves within holds = record {
-  holds = holds;
-  below = starts_kept nothing letters sizes 1 1 t.arrays u.arrays (λ j x from of. leaves.arrays x (levels_beside w 0 j x of))
-      (leaves.arrays (Values 0) (λ no. no)) f.below;
-  values = leaves.arrays (Values 0) (λ no. no) ∙ f.values;
-  list = leaves.arrays (ListPositions g) (λ no. no) ∙ f.list;
-  turns = λ k. (let first = f.turns k in let then_more = leaves.turns k in let few = within k in omega (arith, first, then_more, few));
-}
+still_filled nothing letters sizes w keys g before after made more all mine top t u f leaves within holds =
+    still_pushed nothing letters sizes w keys g 0 0 (λ i. let b = i.before in absurd (omega (arith, b))) before after made more all mine top
+    t u f (record { below = leaves.below; arrays = λ b k. leaves.arrays b k.0; turns = leaves.turns }) within holds
 
 -- the rows are those of their table
 holds_table : (w keys : ℕ) (rows : List Entry) (arrays : Arrays) → HoldsRows w keys rows arrays

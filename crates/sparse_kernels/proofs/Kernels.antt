@@ -63,10 +63,13 @@ use Rattle.sparse_results.proofs.Keys.{level_keys}
 use Rattle.sparse_results.proofs.Loops.{loops_add_rows, loops_sum_to_result}
 use Rattle.sparse_results.proofs.Sorting.{sorting_sums}
 use Rattle.sparse_results.proofs.Stored.{standing_is_result}
+use Rattle.result_targets.specs.Beside.{beside_lists}
+use Rattle.result_targets.specs.Sinks.{Sink}
+use Rattle.result_targets.proofs.Scratch.{list_apart, lists_kept, lists_start}
 use Rattle.sparse_kernels.specs.Kernels.{IsForSparse, PushesFromTop, SparseKernelsAreRight, sorting_code}
 use Rattle.sparse_kernels.specs.Turns.{AreTurns, MakesTurns}
 use Rattle.sparse_kernels.proofs.Ends.{IsDone, IsRightRefusal, done_told}
-use Rattle.sparse_kernels.proofs.Filled.{IsFilled, still_filled, ready, may_drain}
+use Rattle.sparse_kernels.proofs.Filled.{IsFilled, still_filled, still_pushed, ready, may_drain}
 use Rattle.sparse_kernels.proofs.Points.{has_points}
 use Rattle.sparse_kernels.proofs.Starts.{at_top, starts_empty, list_starts_empty, values_start}
 use Rattle.sparse_kernels.proofs.Turns.{passes_are, times_is}
@@ -124,9 +127,10 @@ module _ (a : Arithmetic) (laws : Laws a) (s : Statement) (formats : List (List 
   each_long = rows_long (length keys) rows (loops_add_rows a laws s formats store read_store loops words keys)
 
   module _ (k : WorkspaceSink) (k_keys : k.keys ≡ length s.left.vars) (base : ℕ) (places : Places) (at : AreAtBase s base places)
-      (top code drain : List KStmt) (tops : StartsAt base top) (pushes : PushesFromTop a k s formats places keys loops code)
-      (g low : ℕ) (drains : DrainsResult (format_of formats 0) k.number g low a.zero drain) (kernel : Kernel)
-      (space : slice_get kernel.workspaces k.number ≡ Some k.keys) (list : g < kernel.lists) (arrays : Arrays)
+      (top code drain : List KStmt) (tops : StartsAt base top) (first past : ℕ)
+      (pushes : PushesFromTop a k s formats places keys loops first past code) (g low : ℕ) (apart : g < first)
+      (drains : DrainsResult (format_of formats 0) k.number g low a.zero drain) (kernel : Kernel)
+      (space : slice_get kernel.workspaces k.number ≡ Some k.keys) (list : g < kernel.lists) (few : past ≤ kernel.lists) (arrays : Arrays)
       (given : IsGiven a.zero store arrays) where
     abbrev setting : Setting
     setting = record { arithmetic = a; workspaces = kernel.workspaces }
@@ -146,6 +150,9 @@ module _ (a : Arithmetic) (laws : Laws a) (s : Statement) (formats : List (List 
     abbrev Holds : List Entry → (LoopKind → ℕ) → State → Type 0
     Holds some made t =
         IsFilled a.zero (letters_of store.format) (in_level_order store.format store.ranges) k.number k.keys g some made t
+
+    abbrev sink : Sink WorkspaceSink
+    sink = beside_lists workspace_sink first past
 
     abbrev HasTop : State → Type 0
     HasTop t = Leaves NoVariable EveryArray base no_turns begin t × ChildLeft base (Some (one 0)) t
@@ -232,11 +239,12 @@ module _ (a : Arithmetic) (laws : Laws a) (s : Statement) (formats : List (List 
     -- ---- the loops push their rows
     from_top : (t : State) → HasTop t → Does setting code t (Holds rows most) MayBe
     from_top t h =
-        does_weaker setting code t (λ u. Leaves (workspace_sink.mine k) (workspace_sink.kept k) pushes.free most t u
-        × workspace_sink.holds k a (left_ranges s store) ([] ++ rows) u) (Holds rows most)
+        does_weaker setting code t (λ u. Leaves (workspace_sink.mine k) (sink.kept k) pushes.free most t u
+        × sink.holds k a (left_ranges s store) ([] ++ rows) u) (Holds rows most)
         (RefusedWithin most t (workspace_sink.refused k ([] ++ rows))) MayBe
         (pushes.pushes setting refl store read_store t
-        (at_top a k s formats store read_store base places at t given_here h.1 empty.holds))
+        (at_top a k s formats store read_store base places at t given_here h.1 empty.holds)
+        (lists_kept first past begin t (λ b. h.0.arrays b tt) (lists_start kernel arrays first past few)))
         pushed (λ turns b count r. passed turns b count r.1)
       where
         arrays_same : begin.arrays ≡ t.arrays
@@ -257,11 +265,11 @@ module _ (a : Arithmetic) (laws : Laws a) (s : Statement) (formats : List (List 
           turns = λ j. h.0.turns j;
         }
 
-        pushed : (u : State) → Leaves (workspace_sink.mine k) (workspace_sink.kept k) pushes.free most t u
-            × workspace_sink.holds k a (left_ranges s store) ([] ++ rows) u → Holds rows most u
+        pushed : (u : State) → Leaves (workspace_sink.mine k) (sink.kept k) pushes.free most t u
+            × sink.holds k a (left_ranges s store) ([] ++ rows) u → Holds rows most u
         pushed u p =
-            still_filled a.zero (letters_of store.format) (in_level_order store.format store.ranges) k.number k.keys g [] rows no_turns
-            most most (workspace_sink.mine k) pushes.free t u empty p.0 (λ j. omega arith) p.1
+            still_pushed a.zero (letters_of store.format) (in_level_order store.format store.ranges) k.number k.keys g first past
+            (λ i. list_apart g first past (ListPositions g) apart refl i) [] rows no_turns most most (workspace_sink.mine k) pushes.free t u empty p.0 (λ j. omega arith) p.1.0
 
         passed : (turns : LoopKind → ℕ) (b : Arr) (count : ℕ) → PassesPairs k.number rows b count → MayBe turns b count
         passed turns b count p =
@@ -288,7 +296,7 @@ module _ (a : Arithmetic) (laws : Laws a) (s : Statement) (formats : List (List 
         }
 
 pub sparse_kernels_are_right : SparseKernelsAreRight
-sparse_kernels_are_right a laws s formats f c in_order loops adds words k k_keys base places at top code drain tops pushes g low drains
-    kernel space list body store is arrays given =
-    ends a laws s formats f c in_order loops adds words store is k k_keys base places at top code drain tops pushes g low drains kernel
-    space list arrays given body
+sparse_kernels_are_right a laws s formats f c in_order loops adds words k k_keys base places at top code drain tops first past pushes g low
+    apart drains kernel space list few body store is arrays given =
+    ends a laws s formats f c in_order loops adds words store is k k_keys base places at top code drain tops first past pushes g low apart
+    drains kernel space list few arrays given body

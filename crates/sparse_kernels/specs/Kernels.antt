@@ -1,6 +1,6 @@
 -- When a kernel is right whose result isn't dense throughout: its loops push rows into a workspace, which are sorted, summed, and fill
 -- the result's levels.
-use Rattle.std.specs.Prelude.{◌≡◌, ℕ, ◌<◌, List, [], ◌∷◌, ◌++◌, length, Some, slice_get}
+use Rattle.std.specs.Prelude.{◌≡◌, ℕ, ◌<◌, ◌≤◌, List, [], ◌∷◌, ◌++◌, length, Some, slice_get}
 use Rattle.numbers.specs.Arithmetic.{Arithmetic, Laws}
 use Rattle.kernel_code.specs.declared.syntax.Arr.{Arr}
 use Rattle.kernel_code.specs.declared.syntax.Arr.TheVariants.{Sums, ListPositions}
@@ -21,6 +21,8 @@ use Rattle.expr_terms.specs.ValueLaws.{HasWords}
 use Rattle.concrete_notation.specs.declared.concrete.Concrete.{Concrete}
 use Rattle.concrete_notation.specs.Nests.{left_in_order}
 use Rattle.concrete_notation.specs.Workspaces.{AreAllDense}
+use Rattle.result_targets.specs.Beside.{beside_lists}
+use Rattle.result_targets.specs.Scratch.{HasLists}
 use Rattle.result_targets.specs.Sinks.{Adds}
 use Rattle.loop_code.specs.declared.loops.LoopCode.{LoopCode}
 use Rattle.loop_code.specs.Loops.{start}
@@ -61,14 +63,15 @@ pub record IsAtTop (a : Arithmetic) (k : WorkspaceSink) (s : Statement) (formats
   pub kept : (b : Arr) → IsOfOperands b → workspace_sink.kept k b
   pub held : workspace_sink.holds k a (left_ranges s store) [] st
 
--- from the top the code pushes the rows that the loops add to these keys, whatever the store
+-- From the top the code pushes the rows that the loops add to these keys, whatever the store. It may fill scratch lists from one number to
+-- the one before another.
 pub record PushesFromTop (a : Arithmetic) (k : WorkspaceSink) (s : Statement) (formats : List (List FormatLevel)) (places : Places)
-    (keys : List ℕ) (loops : LoopCode) (code : List KStmt) : Type 0 where
+    (keys : List ℕ) (loops : LoopCode) (list past : ℕ) (code : List KStmt) : Type 0 where
   pub free : ℕ
   pub most : Store → LoopKind → ℕ
   pub pushes : (c : Setting) → c.arithmetic ≡ a → (store : Store) → IsReadStore s formats store
-      → (st : State) → IsAtTop a k s formats store places st
-      → Adds workspace_sink k c (left_ranges s store) code free (most store) []
+      → (st : State) → IsAtTop a k s formats store places st → HasLists list past st
+      → Adds (beside_lists workspace_sink list past) k c (left_ranges s store) code free (most store) []
       (rows_to a s formats (told_by a store) (stored_in (operands_in s store)) keys loops) st
 
 -- the rows of workspace w are sorted and summed, and in scratch list g each is given the one position above all levels
@@ -83,9 +86,9 @@ SparseKernelsAreRight = (a : Arithmetic) → Laws a → (s : Statement) (formats
     → (k : WorkspaceSink) → k.keys ≡ length s.left.vars
     → (base : ℕ) (places : Places) → AreAtBase s base places
     → (top code drain : List KStmt) → StartsAt base top
-    → (pushes : PushesFromTop a k s formats places (left_in_order s in_order.order) loops code)
-    → (g low : ℕ) → DrainsResult (format_of formats 0) k.number g low a.zero drain
-    → (kernel : Kernel) → slice_get kernel.workspaces k.number ≡ Some k.keys → g < kernel.lists
+    → (list past : ℕ) (pushes : PushesFromTop a k s formats places (left_in_order s in_order.order) loops list past code)
+    → (g low : ℕ) → g < list → DrainsResult (format_of formats 0) k.number g low a.zero drain
+    → (kernel : Kernel) → slice_get kernel.workspaces k.number ≡ Some k.keys → g < kernel.lists → past ≤ kernel.lists
     → kernel.body ≡ (top ++ code) ++ (sorting_code k.number g ++ drain)
     → (store : Store) → IsStoreOf s formats store → (arrays : Arrays) → IsGiven a.zero store arrays
     → Ends a (length store.format) kernel arrays (λ outcome. IsRightOutcome a s (told_by a store) store outcome

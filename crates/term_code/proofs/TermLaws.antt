@@ -17,6 +17,7 @@ use Rattle.expr_terms.specs.Points.{coords_at}
 use Rattle.expr_terms.specs.Terms.{contains}
 use Rattle.expr_terms.specs.declared.term.Term.{Term}
 use Rattle.result_targets.specs.Sinks.{Sink, SinkLaws, Adds, AddsTo, VarsAre}
+use Rattle.result_targets.proofs.Scratch.{all_same}
 use Rattle.loop_code.specs.Loops.{Env, access_values, row_of, term_value}
 use Rattle.loop_code.specs.Places.{EachAccess}
 use Rattle.loop_code.specs.PresentValues.{present_value, signed}
@@ -101,7 +102,7 @@ module _ {K : Type 0} (sink : Sink K) (laws : SinkLaws sink) (k : K) (free : ℕ
       does_weaker c (If (Var free) row [] ∷ []) u _ _ (RefusedWithin no_turns u refused) (RefusedWithin no_turns s refused)
       (adds_row c (subst Laws (sym is) arithmetic) apart ranges before coords o takes u
       (subst (λ ks. VarsAre ks coords u) (sym named) (keys_are places bound env u keeps_u target all)) q.1
-      (laws.same k c.arithmetic ranges before s u (λ y m. same y (apart y m)) (λ b. q.0.arrays b tt) holds))
+      (laws.same k c.arithmetic ranges before s u (λ y m. same y (apart y m)) (all_same s u (λ b. q.0.arrays b tt)) holds))
       (λ w r. (
         record {
           below = λ y b m. r.0.below y b m ∙ same y b;
