@@ -16,7 +16,9 @@ use Rattle.kernel_code.specs.Meaning.{key_columns, set_array, set_columns, choic
 use Rattle.kernel_code.specs.Meaning.{statements_in, statements_in_row}
 use Rattle.kernel_code.specs.Does.{Refusal, OnOutcome, Does}
 use Rattle.gathered_lists.specs.Rows.{HasList}
-use Rattle.gathered_lists.specs.Staying.{IsThere, StillThere, EndsThere}
+use Rattle.gathered_lists.specs.Staying.{StillThere, EndsThere}
+use Rattle.result_targets.specs.Scratch.{IsThere}
+use Rattle.result_targets.proofs.Scratch.{list_stays}
 
 still_self : (s : State) → StillThere s s
 still_self s a h = h
@@ -170,18 +172,6 @@ does_still c code s P R d = record {
       (subst (EndsThere s) (d.reached d.enough (omega arith)) (ends_list c d.enough code s));
 }
 
-words_there : (o : Option (List ℕ)) → IsThere o → (xs : List ℕ) × (o ≡ Some xs)
-words_there None h = absurd h
-words_there (Some xs) h = (xs, refl)
-
-there_words : (o : Option (List ℕ)) (xs : List ℕ) → o ≡ Some xs → IsThere o
-there_words o xs h = subst IsThere (sym h) tt
-
 -- a scratch list that is there stays there
 pub has_still : (list : ℕ) (s t : State) → HasList list s → StillThere s t → HasList list t
-has_still list s t h g =
-    let c = words_there (t.arrays (ListCoordinates list))
-    (g (ListCoordinates list) (there_words (s.arrays (ListCoordinates list)) h.coordinates h.coordinates_are)) in
-    let p = words_there (t.arrays (ListPositions list))
-    (g (ListPositions list) (there_words (s.arrays (ListPositions list)) h.positions h.positions_are)) in
-    record { coordinates = c.0; positions = p.0; coordinates_are = c.1; positions_are = p.1 }
+has_still list s t h g = list_stays list s t (λ b is there. g b there) h

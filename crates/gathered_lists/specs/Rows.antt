@@ -2,36 +2,12 @@
 use Rattle.std.specs.Prelude.{◌≡◌, ℕ, ◌+◌, ◌≤◌, ◌<◌, List, length, map, Some}
 use Rattle.lists.specs.Each.{Each}
 use Rattle.limits.specs.Limits.{greatest_position_count}
-use Rattle.kernel_code.specs.declared.syntax.Arr.{Arr}
-use Rattle.kernel_code.specs.declared.syntax.Arr.TheVariants.{Range, Values, Dimension, Ends, Coordinates, Width, Key, Sums}
 use Rattle.kernel_code.specs.declared.syntax.Arr.TheVariants.{ListCoordinates, ListPositions}
 use Rattle.kernel_code.specs.Meaning.{State}
 use Rattle.level_core.specs.declared.span.Entry.{Entry}
 use Rattle.level_core.specs.Entries.{Rising}
 use Rattle.level_cursors.specs.Cursors.{no_coordinate}
-
--- the array is one of a scratch list
-abbrev pub IsOfList : ℕ → Arr → Type 0
-IsOfList list Range = ⊥
-IsOfList list (Values n) = ⊥
-IsOfList list (Dimension n k) = ⊥
-IsOfList list (Ends n k) = ⊥
-IsOfList list (Coordinates n k) = ⊥
-IsOfList list (Width n k) = ⊥
-IsOfList list (Key n k) = ⊥
-IsOfList list (Sums n) = ⊥
-IsOfList list (ListCoordinates n) = n ≡ list
-IsOfList list (ListPositions n) = n ≡ list
-
-abbrev pub IsOffList : ℕ → Arr → Type 0
-IsOffList list a = IsOfList list a → ⊥
-
--- the scratch list is there, whatever rows it has
-pub record HasList (list : ℕ) (s : State) : Type 0 where
-  pub coordinates : List ℕ
-  pub positions : List ℕ
-  pub coordinates_are : s.arrays (ListCoordinates list) ≡ Some coordinates
-  pub positions_are : s.arrays (ListPositions list) ≡ Some positions
+pub use Rattle.result_targets.specs.Scratch.{IsOfList, IsOffList, HasList}
 
 -- its rows are these entries
 pub record HasRows (list : ℕ) (es : List Entry) (s : State) : Type 0 where

@@ -1,12 +1,8 @@
 -- Arrays that are there stay there: no code takes one away, whatever it does to its words. So a scratch list that a kernel has is there
 -- wherever the kernel's run comes to.
-use Rattle.std.specs.Prelude.{ℕ, List, Option, Some, None}
 use Rattle.kernel_code.specs.declared.syntax.Arr.{Arr}
 use Rattle.kernel_code.specs.Meaning.{State, Outcome, Ended, Stuck, Over, More}
-
-abbrev pub IsThere : Option (List ℕ) → Type 0
-IsThere None = ⊥
-IsThere (Some xs) = Unit {0}
+use Rattle.result_targets.specs.Scratch.{IsThere}
 
 -- each array that is there in the first state is there in the second
 abbrev pub StillThere : State → State → Type 0
