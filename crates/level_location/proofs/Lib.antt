@@ -1,6 +1,9 @@
 pub mod CursorFacts
+pub mod FindSteps
+pub mod GatherSteps
 pub mod Kept
 pub mod Levels
+pub mod Lists
 pub mod Opened
 pub mod LevelReads
 pub mod Probing

@@ -4,7 +4,7 @@ ghost use Rattle.index_notation.specs.Statement.{IsNumbered};
 ghost use Rattle.iteration_graph.specs.Edges.{HasFormat};
 ghost use Rattle.lists.specs.Each.{Each};
 ghost use Rattle.lowering.specs.Layouts.{layout_of};
-ghost use Rattle.level_location.specs.Walked.{IsLevel, is_iterated, letter_of};
+ghost use Rattle.level_location.specs.Walked.{IsLevel, goes_over, is_iterated, is_listed, letter_of};
 
 use format_spec::Format;
 use index_notation::Statement;
@@ -40,4 +40,33 @@ pub(crate) fn is_iterated(letter: Letter) -> bool
     ensures { result ≡ is_iterated letter }
 {
     props_of(letter).ordered && caps_of(letter).position_iteration
+}
+
+/// Whether the entries of the level are gathered into a scratch list: it has no order, and its access is one of those that are named.
+pub(crate) fn is_listed(
+    statement: &Statement,
+    formats: &[Format],
+    gathered: &[usize],
+    seek: &Seek,
+) -> bool
+    requires formats { Each (HasFormat formats.now) statement.now.accesses }
+    requires level { IsLevel statement.now formats.now seek.now }
+    ensures { result ≡ is_listed statement.now formats.now gathered.now seek.now }
+{
+    !props_of(letter_of(statement, formats, seek)).ordered && gathered.contains(&seek.access)
+}
+
+/// Whether a cursor goes over the level.
+pub(crate) fn goes_over(
+    statement: &Statement,
+    formats: &[Format],
+    gathered: &[usize],
+    seek: &Seek,
+) -> bool
+    requires formats { Each (HasFormat formats.now) statement.now.accesses }
+    requires level { IsLevel statement.now formats.now seek.now }
+    ensures { result ≡ goes_over statement.now formats.now gathered.now seek.now }
+{
+    is_iterated(letter_of(statement, formats, seek))
+        || is_listed(statement, formats, gathered, seek)
 }
