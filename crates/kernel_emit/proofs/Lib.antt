@@ -4,7 +4,9 @@ pub mod Coming
 pub mod EndingLaws
 pub mod Equations
 pub mod Fits
+pub mod GatheringLaws
 pub mod Kept
+pub mod ListLaws
 pub mod LoopLaws
 pub mod LoopParts
 pub mod OffRange

@@ -5,9 +5,11 @@
 
 mod alone;
 mod beginning;
+mod beside;
 mod closing;
 mod emitting;
 mod ending;
+mod gathering;
 mod opening;
 
-pub use emitting::emit;
+pub use emitting::{Emitted, emit};

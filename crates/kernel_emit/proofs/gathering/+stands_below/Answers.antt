@@ -1,0 +1,23 @@
+use Rattle.std.specs.Prelude.{ℕ, Bool, ◌||◌}
+use Rattle.std.proofs.Common.{◌∙◌, sym, ap}
+use Rattle.loop_code.specs.Parts.{is_live_below, is_other}
+use Rattle.loop_flags.proofs.LiveLaws.{live_loop, live_both}
+use Rattle.kernel_emit.proofs.gathering.+stands_below.Goals as goal
+
+pub returns-in-Loop : goal.returns-in-Loop
+returns-in-Loop t c =
+    let s = c.in-Loop in
+    let P = is_other c.args.walked.now in
+    let k = c.args.access in
+    c.stands_below.ensures ∙ ap (λ l. is_live_below P l k) c.get.ensures
+    ∙ sym (ap (λ l. is_live_below P l k) s.is ∙ live_loop P s.variable s.seeks s.body k)
+
+pub returns-in-Both : goal.returns-in-Both
+returns-in-Both t c =
+    let s = c.in-Both in
+    let P = is_other c.args.walked.now in
+    let k = c.args.access in
+    c.one_of.ensures
+    ∙ ap (λ b. b || c.stands_below-in-Both-2.result) (c.stands_below-in-Both.ensures ∙ ap (λ l. is_live_below P l k) c.get-in-Both.ensures)
+    ∙ ap (λ b. is_live_below P s.first k || b) (c.stands_below-in-Both-2.ensures ∙ ap (λ l. is_live_below P l k) c.get-in-Both-2.ensures)
+    ∙ sym (ap (λ l. is_live_below P l k) s.is ∙ live_both P s.first s.second k)
