@@ -2,7 +2,6 @@
 use Rattle.std.specs.Prelude.{◌≡◌, ℕ, zero, suc, ◌+◌, ◌<◌, ◌≤◌, true, List, [], ◌∷◌, length, All, Option, Some, None, Ok, slice_get}
 use Rattle.std.specs.Prelude.{slice_index, refl}
 use Rattle.std.proofs.Common.{◌∙◌, sym, ap, subst, arith}
-use Rattle.std.proofs.lemmas.List.Elements.{All-nil, All-cons}
 use Rattle.lists.specs.Each.{Each}
 use Rattle.numbers.specs.Arithmetic.{Arithmetic}
 use Rattle.numbers.specs.Ring.{ring}
@@ -13,8 +12,6 @@ use Rattle.kernel_code.specs.Kernels.{Finished, NotFinished}
 use Rattle.kernel_interpreter.specs.Store.{count_of}
 use Rattle.format_spec.specs.declared.format.FormatLevel.{FormatLevel}
 use Rattle.format_spec.specs.Formats.{letters_of}
-use Rattle.level_core.specs.declared.letter.Letter.TheVariants.{Dense, Compressed}
-use Rattle.level_core.specs.Kinds.{properties}
 use Rattle.level_core.specs.declared.span.Span.{Span}
 use Rattle.level_core.specs.declared.span.Entry.{Entry as LevelEntry}
 use Rattle.level_core.specs.Entries.{Distinct, one}
@@ -31,7 +28,7 @@ use Rattle.kernel_correctness.specs.Stores.{Store, operand_of}
 use Rattle.operand_packing.specs.Packed.{IsPackedOperand}
 use Rattle.kernel_runs.specs.Runs.{IsStoreFor, RunsKernel}
 use Rattle.kernel_runs.proofs.Outcomes.{outcome_is}
-use Rattle.taco_compiler.specs.Compiled.{AreFewTurns, IsCompiled, IsOrder, AreOrdered}
+use Rattle.taco_compiler.specs.Compiled.{AreFewTurns, IsCompiled, IsOrder}
 use Rattle.generated_runs.specs.Workloads.{by_rows, workload_statement, workload_formats, IsComputed}
 use Rattle.generated_runs.proofs.Costs.{cost_most, entries_below}
 use Rattle.generated_runs.proofs.Counting.{each_kept, few_stored}
@@ -45,19 +42,6 @@ same_below : (levels : List StorageLevel) (stored : Stored) (k : ℕ) → ((p : 
     → (o : Option Span) → entries_of stored o k 2 ≡ below_of levels o
 same_below levels stored k same None = refl
 same_below levels stored k same (Some p) = same p
-
-is_ordered : FormatLevel → Type 0
-is_ordered level = (properties level.letter).ordered ≡ true
-
-all_ordered : All is_ordered by_rows
-unfolding is_ordered
-all_ordered =
-    All-cons is_ordered (record { letter = Dense; mode = 0 }) (record { letter = Compressed; mode = 1 } ∷ []) refl
-    (All-cons is_ordered (record { letter = Compressed; mode = 1 }) [] refl (All-nil is_ordered))
-
-operands_are_ordered : AreOrdered workload_statement workload_formats
-unfolding workload_statement workload_formats is_ordered
-operands_are_ordered = (all_ordered, (all_ordered, (all_ordered, tt)))
 
 module _ (a : Arithmetic) (n : ℕ) (first second third : Entries) (store : Store)
     (for : IsStoreFor a workload_statement workload_formats (n ∷ n ∷ []) (first ∷ second ∷ third ∷ []) store) where
@@ -134,8 +118,8 @@ module _ (a : Arithmetic) (n : ℕ) (first second third : Entries) (store : Stor
       let within : AreFewTurns workload_statement workload_formats order store (Finished runs.has_run.arrays (count_of turns)) =
       outcome_is a (length store.format) kernel runs.given (AreFewTurns workload_statement workload_formats order store)
       (Finished runs.has_run.arrays (count_of turns))
-      (compiled.few operands_are_ordered store for.is_store runs.given runs.is_given) (λ none. none) runs.has_run.ends finished in
-      let merges : turns.merge ≤ statement_cost workload_statement workload_formats order stored (slice_index store.ranges) = within.0 in
+      (compiled.few store for.is_store runs.given runs.is_given) (λ none. none) runs.has_run.ends finished in
+      let merges : turns.merge ≤ statement_cost workload_statement workload_formats order stored (slice_index store.ranges) = within.merges in
       let cost = cost_few order is in
       omega (arith, merges, cost)
     where

@@ -3,10 +3,12 @@
 use Rattle.std.specs.Prelude.{◌≡◌, ℕ, ◌≤◌, List, [], ◌++◌, length, All, Some, slice_index, true, refl}
 use Rattle.std.proofs.Common.{◌∙◌, sym, ap, subst, arith}
 use Rattle.numbers.specs.Arithmetic.{Arithmetic, Laws}
+use Rattle.kernel_code.specs.declared.syntax.Arr.TheVariants.{Range, Values, Dimension, Ends, Coordinates, Width, Key, Sums}
+use Rattle.kernel_code.specs.declared.syntax.Arr.TheVariants.{ListCoordinates, ListPositions}
 use Rattle.kernel_code.specs.declared.syntax.Kernel.{Kernel}
 use Rattle.kernel_code.specs.declared.syntax.KStmt.{KStmt}
 use Rattle.kernel_code.specs.declared.syntax.LoopKind.{LoopKind}
-use Rattle.kernel_code.specs.declared.syntax.LoopKind.TheVariants.{Merge, Skip, Drain}
+use Rattle.kernel_code.specs.declared.syntax.LoopKind.TheVariants.{Merge, Skip, Gather, Drain}
 use Rattle.kernel_code.specs.Does.{Does, Never}
 use Rattle.kernel_code.specs.Keeps.{Leaves, NoVariable, EveryArray, no_turns}
 use Rattle.kernel_code.specs.Kernels.{KernelOutcome, Finished, GotStuck, TooLong, NotFinished, start_state}
@@ -44,9 +46,14 @@ use Rattle.dense_results.specs.Results.{IsDenseStore, left_ranges}
 use Rattle.dense_results.proofs.Kernels.{dense_kernels_are_right, starts_are_tops}
 use Rattle.dense_results.proofs.Loops.{lowered_loops_go_through}
 use Rattle.dense_results.proofs.Rows.{rows_are_taken}
+use Rattle.result_targets.specs.Beside.{LeavesLists, beside_lists}
+use Rattle.result_targets.specs.Sinks.{Sink}
+use Rattle.result_targets.proofs.Scratch.{lists_kept, lists_start}
 use Rattle.kernel_emit.specs.Emitted.{AddsLoops}
+use Rattle.kernel_emit.specs.declared.emitting.Emitted.{Emitted}
+use Rattle.kernel_emit.proofs.ListLaws.{operand_apart}
 use Rattle.sparse_kernels.proofs.Ends.{ends_weaker}
-use Rattle.taco_compiler.specs.Compiled.{AreFewTurns, DrainsFew, IsCompiled, AreOrdered}
+use Rattle.taco_compiler.specs.Compiled.{AreFewTurns, DrainsFew, IsCompiled}
 use Rattle.taco_compiler.specs.Loops.{AreLoopsOf}
 use Rattle.taco_compiler.proofs.LoopTurns.{in_order_of, within_cost}
 
@@ -62,8 +69,25 @@ module _ (a : Arithmetic) (laws : Laws a) (s : Statement) (formats : List (List 
   read_store store is = record { numbered = f.numbered; named = f.named; read = f.read; is = is }
 
   module _ (k : DenseSink) (modes : k.modes ≡ modes_of (format_of formats 0)) (places : Places) (at : AreAtBase s 0 places)
-      (top code : List KStmt) (tops : StartsAt 0 top) (free : ℕ)
-      (e : AddsLoops a dense_sink k s formats places s.left.vars loops free code) (kernel : Kernel) (body : kernel.body ≡ top ++ code) where
+      (top : List KStmt) (emitted : Emitted) (tops : StartsAt 0 top) (free : ℕ)
+      (e : AddsLoops a dense_sink k s formats places s.left.vars loops free 0 emitted.lists emitted.code) (kernel : Kernel)
+      (few_lists : emitted.lists ≤ kernel.lists) (body : kernel.body ≡ top ++ emitted.code) where
+    abbrev code : List KStmt
+    code = emitted.code
+
+    -- the result's values are no scratch list
+    lists_left : LeavesLists dense_sink k
+    lists_left Range h = absurd (cc h)
+    lists_left (Values n) h = absurd (cc h)
+    lists_left (Dimension n l) h = absurd (cc h)
+    lists_left (Ends n l) h = absurd (cc h)
+    lists_left (Coordinates n l) h = absurd (cc h)
+    lists_left (Width n l) h = absurd (cc h)
+    lists_left (Key n l) h = absurd (cc h)
+    lists_left (Sums n) h = absurd (cc h)
+    lists_left (ListCoordinates n) h = refl
+    lists_left (ListPositions n) h = refl
+
     bound_there : TargetIsBound s.left.vars [] loops
     bound_there = (lowered_loops_go_through s f.numbered formats c in_order loops l.shape true).bound
 
@@ -77,26 +101,27 @@ module _ (a : Arithmetic) (laws : Laws a) (s : Statement) (formats : List (List 
         (rows_are_taken a laws s formats store d r c in_order loops l.rows l.words)
 
     -- from the top the code adds the loops' rows
-    abbrev from_top : AddsFromTop a k s formats places loops code
+    abbrev from_top : AddsFromTop a k s formats places loops 0 emitted.lists code
     from_top = record {
       free = free;
       most = λ store. e.most (operands_in s store) (slice_index store.ranges) start;
-      adds = λ setting same store d r st t.
-          e.adds setting same laws 0 (omega arith) [] (λ j. 0) (operands_in s store) (slice_index store.ranges) start (left_ranges s store)
+      adds = λ setting same store d r st t has.
+          e.adds setting same laws 0 (omega arith) lists_left [] (λ j. 0) (operands_in s store) (slice_index store.ranges) start (left_ranges s store)
           [] st l.placed bound_there (taken store d r) (record {
             mine_below = t.none;
             from = t.from;
-            kept = t.kept;
+            kept = λ b of. (t.kept b of, operand_apart 0 emitted.lists b of);
             ready = t.stands.ready;
             opened = t.stands.opened;
             has_ranges = t.stands.ranges;
             keeps = t.keeps;
-            held = subst (λ b. dense_sink.holds k b (left_ranges s store) [] st) (sym same) t.held;
+            held = (subst (λ b. dense_sink.holds k b (left_ranges s store) [] st) (sym same) t.held, has);
           });
     }
 
     right_kernel : IsRightKernel a s formats kernel
-    right_kernel = dense_kernels_are_right a laws s formats f c in_order loops l.rows k modes 0 places at top code tops from_top kernel body
+    right_kernel = dense_kernels_are_right a laws s formats f c in_order loops l.rows k modes 0 places at top code tops 0 emitted.lists from_top kernel few_lists
+        body
 
     -- the turns of a run
     module _ (store : Store) (is : IsStoreOf s formats store) (arrays : Arrays) (given : IsGiven a.zero store arrays) where
@@ -112,6 +137,9 @@ module _ (a : Arithmetic) (laws : Laws a) (s : Statement) (formats : List (List 
       abbrev AreMost : (LoopKind → ℕ) → Type 0
       AreMost turns = (kind : LoopKind) → turns kind ≤ from_top.most store kind
 
+      abbrev sink : Sink DenseSink
+      sink = beside_lists dense_sink 0 emitted.lists
+
       abbrev HasTop : State → Type 0
       HasTop t = Leaves NoVariable EveryArray 0 no_turns begin t × ChildLeft 0 (Some (one 0)) t
 
@@ -122,12 +150,13 @@ module _ (a : Arithmetic) (laws : Laws a) (s : Statement) (formats : List (List 
           let given_here = subst (IsGiven a.zero store) same (starts_on_store a.zero store kernel arrays given) in
           let there = starts_are_tops a k s formats store dense_store r (modes ∙ ap modes_of (sym is.format_is)) 0 places at t
           given_here h.1 in
-          does_weaker setting code t (λ u. Leaves (dense_sink.mine k) (dense_sink.kept k) free (from_top.most store) t u
-          × dense_sink.holds k a (left_ranges s store)
+          let has = lists_kept 0 emitted.lists begin t (λ b. h.0.arrays b tt) (lists_start kernel arrays 0 emitted.lists few_lists) in
+          does_weaker setting code t (λ u. Leaves (dense_sink.mine k) (sink.kept k) free (from_top.most store) t u
+          × sink.holds k a (left_ranges s store)
           ([] ++ rows_to a s formats (told_by a store) (stored_in (operands_in s store)) s.left.vars loops) u) (λ u. AreMost u.turns)
           (RefusedWithin (from_top.most store) t (dense_sink.refused k
           ([] ++ rows_to a s formats (told_by a store) (stored_in (operands_in s store)) s.left.vars loops))) Never
-          (from_top.adds setting refl store dense_store r t there)
+          (from_top.adds setting refl store dense_store r t there has)
           (λ u p kind. let first = h.0.turns kind in let then = p.0.turns kind in omega (arith, first, then))
           (λ turns b count no. no.1)
 
@@ -150,13 +179,13 @@ module _ (a : Arithmetic) (laws : Laws a) (s : Statement) (formats : List (List 
           (subst (λ (b : List KStmt). Does setting b begin (λ u. AreMost u.turns) Never) (sym body)
           (does_append setting top code begin HasTop (λ u. AreMost u.turns) Never (tops setting begin) behind)))
 
-      few_turns : AreOrdered s formats → (o : KernelOutcome) → ToldTurns o → AreFewTurns s formats order store o
-      few_turns none (Finished left turns) h =
-          within_cost a laws s formats order loops l store (read_store store is) none (from_top.most store)
-          (e.few (operands_in s store) (slice_index store.ranges) start) turns (h Merge) (h Skip)
-      few_turns none (GotStuck statement) h = absurd h
-      few_turns none (TooLong place count) h = tt
-      few_turns none NotFinished h = absurd h
+      few_turns : (o : KernelOutcome) → ToldTurns o → AreFewTurns s formats order store o
+      few_turns (Finished left turns) h =
+          within_cost a laws s formats order loops l store (read_store store is) (from_top.most store)
+          (e.few (operands_in s store) (slice_index store.ranges) start) turns (h Merge) (h Skip) (h Gather)
+      few_turns (GotStuck statement) h = absurd h
+      few_turns (TooLong place count) h = tt
+      few_turns NotFinished h = absurd h
 
       no_drains : (o : KernelOutcome) → ToldTurns o → DrainsFew s (told_by a store) store.format o
       no_drains (Finished left turns) h =
@@ -171,8 +200,8 @@ module _ (a : Arithmetic) (laws : Laws a) (s : Statement) (formats : List (List 
     dense_compiled = record {
       right = right_kernel;
       sound = right_is_sound a s formats kernel right_kernel;
-      few = λ none store is arrays given. ends_weaker a (length store.format) kernel arrays (ToldTurns store is arrays given)
-          (AreFewTurns s formats order store) (few_turns store is arrays given none) (ends_with_turns store is arrays given);
+      few = λ store is arrays given. ends_weaker a (length store.format) kernel arrays (ToldTurns store is arrays given)
+          (AreFewTurns s formats order store) (few_turns store is arrays given) (ends_with_turns store is arrays given);
       drains = λ store is arrays given. ends_weaker a (length store.format) kernel arrays (ToldTurns store is arrays given)
           (DrainsFew s (told_by a store) store.format) (no_drains store is arrays given) (ends_with_turns store is arrays given);
     }

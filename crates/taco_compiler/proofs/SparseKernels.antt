@@ -5,6 +5,8 @@ use Rattle.std.specs.Prelude.{slice_index, true}
 use Rattle.std.proofs.Common.{◌∙◌, sym, ap, subst, arith}
 use Rattle.std.proofs.lemmas.List.{length-map}
 use Rattle.numbers.specs.Arithmetic.{Arithmetic, Laws}
+use Rattle.kernel_code.specs.declared.syntax.Arr.TheVariants.{Range, Values, Dimension, Ends, Coordinates, Width, Key, Sums}
+use Rattle.kernel_code.specs.declared.syntax.Arr.TheVariants.{ListCoordinates, ListPositions}
 use Rattle.kernel_code.specs.declared.syntax.Kernel.{Kernel}
 use Rattle.kernel_code.specs.declared.syntax.KStmt.{KStmt}
 use Rattle.kernel_code.specs.declared.syntax.LoopKind.{LoopKind}
@@ -37,7 +39,10 @@ use Rattle.dense_results.specs.Kernels.{AreAtBase}
 use Rattle.dense_results.specs.Operands.{IsReadStore, operands_in}
 use Rattle.dense_results.specs.Results.{left_ranges}
 use Rattle.dense_results.proofs.Loops.{lowered_loops_go_through}
+use Rattle.result_targets.specs.Beside.{LeavesLists}
 use Rattle.kernel_emit.specs.Emitted.{AddsLoops}
+use Rattle.kernel_emit.specs.declared.emitting.Emitted.{Emitted}
+use Rattle.kernel_emit.proofs.ListLaws.{operand_apart}
 use Rattle.sparse_results.specs.Keys.{HasOrderedResult}
 use Rattle.sparse_results.specs.Tables.{IsRow}
 use Rattle.sparse_results.proofs.Loops.{loops_add_rows}
@@ -45,7 +50,7 @@ use Rattle.sparse_kernels.specs.Kernels.{IsForSparse, PushesFromTop, sorting_cod
 use Rattle.sparse_kernels.specs.Turns.{AreTurns, MakesTurns}
 use Rattle.sparse_kernels.proofs.Ends.{ends_weaker}
 use Rattle.sparse_kernels.proofs.Kernels.{sparse_kernels_are_right}
-use Rattle.taco_compiler.specs.Compiled.{AreFewDrains, AreFewTurns, DrainsFew, IsCompiled, AreOrdered}
+use Rattle.taco_compiler.specs.Compiled.{AreFewDrains, AreFewTurns, DrainsFew, IsCompiled}
 use Rattle.taco_compiler.specs.Filling.{FillsFromRows}
 use Rattle.taco_compiler.specs.Loops.{AreLoopsOf}
 use Rattle.taco_compiler.proofs.LoopTurns.{in_order_of, within_cost}
@@ -100,13 +105,30 @@ module _ (a : Arithmetic) (laws : Laws a) (s : Statement) (formats : List (List 
       keys_bound s formats ordered order l.is_order loops
       (lowered_loops_go_through s f.numbered formats c in_order loops l.shape true).bound
 
-  module _ (places : Places) (at : AreAtBase s 0 places) (top code fill : List KStmt)
+  module _ (places : Places) (at : AreAtBase s 0 places) (top fill : List KStmt) (emitted : Emitted)
       (tops : StartsAt 0 top) (free : ℕ)
-      (e : AddsLoops a workspace_sink (record { number = 0; keys = length keys }) s formats places keys loops free code)
+      (e : AddsLoops a workspace_sink (record { number = 0; keys = length keys }) s formats places keys loops free 1 emitted.lists
+      emitted.code)
       (fills : FillsFromRows (format_of formats 0) a.zero fill) (kernel : Kernel) (spaces : kernel.workspaces ≡ length s.left.vars ∷ [])
-      (lists : kernel.lists ≡ 1) (body : kernel.body ≡ (top ++ code) ++ fill) where
+      (lists : kernel.lists ≡ emitted.lists) (body : kernel.body ≡ (top ++ emitted.code) ++ fill) where
+    abbrev code : List KStmt
+    code = emitted.code
+
     abbrev k : WorkspaceSink
     k = record { number = 0; keys = length keys }
+
+    -- a workspace has no scratch list
+    lists_left : LeavesLists workspace_sink k
+    lists_left Range h = absurd (cc h)
+    lists_left (Values n) h = absurd (cc h)
+    lists_left (Dimension n l) h = absurd (cc h)
+    lists_left (Ends n l) h = absurd (cc h)
+    lists_left (Coordinates n l) h = absurd (cc h)
+    lists_left (Width n l) h = absurd (cc h)
+    lists_left (Key n l) h = absurd (cc h)
+    lists_left (Sums n) h = absurd (cc h)
+    lists_left (ListCoordinates n) h = λ no. no
+    lists_left (ListPositions n) h = λ no. no
 
     taken : (store : Store) (r : IsReadStore s formats store) → All (workspace_sink.takes k (left_ranges s store))
         (rows_to a s formats (told_by a store) (stored_in (operands_in s store)) keys loops)
@@ -116,21 +138,21 @@ module _ (a : Arithmetic) (laws : Laws a) (s : Statement) (formats : List (List 
         (loops_add_rows a laws s formats store r loops l.words keys)
 
     -- from the top the code pushes the loops' rows
-    abbrev pushes : PushesFromTop a k s formats places keys loops code
+    abbrev pushes : PushesFromTop a k s formats places keys loops 1 emitted.lists code
     pushes = record {
       free = free;
       most = λ store. e.most (operands_in s store) (slice_index store.ranges) start;
-      pushes = λ setting same store r st t.
-          e.adds setting same laws 0 (omega arith) [] (λ j. 0) (operands_in s store) (slice_index store.ranges) start (left_ranges s store)
+      pushes = λ setting same store r st t has.
+          e.adds setting same laws 0 (omega arith) lists_left [] (λ j. 0) (operands_in s store) (slice_index store.ranges) start (left_ranges s store)
           [] st l.placed bound_there (taken store r) (record {
             mine_below = t.none;
             from = t.from;
-            kept = t.kept;
+            kept = λ b of. (t.kept b of, operand_apart 1 emitted.lists b of);
             ready = t.stands.ready;
             opened = t.stands.opened;
             has_ranges = t.stands.ranges;
             keeps = t.keeps;
-            held = t.held;
+            held = (t.held, has);
           });
     }
 
@@ -138,7 +160,10 @@ module _ (a : Arithmetic) (laws : Laws a) (s : Statement) (formats : List (List 
     has_keys = ap (λ ns. slice_get ns 0) spaces ∙ ap Some (sym many)
 
     has_list : 0 < kernel.lists
-    has_list = omega (arith, lists)
+    has_list = let one = e.further in omega (arith, lists, one)
+
+    few_lists : emitted.lists ≤ kernel.lists
+    few_lists = omega (arith, lists)
 
     body_is : kernel.body ≡ (top ++ code) ++ (sorting_code 0 0 ++ fills.drain)
     body_is = body ∙ ap (λ fs. (top ++ code) ++ fs) fills.is
@@ -153,15 +178,15 @@ module _ (a : Arithmetic) (laws : Laws a) (s : Statement) (formats : List (List 
       told : Ends a (length store.format) kernel arrays IsTold
       told =
           sparse_kernels_are_right a laws s formats f c in_order loops l.rows l.words k many 0 places at top code fills.drain
-          tops pushes 0 0 fills.drains kernel has_keys has_list body_is store is arrays given
+          tops 1 emitted.lists pushes 0 0 (omega arith) fills.drains kernel has_keys has_list few_lists body_is store is arrays given
 
-      few_turns : AreOrdered s formats → (o : KernelOutcome) → IsTold o → AreFewTurns s formats order store o
-      few_turns none (Finished left turns) h =
-          within_cost a laws s formats order loops l store (read_store store is) none (pushes.most store)
-          (e.few (operands_in s store) (slice_index store.ranges) start) turns h.1.merges h.1.skips
-      few_turns none (GotStuck statement) h = absurd h.1
-      few_turns none (TooLong place count) h = tt
-      few_turns none NotFinished h = absurd h.1
+      few_turns : (o : KernelOutcome) → IsTold o → AreFewTurns s formats order store o
+      few_turns (Finished left turns) h =
+          within_cost a laws s formats order loops l store (read_store store is) (pushes.most store)
+          (e.few (operands_in s store) (slice_index store.ranges) start) turns h.1.merges h.1.skips h.1.gathers
+      few_turns (GotStuck statement) h = absurd h.1
+      few_turns (TooLong place count) h = tt
+      few_turns NotFinished h = absurd h.1
 
       drains_few : (o : KernelOutcome) → IsTold o → DrainsFew s (told_by a store) store.format o
       drains_few (Finished left turns) h =
@@ -181,8 +206,8 @@ module _ (a : Arithmetic) (laws : Laws a) (s : Statement) (formats : List (List 
     sparse_compiled = record {
       right = right_kernel;
       sound = right_is_sound a s formats kernel right_kernel;
-      few = λ none store is arrays given. ends_weaker a (length store.format) kernel arrays (IsTold store is arrays given)
-          (AreFewTurns s formats order store) (few_turns store is arrays given none) (told store is arrays given);
+      few = λ store is arrays given. ends_weaker a (length store.format) kernel arrays (IsTold store is arrays given)
+          (AreFewTurns s formats order store) (few_turns store is arrays given) (told store is arrays given);
       drains = λ store is arrays given. ends_weaker a (length store.format) kernel arrays (IsTold store is arrays given)
           (DrainsFew s (told_by a store) store.format) (drains_few store is arrays given) (told store is arrays given);
     }

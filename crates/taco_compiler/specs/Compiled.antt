@@ -1,25 +1,26 @@
 -- What is promised of the answer to a statement and formats.
-use Rattle.std.specs.Prelude.{◌≡◌, ℕ, ◌*◌, ◌≤◌, true, List, length, All, Result, Ok, Err, slice_index}
+use Rattle.std.specs.Prelude.{◌≡◌, ℕ, ◌*◌, ◌≤◌, List, length, Result, Ok, Err, slice_index}
 use Rattle.numbers.specs.Arithmetic.{Arithmetic}
 use Rattle.kernel_code.specs.declared.syntax.Kernel.{Kernel}
 use Rattle.kernel_code.specs.declared.syntax.LoopKind.{LoopKind}
-use Rattle.kernel_code.specs.declared.syntax.LoopKind.TheVariants.{Merge, Skip, Drain}
+use Rattle.kernel_code.specs.declared.syntax.LoopKind.TheVariants.{Merge, Skip, Gather, Drain}
 use Rattle.kernel_code.specs.Kernels.{KernelOutcome, Finished, GotStuck, TooLong, NotFinished}
-use Rattle.level_core.specs.Kinds.{properties}
 use Rattle.level_core.specs.Meaning.{Arrays}
 use Rattle.format_spec.specs.declared.format.FormatLevel.{FormatLevel}
 use Rattle.index_notation.specs.declared.syntax.Statement.{Statement}
-use Rattle.iteration_graph.specs.Edges.{statement_edges, format_of}
+use Rattle.iteration_graph.specs.Edges.{statement_edges}
 use Rattle.iteration_graph.specs.Graphs.{IsLoopOrder, NamesCycle}
 use Rattle.concrete_notation.specs.Contributions.{Inputs}
 use Rattle.concrete_notation.specs.Workspaces.{AreAllDense}
 use Rattle.kernel_correctness.specs.Kernels.{Ends, IsRightKernel, IsSoundKernel}
 use Rattle.kernel_correctness.specs.Stores.{Store, IsStoreOf, IsGiven, operand_of, told_by}
-use Rattle.lists.specs.Each.{Each}
 use Rattle.lowering.specs.Stored.{stored_of}
 use Rattle.simplifier.specs.Folded.{SimpleCode}
 use Rattle.sparse_kernels.specs.Turns.{HasPoints}
 use Rattle.statement_costs.specs.Costs.{statement_cost, statement_repeats}
+use Rattle.statement_costs.specs.Slots.{statement_slots}
+use Rattle.dense_results.specs.Operands.{operands_in}
+use Rattle.kernel_emit.specs.Emitted.{AreWidths}
 use Rattle.taco_compiler.specs.declared.compiled.CompileFault.{CompileFault}
 use Rattle.taco_compiler.specs.declared.compiled.CompileFault.TheVariants.{Cycle, Memory}
 use Rattle.taco_compiler.specs.declared.compiled.Compiled.{Compiled}
@@ -37,15 +38,14 @@ HasOrder s formats (Ok order) = IsOrder s formats order
 HasOrder s formats (Err (Cycle cycle)) = HasCycle s formats cycle
 HasOrder s formats (Err (Memory error)) = Unit {0}
 
--- each level of an operand has its coordinates in order
-abbrev pub AreOrdered : Statement → List (List FormatLevel) → Type 0
-AreOrdered s formats = Each (λ a. All (λ level. (properties level.letter).ordered ≡ true) (format_of formats a.tensor)) s.accesses
-
--- no more merge turns than the statement's cost, nor skip turns than coordinates are repeated in groups
-abbrev pub AreWithinCost : Statement → List (List FormatLevel) → List ℕ → Store → (LoopKind → ℕ) → Type 0
-AreWithinCost s formats order store turns =
-    (turns Merge ≤ statement_cost s formats order (stored_of s (operand_of store)) (slice_index store.ranges))
-    × (turns Skip ≤ statement_repeats s formats order (stored_of s (operand_of store)) (slice_index store.ranges))
+-- no more merge turns than the statement's cost, nor skip turns than coordinates are repeated in groups, nor gather turns than the slots of
+-- its levels without order, whatever bounds their widths
+pub record AreWithinCost (s : Statement) (formats : List (List FormatLevel)) (order : List ℕ) (store : Store) (turns : LoopKind → ℕ)
+    : Type 0 where
+  pub merges : turns Merge ≤ statement_cost s formats order (stored_of s (operand_of store)) (slice_index store.ranges)
+  pub skips : turns Skip ≤ statement_repeats s formats order (stored_of s (operand_of store)) (slice_index store.ranges)
+  pub gathers : (widths : ℕ → ℕ → ℕ) → AreWidths s formats (operands_in s store) widths
+      → turns Gather ≤ statement_slots s formats order (stored_of s (operand_of store)) widths (slice_index store.ranges)
 
 -- so are those of a run that finishes
 abbrev pub AreFewTurns : Statement → List (List FormatLevel) → List ℕ → Store → KernelOutcome → Type 0
@@ -54,10 +54,10 @@ AreFewTurns s formats order store (GotStuck statement) = ⊥
 AreFewTurns s formats order store (TooLong place count) = Unit {0}
 AreFewTurns s formats order store NotFinished = ⊥
 
--- so it is on every store, where all levels of the operands are ordered
+-- so it is on every store
 abbrev pub KeepsCost : Arithmetic → Statement → List (List FormatLevel) → List ℕ → Kernel → Type 0
 KeepsCost a s formats order kernel =
-    AreOrdered s formats → (store : Store) → IsStoreOf s formats store → (arrays : Arrays) → IsGiven a.zero store arrays
+    (store : Store) → IsStoreOf s formats store → (arrays : Arrays) → IsGiven a.zero store arrays
     → Ends a (length store.format) kernel arrays (AreFewTurns s formats order store)
 
 -- so many points the support has, and there are two drain turns for each level and point at most

@@ -1,5 +1,6 @@
 use Rattle.std.specs.Prelude.{length}
-use Rattle.std.proofs.Common.{◌∙◌, sym, ap, subst}
+use Rattle.std.specs.Prelude.{◌≤◌}
+use Rattle.std.proofs.Common.{◌∙◌, sym, ap, subst, arith}
 use Rattle.format_spec.specs.Formats.{modes_of}
 use Rattle.iteration_graph.specs.Edges.{format_of}
 use Rattle.concrete_notation.specs.Workspaces.{AreAllDense}
@@ -34,6 +35,7 @@ returns-clause-compiled g c =
     let places = c.in_ok-places.places in
     let loops = c.in_ok-loops.loops in
     let result = c.requires.ready.named.result in
+    let emitted = c.in_ok-emitted.emitted in
     dense_compiled g.S.Semiring.arithmetic g.met.S.Semiring.laws s formats (record {
       numbered = c.requires.ready.numbered;
       named = c.requires.ready.named;
@@ -41,8 +43,8 @@ returns-clause-compiled g c =
       read = c.requires.ready.right;
       dense = subst (λ t. AreAllDense (format_of formats t)) result c.requires.dense;
     }) c.args.order.now loops c.in_ok-loops.ensures sink (c.in_ok-sink.ensures ∙ ap (λ t. modes_of (format_of formats t)) result) places
-    c.in_ok-places.ensures.accesses c.in_ok-body.body c.in_ok-code.code c.in_ok-body.ensures 3
-    (subst (λ target. AddsLoops g.S.Semiring.arithmetic dense_sink sink s formats places target loops 3 c.in_ok-code.code)
-    c.as_slice-target.ensures c.in_ok-code.ensures)
-    (record { semiring = c.in_ok-semiring.semiring; workspaces = c.new.result; lists = 0; body = c.append.new.self })
-    c.in_ok-append.ensures.ok
+    c.in_ok-places.ensures.accesses c.in_ok-body.body emitted c.in_ok-body.ensures 3
+    (subst (λ target. AddsLoops g.S.Semiring.arithmetic dense_sink sink s formats places target loops 3 0 emitted.lists emitted.code)
+    c.as_slice-target.ensures c.in_ok-emitted.ensures)
+    (record { semiring = c.in_ok-semiring.semiring; workspaces = c.new.result; lists = emitted.lists; body = c.append.new.self })
+    (omega arith) c.in_ok-append.ensures.ok

@@ -42,6 +42,7 @@ returns g c = record {
   places = c.in_ok-places.places;
   at = c.in_ok-places.ensures.accesses;
   adds = subst (λ target. AddsLoops g.S.Semiring.arithmetic workspace_sink (record { number = 0; keys = length target })
-      c.args.statement.now c.args.formats.now c.in_ok-places.places target c.in_ok-loops.loops 3 c.in_ok-code.code)
-      (c.as_slice-target.ensures ∙ c.in_ok-left.ensures) c.in_ok-code.ensures;
+      c.args.statement.now c.args.formats.now c.in_ok-places.places target c.in_ok-loops.loops 3 1 c.in_ok-emitted.emitted.lists
+      c.in_ok-emitted.emitted.code)
+      (c.as_slice-target.ensures ∙ c.in_ok-left.ensures) c.in_ok-emitted.ensures;
 }

@@ -13,7 +13,8 @@ returns-clause-compiled g c =
     let formats = c.args.formats.now in
     let result = c.requires.ready.named.result in
     let a = g.S.Semiring.arithmetic in
-    let pushes = c.in_ok-code.ensures in
+    let pushes = c.in_ok-pushed.ensures in
+    let pushed = c.in_ok-pushed.pushed in
     sparse_compiled a g.met.S.Semiring.laws s formats (record {
       numbered = c.requires.ready.numbered;
       named = c.requires.ready.named;
@@ -21,13 +22,13 @@ returns-clause-compiled g c =
       read = c.requires.ready.right;
       format = subst (λ t. IsFormat (format_of formats t)) result c.requires.ready.formed.0;
       some = λ dense. c.requires.some (subst (λ t. AreAllDense (format_of formats t)) (sym result) dense);
-    }) c.args.order.now pushes.loops pushes.are pushes.places pushes.at c.in_ok-body.body c.in_ok-code.code c.in_ok-fill.fill
+    }) c.args.order.now pushes.loops pushes.are pushes.places pushes.at c.in_ok-body.body c.in_ok-fill.fill pushed
     c.in_ok-body.ensures 3 pushes.adds
     (subst (λ t. FillsFromRows (format_of formats t) a.zero c.in_ok-fill.fill) result c.in_ok-fill.ensures)
     (record {
       semiring = c.in_ok-semiring.semiring;
       workspaces = c.in_ok-workspaces.workspaces;
-      lists = 1;
+      lists = pushed.lists;
       body = c.append-2.new.self;
     }) c.in_ok-workspaces.ensures refl
     (c.in_ok-append-2.ensures.ok ∙ ap (λ b. b ++ c.in_ok-fill.fill) c.in_ok-append.ensures.ok)
