@@ -206,8 +206,8 @@ fn append(
     Ok(more)
 }
 
-/// Makes columns longer than `count`, if they aren't, and answers how many numbers each has then, or more: they had `room`. Refused for want
-/// of memory, the first `count` numbers stay.
+/// Makes columns longer than `count`, if they aren't, and answers how many numbers each has then, or more: they had `room`. Refused for
+/// want of memory, the first `count` numbers stay.
 fn with_room(columns: &mut [Vec<u32>], count: usize, room: usize) -> Result<usize, AllocError>
     requires kept { AreLong (λ column. column.items) columns.old count }
     requires room { AreLong (λ column. column.items) columns.old room }
