@@ -6,7 +6,6 @@ use Rattle.std.proofs.lemmas.Bool.Decides.{nat_tests}
 use Rattle.std.proofs.lemmas.List.{get_or-set_same, get_or-set_other, length-set}
 use Rattle.limits.specs.Limits.{greatest_position_count}
 use Rattle.kernel_code.specs.Widths.{slot_width}
-use Rattle.level_core.specs.declared.letter.Letter.{Letter}
 use Rattle.level_core.specs.declared.span.Span.{Span}
 use Rattle.level_core.specs.Entries.{one, span}
 use Rattle.level_core.specs.Kinds.{properties, capabilities, positions_for, AreEntries, MayPrepare, MayInsert}

@@ -31,6 +31,14 @@ pub begun_upto : (rows : Rows) (n m : ℕ) → n ≤ m → begun rows.first n �
 begun_upto rows n m h = let same : n + (m - n) ≡ m = omega (arith, h) in
     subst (λ k. begun rows.first n ≤ begun rows.first k) same (begun_more rows n (m - n))
 
+-- where each row begins a position there are as many as rows
+pub begun_all : (first : ℕ → Bool) (n : ℕ) → ((i : ℕ) → i < n → first i ≡ true) → begun first n ≡ n
+begun_all first zero all = refl
+begun_all first (suc n) all =
+    let here = ap (λ b. if b then begun first n + 1 else begun first n) (all n (omega arith)) in
+    let before = begun_all first n (λ i h. all i (omega (arith, h))) in
+    omega (arith, here, before)
+
 -- once a row has begun a position, each row has one
 pub begun_some : (rows : Rows) (n : ℕ) → rows.first 0 ≡ true → 0 < n → 0 < begun rows.first n
 begun_some rows n h l = let one = begun_yes rows 0 h in let more = begun_upto rows 1 n (omega (arith, l)) in omega (arith, one, more)

@@ -31,6 +31,10 @@ abbrev pub begun : (ℕ → Bool) → ℕ → ℕ
 begun first zero = 0
 begun first (suc n) = if first n then begun first n + 1 else begun first n
 
+-- each row begins a position
+abbrev pub AllBegin : Keys → Type 0
+AllBegin keys = (i : ℕ) → i < keys.count → keys.first i ≡ true
+
 -- the position of a row where positions are numbered in the order in which rows begin them
 abbrev pub place : (ℕ → Bool) → ℕ → ℕ
 place first i = begun first (suc i) - 1

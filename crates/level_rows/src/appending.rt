@@ -2,7 +2,7 @@ ghost use Rattle.std.specs.Prelude.{◌≡◌, ◌≢◌, ◌≤◌, ◌<◌, �
 ghost use Rattle.limits.specs.Limits.{greatest_position_count};
 ghost use Rattle.level_core.specs.Logs.{MayAppend, MayAppendEdges, nothing_reserved};
 ghost use Rattle.level_core.specs.Meaning.{ChangesLog};
-ghost use Rattle.level_rows.specs.Rows.{rows_at, begun, MayAppendRows};
+ghost use Rattle.level_rows.specs.Rows.{rows_at, begun, AllBegin, MayAppendRows};
 ghost use Rattle.level_rows.specs.Taken.{AppendsRows};
 ghost use Rattle.level_rows.specs.Appending.{turned, turned_log, added, added_log, closed_log};
 
@@ -19,6 +19,7 @@ pub(crate) struct Cursor {
 }
 
 /// Gives the last parent its positions where the next row has another.
+#[inline(always)]
 fn turn<L: Append>(level: &mut L, at: Cursor, next: u64) -> Cursor
     requires { at.last ≢ next → MayAppendEdges (L.meaning.kind level.old) at.last at.begin at.count (L.meaning.log level.old) }
     ensures cursor { result ≡ turned at next }
@@ -40,6 +41,7 @@ fn turn<L: Append>(level: &mut L, at: Cursor, next: u64) -> Cursor
 }
 
 /// Appends a row's coordinate if it begins a position.
+#[inline(always)]
 fn append_first<L: Append>(level: &mut L, at: Cursor, begins: bool, x: u64) -> Cursor
     requires may { begins ≡ true → MayAppend (L.meaning.kind level.old) (L.meaning.size level.old) x (L.meaning.log level.old) }
     requires spare { begins ≡ true → 0 < L.spare level.old }
@@ -61,6 +63,19 @@ fn append_first<L: Append>(level: &mut L, at: Cursor, begins: bool, x: u64) -> C
         begin: at.begin,
         count: at.count + 1,
     }
+}
+
+/// Whether a row begins a position, where it may be known that all do.
+#[inline(always)]
+fn begins<R: SortedRows>(rows: &R, all: bool, row: usize) -> bool
+    requires row { row < (R.keys rows.now).count }
+    requires all { all ≡ true → AllBegin (R.keys rows.now) }
+    ensures { result ≡ (R.keys rows.now).first row }
+{
+    if all {
+        return true;
+    }
+    rows.begins(row)
 }
 
 /// Gives the last parent its positions, if there were rows.
@@ -97,6 +112,7 @@ pub fn append_rows<L: Append, R: SortedRows>(
 {
     level.reserve(most, parents)?;
     level.tell_rules();
+    let all = rows.all_begin();
     let mut at = Cursor {
         last: 0,
         begin: 0,
@@ -105,7 +121,7 @@ pub fn append_rows<L: Append, R: SortedRows>(
     let mut done = 0;
     while done < positions.len() {
         at = turn(level, at, positions[done]);
-        at = append_first(level, at, rows.begins(done), rows.coord(done));
+        at = append_first(level, at, begins(rows, all, done), rows.coord(done));
         positions[done] = at.count - 1;
         done += 1;
     }

@@ -7,6 +7,9 @@ use crate::rows::SortedRows;
 pub fn positions_begun<R: SortedRows>(rows: &R) -> u64
     ensures { result ≡ begun (R.keys rows.now).first (R.keys rows.now).count }
 {
+    if rows.all_begin() {
+        return rows.count() as u64;
+    }
     let mut begun = 0;
     for row in 0..rows.count() {
         if rows.begins(row) {

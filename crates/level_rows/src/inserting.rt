@@ -10,6 +10,7 @@ use level_core::Insert;
 use std::alloc::AllocError;
 
 /// Inserts a row's coordinate if it begins a position, and answers the row's position: else that of the row before.
+#[inline(always)]
 fn insert_first<L: Insert>(level: &mut L, parent: u64, x: u64, begins: bool, before: u64) -> u64
     requires parent { begins ≡ true → L.meaning.allowed level.old (one parent) }
     requires may { begins ≡ true → MayInsert (L.meaning.kind level.old) (L.meaning.size level.old)

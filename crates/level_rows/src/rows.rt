@@ -1,5 +1,5 @@
-ghost use Rattle.std.specs.Prelude.{◌≡◌, ◌<◌, ℕ};
-ghost use Rattle.level_rows.specs.Rows.{Keys};
+ghost use Rattle.std.specs.Prelude.{◌≡◌, ◌<◌, ℕ, true};
+ghost use Rattle.level_rows.specs.Rows.{AllBegin, Keys};
 
 /// Rows for a level, in the order in which they are taken: of each its coordinate, and whether it begins a position. The
 /// positions of the level above stand in a list of their own.
@@ -20,4 +20,8 @@ pub trait SortedRows {
     fn begins(&self, row: usize) -> bool
         requires { row < (keys self.now).count }
         ensures { result ≡ (keys self.now).first row };
+
+    /// Whether it is known that each row begins a position: then none is asked.
+    fn all_begin(&self) -> bool
+        ensures { result ≡ true → AllBegin (keys self.now) };
 }

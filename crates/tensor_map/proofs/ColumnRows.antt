@@ -2,14 +2,14 @@
 use Rattle.std.specs.Prelude.{◌≡◌, ℕ, zero, suc, ◌+◌, ◌<◌, ◌≤◌, List, [], ◌∷◌, ◌++◌, length, take, refl}
 use Rattle.std.specs.Prelude.{slice_index, slice_index_or}
 use Rattle.std.proofs.Common.{arith, ap, subst, sym, ◌∙◌, inl, inr}
-use Rattle.std.proofs.lemmas.List.{length-append, length-take-le, get_or_append_left, get_or-take, get_or_at, take_more, map-append}
+use Rattle.std.proofs.lemmas.List.{length-take-le, get_or-take, take_more, map-append}
 use Rattle.std.proofs.lemmas.List.{same_lists, length-map}
 use Rattle.std.proofs.lemmas.List.{get_or-set_same, get_or-set_other, get_or-map}
 use Rattle.std.proofs.lemmas.Bool.{cases_eq}
 use Rattle.std.proofs.lemmas.Grind.{same_number_lists}
 use Rattle.std.proofs.Math.ListN.{set, length-set}
 use Rattle.tensor_map.specs.Entries.{Entry, column_in}
-use Rattle.tensor_map.specs.Columns.{row_of, rows_from, rows_of, AreLong, KeepsBelow}
+use Rattle.tensor_map.specs.Columns.{row_of, rows_from, rows_of, AreLong, HaveAt, KeepsBelow}
 
 module _ {X : Type 0} (numbers : X → List ℕ) where
   -- there are as many entries as values
@@ -116,46 +116,18 @@ module _ {X : Type 0} (numbers : X → List ℕ) where
       ∙ sym (ap (λ entry. slice_index entry.coords mode) (entry_at columns values k none there))
       ∙ sym (get_or-map (λ entry. slice_index entry.coords mode) rows k none 0 row))
 
-  -- a column is kept below its first numbers where one is put after those
-  put_after : (count c : ℕ) (old new : List ℕ) → count ≤ length old → new ≡ take count old ++ c ∷ [] → KeepsBelow count old new
-  put_after count c old new long is = record {
-    long = omega (arith, ap length is, length-append (take count old) (c ∷ []), length-take-le count old long);
-    same = λ place h. ap (λ xs. slice_index xs place) is
-        ∙ get_or_append_left (take count old) (c ∷ []) 0 place (omega (arith, length-take-le count old long))
-        ∙ get_or-take count old place 0 h;
-  }
-
   -- columns to which an entry was appended
-  pub rows_pushed : (old new : List X) (values coords : List ℕ) (value : ℕ) → length new ≡ length old → length coords ≡ length old
-      → AreLong numbers old (length values)
+  pub rows_pushed : (old new : List X) (values coords : List ℕ) (value more : ℕ) → length new ≡ length old → length coords ≡ length old
       → ((mode : ℕ) (d : X) → mode < length old
-      → numbers (slice_index_or new mode d) ≡ take (length values) (numbers (slice_index_or old mode d)) ++ slice_index coords mode ∷ [])
+      → KeepsBelow (length values) (numbers (slice_index_or old mode d)) (numbers (slice_index_or new mode d)))
+      → HaveAt numbers new (length values) coords more
       → rows_of numbers new (values ++ value ∷ []) ≡ rows_of numbers old values ++ record { coords = coords; value = value } ∷ []
-  rows_pushed old new values coords value long as_many are_long pushed =
-      let kept : rows_of numbers new values ≡ rows_of numbers old values =
-      rows_kept old new values long (λ mode d h.
-      put_after (length values) (slice_index coords mode) _ _ (are_long mode d h) (pushed mode d h)) in
+  rows_pushed old new values coords value more long as_many kept put =
+      let before : rows_of numbers new values ≡ rows_of numbers old values = rows_kept old new values long kept in
       let row : row_of numbers new (length values + 0) ≡ coords =
       row_is new coords (length values + 0) (omega arith) (λ mode d h.
-      let within : mode < length old = omega arith in
-      ap (λ xs. slice_index xs (length values + 0)) (pushed mode d within)
-      ∙ get_or_at (take (length values) (numbers (slice_index_or old mode d))) (slice_index coords mode) [] 0 (length values + 0)
-      (omega (arith, length-take-le (length values) (numbers (slice_index_or old mode d)) (are_long mode d within)))) in
-      rows_more new 0 values value ∙ (λ i. kept i ++ record { coords = row i; value = value } ∷ [])
-
-  -- there is one more coordinate in each
-  pub long_pushed : (old new : List X) (coords : List ℕ) (count : ℕ) → length new ≡ length old → AreLong numbers old count
-      → ((mode : ℕ) (d : X) → mode < length old
-      → numbers (slice_index_or new mode d) ≡ take count (numbers (slice_index_or old mode d)) ++ slice_index coords mode ∷ [])
-      → AreLong numbers new (count + 1)
-  long_pushed old new coords count long are_long pushed mode d h =
-      let within : mode < length old = omega arith in
-      omega (
-        arith,
-        ap length (pushed mode d within),
-        length-append (take count (numbers (slice_index_or old mode d))) (slice_index coords mode ∷ []),
-        length-take-le count (numbers (slice_index_or old mode d)) (are_long mode d within),
-      )
+      subst (λ at. slice_index (numbers (slice_index_or new mode d)) at ≡ slice_index coords mode) (omega arith) (put.at mode d h)) in
+      rows_more new 0 values value ∙ (λ i. before i ++ record { coords = row i; value = value } ∷ [])
 
   -- the coordinates at a place, one more column at a time
   pub row_more : (columns : List X) (place mode : ℕ) (d : X) → mode < length columns

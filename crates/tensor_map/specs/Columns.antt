@@ -24,3 +24,9 @@ AreLong {X} numbers columns count = (mode : ℕ) (d : X) → mode < length colum
 pub record KeepsBelow (count : ℕ) (old new : List ℕ) : Type 0 where
   pub long : count ≤ length new
   pub same : (place : ℕ) → place < count → slice_index new place ≡ slice_index old place
+
+-- each column has so many numbers, and at a place before them the coordinate of its mode
+pub record HaveAt {X : Type 0} (numbers : X → List ℕ) (columns : List X) (place : ℕ) (coords : List ℕ) (long : ℕ) : Type 0 where
+  pub within : place < long
+  pub are_long : AreLong numbers columns long
+  pub at : (mode : ℕ) (d : X) → mode < length columns → slice_index (numbers (slice_index_or columns mode d)) place ≡ slice_index coords mode

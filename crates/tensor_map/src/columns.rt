@@ -5,20 +5,22 @@ ghost use Rattle.std.specs.Ordering.{is_lt, nat_cmp};
 ghost use Rattle.std.specs.Cmp.Lexicographic.{slice_cmp};
 ghost use Rattle.limits.specs.Limits.{greatest_order};
 ghost use Rattle.tensor_map.specs.Entries.{Entry, column_in};
-ghost use Rattle.tensor_map.specs.Columns.{AreLong, KeepsBelow};
+ghost use Rattle.tensor_map.specs.Columns.{AreLong, HaveAt, KeepsBelow};
 
 use crate::Coords;
 use crate::pair_entry::PairEntry;
 use std::alloc::{AllocError, Global};
 use std::marker::Model;
 
-/// Entries whose coordinates fit 32 bits, as a list of coordinates for each mode and a list of values. A list of coordinates may
-/// be longer than there are entries, where a push was refused.
+/// Entries whose coordinates fit 32 bits, as a list of coordinates for each mode and a list of values. A list of coordinates is mostly
+/// longer than there are entries: what stands behind them is room for the next ones.
 #[derive(Debug, Drop)]
 pub(crate) struct Columns {
     order: usize,
     modes: [Vec<u32>; 6],
     values: Vec<u64>,
+    /// Each column has so many numbers, or more: a push looks at this, and not at each column.
+    room: usize,
 }
 
 impl Model for Columns {
@@ -32,7 +34,7 @@ impl Model for Columns {
     ghost view = { λ c. record { order = c.order; list = rows_of (λ column. column.items) (take c.order c.modes) c.values.items } };
 
     ghost invariant = { λ c. (c.order ≤ greatest_order) × AreLong (λ column. column.items) (take c.order c.modes) (length c.values.items)
-        × (length c.modes ≡ 6) };
+        × (length c.modes ≡ 6) × AreLong (λ column. column.items) (take c.order c.modes) c.room };
 }
 
 impl Columns {
@@ -53,6 +55,7 @@ impl Columns {
                 Vec::new(alloc),
             ],
             values: Vec::new(alloc),
+            room: 0,
         }
     }
 
@@ -174,29 +177,85 @@ impl Columns {
         ensures ok { OnOk result (self.new.list ≡ self.old.list ++ record { coords = coords.now; value = value } ∷ []) }
         ensures err { OnErr result (self.new ≡ self.old) }
     {
-        append(&mut self.modes[..self.order], self.values.len(), coords)?;
+        let count = self.values.len();
+        self.room = append(&mut self.modes[..self.order], count, self.room, coords)?;
         self.values.push(value)?;
         Ok(())
     }
 }
 
-/// Appends a coordinate to each column, after its first `count` ones. Refused for want of memory, those stay.
-fn append(columns: &mut [Vec<u32>], count: usize, coords: &[u64]) -> Result<(), AllocError>
+/// Puts a coordinate into each column, after its first `count` ones, and answers how many numbers each column has then, or more: they
+/// had `room`. Refused for want of memory, the first ones stay.
+fn append(
+    columns: &mut [Vec<u32>],
+    count: usize,
+    room: usize,
+    coords: &[u64],
+) -> Result<usize, AllocError>
     requires long { length coords.now ≡ length columns.old }
     requires narrow { All (λ coordinate. coordinate < 2 ^ 32) coords.now }
     requires kept { AreLong (λ column. column.items) columns.old count }
+    requires room { AreLong (λ column. column.items) columns.old room }
     ensures kept { (mode : ℕ) (d : _) → mode < length columns.old
         → KeepsBelow count (slice_index_or columns.old mode d).items (slice_index_or columns.new mode d).items }
-    ensures ok { OnOk result ((mode : ℕ) (d : _) → mode < length columns.old
-        → (slice_index_or columns.new mode d).items
-        ≡ take count (slice_index_or columns.old mode d).items ++ slice_index coords.now mode ∷ []) }
+    ensures room { AreLong (λ column. column.items) columns.new room }
+    ensures ok { IfOk result (HaveAt (λ column. column.items) columns.new count coords.now) }
+{
+    let more = with_room(columns, count, room)?;
+    put(columns, count, coords);
+    Ok(more)
+}
+
+/// Makes columns longer than `count`, if they aren't, and answers how many numbers each has then, or more: they had `room`. Refused for
+/// want of memory, the first `count` numbers stay.
+fn with_room(columns: &mut [Vec<u32>], count: usize, room: usize) -> Result<usize, AllocError>
+    requires kept { AreLong (λ column. column.items) columns.old count }
+    requires room { AreLong (λ column. column.items) columns.old room }
+    ensures kept { (mode : ℕ) (d : _) → mode < length columns.old
+        → KeepsBelow count (slice_index_or columns.old mode d).items (slice_index_or columns.new mode d).items }
+    ensures room { AreLong (λ column. column.items) columns.new room }
+    ensures more { IfOk result (λ more. count < more) }
+    ensures long { IfOk result (AreLong (λ column. column.items) columns.new) }
+{
+    if count < room {
+        return Ok(room);
+    }
+    lengthen(columns, count)
+}
+
+/// Makes columns longer than `count`, by doubling short ones and by a piece long ones, and answers how many numbers each has then. Refused
+/// for want of memory, the first `count` numbers stay.
+#[cold]
+#[inline(never)]
+fn lengthen(columns: &mut [Vec<u32>], count: usize) -> Result<usize, AllocError>
+    requires kept { AreLong (λ column. column.items) columns.old count }
+    ensures kept { (mode : ℕ) (d : _) → mode < length columns.old
+        → KeepsBelow count (slice_index_or columns.old mode d).items (slice_index_or columns.new mode d).items }
+    ensures more { IfOk result (λ more. count < more) }
+    ensures long { IfOk result (AreLong (λ column. column.items) columns.new) }
+{
+    let Some(wanted) = count.checked_add(count.min(4096).max(4)) else {
+        return Err(AllocError);
+    };
+    for mode in 0..columns.len() {
+        let column = &mut columns[mode];
+        column.resize(wanted, 0)?;
+    }
+    Ok(wanted)
+}
+
+/// Puts a coordinate at a place of each column.
+fn put(columns: &mut [Vec<u32>], place: usize, coords: &[u64])
+    requires long { length coords.now ≡ length columns.old }
+    requires narrow { All (λ coordinate. coordinate < 2 ^ 32) coords.now }
+    requires room { AreLong (λ column. column.items) columns.old (place + 1) }
+    ensures { (mode : ℕ) (d : _) → mode < length columns.old → (slice_index_or columns.new mode d).items
+        ≡ slice_set (slice_index_or columns.old mode d).items place (slice_index coords.now mode) }
 {
     for (mode, coordinate) in coords.iter().enumerate() {
         let column = &mut columns[mode];
-        column.truncate(count);
-        column.push(*coordinate as u32)?;
+        column[place] = *coordinate as u32;
     }
-    Ok(())
 }
 
 /// Puts the coordinate at a place of each column over the one at another place.

@@ -131,8 +131,43 @@ impl EntryList {
     }
 
     /// Appends an entry. Refused for want of memory, the entries are as before.
-    #[tactic(auto, unfolding(limits::specs::Limits::greatest_order))]
     pub(crate) fn push(&mut self, coords: &[u64], value: u64) -> Result<(), AllocError>
+        requires { length coords.now ≡ self.old.order }
+        ensures order { self.new.order ≡ self.old.order }
+        ensures ok { OnOk result (self.new.list ≡ self.old.list ++ record { coords = coords.now; value = value } ∷ []) }
+        ensures err { OnErr result (self.new ≡ self.old) }
+    {
+        if let EntryForm::Columns(columns) = &mut self.form {
+            if are_narrow(coords) && come_last(columns, coords) {
+                columns.push(coords, value)?;
+                return Ok(());
+            }
+        }
+        self.push_apart(coords, value)
+    }
+
+    /// Appends an entry to those that stand each by itself, as columns become before it. It is apart, since a function pays for the room
+    /// that it may take.
+    #[inline(never)]
+    fn push_apart(&mut self, coords: &[u64], value: u64) -> Result<(), AllocError>
+        requires { length coords.now ≡ self.old.order }
+        ensures order { self.new.order ≡ self.old.order }
+        ensures ok { OnOk result (self.new.list ≡ self.old.list ++ record { coords = coords.now; value = value } ∷ []) }
+        ensures err { OnErr result (self.new ≡ self.old) }
+    {
+        if let EntryForm::Pairs(pairs) = &mut self.form {
+            if let Some(pair) = pair_of(coords, value) {
+                pairs.push(pair)?;
+                return Ok(());
+            }
+        }
+        self.push_whole(coords, value)
+    }
+
+    /// Appends an entry to whole entries, or to those of another form, which changes before it.
+    #[inline(never)]
+    #[tactic(auto, unfolding(limits::specs::Limits::greatest_order))]
+    fn push_whole(&mut self, coords: &[u64], value: u64) -> Result<(), AllocError>
         requires { length coords.now ≡ self.old.order }
         ensures order { self.new.order ≡ self.old.order }
         ensures ok { OnOk result (self.new.list ≡ self.old.list ++ record { coords = coords.now; value = value } ∷ []) }
@@ -141,18 +176,12 @@ impl EntryList {
         match &mut self.form {
             EntryForm::Rows(rows) => push_row(self.alloc, rows, coords, value)?,
             EntryForm::Pairs(pairs) => {
-                if let Some(pair) = pair_of(coords, value) {
-                    pairs.push(pair)?;
-                } else {
-                    let mut rows = whole(self.alloc, pairs)?;
-                    push_row(self.alloc, &mut rows, coords, value)?;
-                    self.form = EntryForm::Rows(rows);
-                }
+                let mut rows = whole(self.alloc, pairs)?;
+                push_row(self.alloc, &mut rows, coords, value)?;
+                self.form = EntryForm::Rows(rows);
             }
             EntryForm::Columns(columns) => {
-                if are_narrow(coords) && come_last(columns, coords) {
-                    columns.push(coords, value)?;
-                } else if let Some(pair) = pair_of(coords, value) {
+                if let Some(pair) = pair_of(coords, value) {
                     let mut pairs = pairs_of(self.alloc, columns)?;
                     pairs.push(pair)?;
                     self.form = EntryForm::Pairs(pairs);

@@ -1,6 +1,6 @@
 -- The paths of levels, one after another, are the paths below a span, each once.
 use Rattle.std.specs.Prelude.{◌≡◌, ◌≢◌, ◌⊎◌, ℕ, suc, List, [], ◌∷◌, ◌++◌, length, map, refl}
-use Rattle.std.proofs.Common.{◌∙◌, sym, ap, subst, inl, inr}
+use Rattle.std.proofs.Common.{◌∙◌, sym, ap, subst, arith, inl, inr}
 use Rattle.std.proofs.lemmas.List.{append_assoc, append-nil}
 use Rattle.level_core.specs.declared.span.Span.{Span}
 use Rattle.level_core.specs.declared.span.Entry.{Entry}
@@ -154,6 +154,13 @@ through_more below [] e = append-nil (map (longer e.coord) (below e.child))
 through_more below (f ∷ es) e = ap (λ rs. map (longer f.coord) (below f.child) ++ rs) (through_more below es e)
     ∙ sym (append_assoc (map (longer f.coord) (below f.child)) (routes_through below es) (map (longer e.coord) (below e.child)))
 
+-- entries below which there is no path
+through_none : (below : Span → List Route) (es : List Entry) → ((e : Entry) → StandsAt e.child.lo e es → below e.child ≡ [])
+    → routes_through below es ≡ []
+through_none below [] none = refl
+through_none below (e ∷ es) none = ap (λ rs. map (longer e.coord) rs ++ routes_through below es) (none e (inl (refl, refl)))
+    ∙ through_none below es (λ f stands. none f (inr stands))
+
 abbrev ends : ℕ → Route
 ends pos = record { coords = []; end = pos }
 
@@ -182,6 +189,11 @@ module _ {L : Type 0} (means : Meaning L) where
       let k = through_which (routes means ls) r (means.entries l s) a in
       let P : Route → Type 0 = λ q. Path means (l ∷ ls) s q.coords q.end in
       subst P k.is (k.entry, k.stands, refl, path_of_route ls positions k.entry.child (o.1 k.entry k.stands) k.rest k.among)
+
+  -- there is no path where there is no position for its end
+  pub no_routes : (ls : List L) (s : Span) → IsOpen means ls 0 s → routes means ls s ≡ []
+  no_routes [] s o = absurd (let h = o.1 in omega (arith, h))
+  no_routes (l ∷ ls) s o = through_none (routes means ls) (means.entries l s) (λ e stands. no_routes ls e.child (o.1 e stands))
 
   pub routes_apart : Laws means → (ls : List L) (positions : ℕ) (s : Span) → IsOpen means ls positions s → AreApart (routes means ls s)
   routes_apart laws [] positions s o = (tt, tt)

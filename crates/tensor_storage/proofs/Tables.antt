@@ -108,3 +108,8 @@ agree_above coords n d i j is same = by_others (agree coords d i j) refl
     by_others : (b : Bool) → agree coords d i j ≡ b → agree coords n i j ≡ agree coords d i j
     by_others true h = ap (λ m. agree coords m i j) is ∙ joined _ _ h eq ∙ sym h
     by_others false h = ap (λ m. agree coords m i j) is ∙ ap (λ b. b && (coords d i == coords d j)) h ∙ sym h
+
+-- where each row differs from the next, each begins a position
+pub all_begin_apart : (table : Table) (n : ℕ) → AllApart table n → (i : ℕ) → i < table.count → begins_at table.coords n i ≡ true
+all_begin_apart table n apart zero h = refl
+all_begin_apart table n apart (suc i) h = ap not (apart i h)

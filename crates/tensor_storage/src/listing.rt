@@ -81,8 +81,8 @@ fn next_entry<L: Level>(level: &L, parent: Span, segment: Span, from: u64) -> Op
     None
 }
 
-/// Appends the paths of the levels from the one numbered `depth` on, below a span that may be asked, to which `path` has led.
-/// Refused for want of memory alone.
+/// Appends the paths of the levels from the one numbered `depth` on, below a span that may be asked, to which `path` has led. Where there
+/// is no value, no path ends, and none is begun. Refused for want of memory alone.
 pub(crate) fn append_paths<L: Level>(
     alloc: Global,
     levels: &[L],
@@ -107,6 +107,9 @@ pub(crate) fn append_paths<L: Level>(
     if depth == levels.len() {
         let coords = coords_of_path(alloc, places, path);
         entries.push(coords.as_slice(), values[span.lo as usize])?;
+        return Ok(());
+    }
+    if values.is_empty() {
         return Ok(());
     }
     let level = &levels[depth];

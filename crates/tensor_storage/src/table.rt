@@ -67,6 +67,10 @@ impl<'a, T: RowTable> SortedRows for LevelRows<'a, T> {
         }
         !rows_agree(self.table, self.through, row - 1, row)
     }
+
+    fn all_begin(&self) -> bool {
+        false
+    }
 }
 
 impl<'a, T: RowTable> RowValues for LevelRows<'a, T> {
@@ -139,5 +143,9 @@ impl<'a, T: RowTable> SortedRows for ColumnRows<'a, T> {
             return true;
         }
         differ_elsewhere(self.table, self.level, self.through, before, row)
+    }
+
+    fn all_begin(&self) -> bool {
+        self.all_begin
     }
 }

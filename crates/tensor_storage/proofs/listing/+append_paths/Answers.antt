@@ -1,12 +1,24 @@
-use Rattle.std.specs.Prelude.{suc, ◌∷◌, ◌++◌, [], length, map, drop}
+use Rattle.std.specs.Prelude.{◌≡◌, suc, ◌∷◌, ◌++◌, [], length, map, drop}
 use Rattle.std.proofs.Common.{◌∙◌, sym, ap, subst, arith, add-one}
+use Rattle.std.proofs.lemmas.Bool.{eqb-true}
 use Rattle.std.proofs.lemmas.Grind.{common_steps}
+use Rattle.std.proofs.lemmas.List.{append-nil}
 use Rattle.level_core.specs.Entries.{Placed}
 use Rattle.tensor_storage.specs.Routes.{routes, entry_of}
 use Rattle.tensor_storage.specs.Storages.{IsOpen}
 use Rattle.tensor_storage.proofs.WalkLaws.{walk_begins}
 use Rattle.tensor_storage.proofs.AppendSteps.{none_appended, more_appended, all_appended, levels_left}
+use Rattle.tensor_storage.proofs.RouteLaws.{no_routes}
 use Rattle.tensor_storage.proofs.listing.+append_paths.Goals as goal
+
+pub returns-then-is_empty-clause-ok : goal.returns-then-is_empty-clause-ok
+returns-then-is_empty-clause-ok g t c =
+    let levels = drop c.args.depth c.args.levels.now in
+    let none : length c.args.values.now ≡ 0 = eqb-true _ _ (sym c.is_empty.ensures ∙ c.if-is_empty.true) in
+    let opened : IsOpen g.L.LevelKind.meaning levels 0 c.args.span =
+    subst (λ n. IsOpen g.L.LevelKind.meaning levels n c.args.span) none c.requires.opened in
+    sym (ap (λ rs. c.args.entries.now.list ++ map (entry_of c.args.places.now c.args.values.now c.args.path.now.items) rs)
+    (no_routes g.L.LevelKind.meaning levels c.args.span opened) ∙ append-nil c.args.entries.now.list)
 
 pub loop-entry-init : goal.loop-entry-init
 loop-entry-init g t c =

@@ -12,8 +12,8 @@ invariant_of-self-then-come_last c =
     record {
       short = c.self.invariant.short;
       in_order = (
-        c.push-then-come_last.ensures.order ∙ stood.0,
-        subst StrictlyIncreasing (sym c.in_ok-push-in-Columns.ensures.ok)
+        c.push.ensures.order ∙ stood.0,
+        subst StrictlyIncreasing (sym c.in_ok-push.ensures.ok)
             (increasing_more c.in-Columns.columns.list (record { coords = c.args.coords.now; value = c.args.value }) stood.1
             (c.come_last.ensures.0 c.if-come_last.true)),
       );
