@@ -89,7 +89,9 @@ impl LineReader {
 
     /// Takes the line that a piece begins with, as `take_whole` does, and reads it in the same pass if it is plainly written: as many
     /// numbers as there is room for, digits alone with one space behind each, and then a value, digits with a minus or none, each of 18
-    /// digits at most. The numbers are put into `numbers`, and the value is told; it is None where the line is written in another way.
+    /// digits at most, and none begun in the piece's last 18 bytes. The numbers are put into `numbers`, and the value is told; it is None
+    /// where the line is written in another way.
+    #[inline(always)]
     pub fn take_numbers<'a>(
         &mut self,
         piece: &'a [u8],
@@ -138,13 +140,21 @@ impl LineReader {
     }
 
     /// Whether a line has begun that hasn't ended, or one was too long.
+    #[inline(always)]
     fn is_within_line(&self) -> bool
         ensures { result ≡ false → IsBetweenLines self.now }
     {
-        self.is_long || !(self.is_told || self.buffer.is_empty())
+        if self.is_long {
+            return true;
+        }
+        if self.is_told {
+            return false;
+        }
+        !self.buffer.is_empty()
     }
 
     /// Takes the line that a piece begins with to its line feed, which stands here, unless the line is too long.
+    #[inline(always)]
     fn take_to<'a>(&mut self, piece: &'a [u8], end: usize) -> Option<(usize, &'a [u8])>
         requires between { IsBetweenLines self.old }
         requires end { Some end ≡ position is_line_feed piece.now }
@@ -161,6 +171,7 @@ impl LineReader {
     }
 
     /// Takes the bytes of a whole line and a line feed.
+    #[inline(always)]
     fn pass_line(&mut self, whole: &[u8])
         requires between { IsBetweenLines self.old }
         requires free { All (λ byte. byte ≢ 10) whole.now }
