@@ -1,6 +1,6 @@
 -- Lemmas about what specs/Plain.antt defines: what is read from the left is what the line stands for.
 use Rattle.std.specs.Prelude.{◌≡◌, ◌⊎◌, ℕ, zero, suc, ℤ, ◌+◌, ◌-◌, ◌^◌, ◌<◌, ◌≤◌, Bool, true, false, not, cond, nat_lt, ◌==◌, List, [], ◌∷◌}
-use Rattle.std.specs.Prelude.{◌++◌, if◌then◌else◌, length, map, take, drop, slice_set, slice_index_or, Some, None, Ok, Err, refl}
+use Rattle.std.specs.Prelude.{◌++◌, length, map, take, drop, slice_set, slice_index_or, Some, None, Ok, Err, refl}
 use Rattle.std.specs.List.{All, position, position_or_len}
 use Rattle.std.specs.Option.{option_map}
 use Rattle.std.specs.Str.{all_ascii_digits}
@@ -111,7 +111,7 @@ whole_is_read token negative n e small =
     ap (whole_within (is_decimal token)) e
     ∙ ap (λ b. cond b (Ok (with_sign negative n)) (Err NumRange)) (fits negative n small)
 
-plain_begins : (text rest : List ℕ) (n : ℕ) → BeginsWith text n rest → BeginsWithValue text (with_sign false n) rest
+pub plain_begins : (text rest : List ℕ) (n : ℕ) → BeginsWith text n rest → BeginsWithValue text (with_sign false n) rest
 plain_begins text rest n begins =
     let digits = number_digits begins.token n begins.number_is.is in
     record {
@@ -124,7 +124,7 @@ plain_begins text rest n begins =
           (whole_of_plain begins.token digits.1 ∙ ap (option_map (with_sign false)) begins.number_is.is) begins.number_is.small;
     }
 
-minus_begins : (text behind rest : List ℕ) (n : ℕ) → text ≡ 45 ∷ behind → BeginsWith behind n rest
+pub minus_begins : (text behind rest : List ℕ) (n : ℕ) → text ≡ 45 ∷ behind → BeginsWith behind n rest
     → BeginsWithValue text (with_sign true n) rest
 minus_begins text behind rest n text_is begins =
     let digits = number_digits begins.token n begins.number_is.is in
@@ -137,13 +137,6 @@ minus_begins text behind rest n text_is begins =
           whole_is_read (45 ∷ begins.token) true n
           (whole_of_minus begins.token digits.1 ∙ ap (option_map (with_sign true)) begins.number_is.is) begins.number_is.small;
     }
-
--- a minus or none in front
-pub signed_begins : (negative : Bool) (text digits rest : List ℕ) (n : ℕ) → text ≡ (if negative then 45 ∷ digits else digits)
-    → BeginsWith digits n rest → BeginsWithValue text (with_sign negative n) rest
-signed_begins true text digits rest n text_is begins = minus_begins text digits rest n text_is begins
-signed_begins false text digits rest n text_is begins =
-    plain_begins text rest n (subst (λ (bytes : List ℕ). BeginsWith bytes n rest) (sym text_is) begins)
 
 -- tokens that are numbers, and the bytes of a line of them
 words_are_tokens : (words : List (List ℕ)) (numbers : List ℕ) → map number_of words ≡ map Some numbers → All IsToken words

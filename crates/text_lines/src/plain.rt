@@ -1,5 +1,5 @@
 // Reads plainly written lines in one pass: numbers of digits alone, each with a space behind it, and digits with a minus or none.
-ghost use Rattle.std.specs.Prelude.{◌≡◌, ◌≤◌, ◌∷◌, IfSome, if◌then◌else◌, length, take};
+ghost use Rattle.std.specs.Prelude.{◌≡◌, ◌≤◌, ◌∷◌, IfSome, length, take};
 ghost use Rattle.std.specs.Str.Parse.{AllDigits, digits_value};
 ghost use Rattle.text_lines.specs.Plain.{BeginsWith, BeginsWithValue, EndsLine, IsPlainLine, LeadsWith};
 
@@ -52,19 +52,13 @@ fn spaced_number(text: &[u8]) -> Option<(u64, &[u8])>
 fn first_value(text: &[u8]) -> Option<(i64, &[u8])>
     ensures { IfSome result (λ cut. BeginsWithValue text.now cut.0 cut.1.now) }
 {
-    let (negative, digits) = behind_minus(text);
-    let (number, rest) = first_number(digits)?;
-    Some((signed(negative, number), rest))
-}
-
-/// Whether a text begins with a minus, and what stands behind that, if it does.
-#[inline(always)]
-fn behind_minus(text: &[u8]) -> (bool, &[u8])
-    ensures { text.now ≡ (if result.0 then 45 ∷ result.1.now else result.1.now) }
-{
-    match text {
-        [b'-', rest @ ..] => (true, rest),
-        _ => (false, text),
+    let (first, behind) = text.split_first()?;
+    if *first == b'-' {
+        let (number, rest) = first_number(behind)?;
+        Some((signed(true, number), rest))
+    } else {
+        let (number, rest) = first_number(text)?;
+        Some((signed(false, number), rest))
     }
 }
 
