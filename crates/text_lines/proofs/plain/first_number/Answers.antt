@@ -31,7 +31,8 @@ loop-end-preserved c =
     subst (λ (b : ℕ). (b + 18446744073709551568) % 18446744073709551616 ≤ 9) c.from-digit.ensures c.if-digit-gt9.false in
     let is = digit_of_word byte (omega (arith, c.type_inv.text i)) few in
     let before : ℕ = digits_value 10 (take i text) in
-    let added : c.loop-end.number * 10 + (c.from-digit.result + 18446744073709551568) % 18446744073709551616 ≡ before * 10 + digit_value byte =
+    let added : c.loop-end.number * 10 + (c.from-digit.result + 18446744073709551568) % 18446744073709551616
+    ≡ before * 10 + digit_value byte =
     (λ k. c.loop-end.invariant.number k * 10 + (c.from-digit.ensures k + 18446744073709551568) % 18446744073709551616)
     ∙ ap (λ n. before * 10 + n) is.0 in
     record {
