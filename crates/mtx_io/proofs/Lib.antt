@@ -2,6 +2,7 @@ pub mod AnswersTold
 pub mod BelowSizes
 pub mod EndedEntries
 pub mod FieldLaws
+pub mod FullLines
 pub mod PlaceLaws
 pub mod PlainLaws
 pub mod ProgressLaws

@@ -22,7 +22,7 @@ two_of (a ∷ b ∷ []) e = refl
 two_of (a ∷ b ∷ c ∷ more) e = absurd (omega arith)
 
 -- a line that was read to numbers tells what these do
-pub plain_entry : (signed : Bool) (header : Header) (ts : List (List ℕ)) (plain : PlainLine) → IsReadTo ts (Some plain)
+pub plain_entry : (signed : Bool) (header : Header) (ts : List (List ℕ)) (plain : PlainLine) → IsReadTo ts plain
     → entry_of_three signed header (three_tokens ts)
     ≡ placed (place_from header.symmetry (index_from header.rows (Some plain.row)) (index_from header.columns (Some plain.column)))
     (word_from signed plain.value)

@@ -3,7 +3,7 @@ ghost use Rattle.std.specs.Prelude.{◌≡◌, ◌<◌, ◌-◌, ◌^◌, [], �
 ghost use Rattle.mtx_io.specs.Due.{IsWithin, places_left, is_nothing, slot_with};
 ghost use Rattle.mtx_io.specs.Matrix.{entry_due};
 ghost use Rattle.mtx_io.specs.Places.{first_row, columns_from};
-ghost use Rattle.mtx_io.specs.Plain.{IsReadTo};
+ghost use Rattle.mtx_io.specs.Plain.{full_due};
 ghost use Rattle.mtx_io.specs.Fields.{two_tokens as two, three_tokens as three};
 ghost use Rattle.mtx_io.specs.Size.{header_of, number_to, size_of, coordinate_size, array_size};
 ghost use Rattle.text_lines.specs.Tokens.{tokens};
@@ -12,7 +12,7 @@ use crate::banner::{Banner, Layout, Symmetry};
 use crate::entry::{read_entry, read_value_at};
 use crate::fields::{three_tokens, two_tokens};
 use crate::header::Header;
-use crate::place::{Place, PlacedValue, PlainLine};
+use crate::place::{Place, PlacedValue};
 use limits::{greatest_entries_of_matrix, greatest_size_of_matrix};
 use std::marker::Model;
 use text_lines::{LineKind, read_index};
@@ -147,20 +147,28 @@ impl EntryLines {
         matches!(self.due, Due::Entries { count: 0, .. } | Due::Values(None))
     }
 
-    /// Whether the next line is to have a row, a column and a value, or is one too many. No proof rests on it.
-    pub(crate) fn are_full(&self) -> bool {
-        matches!(self.due, Due::Entries { value: None, .. })
+    /// How many entry lines are due, if each is to have a row, a column and a value.
+    pub(crate) fn full_count(&self) -> Option<u64>
+        ensures { IfSome result (λ count. self.now ≡ full_due self.now.header count) }
+    {
+        match self.due {
+            Due::Entries { count, value: None } => Some(count),
+            _ => None,
+        }
     }
 
-    /// What an entry line tells, whose value may have a sign or none, or what is wrong with it: it is then no longer due. If the line
-    /// was read to numbers, these are `plain`.
-    pub(crate) fn take(
-        &mut self,
-        line: &[u8],
-        plain: Option<PlainLine>,
-        signed: bool,
-    ) -> Result<PlacedValue, LineKind>
-        requires { IsReadTo (tokens line.now) plain }
+    /// So many entry lines, each of a row, a column and a value.
+    pub(crate) fn full(header: Header, count: u64) -> EntryLines
+        ensures { result ≡ full_due header count }
+    {
+        EntryLines {
+            header,
+            due: Due::Entries { count, value: None },
+        }
+    }
+
+    /// What an entry line tells, whose value may have a sign or none, or what is wrong with it: it is then no longer due.
+    pub(crate) fn take(&mut self, line: &[u8], signed: bool) -> Result<PlacedValue, LineKind>
         ensures told { result ≡ entry_due signed self.old.header self.old.slots (tokens line.now) }
         ensures header { self.new.header ≡ self.old.header }
         ensures left { self.new.slots ≡ drop 1 self.old.slots }
@@ -172,7 +180,7 @@ impl EntryLines {
                 }
                 let count = count - 1;
                 self.due = Due::Entries { count, value };
-                read_entry(&self.header, value, line, plain, signed)
+                read_entry(&self.header, value, line, signed)
             }
             Due::Values(None) => Err(LineKind::Extra),
             Due::Values(Some(place)) => {

@@ -6,7 +6,6 @@ ghost use Rattle.mtx_io.specs.Entry.{index_of, word_from, value_of, place_at, pl
 ghost use Rattle.mtx_io.specs.Entry.{entry_of_three};
 ghost use Rattle.mtx_io.specs.Entry.{entries_by, coords_of, index_from, placed};
 ghost use Rattle.mtx_io.specs.Fields.{one_token as one, two_tokens as two, three_tokens as three};
-ghost use Rattle.mtx_io.specs.Plain.{IsReadTo};
 ghost use Rattle.mtx_io.specs.Progress.{IsMatrixOrder};
 ghost use Rattle.text_lines.specs.Tokens.{tokens};
 
@@ -34,6 +33,7 @@ fn read_index_in(token: &[u8], size: u64) -> Result<u64, LineKind>
 }
 
 /// The word of a number. Where values have no sign, none is below 0.
+#[inline(always)]
 fn word(number: i64, signed: bool) -> Result<u64, LineKind>
     ensures { result ≡ word_from signed number }
 {
@@ -57,6 +57,7 @@ fn read_value(token: &[u8], signed: bool) -> Result<u64, LineKind>
 }
 
 /// The place of this row and column: of a skew-symmetric matrix it isn't on the diagonal.
+#[inline(always)]
 fn place_in(symmetry: Symmetry, row: u64, column: u64) -> Result<Place, LineKind>
     ensures { result ≡ place_at symmetry row column }
 {
@@ -77,6 +78,7 @@ fn read_place(header: &Header, row: &[u8], column: &[u8]) -> Result<Place, LineK
 }
 
 /// A row or a column of so many, counted from 0: the number counts from 1.
+#[inline(always)]
 fn index_in(number: u64, size: u64) -> Result<u64, LineKind>
     ensures { result ≡ index_from size (Some number) }
 {
@@ -92,7 +94,8 @@ fn index_in(number: u64, size: u64) -> Result<u64, LineKind>
 }
 
 /// What a line that was read to numbers tells.
-fn entry_of_numbers(
+#[inline(always)]
+pub(crate) fn entry_of_numbers(
     header: &Header,
     plain: PlainLine,
     signed: bool,
@@ -106,22 +109,6 @@ fn entry_of_numbers(
     let place = place_in(header.symmetry, row, column)?;
     let value = word(plain.value, signed)?;
     Ok(PlacedValue { place, value })
-}
-
-/// What a line that has a row, a column and a value tells, by its numbers where it was read to them.
-fn read_whole_entry(
-    header: &Header,
-    line: &[u8],
-    plain: Option<PlainLine>,
-    signed: bool,
-) -> Result<PlacedValue, LineKind>
-    requires { IsReadTo (tokens line.now) plain }
-    ensures { result ≡ entry_of_three signed header.now (three (tokens line.now)) }
-{
-    match plain {
-        Some(plain) => entry_of_numbers(header, plain, signed),
-        None => read_full_entry(header, line, signed),
-    }
 }
 
 /// What the tokens of a line that has a row, a column and a value tell.
@@ -152,14 +139,12 @@ pub(crate) fn read_entry(
     header: &Header,
     value: Option<u64>,
     line: &[u8],
-    plain: Option<PlainLine>,
     signed: bool,
 ) -> Result<PlacedValue, LineKind>
-    requires { IsReadTo (tokens line.now) plain }
     ensures { result ≡ entry_of signed header.now (slot_with value) (tokens line.now) }
 {
     match value {
-        None => read_whole_entry(header, line, plain, signed),
+        None => read_full_entry(header, line, signed),
         Some(value) => read_entry_of(header, value, line),
     }
 }
@@ -180,6 +165,7 @@ pub(crate) fn read_value_at(
 }
 
 /// Appends the value at a row and a column: in a tensor of order 1 the row is the coordinate.
+#[inline(always)]
 fn push_at(entries: &mut Entries, row: u64, column: u64, value: u64) -> Result<(), AllocError>
     requires { IsMatrixOrder entries.old.order }
     ensures order { entries.new.order ≡ entries.old.order }
@@ -202,6 +188,7 @@ fn negated<S: Semiring>(value: u64) -> u64
 }
 
 /// Appends the entry that a line tells, and its mirror image, if it has one.
+#[inline(always)]
 pub(crate) fn push_entries<S: Semiring>(
     entries: &mut Entries,
     symmetry: Symmetry,

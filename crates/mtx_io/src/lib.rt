@@ -15,6 +15,7 @@ mod laws;
 mod mtx_reader;
 mod pieces;
 mod place;
+mod plain_lines;
 mod printing;
 mod stage;
 mod step;

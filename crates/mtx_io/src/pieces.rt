@@ -1,56 +1,18 @@
 //! A file, piece by piece.
-ghost use Rattle.std.specs.Prelude.{◌≡◌, ℕ, ◌<◌, ◌≤◌, ◌+◌, ◌++◌, ◌∷◌, [], List, false, IfOk, IfSome, MatchOption, OnErr, length, take};
+ghost use Rattle.std.specs.Prelude.{◌≡◌, ℕ, ◌<◌, ◌≤◌, ◌+◌, ◌++◌, ◌∷◌, [], List, false, IfOk, OnErr, length, take};
 ghost use Rattle.mtx_io.specs.Matrix.{matrix_of_text};
 ghost use Rattle.mtx_io.specs.MtxReader.{EndsEntry};
 ghost use Rattle.mtx_io.specs.Progress.{told, rest_of, IsStage, IsMatrixOrder};
-ghost use Rattle.mtx_io.specs.Plain.{IsReadTo};
 ghost use Rattle.text_lines.specs.Cutting.{told_lines};
-ghost use Rattle.text_lines.specs.LineReader.{TakesWhole};
-ghost use Rattle.text_lines.specs.Tokens.{tokens};
 ghost use Rattle.mtx_io.specs.Reader.{IsReadSoFar, is_bad};
 
-use crate::place::PlainLine;
+use crate::plain_lines::take_plain_lines;
 use crate::stage::{Stage, long_line_behind};
 use crate::step::after_line;
 use numbers::Semiring;
 use std::alloc::AllocError;
 use tensor_map::Entries;
 use text_lines::{LineReader, Step};
-
-/// Takes the line that a piece begins with where it stands whole in it, and the numbers that it was read to, if entries are due that
-/// tell places and values and it is plainly written.
-fn take_whole<'a>(
-    lines: &mut LineReader,
-    stage: &Stage,
-    piece: &'a [u8],
-) -> Option<(usize, &'a [u8], Option<PlainLine>)>
-    ensures taken { MatchOption result (lines.new ≡ lines.old) (λ taken. TakesWhole lines.old lines.new piece.now taken.0 taken.1.now) }
-    ensures plain { IfSome result (λ taken. IsReadTo (tokens taken.1.now) taken.2) }
-{
-    if !stage.has_full_lines() {
-        let (n, line) = lines.take_whole(piece)?;
-        return Some((n, line, None));
-    }
-    let mut numbers = [0; 2];
-    let (n, line, value) = lines.take_numbers(piece, &mut numbers)?;
-    match value {
-        Some(value) => Some((n, line, Some(plain_line(&numbers, value)))),
-        None => Some((n, line, None)),
-    }
-}
-
-/// A line's row and column, and its value.
-fn plain_line(numbers: &[u64], value: i64) -> PlainLine
-    requires { length numbers.now ≡ 2 }
-    ensures numbers { result.row ∷ result.column ∷ [] ≡ numbers.now }
-    ensures value { result.value ≡ value }
-{
-    PlainLine {
-        row: numbers[0],
-        column: numbers[1],
-        value,
-    }
-}
 
 /// Takes bytes of a piece, to the end of a line or all of them: how many, and how far the file is read then. A line that stands whole in
 /// it is read where it stands.
@@ -77,9 +39,9 @@ fn take_step<S: Semiring>(
         ((fed : List ℕ) → IsReadSoFar S.arithmetic S.has_minus S.is_signed entries.old.order fed lines.old.text entries.old.list stage
         → EndsEntry S.arithmetic S.has_minus S.is_signed entries.old.order fed piece.now) }
 {
-    if let Some((n, line, plain)) = take_whole(lines, &stage, piece) {
+    if let Some((n, line)) = lines.take_whole(piece) {
         let number = lines.number();
-        let after = after_line::<S>(stage, entries, line, plain, number)?;
+        let after = after_line::<S>(stage, entries, line, number)?;
         return Ok((n, after));
     }
     let (n, step) = lines.feed(piece);
@@ -88,10 +50,39 @@ fn take_step<S: Semiring>(
         Step::LongLine => Ok((n, long_line_behind(lines.number()))),
         Step::Line => {
             let number = lines.number();
-            let after = after_line::<S>(stage, entries, lines.line(), None, number)?;
+            let after = after_line::<S>(stage, entries, lines.line(), number)?;
             Ok((n, after))
         }
     }
+}
+
+/// Takes bytes of a piece as `take_step` does, and behind them the plainly written entry lines that follow.
+fn take_more<S: Semiring>(
+    lines: &mut LineReader,
+    entries: &mut Entries,
+    stage: Stage,
+    piece: &[u8],
+) -> Result<(usize, Stage), AllocError>
+    requires order { IsMatrixOrder entries.old.order }
+    requires stage { IsStage S.has_minus entries.old.order entries.old.list stage }
+    requires good { is_bad stage ≡ false }
+    requires some { 0 < length piece.now }
+    ensures order { entries.new.order ≡ entries.old.order }
+    ensures stage { IfOk result (λ taken. IsStage S.has_minus entries.old.order entries.new.list taken.1) }
+    ensures within { IfOk result (λ taken. taken.0 ≤ length piece.now) }
+    ensures progress { IfOk result (λ taken. 0 < taken.0) }
+    ensures read { IfOk result
+        (λ taken. (fed : List ℕ)
+        → IsReadSoFar S.arithmetic S.has_minus S.is_signed entries.old.order fed lines.old.text entries.old.list stage
+        → IsReadSoFar S.arithmetic S.has_minus S.is_signed entries.old.order (fed
+        ++ take taken.0 piece.now) lines.new.text entries.new.list taken.1) }
+    ensures ended { OnErr result
+        ((fed : List ℕ) → IsReadSoFar S.arithmetic S.has_minus S.is_signed entries.old.order fed lines.old.text entries.old.list stage
+        → EndsEntry S.arithmetic S.has_minus S.is_signed entries.old.order fed piece.now) }
+{
+    let (n, after) = take_step::<S>(lines, entries, stage, piece)?;
+    let (behind, last) = take_plain_lines::<S>(lines, entries, after, piece.split_at(n).1)?;
+    Ok((n + behind, last))
 }
 
 /// Takes a piece, and answers how far the file is read then. Behind a bad line it takes nothing.
@@ -119,7 +110,7 @@ pub(crate) fn take_piece<S: Semiring>(
         if stage.is_bad() {
             return Ok(stage);
         }
-        let (n, after) = take_step::<S>(lines, entries, stage, rest)?;
+        let (n, after) = take_more::<S>(lines, entries, stage, rest)?;
         rest = rest.split_at(n).1;
         stage = after;
     }
@@ -153,7 +144,7 @@ pub(crate) fn take_end<S: Semiring>(
         Step::LongLine => Ok(long_line_behind(lines.number())),
         Step::Line => {
             let number = lines.number();
-            let after = after_line::<S>(stage, entries, lines.line(), None, number)?;
+            let after = after_line::<S>(stage, entries, lines.line(), number)?;
             Ok(after)
         }
     }

@@ -1,3 +1,5 @@
+ghost use Rattle.std.specs.Prelude.{◌≡◌, ◌∷◌, [], length};
+
 /// A place in a matrix. Rows and columns are counted from 0.
 #[derive(Clone, Copy, Debug, PartialEq, Eq)]
 pub(crate) struct Place {
@@ -18,4 +20,18 @@ pub(crate) struct PlainLine {
 pub(crate) struct PlacedValue {
     pub(crate) place: Place,
     pub(crate) value: u64,
+}
+
+/// A line's row and column, and its value.
+#[inline(always)]
+pub(crate) fn plain_line(numbers: &[u64], value: i64) -> PlainLine
+    requires { length numbers.now ≡ 2 }
+    ensures numbers { result.row ∷ result.column ∷ [] ≡ numbers.now }
+    ensures value { result.value ≡ value }
+{
+    PlainLine {
+        row: numbers[0],
+        column: numbers[1],
+        value,
+    }
 }

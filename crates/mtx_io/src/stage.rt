@@ -28,14 +28,14 @@ impl Stage {
     {
         matches!(self, Stage::Bad { .. })
     }
+}
 
-    /// Whether the next line is to have a row, a column and a value, if it is to be an entry. No proof rests on it.
-    pub(crate) fn has_full_lines(&self) -> bool {
-        match self {
-            Stage::Sized(due) => due.are_full(),
-            _ => false,
-        }
-    }
+/// The line of this number is bad.
+#[inline(always)]
+pub(crate) fn bad_line(line: u64, kind: LineKind) -> Stage
+    ensures { result ≡ Bad line kind }
+{
+    Stage::Bad { line, kind }
 }
 
 /// The line behind so many others is too long.

@@ -2,8 +2,6 @@
 ghost use Rattle.std.specs.Prelude.{◌≡◌, ◌<◌, ◌++◌, ◌∷◌, ℕ, Bool, List, length, [], true, false, IfOk, OnErr};
 ghost use Rattle.mtx_io.specs.Matrix.{is_skipped};
 ghost use Rattle.text_lines.specs.Cutting.{is_long};
-ghost use Rattle.text_lines.specs.Tokens.{tokens};
-ghost use Rattle.mtx_io.specs.Plain.{IsReadTo};
 ghost use Rattle.mtx_io.specs.Progress.{Follows, IsStage, IsMatrixOrder};
 ghost use Rattle.mtx_io.specs.Reader.{IsKnown, TellsEntry};
 ghost use Rattle.mtx_io.specs.declared.stage.Stage.TheVariants.{First, Begun, Sized};
@@ -11,7 +9,6 @@ ghost use Rattle.mtx_io.specs.declared.stage.Stage.TheVariants.{First, Begun, Si
 use crate::banner::{Banner, read_first_line};
 use crate::due::EntryLines;
 use crate::entry::push_entries;
-use crate::place::PlainLine;
 use crate::stage::Stage;
 use numbers::Semiring;
 use std::alloc::AllocError;
@@ -65,11 +62,9 @@ fn after_entry<S: Semiring>(
     lines: EntryLines,
     entries: &mut Entries,
     line: &[u8],
-    plain: Option<PlainLine>,
     number: u64,
 ) -> Result<Stage, AllocError>
     requires short { is_long line.now ≡ false }
-    requires plain { IsReadTo (tokens line.now) plain }
     requires kept { is_skipped line.now ≡ false }
     requires order { IsMatrixOrder entries.old.order }
     requires stage { IsStage S.has_minus entries.old.order entries.old.list (Sized lines) }
@@ -83,7 +78,7 @@ fn after_entry<S: Semiring>(
     ensures tells { OnErr result (TellsEntry S.is_signed (Sized lines) line.now) }
 {
     let mut lines = lines;
-    match lines.take(line, plain, S::is_signed()) {
+    match lines.take(line, S::is_signed()) {
         Ok(told) => {
             push_entries::<S>(entries, lines.header().symmetry, told)?;
             Ok(Stage::Sized(lines))
@@ -92,17 +87,14 @@ fn after_entry<S: Semiring>(
     }
 }
 
-/// How far the file is read with one more line, whose entries are appended. It wants memory only for an entry line. If the line was
-/// read to numbers, these are `plain`.
+/// How far the file is read with one more line, whose entries are appended. It wants memory only for an entry line.
 pub(crate) fn after_line<S: Semiring>(
     stage: Stage,
     entries: &mut Entries,
     line: &[u8],
-    plain: Option<PlainLine>,
     number: u64,
 ) -> Result<Stage, AllocError>
     requires short { is_long line.now ≡ false }
-    requires plain { IsReadTo (tokens line.now) plain }
     requires order { IsMatrixOrder entries.old.order }
     requires stage { IsStage S.has_minus entries.old.order entries.old.list stage }
     ensures order { entries.new.order ≡ entries.old.order }
@@ -119,7 +111,7 @@ pub(crate) fn after_line<S: Semiring>(
         Stage::Begun(banner) if is_passed_over(line) => Ok(Stage::Begun(banner)),
         Stage::Begun(banner) => Ok(after_size::<S>(entries.order(), banner, line, number)),
         Stage::Sized(lines) if is_passed_over(line) => Ok(Stage::Sized(lines)),
-        Stage::Sized(lines) => after_entry::<S>(lines, entries, line, plain, number),
+        Stage::Sized(lines) => after_entry::<S>(lines, entries, line, number),
         Stage::Bad { line, kind } => Ok(Stage::Bad { line, kind }),
     }
 }

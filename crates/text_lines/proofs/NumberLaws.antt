@@ -1,5 +1,5 @@
 -- What follows from the definitions of the numbers that tokens stand for.
-use Rattle.std.specs.Prelude.{◌≡◌, ℕ, zero, suc, ℤ, pos, negsuc, ◌+◌, ◌-◌, ◌^◌, ◌<◌, ◌≤◌, true, false, not, cond, ◌==◌, nat_lt, nat_le}
+use Rattle.std.specs.Prelude.{◌≡◌, ℕ, zero, suc, ℤ, pos, negsuc, ◌+◌, ◌-◌, ◌%◌, ◌^◌, ◌<◌, ◌≤◌, true, false, not, cond, ◌==◌, nat_lt, nat_le}
 use Rattle.std.specs.Prelude.{List, [], ◌∷◌, length, drop, Some, None, Ok, Err, refl, slice_index}
 use Rattle.std.specs.Char.{is_ascii_digit, digit_value}
 use Rattle.std.specs.Fmt.{decimal, signed_decimal}
@@ -7,7 +7,7 @@ use Rattle.std.specs.List.{list_all, before_first, position_or_len}
 use Rattle.std.specs.Option.{option_map}
 use Rattle.std.specs.Str.{all_ascii_digits}
 use Rattle.std.specs.Str.Parse.{AllDigits, digits_value}
-use Rattle.std.proofs.Common.{arith, ap, ◌∙◌, lit<}
+use Rattle.std.proofs.Common.{arith, ap, sym, ◌∙◌, lit<}
 use Rattle.std.proofs.lemmas.Bool.{and_parts, and_from, and_left, and_right, lt-ltb, leb-true, ne_eqb, ltb-true}
 use Rattle.std.proofs.lemmas.Fmt.{decimal_is_IsNumeral}
 use Rattle.std.proofs.lemmas.List.{take_all, drop_all}
@@ -109,10 +109,22 @@ pub number_of_numeral : (text : List ℕ) → 0 < length text → AllDigits 10 t
 number_of_numeral text some all = number_of_digits text (is_number_from text some (digits_model.from text all))
 
 -- a digit's value
+digit_within : (byte : ℕ) → 48 ≤ byte → byte ≤ 57 → (digit_value byte ≡ byte - 48) × (digit_value byte < 10)
+digit_within byte low high =
+    let is : digit_value byte + 48 ≡ byte = digit_value_digit byte (low, high) in
+    (omega arith, omega arith)
+
 pub value_of_digit : (byte : ℕ) → is_ascii_digit byte ≡ true → (digit_value byte ≡ byte - 48) × (digit_value byte < 10)
 value_of_digit byte e =
     let ends = and_parts (nat_le 48 byte) (nat_le byte 57) e in
-    let low : 48 ≤ byte = leb-true 48 byte ends.0 in
-    let high : byte ≤ 57 = leb-true byte 57 ends.1 in
-    let is : digit_value byte + 48 ≡ byte = digit_value_digit byte (low, high) in
-    (omega arith, omega arith)
+    digit_within byte (leb-true 48 byte ends.0) (leb-true byte 57 ends.1)
+
+-- a byte less 48 that is a digit's value, as a word has it
+pub digit_of_word : (byte : ℕ) → byte < 2 ^ 8 → (byte + 18446744073709551568) % 18446744073709551616 ≤ 9
+    → ((byte + 18446744073709551568) % 18446744073709551616 ≡ digit_value byte) × (digit_value byte < 10)
+digit_of_word byte fits small =
+    let low : 48 ≤ byte = omega arith in
+    let high : byte ≤ 57 = omega arith in
+    let same : (byte + 18446744073709551568) % 18446744073709551616 ≡ byte - 48 = omega arith in
+    let is = digit_within byte low high in
+    (same ∙ sym is.0, is.1)

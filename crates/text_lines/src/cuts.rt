@@ -27,6 +27,7 @@ pub(crate) fn line_feed(text: &[u8]) -> Option<usize>
 }
 
 /// The line without the carriage return at its end, if it has one.
+#[inline(always)]
 pub(crate) fn without_return(line: &[u8]) -> &[u8]
     ensures { result.now ≡ strip_carriage_return line.now }
 {

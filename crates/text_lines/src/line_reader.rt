@@ -87,9 +87,30 @@ impl LineReader {
         self.take_to(piece, end)
     }
 
-    /// Takes the line that a piece begins with, as `take_whole` does, and reads it in the same pass if it is plainly written: as many
+    /// Takes the line that a piece begins with, as `take_whole` does, if it is plainly written, and reads it in the same pass: as many
     /// numbers as there is room for, digits alone with one space behind each, and then a value, digits with a minus or none, each of 18
-    /// digits at most. The numbers are put into `numbers`, and the value is told; it is None where the line is written in another way.
+    /// digits at most, and none begun in the piece's last 18 bytes. The numbers are put into `numbers`, and the value is told. Of a line
+    /// that is written in another way nothing is taken.
+    #[inline(always)]
+    pub fn take_plain<'a>(
+        &mut self,
+        piece: &'a [u8],
+        numbers: &mut [u64],
+    ) -> Option<(usize, &'a [u8], i64)>
+        ensures taken { MatchOption result (self.new ≡ self.old) (λ taken. TakesWhole self.old self.new piece.now taken.0 taken.1.now) }
+        ensures numbers { IfSome result (λ taken. AreNumbers (tokens taken.1.now) numbers.new taken.2) }
+    {
+        if self.is_within_line() {
+            return None;
+        }
+        let (end, value) = read_plain_line(piece, numbers)?;
+        let (taken, line) = self.take_to(piece, end)?;
+        Some((taken, line, value))
+    }
+
+    /// Takes the line that a piece begins with, as `take_whole` does. If it is plainly written, its numbers are put into `numbers`, and its
+    /// value is told, as `take_plain` does; the value is None where the line is written in another way.
+    #[inline(always)]
     pub fn take_numbers<'a>(
         &mut self,
         piece: &'a [u8],
@@ -98,15 +119,11 @@ impl LineReader {
         ensures taken { MatchOption result (self.new ≡ self.old) (λ taken. TakesWhole self.old self.new piece.now taken.0 taken.1.now) }
         ensures numbers { IfSome result (λ taken. IfSome taken.2 (AreNumbers (tokens taken.1.now) numbers.new)) }
     {
-        if self.is_within_line() {
-            return None;
+        if let Some((taken, line, value)) = self.take_plain(piece, numbers) {
+            return Some((taken, line, Some(value)));
         }
-        let Some((end, value)) = read_plain_line(piece, numbers) else {
-            let (taken, line) = self.take_whole(piece)?;
-            return Some((taken, line, None));
-        };
-        let (taken, line) = self.take_to(piece, end)?;
-        Some((taken, line, Some(value)))
+        let (taken, line) = self.take_whole(piece)?;
+        Some((taken, line, None))
     }
 
     /// The text has ended. A last line without an end is told: `line` lends it then.
@@ -138,13 +155,21 @@ impl LineReader {
     }
 
     /// Whether a line has begun that hasn't ended, or one was too long.
+    #[inline(always)]
     fn is_within_line(&self) -> bool
         ensures { result ≡ false → IsBetweenLines self.now }
     {
-        self.is_long || !(self.is_told || self.buffer.is_empty())
+        if self.is_long {
+            return true;
+        }
+        if self.is_told {
+            return false;
+        }
+        !self.buffer.is_empty()
     }
 
     /// Takes the line that a piece begins with to its line feed, which stands here, unless the line is too long.
+    #[inline(always)]
     fn take_to<'a>(&mut self, piece: &'a [u8], end: usize) -> Option<(usize, &'a [u8])>
         requires between { IsBetweenLines self.old }
         requires end { Some end ≡ position is_line_feed piece.now }
@@ -161,6 +186,7 @@ impl LineReader {
     }
 
     /// Takes the bytes of a whole line and a line feed.
+    #[inline(always)]
     fn pass_line(&mut self, whole: &[u8])
         requires between { IsBetweenLines self.old }
         requires free { All (λ byte. byte ≢ 10) whole.now }

@@ -8,8 +8,12 @@ use crate::whole::signed;
 /// Every number of so many digits has 63 bits.
 const GREATEST_DIGITS: usize = 18;
 
+/// The byte of the digit 0.
+const ZERO: u64 = 48;
+
 /// Reads the line that a text begins with, if it is plainly written: its numbers into `numbers`. It answers where its line feed stands, and
 /// the value behind the numbers. Nothing is known of a line that it doesn't read.
+#[inline(always)]
 pub(crate) fn read_plain_line(text: &[u8], numbers: &mut [u64]) -> Option<(usize, i64)>
     ensures { IfSome result (λ found. IsPlainLine text.now numbers.new found.0 found.1) }
 {
@@ -20,6 +24,7 @@ pub(crate) fn read_plain_line(text: &[u8], numbers: &mut [u64]) -> Option<(usize
 }
 
 /// Reads numbers, each with a space behind it, and answers what stands behind them.
+#[inline(always)]
 fn read_numbers<'a>(text: &'a [u8], numbers: &mut [u64]) -> Option<&'a [u8]>
     ensures { IfSome result (λ rest. LeadsWith text.now numbers.new rest.now) }
 {
@@ -33,6 +38,7 @@ fn read_numbers<'a>(text: &'a [u8], numbers: &mut [u64]) -> Option<&'a [u8]>
 }
 
 /// The number that a text begins with, and what stands behind the space behind it.
+#[inline(always)]
 fn spaced_number(text: &[u8]) -> Option<(u64, &[u8])>
     ensures { IfSome result (λ cut. BeginsWith text.now cut.0 (32 ∷ cut.1.now)) }
 {
@@ -42,6 +48,7 @@ fn spaced_number(text: &[u8]) -> Option<(u64, &[u8])>
 }
 
 /// The value that a text begins with, of digits with a minus or none, and what stands behind its digits.
+#[inline(always)]
 fn first_value(text: &[u8]) -> Option<(i64, &[u8])>
     ensures { IfSome result (λ cut. BeginsWithValue text.now cut.0 cut.1.now) }
 {
@@ -56,6 +63,7 @@ fn first_value(text: &[u8]) -> Option<(i64, &[u8])>
 }
 
 /// How many bytes of a line's end stand before its line feed, where the line ends here: a carriage return or none.
+#[inline(always)]
 fn bytes_to_feed(text: &[u8]) -> Option<usize>
     ensures { IfSome result (λ count. EndsLine text.now count) }
 {
@@ -68,6 +76,7 @@ fn bytes_to_feed(text: &[u8]) -> Option<usize>
 }
 
 /// What stands behind this byte where a text begins with it.
+#[inline(always)]
 fn behind_byte(text: &[u8], byte: u8) -> Option<&[u8]>
     ensures { IfSome result (λ rest. text.now ≡ byte ∷ rest.now) }
 {
@@ -75,22 +84,29 @@ fn behind_byte(text: &[u8], byte: u8) -> Option<&[u8]>
     if *first == byte { Some(rest) } else { None }
 }
 
-/// The number that a text begins with, of no more digits than surely have room, and what stands behind these.
+/// The number that a text begins with, of no more digits than surely have room, and what stands behind these. More bytes than that are to
+/// stand there, so that none is read with a look at the text's end.
+#[inline(always)]
 fn first_number(text: &[u8]) -> Option<(u64, &[u8])>
     ensures { IfSome result (λ cut. BeginsWith text.now cut.0 cut.1.now) }
 {
-    let longest = text.len().min(GREATEST_DIGITS);
+    if text.len() <= GREATEST_DIGITS {
+        return None;
+    }
     let mut number = 0;
-    for end in 0..longest {
-        if !text[end].is_ascii_digit() {
+    for end in 0..GREATEST_DIGITS {
+        // Of a byte that is no digit this is more than 9.
+        let digit = u64::from(text[end]).wrapping_sub(ZERO);
+        if digit > 9 {
             return number_before(text, end, number);
         }
-        number = number * 10 + u64::from(text[end] - b'0');
+        number = number * 10 + digit;
     }
-    number_before(text, longest, number)
+    number_before(text, GREATEST_DIGITS, number)
 }
 
 /// The number of the digits before this place, if there is one, and what stands from there on.
+#[inline(always)]
 fn number_before(text: &[u8], end: usize, number: u64) -> Option<(u64, &[u8])>
     requires within { end ≤ length text.now }
     requires few { end ≤ 18 }

@@ -34,11 +34,11 @@ loop-rest-preserved g c =
     let n = c.in_ok-n.n in
     let step = subst (λ (k : ℕ). (fed : List ℕ)
     → IsReadSoFar a has_minus signed k fed c.loop-rest.lines.text c.loop-rest.entries.list c.loop-rest.stage
-    → IsReadSoFar a has_minus signed k (fed ++ take n rest) c.take_step.new.lines.text c.take_step.new.entries.list c.in_ok-n.after)
+    → IsReadSoFar a has_minus signed k (fed ++ take n rest) c.take_more.new.lines.text c.take_more.new.entries.list c.in_ok-n.after)
     c.loop-rest.invariant.order c.in_ok-n.ensures.read in
     record {
       order = c.in_ok-n.ensures.order ∙ c.loop-rest.invariant.order;
-      stage = subst (λ (k : ℕ). IsStage has_minus k c.take_step.new.entries.list c.in_ok-n.after) c.loop-rest.invariant.order
+      stage = subst (λ (k : ℕ). IsStage has_minus k c.take_more.new.entries.list c.in_ok-n.after) c.loop-rest.invariant.order
           c.in_ok-n.ensures.stage;
       read = (
         taken ++ take n rest,
@@ -46,7 +46,7 @@ loop-rest-preserved g c =
             ∙ sym (append_assoc taken (take n rest) (drop n rest))
             ∙ ap (λ (back : List ℕ). (taken ++ take n rest) ++ back) (sym c.split_at.ensures.back),
         λ fed read. subst (λ
-            (all : List ℕ). IsReadSoFar a has_minus signed order all c.take_step.new.lines.text c.take_step.new.entries.list
+            (all : List ℕ). IsReadSoFar a has_minus signed order all c.take_more.new.lines.text c.take_more.new.entries.list
             c.in_ok-n.after) (append_assoc fed taken (take n rest)) (step (fed ++ taken) (c.loop-rest.invariant.read.2 fed read)),
       );
     }

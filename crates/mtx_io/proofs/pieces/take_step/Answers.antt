@@ -15,14 +15,14 @@ use Rattle.mtx_io.proofs.pieces.take_step.Goals as goal
 
 pub after_line-requires-clause-short : goal.after_line-requires-clause-short
 after_line-requires-clause-short g c =
-    let tells = c.in-Some.ensures.taken.tells in
-    told_line_short c.take_whole.new.lines.text c.in-Some.line.now (told_lines c.args.lines.now.text) tells.short tells.told
+    let tells = c.in-Some.ensures.tells in
+    told_line_short c.take_whole.new.self.text c.in-Some.line.now (told_lines c.args.lines.now.text) tells.short tells.told
 
 pub returns-in-Some-clause-read : goal.returns-in-Some-clause-read
 returns-in-Some-clause-read g c = λ fed read.
-    let whole = c.in-Some.ensures.taken in
+    let whole = c.in-Some.ensures in
     line_read g.S.Semiring.arithmetic g.S.Semiring.has_minus g.S.Semiring.is_signed c.args.entries.now.order fed c.args.lines.now
-    c.take_whole.new.lines _
+    c.take_whole.new.self _
     c.in-Some.line.now c.args.entries.now.list c.after_line.new.entries.list c.args.stage c.in_ok-after.after c.number-number.result
     c.requires.good whole.text whole.tells c.number-number.ensures c.in_ok-after.ensures.follows c.in_ok-after.ensures.known read
 
@@ -36,11 +36,11 @@ returns-in_err-after-clause-ended g c =
     let n = c.in-Some.n in
     let piece = c.args.piece.now in
     let entries = c.args.entries.now.list in
-    let whole = c.in-Some.ensures.taken in
+    let whole = c.in-Some.ensures in
     let ended : (fed : List ℕ) → IsReadSoFar a has_minus signed order fed old.text entries c.args.stage
     → EndsEntry a has_minus signed order fed piece = λ fed read.
     let on = reads_on a has_minus signed order fed old.text entries c.args.stage c.requires.good read in
-    let ends = entry_ends a has_minus signed order fed old c.take_whole.new.lines (take n piece) c.in-Some.line.now entries c.args.stage
+    let ends = entry_ends a has_minus signed order fed old c.take_whole.new.self (take n piece) c.in-Some.line.now entries c.args.stage
     whole.text whole.tells on c.in_err-after.ensures.kept c.in_err-after.ensures.tells in
     subst (λ (all : List ℕ). EndsEntry a has_minus signed order fed all) (take-append-drop n piece)
     (ends_in_more a has_minus signed order fed (take n piece) (drop n piece) ends) in
@@ -48,7 +48,7 @@ returns-in_err-after-clause-ended g c =
 
 pub after_line-requires-in-Line-clause-short : goal.after_line-requires-in-Line-clause-short
 after_line-requires-in-Line-clause-short g c =
-    let old = c.take_whole.new.lines in
+    let old = c.take_whole.new.self in
     let tells : TellsLine old c.feed-n.new.self =
     subst (λ (s : Step). Feeds old c.feed-n.new.self c.args.piece.now c.feed-n.result.0 s) c.in-Line.is c.feed-n.ensures.step in
     ap is_long c.line.ensures
@@ -57,11 +57,11 @@ after_line-requires-in-Line-clause-short g c =
 pub returns-in-LongLine-clause-read : goal.returns-in-LongLine-clause-read
 returns-in-LongLine-clause-read g c = λ fed read.
     let a = g.S.Semiring.arithmetic in
-    let old = c.take_whole.new.lines in
+    let old = c.take_whole.new.self in
     let still = subst (λ
     (l : LineReader). IsReadSoFar a g.S.Semiring.has_minus g.S.Semiring.is_signed c.args.entries.now.order fed l.text
     c.args.entries.now.list
-    c.args.stage) (sym c.in_default.ensures.taken) read in
+    c.args.stage) (sym c.in_default.ensures) read in
     let long = subst (λ (s : Step). Feeds old c.feed-n.new.self c.args.piece.now c.feed-n.result.0 s) c.in-LongLine.is
     c.feed-n.ensures.step in
     subst (λ (s : Stage). IsReadSoFar a g.S.Semiring.has_minus g.S.Semiring.is_signed c.args.entries.now.order
@@ -77,10 +77,10 @@ returns-in_ok-after-in-Line-clause-read g c = λ fed read.
     let has_minus = g.S.Semiring.has_minus in
     let signed = g.S.Semiring.is_signed in
     let order = c.args.entries.now.order in
-    let old = c.take_whole.new.lines in
+    let old = c.take_whole.new.self in
     let entries' = c.after_line-in-Line.new.entries.list in
     let still = subst (λ (l : LineReader). IsReadSoFar a has_minus signed order fed l.text c.args.entries.now.list c.args.stage)
-    (sym c.in_default.ensures.taken) read in
+    (sym c.in_default.ensures) read in
     let tells : TellsLine old c.feed-n.new.self =
     subst (λ (s : Step). Feeds old c.feed-n.new.self c.args.piece.now c.feed-n.result.0 s) c.in-Line.is c.feed-n.ensures.step in
     let follows : Follows a has_minus signed order c.number-number-in-Line.result c.feed-n.new.self.line c.args.entries.now.list
@@ -102,7 +102,7 @@ returns-in_err-after-in-Line-clause-ended g c =
     let has_minus = g.S.Semiring.has_minus in
     let signed = g.S.Semiring.is_signed in
     let order = c.args.entries.now.order in
-    let old = c.take_whole.new.lines in
+    let old = c.take_whole.new.self in
     let new = c.feed-n.new.self in
     let n = c.feed-n.result.0 in
     let piece = c.args.piece.now in
@@ -110,7 +110,7 @@ returns-in_err-after-in-Line-clause-ended g c =
     let ended : (fed : List ℕ) → IsReadSoFar a has_minus signed order fed c.args.lines.now.text entries c.args.stage
     → EndsEntry a has_minus signed order fed piece = λ fed read.
     let still = subst (λ (l : LineReader). IsReadSoFar a has_minus signed order fed l.text entries c.args.stage)
-    (sym c.in_default.ensures.taken) read in
+    (sym c.in_default.ensures) read in
     let on = reads_on a has_minus signed order fed old.text entries c.args.stage c.requires.good still in
     let tells : TellsLine old new = subst (λ (s : Step). Feeds old new piece n s) c.in-Line.is c.feed-n.ensures.step in
     let here : is_skipped new.line ≡ false = ap is_skipped (sym c.line.ensures) ∙ c.in_err-after-in-Line.ensures.kept in
