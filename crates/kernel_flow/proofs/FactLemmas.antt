@@ -107,6 +107,14 @@ survive_more x fs gs new f h left right now = record {
       (one_more gs f s' (h.at s s' vars arrays both.0) (survives_one x f s s' vars arrays left right both.1.0));
 }
 
+-- one more of the first facts, which are all kept
+pub survives_next : (x : ℕ) (fs : List Fact) (i : ℕ) (f : Fact) → i < length fs → f ≡ get_or fs i f → Survives x (take i fs) (take i fs)
+    → Mentions (λ y. x ≢ y) IsReadOnly f.left → Mentions (λ y. x ≢ y) IsReadOnly f.right
+    → Survives x (take (i + 1) fs) (take (i + 1) fs)
+survives_next x fs i f l is h left right =
+    subst (λ xs. Survives x xs xs) (sym (take_more fs i f l ∙ ap (λ g. take i fs ++ g ∷ []) (sym is)))
+    (survive_more x (take i fs) (take i fs) (take i fs ++ f ∷ []) f h left right refl)
+
 -- one more fact that is passed, and is dropped or kept
 pub yielded_skip : (fs gs new : List Fact) (f : Fact) → Gives fs gs → new ≡ gs → Gives (fs ++ f ∷ []) new
 yielded_skip fs gs new f h now =

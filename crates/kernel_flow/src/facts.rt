@@ -4,7 +4,7 @@ ghost use Rattle.kernel_code.specs.Keeps.{Mentions};
 ghost use Rattle.kernel_flow.specs.Facts.{Gives, IsPlaceOf, Survives};
 ghost use Rattle.kernel_flow.specs.Steady.{IsReadOnly};
 
-use crate::exprs::is_steady;
+use crate::exprs::{bits_of, is_clear, is_steady};
 use crate::guesses::{Changes, is_likely};
 use crate::marks::mark_of;
 use kernel_code::KExpr;
@@ -21,17 +21,20 @@ pub(crate) struct Fact {
     pub(crate) right: KExpr,
 }
 
-/// A fact that many lists hold at once: it stands in memory once, with a mark of each expression, which tells it apart from most others.
+/// A fact that many lists hold at once: it stands in memory once. Beside it are a mark of each expression, which tells it apart from most
+/// others, and bits of the variables that it mentions.
 #[derive(Drop)]
 pub(crate) struct Shared {
     fact: Rc<Fact>,
     left: u64,
     right: u64,
+    bits: u64,
 }
 
 impl Model for Shared {
     ghost use Rattle.kernel_flow.specs.declared.facts.Fact.{Fact};
     ghost use Rattle.kernel_code.specs.contracts.syntax.KExpr as expr;
+    ghost use Rattle.kernel_flow.specs.Steady.{Covers};
     ghost use Rattle.std.specs.Coded.{codes};
 
     ghost Value = { Fact };
@@ -39,6 +42,8 @@ impl Model for Shared {
     ghost coded = { Prim.hlevel (codes, expr.the_row.coded) };
 
     ghost view = { λ s. s.fact.value };
+
+    ghost invariant = { λ s. Covers s.bits s.fact.value.left × Covers s.bits s.fact.value.right };
 }
 
 impl Shared {
@@ -48,8 +53,14 @@ impl Shared {
     {
         let left = mark_of(&fact.left);
         let right = mark_of(&fact.right);
+        let bits = bits_of(&fact.right, bits_of(&fact.left, 0));
         match Rc::new(alloc, fact) {
-            Ok(fact) => Ok(Shared { fact, left, right }),
+            Ok(fact) => Ok(Shared {
+                fact,
+                left,
+                right,
+                bits,
+            }),
             Err(_) => Err(AllocError),
         }
     }
@@ -70,6 +81,7 @@ impl Shared {
             fact,
             left: self.left,
             right: self.right,
+            bits: self.bits,
         })
     }
 
@@ -78,6 +90,17 @@ impl Shared {
         ensures { IsTrue result → self.now.left ≡ e.now }
     {
         self.left == mark && same_expr(&self.get().left, e)
+    }
+
+    /// Whether it mentions neither this variable nor an array that may be written.
+    fn is_kept(&self, x: u64) -> bool
+        ensures left { IsTrue result → Mentions (λ y. x ≢ y) IsReadOnly self.now.left }
+        ensures right { IsTrue result → Mentions (λ y. x ≢ y) IsReadOnly self.now.right }
+    {
+        if is_clear(self.bits, x) {
+            return true;
+        }
+        is_steady(&self.get().left, x) && is_steady(&self.get().right, x)
     }
 
     /// Whether both are one fact.
@@ -193,13 +216,16 @@ pub(crate) fn likely(
     Ok(some)
 }
 
-/// Whether a fact mentions neither this variable nor an array that may be written.
-fn is_kept(fact: &Shared, x: u64) -> bool
-    ensures left { IsTrue result → Mentions (λ y. x ≢ y) IsReadOnly fact.now.left }
-    ensures right { IsTrue result → Mentions (λ y. x ≢ y) IsReadOnly fact.now.right }
+/// Whether no fact mentions this variable or an array that may be written.
+fn all_kept(facts: &[Shared], x: u64) -> bool
+    ensures { IsTrue result → Survives x facts.now facts.now }
 {
-    let fact = fact.get();
-    is_steady(&fact.left, x) && is_steady(&fact.right, x)
+    for fact in facts {
+        if !fact.is_kept(x) {
+            return false;
+        }
+    }
+    true
 }
 
 /// The facts that don't mention a variable. Refused only for want of memory.
@@ -210,9 +236,12 @@ pub(crate) fn without(
 ) -> Result<Items<Shared>, AllocError>
     ensures { IfOk result (λ r. Survives x facts r) }
 {
+    if all_kept(facts.as_slice(), x) {
+        return Ok(facts);
+    }
     let mut kept = Items::new(alloc);
     for fact in facts.into_vec() {
-        if is_kept(&fact, x) {
+        if fact.is_kept(x) {
             kept.push(fact)?;
         } else {
             drop(fact);
