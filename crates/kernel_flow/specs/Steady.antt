@@ -20,10 +20,10 @@ AnyVariable y = Unit {0}
 pub record HasWords (s : State) : Type 0 where
   pub words : (xs : List ℕ) (i v : ℕ) → s.arrays Range ≡ Some xs → slice_get xs i ≡ Some v → v < 2 ^ 64
 
--- an expression mentions no variable whose bit is 0, each having the bit at its remainder, unless every bit is 1
+-- where the bit of a variable is 0, the one at its remainder by 64, an expression mentions neither it nor an array that may be written
 pub record Covers (bits : ℕ) (e : KExpr) : Type 0 where
   pub at : (x : ℕ) → bit_at bits (x % 64) ≡ 0 → Mentions (λ y. x ≢ y) IsReadOnly e
 
--- each bit that is 0 of the second is 0 of the first
+-- each bit that is 0 in the second is 0 in the first
 pub record IsWithin (bits more : ℕ) : Type 0 where
   pub at : (x : ℕ) → bit_at more (x % 64) ≡ 0 → bit_at bits (x % 64) ≡ 0

@@ -76,8 +76,8 @@ pub(crate) fn is_fixed(e: &KExpr) -> bool
     }
 }
 
-/// Bits among which are those of the variables that an expression mentions, beside bits that were noted; each variable has the bit at its
-/// remainder. If an array is mentioned that may be written it is every bit.
+/// The bits of the variables that an expression mentions, each at the variable's remainder by 64, beside bits that were noted; every bit,
+/// if it mentions an array that may be written.
 pub(crate) fn bits_of(e: &KExpr, noted: u64) -> u64
     ensures covers { Covers result e.now }
     ensures within { IsWithin noted result }
