@@ -14,6 +14,13 @@ use Rattle.kernel_flow.specs.declared.facts.Fact.{Fact}
 use Rattle.kernel_flow.specs.Facts.{Holds, AllHold, Known, Gives, Survives, AfterSet}
 use Rattle.kernel_flow.specs.Steady.{AnyVariable, IsReadOnly, HasWords}
 
+abbrev right_of : Fact → KExpr
+right_of f = f.right
+
+-- what a fact is written as, of one that is equal to it
+pub same_right : (f g : Fact) → f ≡ g → f.right ≡ g.right
+same_right f g is = ap right_of is
+
 -- facts one behind another
 pub both_hold : (fs gs : List Fact) (s : State) → AllHold fs s → AllHold gs s → AllHold (fs ++ gs) s
 both_hold [] gs s h g = g
@@ -98,6 +105,26 @@ survive_more x fs gs new f h left right now = record {
       let both = hold_apart fs (f ∷ []) s all in
       subst (λ xs. AllHold xs s') (sym now)
       (one_more gs f s' (h.at s s' vars arrays both.0) (survives_one x f s s' vars arrays left right both.1.0));
+}
+
+-- one more of the first facts, which are all kept
+pub survives_next : (x : ℕ) (fs : List Fact) (i : ℕ) (f : Fact) → i < length fs → f ≡ get_or fs i f → Survives x (take i fs) (take i fs)
+    → Mentions (λ y. x ≢ y) IsReadOnly f.left → Mentions (λ y. x ≢ y) IsReadOnly f.right
+    → Survives x (take (i + 1) fs) (take (i + 1) fs)
+survives_next x fs i f l is h left right =
+    subst (λ xs. Survives x xs xs) (sym (take_more fs i f l ∙ ap (λ g. take i fs ++ g ∷ []) (sym is)))
+    (survive_more x (take i fs) (take i fs) (take i fs ++ f ∷ []) f h left right refl)
+
+-- one more fact that is passed, and is dropped or kept
+pub yielded_skip : (fs gs new : List Fact) (f : Fact) → Gives fs gs → new ≡ gs → Gives (fs ++ f ∷ []) new
+yielded_skip fs gs new f h now =
+    record { at = λ s all. subst (λ xs. AllHold xs s) (sym now) (h.at s (hold_apart fs (f ∷ []) s all).0) }
+
+pub yielded_more : (fs gs new : List Fact) (f : Fact) → Gives fs gs → new ≡ gs ++ f ∷ [] → Gives (fs ++ f ∷ []) new
+yielded_more fs gs new f h now = record {
+  at = λ s all.
+      let both = hold_apart fs (f ∷ []) s all in
+      subst (λ xs. AllHold xs s) (sym now) (one_more gs f s (h.at s both.0) both.1.0);
 }
 
 pub gives_now : (fs gs new : List Fact) → Gives fs gs → new ≡ gs → Gives fs new

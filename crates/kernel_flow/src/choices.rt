@@ -4,18 +4,20 @@ ghost use Rattle.kernel_flow.specs.Facts.{Gives};
 ghost use Rattle.kernel_flow.specs.Choices.{Joins, Sides, Tells, WhereSame, is_value};
 
 use crate::exprs::is_fixed;
-use crate::facts::{Fact, common, place_among};
+use crate::facts::{Fact, Shared, add_fact, common, place_among};
+use crate::marks::mark_of;
 use kernel_code::{KExpr, Op, binary, copy_expr};
 use simplifier::{is_number, same_expr};
 use std::alloc::{AllocError, Global};
 use trees::Items;
 
 /// Whether it stands among facts that an expression's value is a number.
-fn is_told(facts: &[Fact], e: &KExpr, n: u64) -> bool
+fn is_told(facts: &[Shared], e: &KExpr, n: u64) -> bool
     ensures { IsTrue result → Gives facts.now (is_value e.now n ∷ []) }
 {
+    let mark = mark_of(e);
     for fact in facts {
-        if is_number(&fact.right, n) && same_expr(&fact.left, e) {
+        if fact.is_of(e, mark) && is_number(&fact.get().right, n) {
             return true;
         }
     }
@@ -23,13 +25,18 @@ fn is_told(facts: &[Fact], e: &KExpr, n: u64) -> bool
 }
 
 /// Adds that two expressions have one value, unless it may change as arrays are written.
-fn add_same(alloc: Global, facts: &mut Items<Fact>, a: &KExpr, b: &KExpr) -> Result<(), AllocError>
+fn add_same(
+    alloc: Global,
+    facts: &mut Items<Shared>,
+    a: &KExpr,
+    b: &KExpr,
+) -> Result<(), AllocError>
     ensures { OnOk result (WhereSame a.now b.now facts.old facts.new) }
 {
     if is_fixed(a) && is_fixed(b) {
         let left = copy_expr(alloc, a)?;
         let right = copy_expr(alloc, b)?;
-        return facts.push(Fact { left, right });
+        return add_fact(alloc, facts, left, right);
     }
     Ok(())
 }
@@ -53,7 +60,7 @@ fn is_and(op: Op) -> bool
 }
 
 /// Adds that the sides of an equality, which isn't 0, have one value.
-fn add_sides(alloc: Global, facts: &mut Items<Fact>, t: &KExpr) -> Result<(), AllocError>
+fn add_sides(alloc: Global, facts: &mut Items<Shared>, t: &KExpr) -> Result<(), AllocError>
     ensures { OnOk result (Sides t.now facts.old facts.new) }
 {
     match t {
@@ -65,7 +72,7 @@ fn add_sides(alloc: Global, facts: &mut Items<Fact>, t: &KExpr) -> Result<(), Al
 /// Adds what a fact that names a test says where the test's value is this number: the value of a flag, and what is known under the test.
 fn add_told(
     alloc: Global,
-    facts: &mut Items<Fact>,
+    facts: &mut Items<Shared>,
     fact: &Fact,
     test: &KExpr,
     n: u64,
@@ -76,23 +83,20 @@ fn add_told(
         return Ok(());
     }
     match &fact.left {
-        KExpr::Var(x) => facts.push(Fact {
-            left: KExpr::Var(*x),
-            right: KExpr::Num(n),
-        }),
+        KExpr::Var(x) => add_fact(alloc, facts, KExpr::Var(*x), KExpr::Num(n)),
         KExpr::Bin(op, _, t) if n == 1 && is_and(*op) => add_sides(alloc, facts, t.get()),
         _ => Ok(()),
     }
 }
 
 /// What facts say where it is known that a test's value is this number.
-fn told(alloc: Global, facts: &[Fact], test: &KExpr, n: u64) -> Result<Items<Fact>, AllocError>
+fn told(alloc: Global, facts: &[Shared], test: &KExpr, n: u64) -> Result<Items<Shared>, AllocError>
     requires { Gives facts.now (is_value test.now n ∷ []) }
     ensures { IfOk result (λ r. Gives facts.now r) }
 {
     let mut out = Items::new(alloc);
     for fact in facts {
-        add_told(alloc, &mut out, fact, test, n)?;
+        add_told(alloc, &mut out, fact.get(), test, n)?;
     }
     Ok(out)
 }
@@ -100,10 +104,10 @@ fn told(alloc: Global, facts: &[Fact], test: &KExpr, n: u64) -> Result<Items<Fac
 /// Facts, behind what they say of a test whose value is this number, if that is known.
 pub(crate) fn with_told(
     alloc: Global,
-    facts: Items<Fact>,
+    facts: Items<Shared>,
     test: &KExpr,
     n: u64,
-) -> Result<Items<Fact>, AllocError>
+) -> Result<Items<Shared>, AllocError>
     ensures { IfOk result (λ r. Gives facts r) }
 {
     if !is_told(facts.as_slice(), test, n) {
@@ -117,17 +121,17 @@ pub(crate) fn with_told(
 /// Adds that a variable is the test of a choice, if it is 0 where that is.
 fn add_flag(
     alloc: Global,
-    facts: &mut Items<Fact>,
+    facts: &mut Items<Shared>,
     e: &KExpr,
     test: &KExpr,
-    elsewhere: &[Fact],
+    elsewhere: &[Shared],
 ) -> Result<(), AllocError>
     ensures { OnOk result (Joins (is_value e.now 1) test.now elsewhere.now facts.old facts.new) }
 {
     if is_told(elsewhere, e, 0) {
         let left = copy_expr(alloc, e)?;
         let right = copy_expr(alloc, test)?;
-        return facts.push(Fact { left, right });
+        return add_fact(alloc, facts, left, right);
     }
     Ok(())
 }
@@ -135,10 +139,10 @@ fn add_flag(
 /// Adds that something is so wherever a test isn't 0.
 fn add_guarded(
     alloc: Global,
-    facts: &mut Items<Fact>,
+    facts: &mut Items<Shared>,
     e: &KExpr,
     test: &KExpr,
-    elsewhere: &[Fact],
+    elsewhere: &[Shared],
 ) -> Result<(), AllocError>
     ensures { OnOk result (Joins (is_value e.now 1) test.now elsewhere.now facts.old facts.new) }
 {
@@ -147,7 +151,7 @@ fn add_guarded(
         let guarded = copy_expr(alloc, e)?;
         let left = binary(alloc, Op::And, guard, guarded)?;
         let right = copy_expr(alloc, test)?;
-        return facts.push(Fact { left, right });
+        return add_fact(alloc, facts, left, right);
     }
     Ok(())
 }
@@ -155,10 +159,10 @@ fn add_guarded(
 /// Adds what a fact that holds where a test is 1 tells behind the choice.
 fn add_joined(
     alloc: Global,
-    facts: &mut Items<Fact>,
+    facts: &mut Items<Shared>,
     fact: &Fact,
     test: &KExpr,
-    elsewhere: &[Fact],
+    elsewhere: &[Shared],
 ) -> Result<(), AllocError>
     ensures { OnOk result (Joins fact.now test.now elsewhere.now facts.old facts.new) }
 {
@@ -177,9 +181,9 @@ fn add_joined(
 fn under_test(
     alloc: Global,
     test: &KExpr,
-    there: Items<Fact>,
-    elsewhere: &[Fact],
-) -> Result<Items<Fact>, AllocError>
+    there: Items<Shared>,
+    elsewhere: &[Shared],
+) -> Result<Items<Shared>, AllocError>
     ensures first { IfOk result (λ r. Gives (is_value test.now 1 ∷ there) r) }
     ensures second { IfOk result (λ r. Gives (is_value test.now 0 ∷ elsewhere.now) r) }
 {
@@ -190,7 +194,7 @@ fn under_test(
             out.push(fact)?;
             next = at + 1;
         } else {
-            add_joined(alloc, &mut out, &fact, test, elsewhere)?;
+            add_joined(alloc, &mut out, fact.get(), test, elsewhere)?;
             drop(fact);
         }
     }
@@ -201,9 +205,9 @@ fn under_test(
 pub(crate) fn behind_choice(
     alloc: Global,
     test: &KExpr,
-    there: Items<Fact>,
-    elsewhere: &[Fact],
-) -> Result<Items<Fact>, AllocError>
+    there: Items<Shared>,
+    elsewhere: &[Shared],
+) -> Result<Items<Shared>, AllocError>
     ensures first { IfOk result (λ r. Gives there r) }
     ensures second { IfOk result (λ r. Gives elsewhere.now r) }
 {
@@ -211,5 +215,5 @@ pub(crate) fn behind_choice(
         let known = under_test(alloc, test, there, elsewhere)?;
         return Ok(known);
     }
-    common(alloc, there.as_slice(), elsewhere)
+    common(alloc, there, elsewhere)
 }

@@ -1,8 +1,9 @@
 // Expressions: which keep their value while a variable or an array changes.
-ghost use Rattle.std.specs.Prelude.{◌≡◌, ◌≢◌, IsTrue};
+ghost use Rattle.std.specs.Prelude.{◌≡◌, ◌≢◌, ◌%◌, IsTrue};
+ghost use Rattle.std.specs.Int.{bit_at};
 ghost use Rattle.kernel_code.specs.Arrays.{may_write};
 ghost use Rattle.kernel_code.specs.Keeps.{Mentions};
-ghost use Rattle.kernel_flow.specs.Steady.{AnyVariable, IsReadOnly};
+ghost use Rattle.kernel_flow.specs.Steady.{AnyVariable, Covers, IsReadOnly, IsWithin};
 ghost use Rattle.simplifier.specs.Folded.{number_of};
 
 use kernel_code::{Arr, KExpr};
@@ -73,4 +74,36 @@ pub(crate) fn is_fixed(e: &KExpr) -> bool
         KExpr::Min(a, b) => is_fixed(a.get()) && is_fixed(b.get()),
         KExpr::Width(e) => is_fixed(e.get()),
     }
+}
+
+/// The bits of the variables that an expression mentions, each at the variable's remainder by 64, beside bits that were noted; every bit,
+/// if it mentions an array that may be written.
+pub(crate) fn bits_of(e: &KExpr, noted: u64) -> u64
+    ensures covers { Covers result e.now }
+    ensures within { IsWithin noted result }
+{
+    match e {
+        KExpr::Num(_) => noted,
+        KExpr::Var(x) => noted | (1 << (*x % 64)),
+        KExpr::At(array, i) if is_read_only(*array) => bits_of(i.get(), noted),
+        KExpr::At(_, _) => u64::MAX,
+        KExpr::Len(array) if is_read_only(*array) => noted,
+        KExpr::Len(_) => u64::MAX,
+        KExpr::Bin(_, a, b) => {
+            let first = bits_of(a.get(), noted);
+            bits_of(b.get(), first)
+        }
+        KExpr::Min(a, b) => {
+            let first = bits_of(a.get(), noted);
+            bits_of(b.get(), first)
+        }
+        KExpr::Width(e) => bits_of(e.get(), noted),
+    }
+}
+
+/// Whether the bit of a variable is 0.
+pub(crate) fn is_clear(bits: u64, x: u64) -> bool
+    ensures { IsTrue result → bit_at bits (x % 64) ≡ 0 }
+{
+    (bits >> (x % 64)) & 1 == 0
 }

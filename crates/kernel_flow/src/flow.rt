@@ -1,16 +1,17 @@
 // Statements written by what is known before them, and what is known behind them.
-ghost use Rattle.std.specs.Prelude.{◌≡◌, [], ◌∷◌, ◌++◌, IfOk};
+ghost use Rattle.std.specs.Prelude.{◌≡◌, [], ◌∷◌, ◌++◌, IfOk, OnOk};
 ghost use Rattle.kernel_flow.specs.Passing.{Passes, PassesTurn};
 ghost use Rattle.kernel_flow.specs.Facts.{Becomes, Gives, WhereNot, WhereZero};
 
 use crate::choices::{behind_choice, with_told};
 use crate::exprs::number;
-use crate::facts::{Fact, all_among, common, copy_facts, likely, without};
+use crate::facts::{Shared, all_among, common, copy_facts, likely, without};
 use crate::guesses::changes_of;
 use crate::learning::{after_set, where_not, where_zero};
 use crate::policy::{Policy, may_copy};
 use crate::rewriting::rewrite;
 use kernel_code::{Arr, KExpr, KStmt, LoopKind, ValueOp, one_statement};
+use simplifier::same_expr;
 use std::alloc::{AllocError, Global};
 use trees::Items;
 
@@ -18,7 +19,7 @@ use trees::Items;
 #[derive(Drop)]
 pub(crate) struct Passed {
     pub(crate) code: Items<KStmt>,
-    pub(crate) facts: Items<Fact>,
+    pub(crate) facts: Items<Shared>,
 }
 
 /// A loop's test, its body, and what is known behind the body.
@@ -26,14 +27,14 @@ pub(crate) struct Passed {
 struct Turned {
     test: KExpr,
     body: Items<KStmt>,
-    facts: Items<Fact>,
+    facts: Items<Shared>,
 }
 
 fn pass_set(
     alloc: Global,
     x: u64,
     e: &KExpr,
-    facts: Items<Fact>,
+    facts: Items<Shared>,
     policy: Policy<'_>,
 ) -> Result<Passed, AllocError>
     ensures { IfOk result (λ p. Passes facts (KStmt.Set x e.now ∷ []) p.code p.facts) }
@@ -51,7 +52,7 @@ fn pass_combine(
     op: ValueOp,
     e: &KExpr,
     f: &KExpr,
-    facts: Items<Fact>,
+    facts: Items<Shared>,
 ) -> Result<Passed, AllocError>
     ensures { IfOk result (λ p. Passes facts (KStmt.Combine x op e.now f.now ∷ []) p.code p.facts) }
 {
@@ -67,7 +68,7 @@ fn pass_put(
     array: Arr,
     i: &KExpr,
     e: &KExpr,
-    facts: Items<Fact>,
+    facts: Items<Shared>,
 ) -> Result<Passed, AllocError>
     ensures { IfOk result (λ p. Passes facts (KStmt.Put array i.now e.now ∷ []) p.code p.facts) }
 {
@@ -82,7 +83,7 @@ fn pass_sum(
     array: Arr,
     i: &KExpr,
     e: &KExpr,
-    facts: Items<Fact>,
+    facts: Items<Shared>,
 ) -> Result<Passed, AllocError>
     ensures { IfOk result (λ p. Passes facts (KStmt.AddTo array i.now e.now ∷ []) p.code p.facts) }
 {
@@ -92,7 +93,12 @@ fn pass_sum(
     Ok(Passed { code, facts })
 }
 
-fn pass_push(alloc: Global, array: Arr, e: &KExpr, facts: Items<Fact>) -> Result<Passed, AllocError>
+fn pass_push(
+    alloc: Global,
+    array: Arr,
+    e: &KExpr,
+    facts: Items<Shared>,
+) -> Result<Passed, AllocError>
     ensures { IfOk result (λ p. Passes facts (KStmt.Push array e.now ∷ []) p.code p.facts) }
 {
     let e = rewrite(alloc, facts.as_slice(), e)?;
@@ -105,7 +111,7 @@ fn pass_extend(
     array: Arr,
     i: &KExpr,
     e: &KExpr,
-    facts: Items<Fact>,
+    facts: Items<Shared>,
 ) -> Result<Passed, AllocError>
     ensures { IfOk result (λ p. Passes facts (KStmt.Extend array i.now e.now ∷ []) p.code p.facts) }
 {
@@ -115,7 +121,12 @@ fn pass_extend(
     Ok(Passed { code, facts })
 }
 
-fn pass_cut(alloc: Global, array: Arr, e: &KExpr, facts: Items<Fact>) -> Result<Passed, AllocError>
+fn pass_cut(
+    alloc: Global,
+    array: Arr,
+    e: &KExpr,
+    facts: Items<Shared>,
+) -> Result<Passed, AllocError>
     ensures { IfOk result (λ p. Passes facts (KStmt.Cut array e.now ∷ []) p.code p.facts) }
 {
     let e = rewrite(alloc, facts.as_slice(), e)?;
@@ -123,33 +134,63 @@ fn pass_cut(alloc: Global, array: Arr, e: &KExpr, facts: Items<Fact>) -> Result<
     Ok(Passed { code, facts })
 }
 
-fn pass_sort(alloc: Global, list: u64, facts: Items<Fact>) -> Result<Passed, AllocError>
+fn pass_sort(alloc: Global, list: u64, facts: Items<Shared>) -> Result<Passed, AllocError>
     ensures { IfOk result (λ p. Passes facts (KStmt.Sort list ∷ []) p.code p.facts) }
 {
     let code = one_statement(alloc, KStmt::Sort(list))?;
     Ok(Passed { code, facts })
 }
 
-fn pass_sort_sum(alloc: Global, workspace: u64, facts: Items<Fact>) -> Result<Passed, AllocError>
+fn pass_sort_sum(alloc: Global, workspace: u64, facts: Items<Shared>) -> Result<Passed, AllocError>
     ensures { IfOk result (λ p. Passes facts (KStmt.SortSum workspace ∷ []) p.code p.facts) }
 {
     let code = one_statement(alloc, KStmt::SortSum(workspace))?;
     Ok(Passed { code, facts })
 }
 
+/// Adds what a test tells whose value isn't 0, if that is new.
+fn where_not_if(
+    alloc: Global,
+    facts: &mut Items<Shared>,
+    test: &KExpr,
+    new: bool,
+) -> Result<(), AllocError>
+    ensures { OnOk result (WhereNot facts.old test.now facts.new) }
+{
+    if new {
+        return where_not(alloc, facts, test);
+    }
+    Ok(())
+}
+
+/// Adds what a test tells whose value is 0, if that is new.
+fn where_zero_if(
+    alloc: Global,
+    facts: &mut Items<Shared>,
+    test: &KExpr,
+    new: bool,
+) -> Result<(), AllocError>
+    ensures { OnOk result (WhereZero facts.old test.now facts.new) }
+{
+    if new {
+        return where_zero(alloc, facts, test);
+    }
+    Ok(())
+}
+
 /// What is known where a test isn't 0 that is written otherwise now.
 fn facts_where_not(
     alloc: Global,
-    facts: &[Fact],
+    facts: &[Shared],
     test: &KExpr,
     now: &KExpr,
-) -> Result<Items<Fact>, AllocError>
+) -> Result<Items<Shared>, AllocError>
     requires { Becomes facts.now test.now now.now }
     ensures { IfOk result (λ there. WhereNot facts.now test.now there) }
 {
     let mut there = copy_facts(alloc, facts)?;
     where_not(alloc, &mut there, test)?;
-    where_not(alloc, &mut there, now)?;
+    where_not_if(alloc, &mut there, now, !same_expr(test, now))?;
     let all = with_told(alloc, there, now, 1)?;
     Ok(all)
 }
@@ -157,16 +198,16 @@ fn facts_where_not(
 /// What is known where a test is 0 that is written otherwise now.
 fn facts_where_zero(
     alloc: Global,
-    facts: Items<Fact>,
+    facts: Items<Shared>,
     test: &KExpr,
     now: &KExpr,
-) -> Result<Items<Fact>, AllocError>
+) -> Result<Items<Shared>, AllocError>
     requires { Becomes facts test.now now.now }
     ensures { IfOk result (λ there. WhereZero facts test.now there) }
 {
     let mut there = facts;
     where_zero(alloc, &mut there, test)?;
-    where_zero(alloc, &mut there, now)?;
+    where_zero_if(alloc, &mut there, now, !same_expr(test, now))?;
     let all = with_told(alloc, there, now, 0)?;
     Ok(all)
 }
@@ -188,7 +229,7 @@ fn pass_turn(
     alloc: Global,
     body: &[KStmt],
     test: &KExpr,
-    facts: &[Fact],
+    facts: &[Shared],
     policy: Policy<'_>,
 ) -> Result<Turned, AllocError>
     ensures { IfOk result (λ t. PassesTurn facts.now test.now body.now t.test t.body t.facts) }
@@ -209,7 +250,7 @@ fn finished(
     kind: LoopKind,
     test: &KExpr,
     body: &[KStmt],
-    facts: Items<Fact>,
+    facts: Items<Shared>,
     turned: Turned,
 ) -> Result<Passed, AllocError>
     requires turn { PassesTurn facts test.now body.now turned.test turned.body turned.facts }
@@ -230,7 +271,7 @@ fn pass_loop(
     body: &[KStmt],
     kind: LoopKind,
     test: &KExpr,
-    facts: Items<Fact>,
+    facts: Items<Shared>,
     policy: Policy<'_>,
 ) -> Result<Passed, AllocError>
     ensures { IfOk result (λ p. Passes facts (KStmt.While kind test.now body.now ∷ []) p.code p.facts) }
@@ -242,7 +283,7 @@ fn pass_loop(
         if all_among(kept.as_slice(), turned.facts.as_slice()) {
             return finished(alloc, kind, test, body, kept, turned);
         }
-        kept = common(alloc, kept.as_slice(), turned.facts.as_slice())?;
+        kept = common(alloc, kept, turned.facts.as_slice())?;
     }
     let turned = pass_turn(alloc, body, test, &[], policy)?;
     finished(alloc, kind, test, body, Items::new(alloc), turned)
@@ -253,7 +294,7 @@ fn pass_loop(
 fn pass_statement(
     alloc: Global,
     s: &KStmt,
-    facts: Items<Fact>,
+    facts: Items<Shared>,
     policy: Policy<'_>,
 ) -> Result<Passed, AllocError>
     ensures { IfOk result (λ p. Passes facts (s.now ∷ []) p.code p.facts) }
@@ -298,7 +339,7 @@ fn pass_statement(
 pub(crate) fn pass_code(
     alloc: Global,
     code: &[KStmt],
-    facts: Items<Fact>,
+    facts: Items<Shared>,
     policy: Policy<'_>,
 ) -> Result<Passed, AllocError>
     ensures { IfOk result (λ p. Passes facts code.now p.code p.facts) }

@@ -4,11 +4,54 @@ use kernel_code::{KExpr, KStmt, Op};
 use std::alloc::{AllocError, Global};
 use trees::Items;
 
+/// The variables below this number are told apart by place; others are looked for.
+const MOST: u64 = 1 << 16;
+
+/// Some variables.
+#[derive(Drop)]
+struct Variables {
+    places: Items<bool>,
+    others: Items<u64>,
+}
+
+impl Variables {
+    fn new(alloc: Global) -> Variables {
+        Variables {
+            places: Items::new(alloc),
+            others: Items::new(alloc),
+        }
+    }
+
+    fn has(&self, x: u64) -> bool {
+        if x < MOST {
+            return self.places.get(x as usize).copied().unwrap_or(false);
+        }
+        is_among(self.others.as_slice(), x)
+    }
+
+    fn add(&mut self, x: u64) -> Result<(), AllocError> {
+        if self.has(x) {
+            return Ok(());
+        }
+        if x >= MOST {
+            return self.others.push(x);
+        }
+        let at = x as usize;
+        for _more in self.places.len()..at + 1 {
+            self.places.push(false)?;
+        }
+        if at < self.places.len() {
+            self.places.set(at, true);
+        }
+        Ok(())
+    }
+}
+
 /// What a loop's body does with variables: those that it sets, those that it sets to what may be no word, and the last one set.
 #[derive(Drop)]
 pub(crate) struct Changes {
-    set: Items<u64>,
-    loaded: Items<u64>,
+    set: Variables,
+    loaded: Variables,
     last: Option<u64>,
 }
 
@@ -19,13 +62,6 @@ fn is_among(variables: &[u64], x: u64) -> bool {
         }
     }
     false
-}
-
-fn add(variables: &mut Items<u64>, x: u64) -> Result<(), AllocError> {
-    if is_among(variables.as_slice(), x) {
-        return Ok(());
-    }
-    variables.push(x)
 }
 
 /// Whether an expression is a word by its form.
@@ -41,15 +77,15 @@ fn is_counted(e: &KExpr) -> bool {
 fn add_change(s: &KStmt, changes: &mut Changes) -> Result<(), AllocError> {
     match s {
         KStmt::Set(x, e) => {
-            add(&mut changes.set, *x)?;
+            changes.set.add(*x)?;
             if !is_counted(e) {
-                add(&mut changes.loaded, *x)?;
+                changes.loaded.add(*x)?;
             }
             Ok(())
         }
         KStmt::Combine(x, _, _, _) => {
-            add(&mut changes.set, *x)?;
-            add(&mut changes.loaded, *x)
+            changes.set.add(*x)?;
+            changes.loaded.add(*x)
         }
         KStmt::If(_, first, second) => {
             add_changes(first.as_slice(), changes)?;
@@ -71,8 +107,8 @@ fn add_changes(code: &[KStmt], changes: &mut Changes) -> Result<(), AllocError> 
 /// What a loop's body does with variables. Refused only for want of memory.
 pub(crate) fn changes_of(alloc: Global, body: &[KStmt]) -> Result<Changes, AllocError> {
     let mut changes = Changes {
-        set: Items::new(alloc),
-        loaded: Items::new(alloc),
+        set: Variables::new(alloc),
+        loaded: Variables::new(alloc),
         last: None,
     };
     add_changes(body, &mut changes)?;
@@ -82,10 +118,10 @@ pub(crate) fn changes_of(alloc: Global, body: &[KStmt]) -> Result<Changes, Alloc
     Ok(changes)
 }
 
-fn mentions_set(e: &KExpr, set: &[u64]) -> bool {
+fn mentions_set(e: &KExpr, set: &Variables) -> bool {
     match e {
         KExpr::Num(_) => false,
-        KExpr::Var(x) => is_among(set, *x),
+        KExpr::Var(x) => set.has(*x),
         KExpr::At(_, i) => mentions_set(i.get(), set),
         KExpr::Len(_) => false,
         KExpr::Bin(_, a, b) => mentions_set(a.get(), set) || mentions_set(b.get(), set),
@@ -128,7 +164,7 @@ fn is_of_words(fact: &Fact, changes: &Changes) -> bool {
     match &fact.left {
         KExpr::Min(a, _) => match a.get() {
             KExpr::Var(x) => match &fact.right {
-                KExpr::Var(y) => *x == *y && !is_among(changes.loaded.as_slice(), *x),
+                KExpr::Var(y) => *x == *y && !changes.loaded.has(*x),
                 _ => false,
             },
             _ => false,
@@ -139,9 +175,7 @@ fn is_of_words(fact: &Fact, changes: &Changes) -> bool {
 
 /// Whether the turns of a loop may keep a fact: it mentions nothing that they set, or says what they seem to leave.
 pub(crate) fn is_likely(fact: &Fact, changes: &Changes) -> bool {
-    if !mentions_set(&fact.left, changes.set.as_slice())
-        && !mentions_set(&fact.right, changes.set.as_slice())
-    {
+    if !mentions_set(&fact.left, &changes.set) && !mentions_set(&fact.right, &changes.set) {
         return true;
     }
     is_at_the_end(fact) || is_said_last(fact, changes) || is_of_words(fact, changes)

@@ -4,7 +4,8 @@ ghost use Rattle.kernel_flow.specs.Facts.{AfterSet, Becomes, BelowLast, BelowLas
 ghost use Rattle.kernel_flow.specs.Facts.{LessThanWord, WhereNot, WhereZero, gives_word, is_test};
 
 use crate::exprs::{is_fixed, is_range, is_steady, number};
-use crate::facts::{Fact, without};
+use crate::facts::{Shared, add_fact, without};
+use crate::marks::mark_of;
 use crate::policy::copies_temporary;
 use kernel_code::{KExpr, Op, binary, copy_expr};
 use simplifier::same_expr;
@@ -12,15 +13,12 @@ use std::alloc::{AllocError, Global};
 use trees::{Boxed, Items};
 
 /// Adds that a variable has the value of an expression, unless that changes with it.
-fn add_copy(alloc: Global, facts: &mut Items<Fact>, x: u64, e: &KExpr) -> Result<(), AllocError>
+fn add_copy(alloc: Global, facts: &mut Items<Shared>, x: u64, e: &KExpr) -> Result<(), AllocError>
     ensures { OnOk result (AfterSet facts.old x e.now facts.new) }
 {
     if is_steady(e, x) {
         let right = copy_expr(alloc, e)?;
-        return facts.push(Fact {
-            left: KExpr::Var(x),
-            right,
-        });
+        return add_fact(alloc, facts, KExpr::Var(x), right);
     }
     Ok(())
 }
@@ -53,12 +51,13 @@ fn gives_word(op: Op) -> bool
 }
 
 /// Whether it stands among facts that the least of an expression and the last word is the expression.
-fn stands_as_word(facts: &[Fact], least: &KExpr, e: &KExpr) -> bool
+fn stands_as_word(facts: &[Shared], least: &KExpr, e: &KExpr) -> bool
     requires { least.now ≡ KExpr.Min e.now (KExpr.Num 18446744073709551615) }
     ensures { IsTrue result → IsWord facts.now e.now }
 {
+    let mark = mark_of(least);
     for fact in facts {
-        if same_expr(&fact.left, least) && same_expr(&fact.right, e) {
+        if fact.is_of(least, mark) && same_expr(&fact.get().right, e) {
             return true;
         }
     }
@@ -66,7 +65,7 @@ fn stands_as_word(facts: &[Fact], least: &KExpr, e: &KExpr) -> bool
 }
 
 /// Whether a variable's value is known to be a word.
-fn is_word_variable(alloc: Global, facts: &[Fact], e: &KExpr) -> Result<bool, AllocError>
+fn is_word_variable(alloc: Global, facts: &[Shared], e: &KExpr) -> Result<bool, AllocError>
     ensures { IfOk result (λ known. IsTrue known → IsWord facts.now e.now) }
 {
     let least = least_of(alloc, e)?;
@@ -74,7 +73,7 @@ fn is_word_variable(alloc: Global, facts: &[Fact], e: &KExpr) -> Result<bool, Al
 }
 
 /// Whether it is known that an expression's value is a word, if it isn't the least of two.
-fn is_plain_word(alloc: Global, facts: &[Fact], e: &KExpr) -> Result<bool, AllocError>
+fn is_plain_word(alloc: Global, facts: &[Shared], e: &KExpr) -> Result<bool, AllocError>
     ensures { IfOk result (λ known. IsTrue known → IsWord facts.now e.now) }
 {
     match e {
@@ -89,7 +88,7 @@ fn is_plain_word(alloc: Global, facts: &[Fact], e: &KExpr) -> Result<bool, Alloc
 }
 
 /// Whether it is known that an expression's value is a word.
-pub(crate) fn is_word(alloc: Global, facts: &[Fact], e: &KExpr) -> Result<bool, AllocError>
+pub(crate) fn is_word(alloc: Global, facts: &[Shared], e: &KExpr) -> Result<bool, AllocError>
     ensures { IfOk result (λ known. IsTrue known → IsWord facts.now e.now) }
 {
     match e {
@@ -99,39 +98,38 @@ pub(crate) fn is_word(alloc: Global, facts: &[Fact], e: &KExpr) -> Result<bool, 
 }
 
 /// Adds that a variable's value is a word.
-fn add_word(alloc: Global, facts: &mut Items<Fact>, x: u64) -> Result<(), AllocError>
+fn add_word(alloc: Global, facts: &mut Items<Shared>, x: u64) -> Result<(), AllocError>
     ensures { OnOk result (Given facts.old (KExpr.Var x) facts.new) }
 {
     let e = KExpr::Var(x);
     let left = least_of(alloc, &e)?;
-    facts.push(Fact { left, right: e })
+    add_fact(alloc, facts, left, e)
 }
 
 /// Adds that the variable whose value another was given has that one's value.
-fn add_back(alloc: Global, facts: &mut Items<Fact>, x: u64, e: &KExpr) -> Result<(), AllocError>
+fn add_back(alloc: Global, facts: &mut Items<Shared>, x: u64, e: &KExpr) -> Result<(), AllocError>
     ensures { OnOk result (AfterSet facts.old x e.now facts.new) }
 {
     if is_steady(e, x) {
         let left = copy_expr(alloc, e)?;
-        return facts.push(Fact {
-            left,
-            right: KExpr::Var(x),
-        });
+        return add_fact(alloc, facts, left, KExpr::Var(x));
     }
     Ok(())
 }
 
 /// Adds that a variable equals an expression: so it is known that both have a value.
-fn add_equality(alloc: Global, facts: &mut Items<Fact>, x: u64, e: &KExpr) -> Result<(), AllocError>
+fn add_equality(
+    alloc: Global,
+    facts: &mut Items<Shared>,
+    x: u64,
+    e: &KExpr,
+) -> Result<(), AllocError>
     ensures { OnOk result (AfterSet facts.old x e.now facts.new) }
 {
     if is_steady(e, x) && number(e).is_none() {
         let right = copy_expr(alloc, e)?;
         let left = binary(alloc, Op::Equal, KExpr::Var(x), right)?;
-        return facts.push(Fact {
-            left,
-            right: KExpr::Num(1),
-        });
+        return add_fact(alloc, facts, left, KExpr::Num(1));
     }
     Ok(())
 }
@@ -139,7 +137,7 @@ fn add_equality(alloc: Global, facts: &mut Items<Fact>, x: u64, e: &KExpr) -> Re
 /// Adds that a variable has the value of an expression, if it is to be copied.
 fn add_copy_if(
     alloc: Global,
-    facts: &mut Items<Fact>,
+    facts: &mut Items<Shared>,
     x: u64,
     e: &KExpr,
     copies: bool,
@@ -155,7 +153,7 @@ fn add_copy_if(
 /// Adds that a variable equals an expression, if that is to be noted.
 fn add_equality_if(
     alloc: Global,
-    facts: &mut Items<Fact>,
+    facts: &mut Items<Shared>,
     x: u64,
     e: &KExpr,
     noted: bool,
@@ -171,7 +169,7 @@ fn add_equality_if(
 /// Adds that a variable has the value of another that it was given.
 fn add_names(
     alloc: Global,
-    facts: &mut Items<Fact>,
+    facts: &mut Items<Shared>,
     x: u64,
     e: &KExpr,
     back: bool,
@@ -194,7 +192,7 @@ fn is_variable(e: &KExpr) -> bool {
 
 fn add_names_if(
     alloc: Global,
-    facts: &mut Items<Fact>,
+    facts: &mut Items<Shared>,
     x: u64,
     e: &KExpr,
     names: bool,
@@ -209,7 +207,12 @@ fn add_names_if(
 }
 
 /// Adds that a variable's value is a word, if it is.
-fn add_word_if(alloc: Global, facts: &mut Items<Fact>, x: u64, word: bool) -> Result<(), AllocError>
+fn add_word_if(
+    alloc: Global,
+    facts: &mut Items<Shared>,
+    x: u64,
+    word: bool,
+) -> Result<(), AllocError>
     ensures { OnOk result (GivenIf word facts.old (KExpr.Var x) facts.new) }
 {
     if word {
@@ -222,13 +225,13 @@ fn add_word_if(alloc: Global, facts: &mut Items<Fact>, x: u64, word: bool) -> Re
 /// copied, and if its equality is to be noted.
 pub(crate) fn after_set(
     alloc: Global,
-    facts: Items<Fact>,
+    facts: Items<Shared>,
     x: u64,
     e: &KExpr,
     now: &KExpr,
     copies: bool,
     noted: bool,
-) -> Result<Items<Fact>, AllocError>
+) -> Result<Items<Shared>, AllocError>
     requires { Becomes facts e.now now.now }
     ensures { IfOk result (λ after. Learns facts x e.now after) }
 {
@@ -244,21 +247,18 @@ pub(crate) fn after_set(
 }
 
 /// Adds that an expression's value is a number, unless it may change as arrays are written.
-fn add_number(alloc: Global, facts: &mut Items<Fact>, e: &KExpr, n: u64) -> Result<(), AllocError>
+fn add_number(alloc: Global, facts: &mut Items<Shared>, e: &KExpr, n: u64) -> Result<(), AllocError>
     ensures { OnOk result (IsNumber facts.old e.now n facts.new) }
 {
     if is_fixed(e) {
         let left = copy_expr(alloc, e)?;
-        return facts.push(Fact {
-            left,
-            right: KExpr::Num(n),
-        });
+        return add_fact(alloc, facts, left, KExpr::Num(n));
     }
     Ok(())
 }
 
 /// Adds that an expression's value isn't the last word, which it is below.
-fn add_last_apart(alloc: Global, facts: &mut Items<Fact>, e: &KExpr) -> Result<(), AllocError>
+fn add_last_apart(alloc: Global, facts: &mut Items<Shared>, e: &KExpr) -> Result<(), AllocError>
     ensures { OnOk result (BelowLast facts.old e.now facts.new) }
 {
     let again = copy_expr(alloc, e)?;
@@ -270,7 +270,7 @@ fn add_last_apart(alloc: Global, facts: &mut Items<Fact>, e: &KExpr) -> Result<(
 }
 
 /// Adds that the value of a variable is a word, which is below the last word.
-fn add_word_of(alloc: Global, facts: &mut Items<Fact>, e: &KExpr) -> Result<(), AllocError>
+fn add_word_of(alloc: Global, facts: &mut Items<Shared>, e: &KExpr) -> Result<(), AllocError>
     ensures { OnOk result (BelowLast facts.old e.now facts.new) }
 {
     match e {
@@ -280,7 +280,7 @@ fn add_word_of(alloc: Global, facts: &mut Items<Fact>, e: &KExpr) -> Result<(), 
 }
 
 /// Adds what is known of an expression whose value is below the last word.
-fn add_below_last(alloc: Global, facts: &mut Items<Fact>, e: &KExpr) -> Result<(), AllocError>
+fn add_below_last(alloc: Global, facts: &mut Items<Shared>, e: &KExpr) -> Result<(), AllocError>
     ensures { OnOk result (BelowLast facts.old e.now facts.new) }
 {
     add_word_of(alloc, facts, e)?;
@@ -289,7 +289,7 @@ fn add_below_last(alloc: Global, facts: &mut Items<Fact>, e: &KExpr) -> Result<(
 
 fn add_below_last_if(
     alloc: Global,
-    facts: &mut Items<Fact>,
+    facts: &mut Items<Shared>,
     e: &KExpr,
     below: bool,
 ) -> Result<(), AllocError>
@@ -302,7 +302,7 @@ fn add_below_last_if(
 }
 
 /// Whether an operator says that its first operand is below a word.
-fn is_below_word(alloc: Global, facts: &[Fact], op: Op, b: &KExpr) -> Result<bool, AllocError>
+fn is_below_word(alloc: Global, facts: &[Shared], op: Op, b: &KExpr) -> Result<bool, AllocError>
     ensures { IfOk result (λ below. IsTrue below → LessThanWord facts.now op b.now) }
 {
     match op {
@@ -330,7 +330,7 @@ fn is_test(op: Op) -> bool
 
 fn add_one_if(
     alloc: Global,
-    facts: &mut Items<Fact>,
+    facts: &mut Items<Shared>,
     test: &KExpr,
     one: bool,
 ) -> Result<(), AllocError>
@@ -345,7 +345,7 @@ fn add_one_if(
 /// Adds what an operator tells whose value isn't 0.
 fn where_operator(
     alloc: Global,
-    facts: &mut Items<Fact>,
+    facts: &mut Items<Shared>,
     test: &KExpr,
     op: Op,
     a: &KExpr,
@@ -363,7 +363,7 @@ fn where_operator(
 /// Adds what a test tells whose value is 0.
 pub(crate) fn where_zero(
     alloc: Global,
-    facts: &mut Items<Fact>,
+    facts: &mut Items<Shared>,
     test: &KExpr,
 ) -> Result<(), AllocError>
     ensures { OnOk result (WhereZero facts.old test.now facts.new) }
@@ -374,7 +374,7 @@ pub(crate) fn where_zero(
 /// Adds what a test tells whose value isn't 0.
 pub(crate) fn where_not(
     alloc: Global,
-    facts: &mut Items<Fact>,
+    facts: &mut Items<Shared>,
     test: &KExpr,
 ) -> Result<(), AllocError>
     ensures { OnOk result (WhereNot facts.old test.now facts.new) }

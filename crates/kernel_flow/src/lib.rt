@@ -9,6 +9,7 @@ mod flow;
 mod guesses;
 mod kernels;
 mod learning;
+mod marks;
 mod policy;
 mod rewriting;
 

@@ -1,12 +1,7 @@
-use Rattle.std.specs.Prelude.{IfOk, [], ◌∷◌}
-use Rattle.std.proofs.Common.{subst}
+use Rattle.std.specs.Prelude.{[], ◌∷◌}
 use Rattle.kernel_flow.specs.Choices.{is_value}
-use Rattle.kernel_flow.specs.Facts.{Gives}
 use Rattle.kernel_flow.proofs.ChoiceLemmas.{gives_of, gives_with}
 use Rattle.kernel_flow.proofs.choices.behind_choice.Goals as goal
-
-pub returns-clause-first : goal.returns-clause-first
-returns-clause-first c = subst (λ fs. IfOk c.common.result (Gives fs)) c.as_slice-2.ensures c.common.ensures.first
 
 pub returns-then-is_told-2-clause-first : goal.returns-then-is_told-2-clause-first
 returns-then-is_told-2-clause-first c =

@@ -1,4 +1,5 @@
-use Rattle.kernel_flow.specs.Choices.{is_value}
+use Rattle.std.proofs.Common.{subst}
+use Rattle.kernel_flow.specs.Choices.{Joins, is_value}
 use Rattle.kernel_flow.proofs.ChoiceLemmas.{yield_pushed, yield_joined, other_pushed, other_joined}
 use Rattle.kernel_flow.proofs.choices.under_test.Goals as goal
 
@@ -11,9 +12,13 @@ loop-fact-preserved-in-Some-place_among c = record {
 }
 
 pub loop-fact-preserved : goal.loop-fact-preserved
-loop-fact-preserved c = record {
-  first = yield_joined c.args.test.now c.loop-fact.yielded c.loop-fact.out c.add_joined.new.facts c.args.elsewhere.now c.in-Some.fact
-      c.loop-fact.invariant.first c.in_ok-add_joined.ensures;
-  second = other_joined c.args.test.now c.args.elsewhere.now c.loop-fact.out c.add_joined.new.facts c.in-Some.fact
-      c.loop-fact.invariant.second c.in_ok-add_joined.ensures;
-}
+loop-fact-preserved c =
+    let fact = c.in-Some.fact in
+    let others = c.args.elsewhere.now in
+    let joined = subst (λ f. Joins f c.args.test.now others c.loop-fact.out c.add_joined.new.facts) c.get.ensures
+    c.in_ok-add_joined.ensures in
+    record {
+      first = yield_joined c.args.test.now c.loop-fact.yielded c.loop-fact.out c.add_joined.new.facts others fact
+          c.loop-fact.invariant.first joined;
+      second = other_joined c.args.test.now others c.loop-fact.out c.add_joined.new.facts fact c.loop-fact.invariant.second joined;
+    }
