@@ -119,7 +119,8 @@ module _ (a : Arithmetic) (n : ℕ) (first second third : Entries) (store : Stor
       outcome_is a (length store.format) kernel runs.given (AreFewTurns workload_statement workload_formats order store)
       (Finished runs.has_run.arrays (count_of turns))
       (compiled.few store for.is_store runs.given runs.is_given) (λ none. none) runs.has_run.ends finished in
-      let merges : turns.merge ≤ statement_cost workload_statement workload_formats order stored (slice_index store.ranges) = within.merges in
+      let merges : turns.merge ≤ statement_cost workload_statement workload_formats order stored (slice_index store.ranges) =
+      within.merges in
       let cost = cost_few order is in
       omega (arith, merges, cost)
     where

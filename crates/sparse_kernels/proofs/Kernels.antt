@@ -269,7 +269,8 @@ module _ (a : Arithmetic) (laws : Laws a) (s : Statement) (formats : List (List 
             × sink.holds k a (left_ranges s store) ([] ++ rows) u → Holds rows most u
         pushed u p =
             still_pushed a.zero (letters_of store.format) (in_level_order store.format store.ranges) k.number k.keys g first past
-            (λ i. list_apart g first past (ListPositions g) apart refl i) [] rows no_turns most most (workspace_sink.mine k) pushes.free t u empty p.0 (λ j. omega arith) p.1.0
+            (λ i. list_apart g first past (ListPositions g) apart refl i) [] rows no_turns most most (workspace_sink.mine k)
+            pushes.free t u empty p.0 (λ j. omega arith) p.1.0
 
         passed : (turns : LoopKind → ℕ) (b : Arr) (count : ℕ) → PassesPairs k.number rows b count → MayBe turns b count
         passed turns b count p =

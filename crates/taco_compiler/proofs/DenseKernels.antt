@@ -106,8 +106,8 @@ module _ (a : Arithmetic) (laws : Laws a) (s : Statement) (formats : List (List 
       free = free;
       most = λ store. e.most (operands_in s store) (slice_index store.ranges) start;
       adds = λ setting same store d r st t has.
-          e.adds setting same laws 0 (omega arith) lists_left [] (λ j. 0) (operands_in s store) (slice_index store.ranges) start (left_ranges s store)
-          [] st l.placed bound_there (taken store d r) (record {
+          e.adds setting same laws 0 (omega arith) lists_left [] (λ j. 0) (operands_in s store) (slice_index store.ranges) start
+          (left_ranges s store) [] st l.placed bound_there (taken store d r) (record {
             mine_below = t.none;
             from = t.from;
             kept = λ b of. (t.kept b of, operand_apart 0 emitted.lists b of);
@@ -120,8 +120,8 @@ module _ (a : Arithmetic) (laws : Laws a) (s : Statement) (formats : List (List 
     }
 
     right_kernel : IsRightKernel a s formats kernel
-    right_kernel = dense_kernels_are_right a laws s formats f c in_order loops l.rows k modes 0 places at top code tops 0 emitted.lists from_top kernel few_lists
-        body
+    right_kernel = dense_kernels_are_right a laws s formats f c in_order loops l.rows k modes 0 places at top code tops 0 emitted.lists from_top
+        kernel few_lists body
 
     -- the turns of a run
     module _ (store : Store) (is : IsStoreOf s formats store) (arrays : Arrays) (given : IsGiven a.zero store arrays) where

@@ -143,8 +143,8 @@ module _ (a : Arithmetic) (laws : Laws a) (s : Statement) (formats : List (List 
       free = free;
       most = λ store. e.most (operands_in s store) (slice_index store.ranges) start;
       pushes = λ setting same store r st t has.
-          e.adds setting same laws 0 (omega arith) lists_left [] (λ j. 0) (operands_in s store) (slice_index store.ranges) start (left_ranges s store)
-          [] st l.placed bound_there (taken store r) (record {
+          e.adds setting same laws 0 (omega arith) lists_left [] (λ j. 0) (operands_in s store) (slice_index store.ranges) start
+          (left_ranges s store) [] st l.placed bound_there (taken store r) (record {
             mine_below = t.none;
             from = t.from;
             kept = λ b of. (t.kept b of, operand_apart 1 emitted.lists b of);
