@@ -84,7 +84,7 @@ module _ (a : Arithmetic) (laws : Laws a) (s : Statement) (formats : List (List 
       let ranges = slice_index store.ranges in
       subst (λ held. slots (layout_of s formats) held ranges (level_slots s formats widths) loops start
       ≤ statement_slots s formats order stored widths ranges) (sym same_stored)
-      (loops_gather_no_more s formats c in_order shared loops l.shape l.placed l.found l.needed stored widths ranges)
+      (loops_gather_no_more s formats c in_order shared loops l.shape l.placed l.found l.needed stored ranges widths)
 
   -- so are turns that are no more than those of the loops' code
   pub within_cost : (most : LoopKind → ℕ) → AreFew s formats loops (operands_in s store) (slice_index store.ranges) start most

@@ -5,7 +5,7 @@ use Rattle.std.specs.Prelude.{slice_index, true}
 use Rattle.std.proofs.Common.{◌∙◌, sym, ap, subst, arith}
 use Rattle.std.proofs.lemmas.List.{length-map}
 use Rattle.numbers.specs.Arithmetic.{Arithmetic, Laws}
-use Rattle.kernel_code.specs.declared.syntax.Arr.TheVariants.{Range, Values, Dimension, Ends, Coordinates, Width, Key, Sums}
+use Rattle.kernel_code.specs.declared.syntax.Arr.TheVariants.{Range, Values, Dimension, Ends as EndsOf, Coordinates, Width, Key, Sums}
 use Rattle.kernel_code.specs.declared.syntax.Arr.TheVariants.{ListCoordinates, ListPositions}
 use Rattle.kernel_code.specs.declared.syntax.Kernel.{Kernel}
 use Rattle.kernel_code.specs.declared.syntax.KStmt.{KStmt}
@@ -122,7 +122,7 @@ module _ (a : Arithmetic) (laws : Laws a) (s : Statement) (formats : List (List 
     lists_left Range h = absurd (cc h)
     lists_left (Values n) h = absurd (cc h)
     lists_left (Dimension n l) h = absurd (cc h)
-    lists_left (Ends n l) h = absurd (cc h)
+    lists_left (EndsOf n l) h = absurd (cc h)
     lists_left (Coordinates n l) h = absurd (cc h)
     lists_left (Width n l) h = absurd (cc h)
     lists_left (Key n l) h = absurd (cc h)
