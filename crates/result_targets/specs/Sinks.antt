@@ -19,8 +19,8 @@ pub record Sink (K : Type 0) : Type 1 where
   pub kept : K → Arr → Type 0
   -- how many coordinates a row has
   pub keys : K → ℕ
-  -- the rows that it may be given
-  pub takes : K → List ℕ → Entry → Type 0
+  -- the row that it may be given behind those that it holds
+  pub takes : K → List ℕ → List Entry → Entry → Type 0
   -- it holds these rows, as far as a sink tells: one that adds the values at equal coordinates does so by this arithmetic
   pub holds : K → Arithmetic → List ℕ → List Entry → State → Type 0
   -- the growth that may be refused where it is to hold these rows: of an array, to a count that is told
@@ -28,7 +28,8 @@ pub record Sink (K : Type 0) : Type 1 where
 
 pub record SinkLaws {K : Type 0} (sink : Sink K) : Type 0 where
   -- a row that may be given has so many coordinates
-  pub long : (k : K) (ranges : List ℕ) (row : Entry) → sink.takes k ranges row → length row.coords ≡ sink.keys k
+  pub long : (k : K) (ranges : List ℕ) (rows : List Entry) (row : Entry) → sink.takes k ranges rows row
+      → length row.coords ≡ sink.keys k
   -- what it holds stays while its variables and the arrays do, whatever rows scratch lists have
   pub same : (k : K) (a : Arithmetic) (ranges : List ℕ) (rows : List Entry) (s t : State)
       → ((y : ℕ) → sink.mine k y → t.vars y ≡ s.vars y) → SameButLists s t
@@ -36,6 +37,11 @@ pub record SinkLaws {K : Type 0} (sink : Sink K) : Type 0 where
   -- more rows are refused no less
   pub more : (k : K) (rows others : List Entry) (b : Arr) (count : ℕ) → sink.refused k rows b count
       → sink.refused k (rows ++ others) b count
+
+-- each of these rows may be given in its turn, behind some that are held
+abbrev pub TakesAll : {K : Type 0} → Sink K → K → List ℕ → List Entry → List Entry → Type 0
+TakesAll sink k ranges before [] = Unit {0}
+TakesAll sink k ranges before (row ∷ rows) = sink.takes k ranges before row × TakesAll sink k ranges (before ++ row ∷ []) rows
 
 -- the code adds rows to those that the sink holds, and leaves all else below free, within so many turns of each kind; or it is
 -- refused a growth, as the sink may be
@@ -57,6 +63,6 @@ VarsAre (y ∷ ys) (x ∷ xs) s = (s.vars y ≡ Some x) × VarsAre ys xs s
 abbrev pub AddsTo : {K : Type 0} → Sink K → K → List ℕ → ℕ → ℕ → List KStmt → Type 0
 AddsTo sink k keys value free code =
     (c : Setting) → Laws c.arithmetic → ((y : ℕ) → sink.mine k y → y < free)
-    → (ranges : List ℕ) (rows : List Entry) (row : Entry) → sink.takes k ranges row
+    → (ranges : List ℕ) (rows : List Entry) (row : Entry) → sink.takes k ranges rows row
     → (s : State) → VarsAre keys row.coords s → s.vars value ≡ Some row.value → sink.holds k c.arithmetic ranges rows s
     → Adds sink k c ranges code free no_turns rows (row ∷ []) s

@@ -30,7 +30,7 @@ use Rattle.lowering.specs.Lowered.{IsInOrder}
 use Rattle.lowering.specs.Right.{rows_to}
 use Rattle.term_code.specs.declared.dense_sink.DenseSink.{DenseSink}
 use Rattle.term_code.specs.declared.places.Places.{Places}
-use Rattle.term_code.specs.DenseSinks.{dense_sink}
+use Rattle.term_code.specs.DenseSinks.{dense_sink, IsWithin}
 use Rattle.term_code.specs.Places.{StartsAt}
 use Rattle.operand_arrays.specs.Operands.{stored_in}
 use Rattle.operand_arrays.specs.Terms.{TargetIsBound}
@@ -47,7 +47,8 @@ use Rattle.dense_results.proofs.Kernels.{dense_kernels_are_right, starts_are_top
 use Rattle.dense_results.proofs.Loops.{lowered_loops_go_through}
 use Rattle.dense_results.proofs.Rows.{rows_are_taken}
 use Rattle.result_targets.specs.Beside.{LeavesLists, beside_lists}
-use Rattle.result_targets.specs.Sinks.{Sink}
+use Rattle.result_targets.specs.Sinks.{Sink, TakesAll}
+use Rattle.result_targets.proofs.Taken.{takes_each}
 use Rattle.result_targets.proofs.Scratch.{lists_kept, lists_start}
 use Rattle.kernel_emit.specs.Emitted.{AddsLoops}
 use Rattle.kernel_emit.specs.declared.emitting.Emitted.{Emitted}
@@ -92,13 +93,13 @@ module _ (a : Arithmetic) (laws : Laws a) (s : Statement) (formats : List (List 
     bound_there = (lowered_loops_go_through s f.numbered formats c in_order loops l.shape true).bound
 
     taken : (store : Store) (d : IsDenseStore s formats store) (r : IsReadStore s formats store)
-        → All (dense_sink.takes k (left_ranges s store))
+        → TakesAll dense_sink k (left_ranges s store) []
         (rows_to a s formats (told_by a store) (stored_in (operands_in s store)) s.left.vars loops)
     taken store d r =
-        subst (λ ms. All (dense_sink.takes (record { modes = ms }) (left_ranges s store))
-        (rows_to a s formats (told_by a store) (stored_in (operands_in s store)) s.left.vars loops))
-        (ap modes_of d.is.format_is ∙ sym modes)
-        (rows_are_taken a laws s formats store d r c in_order loops l.rows l.words)
+        let rows = rows_to a s formats (told_by a store) (stored_in (operands_in s store)) s.left.vars loops in
+        takes_each dense_sink k (left_ranges s store) (IsWithin k.modes (left_ranges s store)) (λ before row h. h) [] rows
+        (subst (λ ms. All (IsWithin ms (left_ranges s store)) rows) (ap modes_of d.is.format_is ∙ sym modes)
+        (rows_are_taken a laws s formats store d r c in_order loops l.rows l.words))
 
     -- from the top the code adds the loops' rows
     abbrev from_top : AddsFromTop a k s formats places loops 0 emitted.lists code

@@ -57,11 +57,10 @@ use Rattle.taco_compiler.proofs.LoopTurns.{in_order_of, within_cost}
 use Rattle.taco_compiler.proofs.Targets.{keys_bound, keys_many}
 
 -- rows of so many coordinates are such as a workspace takes
-rows_taken : (keys : ℕ) (ranges : List ℕ) (rows : List Entry) → Each (IsRow keys) rows
-    → All (workspace_sink.takes (record { number = 0; keys = keys }) ranges) rows
-rows_taken keys ranges [] each k d l = absurd (omega (arith, l))
-rows_taken keys ranges (row ∷ rows) each zero d l = each.0.many
-rows_taken keys ranges (row ∷ rows) each (suc k) d l = rows_taken keys ranges rows each.1 k d (omega (arith, l))
+rows_taken : (keys : ℕ) (ranges : List ℕ) (before rows : List Entry) → Each (IsRow keys) rows
+    → TakesAll workspace_sink (record { number = 0; keys = keys }) ranges before rows
+rows_taken keys ranges before [] each = tt
+rows_taken keys ranges before (row ∷ rows) each = (each.0.many, rows_taken keys ranges (before ++ row ∷ []) rows each.1)
 
 drop_none : (x none y : ℕ) → none ≡ 0 → x ≤ none + y → x ≤ y
 drop_none x none y is h = omega (arith, is, h)
@@ -130,10 +129,10 @@ module _ (a : Arithmetic) (laws : Laws a) (s : Statement) (formats : List (List 
     lists_left (ListCoordinates n) h = λ no. no
     lists_left (ListPositions n) h = λ no. no
 
-    taken : (store : Store) (r : IsReadStore s formats store) → All (workspace_sink.takes k (left_ranges s store))
+    taken : (store : Store) (r : IsReadStore s formats store) → TakesAll workspace_sink k (left_ranges s store) []
         (rows_to a s formats (told_by a store) (stored_in (operands_in s store)) keys loops)
     taken store r =
-        rows_taken (length keys) (left_ranges s store)
+        rows_taken (length keys) (left_ranges s store) []
         (rows_to a s formats (told_by a store) (stored_in (operands_in s store)) keys loops)
         (loops_add_rows a laws s formats store r loops l.words keys)
 

@@ -65,7 +65,7 @@ module _ {K : Type 0} (sink : Sink K) (laws : SinkLaws sink) (k : K) (free : ℕ
   -- the row is added where the flag is set
   adds_row : (c : Setting) → Laws c.arithmetic → ((y : ℕ) → sink.mine k y → y < free)
       → (ranges : List ℕ) (before : List Entry) (coords : List ℕ) (o : Option ℕ)
-      → ((v : ℕ) → o ≡ Some v → sink.takes k ranges (record { coords = coords; value = v })) → (s : State) → VarsAre keys coords s
+      → ((v : ℕ) → o ≡ Some v → sink.takes k ranges before (record { coords = coords; value = v })) → (s : State) → VarsAre keys coords s
       → OptionLeft free o s → sink.holds k c.arithmetic ranges before s
       → Adds sink k c ranges (If (Var free) row [] ∷ []) free no_turns before (row_of coords o) s
   adds_row c arithmetic apart ranges before coords None takes s at left holds =

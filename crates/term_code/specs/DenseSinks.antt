@@ -55,7 +55,7 @@ dense_sink = record {
   mine = λ k. NoVariable;
   kept = λ k b. same_arr (Values 0) b ≡ false;
   keys = λ k. length k.modes;
-  takes = λ k. IsWithin k.modes;
+  takes = λ k ranges rows. IsWithin k.modes ranges;
   holds = λ k a ranges rows s. HoldsSums k.modes a ranges rows s.arrays;
   refused = λ k rows b count. ⊥;
 }

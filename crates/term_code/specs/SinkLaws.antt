@@ -12,7 +12,7 @@ use Rattle.term_code.specs.WorkspaceSinks.{workspace_sink}
 
 pub workspace_laws : SinkLaws workspace_sink
 workspace_laws = record {
-  long = λ k ranges row h. h;
+  long = λ k ranges rows row h. h;
   same = λ k a ranges rows s t f g h. record {
     key = λ j l. g.same (Key k.number j) refl ∙ h.key j l;
     sums = g.same (Sums k.number) refl ∙ h.sums;
@@ -32,7 +32,7 @@ sizes_kept level (n ∷ ns) s t g h = (g.same (Dimension 0 level) refl ∙ h.0, 
 
 pub dense_laws : SinkLaws dense_sink
 dense_laws = record {
-  long = λ k ranges row h. below_long ranges row.coords h.below ∙ h.many;
+  long = λ k ranges rows row h. below_long ranges row.coords h.below ∙ h.many;
   same = λ k a ranges rows s t f g h. record {
     sizes = sizes_kept 1 (by_level k.modes ranges) s t g h.sizes;
     words = h.words;

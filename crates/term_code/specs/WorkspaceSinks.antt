@@ -49,7 +49,7 @@ workspace_sink = record {
   mine = λ k. NoVariable;
   kept = λ k a. IsOfWorkspace k.number a → ⊥;
   keys = λ k. k.keys;
-  takes = λ k ranges row. length row.coords ≡ k.keys;
+  takes = λ k ranges rows row. length row.coords ≡ k.keys;
   holds = λ k a ranges rows s. HoldsRows k.number k.keys rows s.arrays;
   refused = λ k. PassesPairs k.number;
 }
