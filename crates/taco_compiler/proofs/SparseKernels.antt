@@ -1,6 +1,6 @@
 -- A kernel whose code pushes the rows of a statement's loops into a workspace, and fills the result from them, is compiled: it is right
 -- and sound, its loops turn no more often than the statement costs, and its rows are gone over no more often than twice a level.
-use Rattle.std.specs.Prelude.{◌≡◌, ℕ, zero, suc, ◌+◌, ◌*◌, ◌≤◌, ◌<◌, List, [], ◌∷◌, ◌++◌, length, All, Some, slice_get}
+use Rattle.std.specs.Prelude.{◌≡◌, ℕ, ◌+◌, ◌*◌, ◌≤◌, List, [], ◌∷◌, ◌++◌, length, Some, slice_get}
 use Rattle.std.specs.Prelude.{slice_index, true}
 use Rattle.std.proofs.Common.{◌∙◌, sym, ap, subst, arith}
 use Rattle.std.proofs.lemmas.List.{length-map}
@@ -40,6 +40,7 @@ use Rattle.dense_results.specs.Operands.{IsReadStore, operands_in}
 use Rattle.dense_results.specs.Results.{left_ranges}
 use Rattle.dense_results.proofs.Loops.{lowered_loops_go_through}
 use Rattle.result_targets.specs.Beside.{LeavesLists}
+use Rattle.result_targets.specs.Sinks.{TakesAll}
 use Rattle.kernel_emit.specs.Emitted.{AddsLoops}
 use Rattle.kernel_emit.specs.declared.emitting.Emitted.{Emitted}
 use Rattle.kernel_emit.proofs.ListLaws.{operand_apart}
