@@ -360,6 +360,7 @@ module _ {L : Type 0} (means : Meaning L) (laws : Laws means) (c : Setting) (let
         places = d.placed.places;
         inserted = inserts means laws parents most rows old may enough d.slot d.ps d.l
             (subst (λ n. Inserting means parents most n d.slot rows d.ps old d.l) all d.inserting);
+        width = d.inserting.width;
         leaves = subst (λ n. Leaves NoVariable (Stays level g) base (insert_turns (probes_each (means.kind old) most) n) s0 s) all d.placed.leaves;
       }
   ends (suc n) s d z = absurd (apart (sym (test_yes s n d) ∙ z))
@@ -436,6 +437,7 @@ placed_all {L} means laws letter level base w g parents_is most_is test coord pr
       positions = d.positions;
       places = d.places;
       inserted = d.inserted;
+      width = d.width;
       leaves = record {
         below = λ y h m. d.leaves.below y h m ∙ k.0.below y (omega (arith, h)) m;
         arrays = λ a st. d.leaves.arrays a st ∙ k.0.arrays a st.0;

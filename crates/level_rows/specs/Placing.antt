@@ -75,6 +75,7 @@ pub record LeavesPlaced {L : Type 0} (means : Meaning L) (l : L) (level g base p
   pub positions : List ℕ
   pub places : s.arrays (ListPositions g) ≡ Some positions
   pub inserted : InsertsRows means parents most rows positions l left
+  pub width : (properties (means.kind l)).full ≡ false → means.width left ≡ Some (slot_width most)
   pub leaves : Leaves NoVariable (Stays level g) base (insert_turns (probes_each (means.kind l) most) rows.count) s0 s
 
 -- what the code does, wherever arrays hold a level of the kind that isn't prepared: it is refused a growth only where the positions

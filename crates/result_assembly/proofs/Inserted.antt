@@ -9,7 +9,7 @@ use Rattle.kernel_code.specs.Keeps.{Leaves, NoVariable}
 use Rattle.kernel_code.specs.Meaning.{Setting, State, value}
 use Rattle.kernel_code.specs.Widths.{slot_width}
 use Rattle.kernel_code.specs.declared.syntax.Arr.{Arr}
-use Rattle.kernel_code.specs.declared.syntax.Arr.TheVariants.{Key}
+use Rattle.kernel_code.specs.declared.syntax.Arr.TheVariants.{Key, Width}
 use Rattle.kernel_code.specs.declared.syntax.KExpr.{KExpr, Var, At}
 use Rattle.kernel_code.specs.declared.syntax.KStmt.{KStmt}
 use Rattle.level_core.specs.declared.letter.Letter.{Letter}
@@ -19,7 +19,7 @@ use Rattle.level_core.specs.Kinds.{properties, capabilities, positions_for}
 use Rattle.level_core.specs.Laws.{HoldsStart}
 use Rattle.level_rows.specs.Rows.{Rows, begun_below, IsGreatestBelow, MayInsertRows}
 use Rattle.level_rows.specs.Draining.{Stays}
-use Rattle.level_rows.specs.Placing.{insert_turns, MayPlace, LeavesPlaced, PlacesRows}
+use Rattle.level_rows.specs.Placing.{insert_turns, probes_each, MayPlace, LeavesPlaced, PlacesRows}
 use Rattle.level_rows.specs.Filling.{AreNeeded, FillsRows}
 use Rattle.level_core.proofs.KindLaws.{inserted_else, no_positions, starts_within}
 use Rattle.tensor_storage.specs.Chains.{chain_length}
@@ -162,8 +162,9 @@ module _ (letters rest : List Letter) (letter : Letter) (w g d n base : ℕ) (co
             → value most_is s ≡ Some most → most ≤ greatest_position_count
             → ((properties letter).full ≡ true → positions_for letter size dr.parents most ≤ greatest_position_count)
             → Does c code s (λ t. AreDrained nothing letters sizes table w g (suc d) (Var base) t
-            × Leaves NoVariable (Stays (suc d) g) (base + 1) (insert_turns (slot_width most) rows.count) s t)
-            (RefusedWithin (insert_turns (slot_width most) rows.count) s (PassesAt letters sizes table d))
+            × Leaves NoVariable (Stays (suc d) g) (base + 1) (insert_turns (probes_each letter most) rows.count) s t
+            × ((properties letter).full ≡ false → t.arrays (Width 0 (suc d)) ≡ Some (slot_width most ∷ [])))
+            (RefusedWithin (insert_turns (probes_each letter most) rows.count) s (PassesAt letters sizes table d))
         inserted c code places is few guarded =
             does_weaker c code s _ _ _ _
             (places c start.start start.kind start.keeps rows dr.parents most
@@ -177,5 +178,14 @@ module _ (letters rest : List Letter) (letter : Letter) (w g d n base : ℕ) (co
             may_insert
             (λ sparse p less. (greatest (ap (λ k. (properties k).full) (sym start.kind) ∙ sparse)).upto p)
             s start.held (given is))
-            (λ t l. (after t l, l.leaves))
-            (λ turns a k r. (r.0, refused_at a k r.1))
+            (λ t l. (
+              after t l,
+              subst (λ k. Leaves NoVariable (Stays (suc d) g) (base + 1) (insert_turns (probes_each k most) rows.count) s t) start.kind
+                  l.leaves,
+              λ stored. width_held l.left (suc d) (slot_width most) t.arrays l.held
+                  (l.width (ap (λ k. (properties k).full) start.kind ∙ stored)),
+            ))
+            (λ turns a k r. (
+              subst (λ kind. (j : LoopKind) → turns j ≤ s.turns j + insert_turns (probes_each kind most) rows.count j) start.kind r.0,
+              refused_at a k r.1,
+            ))
