@@ -35,7 +35,9 @@ use Rattle.operand_arrays.specs.Operands.{stored_in}
 use Rattle.operand_arrays.specs.Terms.{TargetIsBound}
 use Rattle.kernel_correctness.specs.Kernels.{Ends, IsRightKernel, IsRightOutcome}
 use Rattle.kernel_correctness.proofs.Sound.{right_is_sound}
-use Rattle.kernel_correctness.specs.Stores.{Store, IsStoreOf, IsGiven, told_by}
+use Rattle.kernel_correctness.specs.Stores.{Store, IsStoreOf, IsGiven, operand_of, told_by}
+use Rattle.lowering.specs.Stored.{stored_of}
+use Rattle.statement_costs.specs.Costs.{statement_cost}
 use Rattle.dense_results.specs.Kernels.{AreAtBase}
 use Rattle.dense_results.specs.Operands.{IsReadStore, operands_in}
 use Rattle.dense_results.specs.Results.{left_ranges}
