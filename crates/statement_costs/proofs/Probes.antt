@@ -1,11 +1,11 @@
 -- Loops that are well placed look at each of their turns for no more than one level of each access.
-use Rattle.std.specs.Prelude.{◌≡◌, ℕ, zero, suc, ◌+◌, ◌*◌, ◌≤◌, ◌<◌, Bool, true, false, if◌then◌else◌, List, [], ◌∷◌, refl}
+use Rattle.std.specs.Prelude.{◌≡◌, ℕ, zero, suc, ◌+◌, ◌*◌, ◌≤◌, Bool, true, false, if◌then◌else◌, List, [], ◌∷◌, refl}
 use Rattle.std.proofs.Common.{◌∙◌, ap, arith}
 use Rattle.std.proofs.Math.Nat.{add-mul, mul-add}
 use Rattle.lists.specs.Each.{Each}
 use Rattle.loop_code.specs.declared.loops.Seek.{Seek}
-use Rattle.loop_code.specs.Loops.{Layout, Stored, Env, LoopCode, Add, Both', Loop', Row_of-LoopCode, end_of-LoopCode, more_of-LoopCode}
-use Rattle.loop_code.specs.Loops.{moved}
+use Rattle.loop_code.specs.declared.loops.LoopCode.{LoopCode, Add, Both', Loop', Row_of-LoopCode, end_of-LoopCode, more_of-LoopCode}
+use Rattle.loop_code.specs.Loops.{Layout, Stored, Env, moved}
 use Rattle.loop_code.specs.Parts.{here, remains_below_in}
 use Rattle.loop_code.specs.Places.{AreSeeks, IsWellPlaced, IsWellPlaced_in, depth_after}
 use Rattle.loop_code.specs.Turns.{count_below, merge_turns, merge_turns_in, pruned_in, turns_at}
@@ -14,7 +14,7 @@ use Rattle.statement_costs.specs.Slots.{slots_here}
 use Rattle.statement_costs.proofs.Lengths.{seeks_most}
 
 count_alike : (n width : ℕ) → count_below n (λ k. width) ≡ n * width
-count_alike zero width = refl
+count_alike zero width = let none : 0 ≡ 0 * width = omega arith in none
 count_alike (suc n) width =
     let more = count_alike n width in
     let next : suc n ≡ n + 1 = omega arith in
