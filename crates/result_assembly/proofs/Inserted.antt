@@ -1,5 +1,5 @@
 -- The code of a level that coordinates are inserted into, once it is known how wide it has to be.
-use Rattle.std.specs.Prelude.{◌≡◌, ◌⊎◌, ℕ, zero, suc, ◌+◌, ◌≤◌, ◌<◌, ◌==◌, ◌&&◌, Bool, true, false, if◌then◌else◌, List, ◌∷◌}
+use Rattle.std.specs.Prelude.{◌≡◌, ◌⊎◌, ℕ, zero, suc, ◌+◌, ◌≤◌, ◌<◌, ◌==◌, ◌&&◌, Bool, true, false, if◌then◌else◌, List, [], ◌∷◌}
 use Rattle.std.specs.Prelude.{drop, slice_index, Some, refl}
 use Rattle.std.proofs.Common.{◌∙◌, sym, ap, subst, arith, inl, inr}
 use Rattle.limits.specs.Limits.{greatest_position_count}
@@ -12,6 +12,7 @@ use Rattle.kernel_code.specs.declared.syntax.Arr.{Arr}
 use Rattle.kernel_code.specs.declared.syntax.Arr.TheVariants.{Key, Width}
 use Rattle.kernel_code.specs.declared.syntax.KExpr.{KExpr, Var, At}
 use Rattle.kernel_code.specs.declared.syntax.KStmt.{KStmt}
+use Rattle.kernel_code.specs.declared.syntax.LoopKind.{LoopKind}
 use Rattle.level_core.specs.declared.letter.Letter.{Letter}
 use Rattle.level_core.specs.Entries.{one}
 use Rattle.level_core.specs.Fragments.{PassesLimitWithin, RefusedWithin}
@@ -30,6 +31,7 @@ use Rattle.tensor_storage.specs.Tables.{Table}
 use Rattle.tensor_storage.proofs.Steps.{new_is}
 use Rattle.tensor_storage.proofs.Tables.{apart}
 use Rattle.result_assembly.specs.Drained.{MayDrain, AreDrained, PassesAt}
+use Rattle.result_assembly.proofs.KindLaws.{width_held}
 use Rattle.result_assembly.specs.Tests.{begins_test}
 use Rattle.result_assembly.proofs.Holding.{inserted_summed}
 use Rattle.result_assembly.proofs.Steps.{size_here, rows_here, few_words, begun_here, fill_here, first_told, coord_told}

@@ -1,5 +1,5 @@
 -- Levels that are filled, and then the values, are a packed result.
-use Rattle.std.specs.Prelude.{◌≡◌, ℕ, suc, ◌+◌, ◌≤◌, ◌<◌, ◌^◌, List, [], ◌∷◌, ◌++◌, length, map, drop, replicate, None, Some, refl}
+use Rattle.std.specs.Prelude.{◌≡◌, ℕ, suc, ◌+◌, ◌*◌, ◌≤◌, ◌<◌, ◌^◌, List, [], ◌∷◌, ◌++◌, length, map, drop, replicate, None, Some, refl}
 use Rattle.std.proofs.Common.{◌∙◌, sym, ap, subst, arith}
 use Rattle.std.proofs.lemmas.List.{append-nil, length-map}
 use Rattle.limits.proofs.Limits.{positions_are_small, workspace_pairs_are_positions}
