@@ -36,7 +36,7 @@ module _ (a : Arithmetic) (s : Statement) (store : Store) (letters : List Letter
   done_told (Finished arrays turns) h = (
     subst (LeavesResult a s (told_by a store) store) h.2 h.1.0,
     subst (λ arrays. AreTurns s (told_by a store) letters most turns arrays) h.2
-        (subst (λ made. AreTurns s (told_by a store) letters most made _) h.3 h.1.1),
+        (subst (λ made. AreTurns s (told_by a store) letters most made h.0.arrays) h.3 h.1.1),
   )
   done_told (GotStuck statement) h = absurd h
   done_told (TooLong place count) h =
