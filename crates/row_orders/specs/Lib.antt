@@ -1,0 +1,4 @@
+pub mod Heads
+pub mod Orders
+pub mod Tails
+pub mod Takings
