@@ -1,10 +1,9 @@
 -- Rows that never fall, in blocks that have one first coordinate each.
-use Rattle.std.specs.Prelude.{◌≡◌, ◌⊎◌, ℕ, zero, suc, ◌<◌, List, [], ◌∷◌, ◌++◌, length, map, refl}
+use Rattle.std.specs.Prelude.{◌≡◌, ℕ, zero, suc, ◌<◌, List, [], ◌∷◌, ◌++◌, length, map, refl}
 use Rattle.std.proofs.Common.{ap, arith, inl, inr}
 use Rattle.lists.specs.Each.{Each}
 use Rattle.lists.proofs.Each.{each_append}
 use Rattle.tensor_map.specs.declared.entries.Entry.{Entry}
-use Rattle.tensor_map.specs.Order.{IsBefore}
 use Rattle.tensor_map.proofs.Summed.{IsNotAfterAll, NeverFalls}
 use Rattle.concrete_notation.specs.Contributions.{rows_below}
 

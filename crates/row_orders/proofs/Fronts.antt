@@ -1,6 +1,6 @@
 -- The loops of each term begin with those over the head, where no summed variable stands before one of it.
 use Rattle.std.specs.Prelude.{◌≡◌, ◌≢◌, ℕ, nat_eq, not, Bool, true, false, ◌||◌, cond, List, [], ◌∷◌, ◌++◌, filter, refl}
-use Rattle.std.specs.List.{list_any, take_while}
+use Rattle.std.specs.List.{list_any}
 use Rattle.std.proofs.Common.{◌∙◌, sym, ap, subst}
 use Rattle.std.proofs.lemmas.List.Sums.{take_while-cons}
 use Rattle.lists.specs.Each.{Each}
@@ -8,7 +8,7 @@ use Rattle.index_notation.specs.Statement.{IsDistinct}
 use Rattle.expr_terms.proofs.TermLaws.{each_filtered}
 use Rattle.concrete_notation.proofs.Points.{neither}
 use Rattle.row_orders.specs.Takings.{outside}
-use Rattle.row_orders.proofs.Lists.{apart_test, clash, each_parts}
+use Rattle.row_orders.proofs.Lists.{apart_test, each_parts}
 use Rattle.row_orders.proofs.Rising.{Starts}
 
 -- what stands before a number in an order that another one begins

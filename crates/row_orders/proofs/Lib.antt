@@ -11,3 +11,4 @@ pub mod Rising
 pub mod Steps
 pub mod Summed
 pub mod Tails
+pub mod Worked

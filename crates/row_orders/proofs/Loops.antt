@@ -1,7 +1,7 @@
 -- Loops that a concrete statement is lowered to are those of its statement.
 use Rattle.std.specs.Prelude.{◌≡◌, ℕ, List, [], ◌∷◌, ◌++◌, map, refl}
 use Rattle.std.specs.List.Sorted.{IsPermutation}
-use Rattle.std.proofs.Common.{◌∙◌, sym, ap, subst}
+use Rattle.std.proofs.Common.{◌∙◌, sym, ap, subst, inl, inr}
 use denote.Hole.Carrier.{hidden}
 use Rattle.format_spec.specs.declared.format.FormatLevel.{FormatLevel}
 use Rattle.index_notation.specs.Statement.{IsDistinct}
@@ -10,13 +10,13 @@ use Rattle.expr_terms.specs.Terms.{terms}
 use Rattle.concrete_notation.specs.declared.concrete.Concrete.{Concrete, Add, Where, Forall', Both', Where', Row_of-Concrete}
 use Rattle.concrete_notation.specs.declared.concrete.Concrete.{end_of-Concrete, more_of-Concrete}
 use Rattle.concrete_notation.specs.declared.concrete.Concrete.TheBlock.{hidden-the_row-Concrete-0}
-use Rattle.concrete_notation.specs.Nests.{nests, nest_of, next_loops, next_loops_in, workspaces, workspaces_in, HasTerms}
+use Rattle.concrete_notation.specs.Nests.{nest_of, next_loops, next_loops_in, workspaces, workspaces_in, HasTerms}
 use Rattle.concrete_notation.specs.Nests.{SharesLoops, SharesLoops_in}
 use Rattle.concrete_notation.proofs.LoopSums.{none_of_both}
 use Rattle.loop_code.specs.declared.loops.LoopCode.{LoopCode}
 use Rattle.lowering.specs.Lowered.{plain, plain_in, concrete_of, IsInOrder}
 use Rattle.lowering.proofs.RightLoops.{same_nests}
-use Rattle.row_orders.specs.Orders.{AreLoopsOf}
+use Rattle.row_orders.specs.Orders.{AreLoopsOf, IsOutermost}
 
 mutual
   unfolding hidden-the_row-Concrete-0 hidden
@@ -61,6 +61,12 @@ mutual
 pub shared_through : (keys : List ℕ) (c : Concrete) → workspaces c ≡ [] → SharesLoops (Where keys c) → SharesLoops (plain (Where keys c))
 unfolding hidden-the_row-Concrete-0 hidden
 shared_through keys c none shared = shared_plain c none shared
+
+pub shared_outermost : (c : Concrete) → IsOutermost c → SharesLoops c → SharesLoops (plain c)
+shared_outermost c (inl none) shared = shared_plain c none shared
+shared_outermost c (inr through) shared =
+    subst (λ d. SharesLoops (plain d)) (sym through.2)
+    (shared_through through.0 through.1 through.3 (subst SharesLoops through.2 shared))
 
 -- what a concrete statement in order is lowered to, where no two of its loops over one variable stand side by side
 pub loops_are : (s : Statement) (formats : List (List FormatLevel)) (c : Concrete) (in_order : IsInOrder s formats c) (loops : LoopCode)

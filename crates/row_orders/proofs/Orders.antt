@@ -27,12 +27,13 @@ use Rattle.lowering.specs.Lowered.{concrete_of}
 use Rattle.lowering.specs.Right.{rows_to}
 use Rattle.tensor_storage.specs.Storages.{in_level_order}
 use Rattle.row_orders.specs.Heads.{is_dense, head_levels, left_levels, tail_levels, result_levels, head}
-use Rattle.row_orders.specs.Orders.{HasResult, AreLoopsOf, ComeInOrder, RowsComeInOrder, cut}
+use Rattle.row_orders.specs.Orders.{HasResult, AreLoopsOf, ComeInOrder, RowsComeInOrder, LoweredRowsComeInOrder, cut}
 use Rattle.row_orders.specs.Takings.{is_summed, outside, is_inside_sum, is_unordered, calls_for_workspace}
 use Rattle.row_orders.proofs.Fronts.{front_stays}
 use Rattle.row_orders.proofs.HeadLengths.{levels_parted, by_level_parts}
 use Rattle.row_orders.proofs.LevelOrders.{left_order, modes_below}
 use Rattle.row_orders.proofs.Lists.{each_permuted, each_weaker, none_passes}
+use Rattle.row_orders.proofs.Loops.{loops_are, shared_outermost}
 use Rattle.row_orders.proofs.Positions.{never_fall_at}
 use Rattle.row_orders.proofs.Rising.{Starts, IsLed, rows_long, rows_reread, rows_rise}
 
@@ -165,3 +166,8 @@ module _ (s : Statement) (formats : List (List FormatLevel)) (h : HasResult s fo
 pub rows_come_in_order : RowsComeInOrder
 rows_come_in_order s formats h order loops_ordered none loops are a inputs stored =
     come_in_order s formats h order loops_ordered none loops are a inputs stored
+
+pub lowered_rows_come_in_order : LoweredRowsComeInOrder
+lowered_rows_come_in_order s formats h c in_order shared outermost none loops shape a inputs stored =
+    come_in_order s formats h in_order.order in_order.is_order none loops
+    (loops_are s formats c in_order loops shape (shared_outermost c outermost shared)) a inputs stored

@@ -3,12 +3,12 @@ use Rattle.std.specs.Prelude.{◌≡◌, ◌⊎◌, ℕ, zero, suc, ◌≤◌, �
 use Rattle.std.proofs.Common.{◌∙◌, sym, ap, subst, arith, inl, inr}
 use Rattle.std.proofs.lemmas.List.{length-take-le}
 use Rattle.lists.specs.Each.{Each}
-use Rattle.level_rows.specs.Tables.{Agree, IsBefore}
+use Rattle.level_rows.specs.Tables.{IsBefore}
 use Rattle.tensor_map.specs.declared.entries.Entry.{Entry}
 use Rattle.tensor_map.specs.Order as lists
 use Rattle.tensor_map.proofs.Summed.{IsNotAfterAll, NeverFalls}
 use Rattle.tensor_storage.specs.Arranged.{no_entry}
-use Rattle.row_orders.specs.Orders.{cut, coords_of, IsNotAfter, NeverFallAt}
+use Rattle.row_orders.specs.Orders.{cut, coords_of, NeverFallAt}
 
 -- coordinates that are before others of the same number are smaller at the first place where they differ
 record IsSmaller (xs ys : List ℕ) : Type 0 where

@@ -2,7 +2,7 @@
 use Rattle.std.specs.Prelude.{◌≡◌, ◌≢◌, ℕ, zero, suc, ◌+◌, ◌<◌, Bool, ◌||◌}
 use Rattle.std.specs.Prelude.{List, [], ◌∷◌, ◌++◌, length, drop, slice_index_or, refl}
 use Rattle.std.specs.List.{list_any}
-use Rattle.std.proofs.Common.{◌∙◌, sym, ap, subst, arith, add-one, drop-cons}
+use Rattle.std.proofs.Common.{◌∙◌, sym, ap, arith, add-one, drop-cons}
 use Rattle.format_spec.specs.declared.format.FormatLevel.{FormatLevel}
 use Rattle.iteration_graph.specs.Edges.{by_level}
 use Rattle.row_orders.specs.Heads.{head_levels, tail_levels}

@@ -6,7 +6,6 @@ use Rattle.std.proofs.Common.{◌∙◌, sym, ap}
 use Rattle.index_notation.specs.declared.syntax.Statement.{Statement}
 use Rattle.expr_terms.specs.declared.group.Group.{Group}
 use Rattle.expr_terms.specs.Groups.{firsts, group_in, groups}
-use Rattle.expr_terms.specs.declared.term.Term.{Term}
 use Rattle.expr_terms.specs.Terms.{terms, contains, own_variables}
 use Rattle.row_orders.specs.Takings.{is_summed}
 

@@ -1,6 +1,6 @@
 -- A workspace is called for where a level of the tail isn't dense.
-use Rattle.std.specs.Prelude.{◌≡◌, ◌≢◌, ℕ, nat_eq, not, Bool, true, false, ◌||◌, ◌&&◌, cond, if◌then◌else◌}
-use Rattle.std.specs.Prelude.{List, [], ◌∷◌, filter, length, map, slice_index, refl}
+use Rattle.std.specs.Prelude.{◌≡◌, ℕ, nat_eq, not, Bool, true, false, ◌||◌, ◌&&◌, cond, if◌then◌else◌}
+use Rattle.std.specs.Prelude.{List, [], ◌∷◌, filter, length, slice_index, refl}
 use Rattle.std.specs.List.{list_all, list_any}
 use Rattle.std.proofs.Common.{◌∙◌, sym, ap, subst, true≢false}
 use Rattle.std.proofs.lemmas.Bool.{eqb-true, eq-eqb}
@@ -14,13 +14,13 @@ use Rattle.iteration_graph.specs.Graphs.{IsLoopOrder}
 use Rattle.expr_terms.specs.declared.term.Term.{Term}
 use Rattle.expr_terms.specs.Terms.{terms, contains, own_variables}
 use Rattle.expr_terms.proofs.PointLaws.{not_contained}
-use Rattle.concrete_notation.proofs.Around.{left_below, own_is_not_left}
+use Rattle.concrete_notation.proofs.Around.{own_is_not_left}
 use Rattle.concrete_notation.proofs.Orders.{is_order_of}
-use Rattle.concrete_notation.proofs.Points.{contains_filtered, or_first, or_second}
+use Rattle.concrete_notation.proofs.Points.{or_first, or_second}
 use Rattle.row_orders.specs.Heads.{is_dense, head_levels, tail_levels, result_levels, head}
 use Rattle.row_orders.specs.Orders.{HasResult}
-use Rattle.row_orders.specs.Tails.{behind_sum, is_in_tail, is_sparse_in_tail, WorkspacesAreForTails, SumsOutsideCall}
-use Rattle.row_orders.specs.Takings.{is_summed, outside, is_inside_sum, is_unordered, calls_for_workspace}
+use Rattle.row_orders.specs.Tails.{behind_sum, is_sparse_in_tail, WorkspacesAreForTails, SumsOutsideCall}
+use Rattle.row_orders.specs.Takings.{is_summed, outside, is_inside_sum, is_unordered}
 use Rattle.row_orders.proofs.Fronts.{outside_more}
 use Rattle.row_orders.proofs.LevelOrders.{left_order}
 use Rattle.row_orders.proofs.Lists.{clash, each_parts, each_weaker}

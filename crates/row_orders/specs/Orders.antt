@@ -1,5 +1,5 @@
 -- The order in which loops come by the rows of a result.
-use Rattle.std.specs.Prelude.{◌≡◌, ◌⊎◌, ℕ, ◌<◌, true, false, List, length, map, take, slice_index, slice_index_or}
+use Rattle.std.specs.Prelude.{◌≡◌, ◌⊎◌, ℕ, ◌<◌, true, false, List, [], length, map, take, slice_index, slice_index_or}
 use Rattle.numbers.specs.Arithmetic.{Arithmetic}
 use Rattle.tensor_map.specs.declared.entries.Entry.{Entry}
 use Rattle.tensor_map.proofs.Summed.{NeverFalls}
@@ -13,10 +13,11 @@ use Rattle.expr_terms.specs.Terms.{contains}
 use Rattle.iteration_graph.specs.Edges.{HasFormat, statement_edges}
 use Rattle.iteration_graph.specs.Graphs.{IsLoopOrder}
 use Rattle.concrete_notation.specs.Contributions.{Inputs}
-use Rattle.concrete_notation.specs.Nests.{HasTerms, IsOrderOf, SharesLoops}
+use Rattle.concrete_notation.specs.declared.concrete.Concrete.{Concrete, Where}
+use Rattle.concrete_notation.specs.Nests.{HasTerms, IsOrderOf, SharesLoops, workspaces}
 use Rattle.loop_code.specs.declared.loops.LoopCode.{LoopCode}
 use Rattle.loop_code.specs.Loops.{Stored}
-use Rattle.lowering.specs.Lowered.{concrete_of}
+use Rattle.lowering.specs.Lowered.{IsInOrder, concrete_of, plain}
 use Rattle.lowering.specs.Right.{rows_to}
 use Rattle.level_rows.specs.Tables.{Agree, IsBefore}
 use Rattle.tensor_storage.specs.Arranged.{no_entry}
@@ -70,6 +71,18 @@ abbrev pub RowsComeInOrder : Type 0
 RowsComeInOrder = (s : Statement) (formats : List (List FormatLevel)) → HasResult s formats → (order : List ℕ)
     → IsLoopOrder (length s.vars) (statement_edges s formats) order → calls_for_workspace s formats order ≡ false
     → (loops : LoopCode) → AreLoopsOf s order loops
+    → (a : Arithmetic) (inputs : Inputs) (stored : Stored) → ComeInOrder a s formats inputs stored loops
+
+-- no workspace stands inside the loops of a concrete statement: there is none, or one around all
+abbrev pub IsOutermost : Concrete → Type 0
+IsOutermost c = (workspaces c ≡ []) ⊎ ((keys : List ℕ) × (tree : Concrete) × (c ≡ Where keys tree) × (workspaces tree ≡ []))
+
+-- so it is of the loops that such a concrete statement in loop order is lowered to, where loops over one variable are shared
+abbrev pub LoweredRowsComeInOrder : Type 0
+LoweredRowsComeInOrder = (s : Statement) (formats : List (List FormatLevel)) → HasResult s formats
+    → (c : Concrete) (in_order : IsInOrder s formats c) → SharesLoops c → IsOutermost c
+    → calls_for_workspace s formats in_order.order ≡ false
+    → (loops : LoopCode) → concrete_of loops ≡ plain c
     → (a : Arithmetic) (inputs : Inputs) (stored : Stored) → ComeInOrder a s formats inputs stored loops
 
 -- each coordinate of each row is below the range of its variable: so it is of all rows, to any variables of the left side

@@ -5,8 +5,5 @@
 mod heads;
 mod takings;
 
-// #[cfg(test)]
-// mod tests;
-
 pub use heads::head_length;
 pub use takings::{Taking, calls_for_workspace, taking_of};

@@ -1,4 +1,4 @@
-use Rattle.std.specs.Prelude.{◌≡◌, ◌<◌, true, false, length, slice_index_or}
+use Rattle.std.specs.Prelude.{◌<◌, true, false, length}
 use Rattle.std.proofs.Common.{◌∙◌, sym, ap, arith}
 use Rattle.iteration_graph.specs.Edges.{by_level}
 use Rattle.row_orders.specs.Heads.{head_levels}
