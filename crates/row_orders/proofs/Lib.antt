@@ -1,5 +1,6 @@
 pub mod Below
 pub mod Blocks
+pub mod FrontRows
 pub mod Fronts
 pub mod HeadLengths
 pub mod LevelOrders

@@ -1,6 +1,6 @@
 -- Where no workspace is called for, rows come in the order of the result's storage.
-use Rattle.std.specs.Prelude.{◌≡◌, ℕ, zero, suc, ◌≤◌, ◌<◌, Bool, true, false, ◌||◌, if◌then◌else◌, List, [], ◌∷◌, ◌++◌}
-use Rattle.std.specs.Prelude.{length, map, take, filter, slice_index, refl}
+use Rattle.std.specs.Prelude.{◌≡◌, ℕ, zero, suc, ◌≤◌, ◌<◌, Bool, true, false, if◌then◌else◌, List, [], ◌∷◌, ◌++◌}
+use Rattle.std.specs.Prelude.{length, map, take, slice_index, refl}
 use Rattle.std.specs.List.{list_all, list_any, All}
 use Rattle.std.proofs.Common.{◌∙◌, sym, ap, subst, arith}
 use Rattle.lists.specs.Each.{Each}
@@ -13,29 +13,25 @@ use Rattle.index_notation.specs.declared.syntax.Statement.{Statement}
 use Rattle.iteration_graph.specs.Edges.{by_level, statement_edges}
 use Rattle.iteration_graph.specs.Graphs.{IsLoopOrder}
 use Rattle.expr_terms.specs.Points.{coords_at}
-use Rattle.expr_terms.specs.declared.term.Term.{Term}
-use Rattle.expr_terms.specs.Terms.{terms, contains, own_variables}
 use Rattle.concrete_notation.specs.Contributions.{Inputs}
-use Rattle.concrete_notation.specs.Nests.{IsOrderOf, nests, nest_of}
-use Rattle.concrete_notation.proofs.Around.{loops_distinct}
+use Rattle.concrete_notation.specs.Nests.{IsOrderOf, left_in_order}
 use Rattle.concrete_notation.proofs.Orders.{is_order_of}
-use Rattle.concrete_notation.proofs.Points.{neither, or_first, or_second}
+use Rattle.concrete_notation.proofs.Points.{neither}
 use Rattle.loop_code.specs.declared.loops.LoopCode.{LoopCode}
 use Rattle.loop_code.specs.Loops.{Stored, start}
 use Rattle.lowering.specs.Layouts.{layout_of}
-use Rattle.lowering.specs.Lowered.{concrete_of}
 use Rattle.lowering.specs.Right.{rows_to}
 use Rattle.tensor_storage.specs.Storages.{in_level_order}
 use Rattle.row_orders.specs.Heads.{is_dense, head_levels, left_levels, tail_levels, result_levels, head}
-use Rattle.row_orders.specs.Orders.{HasResult, AreLoopsOf, ComeInOrder, RowsComeInOrder, LoweredRowsComeInOrder, cut}
-use Rattle.row_orders.specs.Takings.{is_summed, outside, is_inside_sum, is_unordered, calls_for_workspace}
-use Rattle.row_orders.proofs.Fronts.{front_stays}
+use Rattle.row_orders.specs.Orders.{HasResult, AreLoopsOf, AreOutsideSums, ComeInOrder, RowsComeInOrder, LoweredRowsComeInOrder, cut}
+use Rattle.row_orders.specs.Takings.{is_inside_sum, is_unordered, calls_for_workspace}
+use Rattle.row_orders.proofs.FrontRows.{fronts_never_fall, left_alone, taken_front}
 use Rattle.row_orders.proofs.HeadLengths.{levels_parted, by_level_parts}
 use Rattle.row_orders.proofs.LevelOrders.{left_order, modes_below}
-use Rattle.row_orders.proofs.Lists.{each_permuted, each_weaker, none_passes}
+use Rattle.row_orders.proofs.Lists.{each_weaker}
 use Rattle.row_orders.proofs.Loops.{loops_are, shared_outermost}
 use Rattle.row_orders.proofs.Positions.{never_fall_at}
-use Rattle.row_orders.proofs.Rising.{Starts, IsLed, rows_long, rows_reread, rows_rise}
+use Rattle.row_orders.proofs.Rising.{rows_long, rows_reread}
 
 -- a dense format has no head
 pub no_head : (levels : List FormatLevel) → list_all is_dense levels ≡ true → head_levels levels ≡ []
@@ -46,16 +42,6 @@ no_head (level ∷ levels) dense = ap (λ b. if b then [] else (level ∷ head_l
 each_passes : (p : ℕ → Bool) (vs : List ℕ) → list_any p vs ≡ false → Each (λ v. p v ≡ false) vs
 each_passes p [] h = tt
 each_passes p (v ∷ vs) h = let parts = neither (p v) (list_any p vs) h in (parts.0, each_passes p vs parts.1)
-
-each_none : (p q : ℕ → Bool) (order front : List ℕ) → ((v : ℕ) → p v ≡ true → q v ≡ true)
-    → Each (λ h. list_any q (outside order h) ≡ false) front → Each (λ h. list_any p (outside order h) ≡ false) front
-each_none p q order [] more h = tt
-each_none p q order (v ∷ front) more h = (none_passes p q (outside order v) more h.0, each_none p q order front more h.1)
-
--- the coordinates of the first variables at a point
-taken_front : (point : ℕ → ℕ) (front rest : List ℕ) → take (length front) (map point (front ++ rest)) ≡ map point front
-taken_front point [] rest = refl
-taken_front point (v ∷ front) rest = ap (λ xs. point v ∷ xs) (taken_front point front rest)
 
 front_short : (front rest : List ℕ) → length front ≤ length (front ++ rest)
 front_short [] rest = omega arith
@@ -102,46 +88,24 @@ module _ (s : Statement) (formats : List (List FormatLevel)) (h : HasResult s fo
     ordered : IsOrderOf (length s.vars) order
     ordered = is_order_of (length s.vars) (statement_edges s formats) order loops_ordered
 
-    free : Each (λ v. list_any (is_summed s) (outside order v) ≡ false) (head s formats)
-    free = each_passes (is_inside_sum s order) (head s formats)
+    outer : AreOutsideSums s order (head s formats)
+    outer = each_passes (is_inside_sum s order) (head s formats)
         (neither (list_any is_unordered (result_levels s formats)) (list_any (is_inside_sum s order) (head s formats)) none).1
 
-    starts : (t : Term) → ((v : ℕ) → contains (own_variables s t) v ≡ true → is_summed s v ≡ true)
-        → Starts (head s formats) (filter (λ v. contains s.left.vars v || contains (own_variables s t) v) order)
-    starts t own = by (list_all is_dense (result_levels s formats)) refl
-      where
-        by : (b : Bool) → list_all is_dense (result_levels s formats) ≡ b
-            → Starts (head s formats) (filter (λ v. contains s.left.vars v || contains (own_variables s t) v) order)
-        by true dense = subst (λ front. Starts front (filter (λ v. contains s.left.vars v || contains (own_variables s t) v) order))
-            (ap (λ levels. by_level levels s.left.vars) (sym (no_head (result_levels s formats) dense))) tt
-        by false sparse =
-            front_stays (contains s.left.vars) (contains (own_variables s t)) order (head s formats)
-            (by_level (tail_levels (result_levels s formats)) s.left.vars) ordered.once
-            (left_order s formats h order loops_ordered sparse ∙ whole)
-            (each_none (contains (own_variables s t)) (is_summed s) order (head s formats) own free)
-
-    terms_led : (ts : List Term)
-        → ((v : ℕ) → list_any (λ (t : Term). contains (own_variables s t) v) ts ≡ true → is_summed s v ≡ true)
-        → Each (IsLed (head s formats)) (map (nest_of s order) ts)
-    terms_led [] summed = tt
-    terms_led (t ∷ ts) summed = (
-      record {
-        starts = starts t (λ v own. summed v (or_first (contains (own_variables s t) v)
-            (list_any (λ (u : Term). contains (own_variables s u) v) ts) own));
-        once = loops_distinct s h.numbered order ordered t;
-      },
-      terms_led ts (λ v own. summed v (or_second (contains (own_variables s t) v)
-          (list_any (λ (u : Term). contains (own_variables s u) v) ts) own)),
-    )
-
     module _ (loops : LoopCode) (are : AreLoopsOf s order loops) where
-      pub led : Each (IsLed (head s formats)) (nests (concrete_of loops))
-      led = each_permuted (IsLed (head s formats)) (map (nest_of s order) (terms s.expr)) (nests (concrete_of loops)) are.terms
-          (terms_led (terms s.expr) (λ v own. own))
-
       module _ (a : Arithmetic) (inputs : Inputs) (stored : Stored) where
         heads : NeverFalls (rows_to a s formats inputs stored (head s formats) loops)
-        heads = rows_rise a (layout_of s formats) stored inputs.ranges (head s formats) loops start led are.shared
+        heads = by (list_all is_dense (result_levels s formats)) refl
+          where
+            by : (b : Bool) → list_all is_dense (result_levels s formats) ≡ b
+                → NeverFalls (rows_to a s formats inputs stored (head s formats) loops)
+            by true dense = subst (λ front. NeverFalls (rows_to a s formats inputs stored front loops))
+                (ap (λ levels. by_level levels s.left.vars) (sym (no_head (result_levels s formats) dense)))
+                (fronts_never_fall s formats h.numbered order ordered [] (left_in_order s order) refl tt loops are a inputs stored).0
+            by false sparse =
+                (fronts_never_fall s formats h.numbered order ordered (head s formats)
+                (by_level (tail_levels (result_levels s formats)) s.left.vars)
+                (sym (left_alone s order) ∙ left_order s formats h order loops_ordered sparse ∙ whole) outer loops are a inputs stored).0
 
         levels : NeverFalls (map (cut (length (head s formats))) (rows_to a s formats inputs stored (left_levels s formats) loops))
         levels = subst NeverFalls (sym (rows_reread a (layout_of s formats) stored inputs.ranges (left_levels s formats) (head s formats)

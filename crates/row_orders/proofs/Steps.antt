@@ -14,7 +14,7 @@ dropped : {X : Type 0} (xs : List X) (i : ℕ) (d : X) → i < length xs → dro
 dropped xs i d inside = drop-cons xs i d inside ∙ ap (λ n. slice_index_or xs i d ∷ drop n xs) (sym (add-one i))
 
 -- whether some element passes a test, from a place on
-pub any_on : {X : Type 0} (p : X → Bool) (xs : List X) (i : ℕ) (d : X) (b : Bool) → i < length xs → p (slice_index_or xs i d) ≡ b
+any_on : {X : Type 0} (p : X → Bool) (xs : List X) (i : ℕ) (d : X) (b : Bool) → i < length xs → p (slice_index_or xs i d) ≡ b
     → list_any p (drop i xs) ≡ (b || list_any p (drop (i + 1) xs))
 any_on p xs i d b inside is = ap (list_any p) (dropped xs i d inside) ∙ ap (λ c. c || list_any p (drop (i + 1) xs)) is
 
@@ -32,14 +32,23 @@ in_front [] ys i inside = absurd (omega (arith, inside))
 in_front (x ∷ xs) ys zero inside = refl
 in_front (x ∷ xs) ys (suc i) inside = in_front xs ys i (omega (arith, inside))
 
-pub levels_long : (levels : List FormatLevel) (vars : List ℕ) → length (by_level levels vars) ≡ length levels
+levels_long : (levels : List FormatLevel) (vars : List ℕ) → length (by_level levels vars) ≡ length levels
 levels_long [] vars = refl
 levels_long (level ∷ levels) vars = ap suc (levels_long levels vars)
 
-pub head_variable : (levels : List FormatLevel) (vars : List ℕ) (depth : ℕ) → depth < length (head_levels levels)
+head_variable : (levels : List FormatLevel) (vars : List ℕ) (depth : ℕ) → depth < length (head_levels levels)
     → slice_index_or (by_level levels vars) depth 0 ≡ slice_index_or (by_level (head_levels levels) vars) depth 0
 head_variable levels vars depth inside =
     let long = levels_long (head_levels levels) vars in
     ap (λ ls. slice_index_or (by_level ls vars) depth 0) (sym (levels_parted levels))
     ∙ ap (λ vs. slice_index_or vs depth 0) (by_level_parts (head_levels levels) (tail_levels levels) vars)
     ∙ in_front (by_level (head_levels levels) vars) (by_level (tail_levels levels) vars) depth (omega (arith, inside, long))
+
+-- whether a variable of the head passes a test, from a level on
+pub head_on : (p : ℕ → Bool) (levels : List FormatLevel) (vars : List ℕ) (depth v : ℕ) (b : Bool) → depth < length (head_levels levels)
+    → v ≡ slice_index_or (by_level levels vars) depth 0 → p v ≡ b → list_any p (drop depth (by_level (head_levels levels) vars))
+    ≡ (b || list_any p (drop (depth + 1) (by_level (head_levels levels) vars)))
+head_on p levels vars depth v b inside there is =
+    let long = levels_long (head_levels levels) vars in
+    any_on p (by_level (head_levels levels) vars) depth 0 b (omega (arith, inside, long))
+    (ap p (sym (there ∙ head_variable levels vars depth inside)) ∙ is)

@@ -103,7 +103,8 @@ all_passing p q (x ∷ order) h = by (q x) (all_passing p q order more)
     by false rest = rest
 
 -- of variables in loop order those behind the first summed one come last
-tail_last : (s : Statement) (q : ℕ → Bool) (order : List ℕ) → IsDistinct order → StayPassing (contains (behind_sum s order)) (filter q order)
+tail_last : (s : Statement) (q : ℕ → Bool) (order : List ℕ) → IsDistinct order
+    → StayPassing (contains (behind_sum s order)) (filter q order)
 tail_last s q [] distinct = tt
 tail_last s q (x ∷ order) distinct = by (is_summed s x) (tail_last s q order distinct.1)
   where

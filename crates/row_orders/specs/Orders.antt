@@ -1,11 +1,11 @@
 -- The order in which loops come by the rows of a result.
-use Rattle.std.specs.Prelude.{◌≡◌, ◌⊎◌, ℕ, ◌<◌, true, false, List, [], length, map, take, slice_index, slice_index_or}
+use Rattle.std.specs.Prelude.{◌≡◌, ◌⊎◌, ℕ, ◌<◌, true, false, List, [], ◌++◌, length, map, take, slice_index, slice_index_or}
 use Rattle.numbers.specs.Arithmetic.{Arithmetic}
 use Rattle.tensor_map.specs.declared.entries.Entry.{Entry}
 use Rattle.tensor_map.proofs.Summed.{NeverFalls}
 use Rattle.format_spec.specs.declared.format.FormatLevel.{FormatLevel}
 use Rattle.format_spec.specs.Formats.{IsFormat}
-use Rattle.index_notation.specs.Statement.{IsNumbered, IsWellNamed}
+use Rattle.index_notation.specs.Statement.{IsNumbered}
 use Rattle.index_notation.specs.declared.syntax.Statement.{Statement}
 use Rattle.lists.specs.Each.{Each}
 use Rattle.expr_terms.specs.Result.{AreBelow}
@@ -14,7 +14,7 @@ use Rattle.iteration_graph.specs.Edges.{HasFormat, statement_edges}
 use Rattle.iteration_graph.specs.Graphs.{IsLoopOrder}
 use Rattle.concrete_notation.specs.Contributions.{Inputs}
 use Rattle.concrete_notation.specs.declared.concrete.Concrete.{Concrete, Where}
-use Rattle.concrete_notation.specs.Nests.{HasTerms, IsOrderOf, SharesLoops, workspaces}
+use Rattle.concrete_notation.specs.Nests.{HasTerms, IsOrderOf, SharesLoops, left_in_order, workspaces}
 use Rattle.loop_code.specs.declared.loops.LoopCode.{LoopCode}
 use Rattle.loop_code.specs.Loops.{Stored}
 use Rattle.lowering.specs.Lowered.{IsInOrder, concrete_of, plain}
@@ -23,12 +23,11 @@ use Rattle.level_rows.specs.Tables.{Agree, IsBefore}
 use Rattle.tensor_storage.specs.Arranged.{no_entry}
 use Rattle.tensor_storage.specs.Storages.{in_level_order}
 use Rattle.row_orders.specs.Heads.{head, head_levels, left_levels, result_levels}
-use Rattle.row_orders.specs.Takings.{calls_for_workspace}
+use Rattle.row_orders.specs.Takings.{calls_for_workspace, is_inside_sum}
 
 -- a statement with a format for its result
 pub record HasResult (s : Statement) (formats : List (List FormatLevel)) : Type 0 where
   pub numbered : IsNumbered s
-  pub named : IsWellNamed s
   pub left : HasFormat formats s.left
   pub format : IsFormat (result_levels s formats)
 
@@ -44,6 +43,20 @@ cut n row = record { coords = take n row.coords; value = row.value }
 -- a row, whose coordinates stand in the order of the modes, at those of the head's levels
 abbrev pub at_head : List FormatLevel → Entry → Entry
 at_head levels row = record { coords = in_level_order (head_levels levels) row.coords; value = row.value }
+
+-- no summed variable stands in an order before one of these
+abbrev pub AreOutsideSums : Statement → List ℕ → List ℕ → Type 0
+AreOutsideSums s order front = Each (λ v. is_inside_sum s order v ≡ false) front
+
+-- the rows of loops never fall, in lexicographic order, by the coordinates of some variables with which the left ones begin in loop order,
+-- where no summed variable stands before one of them, whatever is stored of the operands: neither those that are added to them alone, nor
+-- those that are added to all left variables
+abbrev pub FrontsNeverFall : Type 0
+FrontsNeverFall = (s : Statement) (formats : List (List FormatLevel)) → IsNumbered s → (order : List ℕ) → IsOrderOf (length s.vars) order
+    → (front rest : List ℕ) → left_in_order s order ≡ front ++ rest → AreOutsideSums s order front
+    → (loops : LoopCode) → AreLoopsOf s order loops → (a : Arithmetic) (inputs : Inputs) (stored : Stored)
+    → NeverFalls (rows_to a s formats inputs stored front loops)
+    × NeverFalls (map (cut (length front)) (rows_to a s formats inputs stored (left_in_order s order) loops))
 
 -- the coordinates of rows, by their places: of each row, whose number comes second
 abbrev pub coords_of : List Entry → ℕ → ℕ → ℕ
