@@ -9,7 +9,7 @@ use Rattle.tensor_map.specs.declared.entries.Entry.{Entry}
 use Rattle.tensor_map.specs.Order as lists
 use Rattle.tensor_map.proofs.Summed.{IsNotAfterAll, NeverFalls}
 use Rattle.tensor_storage.specs.Arranged.{no_entry}
-use Rattle.row_orders.specs.Orders.{cut, coords_of, NeverFallAt}
+use Rattle.row_orders.specs.Orders.{cut, row_coords, NeverFallAt}
 
 -- coordinates that are before others of the same number are smaller at the first place where they differ
 record IsSmaller (xs ys : List ℕ) : Type 0 where
@@ -71,7 +71,7 @@ taken_at (suc n) (x ∷ xs) (suc d) h = taken_at n xs d (omega (arith, h))
 
 -- rows whose first coordinates never fall
 pub never_fall_at : (n : ℕ) (rows : List Entry) → NeverFalls (map (cut n) rows) → Each (λ (row : Entry). n ≤ length row.coords) rows
-    → NeverFallAt (coords_of rows) n (length rows)
+    → NeverFallAt (row_coords rows) n (length rows)
 never_fall_at n rows rising long i j before inside =
     elim (falls_at (map (cut n) rows) i j no_entry rising before (omega (arith, inside, many))) [
       | inl less ↦ inr (first_smaller (smaller (first i) (first j) (first_long i below ∙ sym (first_long j inside))
@@ -97,10 +97,10 @@ never_fall_at n rows rising long i j before inside =
     first_long k h = length-take-le n (slice_index_or rows k no_entry).coords
         (each_at (λ (row : Entry). n ≤ length row.coords) rows k no_entry long h)
 
-    read : (k d : ℕ) → d < n → slice_index (first k) d ≡ coords_of rows d k
+    read : (k d : ℕ) → d < n → slice_index (first k) d ≡ row_coords rows d k
     read k d h = taken_at n (slice_index_or rows k no_entry).coords d h
 
-    first_smaller : IsSmaller (first i) (first j) → IsBefore (coords_of rows) n i j
+    first_smaller : IsSmaller (first i) (first j) → IsBefore (row_coords rows) n i j
     first_smaller s =
         let whole = first_long i below in
         let inner = s.within in
@@ -108,6 +108,6 @@ never_fall_at n rows rising long i j before inside =
           s.at,
           short,
           (λ e h. sym (read i e (omega (arith, h, short))) ∙ s.agree e h ∙ read j e (omega (arith, h, short))),
-          subst (λ y. coords_of rows s.at i < y) (read j s.at short)
+          subst (λ y. row_coords rows s.at i < y) (read j s.at short)
               (subst (λ x. x < slice_index (first j) s.at) (read i s.at short) s.less),
         )

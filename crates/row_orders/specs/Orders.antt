@@ -58,9 +58,9 @@ FrontsNeverFall = (s : Statement) (formats : List (List FormatLevel)) → IsNumb
     → NeverFalls (rows_to a s formats inputs stored front loops)
     × NeverFalls (map (cut (length front)) (rows_to a s formats inputs stored (left_in_order s order) loops))
 
--- the coordinates of rows, by their places: of each row, whose number comes second
-abbrev pub coords_of : List Entry → ℕ → ℕ → ℕ
-coords_of rows d i = slice_index (slice_index_or rows i no_entry).coords d
+-- the coordinates of rows: of the level numbered d, from 0 at the top, that of row i
+abbrev pub row_coords : List Entry → ℕ → ℕ → ℕ
+row_coords rows d i = slice_index (slice_index_or rows i no_entry).coords d
 
 -- a row is as another one at the first n levels, or stands before it there
 abbrev pub IsNotAfter : (ℕ → ℕ → ℕ) → ℕ → ℕ → ℕ → Type 0
@@ -75,7 +75,7 @@ pub record ComeInOrder (a : Arithmetic) (s : Statement) (formats : List (List Fo
     : Stored) (loops : LoopCode) : Type 0 where
   pub heads : NeverFalls (rows_to a s formats inputs stored (head s formats) loops)
   pub levels : NeverFalls (map (cut (length (head s formats))) (rows_to a s formats inputs stored (left_levels s formats) loops))
-  pub places : NeverFallAt (coords_of (rows_to a s formats inputs stored (left_levels s formats) loops)) (length (head s formats))
+  pub places : NeverFallAt (row_coords (rows_to a s formats inputs stored (left_levels s formats) loops)) (length (head s formats))
       (length (rows_to a s formats inputs stored (left_levels s formats) loops))
   pub modes : NeverFalls (map (at_head (result_levels s formats)) (rows_to a s formats inputs stored s.left.vars loops))
 
