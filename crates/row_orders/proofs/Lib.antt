@@ -1,0 +1,15 @@
+pub mod Below
+pub mod Blocks
+pub mod FrontRows
+pub mod Fronts
+pub mod HeadLengths
+pub mod LevelOrders
+pub mod Lists
+pub mod Loops
+pub mod Orders
+pub mod Positions
+pub mod Rising
+pub mod Steps
+pub mod Summed
+pub mod Tails
+pub mod Worked

@@ -1,0 +1,5 @@
+pub mod Heads
+pub mod Orders
+pub mod Tails
+pub mod Takings
+pub mod Worked
