@@ -1,6 +1,6 @@
 -- What the code does that counts the positions of a full level.
-use Rattle.std.specs.Prelude.{◌≡◌, ◌⊎◌, ℕ, ◌+◌, ◌-◌, ◌*◌, ◌≤◌, ◌<◌, ◌^◌, nat_le, true, false, List, [], ◌∷◌, length, Some, refl}
-use Rattle.std.proofs.Common.{◌∙◌, sym, ap, subst, arith, inl, inr}
+use Rattle.std.specs.Prelude.{◌≡◌, ◌⊎◌, ℕ, ◌+◌, ◌-◌, ◌*◌, ◌≤◌, ◌<◌, nat_le, true, false, List, [], ◌∷◌, length, Some, refl}
+use Rattle.std.proofs.Common.{◌∙◌, sym, ap, arith, inl, inr}
 use Rattle.std.proofs.lemmas.Bool.{cases_lt}
 use Rattle.std.proofs.lemmas.Bool.Decides.{nat_tests}
 use Rattle.limits.specs.Limits.{greatest_position_count}
@@ -10,11 +10,11 @@ use Rattle.kernel_code.proofs.Does.{does_nothing, does_set, does_extend, does_if
 use Rattle.kernel_code.specs.Keeps.{Leaves, EveryArray, no_turns}
 use Rattle.kernel_code.proofs.Keeps.{this_var, leaves_set, leaves_none}
 use Rattle.kernel_code.proofs.Words.{word_is, difference_is, less_yes, less_no}
-use Rattle.kernel_code.specs.Meaning.{Setting, State, value, set_var, length_of}
+use Rattle.kernel_code.specs.Meaning.{Setting, State, set_var, length_of}
 use Rattle.kernel_code.specs.declared.syntax.Arr.TheVariants.{Values, Dimension}
 use Rattle.kernel_code.specs.declared.syntax.Op.TheVariants.{Sub, Less}
 use Rattle.kernel_code.specs.declared.syntax.KExpr.{KExpr, Num, Var, Len, At, Bin}
-use Rattle.kernel_code.specs.declared.syntax.KStmt.{KStmt, Set, Extend}
+use Rattle.kernel_code.specs.declared.syntax.KStmt.{Extend}
 use Rattle.level_core.specs.Fragments.{RefusedWithin}
 use Rattle.level_core.specs.GuardedProducts.{guarded_product, StandsForProduct}
 use Rattle.level_core.proofs.GuardedProducts.{guarded_told, sizes_are_factors, all_parents}

@@ -1,5 +1,5 @@
 -- What the fragments of a level do, told of its log.
-use Rattle.std.specs.Prelude.{◌≡◌, ℕ, ◌+◌, ◌-◌, ◌≤◌, ◌<◌, Bool, true, false, if◌then◌else◌, List, [], ◌∷◌, ◌++◌, length, slice_set, Some, refl}
+use Rattle.std.specs.Prelude.{◌≡◌, ℕ, ◌+◌, ◌-◌, ◌≤◌, Bool, true, false, if◌then◌else◌, List, [], ◌∷◌, length, slice_set, Some, refl}
 use Rattle.std.proofs.Common.{◌∙◌, sym, ap, subst, arith}
 use Rattle.limits.specs.Limits.{greatest_position_count}
 use Rattle.limits.proofs.Limits.{positions_are_small}
@@ -12,7 +12,7 @@ use Rattle.kernel_code.specs.declared.syntax.KExpr.{KExpr, Num, Var}
 use Rattle.kernel_code.specs.declared.syntax.KStmt.{KStmt}
 use Rattle.level_core.specs.declared.letter.Letter.{Letter}
 use Rattle.level_core.specs.declared.stage.Stage.TheVariants.{Unfinished, Finished}
-use Rattle.level_core.specs.Codes.{HoldsLog, ReserveCode, AppendCode, EdgesCode}
+use Rattle.level_core.specs.Codes.{ReserveCode, AppendCode, EdgesCode}
 use Rattle.level_core.specs.Fragments.{IsOf, IsOutside, RefusedWithin, PassesLimit}
 use Rattle.level_core.specs.Kinds.{properties, capabilities}
 use Rattle.level_core.specs.Logs.{Log, IsLog, CodeMayReserve, MayAppend, MayAppendEdges, with_parents, with_coord, with_edges}

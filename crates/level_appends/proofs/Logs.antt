@@ -4,12 +4,11 @@ use Rattle.std.specs.Prelude.{take, drop, replicate, slice_index, refl}
 use Rattle.std.proofs.Common.{◌∙◌, sym, ap, subst, arith, inl, inr}
 use Rattle.std.proofs.lemmas.List.{length-replicate, length-append, replicate-append-replicate}
 use Rattle.level_core.specs.declared.letter.Letter.{Letter}
-use Rattle.level_core.specs.declared.stage.Stage.TheVariants.{Unfinished}
 use Rattle.level_core.specs.Entries.{IsIn, one, span}
 use Rattle.level_core.specs.Kinds.{properties}
 use Rattle.level_core.specs.Logs.{Log, IsLog, total, ungiven, segment_in, with_parents}
-use Rattle.level_rows.specs.Rows.{Rows, begun, place, InOrder, MayAppendRows}
-use Rattle.level_rows.proofs.Progress.{Progress, Appended, Given, UpTo}
+use Rattle.level_rows.specs.Rows.{Rows, begun, place, MayAppendRows}
+use Rattle.level_rows.proofs.Progress.{Progress, Given, UpTo}
 use Rattle.level_rows.proofs.Steps.{parents_rise}
 use Rattle.level_appends.specs.Appended.{EndsAt}
 

@@ -1,10 +1,10 @@
 -- Two lists of rows in increasing order that name the same lists of first coordinates, one of them each only once.
 use Rattle.std.specs.Prelude.{◌≡◌, ◌⊎◌, ℕ, zero, suc, ◌≤◌, ◌<◌, refl}
-use Rattle.std.proofs.Common.{◌∙◌, sym, ap, subst, arith, inl, inr}
-use Rattle.std.proofs.lemmas.Bool.{cases_lt, cases_order}
+use Rattle.std.proofs.Common.{arith, inl, inr}
+use Rattle.std.proofs.lemmas.Bool.{cases_lt}
 use Rattle.level_rows.specs.Tables.{Increase}
 use Rattle.level_rows.proofs.TableLaws.{before}
-use Rattle.level_appends.proofs.Keys.{SameKey, KeyBefore, key_sym, key_trans, before_along, key_order, before_trans, same_row, row_order}
+use Rattle.level_appends.proofs.Keys.{SameKey, KeyBefore, key_sym, key_trans, before_along, key_order, same_row, row_order}
 
 -- so many rows, which increase by their first m coordinates, name what others do
 pub record NameSame (m : ℕ) (heads : ℕ → ℕ → ℕ) (many : ℕ) (coords : ℕ → ℕ → ℕ) (count : ℕ) : Type 0 where

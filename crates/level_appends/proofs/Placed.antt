@@ -7,7 +7,7 @@ use Rattle.level_core.specs.declared.letter.Letter.{Letter}
 use Rattle.level_core.specs.Kinds.{properties}
 use Rattle.level_rows.specs.Rows.{Rows, begun, place, MayAppendRows}
 use Rattle.level_rows.specs.Growing.{IsNext}
-use Rattle.level_rows.specs.Tables.{Agree, Increase, Begins, ShareBy, NeverFall, AllPlaced, AreRowsOf}
+use Rattle.level_rows.specs.Tables.{Increase, Begins, ShareBy, NeverFall, AllPlaced, AreRowsOf}
 use Rattle.level_rows.proofs.PlaceLaws.{may_append_rows, appended_share, appended_never_fall, appended_all_placed}
 use Rattle.level_rows.proofs.TableLaws.{agree_more, agree_less, coords_upto}
 

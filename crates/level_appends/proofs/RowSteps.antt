@@ -14,13 +14,13 @@ use Rattle.kernel_code.proofs.Words.{sum_is, binary_is}
 use Rattle.kernel_code.specs.Meaning.{Setting, State, value, word_of, set_var}
 use Rattle.kernel_code.specs.declared.syntax.Op.TheVariants.{Add, NotEqual}
 use Rattle.kernel_code.specs.declared.syntax.KExpr.{KExpr, Num, Var, Bin}
-use Rattle.kernel_code.specs.declared.syntax.KStmt.{KStmt, Set, If}
+use Rattle.kernel_code.specs.declared.syntax.KStmt.{KStmt, Set}
 use Rattle.level_core.specs.declared.letter.Letter.{Letter}
 use Rattle.level_core.specs.Codes.{ReserveCode, AppendCode, EdgesCode}
 use Rattle.level_core.specs.Fragments.{IsOutside, RefusedWithin, PassesLimit}
 use Rattle.level_core.specs.Kinds.{properties, capabilities}
 use Rattle.level_core.specs.Logs.{Log, IsLog, MayAppendEdges, with_parents, with_coord, with_edges, nothing_reserved}
-use Rattle.level_core.specs.Meaning.{Meaning, Arrays}
+use Rattle.level_core.specs.Meaning.{Meaning}
 use Rattle.level_core.specs.Laws.{Laws}
 use Rattle.level_rows.specs.Rows.{Rows, begun, MayAppendRows}
 use Rattle.level_rows.specs.Appending.{turned_log, added_log, closed_log}
@@ -28,11 +28,11 @@ use Rattle.level_rows.proofs.EmitLaws.{HasLog}
 use Rattle.level_rows.proofs.Progress.{Progress, Filled}
 use Rattle.level_rows.proofs.RowLaws.{begun_yes, begun_few, begun_some}
 use Rattle.level_rows.proofs.AppendSteps.{none_done, may_turn, turns, turned_begin, may_add, adds, fills}
-use Rattle.level_appends.specs.Appended.{IsOfCursor, EndsAt, LevelAt, LevelFilled}
+use Rattle.level_appends.specs.Appended.{IsOfCursor, LevelAt, LevelFilled}
 use Rattle.level_appends.specs.Codes.{begin_code, turn_code, add_code, end_code, IsBeside, IsAtStart, BeginsCursor, ReservesParents, AppendsRow}
 use Rattle.level_appends.specs.Codes.{EndsLevel}
 use Rattle.level_appends.proofs.Logs.{ends_upto, progress_reserved}
-use Rattle.level_appends.proofs.Fragments.{log_there, log_kept, log_reserved, log_appended, log_given, edges_coords}
+use Rattle.level_appends.proofs.Fragments.{log_kept, log_reserved, log_appended, log_given, edges_coords}
 
 apart : {A : Type 0} → true ≡ false → A
 apart e = absurd (never e)

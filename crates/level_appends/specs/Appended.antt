@@ -1,5 +1,5 @@
 -- One level of a kernel's result to which rows are appended one after another: what arrays and variables have after the first rows.
-use Rattle.std.specs.Prelude.{◌≡◌, ℕ, zero, suc, ◌+◌, ◌≤◌, ◌<◌, false, length, Some}
+use Rattle.std.specs.Prelude.{◌≡◌, ℕ, suc, ◌+◌, ◌≤◌, ◌<◌, false, length, Some}
 use Rattle.kernel_code.specs.Meaning.{State}
 use Rattle.level_core.specs.declared.letter.Letter.{Letter}
 use Rattle.level_core.specs.Kinds.{properties}

@@ -4,7 +4,7 @@ use Rattle.kernel_code.specs.declared.syntax.Arr.TheVariants.{Dimension}
 use Rattle.kernel_code.specs.declared.syntax.KExpr.{Num, At}
 use Rattle.kernel_code.specs.declared.syntax.KStmt.{Set}
 use Rattle.level_core.specs.GuardedProducts.{guarded_product}
-use Rattle.level_appends.specs.Positions.{refuse_code, count_code, CountsPositions}
+use Rattle.level_appends.specs.Positions.{count_code, CountsPositions}
 use Rattle.level_appends.proofs.Counting.{counts_positions}
 use Rattle.level_appends.proofs.positions.count_positions.Goals as goal
 

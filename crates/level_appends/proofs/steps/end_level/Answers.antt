@@ -1,4 +1,4 @@
-use Rattle.std.proofs.Common.{◌∙◌, sym, ap, refl}
+use Rattle.std.proofs.Common.{◌∙◌, sym, ap}
 use Rattle.level_appends.proofs.RowSteps.{ends_level_once, ends_level_below}
 use Rattle.level_appends.proofs.steps.end_level.Goals as goal
 
