@@ -29,7 +29,8 @@ use Rattle.level_core.specs.Laws.{Laws}
 use Rattle.level_core.proofs.KindLaws.{unordered_stored}
 use Rattle.level_rows.specs.Rows.{Rows, begun_below, MayInsertRows}
 use Rattle.level_rows.specs.Draining.{Stays, TellsFirst, TellsCoord}
-use Rattle.level_rows.specs.Placing.{insert_code, store_code, insert_row_code, insert_rows_code, times, insert_turns, LeavesPlaced}
+use Rattle.level_rows.specs.Placing.{insert_code, store_code, insert_row_code, insert_rows_code, times, insert_turns, probes_each}
+use Rattle.level_rows.specs.Placing.{LeavesPlaced}
 use Rattle.level_rows.specs.Placing.{PlacesRows}
 use Rattle.level_rows.proofs.DrainSteps.{list_apart}
 use Rattle.level_rows.proofs.InsertLoop.{Inserting, begins, allowed_next, may_insert_next, inserts_next, inserts}
@@ -85,7 +86,7 @@ pub record Placings {L : Type 0} (means : Meaning L) (old : L) (level g base par
   pub rest : done + left ≡ rows.count
   pub inserting : Inserting means parents most done slot rows ps old l
   pub last_at : (i : ℕ) → done ≡ suc i → last ≡ rows.parent i
-  pub placed : Placed means level g base s0 (insert_turns (slot_width most) done) done slot last l ps s
+  pub placed : Placed means level g base s0 (insert_turns (probes_each (means.kind old) most) done) done slot last l ps s
 
 -- after the test whether the row begins a position
 pub record Slotted {L : Type 0} (means : Meaning L) (old : L) (level g base parents most : ℕ) (rows : Rows) (s0 : State) (done : ℕ)
@@ -93,7 +94,7 @@ pub record Slotted {L : Type 0} (means : Meaning L) (old : L) (level g base pare
   pub slot : ℕ
   pub l : L
   pub inserting : Inserting means parents most (done + 1) slot rows (slice_set ps done slot) old l
-  pub placed : Placed means level g base s0 (insert_turns (slot_width most) (suc done)) done slot (rows.parent done) l ps s
+  pub placed : Placed means level g base s0 (insert_turns (probes_each (means.kind old) most) (suc done)) done slot (rows.parent done) l ps s
 
 -- a variable that isn't read again is set
 set_other : {L : Type 0} (means : Meaning L) (level g base : ℕ) (s0 : State) (most : LoopKind → ℕ) (done slot last : ℕ) (l : L)
@@ -127,28 +128,40 @@ module _ {L : Type 0} (means : Meaning L) (laws : Laws means) (c : Setting) (let
     → begun_below rows p rows.count ≤ most)
     (tells : TellsFirst base level g test rows s0) (reads : TellsCoord base level g coord rows s0)
     (values : List ℕ) (values_are : s0.arrays (Sums w) ≡ Some values) (many : length values ≡ rows.count) (few : rows.count < 2 ^ 63) where
-  -- a coordinate is sought in at most as many probe turns as a block is wide
+  -- a coordinate is sought in at most so many probe turns
   probes : (l : L) (done slot : ℕ) (ps : List ℕ) → Inserting means parents most done slot rows ps old l → (p : ℕ) → means.allowed l (one p)
-      → (k : LoopKind) → probe_turns (means.kind l) (means.segment_of l (one p)) k ≤ turns_of Probe (slot_width most) k
-  probes l done slot ps f p ok k = by_order (properties (means.kind l)).ordered refl
+      → (k : LoopKind)
+      → probe_turns (means.kind l) (means.segment_of l (one p)) k ≤ turns_of Probe (probes_each (means.kind old) most) k
+  probes l done slot ps f p ok k = by_order (properties (means.kind old)).ordered refl
     where
-      by_order : (b : Bool) → (properties (means.kind l)).ordered ≡ b
-          → probe_turns (means.kind l) (means.segment_of l (one p)) k ≤ turns_of Probe (slot_width most) k
-      by_order true is =
-          subst (λ b. (if b then no_turns else turns_of Probe ((means.segment_of l (one p)).hi - (means.segment_of l (one p)).lo)) k
-          ≤ turns_of Probe (slot_width most) k) (sym is) (omega arith)
-      by_order false is =
-          let unordered = sym (ap (λ j. (properties j).ordered) f.kind) ∙ is in
-          let wide = laws.wide l (slot_width most) (one p) (f.width (unordered_stored (means.kind old) unordered)) ok in
-          let same : (means.segment_of l (one p)).hi - (means.segment_of l (one p)).lo ≡ slot_width most = omega (arith, wide) in
-          subst (λ b. (if b then no_turns else turns_of Probe ((means.segment_of l (one p)).hi - (means.segment_of l (one p)).lo)) k
-          ≤ turns_of Probe (slot_width most) k) (sym is)
-          (subst (λ n. turns_of Probe n k ≤ turns_of Probe (slot_width most) k) (sym same) (omega arith))
+      kind_same : means.kind l ≡ means.kind old
+      kind_same = f.kind
+
+      slots : ℕ
+      slots = (means.segment_of l (one p)).hi - (means.segment_of l (one p)).lo
+
+      at_most : Bool → Bool → Type 0
+      at_most now before =
+          (let most_turns : LoopKind → ℕ = if now then no_turns else turns_of Probe slots in most_turns k)
+          ≤ turns_of Probe (if before then 0 else slot_width most) k
+
+      by_order : (b : Bool) → (properties (means.kind old)).ordered ≡ b
+          → probe_turns (means.kind l) (means.segment_of l (one p)) k ≤ turns_of Probe (probes_each (means.kind old) most) k
+      by_order b is =
+          subst (λ j. at_most (properties j).ordered (properties (means.kind old)).ordered) (sym kind_same)
+          (subst (λ o. at_most o o) (sym is) (by b is))
+        where
+          by : (b : Bool) → (properties (means.kind old)).ordered ≡ b → at_most b b
+          by true is = omega arith
+          by false is =
+              let wide = laws.wide l (slot_width most) (one p) (f.width (unordered_stored (means.kind old) is)) ok in
+              let same : slots ≡ slot_width most = omega (arith, wide) in
+              subst (λ n. turns_of Probe n k ≤ turns_of Probe (slot_width most) k) (sym same) (omega arith)
 
   -- the row's coordinate is inserted
   does_insert : (done slot : ℕ) (l : L) (ps : List ℕ) (s : State) → done < rows.count → rows.first done ≡ true
       → Inserting means parents most done slot rows ps old l
-      → Placed means level g base s0 (turned_turns (slot_width most) done) done slot (rows.parent done) l ps s
+      → Placed means level g base s0 (turned_turns (probes_each (means.kind old) most) done) done slot (rows.parent done) l ps s
       → s.vars (base + 4) ≡ Some (rows.parent done)
       → Does c (insert_code base insert) s (Slotted means old level g base parents most rows s0 done ps) Never
   does_insert done slot l ps s h is f d parent =
@@ -175,7 +188,7 @@ module _ {L : Type 0} (means : Meaning L) (laws : Laws means) (c : Setting) (let
             below = λ y b m. other_var t (base + 1) y v (λ e. omega (arith, e, b)) ∙ k.0.below y (omega (arith, b)) m
                 ∙ d.leaves.below y b m;
             arrays = λ x st. k.0.arrays x st.0 ∙ d.leaves.arrays x st;
-            turns = row_turns (slot_width most) done s0 s t d.leaves.turns
+            turns = row_turns (probes_each (means.kind old) most) done s0 s t d.leaves.turns
                 (λ j. let a = k.0.turns j in let b = probes l done slot ps f (rows.parent done) ok j in omega (arith, a, b));
           };
         };
@@ -190,7 +203,7 @@ module _ {L : Type 0} (means : Meaning L) (laws : Laws means) (c : Setting) (let
   -- the row has the position of the row before
   same_slot : (done slot : ℕ) (l : L) (ps : List ℕ) (s : State) → done < rows.count → rows.first done ≡ false
       → Inserting means parents most done slot rows ps old l
-      → Placed means level g base s0 (turned_turns (slot_width most) done) done slot (rows.parent done) l ps s
+      → Placed means level g base s0 (turned_turns (probes_each (means.kind old) most) done) done slot (rows.parent done) l ps s
       → Slotted means old level g base parents most rows s0 done ps s
   same_slot done slot l ps s h is f d = record {
     slot = slot;
@@ -206,8 +219,8 @@ module _ {L : Type 0} (means : Meaning L) (laws : Laws means) (c : Setting) (let
       leaves = record {
         below = d.leaves.below;
         arrays = d.leaves.arrays;
-        turns = row_turns (slot_width most) done s0 s s d.leaves.turns
-            (λ k. none_more (same_kind Probe k) (s.turns k) (slot_width most));
+        turns = row_turns (probes_each (means.kind old) most) done s0 s s d.leaves.turns
+            (λ k. none_more (same_kind Probe k) (s.turns k) (probes_each (means.kind old) most));
       };
     };
   }
@@ -234,7 +247,7 @@ module _ {L : Type 0} (means : Meaning L) (laws : Laws means) (c : Setting) (let
         inserting = a.inserting;
         last_at = λ i e. let same : i ≡ done = omega (arith, e) in ap rows.parent (sym same);
         placed =
-            subst (λ n. Placed means level g base s0 (insert_turns (slot_width most) n) (done + 1) a.slot (rows.parent done) a.l
+            subst (λ n. Placed means level g base s0 (insert_turns (probes_each (means.kind old) most) n) (done + 1) a.slot (rows.parent done) a.l
             (slice_set ps done a.slot) s3) next (record {
               held = laws.held_there a.l 0 level s.arrays s3.arrays
                   (λ x of. other_array s (ListPositions g) x (slice_set ps done a.slot) (list_apart level g x of)) a.placed.held;
@@ -242,9 +255,9 @@ module _ {L : Type 0} (means : Meaning L) (laws : Laws means) (c : Setting) (let
               slot_is = other_var s2 base (base + 1) (done + 1) (λ e. omega (arith, e)) ∙ a.placed.slot_is;
               parent = other_var s2 base (base + 3) (done + 1) (λ e. omega (arith, e)) ∙ a.placed.parent;
               places = this_array s (ListPositions g) (ListPositions g) (slice_set ps done a.slot) (same_arr_self (ListPositions g));
-              leaves = leaves_set NoVariable (Stays level g) base (insert_turns (slot_width most) (suc done)) s0 s2 base (done + 1)
+              leaves = leaves_set NoVariable (Stays level g) base (insert_turns (probes_each (means.kind old) most) (suc done)) s0 s2 base (done + 1)
                   (λ y l e. omega (arith, l, e))
-                  (leaves_array NoVariable (Stays level g) base (insert_turns (slot_width most) (suc done)) s0 s (ListPositions g)
+                  (leaves_array NoVariable (Stays level g) base (insert_turns (probes_each (means.kind old) most) (suc done)) s0 s (ListPositions g)
                   (slice_set ps done a.slot) (λ b k. k.1) a.placed.leaves);
             });
       })))
@@ -261,7 +274,7 @@ module _ {L : Type 0} (means : Meaning L) (laws : Laws means) (c : Setting) (let
   -- what follows the test whether the row begins a position
   does_slot : (done slot : ℕ) (l : L) (ps : List ℕ) (rest : List KStmt) (s : State) (Q : State → Type 0) → done < rows.count
       → Inserting means parents most done slot rows ps old l
-      → Placed means level g base s0 (turned_turns (slot_width most) done) done slot (rows.parent done) l ps s
+      → Placed means level g base s0 (turned_turns (probes_each (means.kind old) most) done) done slot (rows.parent done) l ps s
       → s.vars (base + 4) ≡ Some (rows.parent done) → s.vars (base + 5) ≡ Some (word_of (rows.first done))
       → ((t : State) → Slotted means old level g base parents most rows s0 done ps t → Does c rest t Q Never)
       → Does c (If (Var (base + 5)) (insert_code base insert) [] ∷ rest) s Q Never
@@ -276,8 +289,8 @@ module _ {L : Type 0} (means : Meaning L) (laws : Laws means) (c : Setting) (let
           (does_nothing c s _ _ (same_slot done slot l ps s h is f d)) next
 
   turned : (n done slot last : ℕ) (l : L) (ps : List ℕ) (s : State)
-      → Placed means level g base s0 (insert_turns (slot_width most) n) done slot last l ps s
-      → Placed means level g base s0 (turned_turns (slot_width most) n) done slot last l ps (one_turn s Drain)
+      → Placed means level g base s0 (insert_turns (probes_each (means.kind old) most) n) done slot last l ps s
+      → Placed means level g base s0 (turned_turns (probes_each (means.kind old) most) n) done slot last l ps (one_turn s Drain)
   turned n done slot last l ps s d = record {
     held = d.held;
     at = d.at;
@@ -287,7 +300,7 @@ module _ {L : Type 0} (means : Meaning L) (laws : Laws means) (c : Setting) (let
     leaves = record {
       below = d.leaves.below;
       arrays = d.leaves.arrays;
-      turns = λ k. one_more (same_kind Drain k) n (s0.turns k) (s.turns k) (turns_of Probe (times n (slot_width most)) k)
+      turns = λ k. one_more (same_kind Drain k) n (s0.turns k) (s.turns k) (turns_of Probe (times n (probes_each (means.kind old) most)) k)
           (d.leaves.turns k);
     };
   }
@@ -299,7 +312,7 @@ module _ {L : Type 0} (means : Meaning L) (laws : Laws means) (c : Setting) (let
       let h : d.done < rows.count = let r = d.rest in omega (arith, r) in
       let s1 = one_turn s Drain in
       let long = d.inserting.many in
-      let most1 : LoopKind → ℕ = turned_turns (slot_width most) d.done in
+      let most1 : LoopKind → ℕ = turned_turns (probes_each (means.kind old) most) d.done in
       let d1 = turned d.done d.done d.slot d.last d.l d.ps s d.placed in
       let there : slice_get d.ps d.done ≡ Some (rows.parent d.done) = slice_get-get_or d.ps d.done 0 (omega (arith, h, long))
       ∙ ap Some (d.inserting.ahead d.done (omega arith) h) in
@@ -347,7 +360,8 @@ module _ {L : Type 0} (means : Meaning L) (laws : Laws means) (c : Setting) (let
         places = d.placed.places;
         inserted = inserts means laws parents most rows old may enough d.slot d.ps d.l
             (subst (λ n. Inserting means parents most n d.slot rows d.ps old d.l) all d.inserting);
-        leaves = subst (λ n. Leaves NoVariable (Stays level g) base (insert_turns (slot_width most) n) s0 s) all d.placed.leaves;
+        width = d.inserting.width;
+        leaves = subst (λ n. Leaves NoVariable (Stays level g) base (insert_turns (probes_each (means.kind old) most) n) s0 s) all d.placed.leaves;
       }
   ends (suc n) s d z = absurd (apart (sym (test_yes s n d) ∙ z))
     where
@@ -423,6 +437,7 @@ placed_all {L} means laws letter level base w g parents_is most_is test coord pr
       positions = d.positions;
       places = d.places;
       inserted = d.inserted;
+      width = d.width;
       leaves = record {
         below = λ y h m. d.leaves.below y h m ∙ k.0.below y (omega (arith, h)) m;
         arrays = λ a st. d.leaves.arrays a st ∙ k.0.arrays a st.0;

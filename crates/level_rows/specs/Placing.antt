@@ -1,5 +1,5 @@
 -- The code that inserts the rows of a workspace into a level of the result, one drain turn for each row.
-use Rattle.std.specs.Prelude.{◌≡◌, ℕ, zero, suc, ◌+◌, ◌≤◌, ◌<◌, ◌^◌, false}
+use Rattle.std.specs.Prelude.{◌≡◌, ℕ, zero, suc, ◌+◌, ◌≤◌, ◌<◌, ◌^◌, false, if◌then◌else◌}
 use Rattle.std.specs.Prelude.{List, [], ◌∷◌, ◌++◌, length, slice_index, Some}
 use Rattle.kernel_code.specs.Widths.{slot_width}
 use Rattle.kernel_code.specs.Meaning.{Setting, State, value}
@@ -42,7 +42,12 @@ abbrev pub times : ℕ → ℕ → ℕ
 times zero width = 0
 times (suc n) width = times n width + width
 
--- a drain turn for each of so many rows, and for each as many probe turns as a block is wide
+-- how many probe turns a row takes at most: where coordinates stand without order as many as a block is wide, which has room for `most`
+-- coordinates, and else none
+abbrev pub probes_each : Letter → ℕ → ℕ
+probes_each letter most = if (properties letter).ordered then 0 else slot_width most
+
+-- a drain turn for each of so many rows, and for each so many probe turns
 abbrev pub insert_turns : ℕ → ℕ → LoopKind → ℕ
 insert_turns width n k = turns_of Drain n k + turns_of Probe (times n width) k
 
@@ -70,7 +75,8 @@ pub record LeavesPlaced {L : Type 0} (means : Meaning L) (l : L) (level g base p
   pub positions : List ℕ
   pub places : s.arrays (ListPositions g) ≡ Some positions
   pub inserted : InsertsRows means parents most rows positions l left
-  pub leaves : Leaves NoVariable (Stays level g) base (insert_turns (slot_width most) rows.count) s0 s
+  pub width : (properties (means.kind l)).full ≡ false → means.width left ≡ Some (slot_width most)
+  pub leaves : Leaves NoVariable (Stays level g) base (insert_turns (probes_each (means.kind l) most) rows.count) s0 s
 
 -- what the code does, wherever arrays hold a level of the kind that isn't prepared: it is refused a growth only where the positions
 -- that the kind says pass the limit
@@ -83,5 +89,5 @@ PlacesRows {L} means letter level base w g parents_is most_is test coord code =
     → ((properties (means.kind l)).full ≡ false → (p : ℕ) → p < parents → begun_below rows p rows.count ≤ most)
     → (s : State) → means.holds l 0 level s.arrays → MayPlace level base w g parents most parents_is most_is test coord rows s
     → Does c code s (LeavesPlaced means l level g base parents most rows s)
-    (RefusedWithin (insert_turns (slot_width most) rows.count) s
+    (RefusedWithin (insert_turns (probes_each (means.kind l) most) rows.count) s
     (PassesLimitWithin 0 level (positions_for (means.kind l) (means.size l) parents most)))

@@ -1,16 +1,18 @@
 -- Levels are filled one below another.
-use Rattle.std.specs.Prelude.{◌≡◌, ℕ, suc, ◌+◌, ◌≤◌, List, [], ◌∷◌, ◌++◌, drop, replicate, refl}
+use Rattle.std.specs.Prelude.{◌≡◌, ℕ, suc, ◌+◌, ◌*◌, ◌≤◌, ◌<◌, List, [], ◌∷◌, ◌++◌, drop, replicate, refl}
 use Rattle.std.proofs.Common.{◌∙◌, sym, ap, subst, arith}
 use Rattle.limits.proofs.Limits.{some_positions}
 use Rattle.kernel_code.specs.Does.{Does}
 use Rattle.kernel_code.proofs.Does.{does_weaker, does_append, does_set, does_nothing}
 use Rattle.kernel_code.proofs.Keeps.{this_var, other_var}
 use Rattle.kernel_code.specs.Meaning.{Setting, State, set_var}
+use Rattle.kernel_code.specs.declared.syntax.Arr.TheVariants.{Width}
 use Rattle.kernel_code.specs.declared.syntax.KExpr.{KExpr, Num, Var}
 use Rattle.kernel_code.specs.declared.syntax.KStmt.{KStmt, Set}
 use Rattle.kernel_code.specs.declared.syntax.LoopKind.{LoopKind}
 use Rattle.kernel_code.specs.declared.syntax.LoopKind.TheVariants.{Merge, Skip, Gather, Drain, Probe}
 use Rattle.level_core.specs.declared.letter.Letter.{Letter}
+use Rattle.level_rows.specs.Draining.{Stays}
 use Rattle.format_spec.specs.declared.format.FormatLevel.{FormatLevel}
 use Rattle.format_spec.specs.Formats.{letters_of, IsFormat}
 use Rattle.tensor_storage.specs.Chains.{chain_length}
@@ -19,7 +21,7 @@ use Rattle.tensor_storage.specs.Levels.{meaning}
 use Rattle.tensor_storage.specs.Tables.{Table}
 use Rattle.tensor_storage.proofs.PackSteps.{none_packed}
 use Rattle.result_assembly.specs.Drained.{passes_at, passes_of, drain_turns, MayDrain, AreDrained, LeavesLevel, DrainsOf}
-use Rattle.result_assembly.proofs.Turns.{more_turns, fewer_turns}
+use Rattle.result_assembly.proofs.Turns.{more_turns, fewer_turns, probes_more}
 use Rattle.result_assembly.specs.Levels.{IsReady, LeavesLevels, RefusesLevels, DrainsFirst}
 
 none_turns : (before rows : ℕ) (k : LoopKind) → before ≤ before + drain_turns 0 rows 0 k
@@ -51,12 +53,17 @@ none_drained format w g base is c nothing sizes table may s ready =
         values = ready.values;
       };
       probes = 0;
+      few = λ width narrow. omega arith;
       leaves = record {
         below = λ y less no. other_var s base y 1 (λ e. absurd (omega (arith, e, less)));
         arrays = λ a st. refl;
         turns = λ k. none_turns (s.turns k) table.count k;
       };
     }))
+
+-- the widths of the levels above stay
+pub other_level : (d g k : ℕ) → k < d → Stays (suc d) g (Width 0 (suc k))
+other_level d g k less = (λ of. let same : suc k ≡ suc d = of.1 in absurd (omega (arith, same, less)), refl)
 
 module _ (letters rest : List Letter) (letter : Letter) (d w g base through : ℕ) (code more : List KStmt)
     (left : drop d letters ≡ letter ∷ rest) (chain : through ≡ d + chain_length (letter ∷ rest))
@@ -70,6 +77,9 @@ module _ (letters rest : List Letter) (letter : Letter) (d w g base through : �
     drained = (let same : base + d + 1 ≡ base + suc d = omega arith in
         subst (λ x. AreDrained nothing letters sizes table w g (suc d) (Var x) u) same l.drained);
     probes = f.probes + l.probes;
+    few = λ width narrow. probes_more d (width * table.count) f.probes l.probes
+        (f.few width (λ k less n is. narrow k (omega (arith, less)) n (l.leaves.arrays (Width 0 (suc k)) (other_level d g k less) ∙ is)))
+        (l.few width (narrow d (omega arith)));
     leaves = record {
       below = λ y less no. l.leaves.below y (omega (arith, less)) no ∙ f.leaves.below y less no;
       arrays = λ a st. l.leaves.arrays a (st.0 (suc d), st.1) ∙ f.leaves.arrays a st;

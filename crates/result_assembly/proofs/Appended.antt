@@ -104,6 +104,7 @@ module _ (letters rest : List Letter) (letter : Letter) (w g d n base : ℕ) (co
         few (this_var t base needed) done.held l.places
         (subst (λ b. (if b then dr.starts * size else 0) ≤ needed) (sym (appended_stored letter able)) (omega arith));
     probes = 0;
+    few = λ width narrow. omega arith;
     leaves = record {
       below = λ y less no. (leaves_set NoVariable (Stays (suc d) g) base (turns_of Drain rows.count) s t base needed
           (λ z under is. absurd (omega (arith, under, is))) kept).below y less no;

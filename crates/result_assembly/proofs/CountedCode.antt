@@ -23,7 +23,7 @@ use Rattle.level_core.proofs.GuardedProducts.{guarded_told, widths_are_factors}
 use Rattle.level_core.proofs.KindLaws.{stored_positions}
 use Rattle.level_rows.specs.Rows.{Rows}
 use Rattle.level_rows.specs.Counting.{MayCount, LeavesGreatest, FindsGreatest}
-use Rattle.level_rows.specs.Placing.{PlacesRows}
+use Rattle.level_rows.specs.Placing.{PlacesRows, probes_each}
 use Rattle.tensor_storage.specs.Chains.{chain_length}
 use Rattle.tensor_storage.specs.Levels.{meaning}
 use Rattle.tensor_storage.specs.Tables.{Table}
@@ -34,9 +34,9 @@ use Rattle.kernel_correctness.specs.Stores.{AreHeld, StartsBelow}
 use Rattle.result_assembly.specs.Drained.{passes_at, IsCounted, HoldsTable, MayDrain, AreDrained, LeavesLevel, RefusesLevel}
 use Rattle.result_assembly.specs.Tests.{begins_test}
 use Rattle.result_assembly.proofs.Inserted.{greatest_few, inserted}
-use Rattle.result_assembly.proofs.KindLaws.{counted_never, counted_unordered}
+use Rattle.result_assembly.proofs.KindLaws.{counted_never, counted_unordered, each_within}
 use Rattle.result_assembly.proofs.Steps.{rows_here, few_rows, few_words, fill_here, first_told}
-use Rattle.result_assembly.proofs.Turns.{times_of, two_here, counted_then_placed}
+use Rattle.result_assembly.proofs.Turns.{times_of, times_most, two_here, counted_then_placed}
 
 -- what is drained so far stays where no array changes
 abbrev pub still_drained : (nothing : ℕ) (letters : List Letter) (sizes : List ℕ) (table : Table) (w g d : ℕ) (count : KExpr)
@@ -136,21 +136,24 @@ module _ (letters rest : List Letter) (letter : Letter) (slotted : IsCounted let
         (other_var t base (base + 1 + 2) (total t l) (λ e. absurd (omega (arith, e))) ∙ l.answer) (few_most t l) (λ full. apart (sym full ∙ slotted.stored)))
         (λ u z. record {
           drained = z.0;
-          probes = times_of (slot_width l.most) rows.count;
+          probes = times_of (probes_each letter l.most) rows.count;
+          few = λ width narrow. times_most rows.count (probes_each letter l.most) width
+              (let each = each_within letter l.most in let wide = narrow (slot_width l.most) (z.2 slotted.stored) in
+              omega (arith, each, wide));
           leaves = record {
             below = λ y less no. z.1.below y (omega (arith, less)) no
                 ∙ other_var t base y (total t l) (λ e. absurd (omega (arith, e, less))) ∙ l.leaves.below y (omega (arith, less)) no;
             arrays = λ a st. z.1.arrays a st ∙ l.leaves.arrays a tt;
             turns = λ k. counted_then_placed (s.turns k) (t.turns k) (u.turns k) (passes_at letters d) rows.count
-                (slot_width l.most) k (two_here letters rest letter d rows.count (counted_unordered letter slotted) left) (l.leaves.turns k)
+                (probes_each letter l.most) k (two_here letters rest letter d rows.count (counted_unordered letter slotted) left) (l.leaves.turns k)
                 (z.1.turns k);
           };
         })
         (λ turns a k r. (
-          times_of (slot_width l.most) rows.count,
+          times_of (probes_each letter l.most) rows.count,
           (
             (λ j. counted_then_placed (s.turns j) (t.turns j) (turns j) (passes_at letters d) rows.count
-                (slot_width l.most) j (two_here letters rest letter d rows.count (counted_unordered letter slotted) left) (l.leaves.turns j) (r.0 j)),
+                (probes_each letter l.most) j (two_here letters rest letter d rows.count (counted_unordered letter slotted) left) (l.leaves.turns j) (r.0 j)),
             r.1,
           ),
         ))

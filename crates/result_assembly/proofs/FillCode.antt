@@ -27,7 +27,7 @@ use Rattle.level_core.specs.GuardedProducts.{guarded_product}
 use Rattle.level_core.proofs.KindLaws.{are_of_a_kind}
 use Rattle.level_rows.specs.Counting.{LeavesGreatest, FindsGreatest}
 use Rattle.level_rows.specs.Draining.{Stays}
-use Rattle.level_rows.specs.Placing.{insert_turns, LeavesPlaced}
+use Rattle.level_rows.specs.Placing.{insert_turns, probes_each, LeavesPlaced}
 use Rattle.level_rows.specs.Rows.{Rows, begun_below, MayInsertRows}
 use Rattle.level_rows.specs.Values.{StoresValues}
 use Rattle.level_rows.specs.Tables.{ShareBy}
@@ -46,12 +46,12 @@ use Rattle.result_assembly.specs.Tests.{begins_test}
 use Rattle.result_assembly.proofs.FillSteps.{LeavesRows, rows_filled}
 use Rattle.result_assembly.proofs.CountedCode.{rows, counts, total, few_most, total_told, counted, slots, drained_then}
 use Rattle.result_assembly.proofs.Holding.{level_beside}
-use Rattle.result_assembly.proofs.KindLaws.{counted_never, counted_unordered}
+use Rattle.result_assembly.proofs.KindLaws.{counted_never, counted_unordered, width_held}
 use Rattle.result_assembly.proofs.Inserted.{start, needed, needed_is, refused_at, may_insert, after}
 use Rattle.result_assembly.proofs.Lists.{drop_rest}
 use Rattle.result_assembly.proofs.Steps.{few_words}
 use Rattle.result_assembly.proofs.Stepwise.{values_upto, upto_stored}
-use Rattle.result_assembly.proofs.Turns.{times_of, two_here, counted_then_placed}
+use Rattle.result_assembly.proofs.Turns.{times_of, times_most, two_here, counted_then_placed}
 
 -- the last level is a chain by itself, where each coordinate stands once
 pub one_chain : (letter : Letter) → IsCounted letter → chain_length (letter ∷ []) ≡ 1
@@ -236,6 +236,10 @@ module _ (letters : List Letter) (letter : Letter) (slotted : IsCounted letter) 
         turns_made : (k : LoopKind) → u.turns k ≤ sized.turns k + insert_turns (slot_width l.most) rows_now.count k
         turns_made k = let first = kept.turns k in let then_more = r.leaves.turns k in omega (arith, first, then_more)
 
+        each_is : probes_each (meaning.kind old) l.most ≡ slot_width l.most
+        each_is = ap (λ b. if b then 0 else slot_width l.most)
+            (ap (λ k. (properties k).ordered) old_kind ∙ counted_unordered letter slotted)
+
         abbrev placed : LeavesPlaced meaning old (suc d) g (base + 1) dr.parents l.most rows_now sized (without_values u)
         placed = record {
           left = r.left;
@@ -244,7 +248,12 @@ module _ (letters : List Letter) (letter : Letter) (slotted : IsCounted letter) 
           positions = r.positions;
           places = other_array u (Values 0) (ListPositions g) [] refl ∙ r.places;
           inserted = r.inserted;
-          leaves = record { below = λ y less no. vars_kept y less; arrays = emptied; turns = turns_made };
+          width = λ stored. r.width;
+          leaves = record {
+            below = λ y less no. vars_kept y less;
+            arrays = emptied;
+            turns = subst (λ n. (k : LoopKind) → u.turns k ≤ sized.turns k + insert_turns n rows_now.count k) (sym each_is) turns_made;
+          };
         }
 
         abbrev drained_all : AreDrained nothing letters sizes table w g (suc d) (Var base) (without_values u)
@@ -287,6 +296,8 @@ module _ (letters : List Letter) (letter : Letter) (slotted : IsCounted letter) 
           held = r.values_held;
           stores = stored;
           probes = times_of (slot_width l.most) table.count;
+          few = λ width narrow. times_most table.count (slot_width l.most) width
+              (narrow (slot_width l.most) (width_held r.left (suc d) (slot_width l.most) u.arrays r.held r.width));
           leaves = record {
             below = λ y less no. vars_kept y (omega (arith, less)) ∙ other_var t base y width_all (λ e. absurd (omega (arith, e, less)))
                 ∙ l.leaves.below y (omega (arith, less)) no;

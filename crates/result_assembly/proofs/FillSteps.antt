@@ -65,6 +65,7 @@ pub record LeavesRows (old : StorageLevel) (level g base parents most nothing to
   pub positions : List ℕ
   pub places : s.arrays (ListPositions g) ≡ Some positions
   pub inserted : InsertsRows meaning parents most rows positions old left
+  pub width : meaning.width left ≡ Some (slot_width most)
   pub values_held : s.arrays (Values 0) ≡ Some (values_upto (slice_index positions) value_of (replicate total nothing) rows.count)
   pub leaves : Leaves NoVariable (IsLeftAlone level g) base (insert_turns (slot_width most) rows.count) s0 s
 
@@ -113,6 +114,7 @@ module _ (c : Setting) (level d base w g parents most nothing total : ℕ) (inse
         places = i.places;
         inserted = inserts meaning laws parents most rows old may enough i.slot i.ps i.l
             (subst (λ n. Inserting meaning parents most n i.slot rows i.ps old i.l) all i.inserting);
+        width = i.inserting.width not_full;
         values_held = i.values_held
             ∙ ap (λ n. Some (values_upto (slice_index i.ps) value_of (replicate total nothing) n)) all;
         leaves = subst (λ n. Leaves NoVariable (IsLeftAlone level g) base (insert_turns (slot_width most) n) s0 t) all i.leaves;

@@ -12,7 +12,6 @@ use Rattle.kernel_code.specs.Keeps.{Below, EveryArray}
 use Rattle.kernel_code.proofs.Keeps.{this_var, other_var, value_kept}
 use Rattle.kernel_code.proofs.Words.{word_is, less_yes, less_no}
 use Rattle.kernel_code.specs.Meaning.{Setting, State, value, set_var}
-use Rattle.kernel_code.specs.Widths.{slot_width}
 use Rattle.kernel_code.specs.declared.syntax.Arr.TheVariants.{Key, Values, Dimension}
 use Rattle.kernel_code.specs.declared.syntax.KExpr.{KExpr, Num, Var, At, Bin}
 use Rattle.kernel_code.specs.declared.syntax.KStmt.{KStmt, Set, Extend}
@@ -23,7 +22,7 @@ use Rattle.level_core.specs.GuardedProducts.{guarded_product, StandsForProduct}
 use Rattle.level_core.proofs.GuardedProducts.{guarded_told, all_parents, sizes_are_factors}
 use Rattle.level_core.proofs.KindLaws.{full_positions}
 use Rattle.level_rows.specs.Rows.{Rows}
-use Rattle.level_rows.specs.Placing.{PlacesRows}
+use Rattle.level_rows.specs.Placing.{PlacesRows, probes_each}
 use Rattle.tensor_storage.specs.Chains.{chain_length}
 use Rattle.tensor_storage.specs.Counts.{positions_from}
 use Rattle.tensor_storage.specs.Levels.{meaning}
@@ -32,10 +31,10 @@ use Rattle.tensor_storage.proofs.Tables.{apart}
 use Rattle.result_assembly.specs.Drained.{passes_at, MayDrain, AreDrained, LeavesLevel, RefusesLevel}
 use Rattle.result_assembly.specs.Tests.{begins_test, guard_code}
 use Rattle.result_assembly.proofs.CountedCode.{still_drained}
-use Rattle.result_assembly.proofs.KindLaws.{full_never}
+use Rattle.result_assembly.proofs.KindLaws.{full_never, full_unprobed}
 use Rattle.result_assembly.proofs.Inserted.{inserted, told_level, needed_is}
 use Rattle.result_assembly.proofs.Steps.{size_here, rows_here, small, starts_here}
-use Rattle.result_assembly.proofs.Turns.{times_of, pass_here, none_then_placed}
+use Rattle.result_assembly.proofs.Turns.{times_of, times_most, pass_here, none_then_placed}
 
 module _ (letters rest : List Letter) (letter : Letter) (full : (properties letter).full ≡ true) (w g d n base : ℕ) (count : KExpr)
     (insert : List KStmt) (bounded : Below base count) (left : drop d letters ≡ letter ∷ rest) (through : n ≡ d + chain_length (letter ∷ rest))
@@ -88,18 +87,19 @@ module _ (letters rest : List Letter) (letter : Letter) (full : (properties lett
       (λ _. all_fit fits))
       (λ u z. record {
         drained = z.0;
-        probes = times_of (slot_width 0) rows.count;
+        probes = times_of (probes_each letter 0) rows.count;
+        few = λ width narrow. let none = full_unprobed letter full in times_most rows.count (probes_each letter 0) width (omega (arith, none));
         leaves = record {
           below = λ y less no. z.1.below y (omega (arith, less)) no ∙ other_var s base y total (λ e. absurd (omega (arith, e, less)));
           arrays = λ a st. z.1.arrays a st;
-          turns = λ k. none_then_placed (s.turns k) (u.turns k) (passes_at letters d) rows.count (slot_width 0) k
+          turns = λ k. none_then_placed (s.turns k) (u.turns k) (passes_at letters d) rows.count (probes_each letter 0) k
               (pass_here letters rest letter d rows.count left) (z.1.turns k);
         };
       })
       (λ turns a k r. (
-        times_of (slot_width 0) rows.count,
+        times_of (probes_each letter 0) rows.count,
         (
-          (λ j. none_then_placed (s.turns j) (turns j) (passes_at letters d) rows.count (slot_width 0) j
+          (λ j. none_then_placed (s.turns j) (turns j) (passes_at letters d) rows.count (probes_each letter 0) j
               (pass_here letters rest letter d rows.count left) (r.0 j)),
           r.1,
         ),

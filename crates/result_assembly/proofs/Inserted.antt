@@ -1,5 +1,5 @@
 -- The code of a level that coordinates are inserted into, once it is known how wide it has to be.
-use Rattle.std.specs.Prelude.{◌≡◌, ◌⊎◌, ℕ, zero, suc, ◌+◌, ◌≤◌, ◌<◌, ◌==◌, ◌&&◌, Bool, true, false, if◌then◌else◌, List, ◌∷◌}
+use Rattle.std.specs.Prelude.{◌≡◌, ◌⊎◌, ℕ, zero, suc, ◌+◌, ◌≤◌, ◌<◌, ◌==◌, ◌&&◌, Bool, true, false, if◌then◌else◌, List, [], ◌∷◌}
 use Rattle.std.specs.Prelude.{drop, slice_index, Some, refl}
 use Rattle.std.proofs.Common.{◌∙◌, sym, ap, subst, arith, inl, inr}
 use Rattle.limits.specs.Limits.{greatest_position_count}
@@ -9,9 +9,10 @@ use Rattle.kernel_code.specs.Keeps.{Leaves, NoVariable}
 use Rattle.kernel_code.specs.Meaning.{Setting, State, value}
 use Rattle.kernel_code.specs.Widths.{slot_width}
 use Rattle.kernel_code.specs.declared.syntax.Arr.{Arr}
-use Rattle.kernel_code.specs.declared.syntax.Arr.TheVariants.{Key}
+use Rattle.kernel_code.specs.declared.syntax.Arr.TheVariants.{Key, Width}
 use Rattle.kernel_code.specs.declared.syntax.KExpr.{KExpr, Var, At}
 use Rattle.kernel_code.specs.declared.syntax.KStmt.{KStmt}
+use Rattle.kernel_code.specs.declared.syntax.LoopKind.{LoopKind}
 use Rattle.level_core.specs.declared.letter.Letter.{Letter}
 use Rattle.level_core.specs.Entries.{one}
 use Rattle.level_core.specs.Fragments.{PassesLimitWithin, RefusedWithin}
@@ -19,7 +20,7 @@ use Rattle.level_core.specs.Kinds.{properties, capabilities, positions_for}
 use Rattle.level_core.specs.Laws.{HoldsStart}
 use Rattle.level_rows.specs.Rows.{Rows, begun_below, IsGreatestBelow, MayInsertRows}
 use Rattle.level_rows.specs.Draining.{Stays}
-use Rattle.level_rows.specs.Placing.{insert_turns, MayPlace, LeavesPlaced, PlacesRows}
+use Rattle.level_rows.specs.Placing.{insert_turns, probes_each, MayPlace, LeavesPlaced, PlacesRows}
 use Rattle.level_rows.specs.Filling.{AreNeeded, FillsRows}
 use Rattle.level_core.proofs.KindLaws.{inserted_else, no_positions, starts_within}
 use Rattle.tensor_storage.specs.Chains.{chain_length}
@@ -30,6 +31,7 @@ use Rattle.tensor_storage.specs.Tables.{Table}
 use Rattle.tensor_storage.proofs.Steps.{new_is}
 use Rattle.tensor_storage.proofs.Tables.{apart}
 use Rattle.result_assembly.specs.Drained.{MayDrain, AreDrained, PassesAt}
+use Rattle.result_assembly.proofs.KindLaws.{width_held}
 use Rattle.result_assembly.specs.Tests.{begins_test}
 use Rattle.result_assembly.proofs.Holding.{inserted_summed}
 use Rattle.result_assembly.proofs.Steps.{size_here, rows_here, few_words, begun_here, fill_here, first_told, coord_told}
@@ -162,8 +164,9 @@ module _ (letters rest : List Letter) (letter : Letter) (w g d n base : ℕ) (co
             → value most_is s ≡ Some most → most ≤ greatest_position_count
             → ((properties letter).full ≡ true → positions_for letter size dr.parents most ≤ greatest_position_count)
             → Does c code s (λ t. AreDrained nothing letters sizes table w g (suc d) (Var base) t
-            × Leaves NoVariable (Stays (suc d) g) (base + 1) (insert_turns (slot_width most) rows.count) s t)
-            (RefusedWithin (insert_turns (slot_width most) rows.count) s (PassesAt letters sizes table d))
+            × Leaves NoVariable (Stays (suc d) g) (base + 1) (insert_turns (probes_each letter most) rows.count) s t
+            × ((properties letter).full ≡ false → t.arrays (Width 0 (suc d)) ≡ Some (slot_width most ∷ [])))
+            (RefusedWithin (insert_turns (probes_each letter most) rows.count) s (PassesAt letters sizes table d))
         inserted c code places is few guarded =
             does_weaker c code s _ _ _ _
             (places c start.start start.kind start.keeps rows dr.parents most
@@ -177,5 +180,14 @@ module _ (letters rest : List Letter) (letter : Letter) (w g d n base : ℕ) (co
             may_insert
             (λ sparse p less. (greatest (ap (λ k. (properties k).full) (sym start.kind) ∙ sparse)).upto p)
             s start.held (given is))
-            (λ t l. (after t l, l.leaves))
-            (λ turns a k r. (r.0, refused_at a k r.1))
+            (λ t l. (
+              after t l,
+              subst (λ k. Leaves NoVariable (Stays (suc d) g) (base + 1) (insert_turns (probes_each k most) rows.count) s t) start.kind
+                  l.leaves,
+              λ stored. width_held l.left (suc d) (slot_width most) t.arrays l.held
+                  (l.width (ap (λ k. (properties k).full) start.kind ∙ stored)),
+            ))
+            (λ turns a k r. (
+              subst (λ kind. (j : LoopKind) → turns j ≤ s.turns j + insert_turns (probes_each kind most) rows.count j) start.kind r.0,
+              refused_at a k r.1,
+            ))

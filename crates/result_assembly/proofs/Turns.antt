@@ -2,6 +2,7 @@
 use Rattle.std.specs.Prelude.{◌≡◌, ◌⊎◌, ◌*◌, ℕ, zero, suc, ◌+◌, ◌-◌, ◌≤◌, ◌<◌, Bool, true, false, if◌then◌else◌, List, [], ◌∷◌, length, drop}
 use Rattle.std.specs.Prelude.{None, refl}
 use Rattle.std.proofs.Common.{◌∙◌, sym, ap, subst, arith, inl, inr}
+use Rattle.std.proofs.Math.Nat.{add-mul, mul-add}
 use Rattle.std.proofs.lemmas.Bool.{cases_lt}
 use Rattle.kernel_code.specs.declared.syntax.LoopKind.{LoopKind}
 use Rattle.kernel_code.specs.declared.syntax.LoopKind.TheVariants.{Merge, Skip, Gather, Drain, Probe}
@@ -54,6 +55,22 @@ counted_at_most before after each rows probes Probe m h = omega (arith, h)
 -- so many probe turns where each of so many rows takes as many as a block is wide
 abbrev pub times_of : ℕ → ℕ → ℕ
 times_of width rows = times rows width
+
+-- where each row takes no more than that
+pub times_most : (rows each width : ℕ) → each ≤ width → times_of each rows ≤ width * rows
+times_most zero each width l = omega arith
+times_most (suc n) each width l =
+    let more = times_most n each width l in
+    let next : suc n ≡ n + 1 = omega arith in
+    let product = ap (λ m. width * m) next ∙ mul-add width n 1 in
+    omega (arith, more, l, product)
+
+-- of levels and one more, each with so many at most
+pub probes_more : (d each probes more : ℕ) → probes ≤ d * each → more ≤ each → probes + more ≤ suc d * each
+probes_more d each probes more l m =
+    let next : suc d ≡ d + 1 = omega arith in
+    let product = ap (λ n. n * each) next ∙ add-mul d 1 each in
+    omega (arith, l, m, product)
 
 -- rows that are counted and then inserted take two drain turns each
 pub counted_then_placed : (before between after each rows width : ℕ) (k : LoopKind) → rows + rows ≤ times each rows

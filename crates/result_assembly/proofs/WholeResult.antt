@@ -1,5 +1,5 @@
 -- Levels that are filled, and then the values, are a packed result.
-use Rattle.std.specs.Prelude.{◌≡◌, ℕ, suc, ◌+◌, ◌≤◌, ◌<◌, ◌^◌, List, [], ◌∷◌, ◌++◌, length, map, drop, replicate, None, Some, refl}
+use Rattle.std.specs.Prelude.{◌≡◌, ℕ, suc, ◌+◌, ◌*◌, ◌≤◌, ◌<◌, ◌^◌, List, [], ◌∷◌, ◌++◌, length, map, drop, replicate, None, Some, refl}
 use Rattle.std.proofs.Common.{◌∙◌, sym, ap, subst, arith}
 use Rattle.std.proofs.lemmas.List.{append-nil, length-map}
 use Rattle.limits.proofs.Limits.{positions_are_small, workspace_pairs_are_positions}
@@ -7,7 +7,7 @@ use Rattle.kernel_code.specs.Does.{Does}
 use Rattle.kernel_code.proofs.Does.{does_weaker, does_append}
 use Rattle.kernel_code.proofs.Keeps.{other_array}
 use Rattle.kernel_code.specs.Meaning.{Setting, State}
-use Rattle.kernel_code.specs.declared.syntax.Arr.TheVariants.{Values}
+use Rattle.kernel_code.specs.declared.syntax.Arr.TheVariants.{Values, Width}
 use Rattle.kernel_code.specs.declared.syntax.KExpr.{KExpr, Var}
 use Rattle.kernel_code.specs.declared.syntax.KStmt.{KStmt}
 use Rattle.level_core.specs.declared.letter.Letter.{Letter}
@@ -26,7 +26,8 @@ use Rattle.result_assembly.specs.Levels.{IsReady, LeavesLevels, RefusesLevels, D
 use Rattle.result_assembly.specs.Stored.{values_code, LeavesValues, LeavesStored, DrainsResult}
 use Rattle.result_assembly.proofs.Holding.{held_along, level_beside}
 use Rattle.result_assembly.proofs.Lists.{drop_none, drop_rest, left_long}
-use Rattle.result_assembly.proofs.Turns.{within_most, values_within, fewer_passes, one_pass_more, more_turns, fewer_turns}
+use Rattle.result_assembly.proofs.Turns.{within_most, values_within, fewer_passes, one_pass_more, more_turns, fewer_turns, probes_more}
+use Rattle.result_assembly.proofs.AllLevels.{other_level}
 use Rattle.result_assembly.proofs.ValueCode.{values_stored}
 
 module _ (format : List FormatLevel) (w g base nothing : ℕ) (code : List KStmt) (is : IsFormat format)
@@ -64,6 +65,7 @@ module _ (format : List FormatLevel) (w g base nothing : ℕ) (code : List KStmt
       packed = done.0;
       storage = done.1;
       probes = l.probes;
+      few = λ width narrow. l.few width (λ k less n is. narrow (suc k) n (v.leaves.arrays (Width 0 (suc k)) refl ∙ is));
       leaves = record {
         below = λ y less no. v.leaves.below y (omega (arith, less)) no ∙ l.leaves.below y less no;
         arrays = λ a st. v.leaves.arrays a st.1 ∙ l.leaves.arrays a st.0;
@@ -181,6 +183,10 @@ module _ (format : List FormatLevel) (w g base nothing d : ℕ) (code last : Lis
       packed = done.0;
       storage = done.1;
       probes = f.probes + l.probes;
+      few = λ width narrow. subst (λ m. f.probes + l.probes ≤ m * (width * table.count)) all_levels
+          (probes_more d (width * table.count) f.probes l.probes
+          (f.few width (λ k less n is. narrow (suc k) n (l.leaves.arrays (Width 0 (suc k)) (other_level d g k less, refl) ∙ is)))
+          (l.few width (narrow (suc d))));
       leaves = record {
         below = λ y less no. l.leaves.below y (omega (arith, less)) no ∙ f.leaves.below y less no;
         arrays = λ a st. l.leaves.arrays a ((st.0.0 (suc d), st.0.1), st.1) ∙ f.leaves.arrays a st.0;

@@ -8,7 +8,7 @@ use Rattle.kernel_code.specs.Does.{Does, Refusal}
 use Rattle.kernel_code.specs.Keeps.{Leaves, NoVariable}
 use Rattle.kernel_code.specs.Meaning.{Setting, State, value}
 use Rattle.kernel_code.specs.declared.syntax.Arr.{Arr}
-use Rattle.kernel_code.specs.declared.syntax.Arr.TheVariants.{Values, Key, Sums, ListPositions}
+use Rattle.kernel_code.specs.declared.syntax.Arr.TheVariants.{Values, Key, Sums, Width, ListPositions}
 use Rattle.kernel_code.specs.declared.syntax.KExpr.{KExpr, Var}
 use Rattle.kernel_code.specs.declared.syntax.KStmt.{KStmt}
 use Rattle.kernel_code.specs.declared.syntax.LoopKind.{LoopKind}
@@ -103,12 +103,17 @@ most_passes (suc n) = 2 * suc n
 abbrev pub drain_turns : ℕ → ℕ → ℕ → LoopKind → ℕ
 drain_turns each rows probes k = turns_of Drain (times each rows) k + turns_of Probe probes k
 
+-- a block of slots of the result's level of this number is no wider than that, if the level has blocks
+abbrev pub NotWider : ℕ → ℕ → Arrays → Type 0
+NotWider width level arrays = (n : ℕ) → arrays (Width 0 level) ≡ Some (n ∷ []) → n ≤ width
+
 -- one level more is filled, and the number of its positions stands in variable `base`; all other variables below it stay, and so do
 -- the arrays of other levels and all scratch but the positions of the rows
 pub record LeavesLevel (nothing : ℕ) (letters : List Letter) (sizes : List ℕ) (table : Table) (w g d base : ℕ)
     (s t : State) : Type 0 where
   pub drained : AreDrained nothing letters sizes table w g (suc d) (Var base) t
   pub probes : ℕ
+  pub few : (width : ℕ) → NotWider width (suc d) t.arrays → probes ≤ width * table.count
   pub leaves : Leaves NoVariable (Stays (suc d) g) base (drain_turns (passes_at letters d) table.count probes) s t
 
 -- a growth of that level, or of the values that stand for a dense level, to a count that passes the limit and is at most the number of

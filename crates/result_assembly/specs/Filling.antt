@@ -1,6 +1,6 @@
 -- The last level of a kernel's result where its coordinates are counted and inserted, filled from the rows of a workspace together with
 -- the values.
-use Rattle.std.specs.Prelude.{◌≡◌, ℕ, suc, ◌+◌, List, [], ◌∷◌, ◌++◌, drop, replicate, slice_index, Some}
+use Rattle.std.specs.Prelude.{◌≡◌, ℕ, suc, ◌+◌, ◌*◌, ◌≤◌, List, [], ◌∷◌, ◌++◌, drop, replicate, slice_index, Some}
 use Rattle.kernel_code.specs.Does.{Does}
 use Rattle.kernel_code.specs.Keeps.{Leaves, NoVariable}
 use Rattle.kernel_code.specs.Meaning.{Setting, State, set_array}
@@ -13,7 +13,7 @@ use Rattle.level_core.specs.declared.letter.Letter.{Letter}
 use Rattle.level_rows.specs.Draining.{Stays}
 use Rattle.level_rows.specs.Values.{StoresValues}
 use Rattle.tensor_storage.specs.Tables.{Table}
-use Rattle.result_assembly.specs.Drained.{MayDrain, AreDrained, IsCounted, RefusesLevel, drain_turns, passes_at}
+use Rattle.result_assembly.specs.Drained.{MayDrain, AreDrained, IsCounted, NotWider, RefusesLevel, drain_turns, passes_at}
 use Rattle.result_assembly.specs.Stored.{IsNoValue}
 
 -- variables, from base on: the row, its parent's position (4), and its own (6), where its value is stored
@@ -39,6 +39,7 @@ pub record LeavesFilled (nothing : ℕ) (letters : List Letter) (sizes : List �
   pub held : t.arrays (Values 0) ≡ Some values
   pub stores : StoresValues table.count (slice_index drained.positions) table.values (replicate drained.parents nothing) values
   pub probes : ℕ
+  pub few : (width : ℕ) → NotWider width (suc d) t.arrays → probes ≤ width * table.count
   pub leaves : Leaves NoVariable (λ a. Stays (suc d) g a × IsNoValue a) base (drain_turns (passes_at letters d) table.count probes) s t
 
 -- what the code of a level does that is the last, and whose coordinates are counted

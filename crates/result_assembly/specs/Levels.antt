@@ -1,5 +1,5 @@
 -- All levels of a kernel's result, filled from the sorted rows of a workspace: where the code is run, and what it leaves.
-use Rattle.std.specs.Prelude.{◌≡◌, ℕ, ◌+◌, ◌<◌, false, List, [], length, replicate, Some}
+use Rattle.std.specs.Prelude.{◌≡◌, ℕ, suc, ◌+◌, ◌*◌, ◌≤◌, ◌<◌, false, List, [], length, replicate, Some}
 use Rattle.kernel_code.specs.Arrays.{same_arr}
 use Rattle.kernel_code.specs.Does.{Does, Refusal}
 use Rattle.kernel_code.specs.Keeps.{Leaves, NoVariable}
@@ -12,7 +12,7 @@ use Rattle.level_core.specs.declared.letter.Letter.{Letter}
 use Rattle.level_core.specs.Fragments.{IsOutside, RefusedWithin}
 use Rattle.tensor_storage.specs.Tables.{Table}
 use Rattle.kernel_correctness.specs.Stores.{StartsBelow}
-use Rattle.result_assembly.specs.Drained.{HoldsTable, MayDrain, AreDrained, drain_turns, passes_of, PassesAt}
+use Rattle.result_assembly.specs.Drained.{HoldsTable, MayDrain, AreDrained, NotWider, drain_turns, passes_of, PassesAt}
 
 -- the result's levels are as a kernel begins them and have no value, the workspace holds the rows, and the scratch list has for each
 -- the one position above all levels
@@ -31,6 +31,7 @@ pub record LeavesLevels (nothing : ℕ) (letters : List Letter) (sizes : List �
     (s t : State) : Type 0 where
   pub drained : AreDrained nothing letters sizes table w g d (Var (base + d)) t
   pub probes : ℕ
+  pub few : (width : ℕ) → ((k : ℕ) → k < d → NotWider width (suc k) t.arrays) → probes ≤ d * (width * table.count)
   pub leaves : Leaves NoVariable (IsBeside g) base (drain_turns (passes_of letters d) table.count probes) s t
 
 -- a growth of one of these levels is refused

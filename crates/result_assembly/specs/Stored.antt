@@ -1,5 +1,5 @@
 -- The values of the rows, stored at their positions; and a whole result: its levels and its values.
-use Rattle.std.specs.Prelude.{◌≡◌, ℕ, false, List, [], ◌∷◌, length, map, replicate, slice_index, Some}
+use Rattle.std.specs.Prelude.{◌≡◌, ℕ, ◌*◌, ◌≤◌, false, List, [], ◌∷◌, length, map, replicate, slice_index, Some}
 use Rattle.kernel_code.specs.Arrays.{same_arr}
 use Rattle.kernel_code.specs.Does.{Does}
 use Rattle.kernel_code.specs.Keeps.{Leaves, NoVariable}
@@ -21,7 +21,7 @@ use Rattle.tensor_storage.specs.Storages.{IsStorage, storage_of, in_level_order}
 use Rattle.tensor_storage.specs.Tables.{Table}
 use Rattle.kernel_correctness.specs.Results.{summed}
 use Rattle.kernel_correctness.specs.Stores.{AreHeld}
-use Rattle.result_assembly.specs.Drained.{MayDrain, drain_turns, most_passes}
+use Rattle.result_assembly.specs.Drained.{MayDrain, NotWider, drain_turns, most_passes}
 use Rattle.result_assembly.specs.Levels.{IsReady, IsBeside, RefusesLevels}
 
 -- variable `base` is the row
@@ -57,6 +57,7 @@ pub record LeavesStored (nothing : ℕ) (format : List FormatLevel) (ranges : Li
   pub packed : IsPacked nothing format ranges table (storage_of format levels values)
   pub storage : IsStorage (storage_of format levels values)
   pub probes : ℕ
+  pub few : (width : ℕ) → ((level : ℕ) → NotWider width level t.arrays) → probes ≤ length format * (width * table.count)
   pub leaves : Leaves NoVariable (λ a. IsBeside g a × IsNoValue a) base
       (drain_turns (most_passes (length format)) table.count probes) s t
 

@@ -25,7 +25,7 @@ ends_weaker a order kernel arrays P Q weaker e =
 module _ (a : Arithmetic) (s : Statement) (store : Store) (letters : List Letter) (most : LoopKind → ℕ) where
   -- the state leaves the result, and few turns were made
   abbrev pub IsDone : State → Type 0
-  IsDone t = LeavesResult a s (told_by a store) store t.arrays × AreTurns s (told_by a store) letters most t.turns
+  IsDone t = LeavesResult a s (told_by a store) store t.arrays × AreTurns s (told_by a store) letters most t.turns t.arrays
 
   -- the growth may be refused
   abbrev pub IsRightRefusal : Refusal
@@ -35,7 +35,8 @@ module _ (a : Arithmetic) (s : Statement) (store : Store) (letters : List Letter
       → IsRightOutcome a s (told_by a store) store o × MakesTurns s (told_by a store) letters most o
   done_told (Finished arrays turns) h = (
     subst (LeavesResult a s (told_by a store) store) h.2 h.1.0,
-    subst (AreTurns s (told_by a store) letters most) h.3 h.1.1,
+    subst (λ arrays. AreTurns s (told_by a store) letters most turns arrays) h.2
+        (subst (λ made. AreTurns s (told_by a store) letters most made _) h.3 h.1.1),
   )
   done_told (GotStuck statement) h = absurd h
   done_told (TooLong place count) h =

@@ -12,7 +12,7 @@ use Rattle.kernel_code.specs.declared.syntax.Kernel.{Kernel}
 use Rattle.kernel_code.specs.declared.syntax.KExpr.{Num, Len}
 use Rattle.kernel_code.specs.declared.syntax.KStmt.{KStmt, Extend, SortSum}
 use Rattle.kernel_code.specs.declared.syntax.LoopKind.{LoopKind}
-use Rattle.kernel_code.specs.declared.syntax.LoopKind.TheVariants.{Merge, Skip, Gather, Drain}
+use Rattle.kernel_code.specs.declared.syntax.LoopKind.TheVariants.{Merge, Skip, Gather, Drain, Probe}
 use Rattle.kernel_code.specs.Does.{Does, Never}
 use Rattle.kernel_code.specs.Kernels.{start_state}
 use Rattle.kernel_code.specs.Keeps.{Leaves, NoVariable, EveryArray, no_turns}
@@ -163,7 +163,7 @@ module _ (a : Arithmetic) (laws : Laws a) (s : Statement) (formats : List (List 
       zeroed = set_array t (ListPositions g) (replicate (length (values sums)) 0)
 
       turns_made : (u : State) → LeavesStored a.zero store.format store.ranges (table_of sums) g low zeroed u
-          → AreTurns s (told_by a store) (letters_of store.format) most u.turns
+          → AreTurns s (told_by a store) (letters_of store.format) most u.turns u.arrays
       turns_made u l = record {
         points = length sums;
         have = has_points a s store sums are_rows is.format left_many;
@@ -177,6 +177,11 @@ module _ (a : Arithmetic) (laws : Laws a) (s : Statement) (formats : List (List 
             let each : most_passes (length store.format) * length sums ≡ 2 * length (letters_of store.format) * length sums =
             ap (λ n. n * length sums) (passes_are (length store.format) some_level ∙ ap (λ n. 2 * n) (sym letters_many)) in
             omega (arith, made, more, same, each));
+        probes = λ width narrow.
+            (let made = filled.turns Probe in
+            let more = l.leaves.turns Probe in
+            let few = subst (λ n. l.probes ≤ n * (width * length sums)) (sym letters_many) (l.few width narrow) in
+            omega (arith, made, more, few));
       }
         where
           by_none : (j : LoopKind) → drain_turns (most_passes (length store.format)) (length sums) l.probes j ≡ 0 → u.turns j ≤ most j

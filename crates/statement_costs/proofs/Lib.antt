@@ -3,6 +3,7 @@ pub mod Lengths
 pub mod NoMore
 pub mod Packed
 pub mod Parts
+pub mod Probes
 pub mod SharedLoops
 pub mod Slots
 pub mod Steps

@@ -1,3 +1,4 @@
 pub mod Costs
+pub mod Probes
 pub mod Slots
 pub mod Worked

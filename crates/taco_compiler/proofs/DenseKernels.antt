@@ -8,7 +8,7 @@ use Rattle.kernel_code.specs.declared.syntax.Arr.TheVariants.{ListCoordinates, L
 use Rattle.kernel_code.specs.declared.syntax.Kernel.{Kernel}
 use Rattle.kernel_code.specs.declared.syntax.KStmt.{KStmt}
 use Rattle.kernel_code.specs.declared.syntax.LoopKind.{LoopKind}
-use Rattle.kernel_code.specs.declared.syntax.LoopKind.TheVariants.{Merge, Skip, Gather, Drain}
+use Rattle.kernel_code.specs.declared.syntax.LoopKind.TheVariants.{Merge, Skip, Gather, Drain, Probe}
 use Rattle.kernel_code.specs.Does.{Does, Never}
 use Rattle.kernel_code.specs.Keeps.{Leaves, NoVariable, EveryArray, no_turns}
 use Rattle.kernel_code.specs.Kernels.{KernelOutcome, Finished, GotStuck, TooLong, NotFinished, start_state}
@@ -54,9 +54,9 @@ use Rattle.kernel_emit.specs.Emitted.{AddsLoops}
 use Rattle.kernel_emit.specs.declared.emitting.Emitted.{Emitted}
 use Rattle.kernel_emit.proofs.ListLaws.{operand_apart}
 use Rattle.sparse_kernels.proofs.Ends.{ends_weaker}
-use Rattle.taco_compiler.specs.Compiled.{AreFewTurns, DrainsFew, IsCompiled}
+use Rattle.taco_compiler.specs.Compiled.{AreFewTurns, DrainsFew, IsCompiled, ProbesFew}
 use Rattle.taco_compiler.specs.Loops.{AreLoopsOf}
-use Rattle.taco_compiler.proofs.LoopTurns.{in_order_of, within_cost}
+use Rattle.taco_compiler.proofs.LoopTurns.{in_order_of, within_cost, within_searches}
 
 module _ (a : Arithmetic) (laws : Laws a) (s : Statement) (formats : List (List FormatLevel)) (f : IsForDense s formats) (order : List ℕ)
     (loops : LoopCode) (l : AreLoopsOf s formats order loops) where
@@ -197,6 +197,16 @@ module _ (a : Arithmetic) (laws : Laws a) (s : Statement) (formats : List (List 
       no_drains (TooLong place count) h = tt
       no_drains NotFinished h = absurd h
 
+      few_probes : (o : KernelOutcome) → ToldTurns o → ProbesFew s formats order store (told_by a store) o
+      few_probes (Finished left turns) h = record {
+        dense = λ dense. within_searches a laws s formats order loops l store (read_store store is) (from_top.most store)
+            (e.few (operands_in s store) (slice_index store.ranges) start) (turns Probe) (h Probe);
+        other = λ some. absurd (some dense_store.dense);
+      }
+      few_probes (GotStuck statement) h = absurd h
+      few_probes (TooLong place count) h = tt
+      few_probes NotFinished h = absurd h
+
     pub dense_compiled : IsCompiled a s formats order kernel
     dense_compiled = record {
       right = right_kernel;
@@ -205,4 +215,6 @@ module _ (a : Arithmetic) (laws : Laws a) (s : Statement) (formats : List (List 
           (AreFewTurns s formats order store) (few_turns store is arrays given) (ends_with_turns store is arrays given);
       drains = λ store is arrays given. ends_weaker a (length store.format) kernel arrays (ToldTurns store is arrays given)
           (DrainsFew s (told_by a store) store.format) (no_drains store is arrays given) (ends_with_turns store is arrays given);
+      probes = λ store is arrays given. ends_weaker a (length store.format) kernel arrays (ToldTurns store is arrays given)
+          (ProbesFew s formats order store (told_by a store)) (few_probes store is arrays given) (ends_with_turns store is arrays given);
     }

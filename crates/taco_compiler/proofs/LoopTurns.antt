@@ -1,9 +1,11 @@
 -- The turns of the loops that a statement is lowered to are within its cost.
-use Rattle.std.specs.Prelude.{◌≡◌, ℕ, ◌≤◌, List, slice_index}
-use Rattle.std.proofs.Common.{sym, subst, arith}
+use Rattle.std.specs.Prelude.{◌≡◌, ℕ, ◌*◌, ◌≤◌, Bool, true, false, if◌then◌else◌, List, [], length, slice_get, slice_index}
+use Rattle.std.proofs.Common.{◌∙◌, sym, ap, subst, arith}
+use Rattle.std.proofs.Math.Nat.{mul_assoc, mul_comm}
+use Rattle.std.proofs.lemmas.Nat.{mul-le}
 use Rattle.numbers.specs.Arithmetic.{Arithmetic, Laws}
 use Rattle.kernel_code.specs.declared.syntax.LoopKind.{LoopKind}
-use Rattle.kernel_code.specs.declared.syntax.LoopKind.TheVariants.{Merge, Skip, Gather}
+use Rattle.kernel_code.specs.declared.syntax.LoopKind.TheVariants.{Merge, Skip, Gather, Probe}
 use Rattle.format_spec.specs.declared.format.FormatLevel.{FormatLevel}
 use Rattle.index_notation.specs.declared.syntax.Statement.{Statement}
 use Rattle.concrete_notation.specs.declared.concrete.Concrete.{Concrete}
@@ -12,16 +14,19 @@ use Rattle.loop_code.specs.declared.loops.LoopCode.{LoopCode}
 use Rattle.loop_code.specs.Loops.{start}
 use Rattle.loop_code.specs.Turns.{cost, dups, merge_turns, skip_turns}
 use Rattle.loop_code.proofs.Turns.{skips_within, turns_within}
-use Rattle.lowering.specs.Layouts.{layout_of}
+use Rattle.lowering.specs.Layouts.{layout_of, letter_at, levels_of}
 use Rattle.lowering.specs.Lowered.{IsInOrder, plain}
 use Rattle.lowering.specs.Stored.{stored_of}
 use Rattle.operand_arrays.specs.Operands.{stored_in}
 use Rattle.kernel_correctness.specs.Stores.{Store, operand_of, told_by}
 use Rattle.dense_results.specs.Operands.{IsReadStore, operands_in}
 use Rattle.dense_results.proofs.Operands.{has_storages, operands_told}
-use Rattle.kernel_emit.specs.Emitted.{AreFew}
+use Rattle.kernel_emit.specs.Emitted.{AreFew, AreWidths}
+use Rattle.level_core.specs.Kinds.{properties}
 use Rattle.statement_costs.specs.Costs.{statement_cost, statement_repeats}
 use Rattle.statement_costs.specs.Slots.{level_slots, slots, statement_slots}
+use Rattle.statement_costs.specs.Probes.{probes}
+use Rattle.statement_costs.proofs.Probes.{probes_within}
 use Rattle.statement_costs.proofs.Slots.{loops_gather_no_more}
 use Rattle.statement_costs.proofs.NoMore.{loops_cost_no_more, loops_repeat_no_more}
 use Rattle.statement_costs.proofs.Packed.{packed_groups}
@@ -85,6 +90,34 @@ module _ (a : Arithmetic) (laws : Laws a) (s : Statement) (formats : List (List 
       subst (λ held. slots (layout_of s formats) held ranges (level_slots s formats widths) loops start
       ≤ statement_slots s formats order stored widths ranges) (sym same_stored)
       (loops_gather_no_more s formats c in_order shared loops l.shape l.placed l.found l.needed stored ranges widths)
+
+  abbrev cost_of : ℕ
+  cost_of = statement_cost s formats order (stored_of s (operand_of store)) (slice_index store.ranges)
+
+  probes_most : (width : ℕ)
+      → probes (layout_of s formats) (stored_in (operands_in s store)) (slice_index store.ranges)
+      (level_slots s formats (λ k level. width)) loops start ≤ width * (length s.accesses * cost_of)
+  probes_most width =
+      let turns = merge_turns (layout_of s formats) (stored_in (operands_in s store)) (slice_index store.ranges) loops start in
+      let searched = probes_within (layout_of s formats) (length s.accesses) (stored_in (operands_in s store)) (slice_index store.ranges)
+      (level_slots s formats (λ k level. width)) width narrow loops [] (λ k. 0) l.placed start in
+      let costs = mul-le (length s.accesses * width) turns (length s.accesses * width) cost_of (omega arith) merges_most in
+      let turned = ap (λ n. n * cost_of) (mul_comm (length s.accesses) width) ∙ mul_assoc width (length s.accesses) cost_of in
+      omega (arith, searched, costs, turned)
+    where
+      narrow : (k level : ℕ) → level_slots s formats (λ k level. width) k level ≤ width
+      narrow k level = by (properties (letter_at (levels_of formats (slice_get s.accesses k)) level)).ordered
+        where
+          by : (b : Bool) → (if b then 0 else width) ≤ width
+          by true = omega arith
+          by false = omega arith
+
+  -- so are probe turns that are no more than those of the loops' code
+  pub within_searches : (most : LoopKind → ℕ) → AreFew s formats loops (operands_in s store) (slice_index store.ranges) start most
+      → (made : ℕ) → made ≤ most Probe → (width : ℕ) → AreWidths s formats (operands_in s store) (λ k level. width)
+      → made ≤ width * (length s.accesses * cost_of)
+  within_searches most few made within width are =
+      let m = few.probes (λ k level. width) are in let n = probes_most width in omega (arith, within, m, n)
 
   -- so are turns that are no more than those of the loops' code
   pub within_cost : (most : LoopKind → ℕ) → AreFew s formats loops (operands_in s store) (slice_index store.ranges) start most

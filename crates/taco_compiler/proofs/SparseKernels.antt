@@ -3,6 +3,7 @@
 use Rattle.std.specs.Prelude.{◌≡◌, ℕ, ◌+◌, ◌*◌, ◌≤◌, List, [], ◌∷◌, ◌++◌, length, Some, slice_get}
 use Rattle.std.specs.Prelude.{slice_index, true}
 use Rattle.std.proofs.Common.{◌∙◌, sym, ap, subst, arith}
+use Rattle.std.proofs.Math.Nat.{mul-add, mul_left_comm}
 use Rattle.std.proofs.lemmas.List.{length-map}
 use Rattle.numbers.specs.Arithmetic.{Arithmetic, Laws}
 use Rattle.kernel_code.specs.declared.syntax.Arr.TheVariants.{Range, Values, Dimension, Ends as EndsOf, Coordinates, Width, Key, Sums}
@@ -10,7 +11,7 @@ use Rattle.kernel_code.specs.declared.syntax.Arr.TheVariants.{ListCoordinates, L
 use Rattle.kernel_code.specs.declared.syntax.Kernel.{Kernel}
 use Rattle.kernel_code.specs.declared.syntax.KStmt.{KStmt}
 use Rattle.kernel_code.specs.declared.syntax.LoopKind.{LoopKind}
-use Rattle.kernel_code.specs.declared.syntax.LoopKind.TheVariants.{Drain}
+use Rattle.kernel_code.specs.declared.syntax.LoopKind.TheVariants.{Drain, Probe}
 use Rattle.kernel_code.specs.Kernels.{KernelOutcome, Finished, GotStuck, TooLong, NotFinished}
 use Rattle.level_core.specs.Meaning.{Arrays}
 use Rattle.tensor_map.specs.declared.entries.Entry.{Entry}
@@ -34,7 +35,9 @@ use Rattle.operand_arrays.specs.Operands.{stored_in}
 use Rattle.operand_arrays.specs.Terms.{TargetIsBound}
 use Rattle.kernel_correctness.specs.Kernels.{Ends, IsRightKernel, IsRightOutcome}
 use Rattle.kernel_correctness.proofs.Sound.{right_is_sound}
-use Rattle.kernel_correctness.specs.Stores.{Store, IsStoreOf, IsGiven, told_by}
+use Rattle.kernel_correctness.specs.Stores.{Store, IsStoreOf, IsGiven, operand_of, told_by}
+use Rattle.lowering.specs.Stored.{stored_of}
+use Rattle.statement_costs.specs.Costs.{statement_cost}
 use Rattle.dense_results.specs.Kernels.{AreAtBase}
 use Rattle.dense_results.specs.Operands.{IsReadStore, operands_in}
 use Rattle.dense_results.specs.Results.{left_ranges}
@@ -51,10 +54,10 @@ use Rattle.sparse_kernels.specs.Kernels.{IsForSparse, PushesFromTop, sorting_cod
 use Rattle.sparse_kernels.specs.Turns.{AreTurns, MakesTurns}
 use Rattle.sparse_kernels.proofs.Ends.{ends_weaker}
 use Rattle.sparse_kernels.proofs.Kernels.{sparse_kernels_are_right}
-use Rattle.taco_compiler.specs.Compiled.{AreFewDrains, AreFewTurns, DrainsFew, IsCompiled}
+use Rattle.taco_compiler.specs.Compiled.{AreFewDrains, AreFewTurns, DrainsFew, IsCompiled, ProbesFew}
 use Rattle.taco_compiler.specs.Filling.{FillsFromRows}
 use Rattle.taco_compiler.specs.Loops.{AreLoopsOf}
-use Rattle.taco_compiler.proofs.LoopTurns.{in_order_of, within_cost}
+use Rattle.taco_compiler.proofs.LoopTurns.{in_order_of, within_cost, within_searches}
 use Rattle.taco_compiler.proofs.Targets.{keys_bound, keys_many}
 
 -- rows of so many coordinates are such as a workspace takes
@@ -66,11 +69,19 @@ rows_taken keys ranges before (row ∷ rows) each = (each.0.many, rows_taken key
 drop_none : (x none y : ℕ) → none ≡ 0 → x ≤ none + y → x ≤ y
 drop_none x none y is h = omega (arith, is, h)
 
+-- searches in the accesses, and in the levels of the result
+searches_add : (made loops width each many levels points : ℕ) → many ≡ levels → loops ≤ width * each
+    → made ≤ loops + many * (width * points) → made ≤ width * (each + levels * points)
+searches_add made loops width each many levels points is few all =
+    let sum = mul-add width each (levels * points) in
+    let turned = ap (λ n. n * (width * points)) is ∙ mul_left_comm levels width points in
+    omega (arith, few, all, sum, turned)
+
 -- turns of rows that are gone over so often
 few_drains : (s : Statement) (store : Store) (a : Arithmetic) (most turns : LoopKind → ℕ)
     → (AreAllDense store.format → ⊥) → most Drain ≡ 0
-    → AreTurns s (told_by a store) (letters_of store.format) most turns → AreFewDrains s (told_by a store) store.format (turns Drain)
-few_drains s store a most turns some none t = record {
+    → (arrays : Arrays) → AreTurns s (told_by a store) (letters_of store.format) most turns arrays → AreFewDrains s (told_by a store) store.format (turns Drain)
+few_drains s store a most turns some none arrays t = record {
   none = λ dense. absurd (some dense);
   within = λ other. record {
     points = t.points;
@@ -192,10 +203,29 @@ module _ (a : Arithmetic) (laws : Laws a) (s : Statement) (formats : List (List 
       drains_few (Finished left turns) h =
           few_drains s store a (pushes.most store) turns
           (λ dense. f.some (subst AreAllDense is.format_is dense))
-          (e.few (operands_in s store) (slice_index store.ranges) start).drains h.1
+          (e.few (operands_in s store) (slice_index store.ranges) start).drains left h.1
       drains_few (GotStuck statement) h = absurd h.1
       drains_few (TooLong place count) h = tt
       drains_few NotFinished h = absurd h.1
+
+      few_probes : (o : KernelOutcome) → IsTold o → ProbesFew s formats order store (told_by a store) o
+      few_probes (Finished left turns) h = record {
+        dense = λ dense. absurd (f.some (subst AreAllDense is.format_is dense));
+        other = λ some. record {
+          points = h.1.points;
+          have = h.1.have;
+          few = λ width are narrow.
+              let cost = statement_cost s formats order (stored_of s (operand_of store)) (slice_index store.ranges) in
+              let loops_made = within_searches a laws s formats order loops l store (read_store store is) (pushes.most store)
+              (e.few (operands_in s store) (slice_index store.ranges) start) (pushes.most store Probe) (omega arith) width are in
+              searches_add (turns Probe) (pushes.most store Probe) width (length s.accesses * cost) (length (letters_of store.format))
+              (length store.format) h.1.points (length-map store.format (λ (level : FormatLevel). level.letter)) loops_made
+              (h.1.probes width narrow);
+        };
+      }
+      few_probes (GotStuck statement) h = absurd h.1
+      few_probes (TooLong place count) h = tt
+      few_probes NotFinished h = absurd h.1
 
     right_kernel : IsRightKernel a s formats kernel
     right_kernel store is arrays given =
@@ -210,4 +240,6 @@ module _ (a : Arithmetic) (laws : Laws a) (s : Statement) (formats : List (List 
           (AreFewTurns s formats order store) (few_turns store is arrays given) (told store is arrays given);
       drains = λ store is arrays given. ends_weaker a (length store.format) kernel arrays (IsTold store is arrays given)
           (DrainsFew s (told_by a store) store.format) (drains_few store is arrays given) (told store is arrays given);
+      probes = λ store is arrays given. ends_weaker a (length store.format) kernel arrays (IsTold store is arrays given)
+          (ProbesFew s formats order store (told_by a store)) (few_probes store is arrays given) (told store is arrays given);
     }

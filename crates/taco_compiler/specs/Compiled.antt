@@ -1,9 +1,9 @@
 -- What is promised of the answer to a statement and formats.
-use Rattle.std.specs.Prelude.{◌≡◌, ℕ, ◌*◌, ◌≤◌, List, length, Result, Ok, Err, slice_index}
+use Rattle.std.specs.Prelude.{◌≡◌, ℕ, ◌+◌, ◌*◌, ◌≤◌, List, length, Result, Ok, Err, slice_index}
 use Rattle.numbers.specs.Arithmetic.{Arithmetic}
 use Rattle.kernel_code.specs.declared.syntax.Kernel.{Kernel}
 use Rattle.kernel_code.specs.declared.syntax.LoopKind.{LoopKind}
-use Rattle.kernel_code.specs.declared.syntax.LoopKind.TheVariants.{Merge, Skip, Gather, Drain}
+use Rattle.kernel_code.specs.declared.syntax.LoopKind.TheVariants.{Merge, Skip, Gather, Drain, Probe}
 use Rattle.kernel_code.specs.Kernels.{KernelOutcome, Finished, GotStuck, TooLong, NotFinished}
 use Rattle.level_core.specs.Meaning.{Arrays}
 use Rattle.format_spec.specs.declared.format.FormatLevel.{FormatLevel}
@@ -16,7 +16,7 @@ use Rattle.kernel_correctness.specs.Kernels.{Ends, IsRightKernel, IsSoundKernel}
 use Rattle.kernel_correctness.specs.Stores.{Store, IsStoreOf, IsGiven, operand_of, told_by}
 use Rattle.lowering.specs.Stored.{stored_of}
 use Rattle.simplifier.specs.Folded.{SimpleCode}
-use Rattle.sparse_kernels.specs.Turns.{HasPoints}
+use Rattle.sparse_kernels.specs.Turns.{AreNotWider, HasPoints}
 use Rattle.statement_costs.specs.Costs.{statement_cost, statement_repeats}
 use Rattle.statement_costs.specs.Slots.{statement_slots}
 use Rattle.dense_results.specs.Operands.{operands_in}
@@ -84,13 +84,45 @@ KeepsDrains a s formats kernel =
     (store : Store) → IsStoreOf s formats store → (arrays : Arrays) → IsGiven a.zero store arrays
     → Ends a (length store.format) kernel arrays (DrainsFew s (told_by a store) store.format)
 
--- the kernel is right and sound, its loops turn within the cost, and the rows of its workspace are gone over no more often than that
+-- so many points the support has; and a coordinate is sought in each access at most for each merge turn that the cost allows, and in each
+-- level of the result for each point, within so many probe turns as the widest level without order has slots, of an operand or of the result
+pub record AreWithinSearches (s : Statement) (formats : List (List FormatLevel)) (order : List ℕ) (store : Store) (inputs : Inputs)
+    (arrays : Arrays) (probes : ℕ) : Type 0 where
+  pub points : ℕ
+  pub have : HasPoints s inputs points
+  pub few : (width : ℕ) → AreWidths s formats (operands_in s store) (λ k level. width) → AreNotWider width arrays
+      → probes ≤ width * (length s.accesses * statement_cost s formats order (stored_of s (operand_of store)) (slice_index store.ranges)
+      + length store.format * points)
+
+-- in a result that is dense throughout no coordinate is sought
+pub record AreFewProbes (s : Statement) (formats : List (List FormatLevel)) (order : List ℕ) (store : Store) (inputs : Inputs)
+    (arrays : Arrays) (probes : ℕ) : Type 0 where
+  pub dense : AreAllDense store.format → (width : ℕ) → AreWidths s formats (operands_in s store) (λ k level. width)
+      → probes ≤ width * (length s.accesses * statement_cost s formats order (stored_of s (operand_of store)) (slice_index store.ranges))
+  pub other : (AreAllDense store.format → ⊥) → AreWithinSearches s formats order store inputs arrays probes
+
+-- so few are the probe turns of a run that finishes
+abbrev pub ProbesFew : Statement → List (List FormatLevel) → List ℕ → Store → Inputs → KernelOutcome → Type 0
+ProbesFew s formats order store inputs (Finished arrays turns) = AreFewProbes s formats order store inputs arrays (turns Probe)
+ProbesFew s formats order store inputs (GotStuck statement) = ⊥
+ProbesFew s formats order store inputs (TooLong place count) = Unit {0}
+ProbesFew s formats order store inputs NotFinished = ⊥
+
+-- so they are on every store
+abbrev pub KeepsProbes : Arithmetic → Statement → List (List FormatLevel) → List ℕ → Kernel → Type 0
+KeepsProbes a s formats order kernel =
+    (store : Store) → IsStoreOf s formats store → (arrays : Arrays) → IsGiven a.zero store arrays
+    → Ends a (length store.format) kernel arrays (ProbesFew s formats order store (told_by a store))
+
+-- the kernel is right and sound, its loops turn within the cost, the rows of its workspace are gone over no more often than that, and
+-- coordinates are sought within the widths of levels without order
 pub record IsCompiled (a : Arithmetic) (s : Statement) (formats : List (List FormatLevel)) (order : List ℕ) (kernel : Kernel)
     : Type 0 where
   pub right : IsRightKernel a s formats kernel
   pub sound : IsSoundKernel a s formats kernel
   pub few : KeepsCost a s formats order kernel
   pub drains : KeepsDrains a s formats kernel
+  pub probes : KeepsProbes a s formats order kernel
 
 -- such a kernel in the loop order, in whose code numbers settle nothing and which over the ring adds and multiplies words alone; or the
 -- cycle, where there is one; or want of memory
