@@ -1,0 +1,4 @@
+pub mod Appended
+pub mod Codes
+pub mod Positions
+pub mod Refined
