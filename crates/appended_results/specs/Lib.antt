@@ -1,0 +1,4 @@
+pub mod Heads
+pub mod Places
+pub mod Levels
+pub mod Codes

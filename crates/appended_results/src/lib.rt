@@ -1,0 +1,7 @@
+//! Results of kernels that are appended in place: rows whose heads come in order are appended to all levels of a result, and their values
+//! added at their positions, where loops come by. `specs/Levels.antt` says what arrays and variables have after each row.
+#![tactic(auto)]
+
+mod keys;
+
+pub use keys::{begins, differs_or_first};
