@@ -35,6 +35,7 @@ use Rattle.appended_results.specs.Heads.{letter_at, key_in}
 use Rattle.appended_results.specs.Places.{first_at, place_above, positions_above, rows_above, is_fixed}
 use Rattle.appended_results.specs.Levels.{cursor_at, key_at, IsMine, IsKept, LevelHolds, MayHold, PassesPlace, Between}
 use Rattle.appended_results.specs.Codes.{place_appended, place_full, AppendsLevel}
+use Rattle.appended_results.specs.Parts.{Reserves, AsBefore, Anew}
 use Rattle.appended_results.proofs.HeadLaws.{key_before, key_last}
 use Rattle.level_appends.proofs.Logs.{begun_along}
 use Rattle.appended_results.proofs.PlaceLaws.{SameCoords, first_along, rows_along, more_positions, fixed_positions, may_append_at, place_within}
@@ -80,7 +81,7 @@ module _ (letters : List Letter) (head base free d : ℕ) (inside : d < length l
   same_coords : SameCoords (length heads) (key_in heads) (key_in (heads ++ key ∷ []))
   same_coords e i h = key_before heads key e i h
 
-  one_more : length (heads ++ key ∷ []) ≡ suc (length heads)
+  pub one_more : length (heads ++ key ∷ []) ≡ suc (length heads)
   one_more = let k = length_push heads key in omega (arith, k)
 
   -- another level's variables aren't this one's
@@ -90,7 +91,7 @@ module _ (letters : List Letter) (head base free d : ℕ) (inside : d < length l
       omega (arith, away, from, before, from_d, before_d)
 
   -- one level more has the head
-  between_next : (s0 s t : State) → Between letters sizes head base free heads key d s0 s
+  pub between_next : (s0 s t : State) → Between letters sizes head base free heads key d s0 s
       → Leaves (IsOfCursor (cursor_at base d)) (IsOutside 0 (suc d)) free no_turns s t
       → LevelHolds letters sizes (heads ++ key ∷ []) base d t
       → (suc d ≤ head → t.vars (free + 2 * suc d) ≡ Some (place_above letters sizes coords (suc d) (length heads)))
@@ -149,17 +150,10 @@ pub full_positions : (letters : List Letter) (sizes : List ℕ) (coords : ℕ �
 full_positions letters sizes coords count d is =
     ap (λ b. if b then positions_above letters sizes coords count d * slice_index sizes d else begun (first_at letters coords d) count) is
 
-full_place : (letters : List Letter) (sizes : List ℕ) (coords : ℕ → ℕ → ℕ) (d i : ℕ) → (properties (letter_at letters d)).full ≡ true
+pub full_place : (letters : List Letter) (sizes : List ℕ) (coords : ℕ → ℕ → ℕ) (d i : ℕ) → (properties (letter_at letters d)).full ≡ true
     → place_above letters sizes coords (suc d) i ≡ place_above letters sizes coords d i * slice_index sizes d + coords d i
 full_place letters sizes coords d i is =
     ap (λ b. if b then place_above letters sizes coords d i * slice_index sizes d + coords d i else place (first_at letters coords d) i) is
-
--- a code that reserves as many parents as there are, if their number changes
-pub data Reserves (letters : List Letter) (base free d inner : ℕ) (code : List KStmt) : Type 0 where
-  AsBefore : is_fixed letters d ≡ true → code ≡ [] → Reserves letters base free d inner code
-  Anew : is_fixed letters d ≡ false
-      → ReservesParents meaning (letter_at letters d) (suc d) (cursor_at base d) (Var (free + 2 * d + 1)) inner code
-      → Reserves letters base free d inner code
 
 module _ (letters : List Letter) (head base free d inner : ℕ) (headed : d < head) (above : base + 4 * length letters ≤ free)
     (room : free + 2 * length letters + 2 ≤ inner) (test : KExpr) (coord : ℕ) (coord_below : coord < inner)

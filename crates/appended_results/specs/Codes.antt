@@ -1,5 +1,5 @@
 -- The code of one head more, level by level.
-use Rattle.std.specs.Prelude.{◌≡◌, ◌⊎◌, ℕ, zero, suc, ◌+◌, ◌-◌, ◌*◌, ◌≤◌, ◌<◌, true, false, List, [], ◌∷◌, ◌++◌, length, Some, if◌then◌else◌}
+use Rattle.std.specs.Prelude.{◌≡◌, ◌⊎◌, ℕ, zero, suc, ◌+◌, ◌-◌, ◌*◌, ◌≤◌, ◌<◌, ◌^◌, true, false, List, [], ◌∷◌, ◌++◌, length, Some, if◌then◌else◌}
 use Rattle.std.specs.Prelude.{nat_le, slice_index}
 use Rattle.limits.specs.Limits.{greatest_position_count}
 use Rattle.kernel_code.specs.Does.{Does}
@@ -14,7 +14,7 @@ use Rattle.level_core.specs.Fragments.{RefusedWithin}
 use Rattle.level_core.specs.Kinds.{properties}
 use Rattle.appended_results.specs.Heads.{letter_at, key_in}
 use Rattle.appended_results.specs.Places.{first_at, positions_above}
-use Rattle.appended_results.specs.Levels.{cursor_at, key_at, MayHold, PassesPlace, Between}
+use Rattle.appended_results.specs.Levels.{cursor_at, key_at, IsMine, MayHold, PassesPlace, Between}
 
 -- the row in these variables differs from the last one in one of the first n coordinates
 abbrev pub differs : ℕ → List ℕ → ℕ → KExpr
@@ -51,3 +51,18 @@ AppendsLevel letters head base free d test coord code =
     → s.vars coord ≡ Some (key_in (heads ++ key ∷ []) d (length heads))
     → Does c code s (Between letters sizes head base free heads key (suc d) s0)
     (RefusedWithin no_turns s0 (PassesPlace letters sizes (heads ++ key ∷ []) d))
+
+-- so many levels, the first variable of the result and the first of the code, above the result's and behind those that code takes for
+-- positions
+pub record HasRoom (levels base free : ℕ) : Type 0 where
+  pub result : base + 4 * levels ≤ free
+  pub code : free + 2 * levels ≤ 2 ^ 61
+
+-- where the variables of fragments begin
+abbrev pub inner_of : ℕ → ℕ → ℕ
+inner_of levels free = free + 2 * levels + 2
+
+-- a variable below those of the code, and none of the result's
+pub record IsOutsideResult (levels base free y : ℕ) : Type 0 where
+  pub below : y < free
+  pub other : IsMine base levels y → ⊥

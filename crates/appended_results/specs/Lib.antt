@@ -2,3 +2,4 @@ pub mod Heads
 pub mod Places
 pub mod Levels
 pub mod Codes
+pub mod Parts

@@ -3,5 +3,7 @@
 #![tactic(auto)]
 
 mod keys;
+mod levels;
 
 pub use keys::{begins, differs_or_first};
+pub use levels::LevelSite;
