@@ -189,7 +189,7 @@ places_at_level letters head base free d headed inside above test coord low full
     subst (λ k. Does c k s (Between letters sizes head base free heads key (suc d) s0)
     (RefusedWithin no_turns s0 (PassesPlace letters sizes (heads ++ key ∷ []) d))) (sym is)
     (places_head letters head base free d inside above full count counts c sizes heads key may old_few values few s0 s held b headed coord low
-    coord_is)
+    (coord_is headed))
 
 -- and at one below it
 pub counts_at_level : (letters : List Letter) (head base free d : ℕ) → head ≤ d → d < length letters → base + 4 * length letters ≤ free

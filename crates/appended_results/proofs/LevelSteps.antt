@@ -364,4 +364,4 @@ appends_to_level letters head base free d inner headed above room test coord low
     subst (λ k. Does c k s (Between letters sizes head base free heads key (suc d) s0)
     (RefusedWithin no_turns s0 (PassesPlace letters sizes (heads ++ key ∷ []) d))) (sym is)
     (appends_head letters head base free d inner headed above room test coord low mentions sparse reserve append reserves appends c sizes
-    heads key may old_few s0 s b tested coord_is)
+    heads key may old_few s0 s b tested (coord_is headed))

@@ -2,3 +2,4 @@ pub mod HeadLaws
 pub mod PlaceLaws
 pub mod LevelSteps
 pub mod FullSteps
+pub mod TestLaws

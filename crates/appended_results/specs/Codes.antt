@@ -48,7 +48,7 @@ AppendsLevel letters head base free d test coord code =
     → (values : List ℕ) → length values ≤ greatest_position_count
     → (s0 s : State) → s0.arrays (Values 0) ≡ Some values → Between letters sizes head base free heads key d s0 s
     → value test s ≡ Some (word_of (first_at letters (key_in (heads ++ key ∷ [])) d (length heads)))
-    → s.vars coord ≡ Some (key_in (heads ++ key ∷ []) d (length heads))
+    → (d < head → s.vars coord ≡ Some (key_in (heads ++ key ∷ []) d (length heads)))
     → Does c code s (Between letters sizes head base free heads key (suc d) s0)
     (RefusedWithin no_turns s0 (PassesPlace letters sizes (heads ++ key ∷ []) d))
 
@@ -66,3 +66,24 @@ inner_of levels free = free + 2 * levels + 2
 pub record IsOutsideResult (levels base free y : ℕ) : Type 0 where
   pub below : y < free
   pub other : IsMine base levels y → ⊥
+
+-- variables tell a head that comes, and the last one
+pub record KeysTell (base head : ℕ) (heads : List (List ℕ)) (key keys : List ℕ) (s : State) : Type 0 where
+  pub now : (e : ℕ) → e < head → s.vars (slice_index keys e) ≡ Some (slice_index key e)
+  pub last : (e j : ℕ) → e < head → length heads ≡ suc j → s.vars (key_at base e) ≡ Some (key_in heads e j)
+
+-- so many variables of coordinates, none of which is the result's or the code's own
+pub record AreKeys (levels base free : ℕ) (keys : List ℕ) : Type 0 where
+  pub many : length keys ≡ levels
+  pub outside : (e : ℕ) → e < levels → IsOutsideResult levels base free (slice_index keys e)
+
+-- the code appends a head to the first d levels
+abbrev pub AppendsFirst : List Letter → ℕ → ℕ → ℕ → List ℕ → ℕ → List KStmt → Type 0
+AppendsFirst letters head base free keys d code =
+    (c : Setting) (sizes : List ℕ) (heads : List (List ℕ)) (key : List ℕ) → MayHold letters sizes head (heads ++ key ∷ [])
+    → ((e : ℕ) → e ≤ length letters → positions_above letters sizes (key_in heads) (length heads) e ≤ greatest_position_count)
+    → (values : List ℕ) → length values ≤ greatest_position_count
+    → (s0 s : State) → s0.arrays (Values 0) ≡ Some values → KeysTell base head heads key keys s0
+    → Between letters sizes head base free heads key 0 s0 s
+    → Does c code s (Between letters sizes head base free heads key d s0)
+    (RefusedWithin no_turns s0 (λ a count. (e : ℕ) × (e < d) × PassesPlace letters sizes (heads ++ key ∷ []) e a count))
