@@ -3,3 +3,4 @@ pub mod PlaceLaws
 pub mod LevelSteps
 pub mod FullSteps
 pub mod TestLaws
+pub mod LoopLaws

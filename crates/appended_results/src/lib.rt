@@ -2,8 +2,10 @@
 //! added at their positions, where loops come by. `specs/Levels.antt` says what arrays and variables have after each row.
 #![tactic(auto)]
 
+mod heads;
 mod keys;
 mod levels;
 
+pub use heads::append_levels;
 pub use keys::{begins, differs_or_first};
-pub use levels::LevelSite;
+pub use levels::{LevelSite, append_to_level};
