@@ -78,7 +78,7 @@ module _ (letters : List Letter) (head base free d : ℕ) (inside : d < length l
   abbrev coords : ℕ → ℕ → ℕ
   coords = key_in (heads ++ key ∷ [])
 
-  same_coords : SameCoords (length heads) (key_in heads) (key_in (heads ++ key ∷ []))
+  pub same_coords : SameCoords (length heads) (key_in heads) (key_in (heads ++ key ∷ []))
   same_coords e i h = key_before heads key e i h
 
   pub one_more : length (heads ++ key ∷ []) ≡ suc (length heads)
@@ -107,7 +107,7 @@ module _ (letters : List Letter) (head base free d : ℕ) (inside : d < length l
         (b.below e (omega (arith, from)) h);
     place = place;
     count = count;
-    few = few;
+    few = λ e h. few_by e h (cases_lt e (suc d));
     leaves = record {
       below = λ y h mine. l.below y h (λ cursor. mine (record {
         from = (let f = cursor.from in omega (arith, f));
@@ -125,6 +125,14 @@ module _ (letters : List Letter) (head base free d : ℕ) (inside : d < length l
       kept_vars : (e : ℕ) → e ≢ d → e < length letters → (y : ℕ) → IsOfCursor (cursor_at base e) y → t.vars y ≡ s.vars y
       kept_vars e away h y cursor =
           l.below y (let f = cursor.before in omega (arith, f, h, above)) (λ own. other_cursor e y away cursor own)
+
+      few_by : (e : ℕ) → e ≤ suc d → (e < suc d) ⊎ (suc d ≤ e)
+          → positions_above letters sizes (key_in (heads ++ key ∷ [])) (suc (length heads)) e ≤ greatest_position_count
+      few_by e h (inl less) = b.few e (omega (arith, less))
+      few_by e h (inr from) =
+          let same : e ≡ suc d = omega (arith, h, from) in
+          subst (λ k. positions_above letters sizes (key_in (heads ++ key ∷ [])) (suc (length heads)) k ≤ greatest_position_count) (sym same)
+          few
 
       by_order : (e : ℕ) → e < suc d → (e < d) ⊎ (d ≤ e) → LevelHolds letters sizes (heads ++ key ∷ []) base e t
       by_order e h (inl less) =
@@ -226,7 +234,7 @@ module _ (letters : List Letter) (head base free d inner : ℕ) (headed : d < he
           ))
       by_fixed (Anew free_count code) =
           code able c size (positions_above letters sizes (key_in heads) n d) parents n rows
-          (more_positions letters sizes (key_in heads) new_coords n same d) b.few s level_before (b.count free_count)
+          (more_positions letters sizes (key_in heads) new_coords n same d) (b.few d (omega arith)) s level_before (b.count free_count)
 
   -- the row has its position
   added_again : (t : State) → first_at letters new_coords d n ≡ false

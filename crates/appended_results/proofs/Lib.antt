@@ -4,3 +4,4 @@ pub mod LevelSteps
 pub mod FullSteps
 pub mod TestLaws
 pub mod LoopLaws
+pub mod HeadCode

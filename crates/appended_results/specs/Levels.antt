@@ -68,7 +68,7 @@ pub record Between (letters : List Letter) (sizes : List ℕ) (head base free : 
   pub place : d ≤ head → s.vars (free + 2 * d) ≡ Some (place_above letters sizes (key_in (heads ++ key ∷ [])) d (length heads))
   pub count : is_fixed letters d ≡ false
       → s.vars (free + 2 * d + 1) ≡ Some (positions_above letters sizes (key_in (heads ++ key ∷ [])) (suc (length heads)) d)
-  pub few : positions_above letters sizes (key_in (heads ++ key ∷ [])) (suc (length heads)) d ≤ greatest_position_count
+  pub few : (e : ℕ) → e ≤ d → positions_above letters sizes (key_in (heads ++ key ∷ [])) (suc (length heads)) e ≤ greatest_position_count
   pub leaves : Leaves (IsMine base (length letters)) IsKept free no_turns s0 s
   pub keys : (e : ℕ) → e < length letters → s.vars (key_at base e) ≡ s0.vars (key_at base e)
   pub values : s.arrays (Values 0) ≡ s0.arrays (Values 0)

@@ -3,3 +3,4 @@ pub mod Places
 pub mod Levels
 pub mod Codes
 pub mod Parts
+pub mod Rows

@@ -6,6 +6,6 @@ mod heads;
 mod keys;
 mod levels;
 
-pub use heads::append_levels;
+pub use heads::{append_head, append_levels};
 pub use keys::{begins, differs_or_first};
 pub use levels::{LevelSite, append_to_level};
