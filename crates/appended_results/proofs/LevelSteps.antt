@@ -47,7 +47,7 @@ apart e = absurd (never e)
     never e = cc
 
 -- an array is one of one level alone
-of_one : (a : Arr) (j k : ℕ) → IsOf 0 j a → IsOf 0 k a → j ≡ k
+pub of_one : (a : Arr) (j k : ℕ) → IsOf 0 j a → IsOf 0 k a → j ≡ k
 of_one Range j k h g = absurd h
 of_one (Values n) j k h g = absurd h
 of_one (Dimension n i) j k h g = sym h.1 ∙ g.1

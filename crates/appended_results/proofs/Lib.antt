@@ -5,3 +5,4 @@ pub mod FullSteps
 pub mod TestLaws
 pub mod LoopLaws
 pub mod HeadCode
+pub mod EndLaws

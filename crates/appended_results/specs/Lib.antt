@@ -4,3 +4,4 @@ pub mod Levels
 pub mod Codes
 pub mod Parts
 pub mod Rows
+pub mod Ends

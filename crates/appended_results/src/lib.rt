@@ -2,10 +2,12 @@
 //! added at their positions, where loops come by. `specs/Levels.antt` says what arrays and variables have after each row.
 #![tactic(auto)]
 
+mod ends;
 mod heads;
 mod keys;
 mod levels;
 
+pub use ends::end_levels;
 pub use heads::{append_head, append_levels};
 pub use keys::{begins, differs_or_first};
 pub use levels::{LevelSite, append_to_level};
