@@ -6,3 +6,4 @@ pub mod TestLaws
 pub mod LoopLaws
 pub mod HeadCode
 pub mod EndLaws
+pub mod OpenLaws

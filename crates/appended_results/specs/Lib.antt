@@ -5,3 +5,4 @@ pub mod Codes
 pub mod Parts
 pub mod Rows
 pub mod Ends
+pub mod Opening

@@ -7,8 +7,9 @@ ghost use Rattle.format_spec.specs.Formats.{letters_of};
 ghost use Rattle.appended_results.specs.Heads.{IsHead};
 ghost use Rattle.appended_results.specs.Codes.{AppendsFirst, AreKeys, HasRoom};
 ghost use Rattle.appended_results.specs.Rows.{zeros_code, keep_code, AppendsHead};
+ghost use Rattle.appended_results.specs.Opening.{OpensHead};
 
-use crate::keys::begins;
+use crate::keys::{begins, differs_or_first};
 use crate::levels::{LevelSite, append_to_level};
 use format_spec::FormatLevel;
 use kernel_code::{Arr, KExpr, KStmt, Op, binary, one_statement};
@@ -124,5 +125,27 @@ pub fn append_head(
     let zeros = zeros(alloc, total, zero)?;
     let keep = keep(alloc, base, keys, head)?;
     let code = joined(alloc, free, levels, zeros, keep)?;
+    Ok(code)
+}
+
+/// Code that appends the head of a row, whose coordinates stand in the variables `keys`, unless it is the last one. Heads come in an order
+/// that never falls. Variables from `free` on are its own. Refused for want of memory alone.
+pub fn open_head(
+    alloc: Global,
+    format: &[FormatLevel],
+    head: usize,
+    base: u64,
+    zero: u64,
+    keys: &[u64],
+    free: u64,
+) -> Result<Items<KStmt>, AllocError>
+    requires head { IsHead (letters_of format.now) head }
+    requires keys { AreKeys (length format.now) base free keys.now }
+    requires room { HasRoom (length format.now) base free }
+    ensures { IfOk result (OpensHead (letters_of format.now) head base free zero keys.now) }
+{
+    let other = differs_or_first(alloc, base, head, keys, head)?;
+    let append = append_head(alloc, format, head, base, zero, keys, free)?;
+    let code = one_statement(alloc, KStmt::If(other, append, Items::new(alloc)))?;
     Ok(code)
 }

@@ -8,6 +8,6 @@ mod keys;
 mod levels;
 
 pub use ends::end_levels;
-pub use heads::{append_head, append_levels};
+pub use heads::{append_head, append_levels, open_head};
 pub use keys::{begins, differs_or_first};
 pub use levels::{LevelSite, append_to_level};
