@@ -7,3 +7,4 @@ pub mod LoopLaws
 pub mod HeadCode
 pub mod EndLaws
 pub mod OpenLaws
+pub mod BeginLaws

@@ -6,3 +6,4 @@ pub mod Parts
 pub mod Rows
 pub mod Ends
 pub mod Opening
+pub mod Begins

@@ -77,10 +77,7 @@ fn zeros(alloc: Global, total: u64, zero: u64) -> Result<Items<KStmt>, AllocErro
 {
     let values = KExpr::Len(Arr::Values(0));
     let more = binary(alloc, Op::Sub, KExpr::Var(total), values)?;
-    let code = one_statement(
-        alloc,
-        KStmt::Extend(Arr::Values(0), more, KExpr::Num(zero)),
-    )?;
+    let code = one_statement(alloc, KStmt::Extend(Arr::Values(0), more, KExpr::Num(zero)))?;
     Ok(code)
 }
 

@@ -6,8 +6,10 @@ mod ends;
 mod heads;
 mod keys;
 mod levels;
+mod starts;
 
 pub use ends::end_levels;
 pub use heads::{append_head, append_levels, open_head};
 pub use keys::{begins, differs_or_first};
 pub use levels::{LevelSite, append_to_level};
+pub use starts::begin_levels;
