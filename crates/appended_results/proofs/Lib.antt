@@ -8,3 +8,4 @@ pub mod HeadCode
 pub mod EndLaws
 pub mod OpenLaws
 pub mod BeginLaws
+pub mod FinerLaws
