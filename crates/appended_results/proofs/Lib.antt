@@ -9,3 +9,4 @@ pub mod EndLaws
 pub mod OpenLaws
 pub mod BeginLaws
 pub mod FinerLaws
+pub mod SumLaws

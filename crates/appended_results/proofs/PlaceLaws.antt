@@ -8,7 +8,8 @@ use Rattle.level_core.specs.Kinds.{properties}
 use Rattle.level_core.proofs.KindLaws.{are_of_a_kind}
 use Rattle.level_rows.specs.Growing.{IsNext}
 use Rattle.level_rows.specs.Rows.{Rows, begun, place, MayAppendRows}
-use Rattle.level_rows.specs.Tables.{Increase, AreRowsOf}
+use Rattle.level_rows.specs.Tables.{Agree, Increase, IsBefore, AreRowsOf}
+use Rattle.level_rows.proofs.TableLaws.{before as before_row}
 use Rattle.level_rows.proofs.RowLaws.{begun_upto}
 use Rattle.format_spec.specs.Formats.{Chained}
 use Rattle.tensor_storage.specs.Chains.{chain_length}
@@ -202,3 +203,22 @@ module _ (letters : List Letter) (sizes : List ℕ) (coords : ℕ → ℕ → �
   -- and each position is one of a row's parents' positions
   pub place_within : (d i : ℕ) → d ≤ head → i < count → place_above letters sizes coords d i < positions_above letters sizes coords count d
   place_within d i h inside = (known d h).placed.share.within i inside
+
+  -- heads that differ have different positions
+  pub place_apart : (i j : ℕ) → i < j → j < count → place_above letters sizes coords head i ≡ place_above letters sizes coords head j → ⊥
+  place_apart i j less h same =
+      let k = known head (omega arith) in
+      let agree = k.placed.share.agree i j less h same in
+      let before = before_row coords head count i j up less h in
+      by_groups k agree before k.groups refl
+    where
+      unlike : Above head → (n : ℕ) → head ≤ n → Agree coords n i j → IsBefore coords head i j → ⊥
+      unlike k n from agree b =
+          let l = b.1 in
+          let e = agree b.0 (omega (arith, l, from)) in
+          let s = b.3 in
+          omega (arith, e, s)
+
+      by_groups : (k : Above head) → Agree coords k.above i j → IsBefore coords head i j → (g : Bool) → k.groups ≡ g → ⊥
+      by_groups k agree b true is = unlike k k.above (let d = k.placed.deep is in omega (arith, d)) agree b
+      by_groups k agree b false is = unlike k k.above (let e = k.placed.level is in omega (arith, e)) agree b

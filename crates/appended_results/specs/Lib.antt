@@ -7,3 +7,4 @@ pub mod Rows
 pub mod Ends
 pub mod Opening
 pub mod Begins
+pub mod Sums
