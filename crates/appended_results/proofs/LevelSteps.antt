@@ -143,12 +143,12 @@ module _ (letters : List Letter) (head base free d : ℕ) (inside : d < length l
           let same : e ≡ d = omega (arith, h, from) in
           subst (λ k. LevelHolds letters sizes (heads ++ key ∷ []) base k t) (sym same) now
 
-sparse_positions : (letters : List Letter) (sizes : List ℕ) (coords : ℕ → ℕ → ℕ) (count d : ℕ) → (properties (letter_at letters d)).full ≡ false
+pub sparse_positions : (letters : List Letter) (sizes : List ℕ) (coords : ℕ → ℕ → ℕ) (count d : ℕ) → (properties (letter_at letters d)).full ≡ false
     → positions_above letters sizes coords count (suc d) ≡ begun (first_at letters coords d) count
 sparse_positions letters sizes coords count d is =
     ap (λ b. if b then positions_above letters sizes coords count d * slice_index sizes d else begun (first_at letters coords d) count) is
 
-sparse_place : (letters : List Letter) (sizes : List ℕ) (coords : ℕ → ℕ → ℕ) (d i : ℕ) → (properties (letter_at letters d)).full ≡ false
+pub sparse_place : (letters : List Letter) (sizes : List ℕ) (coords : ℕ → ℕ → ℕ) (d i : ℕ) → (properties (letter_at letters d)).full ≡ false
     → place_above letters sizes coords (suc d) i ≡ place (first_at letters coords d) i
 sparse_place letters sizes coords d i is =
     ap (λ b. if b then place_above letters sizes coords d i * slice_index sizes d + coords d i else place (first_at letters coords d) i) is

@@ -10,3 +10,4 @@ pub mod OpenLaws
 pub mod BeginLaws
 pub mod FinerLaws
 pub mod SumLaws
+pub mod NewHeads

@@ -83,12 +83,10 @@ module _ (base head : ℕ) (heads : List (List ℕ)) (key keys : List ℕ) (s : 
         ap (λ b. value (if b then Num 1 else differs_or_first base head keys n) s) no ∙ new_told n (omega (arith, h))
 
 -- a head that isn't the last one begins a position where all its coordinates count
-pub all_begin : (base head : ℕ) (heads : List (List ℕ)) (key keys : List ℕ) (s : State) (n : ℕ)
+pub begins_all : (head : ℕ) (heads : List (List ℕ)) (key : List ℕ) (n : ℕ)
     → Increase (key_in (heads ++ key ∷ [])) head (length (heads ++ key ∷ [])) → head ≤ n
-    → value (begins_code base head keys n) s ≡ Some (word_of (begins_at (key_in (heads ++ key ∷ [])) n (length heads)))
-all_begin base head heads key keys s n up h =
-    let yes : nat_le head n ≡ true = grind (arith, nat_tests) in
-    ap (λ b. value (if b then Num 1 else differs_or_first base head keys n) s) yes ∙ ap (λ b. Some (word_of b)) (sym (begins_all (length heads) refl))
+    → begins_at (key_in (heads ++ key ∷ [])) n (length heads) ≡ true
+begins_all head heads key n up h = by_count (length heads) refl
   where
     by_agree : (j : ℕ) → length heads ≡ suc j → (b : Bool) → agree (key_in (heads ++ key ∷ [])) n j (suc j) ≡ b → not b ≡ true
     by_agree j is false at = refl
@@ -99,11 +97,19 @@ all_begin base head heads key keys s n up h =
         let less = before.3 in
         absurd (omega (arith, same, less))
 
-    begins_all : (k : ℕ) → length heads ≡ k → begins_at (key_in (heads ++ key ∷ [])) n (length heads) ≡ true
-    begins_all zero is = ap (begins_at (key_in (heads ++ key ∷ [])) n) is
-    begins_all (suc j) is =
+    by_count : (k : ℕ) → length heads ≡ k → begins_at (key_in (heads ++ key ∷ [])) n (length heads) ≡ true
+    by_count zero is = ap (begins_at (key_in (heads ++ key ∷ [])) n) is
+    by_count (suc j) is =
         ap (begins_at (key_in (heads ++ key ∷ [])) n) is
         ∙ by_agree j is (agree (key_in (heads ++ key ∷ [])) n j (suc j)) refl
+
+pub all_begin : (base head : ℕ) (heads : List (List ℕ)) (key keys : List ℕ) (s : State) (n : ℕ)
+    → Increase (key_in (heads ++ key ∷ [])) head (length (heads ++ key ∷ [])) → head ≤ n
+    → value (begins_code base head keys n) s ≡ Some (word_of (begins_at (key_in (heads ++ key ∷ [])) n (length heads)))
+all_begin base head heads key keys s n up h =
+    let yes : nat_le head n ≡ true = grind (arith, nat_tests) in
+    ap (λ b. value (if b then Num 1 else differs_or_first base head keys n) s) yes
+    ∙ ap (λ b. Some (word_of b)) (sym (begins_all head heads key n up h))
 
 -- what the tests mention
 module _ (base head free inner : ℕ) (keys : List ℕ) (room : base + 4 * head ≤ free) (more : free ≤ inner) (some : 0 < head)
