@@ -79,7 +79,7 @@ module _ (c : Setting) (base : ℕ) (key keys : List ℕ) (s : State) (levels : 
           subst (λ m. (set_var t (key_at base n) (slice_index key n)).vars (key_at base m) ≡ Some (slice_index key m)) (sym same)
           (this_var t (key_at base n) (slice_index key n))
 
-no_value : (a : Arr) (k : ℕ) → IsOf 0 k a → same_arr (Values 0) a ≡ false
+pub no_value : (a : Arr) (k : ℕ) → IsOf 0 k a → same_arr (Values 0) a ≡ false
 no_value Range k h = absurd h
 no_value (Values n) k h = absurd h
 no_value (Dimension n j) k h = refl

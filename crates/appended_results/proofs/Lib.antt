@@ -11,3 +11,4 @@ pub mod BeginLaws
 pub mod FinerLaws
 pub mod SumLaws
 pub mod NewHeads
+pub mod AddLaws

@@ -8,3 +8,4 @@ pub mod Ends
 pub mod Opening
 pub mod Begins
 pub mod Sums
+pub mod Values
