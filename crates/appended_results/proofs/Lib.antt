@@ -12,3 +12,4 @@ pub mod FinerLaws
 pub mod SumLaws
 pub mod NewHeads
 pub mod AddLaws
+pub mod RowHeads

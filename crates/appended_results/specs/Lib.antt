@@ -9,3 +9,4 @@ pub mod Opening
 pub mod Begins
 pub mod Sums
 pub mod Values
+pub mod Results
