@@ -13,3 +13,4 @@ pub mod SumLaws
 pub mod NewHeads
 pub mod AddLaws
 pub mod RowHeads
+pub mod WholeRows

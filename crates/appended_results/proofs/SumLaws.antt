@@ -27,7 +27,7 @@ use Rattle.appended_results.specs.Sums.{head_at, spot_of, HoldsSums}
 use Rattle.appended_results.proofs.PlaceLaws.{place_within, place_apart}
 use Rattle.appended_results.proofs.LevelSteps.{full_positions}
 
-drop_step : (xs : List ℕ) (d : ℕ) → d < length xs → drop d xs ≡ slice_index xs d ∷ drop (suc d) xs
+pub drop_step : (xs : List ℕ) (d : ℕ) → d < length xs → drop d xs ≡ slice_index xs d ∷ drop (suc d) xs
 drop_step [] d h = absurd (omega (arith, h))
 drop_step (x ∷ xs) zero h = refl
 drop_step (x ∷ xs) (suc d) h = drop_step xs d (omega (arith, h))
