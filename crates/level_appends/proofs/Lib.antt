@@ -1,6 +1,7 @@
 pub mod Logs
 pub mod Fragments
 pub mod RowSteps
+pub mod Keeping
 pub mod Counting
 pub mod Refining
 pub mod Keys

@@ -81,7 +81,7 @@ placed_appended coords order d n above groups letter rows up next begins = recor
     by_groups false is b = next.more is
 
 -- two positions of a full level are one only at one coordinate below one parent
-one_place : (size p q x y : ℕ) → x < size → y < size → p * size + x ≡ q * size + y → (p ≡ q) × (x ≡ y)
+pub one_place : (size p q x y : ℕ) → x < size → y < size → p * size + x ≡ q * size + y → (p ≡ q) × (x ≡ y)
 one_place size p q x y h g e = by_order (cases_order p q)
   where
     less_apart : (p q x y : ℕ) → x < size → p < q → p * size + x ≡ q * size + y → ⊥

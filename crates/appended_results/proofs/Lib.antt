@@ -1,0 +1,16 @@
+pub mod HeadLaws
+pub mod PlaceLaws
+pub mod LevelSteps
+pub mod FullSteps
+pub mod TestLaws
+pub mod LoopLaws
+pub mod HeadCode
+pub mod EndLaws
+pub mod OpenLaws
+pub mod BeginLaws
+pub mod FinerLaws
+pub mod SumLaws
+pub mod NewHeads
+pub mod AddLaws
+pub mod RowHeads
+pub mod WholeRows

@@ -1,0 +1,12 @@
+pub mod Heads
+pub mod Places
+pub mod Levels
+pub mod Codes
+pub mod Parts
+pub mod Rows
+pub mod Ends
+pub mod Opening
+pub mod Begins
+pub mod Sums
+pub mod Values
+pub mod Results
