@@ -147,11 +147,17 @@ module _ (letters : List Letter) (sizes : List ℕ) (head : ℕ) (heads : List (
           ⊎ ((to (suc i) ≡ suc (to i)) × (begins_at table.coords (through letters d) (suc i)
           ≡ begins_at (key_in heads) (through letters d) (suc (to i))))
       by_step i h (inl same) =
-          inl (same, ap not (agree_from table.coords (through letters d) i (suc i)
-          (λ e l. key_to i (omega (arith, h)) e l ∙ ap (key_in heads e) (sym same) ∙ sym (key_to (suc i) h e l))))
+          inl (
+            same,
+            ap not (agree_from table.coords (through letters d) i (suc i)
+                (λ e l. key_to i (omega (arith, h)) e l ∙ ap (key_in heads e) (sym same) ∙ sym (key_to (suc i) h e l))),
+          )
       by_step i h (inr next) =
-          inr (next, ap not (agree_as table.coords (key_in heads) (through letters d) i (suc i) (to i) (suc (to i))
-          (key_to i (omega (arith, h))) (λ e l. key_to (suc i) h e l ∙ ap (key_in heads e) next)))
+          inr (
+            next,
+            ap not (agree_as table.coords (key_in heads) (through letters d) i (suc i) (to i) (suc (to i))
+                (key_to i (omega (arith, h))) (λ e l. key_to (suc i) h e l ∙ ap (key_in heads e) next)),
+          )
 
   -- the level has the rows of the table, each at its head's position
   pub finer_filled : (properties (letter_at letters d)).full ≡ false → (s : State) → LevelEnds letters sizes heads d s

@@ -50,9 +50,12 @@ module _ (head : ℕ) (rows : List Entry) (row : Entry) (heads : List (List ℕ)
           → (j : ℕ) × (j < length heads) × (take head (row_at (rows ++ row ∷ []) i).coords ≡ slice_index_or heads j [])
       by_order i h (inl less) = let e = are.each i less in (e.0, e.1, ap (λ (r : Entry). take head r.coords) (earlier i less) ∙ e.2)
       by_order i h (inr from) =
-          let at : i ≡ length rows = omega (arith, h, from, counted) in
-          (k, omega (arith, is_last), ap (λ n. take head (row_at (rows ++ row ∷ []) n).coords) at
-          ∙ ap (λ (r : Entry). take head r.coords) latest ∙ key)
+          let at : i ≡ length rows = omega (arith, h, from, counted) in (
+            k,
+            omega (arith, is_last),
+            ap (λ n. take head (row_at (rows ++ row ∷ []) n).coords) at
+                ∙ ap (λ (r : Entry). take head r.coords) latest ∙ key,
+          )
 
   -- or it is a head more
   pub heads_more : (key : List ℕ) → take head row.coords ≡ key → length key ≡ head
@@ -81,9 +84,12 @@ module _ (head : ℕ) (rows : List Entry) (row : Entry) (heads : List (List ℕ)
           → (j : ℕ) × (j < length (heads ++ key ∷ []))
           × (take head (row_at (rows ++ row ∷ []) i).coords ≡ slice_index_or (heads ++ key ∷ []) j [])
       by_order i h (inl less) =
-          let e = are.each i less in
-          (e.0, (let l = e.1 in omega (arith, l, more)), ap (λ (r : Entry). take head r.coords) (earlier i less) ∙ e.2
-          ∙ sym (get_or_append_left heads (key ∷ []) [] e.0 e.1))
+          let e = are.each i less in (
+            e.0,
+            (let l = e.1 in omega (arith, l, more)),
+            ap (λ (r : Entry). take head r.coords) (earlier i less) ∙ e.2
+                ∙ sym (get_or_append_left heads (key ∷ []) [] e.0 e.1),
+          )
       by_order i h (inr from) =
           let at : i ≡ length rows = omega (arith, h, from, counted) in
           (length heads, omega (arith, more), row_last i at ∙ is ∙ sym (key_there (length heads) refl))
@@ -92,9 +98,12 @@ module _ (head : ℕ) (rows : List Entry) (row : Entry) (heads : List (List ℕ)
           → (i : ℕ) × (i < length (rows ++ row ∷ []))
           × (take head (row_at (rows ++ row ∷ []) i).coords ≡ slice_index_or (heads ++ key ∷ []) j [])
       by_head j h (inl less) =
-          let s = are.some j less in
-          (s.0, (let l = s.1 in omega (arith, l, counted)), ap (λ (r : Entry). take head r.coords) (earlier s.0 s.1) ∙ s.2
-          ∙ sym (get_or_append_left heads (key ∷ []) [] j less))
+          let s = are.some j less in (
+            s.0,
+            (let l = s.1 in omega (arith, l, counted)),
+            ap (λ (r : Entry). take head r.coords) (earlier s.0 s.1) ∙ s.2
+                ∙ sym (get_or_append_left heads (key ∷ []) [] j less),
+          )
       by_head j h (inr from) =
           let at : j ≡ length heads = omega (arith, h, from, more) in
           (length rows, omega (arith, counted), row_last (length rows) refl ∙ is ∙ sym (key_there j at))

@@ -59,8 +59,7 @@ tail_there letters sizes head base heads s coords keys may holds long many now (
     (subst (λ xs. HaveTail d (slice_index sizes d ∷ drop (suc d) sizes) xs (drop d keys) s)
     (sym (drop_step coords d (omega (arith, inside, long))))
     (subst (λ ys. HaveTail d (slice_index sizes d ∷ drop (suc d) sizes) (slice_index coords d ∷ drop (suc d) coords) ys s)
-    (sym (drop_step keys d (omega (arith, inside, many))))
-    (
+    (sym (drop_step keys d (omega (arith, inside, many)))) (
       (holds.levels d inside).size (may.is_head.tail d from inside),
       now d inside,
       tail_there letters sizes head base heads s coords keys may holds long many now more (suc d) (omega (arith, from)) (omega (arith, at)),
@@ -148,14 +147,17 @@ module _ (letters : List Letter) (head base free nothing : ℕ) (keys : List ℕ
       (λ t. IsOpen letters sizes head base free h.heads key h.words s t ⊎ Opens letters sizes head base free nothing h.heads key h.words s t) _ _
       (does_weaker c open_code s _ _ _ _
       (opens c sizes h.heads key h.may comes_next s h.holds h.words h.held h.sums.many key_now) (λ t o. o)
-      (λ turns b count z. (z.0, record {
-        heads = h.heads ++ take head row.coords ∷ [];
-        are = heads_more head rows row h.heads h.are (take head row.coords) refl key_long z.1.may.rise;
-        may = z.1.may;
-        level = z.1.level;
-        inside = z.1.inside;
-        passes = z.1.passes;
-      })))
+      (λ turns b count z. (
+        z.0,
+        record {
+          heads = h.heads ++ take head row.coords ∷ [];
+          are = heads_more head rows row h.heads h.are (take head row.coords) refl key_long z.1.may.rise;
+          may = z.1.may;
+          level = z.1.level;
+          inside = z.1.inside;
+          passes = z.1.passes;
+        },
+      )))
       (λ t o. by_case t o)
     where
       by_case : (t : State) → IsOpen letters sizes head base free h.heads (take head row.coords) h.words s t
