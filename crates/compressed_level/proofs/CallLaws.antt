@@ -9,15 +9,16 @@ use Rattle.level_core.specs.declared.span.Entry.{Entry}
 use Rattle.level_core.specs.declared.stage.Stage.{Stage}
 use Rattle.level_core.specs.declared.stage.Stage.TheVariants.{Unfinished, Finished}
 use Rattle.level_core.specs.Entries.{IsIn, StandsAt, coord_at}
-use Rattle.level_core.specs.Logs.{total, running, with_parents, with_coord, with_edges, finished, MayReserve, MayAppend, MayAppendEdges}
-use Rattle.level_core.specs.Logs.{MayFinish, entries_between}
+use Rattle.level_core.specs.Logs.{total, running, with_parents, with_coords, with_edges, finished, MayReserve, MayAppend, MayAppendAll}
+use Rattle.level_core.specs.Logs.{MayAppendEdges, MayFinish, entries_between}
+use Rattle.level_core.proofs.Appends.{may_append_one}
 use Rattle.level_core.specs.Meaning.{Finishes}
 use Rattle.level_core.proofs.GroupLaws.{stands_where}
 use Rattle.compressed_level.specs.Compressed.{CompressedLevel, letter_of, counts_in, IsStored, log_in, KeepsRules, IsAllowed, segment_of}
 use Rattle.compressed_level.specs.Compressed.{entries_of, meaning}
 use Rattle.compressed_level.specs.Laws.{logged, finished_level}
 use Rattle.compressed_level.specs.Laws.{keeps_parents, keeps_finished, never_branchless}
-use Rattle.compressed_level.proofs.Laws.{keeps_coord, keeps_edges, log_of_parents, stored_parents, log_of_edges, stored_edges}
+use Rattle.compressed_level.proofs.Laws.{keeps_coords, keeps_edges, log_of_parents, stored_parents, log_of_edges, stored_edges}
 use Rattle.compressed_level.proofs.Laws.{log_of_finished, stored_finished}
 use Rattle.compressed_level.specs.Laws.{within_coords}
 use Rattle.compressed_level.specs.Laws.{coord_is}
@@ -40,18 +41,28 @@ with_spare l n k = record {
   all_given = k.all_given;
 }
 
+pub append_keeps : (size : ℕ) (unique : Bool) (stage : Stage) (ends coords : List ℕ) (next spare more : ℕ) (xs appended : List ℕ)
+    (now : CompressedLevel) → stored size unique stage ends coords next spare ≡ now
+    → KeepsRules (stored size unique stage ends coords next spare)
+    → MayAppendAll (letter_of now.unique) now.size xs now.log → length now.log.coords + length xs ≤ greatest_position_count
+    → appended ≡ coords ++ xs → KeepsRules (stored size unique stage ends appended next more)
+append_keeps size unique stage ends coords next spare more xs appended now is k may room items =
+    let l = stored size unique stage ends coords next spare in
+    let may_here : MayAppendAll (letter_of unique) size xs (log_in stage ends coords next) =
+    subst (λ n. MayAppendAll (letter_of n.unique) n.size xs n.log) (sym is) may in
+    let room_here : length coords + length xs ≤ greatest_position_count =
+    subst (λ n. length n.log.coords + length xs ≤ greatest_position_count) (sym is) room in
+    subst (λ ys. KeepsRules (stored size unique stage ends ys next more)) (sym items)
+    (with_spare (logged l (with_coords xs l.log)) more (keeps_coords l xs k may_here room_here))
+
 pub push_keeps : (size : ℕ) (unique : Bool) (stage : Stage) (ends coords : List ℕ) (next spare more x : ℕ) (pushed : List ℕ)
     (now : CompressedLevel) → stored size unique stage ends coords next spare ≡ now
     → KeepsRules (stored size unique stage ends coords next spare)
     → MayAppend (letter_of now.unique) now.size x now.log → length now.log.coords < greatest_position_count → pushed ≡ coords ++ x ∷ []
     → KeepsRules (stored size unique stage ends pushed next more)
 push_keeps size unique stage ends coords next spare more x pushed now is k may room items =
-    let l = stored size unique stage ends coords next spare in
-    let may_here : MayAppend (letter_of unique) size x (log_in stage ends coords next) =
-    subst (λ n. MayAppend (letter_of n.unique) n.size x n.log) (sym is) may in
-    let room_here : length coords < greatest_position_count = subst (λ n. length n.log.coords < greatest_position_count) (sym is) room in
-    subst (λ xs. KeepsRules (stored size unique stage ends xs next more)) (sym items)
-    (with_spare (logged l (with_coord x l.log)) more (keeps_coord l x k may_here (omega (arith, room_here))))
+    append_keeps size unique stage ends coords next spare more (x ∷ []) pushed now is k
+    (may_append_one (letter_of now.unique) now.size x now.log may) (omega (arith, room)) items
 
 pub parents_keep : (size : ℕ) (unique : Bool) (stage : Stage) (ends coords : List ℕ) (next spare room parents more : ℕ) (pushed : List ℕ)
     (now : CompressedLevel) → stored size unique stage ends coords next spare ≡ now

@@ -11,16 +11,16 @@ use Rattle.level_core.specs.declared.stage.Stage.TheVariants.{Unfinished, Finish
 use Rattle.level_core.specs.declared.letter.Letter.TheVariants.{Compressed, CompressedGroups}
 use Rattle.level_core.specs.Entries.{StandsAt}
 use Rattle.level_core.specs.Kinds.{capabilities}
-use Rattle.level_core.specs.Logs.{Log, total, running, NoneFrom, Rises, slice, with_parents, with_coord, with_edges, finished, MayAppend}
-use Rattle.level_core.specs.Logs.{MayGive, MayAppendEdges}
-use Rattle.level_core.specs.GroupLaws.{CoordsBelow}
+use Rattle.level_core.specs.Logs.{Log, total, running, NoneFrom, Rises, slice, with_parents, with_coord, with_coords, with_edges, finished}
+use Rattle.level_core.specs.Logs.{MayAppend, MayAppendAll, MayGive, MayAppendEdges}
+use Rattle.level_core.proofs.Appends.{may_append_one, below_append}
 use Rattle.level_core.proofs.EdgeLaws.{none_later}
 use Rattle.coordinate_lists.specs.Spans.{IsGroupIn}
 use Rattle.coordinate_lists.proofs.Spans.{entry_is_group}
 use Rattle.coordinate_lists.proofs.Letters.{unique_is}
 use Rattle.compressed_level.specs.Compressed.{CompressedLevel, letter_of, counts_in, ends_of, IsStored, log_in, PartsRise, KeepsRules}
 use Rattle.compressed_level.specs.Compressed.{IsAllowed, segment_of, entries_of}
-use Rattle.compressed_level.proofs.PartLaws.{end_at, parts_push, parts_give, total_give, zero_give, differences_of_sums}
+use Rattle.compressed_level.proofs.PartLaws.{end_at, parts_append, parts_give, total_give, zero_give, differences_of_sums}
 use Rattle.compressed_level.specs.Laws.{logged, never_branchless, ungiven_is, ends_are, within_coords, rises_below}
 
 pub edges_are : (unique : Bool) (parent begin end : ℕ) (log : Log)
@@ -32,27 +32,27 @@ pub edges_are : (unique : Bool) (parent begin end : ℕ) (log : Log)
 edges_are true parent begin end log = refl
 edges_are false parent begin end log = refl
 
-below_push : (n x : ℕ) (xs : List ℕ) → CoordsBelow n xs → x < n → CoordsBelow n (xs ++ x ∷ [])
-below_push n x [] b h = (h, tt)
-below_push n x (y ∷ xs) b h = (b.0, below_push n x xs b.1 h)
-
-pub keeps_coord : (l : CompressedLevel) (x : ℕ) → KeepsRules l → MayAppend (letter_of l.unique) l.size x l.log
-    → length l.log.coords + 1 ≤ greatest_position_count → KeepsRules (logged l (with_coord x l.log))
-keeps_coord l x k m room =
-    let long : length (l.log.coords ++ x ∷ []) ≡ length l.log.coords + 1 = length-append l.log.coords (x ∷ []) in
+pub keeps_coords : (l : CompressedLevel) (xs : List ℕ) → KeepsRules l → MayAppendAll (letter_of l.unique) l.size xs l.log
+    → length l.log.coords + length xs ≤ greatest_position_count → KeepsRules (logged l (with_coords xs l.log))
+keeps_coords l xs k m room =
+    let long : length (l.log.coords ++ xs) ≡ length l.log.coords + length xs = length-append l.log.coords xs in
     let given = k.given in
     record {
       small = k.small;
       few = omega (arith, long, room);
       parents = k.parents;
-      below = below_push l.size x l.log.coords k.below m.below;
-      rise = parts_push l.unique l.log.counts l.log.coords x k.given k.rise
-          (subst (λ u. Rises u 0 (drop (total l.log.counts) l.log.coords ++ x ∷ []))
+      below = below_append l.size l.log.coords xs k.below m.below;
+      rise = parts_append l.unique l.log.counts l.log.coords xs k.given k.rise
+          (subst (λ u. Rises u 0 (drop (total l.log.counts) l.log.coords ++ xs))
           (unique_is Compressed CompressedGroups l.unique refl refl) (m.rises (never_branchless l.unique)));
       given = omega (arith, long, given);
       ahead = k.ahead;
       all_given = λ h. absurd (h m.unfinished);
     }
+
+pub keeps_coord : (l : CompressedLevel) (x : ℕ) → KeepsRules l → MayAppend (letter_of l.unique) l.size x l.log
+    → length l.log.coords + 1 ≤ greatest_position_count → KeepsRules (logged l (with_coord x l.log))
+keeps_coord l x k m room = keeps_coords l (x ∷ []) k (may_append_one (letter_of l.unique) l.size x l.log m) room
 
 gives_all : (l : CompressedLevel) (parent begin end : ℕ) → MayGive parent begin end l.log
     → end - begin ≡ length l.log.coords - total l.log.counts

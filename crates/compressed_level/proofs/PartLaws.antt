@@ -46,16 +46,16 @@ drop_length zero xs = omega arith
 drop_length (suc n) [] = omega arith
 drop_length (suc n) (x ∷ xs) = drop_length n xs ∙ omega arith
 
--- one more coordinate behind those that no parent has been given yet
-pub parts_push : (unique : Bool) (ns xs : List ℕ) (x : ℕ) → total ns ≤ length xs → PartsRise unique ns xs
-    → Rises unique 0 (drop (total ns) xs ++ x ∷ []) → PartsRise unique ns (xs ++ x ∷ [])
-parts_push unique [] xs x l p r = r
-parts_push unique (n ∷ ns) xs x l p r =
+-- more coordinates behind those that no parent has been given yet
+pub parts_append : (unique : Bool) (ns xs more : List ℕ) → total ns ≤ length xs → PartsRise unique ns xs
+    → Rises unique 0 (drop (total ns) xs ++ more) → PartsRise unique ns (xs ++ more)
+parts_append unique [] xs more l p r = r
+parts_append unique (n ∷ ns) xs more l p r =
     let le : n ≤ length xs = omega (arith, l) in (
-      subst (Rises unique 0) (sym (take_more n xs (x ∷ []) le)) p.0,
-      subst (PartsRise unique ns) (sym (drop_more n xs (x ∷ []) le))
-          (parts_push unique ns (drop n xs) x (omega (arith, l, drop_length n xs)) p.1
-          (subst (λ ys. Rises unique 0 (ys ++ x ∷ [])) (sym (drop_drop n (total ns) xs)) r)),
+      subst (Rises unique 0) (sym (take_more n xs more le)) p.0,
+      subst (PartsRise unique ns) (sym (drop_more n xs more le))
+          (parts_append unique ns (drop n xs) more (omega (arith, l, drop_length n xs)) p.1
+          (subst (λ ys. Rises unique 0 (ys ++ more)) (sym (drop_drop n (total ns) xs)) r)),
     )
 
 -- where no parent has positions, all coordinates rise in one row

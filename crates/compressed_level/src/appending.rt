@@ -20,6 +20,10 @@ impl Append for CompressedLevel {
         self.coords.push(x);
     }
 
+    fn append_coords(&mut self, xs: &[u32]) {
+        self.coords.append(xs);
+    }
+
     fn append_edges(&mut self, parent: u64, begin: u64, end: u64) {
         self.ends.set(parent + 1, end - begin);
         self.next = parent + 1;

@@ -143,6 +143,16 @@ impl Indices {
         self.words.push_reserved(x);
     }
 
+    /// Appends items. `reserve` makes the room for them.
+    pub fn append(&mut self, xs: &[u32])
+        requires { length xs.now ≤ self.old.spare }
+        ensures items { self.new.items ≡ self.old.items ++ xs.now }
+        ensures spare { self.new.spare + length xs.now ≡ self.old.spare }
+        ensures wide { self.new.wide ≡ self.old.wide }
+    {
+        self.words.append_reserved(xs);
+    }
+
     /// Appends `n` items, each of them `x`. `reserve` makes the room for them.
     pub fn push_copies(&mut self, n: u64, x: u64)
         requires room { n ≤ self.old.spare }

@@ -1,3 +1,4 @@
+pub mod Appends
 pub mod EdgeLaws
 pub mod EntryLaws
 pub mod FragmentLaws

@@ -8,6 +8,7 @@ pub use Rattle.level_core.specs.declared.stage.Stage.{Stage}
 pub use Rattle.level_core.specs.declared.stage.Stage.TheVariants.{Fresh, Unfinished, Finished}
 use Rattle.level_core.specs.Kinds.{Letter, properties}
 use Rattle.level_core.specs.Entries.{Span, Entry, span}
+use Rattle.level_core.specs.GroupLaws.{CoordsBelow}
 
 -- the stage, the coordinates appended, the number of positions of each reserved parent, and the least parent that may be given positions
 pub record Log : Type 0 where
@@ -96,6 +97,10 @@ with_parents letter parents log =
 abbrev pub with_coord : ℕ → Log → Log
 with_coord x log = record log { coords = log.coords ++ x ∷ [] }
 
+-- with coordinates more, one after another
+abbrev pub with_coords : List ℕ → Log → Log
+with_coords xs log = record log { coords = log.coords ++ xs }
+
 -- with the positions of a parent given; at branchless levels nothing is to be given
 abbrev pub with_edges : Letter → ℕ → ℕ → ℕ → Log → Log
 with_edges letter parent begin end log = if
@@ -122,6 +127,13 @@ pub record MayAppend (letter : Letter) (n x : ℕ) (log : Log) : Type 0 where
   pub unfinished : log.stage ≡ Unfinished
   pub below : x < n
   pub rises : (properties letter).branchless ≡ false → Rises (properties letter).unique 0 (drop (total log.counts) log.coords ++ x ∷ [])
+
+-- coordinates below the range n that may come next, one after another: what no parent has been given yet goes on rising with all of
+-- them, unless the level is branchless
+pub record MayAppendAll (letter : Letter) (n : ℕ) (xs : List ℕ) (log : Log) : Type 0 where
+  pub unfinished : log.stage ≡ Unfinished
+  pub below : CoordsBelow n xs
+  pub rises : (properties letter).branchless ≡ false → Rises (properties letter).unique 0 (drop (total log.counts) log.coords ++ xs)
 
 -- the positions from the last end to the last coordinate, for a reserved parent above those that were given any
 pub record MayGive (parent begin end : ℕ) (log : Log) : Type 0 where

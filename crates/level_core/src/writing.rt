@@ -2,7 +2,8 @@ ghost use Rattle.std.specs.Prelude.{◌≡◌, ◌≤◌, ◌<◌, ◌+◌, ℕ,
 ghost use Rattle.limits.specs.Limits.{greatest_position_count};
 ghost use Rattle.level_core.specs.Entries.{one};
 ghost use Rattle.level_core.specs.Kinds.{positions_for, MayPrepare, MayInsert};
-ghost use Rattle.level_core.specs.Logs.{MayReserve, MayAppend, MayAppendEdges, MayFinish, with_parents, with_coord, with_edges};
+ghost use Rattle.level_core.specs.Logs.{MayReserve, MayAppend, MayAppendAll, MayAppendEdges, MayFinish};
+ghost use Rattle.level_core.specs.Logs.{with_parents, with_coord, with_coords, with_edges};
 ghost use Rattle.level_core.specs.Meaning.{ChangesLog, Finishes};
 
 use crate::level::Level;
@@ -29,6 +30,14 @@ pub trait Append: Level {
         requires room { length (Self.meaning.log self.old).coords < greatest_position_count }
         ensures log { ChangesLog Self.meaning (with_coord x (Self.meaning.log self.old)) self.old self.new }
         ensures spare { spare self.new + 1 ≡ spare self.old };
+
+    /// Appends coordinates, one after another, as `append_coord` does. It takes no memory.
+    fn append_coords(&mut self, xs: &[u32])
+        requires may { MayAppendAll (Self.meaning.kind self.old) (Self.meaning.size self.old) xs.now (Self.meaning.log self.old) }
+        requires spare { length xs.now ≤ spare self.old }
+        requires room { length (Self.meaning.log self.old).coords + length xs.now ≤ greatest_position_count }
+        ensures log { ChangesLog Self.meaning (with_coords xs.now (Self.meaning.log self.old)) self.old self.new }
+        ensures spare { spare self.new + length xs.now ≡ spare self.old };
 
     /// Gives a parent the positions from `begin`, where the last parent's ended, to `end`, where the coordinates that were
     /// appended end. At singleton levels it does nothing. It takes no memory.

@@ -8,8 +8,12 @@ pub mod Groups
 pub mod AppendSteps
 pub mod Stored
 pub mod AppendLoop
+pub mod RunSteps
+pub mod RunLoop
 pub mod InsertLaws
 pub mod InsertLoop
+pub mod FullLaws
+pub mod FullLoop
 pub mod Tallies
 pub mod StackLaws
 pub mod TableLaws

@@ -2,6 +2,7 @@
 use Rattle.std.specs.Prelude.{◌≡◌, ◌≢◌, ◌⊎◌, ℕ, suc, ◌+◌, ◌≤◌, ◌<◌, List, length, slice_index, slice_set, refl}
 use Rattle.std.proofs.Common.{◌∙◌, sym, ap, subst, arith, inl, inr}
 use Rattle.std.proofs.lemmas.Bool.{cases_lt}
+use Rattle.std.proofs.Math.ListN.{get_or-eq_default}
 use Rattle.std.proofs.lemmas.List.{get_or-set_same, get_or-set_other, length-set}
 use Rattle.level_rows.specs.Tables.{Increase, ShareBy}
 use Rattle.level_rows.specs.Values.{StoresValues}
@@ -31,6 +32,21 @@ one_stored n count place value first values apart h inside s =
         let long = s.long in
         ap (λ j. slice_index (slice_set values (place n) (value n)) (place j)) here
         ∙ get_or-set_same values (place n) (value n) 0 (omega (arith, inside, long)) ∙ ap value (sym here)
+
+-- the values of rows, one after another, are stored where each row's place is its number and there are as many positions
+pub all_stored : (count : ℕ) (place : ℕ → ℕ) (value : ℕ → ℕ) (first values : List ℕ) → ((i : ℕ) → i < count → place i ≡ i)
+    → length first ≡ count → length values ≡ count → ((i : ℕ) → i < count → slice_index values i ≡ value i)
+    → StoresValues count place value first values
+all_stored count place value first values own many long at = record {
+  long = long ∙ sym many;
+  stored = λ i h. ap (slice_index values) (own i h) ∙ at i h;
+  others = λ p none. by_order p none (cases_lt p count);
+}
+  where
+    by_order : (p : ℕ) → ((i : ℕ) → i < count → place i ≢ p) → (p < count) ⊎ (count ≤ p) → slice_index values p ≡ slice_index first p
+    by_order p none (inl h) = absurd (none p h (own p h))
+    by_order p none (inr past) = get_or-eq_default values 0 (omega (arith, long, past))
+        ∙ sym (get_or-eq_default first 0 (omega (arith, many, past)))
 
 -- no two rows of a table have one position at the last level
 pub places_apart : (coords : ℕ → ℕ → ℕ) (order count positions : ℕ) (place : ℕ → ℕ) → Increase coords order count

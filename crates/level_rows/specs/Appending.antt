@@ -1,5 +1,5 @@
--- The cursor of the loop that appends rows, and what each of its steps leaves.
-use Rattle.std.specs.Prelude.{ℕ, ◌+◌, ◌==◌, Bool, if◌then◌else◌}
+-- The cursor of the loops that append rows, and what each of their steps leaves.
+use Rattle.std.specs.Prelude.{◌≡◌, ℕ, ◌+◌, ◌≤◌, ◌<◌, ◌==◌, Bool, if◌then◌else◌, List, length, slice_index}
 use Rattle.level_core.specs.declared.letter.Letter.{Letter}
 use Rattle.level_core.specs.Logs.{Log, with_coord, with_edges}
 pub use Rattle.level_rows.specs.declared.appending.Cursor.{Cursor}
@@ -22,3 +22,10 @@ added_log first x log = if first then with_coord x log else log
 -- the last parent is given its positions if there were rows
 abbrev pub closed_log : Letter → Cursor → Bool → Log → Log
 closed_log letter at some log = if some then with_edges letter at.last at.begin at.count log else log
+
+-- the rows from one to before another stand for their own numbers, and the others are as before
+pub record AreNumbered (from to : ℕ) (old new : List ℕ) : Type 0 where
+  pub long : length new ≡ length old
+  pub own : (i : ℕ) → from ≤ i → i < to → slice_index new i ≡ i
+  pub before : (i : ℕ) → i < from → slice_index new i ≡ slice_index old i
+  pub behind : (i : ℕ) → to ≤ i → slice_index new i ≡ slice_index old i

@@ -1,7 +1,7 @@
 -- What a level is given: rows, each with a position of the level above and a coordinate. Rows that follow one another may share a
 -- position of the level, which the first of them begins.
 use Rattle.std.specs.Prelude.{◌≡◌, ◌≢◌, ◌⊎◌, ℕ, zero, suc, ◌+◌, ◌-◌, ◌≤◌, ◌<◌, ◌==◌, ◌&&◌}
-use Rattle.std.specs.Prelude.{Bool, true, false, if◌then◌else◌, List, slice_index, Some}
+use Rattle.std.specs.Prelude.{Bool, true, false, if◌then◌else◌, List, length, slice_index, Some}
 use Rattle.level_core.specs.declared.letter.Letter.{Letter}
 use Rattle.level_core.specs.declared.span.Span.{Span}
 use Rattle.level_core.specs.declared.span.Entry.{Entry}
@@ -34,6 +34,11 @@ begun first (suc n) = if first n then begun first n + 1 else begun first n
 -- each row begins a position
 abbrev pub AllBegin : Keys → Type 0
 AllBegin keys = (i : ℕ) → i < keys.count → keys.first i ≡ true
+
+-- a list has the coordinate of each row
+pub record HasCoords (keys : Keys) (column : List ℕ) : Type 0 where
+  pub long : length column ≡ keys.count
+  pub at : (i : ℕ) → i < keys.count → slice_index column i ≡ keys.coord i
 
 -- the position of a row where positions are numbered in the order in which rows begin them
 abbrev pub place : (ℕ → Bool) → ℕ → ℕ

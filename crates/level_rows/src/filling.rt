@@ -7,7 +7,7 @@ ghost use Rattle.level_rows.specs.Filling.{AreNeeded, MayFill, FillAnswer};
 
 use crate::appending::append_rows;
 use crate::counting::{greatest_below, positions_begun};
-use crate::inserting::insert_rows;
+use crate::inserting::{insert_full, insert_rows};
 use crate::rows::SortedRows;
 use level_core::{Append, Insert, Letter, LevelKind, caps_of, props_of};
 use limits::greatest_positions;
@@ -117,6 +117,8 @@ pub fn fill_level<L: Append + Insert, R: SortedRows>(
     let count = need.positions as u64;
     let given = if level.caps().append {
         append_rows(level, parents, need.most, rows, positions)
+    } else if level.props().full {
+        insert_full(level, size, parents, need.most, rows, positions)
     } else {
         insert_rows(level, parents, need.most, rows, positions)
     };

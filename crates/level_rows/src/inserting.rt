@@ -64,3 +64,31 @@ pub fn insert_rows<L: Insert, R: SortedRows>(
     }
     Ok(())
 }
+
+/// Fills a full level, of this range, as `insert_rows` does: it has a position for each coordinate already, which is counted and not
+/// asked for.
+pub(crate) fn insert_full<L: Insert, R: SortedRows>(
+    level: &mut L,
+    size: u64,
+    parents: u64,
+    most: u64,
+    rows: &R,
+    positions: &mut [u64],
+) -> Result<(), AllocError>
+    requires full { (properties (L.meaning.kind level.old)).full ≡ true }
+    requires size { size ≡ L.meaning.size level.old }
+    requires rows { MayInsertRows (L.meaning.size level.old) parents (rows_at (R.keys rows.now) positions.old) }
+    requires many { length positions.old ≡ (R.keys rows.now).count }
+    requires may { MayPrepare (L.meaning.kind level.old) (L.meaning.width level.old) most }
+    requires within { positions_for (L.meaning.kind level.old) (L.meaning.size level.old) parents most ≤ greatest_position_count }
+    ensures ok { OnOk result (InsertsRows L.meaning parents most (rows_at (R.keys rows.now) positions.old) positions.new
+        level.old level.new) }
+    ensures err { OnErr result ((level.new ≡ level.old) × (positions.new ≡ positions.old)) }
+{
+    level.tell_rules();
+    level.prepare(parents, most)?;
+    for row in 0..positions.len() {
+        positions[row] = positions[row] * size + rows.coord(row);
+    }
+    Ok(())
+}

@@ -1,5 +1,5 @@
-ghost use Rattle.std.specs.Prelude.{◌≡◌, ◌<◌, ℕ, true};
-ghost use Rattle.level_rows.specs.Rows.{AllBegin, Keys};
+ghost use Rattle.std.specs.Prelude.{◌≡◌, ◌<◌, ℕ, true, IfSome};
+ghost use Rattle.level_rows.specs.Rows.{AllBegin, HasCoords, Keys};
 
 /// Rows for a level, in the order in which they are taken: of each its coordinate, and whether it begins a position. The
 /// positions of the level above stand in a list of their own.
@@ -24,4 +24,8 @@ pub trait SortedRows {
     /// Whether it is known that each row begins a position: then none is asked.
     fn all_begin(&self) -> bool
         ensures { result ≡ true → AllBegin (keys self.now) };
+
+    /// The coordinates of all rows, where they stand next to one another with four bytes each.
+    fn column(&self) -> Option<&[u32]>
+        ensures { IfSome result (λ column. HasCoords (keys self.now) column.now) };
 }

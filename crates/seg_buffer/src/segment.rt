@@ -170,7 +170,8 @@ impl<T: Copy> Segment<T> {
         Ok(copy)
     }
 
-    fn append_reserved(&mut self, xs: &[T])
+    /// Appends elements. `reserve` makes the room for them.
+    pub fn append_reserved(&mut self, xs: &[T])
         requires { length xs.now ≤ self.old.spare }
         ensures items { self.new.items ≡ self.old.items ++ xs.now }
         ensures spare { self.new.spare + length xs.now ≡ self.old.spare }

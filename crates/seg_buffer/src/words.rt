@@ -140,6 +140,19 @@ impl Words {
         }
     }
 
+    /// Appends items. `reserve` makes the room for them.
+    pub fn append_reserved(&mut self, xs: &[u32])
+        requires { length xs.now ≤ self.old.spare }
+        ensures items { self.new.items ≡ self.old.items ++ xs.now }
+        ensures spare { self.new.spare + length xs.now ≡ self.old.spare }
+        ensures wide { self.new.wide ≡ self.old.wide }
+    {
+        match &mut self.form {
+            Form::Narrow(words) => words.append_reserved(xs),
+            Form::Wide(words) => append_widened(words, xs),
+        }
+    }
+
     /// Puts `x` in the place of the item at `i`, counted from 0.
     pub fn set(&mut self, i: usize, x: u64)
         requires place { i < length self.old.items }
@@ -164,5 +177,16 @@ impl Words {
             Form::Narrow(words) => words.truncate(n),
             Form::Wide(words) => words.truncate(n),
         }
+    }
+}
+
+/// Appends numbers of four bytes each, of which each takes eight then.
+fn append_widened(words: &mut Segment<u64>, xs: &[u32])
+    requires { length xs.now ≤ words.old.spare }
+    ensures items { words.new.items ≡ words.old.items ++ xs.now }
+    ensures spare { words.new.spare + length xs.now ≡ words.old.spare }
+{
+    for x in xs {
+        words.push_reserved(*x as u64);
     }
 }

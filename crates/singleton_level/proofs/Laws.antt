@@ -1,6 +1,7 @@
 -- Lemmas about what specs/Laws.antt defines.
 use Rattle.std.specs.Prelude.{◌≡◌, ℕ, ◌+◌, ◌≤◌, ◌<◌, max, Bool, true, false, List, [], ◌∷◌, ◌++◌, length, slice_get, Some, refl}
 use Rattle.std.proofs.Common.{◌∙◌, sym, ap, subst, arith}
+use Rattle.std.proofs.lemmas.List.{length-append}
 use Rattle.limits.specs.Limits.{greatest_position_count}
 use Rattle.level_core.specs.declared.span.Span.{Span}
 use Rattle.level_core.specs.declared.span.Entry.{Entry}
@@ -8,8 +9,8 @@ use Rattle.level_core.specs.declared.stage.Stage.{Stage}
 use Rattle.level_core.specs.declared.stage.Stage.TheVariants.{Unfinished, Finished}
 use Rattle.level_core.specs.Entries.{one, span, IsIn, StandsAt, coord_at}
 use Rattle.level_core.specs.Kinds.{capabilities}
-use Rattle.level_core.specs.Logs.{Log, with_parents, with_edges, Rises, slice, entries_between, MayAppend, MayFinish}
-use Rattle.level_core.specs.GroupLaws.{CoordsBelow}
+use Rattle.level_core.specs.Logs.{Log, with_parents, with_edges, Rises, slice, entries_between, MayAppend, MayAppendAll, MayFinish}
+use Rattle.level_core.proofs.Appends.{may_append_one, below_append}
 use Rattle.level_core.proofs.GroupLaws.{stands_where}
 use Rattle.coordinate_lists.proofs.Spans.{one_rises, entries_coord, entry_is_group}
 use Rattle.singleton_level.specs.Singleton.{SingletonLevel, letter_of, log_with, log_of, KeepsRules, IsAllowed, entries_of}
@@ -22,21 +23,14 @@ letter_tells true false h = absurd (cc)
 letter_tells false true h = absurd (cc)
 letter_tells false false h = refl
 
-below_then : (n x : ℕ) (xs : List ℕ) → CoordsBelow n xs → x < n → CoordsBelow n (xs ++ x ∷ [])
-below_then n x [] b h = (h, tt)
-below_then n x (y ∷ xs) b h = (b.0, below_then n x xs b.1 h)
-
-length_then : (x : ℕ) (xs : List ℕ) → length (xs ++ x ∷ []) ≡ length xs + 1
-length_then x [] = refl
-length_then x (y ∷ xs) = let k = length_then x xs in omega (arith, k)
-
--- a level with a coordinate more
-pub appended_keeps : (l : SingletonLevel) (x spare : ℕ) → KeepsRules l → MayAppend (letter_of l.unique) l.size x (log_of l)
-    → length l.coords + 1 ≤ greatest_position_count → KeepsRules (record l { coords = l.coords ++ x ∷ []; spare = spare })
-appended_keeps l x spare k may room = record {
+-- a level with coordinates more
+pub all_appended_keeps : (l : SingletonLevel) (xs : List ℕ) (spare : ℕ) → KeepsRules l
+    → MayAppendAll (letter_of l.unique) l.size xs (log_of l) → length l.coords + length xs ≤ greatest_position_count
+    → KeepsRules (record l { coords = l.coords ++ xs; spare = spare })
+all_appended_keeps l xs spare k may room = record {
   small = k.small;
-  few = let long = length_then x l.coords in omega (arith, long, room);
-  below = below_then l.size x l.coords k.below may.below;
+  few = let long = length-append l.coords xs in omega (arith, long, room);
+  below = below_append l.size l.coords xs k.below may.below;
   given = λ h. absurd (apart l.stage may.unfinished h);
 }
   where
@@ -45,6 +39,12 @@ appended_keeps l x spare k may room = record {
       where
         different : Unfinished ≡ Finished → ⊥
         different e = cc
+
+-- a level with a coordinate more
+pub appended_keeps : (l : SingletonLevel) (x spare : ℕ) → KeepsRules l → MayAppend (letter_of l.unique) l.size x (log_of l)
+    → length l.coords + 1 ≤ greatest_position_count → KeepsRules (record l { coords = l.coords ++ x ∷ []; spare = spare })
+appended_keeps l x spare k may room =
+    all_appended_keeps l (x ∷ []) spare k (may_append_one (letter_of l.unique) l.size x (log_of l) may) room
 
 -- no positions are to be given
 pub edges_log : (unique : Bool) (parent begin end : ℕ) (log : Log) → log ≡ with_edges (letter_of unique) parent begin end log
@@ -71,14 +71,22 @@ reserve_logs v old coords known parents is same more =
     ap (λ xs. log_with Unfinished xs known) same ∙ ap (log_with Unfinished v.coords) more ∙ reserved_logs v parents
     ∙ ap (λ l. with_parents (letter_of l.unique) parents (log_of l)) is
 
+pub append_keeps : (v old : SingletonLevel) (coords xs : List ℕ) (spare : ℕ) → v ≡ old → KeepsRules v
+    → MayAppendAll (letter_of old.unique) old.size xs (log_of old) → length old.coords + length xs ≤ greatest_position_count
+    → coords ≡ v.coords ++ xs → KeepsRules (record v { coords = coords; spare = spare })
+append_keeps v old coords xs spare is k may room appended =
+    let may_here = subst (λ l. MayAppendAll (letter_of l.unique) l.size xs (log_of l)) (sym is) may in
+    let room_here : length v.coords + length xs ≤ greatest_position_count =
+    subst (λ l. length l.coords + length xs ≤ greatest_position_count) (sym is) room in
+    subst (λ ys. KeepsRules (record v { coords = ys; spare = spare })) (sym appended)
+    (all_appended_keeps v xs spare k may_here room_here)
+
 pub push_keeps : (v old : SingletonLevel) (coords : List ℕ) (x spare : ℕ) → v ≡ old → KeepsRules v
     → MayAppend (letter_of old.unique) old.size x (log_of old) → length old.coords < greatest_position_count → coords ≡ v.coords ++ x ∷ []
     → KeepsRules (record v { coords = coords; spare = spare })
 push_keeps v old coords x spare is k may room pushed =
-    let may_here = subst (λ l. MayAppend (letter_of l.unique) l.size x (log_of l)) (sym is) may in
-    let room_here : length v.coords < greatest_position_count = subst (λ l. length l.coords < greatest_position_count) (sym is) room in
-    subst (λ xs. KeepsRules (record v { coords = xs; spare = spare })) (sym pushed)
-    (appended_keeps v x spare k may_here (omega (arith, room_here)))
+    append_keeps v old coords (x ∷ []) spare is k (may_append_one (letter_of old.unique) old.size x (log_of old) may)
+    (omega (arith, room)) pushed
 
 pub rises_where_unique : (l : SingletonLevel) (parent : Span) → IsAllowed l parent → l.unique ≡ true → Rises true 0 (slice l.coords parent)
 rises_where_unique l parent ok u = subst (λ b. Rises b 0 (slice l.coords parent)) u ok.rise

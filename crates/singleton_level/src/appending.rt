@@ -16,6 +16,10 @@ impl Append for SingletonLevel {
         self.coords.push(x);
     }
 
+    fn append_coords(&mut self, xs: &[u32]) {
+        self.coords.append(xs);
+    }
+
     fn append_edges(&mut self, _parent: u64, _begin: u64, _end: u64) {}
 
     fn finish(&mut self, _parents: u64) {

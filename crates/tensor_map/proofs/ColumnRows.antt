@@ -8,7 +8,7 @@ use Rattle.std.proofs.lemmas.List.{get_or-set_same, get_or-set_other, get_or-map
 use Rattle.std.proofs.lemmas.Bool.{cases_eq}
 use Rattle.std.proofs.lemmas.Grind.{same_number_lists}
 use Rattle.std.proofs.Math.ListN.{set, length-set}
-use Rattle.tensor_map.specs.Entries.{Entry, column_in}
+use Rattle.tensor_map.specs.Entries.{Entry, column_in, values_in}
 use Rattle.tensor_map.specs.Columns.{row_of, rows_from, rows_of, AreLong, HaveAt, KeepsBelow}
 
 module _ {X : Type 0} (numbers : X → List ℕ) where
@@ -16,6 +16,11 @@ module _ {X : Type 0} (numbers : X → List ℕ) where
   pub length_rows : (columns : List X) (place : ℕ) (values : List ℕ) → length (rows_from numbers columns place values) ≡ length values
   length_rows columns place [] = refl
   length_rows columns place (value ∷ values) = ap suc (length_rows columns (suc place) values)
+
+  -- the values of the entries
+  pub values_are : (columns : List X) (place : ℕ) (values : List ℕ) → values_in (rows_from numbers columns place values) ≡ values
+  values_are columns place [] = refl
+  values_are columns place (value ∷ values) = ap (λ vs. value ∷ vs) (values_are columns (suc place) values)
 
   -- the entry at a place
   pub row_at : (columns : List X) (place : ℕ) (values : List ℕ) (k : ℕ) (d : Entry) → k < length values

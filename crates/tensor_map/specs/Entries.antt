@@ -81,6 +81,10 @@ ComeLast entries coords = (k : ℕ) (d : Entry) → k + 1 ≡ length entries →
 abbrev pub column_in : List Entry → ℕ → List ℕ
 column_in entries mode = map (λ entry. slice_index entry.coords mode) entries
 
+-- the values of all entries, one after another
+abbrev pub values_in : List Entry → List ℕ
+values_in entries = map (λ entry. entry.value) entries
+
 -- the greatest of the entries' coordinates in a mode, and 0 where there is no entry
 abbrev pub greatest_in : List Entry → ℕ → ℕ
 greatest_in [] mode = 0

@@ -4,7 +4,7 @@ ghost use Rattle.std.specs.Prelude.{All, IfOk, OnOk, OnErr, take, slice_set};
 ghost use Rattle.std.specs.Ordering.{is_lt, nat_cmp};
 ghost use Rattle.std.specs.Cmp.Lexicographic.{slice_cmp};
 ghost use Rattle.limits.specs.Limits.{greatest_order};
-ghost use Rattle.tensor_map.specs.Entries.{Entry, column_in};
+ghost use Rattle.tensor_map.specs.Entries.{Entry, column_in, values_in};
 ghost use Rattle.tensor_map.specs.Columns.{AreLong, HaveAt, KeepsBelow};
 
 use crate::Coords;
@@ -146,6 +146,13 @@ impl Columns {
         ensures { (d : Entry) → result ≡ (slice_index_or self.now.list i d).value }
     {
         self.values[i]
+    }
+
+    /// The values of all entries.
+    pub(crate) fn values(&self) -> &[u64]
+        ensures { result.now ≡ values_in self.now.list }
+    {
+        self.values.as_slice()
     }
 
     /// Puts an entry over another one.

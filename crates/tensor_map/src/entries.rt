@@ -2,7 +2,7 @@ ghost use Rattle.std.specs.Prelude.{◌≡◌, ℕ, ◌≤◌, ◌<◌, ◌↔�
 ghost use Rattle.std.specs.Prelude.{length, IsTrue, IsOk, IfOk, OnOk, OnErr, IfSome, MatchOption};
 ghost use Rattle.std.specs.Prelude.{slice_index, slice_index_or, max, filter};
 ghost use Rattle.limits.specs.Limits.{greatest_order};
-ghost use Rattle.tensor_map.specs.Entries.{Entry, column_in, greatest_in};
+ghost use Rattle.tensor_map.specs.Entries.{Entry, column_in, values_in, greatest_in};
 
 use crate::Coords;
 use crate::entry_list::EntryList;
@@ -99,6 +99,15 @@ impl Entries {
         ensures { (d : Entry) → result ≡ (slice_index_or self.now.list i d).value }
     {
         self.list.value(i)
+    }
+
+    /// The values of all entries in their order, where they stand next to one another: so do those of entries that increase and whose
+    /// coordinates fit four bytes. It takes no memory.
+    pub fn values(&self) -> Option<&[u64]>
+        ensures { IfSome result (λ values. values.now ≡ values_in self.now.list) }
+    {
+        let _ = &self.greatest;
+        self.list.values()
     }
 
     /// The number of entries.

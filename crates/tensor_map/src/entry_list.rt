@@ -4,7 +4,7 @@ ghost use Rattle.std.specs.Prelude.{◌≡◌, ◌≤◌, ◌<◌, ◌^◌, ◌�
 ghost use Rattle.std.specs.Prelude.{length, slice_index, slice_index_or, take, filter};
 ghost use Rattle.std.specs.Prelude.{All, IsTrue, IfOk, OnOk, OnErr, IfSome};
 ghost use Rattle.limits.specs.Limits.{greatest_order};
-ghost use Rattle.tensor_map.specs.Entries.{Entry, IsEntry, ComeLast, column_in, is_nonzero};
+ghost use Rattle.tensor_map.specs.Entries.{Entry, IsEntry, ComeLast, column_in, values_in, is_nonzero};
 ghost use Rattle.tensor_map.specs.Summed.{SortsAndAdds};
 
 use crate::Coords;
@@ -127,6 +127,17 @@ impl EntryList {
             EntryForm::Columns(columns) => columns.value(i),
             EntryForm::Pairs(pairs) => pairs[i].value(),
             EntryForm::Rows(rows) => rows[i].value,
+        }
+    }
+
+    /// The values of all entries, where they are columns.
+    pub(crate) fn values(&self) -> Option<&[u64]>
+        ensures { IfSome result (λ values. values.now ≡ values_in self.now.list) }
+    {
+        match &self.form {
+            EntryForm::Columns(columns) => Some(columns.values()),
+            EntryForm::Pairs(_) => None,
+            EntryForm::Rows(_) => None,
         }
     }
 

@@ -9,15 +9,15 @@ use Rattle.std.proofs.lemmas.List.FromFn.{length-range_with_len}
 use Rattle.std.proofs.lemmas.Option.{slice_get_cases, slice_get_within, get_or_from_slice_get}
 use Rattle.format_spec.specs.declared.format.FormatLevel.{FormatLevel}
 use Rattle.tensor_map.specs.declared.entries.Entry.{Entry}
-use Rattle.tensor_map.specs.Entries.{column_in}
+use Rattle.tensor_map.specs.Entries.{column_in, values_in}
 use Rattle.tensor_storage.specs.declared.entries.EntryOrder.{EntryOrder}
 use Rattle.tensor_storage.specs.declared.entries.EntryOrder.TheVariants.{Own}
 use Rattle.tensor_storage.specs.Arranged.{no_entry, level_coords, table_of}
 use Rattle.tensor_storage.specs.Columns.{column_of, AreColumns}
 use Rattle.tensor_storage.specs.EntryOrders.{numbers_of}
-use Rattle.tensor_storage.specs.Tables.{level_column}
+use Rattle.tensor_storage.specs.Tables.{level_column, row_values}
 use Rattle.tensor_storage.proofs.Arranging.{number_at, level_coord}
-use Rattle.tensor_storage.proofs.Tables.{column_long as level_long, column_at as level_at}
+use Rattle.tensor_storage.proofs.Tables.{column_long as level_long, column_at as level_at, values_long, value_at}
 
 -- in their own order there are as many rows as entries, each the entry of its number
 pub own_count : (count : ℕ) (order : EntryOrder) → order ≡ Own → count ≡ length (numbers_of count order)
@@ -79,3 +79,18 @@ own_column format entries level mode d within is =
     ∙ sym (level_coord format (get_or entries k no_entry).coords level d within)
     ∙ ap (λ n. slice_index (level_coords format entries n) level) (sym (number_at (length entries) k number))
     ∙ sym (level_at table level k number))
+
+-- and the values of entries are those of their rows
+pub own_values : (format : List FormatLevel) (entries : List Entry)
+    → values_in entries ≡ row_values (table_of format entries (range_with_len 0 (length entries)))
+own_values format entries =
+    let numbers = range_with_len 0 (length entries) in
+    let table = table_of format entries numbers in
+    let all : length numbers ≡ length entries = length-range_with_len 0 (length entries) in
+    let long : length (values_in entries) ≡ length entries = length-map entries (λ entry. entry.value) in
+    same_number_lists (values_in entries) (row_values table) (long ∙ sym all ∙ sym (values_long table)) (λ k h.
+    let row : k < length entries = omega (arith, h, long) in
+    let number : k < length numbers = omega (arith, row, all) in
+    get_or-map (λ entry. entry.value) entries k no_entry 0 row
+    ∙ ap (λ n. (get_or entries n no_entry).value) (sym (number_at (length entries) k number))
+    ∙ sym (value_at table k number))

@@ -13,6 +13,7 @@ use Rattle.level_rows.specs.Values.{StoresValues}
 use Rattle.level_rows.specs.Growing.{Growing}
 use Rattle.level_rows.proofs.Entries.{coord_from}
 use Rattle.level_rows.proofs.Growing.{levels_grow}
+use Rattle.level_rows.proofs.ValueLaws.{all_stored}
 use Rattle.format_spec.specs.declared.format.FormatLevel.{FormatLevel}
 use Rattle.format_spec.specs.Formats.{letters_of, Chained, IsFormat}
 use Rattle.tensor_storage.specs.Built.{counts_of, IsStoredAt, GoesOver}
@@ -22,8 +23,9 @@ use Rattle.tensor_storage.specs.Stands.{row_from, MakesPath, Stands, IsPacked}
 use Rattle.tensor_storage.specs.Levels.{StorageLevel, meaning}
 use Rattle.tensor_storage.specs.Laws.{laws}
 use Rattle.tensor_storage.specs.Storages.{IsOpen, IsStorage, storage_of, in_level_order}
-use Rattle.tensor_storage.specs.Tables.{Table}
+use Rattle.tensor_storage.specs.Tables.{Table, row_values}
 use Rattle.tensor_storage.proofs.PackSteps.{all_same, last_is}
+use Rattle.tensor_storage.proofs.Tables.{values_long, value_at}
 
 module _ {L : Type 0} (means : Meaning L) (table : Table) where
   path_made : (ls : List L) (columns : List Column) (d : ℕ) (parent : ℕ → ℕ) (parents : ℕ)
@@ -304,3 +306,12 @@ pub written : (n : ℕ) (xs ys : List ℕ) → length xs ≡ length ys → n ≡
 written n xs ys same all =
     ap (λ rest. take n (xs ++ rest)) (drop_of_length-le ys {i = length xs} (omega (arith, same))) ∙ ap (take n) (append-nil xs)
     ∙ take_all n xs (omega (arith, same, all))
+
+-- the values of all rows are those at their places where each place is its row's number, and there are as many positions as rows
+pub copied_stored : (table : Table) (places : List ℕ) (positions zero_is : ℕ) (lent copied : List ℕ) → positions ≡ table.count
+    → ((i : ℕ) → i < table.count → slice_index places i ≡ i) → lent ≡ row_values table → copied ≡ lent
+    → StoresValues table.count (slice_index places) table.values (replicate positions zero_is) copied
+copied_stored table places positions zero_is lent copied many own is same =
+    subst (StoresValues table.count (slice_index places) table.values (replicate positions zero_is)) (sym (same ∙ is))
+    (all_stored table.count (slice_index places) table.values (replicate positions zero_is) (row_values table) own
+    (length-replicate positions zero_is ∙ many) (values_long table) (value_at table))

@@ -8,7 +8,7 @@ use Rattle.std.proofs.lemmas.List.{length-map, get_or-map}
 use Rattle.std.proofs.lemmas.List.FromFn.{length-range_with_len, get_or-range_with_len}
 use Rattle.level_rows.specs.Rows.{rows_at}
 use Rattle.level_rows.specs.Tables.{Agree, Begins, Increase, AreRowsOf}
-use Rattle.tensor_storage.specs.Tables.{Table, AllApart, agree, begins_at, keys_of, level_column}
+use Rattle.tensor_storage.specs.Tables.{Table, AllApart, agree, begins_at, keys_of, level_column, row_values}
 
 pub apart : {A : Type 0} → true ≡ false → A
 apart {A} e = absurd (no_way e)
@@ -73,6 +73,18 @@ column_at table d i h =
     let at : slice_index (range_with_len 0 table.count) i ≡ i =
     (let is = get_or-range_with_len 0 table.count i 0 h in omega (arith, is)) in
     get_or-map (table.coords d) (range_with_len 0 table.count) i 0 0 within ∙ ap (table.coords d) at
+
+-- so has the list of values a value
+pub values_long : (table : Table) → length (row_values table) ≡ table.count
+values_long table = length-map (range_with_len 0 table.count) table.values ∙ length-range_with_len 0 table.count
+
+pub value_at : (table : Table) (i : ℕ) → i < table.count → slice_index (row_values table) i ≡ table.values i
+value_at table i h =
+    let long = length-range_with_len 0 table.count in
+    let within : i < length (range_with_len 0 table.count) = omega (arith, long, h) in
+    let at : slice_index (range_with_len 0 table.count) i ≡ i =
+    (let is = get_or-range_with_len 0 table.count i 0 h in omega (arith, is)) in
+    get_or-map table.values (range_with_len 0 table.count) i 0 0 within ∙ ap table.values at
 
 by_truth : (b : Bool) → (b ≡ true → ⊥) → b ≡ false
 by_truth true never = absurd (never refl)

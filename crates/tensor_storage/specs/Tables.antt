@@ -27,6 +27,10 @@ keys_of table d n = record { count = table.count; coord = table.coords d; first 
 abbrev pub level_column : Table → ℕ → List ℕ
 level_column table d = map (table.coords d) (range_with_len 0 table.count)
 
+-- the values of all rows, one after another
+abbrev pub row_values : Table → List ℕ
+row_values table = map table.values (range_with_len 0 table.count)
+
 -- each row differs from the next at one of the first n levels
 abbrev pub AllApart : Table → ℕ → Type 0
 AllApart table n = (i : ℕ) → suc i < table.count → agree table.coords n i (suc i) ≡ false

@@ -15,6 +15,10 @@ impl Append for StorageLevel {
         of_each_appended!(self, it => it.append_coord(x), {})
     }
 
+    fn append_coords(&mut self, xs: &[u32]) {
+        of_each_appended!(self, it => it.append_coords(xs), {})
+    }
+
     fn append_edges(&mut self, parent: u64, begin: u64, end: u64) {
         of_each_appended!(self, it => it.append_edges(parent, begin, end), {})
     }

@@ -262,4 +262,11 @@ impl<'a> RowTable for EntryRows<'a> {
             EntryOrder::Sorted { .. } => None,
         }
     }
+
+    fn values(&self) -> Option<&[u64]> {
+        match self.order {
+            EntryOrder::Own => self.entries.values(),
+            EntryOrder::Sorted { .. } => None,
+        }
+    }
 }

@@ -1,7 +1,8 @@
-ghost use Rattle.std.specs.Prelude.{◌≡◌, ◌≢◌, ◌<◌, ◌≤◌, ◌+◌, ◌^◌, ℕ, All, length, drop, replicate, slice_index};
+ghost use Rattle.std.specs.Prelude.{◌≡◌, ◌≢◌, ◌<◌, ◌≤◌, ◌+◌, ◌^◌, ℕ, All, length, drop, replicate, slice_index, true};
 ghost use Rattle.std.specs.Prelude.{IfOk, MatchResult};
 ghost use Rattle.limits.specs.Limits.{greatest_position_count};
 ghost use Rattle.format_spec.specs.Formats.{letters_of, IsFormat};
+ghost use Rattle.level_core.specs.Kinds.{capabilities};
 ghost use Rattle.level_rows.specs.Rows.{rows_at};
 ghost use Rattle.level_rows.specs.Filling.{AreNeeded, MayFill, FillAnswer};
 ghost use Rattle.level_rows.specs.Tables.{Increase};
@@ -17,6 +18,7 @@ use crate::kinds::chain_end;
 use crate::level::{StorageLevel, new_level};
 use crate::table::{ColumnRows, LevelRows, RowTable};
 use format_spec::FormatLevel;
+use level_core::{Letter, caps_of};
 use level_rows::{FillRefusal, fill_level, store_values};
 use numbers::Semiring;
 use std::alloc::{AllocError, Global};
@@ -31,11 +33,24 @@ pub enum PackRefusal {
     SizeLimit { level: usize, count: u128 },
 }
 
-/// The levels of a format with the rows of a table, and how many positions the last one has.
+/// The levels of a format with the rows of a table, how many positions the last one has, and whether it is known that each row's is its
+/// own number.
 #[derive(Drop)]
 struct PackedLevels {
     levels: Items<StorageLevel>,
     positions: u64,
+    numbered: bool,
+}
+
+/// Whether rows that differ at the first `levels` have their own numbers as positions at a level of this kind, where they begin positions
+/// by what differs at the first `through`.
+fn numbers_rows(letter: Letter, through: usize, levels: usize) -> bool
+    ensures { result ≡ true → (levels ≤ through) × ((capabilities letter).append ≡ true) }
+{
+    if through < levels {
+        return false;
+    }
+    caps_of(letter).append
 }
 
 /// Gives a new level its rows, below so many parents, as `fill_level` does. The rows increase by so many `levels`. Where the table has
@@ -94,11 +109,13 @@ fn pack_levels<T: RowTable>(
     requires places { places.old ≡ replicate (T.table table.now).count 0 }
     ensures { MatchResult result
         (λ packed. ArePacked meaning (letters_of format.now) (in_level_order format.now ranges.now) (T.table table.now)
-        (length format.now) packed.levels places.new packed.positions × (packed.positions ≤ greatest_position_count))
+        (length format.now) packed.levels places.new packed.positions × (packed.positions ≤ greatest_position_count)
+        × (packed.numbered ≡ true → (i : ℕ) → i < (T.table table.now).count → slice_index places.new i ≡ i))
         (IsRefusal (positions_of format.now ranges.now (T.table table.now))) }
 {
     let mut levels = Items::new(alloc);
     let mut parents = 1;
+    let mut numbered = false;
     for level in 0..format.len() {
         let size = ranges[format[level].mode];
         let Ok(mut stored) = new_level(alloc, format[level].letter, size) else {
@@ -119,6 +136,7 @@ fn pack_levels<T: RowTable>(
                 });
             }
         }
+        numbered = numbers_rows(format[level].letter, rows.through, format.len());
         let Ok(()) = levels.push(stored) else {
             return Err(PackRefusal::Memory);
         };
@@ -126,6 +144,7 @@ fn pack_levels<T: RowTable>(
     Ok(PackedLevels {
         levels,
         positions: parents,
+        numbered,
     })
 }
 
@@ -160,6 +179,43 @@ fn store_rows<T: RowTable>(table: &T, places: &[u64], values: &mut [u64])
     store_values(&rows, places, values);
 }
 
+/// A copy of words. Refused for want of memory alone.
+fn copy_of(alloc: Global, words: &[u64]) -> Result<Items<u64>, AllocError>
+    ensures same { IfOk result (λ copy. copy ≡ words.now) }
+    ensures words { IfOk result (λ copy. All (λ v. v < 2 ^ 64) copy) }
+{
+    let copy = Items::from_slice(alloc, words)?;
+    Ok(copy)
+}
+
+/// The values of rows at their places, of so many positions, and the zero of `S` at any other. Where it is known that each place is its
+/// row's number, and the table has the values next to one another, they are copied at once. Refused for want of memory alone.
+fn values_at<S: Semiring, T: RowTable>(
+    alloc: Global,
+    table: &T,
+    places: &[u64],
+    positions: u64,
+    numbered: bool,
+) -> Result<Items<u64>, AllocError>
+    requires many { length places.now ≡ (T.table table.now).count }
+    requires within { (i : ℕ) → i < (T.table table.now).count → slice_index places.now i < positions }
+    requires apart { (i j : ℕ) → i < j → j < (T.table table.now).count → slice_index places.now i ≢ slice_index places.now j }
+    requires numbered { numbered ≡ true → (i : ℕ) → i < (T.table table.now).count → slice_index places.now i ≡ i }
+    ensures stored { IfOk result (λ values. StoresValues (T.table table.now).count (slice_index places.now) (T.table table.now).values
+        (replicate positions S.arithmetic.zero) values) }
+    ensures words { IfOk result (λ values. All (λ v. v < 2 ^ 64) values) }
+{
+    if numbered && table.count() as u64 == positions {
+        if let Some(lent) = table.values() {
+            let copied = copy_of(alloc, lent)?;
+            return Ok(copied);
+        }
+    }
+    let mut values = repeated(alloc, S::zero(), positions as usize)?;
+    store_rows(table, places, &mut values);
+    Ok(Items::from_vec(values))
+}
+
 /// Packs the rows of a table, which increase in the order of the levels, with the zero of `S` for every other value. `ranges`
 /// has the ranges of the modes.
 pub(crate) fn pack_table<S: Semiring, T: RowTable>(
@@ -186,13 +242,13 @@ pub(crate) fn pack_table<S: Semiring, T: RowTable>(
         Ok(packed) => packed,
         Err(refusal) => return Err(refusal),
     };
-    let PackedLevels { levels, positions } = packed;
-    let Ok(mut values) = repeated(alloc, S::zero(), positions as usize) else {
+    let PackedLevels {
+        levels,
+        positions,
+        numbered,
+    } = packed;
+    let Ok(values) = values_at::<S, T>(alloc, table, &places, positions, numbered) else {
         return Err(PackRefusal::Memory);
     };
-    store_rows(table, &places, &mut values);
-    Ok(PackedTable {
-        levels,
-        values: Items::from_vec(values),
-    })
+    Ok(PackedTable { levels, values })
 }

@@ -1,5 +1,5 @@
 ghost use Rattle.std.specs.Prelude.{◌≡◌, ◌<◌, ◌≤◌, ℕ, not, true, IfSome};
-ghost use Rattle.tensor_storage.specs.Tables.{Table, AllApart, agree, begins_at, keys_of, level_column};
+ghost use Rattle.tensor_storage.specs.Tables.{Table, AllApart, agree, begins_at, keys_of, level_column, row_values};
 ghost use Rattle.std.proofs.Props.{props};
 
 use level_rows::{RowValues, SortedRows};
@@ -26,6 +26,10 @@ pub trait RowTable {
     /// The coordinates of all rows at a level, counted from 0, where they stand next to one another with four bytes each.
     fn column(&self, level: usize) -> Option<&[u32]>
         ensures { IfSome result (λ column. column.now ≡ level_column (table self.now) level) };
+
+    /// The values of all rows, where they stand next to one another.
+    fn values(&self) -> Option<&[u64]>
+        ensures { IfSome result (λ values. values.now ≡ row_values (table self.now)) };
 }
 
 /// Whether two rows have the same coordinates at the first levels. Rows in order mostly differ at the last of these.
@@ -70,6 +74,10 @@ impl<'a, T: RowTable> SortedRows for LevelRows<'a, T> {
 
     fn all_begin(&self) -> bool {
         false
+    }
+
+    fn column(&self) -> Option<&[u32]> {
+        None
     }
 }
 
@@ -147,5 +155,9 @@ impl<'a, T: RowTable> SortedRows for ColumnRows<'a, T> {
 
     fn all_begin(&self) -> bool {
         self.all_begin
+    }
+
+    fn column(&self) -> Option<&[u32]> {
+        Some(self.column)
     }
 }

@@ -6,8 +6,8 @@ use Rattle.level_core.proofs.KindLaws.{inserted_else}
 use Rattle.level_rows.proofs.FillLaws.{few_below}
 use Rattle.level_rows.proofs.filling.fill_level.Goals as goal
 
-pub insert_rows-given-requires-clause-may : goal.insert_rows-given-requires-clause-may
-insert_rows-given-requires-clause-may g c =
+pub insert_rows-requires-clause-may : goal.insert_rows-requires-clause-may
+insert_rows-requires-clause-may g c =
     let rows = rows_at (g.R.SortedRows.keys c.args.rows.now) c.args.positions.now in
     let kind = g.L.LevelKind.meaning.kind c.args.level.now in
     let none : (capabilities kind).append ≡ false = sym (ap (λ k. k.append) c.caps.ensures) ∙ c.if-caps.false in

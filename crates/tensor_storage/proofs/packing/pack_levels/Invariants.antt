@@ -1,4 +1,4 @@
-use Rattle.std.specs.Prelude.{◌≤◌}
+use Rattle.std.specs.Prelude.{◌≡◌, ◌≤◌, ◌<◌, ℕ, true, slice_index}
 use Rattle.limits.specs.Limits.{greatest_position_count}
 use Rattle.format_spec.specs.Formats.{letters_of}
 use Rattle.tensor_storage.specs.Levels.{meaning}
@@ -10,3 +10,4 @@ abbrev pub invariant-loop-level : goal.invariant-loop-level
 invariant-loop-level g l =
     (ArePacked meaning (letters_of l.format) (in_level_order l.format l.ranges) (g.T.RowTable.table l.table) l.level l.levels l.places
     l.parents) × (l.parents ≤ greatest_position_count)
+    × (l.numbered ≡ true → (i : ℕ) → i < (g.T.RowTable.table l.table).count → slice_index l.places i ≡ i)

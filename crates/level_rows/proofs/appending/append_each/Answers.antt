@@ -4,7 +4,7 @@ use Rattle.level_rows.specs.Rows.{rows_at}
 use Rattle.level_rows.proofs.RowLaws.{begun_some}
 use Rattle.level_rows.proofs.AppendLoop.{Filling, begins, next_is, may_turn_to, turned_to, may_append, is_spare, is_room, count_some}
 use Rattle.level_rows.proofs.AppendLoop.{filled_more, may_close, may_finish_it, appends}
-use Rattle.level_rows.proofs.appending.append_rows.Goals as goal
+use Rattle.level_rows.proofs.appending.append_each.Goals as goal
 
 pub loop-done-init : goal.loop-done-init
 loop-done-init g c =

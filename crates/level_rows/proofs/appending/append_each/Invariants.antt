@@ -1,7 +1,7 @@
 use Rattle.std.proofs.Common.{length, ◌-◌}
 use Rattle.level_rows.specs.Rows.{rows_at}
 use Rattle.level_rows.proofs.AppendLoop.{Filling}
-use Rattle.level_rows.proofs.appending.append_rows.Given as goal
+use Rattle.level_rows.proofs.appending.append_each.Given as goal
 
 abbrev pub invariant-loop-done : goal.invariant-loop-done
 invariant-loop-done g l =
