@@ -172,7 +172,7 @@ module _ (a : Arithmetic) (laws : Laws a) (s : Statement) (formats : List (List 
         let has = lists_kept list past begin t (λ b. h.0.arrays b tt) (lists_start kernel arrays list past few) in
         does_weaker setting code t (λ u. Leaves (dense_sink.mine k) (sink.kept k) adds_code.free (adds_code.most store) t u
         × sink.holds k a (left_ranges s store) ([] ++ rows) u) HoldsRows
-        (RefusedWithin (adds_code.most store) t (dense_sink.refused k ([] ++ rows))) Never
+        (RefusedWithin (adds_code.most store) t (dense_sink.refused k (left_ranges s store) ([] ++ rows))) Never
         (adds_code.adds setting refl store dense_store read_store t there has)
         (λ u p. subst (λ ms. HoldsSums ms a (left_ranges s store) rows u.arrays) same_modes p.1.0)
         (λ turns b count r. r.1)

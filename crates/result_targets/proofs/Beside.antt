@@ -12,5 +12,5 @@ beside_laws of first past sink laws = record {
     laws.same (of w) a ranges rows s t f same h.0,
     λ list l m. list_stays list s t same.there (h.1 list l m),
   );
-  more = λ w rows others b count r. laws.more (of w) rows others b count r;
+  more = λ w ranges rows others b count r. laws.more (of w) ranges rows others b count r;
 }

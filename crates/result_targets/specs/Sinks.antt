@@ -24,7 +24,7 @@ pub record Sink (K : Type 0) : Type 1 where
   -- it holds these rows, as far as a sink tells: one that adds the values at equal coordinates does so by this arithmetic
   pub holds : K → Arithmetic → List ℕ → List Entry → State → Type 0
   -- the growth that may be refused where it is to hold these rows: of an array, to a count that is told
-  pub refused : K → List Entry → Arr → ℕ → Type 0
+  pub refused : K → List ℕ → List Entry → Arr → ℕ → Type 0
 
 pub record SinkLaws {K : Type 0} (sink : Sink K) : Type 0 where
   -- a row that may be given has so many coordinates
@@ -35,8 +35,8 @@ pub record SinkLaws {K : Type 0} (sink : Sink K) : Type 0 where
       → ((y : ℕ) → sink.mine k y → t.vars y ≡ s.vars y) → SameButLists s t
       → sink.holds k a ranges rows s → sink.holds k a ranges rows t
   -- more rows are refused no less
-  pub more : (k : K) (rows others : List Entry) (b : Arr) (count : ℕ) → sink.refused k rows b count
-      → sink.refused k (rows ++ others) b count
+  pub more : (k : K) (ranges : List ℕ) (rows others : List Entry) (b : Arr) (count : ℕ) → sink.refused k ranges rows b count
+      → sink.refused k ranges (rows ++ others) b count
 
 -- each of these rows may be given in its turn, behind some that are held
 abbrev pub TakesAll : {K : Type 0} → Sink K → K → List ℕ → List Entry → List Entry → Type 0
@@ -49,7 +49,7 @@ abbrev pub Adds : {K : Type 0} → Sink K → K → Setting → List ℕ → Lis
     → State → Type 0
 Adds sink k c ranges code free most before rows s =
     Does c code s (λ t. Leaves (sink.mine k) (sink.kept k) free most s t × sink.holds k c.arithmetic ranges (before ++ rows) t)
-    (RefusedWithin most s (sink.refused k (before ++ rows)))
+    (RefusedWithin most s (sink.refused k ranges (before ++ rows)))
 
 -- these variables have these numbers
 abbrev pub VarsAre : List ℕ → List ℕ → State → Type 0

@@ -246,7 +246,7 @@ module _ (a : Arithmetic) (laws : Laws a) (s : Statement) (formats : List (List 
     from_top t h =
         does_weaker setting code t (λ u. Leaves (workspace_sink.mine k) (sink.kept k) pushes.free most t u
         × sink.holds k a (left_ranges s store) ([] ++ rows) u) (Holds rows most)
-        (RefusedWithin most t (workspace_sink.refused k ([] ++ rows))) MayBe
+        (RefusedWithin most t (workspace_sink.refused k (left_ranges s store) ([] ++ rows))) MayBe
         (pushes.pushes setting refl store read_store t
         (at_top a k s formats store read_store base places at t given_here h.1 empty.holds)
         (lists_kept first past begin t (λ b. h.0.arrays b tt) (lists_start kernel arrays first past few)))

@@ -155,7 +155,7 @@ module _ (a : Arithmetic) (laws : Laws a) (s : Statement) (formats : List (List 
           does_weaker setting code t (λ u. Leaves (dense_sink.mine k) (sink.kept k) free (from_top.most store) t u
           × sink.holds k a (left_ranges s store)
           ([] ++ rows_to a s formats (told_by a store) (stored_in (operands_in s store)) s.left.vars loops) u) (λ u. AreMost u.turns)
-          (RefusedWithin (from_top.most store) t (dense_sink.refused k
+          (RefusedWithin (from_top.most store) t (dense_sink.refused k (left_ranges s store)
           ([] ++ rows_to a s formats (told_by a store) (stored_in (operands_in s store)) s.left.vars loops))) Never
           (from_top.adds setting refl store dense_store r t there has)
           (λ u p kind. let first = h.0.turns kind in let then = p.0.turns kind in omega (arith, first, then))

@@ -92,7 +92,7 @@ module _ {K : Type 0} (sink : Sink K) (laws : SinkLaws sink) (k : K) (free : ℕ
       has holds.
       let o = term_value a stored env t in
       let coords = coords_at env.point target in
-      let refused = sink.refused k (before ++ row_of coords o) in
+      let refused = sink.refused k ranges (before ++ row_of coords o) in
       does_append c x (If (Var free) row [] ∷ []) s _ _ _
       (does_weaker c x s _ _ Never (RefusedWithin no_turns s refused) (leaves these each c is stored bound env s keeps has) (λ u q. q)
       (λ u b n z. absurd z))

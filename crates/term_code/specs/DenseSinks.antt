@@ -57,7 +57,7 @@ dense_sink = record {
   keys = λ k. length k.modes;
   takes = λ k ranges rows. IsWithin k.modes ranges;
   holds = λ k a ranges rows s. HoldsSums k.modes a ranges rows s.arrays;
-  refused = λ k rows b count. ⊥;
+  refused = λ k ranges rows b count. ⊥;
 }
 
 -- the position of the coordinates in these variables below a position of the level above, from this level on

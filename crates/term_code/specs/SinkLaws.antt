@@ -18,7 +18,7 @@ workspace_laws = record {
     sums = g.same (Sums k.number) refl ∙ h.sums;
     few = h.few;
   };
-  more = λ k rows others b count r. record {
+  more = λ k ranges rows others b count r. record {
     array = r.array;
     above = r.above;
     within = let l = length-append rows others in
@@ -41,5 +41,5 @@ dense_laws = record {
     few = h.few;
     each = h.each;
   };
-  more = λ k rows others b count r. r;
+  more = λ k ranges rows others b count r. r;
 }

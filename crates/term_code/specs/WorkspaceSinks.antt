@@ -51,7 +51,7 @@ workspace_sink = record {
   keys = λ k. k.keys;
   takes = λ k ranges rows row. length row.coords ≡ k.keys;
   holds = λ k a ranges rows s. HoldsRows k.number k.keys rows s.arrays;
-  refused = λ k. PassesPairs k.number;
+  refused = λ k ranges. PassesPairs k.number;
 }
 
 -- a row pushed, its coordinates on the keys from the one numbered k on, then its value
