@@ -62,9 +62,15 @@ pub record Stays (old new : SinkState) : Type 0 where
   pub wants_are : new.wants ≡ old.wants
   pub beside_is : new.beside ≡ old.beside
 
--- the whole text was appended
+-- whether a `finish` is due behind a text: it is behind one that isn't empty, and else as before
+abbrev pub due_after : List ℕ → Bool → Bool
+due_after [] due = due
+due_after (byte ∷ text) due = true
+
+-- the whole text was appended, and no `finish` was made since
 pub record Appends (old new : SinkState) (text : List ℕ) : Type 0 where
   pub written_is : new.written ≡ appended old.written text
+  pub unfinished_is : new.unfinished ≡ due_after text old.unfinished
   pub faults_are : new.faults ≡ old.faults
   pub wants_are : new.wants ≡ old.wants
   pub beside_is : new.beside ≡ old.beside
@@ -80,6 +86,7 @@ pub record AppendsSoFar (old new : SinkState) (text rest : List ℕ) : Type 0 wh
   pub front : List ℕ
   pub text_is : text ≡ front ++ rest
   pub written_is : new.written ≡ appended old.written front
+  pub unfinished_is : new.unfinished ≡ due_after front old.unfinished
   pub faults_are : new.faults ≡ old.faults
   pub wants_are : new.wants ≡ old.wants
   pub beside_is : new.beside ≡ old.beside

@@ -1,7 +1,7 @@
 //! Cases of streams: what stands after numbers and texts are put, and files are read and written.
 ghost use Rattle.std.specs.Prelude.{◌≡◌, false, OnOk};
 ghost use Rattle.outside.specs.Folder.{KeepsReading, appended};
-ghost use Rattle.outside.specs.Sink.{Appends, told_written};
+ghost use Rattle.outside.specs.Sink.{told_written};
 ghost use Rattle.outside.specs.Told.{told_bytes, emptied};
 
 use crate::pieces::Pieces;
@@ -81,7 +81,7 @@ fn put_times<S: Sink>(sink: &mut S, text: &[u8], times: u64) -> Result<(), Refus
 
 /// Puts a text into a sink, in large pieces, and finishes.
 fn put_batched<S: Sink>(sink: &mut S, text: &[u8]) -> Result<(), Refusal>
-    ensures whole { OnOk result (Appends (S.state sink.old) (S.state sink.new) text.now) }
+    ensures whole { OnOk result ((S.state sink.new).written ≡ appended (S.state sink.old).written text.now) }
     ensures finished { OnOk result ((S.state sink.new).unfinished ≡ false) }
 {
     let mut batch = Batch::new(sink);

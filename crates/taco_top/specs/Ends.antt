@@ -39,8 +39,8 @@ Cause over words files files' out out' (Refused why) = Refuses over words files 
 Cause over words files files' out out' (Executed turns) = IsExecuted words files files' out out' turns
 Cause over words files files' out out' (Unexecuted why) = RefusesExec words files files' out out' why
 
--- the line was appended whole; or a part of it at its front, and then the sink failed or wanted memory. Nothing else of the sink
--- changed but for the count of that, and whether a finish is due
+-- the line was appended whole; or a part of it at its front, and then the sink failed or wanted memory. Nothing else of the sink changed
+-- but for the count of that; a finish is due where anything was appended
 abbrev pub PutsLine : SinkState → SinkState → List ℕ → Type 0
 PutsLine old new line = Appends old new line ⊎ ((why : Refusal) × AppendsPart old new line why)
 

@@ -3,9 +3,9 @@ use Rattle.std.specs.Prelude.{◌≡◌, ℕ, ◌<◌, List, ◌++◌, length, O
 use Rattle.std.proofs.Common.{◌∙◌, ap, sym, subst, append_assoc, arith, length-append}
 use Rattle.outside.specs.Folder.{appended}
 use Rattle.outside.specs.Refusal.{IsCounted}
-use Rattle.outside.specs.Sink.{SinkState, Refuses, Appends, AppendsSoFar}
+use Rattle.outside.specs.Sink.{SinkState, Refuses, Appends, AppendsSoFar, due_after}
 use Rattle.outside.specs.declared.refusal.Refusal.{Refusal}
-use Rattle.outside.proofs.Sinks.{appended-append}
+use Rattle.outside.proofs.Sinks.{appended-append, due_append}
 use Rattle.text_lines.specs.Puts.{PutsLess, AppendsPart}
 
 -- a count that rose rose from what it was before
@@ -43,24 +43,32 @@ part_so_far old mid new text rest why so_far some refuses = record {
     written_is = refuses.written_is ∙ so_far.written_is;
   };
   counted = counted_from why _ _ _ _ _ _ so_far.faults_are so_far.wants_are refuses.counted;
+  unfinished_is = refuses.unfinished_is ∙ so_far.unfinished_is;
   beside_is = refuses.beside_is ∙ so_far.beside_is;
 }
 
 pub part_of_first : (old new : SinkState) (a b : List ℕ) (why : Refusal) → AppendsPart old new a why → AppendsPart old new (a ++ b) why
-part_of_first old new a b why part =
-    record { less = less_of_first old.written new.written a b part.less; counted = part.counted; beside_is = part.beside_is }
+part_of_first old new a b why part = record {
+  less = less_of_first old.written new.written a b part.less;
+  counted = part.counted;
+  unfinished_is = part.unfinished_is;
+  beside_is = part.beside_is;
+}
 
 pub part_of_second : (old mid new : SinkState) (a b : List ℕ) (why : Refusal) → Appends old mid a → AppendsPart mid new b why
     → AppendsPart old new (a ++ b) why
 part_of_second old mid new a b why first part = record {
   less = less_of_second old.written mid.written new.written a b first.written_is part.less;
   counted = counted_from why _ _ _ _ _ _ first.faults_are first.wants_are part.counted;
+  unfinished_is = part.unfinished_is ∙ ap (due_after part.less.front) first.unfinished_is
+      ∙ due_append a part.less.front old.unfinished;
   beside_is = part.beside_is ∙ first.beside_is;
 }
 
 pub both_whole : (old mid new : SinkState) (a b : List ℕ) → Appends old mid a → Appends mid new b → Appends old new (a ++ b)
 both_whole old mid new a b first second = record {
   written_is = second.written_is ∙ ap (λ o. appended o b) first.written_is ∙ appended-append old.written a b;
+  unfinished_is = second.unfinished_is ∙ ap (due_after b) first.unfinished_is ∙ due_append a b old.unfinished;
   faults_are = second.faults_are ∙ first.faults_are;
   wants_are = second.wants_are ∙ first.wants_are;
   beside_is = second.beside_is ∙ first.beside_is;

@@ -8,7 +8,7 @@ use Rattle.text_lines.proofs.puts.put_all.Goals as goal
 pub loop-rest-preserved : goal.loop-rest-preserved
 loop-rest-preserved g c =
     subst (AppendsSoFar (g.S.Sink.state c.args.sink.now) (g.S.Sink.state c.write.new.self) c.args.bytes.now) (sym c.split_at.ensures.back)
-    (so_far_more _ _ _ _ _ _ c.loop-rest.invariant c.in-Ok.ensures.taken)
+    (so_far_more _ _ _ _ _ _ (grind (arith, common_steps)) c.loop-rest.invariant c.in-Ok.ensures.taken)
 
 pub returns-in-Err-clause-part : goal.returns-in-Err-clause-part
 returns-in-Err-clause-part g c = part_so_far _ _ _ _ _ _ c.loop-rest.invariant (grind (arith, common_steps)) c.in-Err.ensures.refused
