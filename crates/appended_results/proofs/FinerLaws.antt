@@ -170,6 +170,7 @@ module _ (letters : List Letter) (sizes : List ℕ) (head : ℕ) (heads : List (
       record {
         log = f.log;
         held = f.held;
-        filled = refined_filled (rows_above letters sizes (key_in heads) (length heads) d) (rows_at (keys_of table d (through letters d)) ps)
+        filled = refined_filled (rows_above letters sizes (key_in heads) (length heads) d)
+            (rows_at (keys_of table d (through letters d)) ps)
             to refines (positions_above letters sizes (key_in heads) (length heads) d) f.log f.filled;
       }

@@ -188,7 +188,8 @@ places_at_level letters head base free d headed inside above test coord low full
     c sizes heads key may old_few values few s0 s held b tested coord_is =
     subst (λ k. Does c k s (Between letters sizes head base free heads key (suc d) s0)
     (RefusedWithin no_turns s0 (PassesPlace letters sizes (heads ++ key ∷ []) d))) (sym is)
-    (places_head letters head base free d inside above full count counts c sizes heads key may old_few values few s0 s held b headed coord low
+    (places_head letters head base free d inside above full count counts c sizes heads key may old_few values few s0 s held b
+    headed coord low
     (coord_is headed))
 
 -- and at one below it

@@ -119,7 +119,8 @@ module _ (letters : List Letter) (head base free d : ℕ) (inside : d < length l
       few_by e h (inl less) = b.few e (omega (arith, less))
       few_by e h (inr from) =
           let same : e ≡ suc d = omega (arith, h, from) in
-          subst (λ k. positions_above letters sizes (key_in (heads ++ key ∷ [])) (suc (length heads)) k ≤ greatest_position_count) (sym same)
+          subst (λ k. positions_above letters sizes (key_in (heads ++ key ∷ [])) (suc (length heads)) k ≤ greatest_position_count)
+          (sym same)
           few
 
       by_order : (e : ℕ) → e < suc d → (e < d) ⊎ (d ≤ e) → LevelHolds letters sizes (heads ++ key ∷ []) base e t

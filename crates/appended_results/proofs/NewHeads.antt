@@ -85,7 +85,8 @@ module _ (letters : List Letter) (sizes : List ℕ) (head : ℕ) (heads : List (
     each = λ j xs g b. by_order j xs g b (cases_lt j (length heads));
   }
     where
-      by_order : (j : ℕ) (xs : List ℕ) → j < length (heads ++ key ∷ []) → IsBelow (drop head sizes) xs → (j < length heads) ⊎ (length heads ≤ j)
+      by_order : (j : ℕ) (xs : List ℕ) → j < length (heads ++ key ∷ []) → IsBelow (drop head sizes) xs
+          → (j < length heads) ⊎ (length heads ≤ j)
           → slice_index (words ++ replicate (all_positions letters sizes (heads ++ key ∷ []) - length words) nothing)
           (spot_of letters sizes head (heads ++ key ∷ []) j xs) ≡ value_at a rows (head_at (heads ++ key ∷ []) j ++ xs)
       by_order j xs g b (inl less) =

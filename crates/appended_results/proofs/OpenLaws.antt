@@ -116,7 +116,8 @@ module _ (letters : List Letter) (head base free nothing : ℕ) (keys : List ℕ
   anew is_new behind =
       let more = may_hold_more letters sizes head heads key may comes.below behind in
       does_if_yes c (differs_or_first base head keys head) code [] [] s 0
-      (λ t. IsOpen letters sizes head base free heads key values s t ⊎ Opens letters sizes head base free nothing heads key values s t) _ _ is_new
+      (λ t. IsOpen letters sizes head base free heads key values s t ⊎ Opens letters sizes head base free nothing heads key values s t)
+      _ _ is_new
       (does_weaker c code s _ _ _ _ (appends c sizes heads key more s holds values held many now)
       (λ t h. inr (record { may = more; has = h }))
       (λ turns a count z. (z.0, record { may = more; level = z.1.0; inside = z.1.1; passes = z.1.2 })))

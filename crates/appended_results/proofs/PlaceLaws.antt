@@ -162,8 +162,10 @@ module _ (letters : List Letter) (sizes : List ℕ) (coords : ℕ → ℕ → �
           groups = false;
           placed =
               subst (λ b. PlacedAt coords count (suc d) (suc d)
-              (if b then positions_above letters sizes coords count d * slice_index sizes d else begun (first_at letters coords d) count) false
-              (λ i. if b then place_above letters sizes coords d i * slice_index sizes d + coords d i else place (first_at letters coords d) i))
+              (if b then positions_above letters sizes coords count d * slice_index sizes d else begun (first_at letters coords d) count)
+              false
+              (λ i. if b then place_above letters sizes coords d i * slice_index sizes d + coords d i
+              else place (first_at letters coords d) i))
               (sym is)
               (placed_full coords head count d a.above (positions_above letters sizes coords count d) (slice_index sizes d) a.groups
               (place_above letters sizes coords d) up a.placed none (λ i h. below d i inside h));

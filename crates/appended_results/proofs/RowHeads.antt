@@ -33,7 +33,8 @@ module _ (head : ℕ) (rows : List Entry) (row : Entry) (heads : List (List ℕ)
   latest = get_or_push rows row no_entry (length rows) refl
 
   -- its head is the last one
-  pub heads_same : (k : ℕ) → length heads ≡ suc k → take head row.coords ≡ slice_index_or heads k [] → AreHeads head (rows ++ row ∷ []) heads
+  pub heads_same : (k : ℕ) → length heads ≡ suc k → take head row.coords ≡ slice_index_or heads k []
+      → AreHeads head (rows ++ row ∷ []) heads
   heads_same k is_last key = record {
     rise = are.rise;
     long = are.long;

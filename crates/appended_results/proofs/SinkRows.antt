@@ -128,7 +128,8 @@ module _ (k : AppendedSink) (keys : List ℕ) (value free : ℕ) (code : List KS
   moved_adds : AddsTo appended_sink k (range_with_len free (length keys)) (free + length keys) (free + length keys + 1) copied.row
   moved_adds =
       row_adds k (range_with_len free (length keys)) (free + length keys) (free + length keys + 1) copied.row
-      (range_keys (length k.levels) k.base free (length keys) many below) (record { below = omega arith; other = λ mine. let b = mine.before in omega (arith, b, below) }) copied.adds
+      (range_keys (length k.levels) k.base free (length keys) many below)
+      (record { below = omega arith; other = λ mine. let b = mine.before in omega (arith, b, below) }) copied.adds
 
   pub copied_adds : AddsTo appended_sink k keys value free code
   copied_adds c laws mine ranges rows one comes s vars value_is holds =

@@ -55,7 +55,8 @@ module _ (base head : ℕ) (heads : List (List ℕ)) (key keys : List ℕ) (s : 
         → value (differs_or_first base head keys n) s ≡ Some (word_of (begins_at coords n (length heads)))
     new_told n h = by_count (length heads) refl
       where
-        by_count : (k : ℕ) → length heads ≡ k → value (differs_or_first base head keys n) s ≡ Some (word_of (begins_at coords n (length heads)))
+        by_count : (k : ℕ) → length heads ≡ k
+            → value (differs_or_first base head keys n) s ≡ Some (word_of (begins_at coords n (length heads)))
         by_count zero is =
             value_bin Or (Bin Equal (Var (cursor_at base (head - 1) + 2)) (Num 0)) (differs base keys n) s
             ∙ ap (λ v. apply_both Or v (value (differs base keys n) s))
