@@ -57,8 +57,8 @@ module _ (a : Arithmetic) (laws : Laws a) (store : Store) (rows : List Entry) (a
 
   module _ (to : ℕ → ℕ)
       (matches : Matches head (key_in h.heads) (length h.heads) (table_of (sums_of a rows)).coords (length (sums_of a rows)) to) where
-    all : Packed store.format store.ranges are.format head h.heads h.may h.holds.few (table_of (sums_of a rows)) to matches are.order are.below
-        t e.above (length (letters_of store.format))
+    all : Packed store.format store.ranges are.format head h.heads h.may h.holds.few (table_of (sums_of a rows)) to matches are.order
+        are.below t e.above (length (letters_of store.format))
     all =
         all_packed store.format store.ranges are.format head h.heads h.may h.holds.few (table_of (sums_of a rows)) to matches are.order
         are.below t e.above
@@ -78,8 +78,8 @@ module _ (a : Arithmetic) (laws : Laws a) (store : Store) (rows : List Entry) (a
         (all_positions (letters_of store.format) (in_level_order store.format store.ranges) h.heads)
         (replicate (all_positions (letters_of store.format) (in_level_order store.format store.ranges) h.heads) a.zero) h.words h.words
         are.format are.order packed refl refl
-        (sums_stored a laws (letters_of store.format) (in_level_order store.format store.ranges) head h.heads rows h.words h.may h.are each_row
-        rises are.below to matches h.sums all.positions all.at)
+        (sums_stored a laws (letters_of store.format) (in_level_order store.format store.ranges) head h.heads rows h.words h.may h.are
+        each_row rises are.below to matches h.sums all.positions all.at)
         refl
 
     stand : StandForRows a store (sums_of a rows) t.arrays

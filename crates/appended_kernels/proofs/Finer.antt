@@ -1,6 +1,6 @@
 -- The rows of a table that names the heads of a result: where each stands at each level, and how many positions there are.
-use Rattle.std.specs.Prelude.{◌≡◌, ◌⊎◌, ℕ, zero, suc, ◌+◌, ◌-◌, ◌*◌, ◌≤◌, ◌<◌, ◌&&◌, ◌==◌, not, Bool, true, false, if◌then◌else◌, List, [], ◌∷◌}
-use Rattle.std.specs.Prelude.{length, drop, slice_index, refl}
+use Rattle.std.specs.Prelude.{◌≡◌, ◌⊎◌, ℕ, zero, suc, ◌+◌, ◌-◌, ◌*◌, ◌≤◌, ◌<◌, ◌&&◌, ◌==◌, not, Bool, true, false, if◌then◌else◌, List}
+use Rattle.std.specs.Prelude.{[], ◌∷◌, length, drop, slice_index, refl}
 use Rattle.std.proofs.Common.{◌∙◌, sym, ap, subst, arith, inl, inr}
 use Rattle.std.proofs.lemmas.Bool.{cases_lt}
 use Rattle.std.proofs.lemmas.List.{drop_all}
@@ -79,7 +79,8 @@ module _ (letters : List Letter) (sizes : List ℕ) (head : ℕ) (heads : List (
           else place (first_at letters (key_in heads) d) (to i))
       by_full true up =
           ap (λ p. p * slice_index sizes d + table.coords d i) up
-          ∙ ap (λ x. place_above letters sizes (key_in heads) d (to i) * slice_index sizes d + x) (matches.same i inside d (omega (arith, h)))
+          ∙ ap (λ x. place_above letters sizes (key_in heads) d (to i) * slice_index sizes d + x)
+          (matches.same i inside d (omega (arith, h)))
       by_full false up = refl
 
   module _ (d : ℕ) (headed : d < head) (parent : ℕ → ℕ)
@@ -125,7 +126,8 @@ module _ (letters : List Letter) (sizes : List ℕ) (head : ℕ) (heads : List (
         ∙ sym (sparse_spot letters sizes (key_in heads) table.coords to d i sparse)
 
     pub finer_begun : (properties (letter_at letters d)).full ≡ false
-        → begun (begins_at table.coords (through letters d)) table.count ≡ positions_above letters sizes (key_in heads) (length heads) (suc d)
+        → begun (begins_at table.coords (through letters d)) table.count
+        ≡ positions_above letters sizes (key_in heads) (length heads) (suc d)
     finer_begun sparse =
         all_begun_there (rows_above letters sizes (key_in heads) (length heads) d) (finer letters table parent d) to refines
         ∙ sym (sparse_positions letters sizes (key_in heads) (length heads) d sparse)
@@ -150,8 +152,8 @@ module _ (letters : List Letter) (sizes : List ℕ) (head : ℕ) (heads : List (
       let here : d ≡ length letters = omega (arith, at) in
       let each = may.each in
       let none : drop d sizes ≡ [] = drop_all d sizes (omega (arith, each, here)) in
-      let one : place_of letters sizes (key_in heads) table.coords to d i ≡ place_of letters sizes (key_in heads) table.coords to d i * 1 + 0 =
-      omega arith in
+      let one : place_of letters sizes (key_in heads) table.coords to d i
+      ≡ place_of letters sizes (key_in heads) table.coords to d i * 1 + 0 = omega arith in
       ap (λ e. place_of letters sizes (key_in heads) table.coords to e i) (sym here) ∙ one
       ∙ ap (λ ns. place_of letters sizes (key_in heads) table.coords to d i * product ns + position ns (drop d row)) (sym none)
   place_tail row i long is (suc more) d from at =

@@ -165,8 +165,8 @@ module _ (format : List FormatLevel) (ranges : List ℕ) (is : IsFormat format) 
 
     fill : MayFill meaning (parents d) rows old
     fill =
-        may_fill meaning laws (letters_of format) (in_level_order format ranges) (length format) table up d n b.levels b.positions (parents d)
-        size old (drop (suc d) (letters_of format)) b.packed left through_is below_here
+        may_fill meaning laws (letters_of format) (in_level_order format ranges) (length format) table up d n b.levels b.positions
+        (parents d) size old (drop (suc d) (letters_of format)) b.packed left through_is below_here
         (subst (λ k. IsNew meaning k size old) (sym new.kind) new)
 
     -- one level more, of which these are the places
@@ -211,7 +211,8 @@ module _ (format : List FormatLevel) (ranges : List ℕ) (is : IsFormat format) 
       all =
           subst (Filled (parents d) rows) (sym level_filled.held.log_is)
           (refined_filled (rows_above (letters_of format) (in_level_order format ranges) (key_in heads) (length heads) d) rows to
-          (refines (letters_of format) (in_level_order format ranges) head heads may table to matches d headed (slice_index b.positions) above)
+          (refines (letters_of format) (in_level_order format ranges) head heads may table to matches d headed (slice_index b.positions)
+          above)
           (parents d) level_filled.log level_filled.filled)
 
       done : HoldsFinished meaning given (parents d) 0 (suc d) (summed s.arrays)

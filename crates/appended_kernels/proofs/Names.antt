@@ -1,5 +1,6 @@
 -- The sums of rows name the heads of the rows: each sum has its head, in order.
-use Rattle.std.specs.Prelude.{◌≡◌, ◌⊎◌, ℕ, zero, suc, ◌+◌, ◌≤◌, ◌<◌, ◌^◌, List, [], ◌∷◌, ◌++◌, length, take, drop, slice_index, slice_index_or, refl}
+use Rattle.std.specs.Prelude.{◌≡◌, ◌⊎◌, ℕ, zero, suc, ◌+◌, ◌≤◌, ◌<◌, ◌^◌, List, [], ◌∷◌, ◌++◌}
+use Rattle.std.specs.Prelude.{length, take, drop, slice_index, slice_index_or, refl}
 use Rattle.std.specs.declared.cmp.Ordering.{Ordering}
 use Rattle.std.specs.declared.cmp.Ordering.TheVariants.{Less, Equal, Greater}
 use Rattle.std.specs.Ordering.{nat_cmp}
@@ -30,7 +31,8 @@ each_at P (x ∷ xs) none zero each h = each.0
 each_at P (x ∷ xs) none (suc k) each h = each_at P xs none k each.1 (omega (arith, h))
 
 -- coordinates that are listed are those of a row
-pub listed_row : (rows : List Entry) (coords : List ℕ) → Listed rows coords → (k : ℕ) × (k < length rows) × ((row_at rows k).coords ≡ coords)
+pub listed_row : (rows : List Entry) (coords : List ℕ) → Listed rows coords
+    → (k : ℕ) × (k < length rows) × ((row_at rows k).coords ≡ coords)
 listed_row [] coords h = absurd h
 listed_row (row ∷ rows) coords (inl here) = (0, omega arith, here)
 listed_row (row ∷ rows) coords (inr there) =
@@ -100,7 +102,8 @@ module _ (a : Arithmetic) (keys : ℕ) (rows : List Entry) (each : Each (IsRow k
         )
 
     -- the sums have their heads in order
-    pub sums_named : (to : ℕ → ℕ) × Matches head (key_in heads) (length heads) (table_of (sums_of a rows)).coords (length (sums_of a rows)) to
+    pub sums_named : (to : ℕ → ℕ)
+        × Matches head (key_in heads) (length heads) (table_of (sums_of a rows)).coords (length (sums_of a rows)) to
     sums_named =
         matching head (key_in heads) (length heads) (table_of (sums_of a rows)).coords (length (sums_of a rows))
         (record {

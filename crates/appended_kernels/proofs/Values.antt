@@ -94,7 +94,8 @@ module _ (letters : List Letter) (sizes : List ℕ) (head : ℕ) (heads : List (
     sparse : (properties (letter_at letters top)).full ≡ false
     sparse = may.is_head.last top last
 
-    placed : AllPlaced (length heads) (begun (first_at letters (key_in heads) top) (length heads)) (place (first_at letters (key_in heads) top))
+    placed : AllPlaced (length heads) (begun (first_at letters (key_in heads) top) (length heads))
+        (place (first_at letters (key_in heads) top))
     placed =
         appended_all_placed (rows_above letters sizes (key_in heads) (length heads) top) (place (first_at letters (key_in heads) top))
         (λ i g. refl)
