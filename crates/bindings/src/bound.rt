@@ -3,6 +3,7 @@ ghost use Rattle.std.specs.Prelude.{◌≡◌, ◌<◌, ◌++◌, ◌∷◌, [],
 ghost use Rattle.std.specs.Prelude.{None, true, false, IfOk, OnOk, IsTrue, length, replicate};
 ghost use Rattle.std.specs.Prelude.{nat_lt};
 ghost use Rattle.bindings.specs.Words.{said_of};
+ghost use Rattle.bindings.specs.declared.fault.WordFault.{WordFault};
 ghost use Rattle.bindings.specs.Bindings.{number_in, names_for, is_bound, is_no_matrix, is_above_limit, fault_of_said, fault_of, order_in};
 ghost use Rattle.bindings.specs.Bindings.{order_of as order_of_tensor};
 ghost use Rattle.bindings.specs.Views.{said_in, HasNumber};
@@ -192,6 +193,7 @@ impl<'a> Bound<'a> {
             → fault ≡ fault_of statement.now words (said_of word.now)) }
         ensures bound { IfOk result (λ fault. (words : List (List ℕ)) → IsBound statement.now words self.old
             → fault ≡ None → IsBound statement.now (words ++ word.now ∷ []) self.new) }
+        ensures kept { IfOk result (λ fault. (why : WordFault) → fault ≡ Some why → self.new ≡ self.old) }
     {
         let Some(said) = read_word(word) else {
             return Ok(Some(WordFault::BadBinding));

@@ -10,6 +10,7 @@ pub mod Stored
 pub mod AppendLoop
 pub mod RunSteps
 pub mod RunLoop
+pub mod OwnNumbers
 pub mod InsertLaws
 pub mod InsertLoop
 pub mod FullLaws

@@ -20,7 +20,7 @@ pub(crate) struct Cursor {
 
 /// Gives the last parent its positions where the next row has another.
 #[inline(always)]
-fn turn<L: Append>(level: &mut L, at: Cursor, next: u64) -> Cursor
+pub(crate) fn turn<L: Append>(level: &mut L, at: Cursor, next: u64) -> Cursor
     requires { at.last ≢ next → MayAppendEdges (L.meaning.kind level.old) at.last at.begin at.count (L.meaning.log level.old) }
     ensures cursor { result ≡ turned at next }
     ensures log { ChangesLog L.meaning (turned_log (L.meaning.kind level.old) at next (L.meaning.log level.old)) level.old level.new }
@@ -79,7 +79,7 @@ fn begins<R: SortedRows>(rows: &R, all: bool, row: usize) -> bool
 }
 
 /// Gives the last parent its positions, if there were rows.
-fn close<L: Append>(level: &mut L, at: Cursor, some: bool)
+pub(crate) fn close<L: Append>(level: &mut L, at: Cursor, some: bool)
     requires { some ≡ true → MayAppendEdges (L.meaning.kind level.old) at.last at.begin at.count (L.meaning.log level.old) }
     ensures log { ChangesLog L.meaning (closed_log (L.meaning.kind level.old) at some (L.meaning.log level.old)) level.old level.new }
     ensures keeps { L.meaning.keeps level.new }
@@ -130,7 +130,7 @@ fn append_each<L: Append, R: SortedRows>(
 }
 
 /// Appends the coordinates of rows of one parent, each of which begins a position.
-fn append_run<L: Append>(level: &mut L, at: Cursor, xs: &[u32]) -> Cursor
+pub(crate) fn append_run<L: Append>(level: &mut L, at: Cursor, xs: &[u32]) -> Cursor
     requires may { MayAppendAll (L.meaning.kind level.old) (L.meaning.size level.old) xs.now (L.meaning.log level.old) }
     requires spare { length xs.now ≤ L.spare level.old }
     requires room { length (L.meaning.log level.old).coords + length xs.now ≤ greatest_position_count }

@@ -20,6 +20,26 @@ pub(crate) fn grown(room: usize, len: usize, n: usize) -> Result<usize, AllocErr
     Ok(wanted.max(room * 2))
 }
 
+/// Puts values in the places from `start` on, one after another. What the others after them held is forgotten.
+fn write_all<T: Copy>(places: &mut Places<T>, base: Base<T>, start: usize, xs: &[T])
+    requires base { base.ptr ≡ places.old.at }
+    requires start { start ≤ length places.old.values }
+    requires within { length places.old.values ≤ places.old.room }
+    requires room { start + length xs.now ≤ places.old.room }
+    requires small { places.old.room < 2 ^ 63 }
+    ensures at { places.new.at ≡ places.old.at }
+    ensures room { places.new.room ≡ places.old.room }
+    ensures within { length places.new.values ≤ places.new.room }
+    ensures held { start + length xs.now ≤ length places.new.values }
+    ensures values { take (start + length xs.now) places.new.values ≡ take start places.old.values ++ xs.now }
+{
+    let mut end = start;
+    for x in xs {
+        places.write(base, end, *x);
+        end += 1;
+    }
+}
+
 /// A growable list of plain values in one block of raw memory.
 ///
 /// The first `len` of the `room` places hold the elements, so `room - len` more can be pushed with no allocation.
@@ -176,9 +196,8 @@ impl<T: Copy> Segment<T> {
         ensures items { self.new.items ≡ self.old.items ++ xs.now }
         ensures spare { self.new.spare + length xs.now ≡ self.old.spare }
     {
-        for x in xs {
-            self.push_reserved(*x);
-        }
+        write_all(&mut self.places, self.base, self.len, xs);
+        self.len += xs.len();
     }
 
     fn push_copies(&mut self, n: usize, x: T)

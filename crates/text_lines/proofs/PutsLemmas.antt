@@ -13,7 +13,7 @@ counted_from : (why : Refusal) (f g f' w v w' : ℕ) → g ≡ f → v ≡ w →
 counted_from why f g f' w v w' e h counted = subst (λ k. IsCounted why k f' w w') e (subst (λ k. IsCounted why g f' k w') h counted)
 
 -- a part of the first text is a part of both, and so is the first with a part of the second
-less_of_first : (old new : Option (List ℕ)) (a b : List ℕ) → PutsLess old new a → PutsLess old new (a ++ b)
+abbrev less_of_first : (old new : Option (List ℕ)) (a b : List ℕ) → PutsLess old new a → PutsLess old new (a ++ b)
 less_of_first old new a b less = record {
   front = less.front;
   rest = less.rest ++ b;
@@ -22,7 +22,7 @@ less_of_first old new a b less = record {
   written_is = less.written_is;
 }
 
-less_of_second : (old mid new : Option (List ℕ)) (a b : List ℕ) → mid ≡ appended old a → PutsLess mid new b → PutsLess old new (a ++ b)
+abbrev less_of_second : (old mid new : Option (List ℕ)) (a b : List ℕ) → mid ≡ appended old a → PutsLess mid new b → PutsLess old new (a ++ b)
 less_of_second old mid new a b first less = record {
   front = a ++ less.front;
   rest = less.rest;

@@ -1,4 +1,4 @@
-use Rattle.std.proofs.Common.{◌≡◌, ◌+◌, ◌++◌, length, take}
+use Rattle.std.proofs.Common.{◌≡◌, ◌+◌, ◌++◌, take}
 use Rattle.seg_buffer.proofs.words.append_widened.Given as goal
 
 abbrev pub invariant-loop-x : goal.invariant-loop-x
