@@ -1,5 +1,6 @@
 -- One head more at one level of a result.
-use Rattle.std.specs.Prelude.{◌≡◌, ◌≢◌, ◌⊎◌, ℕ, zero, suc, ◌+◌, ◌-◌, ◌*◌, ◌≤◌, ◌<◌, ◌^◌, Bool, true, false, if◌then◌else◌, List, [], ◌∷◌, ◌++◌}
+use Rattle.std.specs.Prelude.{◌≡◌, ◌≢◌, ◌⊎◌, ℕ, zero, suc, ◌+◌, ◌-◌, ◌*◌, ◌≤◌, ◌<◌, ◌^◌, Bool, true, false, if◌then◌else◌, List, [], ◌∷◌}
+use Rattle.std.specs.Prelude.{◌++◌}
 use Rattle.std.specs.Prelude.{length, slice_index, Some, refl}
 use Rattle.std.proofs.Common.{◌∙◌, sym, ap, subst, arith, inl, inr}
 use Rattle.std.proofs.lemmas.Bool.{cases_lt}
@@ -29,16 +30,18 @@ use Rattle.tensor_storage.specs.Levels.{meaning}
 use Rattle.level_appends.specs.Appended.{IsOfCursor, LevelAt}
 use Rattle.level_appends.specs.Codes.{ReservesParents, AppendsRow}
 use Rattle.level_appends.specs.Positions.{PassesCount, IsOne, CountsPositions}
-use Rattle.level_appends.proofs.Keeping.{level_there, level_along, level_again}
+use Rattle.level_appends.proofs.Keeping.{level_along, level_again}
 use Rattle.level_appends.proofs.Placed.{full_within}
 use Rattle.appended_results.specs.Heads.{letter_at, key_in}
 use Rattle.appended_results.specs.Places.{first_at, place_above, positions_above, rows_above, is_fixed}
 use Rattle.appended_results.specs.Levels.{cursor_at, key_at, IsMine, IsKept, LevelHolds, MayHold, PassesPlace, Between}
 use Rattle.appended_results.specs.Codes.{place_appended, place_full, AppendsLevel}
 use Rattle.appended_results.specs.Parts.{Reserves, AsBefore, Anew}
+pub use Rattle.appended_results.specs.SinkLaws.{holds_there}
 use Rattle.appended_results.proofs.HeadLaws.{key_before, key_last}
 use Rattle.level_appends.proofs.Logs.{begun_along}
-use Rattle.appended_results.proofs.PlaceLaws.{SameCoords, first_along, rows_along, more_positions, fixed_positions, may_append_at, place_within}
+use Rattle.appended_results.proofs.PlaceLaws.{SameCoords, first_along, rows_along, more_positions, fixed_positions, may_append_at}
+use Rattle.appended_results.proofs.PlaceLaws.{place_within}
 
 apart : {A : Type 0} → true ≡ false → A
 apart e = absurd (never e)
@@ -58,17 +61,6 @@ of_one (Key n i) j k h g = absurd h
 of_one (Sums n) j k h g = absurd h
 of_one (ListCoordinates n) j k h g = absurd h
 of_one (ListPositions n) j k h g = absurd h
-
--- a level stays while its variables and its arrays do
-pub holds_there : (letters : List Letter) (sizes : List ℕ) (heads : List (List ℕ)) (base e : ℕ) (s t : State)
-    → ((y : ℕ) → IsOfCursor (cursor_at base e) y → t.vars y ≡ s.vars y) → ((a : Arr) → IsOf 0 (suc e) a → t.arrays a ≡ s.arrays a)
-    → LevelHolds letters sizes heads base e s → LevelHolds letters sizes heads base e t
-holds_there letters sizes heads base e s t vars arrays h = record {
-  size = λ full. arrays (Dimension 0 (suc e)) (refl, refl) ∙ h.size full;
-  appended = λ sparse. level_there meaning laws (letter_at letters e) (slice_index sizes e) (suc e) (cursor_at base e)
-      (positions_above letters sizes (key_in heads) (length heads) e) (length heads)
-      (rows_above letters sizes (key_in heads) (length heads) e) s t vars arrays (h.appended sparse);
-}
 
 module _ (letters : List Letter) (head base free d : ℕ) (inside : d < length letters) (above : base + 4 * length letters ≤ free)
     (sizes : List ℕ) (heads : List (List ℕ)) (key : List ℕ) where
