@@ -1,11 +1,10 @@
 -- The arrays of a result whose rows are appended and whose levels are ended are a storage that stands for the sums of the rows.
-use Rattle.std.specs.Prelude.{◌≡◌, ℕ, ◌+◌, ◌≤◌, ◌<◌, List, [], ◌∷◌, ◌++◌, length, map, drop, replicate, slice_index, Some, refl}
+use Rattle.std.specs.Prelude.{◌≡◌, ℕ, ◌+◌, List, ◌++◌, length, map, replicate, refl}
 use Rattle.std.proofs.Common.{◌∙◌, sym, ap, subst, arith}
 use Rattle.std.proofs.lemmas.List.{append-nil, drop_all, length-map}
 use Rattle.lists.specs.Each.{Each}
 use Rattle.numbers.specs.Arithmetic.{Arithmetic, Laws}
 use Rattle.kernel_code.specs.Meaning.{State}
-use Rattle.kernel_code.specs.declared.syntax.Arr.TheVariants.{Values}
 use Rattle.tensor_map.specs.declared.entries.Entry.{Entry}
 use Rattle.level_core.specs.declared.letter.Letter.{Letter}
 use Rattle.level_rows.specs.Tables.{Increase}
@@ -17,7 +16,7 @@ use Rattle.tensor_storage.specs.Packed.{ArePacked}
 use Rattle.tensor_storage.specs.Stands.{IsPacked}
 use Rattle.tensor_storage.specs.Storages.{IsStorage, storage_of, in_level_order}
 use Rattle.tensor_storage.proofs.Standing.{pack_done}
-use Rattle.kernel_correctness.specs.Stores.{Store, result_sizes}
+use Rattle.kernel_correctness.specs.Stores.{Store}
 use Rattle.level_appends.proofs.Matched.{Matches}
 use Rattle.sparse_results.specs.Stored.{StandForRows}
 use Rattle.sparse_results.specs.Tables.{table_of, IsRow}

@@ -3,18 +3,16 @@ use Rattle.std.specs.Prelude.{◌≡◌, ℕ, zero, suc, ◌+◌, ◌*◌, ◌�
 use Rattle.std.specs.Prelude.{replicate, slice_index, Some, refl}
 use Rattle.std.specs.List.{range_with_len}
 use Rattle.std.proofs.Common.{◌∙◌, sym, ap, subst, arith}
-use Rattle.std.proofs.lemmas.List.{length-map}
 use Rattle.std.proofs.lemmas.List.FromFn.{length-map-range_with_len, get_or-map-range_with_len}
 use Rattle.limits.specs.Limits.{greatest_position_count}
 use Rattle.kernel_code.specs.Meaning.{State}
-use Rattle.kernel_code.specs.declared.syntax.Arr.TheVariants.{Values, Dimension}
+use Rattle.kernel_code.specs.declared.syntax.Arr.TheVariants.{Dimension}
 use Rattle.level_core.specs.declared.letter.Letter.{Letter}
 use Rattle.level_core.specs.declared.letter.Letter.TheVariants.{Dense}
-use Rattle.level_core.specs.Entries.{one, coord_at, position_of}
-use Rattle.level_core.specs.Kinds.{properties, capabilities, positions_for, AreEntries}
+use Rattle.level_core.specs.Entries.{one}
+use Rattle.level_core.specs.Kinds.{properties, capabilities, positions_for}
 use Rattle.level_core.specs.Laws.{HoldsFinished}
 use Rattle.level_core.specs.Meaning.{Arrays}
-use Rattle.level_core.proofs.EntryLaws.{rising_distinct}
 use Rattle.level_core.proofs.KindLaws.{are_of_a_kind, appended_stored, full_is_dense, full_positions as positions_full}
 use Rattle.level_core.proofs.Orders.{coord_position}
 use Rattle.level_rows.specs.Rows.{Rows, begun, place, rows_at, MayAppendRows}
@@ -22,7 +20,6 @@ use Rattle.level_rows.specs.Filling.{AreNeeded, MayFill, FillsRows}
 use Rattle.level_rows.specs.Tables.{Increase}
 use Rattle.level_rows.specs.Taken.{Stores}
 use Rattle.level_rows.proofs.AppendSteps.{may_finish}
-use Rattle.level_rows.proofs.EmitLaws.{HasLog}
 use Rattle.level_rows.proofs.FullLaws.{full_position}
 use Rattle.level_rows.proofs.Progress.{Filled}
 use Rattle.level_rows.proofs.Stored.{filled_stores}
@@ -52,7 +49,7 @@ use Rattle.appended_results.specs.Ends.{LevelEnds}
 use Rattle.appended_results.proofs.HeadLaws.{letters_from}
 use Rattle.appended_results.proofs.LevelSteps.{full_positions}
 use Rattle.appended_results.proofs.SumLaws.{drop_step}
-use Rattle.appended_kernels.proofs.Finer.{apart, place_of, full_spot, finer, refines, place_headed, finer_place, finer_begun, headed_by}
+use Rattle.appended_kernels.proofs.Finer.{apart, place_of, full_spot, refines, place_headed, finer_place, finer_begun, headed_by}
 
 same_some : (x y : ℕ) → Some x ≡ Some y → x ≡ y
 same_some x y h = cc

@@ -1,11 +1,11 @@
 -- The sums of rows name the heads of the rows: each sum has its head, in order.
-use Rattle.std.specs.Prelude.{◌≡◌, ◌⊎◌, ℕ, zero, suc, ◌+◌, ◌≤◌, ◌<◌, ◌^◌, List, [], ◌∷◌, ◌++◌}
-use Rattle.std.specs.Prelude.{length, take, drop, slice_index, slice_index_or, refl}
+use Rattle.std.specs.Prelude.{◌≡◌, ℕ, zero, suc, ◌+◌, ◌≤◌, ◌<◌, ◌^◌, List, [], ◌∷◌, ◌++◌}
+use Rattle.std.specs.Prelude.{length, take, drop, slice_index, slice_index_or}
 use Rattle.std.specs.declared.cmp.Ordering.{Ordering}
 use Rattle.std.specs.declared.cmp.Ordering.TheVariants.{Less, Equal, Greater}
 use Rattle.std.specs.Ordering.{nat_cmp}
 use Rattle.std.specs.Cmp.Lexicographic.{slice_cmp}
-use Rattle.std.proofs.Common.{◌∙◌, sym, ap, subst, arith, inl, inr}
+use Rattle.std.proofs.Common.{◌∙◌, sym, ap, arith, inl, inr}
 use Rattle.std.proofs.lemmas.Grind.{same_number_lists}
 use Rattle.std.proofs.lemmas.List.{get_or-take, length-take-le, take-append-drop}
 use Rattle.lists.specs.Each.{Each}
@@ -18,7 +18,7 @@ use Rattle.concrete_notation.specs.Contributions.{put_by, put_pair, sums_of}
 use Rattle.concrete_notation.proofs.SumsOf.{sums_each, sums_listed}
 use Rattle.tensor_storage.specs.Arranged.{no_entry}
 use Rattle.level_appends.proofs.Keys.{SameKey}
-use Rattle.level_appends.proofs.Matched.{NameSame, Matches, matching}
+use Rattle.level_appends.proofs.Matched.{Matches, matching}
 use Rattle.sparse_results.specs.Tables.{table_of, IsRow}
 use Rattle.appended_results.specs.Heads.{key_in, row_at, AreHeads}
 use Rattle.appended_results.specs.Sums.{head_at}

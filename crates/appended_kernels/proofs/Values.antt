@@ -1,7 +1,7 @@
 -- The values of a result that held rows: at the position of each sum of the rows that sum, and a zero at each other position.
 use Rattle.std.specs.Prelude.{◌≡◌, ◌≢◌, ◌⊎◌, ℕ, zero, suc, ◌+◌, ◌-◌, ◌*◌, ◌/◌, ◌%◌, ◌≤◌, ◌<◌, List, [], ◌∷◌, ◌++◌, length, take, drop}
 use Rattle.std.specs.Prelude.{false, replicate, slice_index, refl}
-use Rattle.std.proofs.Common.{◌∙◌, sym, ap, subst, arith, inl, inr}
+use Rattle.std.proofs.Common.{◌∙◌, sym, ap, arith, inl, inr}
 use Rattle.std.proofs.Math.Nat.{div-lt_iff_lt-mul, mod-lt}
 use Rattle.std.proofs.Math.Seq.{take-append_seam, drop-append_seam}
 use Rattle.std.proofs.lemmas.Bool.{cases_lt}
@@ -19,9 +19,9 @@ use Rattle.level_rows.specs.Tables.{Increase, AllPlaced}
 use Rattle.level_rows.specs.Values.{StoresValues}
 use Rattle.level_rows.proofs.PlaceLaws.{appended_all_placed}
 use Rattle.concrete_notation.specs.Contributions.{sums_of}
-use Rattle.concrete_notation.proofs.SumsOf.{sums_increasing, sums_listed, sums_value}
+use Rattle.concrete_notation.proofs.SumsOf.{sums_increasing, sums_value}
 use Rattle.tensor_storage.specs.Arranged.{no_entry}
-use Rattle.tensor_storage.specs.Tables.{Table, AreBelow}
+use Rattle.tensor_storage.specs.Tables.{AreBelow}
 use Rattle.tensor_storage.proofs.PackSteps.{all_same}
 use Rattle.tns_io.specs.Positions.{product, IsBelow, coords_at, position}
 use Rattle.tns_io.proofs.PositionLaws as positions

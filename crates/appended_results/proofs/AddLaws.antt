@@ -107,7 +107,8 @@ module _ (c : Setting) (laws : Laws c.arithmetic) (letters : List Letter) (sizes
       let sparse = may.is_head.last (head - 1) last in
       let at = (holds.levels (head - 1) (omega (arith, some, w))).appended sparse in
       let many = at.progress.appended.many in
-      let more = begun_some (rows_above letters sizes (key_in heads) (length heads) (head - 1)) (length heads) refl (omega (arith, is_last)) in
+      let more = begun_some (rows_above letters sizes (key_in heads) (length heads) (head - 1)) (length heads) refl
+      (omega (arith, is_last)) in
       let f = holds.few head w in
       let here = sparse_place letters sizes (key_in heads) (head - 1) j sparse in
       difference_is (Var (cursor_at base (head - 1) + 2)) (Num 1) (length at.log.coords) 1 s at.count_is refl
@@ -131,7 +132,8 @@ module _ (c : Setting) (laws : Laws c.arithmetic) (letters : List Letter) (sizes
       let sum = c.arithmetic.plus (slice_index words (spot_of letters sizes head heads j xs)) row.value in
       let after = slice_set words (spot_of letters sizes head heads j xs) sum in
       let t = set_array s (Values 0) after in
-      let told = place_told s head (last_place base head) (place_above letters sizes (key_in heads) head j) (drop head keys) (drop head sizes) xs
+      let told = place_told s head (last_place base head) (place_above letters sizes (key_in heads) head j) (drop head keys)
+      (drop head sizes) xs
       last_told have below (omega (arith, low, few, small)) in
       does_add_to c (Values 0) (place_from head (last_place base head) (drop head keys)) (Var var) [] s
       (spot_of letters sizes head heads j xs) row.value words _ _ told value_is refl held low

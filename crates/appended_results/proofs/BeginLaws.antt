@@ -65,7 +65,8 @@ module _ (letters : List Letter) (levels base top d : ℕ) (inside : d < levels)
           }
       by_order e h sparse (inr from) =
           let same : e ≡ d = omega (arith, h, from) in
-          subst (λ k. IsAtStart (cursor_at base k) t) (sym same) (now (ap (λ k. (properties (letter_at letters k)).full) (sym same) ∙ sparse))
+          subst (λ k. IsAtStart (cursor_at base k) t) (sym same)
+          (now (ap (λ k. (properties (letter_at letters k)).full) (sym same) ∙ sparse))
 
 pub next_begun : (letters : List Letter) (levels base d : ℕ) → d < levels → (code more all : List KStmt)
     → BeginsFirst letters levels base d code → BeginsOne (letter_at letters d) (cursor_at base d) more → all ≡ code ++ more
@@ -85,7 +86,8 @@ next_begun letters levels base d inside code more all first one is c top above s
         (one_begun letters levels base top d inside above s t b t
         (leaves_none (IsOfCursor (cursor_at base d)) EveryArray top no_turns t) (λ sparse. absurd (apart (sym full ∙ sparse)))))
     by_full t b false sparse =
-        does_weaker c more t _ _ _ _ (one.sparse sparse c top t) (λ u k. one_begun letters levels base top d inside above s t b u k.0 (λ _. k.1))
+        does_weaker c more t _ _ _ _ (one.sparse sparse c top t)
+        (λ u k. one_begun letters levels base top d inside above s t b u k.0 (λ _. k.1))
         (λ turns a count never. never)
 
 -- a level as a kernel begins it
@@ -133,4 +135,7 @@ nothing_appended letters sizes head base top s0 s able each small few starts b =
         → AreAtStart (letter_at letters e) (slice_index sizes e) (positions_above letters sizes (key_in []) 0 e) 0 (suc e) s.arrays
     at_start e h =
         let at = starts e h in
-        record { size = λ full. b.leaves.arrays _ tt ∙ at.size full; zeros = λ array count is. b.leaves.arrays _ tt ∙ at.zeros array count is }
+        record {
+          size = λ full. b.leaves.arrays _ tt ∙ at.size full;
+          zeros = λ array count is. b.leaves.arrays _ tt ∙ at.zeros array count is;
+        }

@@ -84,7 +84,8 @@ module _ (letters : List Letter) (base free d : ℕ) (inside : d < length letter
       apart : true ≡ false → ⊥
       apart e = cc
 
-      by_full : (f : Bool) → (properties (letter_at letters d)).full ≡ f → Does c more s (Ending letters sizes heads base free (suc d) s0) Never
+      by_full : (f : Bool) → (properties (letter_at letters d)).full ≡ f
+          → Does c more s (Ending letters sizes heads base free (suc d) s0) Never
       by_full true is =
           subst (λ k. Does c k s (Ending letters sizes heads base free (suc d) s0) Never) (sym (one.full is))
           (does_nothing c s _ _

@@ -63,7 +63,8 @@ last_unique letters head is chained = by_unique (properties (letter_at letters (
     branches (inr none) =
         subst (Chained (not (properties (letter_at letters (head - 1))).unique)) (drop_all head letters none) here
 
-    by_unique : (b : Bool) → (properties (letter_at letters (head - 1))).unique ≡ b → (properties (letter_at letters (head - 1))).unique ≡ true
+    by_unique : (b : Bool) → (properties (letter_at letters (head - 1))).unique ≡ b
+        → (properties (letter_at letters (head - 1))).unique ≡ true
     by_unique true u = u
     by_unique false u = apart (sym (ap not u) ∙ branches (cases_lt head (length letters)))
 

@@ -128,14 +128,16 @@ module _ (letters : List Letter) (head base free d : ℕ) (inside : d < length l
 
       by_order : (e : ℕ) → e < suc d → (e < d) ⊎ (d ≤ e) → LevelHolds letters sizes (heads ++ key ∷ []) base e t
       by_order e h (inl less) =
-          holds_there letters sizes (heads ++ key ∷ []) base e s t (kept_vars e (λ same. omega (arith, same, less)) (omega (arith, less, inside)))
+          holds_there letters sizes (heads ++ key ∷ []) base e s t
+          (kept_vars e (λ same. omega (arith, same, less)) (omega (arith, less, inside)))
           (λ a of. l.arrays a (λ also. let k = of_one a (suc e) (suc d) of also in omega (arith, k, less)))
           (b.above e less)
       by_order e h (inr from) =
           let same : e ≡ d = omega (arith, h, from) in
           subst (λ k. LevelHolds letters sizes (heads ++ key ∷ []) base k t) (sym same) now
 
-pub sparse_positions : (letters : List Letter) (sizes : List ℕ) (coords : ℕ → ℕ → ℕ) (count d : ℕ) → (properties (letter_at letters d)).full ≡ false
+pub sparse_positions : (letters : List Letter) (sizes : List ℕ) (coords : ℕ → ℕ → ℕ) (count d : ℕ)
+    → (properties (letter_at letters d)).full ≡ false
     → positions_above letters sizes coords count (suc d) ≡ begun (first_at letters coords d) count
 sparse_positions letters sizes coords count d is =
     ap (λ b. if b then positions_above letters sizes coords count d * slice_index sizes d else begun (first_at letters coords d) count) is
@@ -145,7 +147,8 @@ pub sparse_place : (letters : List Letter) (sizes : List ℕ) (coords : ℕ → 
 sparse_place letters sizes coords d i is =
     ap (λ b. if b then place_above letters sizes coords d i * slice_index sizes d + coords d i else place (first_at letters coords d) i) is
 
-pub full_positions : (letters : List Letter) (sizes : List ℕ) (coords : ℕ → ℕ → ℕ) (count d : ℕ) → (properties (letter_at letters d)).full ≡ true
+pub full_positions : (letters : List Letter) (sizes : List ℕ) (coords : ℕ → ℕ → ℕ) (count d : ℕ)
+    → (properties (letter_at letters d)).full ≡ true
     → positions_above letters sizes coords count (suc d) ≡ positions_above letters sizes coords count d * slice_index sizes d
 full_positions letters sizes coords count d is =
     ap (λ b. if b then positions_above letters sizes coords count d * slice_index sizes d else begun (first_at letters coords d) count) is

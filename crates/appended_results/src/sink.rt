@@ -51,7 +51,10 @@ fn is_head(levels: &[FormatLevel], head: usize) -> bool
     if head == 0 || head > levels.len() {
         return false;
     }
-    !is_full(levels[head - 1]) && are_full(&levels[head..])
+    if is_full(levels[head - 1]) {
+        return false;
+    }
+    are_full(&levels[head..])
 }
 
 /// Whether the variables of so many levels stand below `free`.
@@ -174,15 +177,19 @@ impl RowSink for AppendedSink {
             return Err(AllocError);
         }
         // Such a sink holds no rows.
-        if !is_head(self.levels.as_slice(), self.head) || !is_below(self.base, levels, free) {
+        if !is_head(self.levels.as_slice(), self.head) {
             return Ok(Items::new(alloc));
         }
-        if is_other(self.base, levels, value) && are_other(self.base, levels, keys) {
-            let code = row_code(alloc, self, keys, value, free)?;
-            return Ok(code);
+        if !is_below(self.base, levels, free) {
+            return Ok(Items::new(alloc));
         }
-        let code = copied_row(alloc, self, keys, value, free)?;
-        Ok(code)
+        if !are_other(self.base, levels, keys) {
+            return copied_row(alloc, self, keys, value, free);
+        }
+        if !is_other(self.base, levels, value) {
+            return copied_row(alloc, self, keys, value, free);
+        }
+        row_code(alloc, self, keys, value, free)
     }
 
     ghost laws = { appended_laws };
