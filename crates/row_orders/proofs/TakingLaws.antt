@@ -29,7 +29,7 @@ both_true true b h = (refl, h)
 both_true false b h = absurd (cc h)
 
 -- all levels pass the test exactly where all are dense
-all_dense : (levels : List FormatLevel) → list_all is_dense levels ≡ true → AreAllDense levels
+pub all_dense : (levels : List FormatLevel) → list_all is_dense levels ≡ true → AreAllDense levels
 all_dense [] h k d l = absurd (omega (arith, l))
 all_dense (level ∷ levels) h zero d l = dense_letter level.letter (both_true (is_dense level) (list_all is_dense levels) h).0
 all_dense (level ∷ levels) h (suc k) d l =

@@ -1,8 +1,10 @@
 -- A kernel whose code appends the rows of a statement's loops to its result in place is compiled where the statement calls for no workspace:
 -- it is right and sound, its loops turn no more often than the statement costs, and it has no rows to go over again.
 use Rattle.std.specs.Prelude.{◌≡◌, ℕ, zero, suc, ◌+◌, ◌*◌, ◌≤◌, ◌<◌, true, false, List, [], ◌∷◌, ◌++◌, length, All, Some, map, refl}
-use Rattle.std.specs.Prelude.{replicate, slice_get, slice_index}
+use Rattle.std.specs.Prelude.{replicate, slice_get, slice_index, ◌^◌, ◌&&◌, Bool, if◌then◌else◌}
+use Rattle.std.specs.List.{list_all}
 use Rattle.std.proofs.Common.{◌∙◌, sym, ap, subst, arith}
+use Rattle.limits.proofs.Limits.{orders_are_small}
 use Rattle.numbers.specs.Arithmetic.{Arithmetic, Laws}
 use Rattle.kernel_code.specs.declared.syntax.Arr.TheVariants.{Range, Values, Dimension, Ends as EndsOf, Coordinates, Width, Key, Sums}
 use Rattle.kernel_code.specs.declared.syntax.Arr.TheVariants.{ListCoordinates, ListPositions}
@@ -11,12 +13,17 @@ use Rattle.kernel_code.specs.declared.syntax.KStmt.{KStmt}
 use Rattle.kernel_code.specs.declared.syntax.LoopKind.{LoopKind}
 use Rattle.kernel_code.specs.declared.syntax.LoopKind.TheVariants.{Merge, Skip, Gather, Drain, Probe}
 use Rattle.kernel_code.specs.Kernels.{KernelOutcome, Finished, GotStuck, TooLong, NotFinished}
+use Rattle.level_core.specs.Kinds.{properties}
 use Rattle.level_core.specs.Meaning.{Arrays}
+use Rattle.format_spec.specs.Formats.{letters_of}
 use Rattle.format_spec.specs.declared.format.FormatLevel.{FormatLevel}
 use Rattle.index_notation.specs.declared.syntax.Access.{Access}
+use Rattle.index_notation.specs.Statement.{IsNumbered}
 use Rattle.index_notation.specs.declared.syntax.Statement.{Statement}
+use Rattle.iteration_graph.specs.Edges.{HasFormat, format_of}
 use Rattle.concrete_notation.specs.declared.concrete.Concrete.{Concrete}
 use Rattle.concrete_notation.specs.Nests.{left_in_order}
+use Rattle.concrete_notation.specs.Workspaces.{AreAllDense}
 use Rattle.loop_code.specs.declared.loops.LoopCode.{LoopCode}
 use Rattle.loop_code.specs.Loops.{start}
 use Rattle.lowering.specs.Lowered.{IsInOrder}
@@ -35,10 +42,15 @@ use Rattle.result_targets.specs.Beside.{LeavesLists}
 use Rattle.kernel_emit.specs.Emitted.{AddsLoops}
 use Rattle.kernel_emit.specs.declared.emitting.Emitted.{Emitted}
 use Rattle.kernel_emit.proofs.ListLaws.{operand_apart}
+use Rattle.row_orders.specs.Heads.{head_levels, is_dense}
 use Rattle.row_orders.specs.Takings.{calls_for_workspace}
 use Rattle.row_orders.proofs.Lists.{clash}
+use Rattle.row_orders.proofs.TakingLaws.{all_dense}
+use Rattle.sparse_results.specs.Keys.{HasOrderedResult}
 use Rattle.appended_results.specs.Begins.{BeginsFirst}
 use Rattle.appended_results.specs.Ends.{EndsFirst}
+use Rattle.appended_results.specs.Heads.{IsHead, head_length, is_full}
+use Rattle.appended_results.proofs.HeadLengths.{some_head}
 use Rattle.appended_results.specs.declared.sink.AppendedSink.{AppendedSink}
 use Rattle.appended_results.specs.Sink.{appended_sink, letters_in}
 use Rattle.appended_kernels.specs.Kernels.{AppendsFromTop, AreAppendedLoops, IsForAppended, IsSinkOf, MakesNoMore, behind}
@@ -69,6 +81,57 @@ places_from s base places variables at = record {
     there [] k p is = absurd (cc is)
     there (t ∷ tensors) zero p is = subst (λ (q : AccessPlace). base ≤ q.cursor) (some_same (new_access base t) p is) (omega arith)
     there (t ∷ tensors) (suc k) p is = there tensors k p is
+
+-- a result has few levels
+pub levels_few : (s : Statement) (formats : List (List FormatLevel)) (k : AppendedSink) → IsNumbered s → HasFormat formats s.left
+    → k.levels ≡ format_of formats s.left.tensor → length k.levels < 2 ^ 8
+levels_few s formats k numbered left is =
+    let many = ap length is ∙ left.order in
+    let few = numbered.left.order in
+    let small = orders_are_small in
+    omega (arith, many, few, small)
+
+same_tests : (levels : List FormatLevel) → list_all is_dense levels ≡ list_all is_full (letters_of levels)
+same_tests [] = refl
+same_tests (level ∷ levels) = ap (λ b. (properties level.letter).full && b) (same_tests levels)
+
+heads_alike : (levels : List FormatLevel) → length (head_levels levels) ≡ head_length (letters_of levels)
+heads_alike [] = refl
+heads_alike (level ∷ levels) =
+    by (list_all is_dense (level ∷ levels)) refl (same_tests (level ∷ levels))
+  where
+    by : (b : Bool) → list_all is_dense (level ∷ levels) ≡ b
+        → list_all is_dense (level ∷ levels) ≡ list_all is_full (letters_of (level ∷ levels))
+        → length (head_levels (level ∷ levels)) ≡ head_length (letters_of (level ∷ levels))
+    by true is same =
+        ap (λ b. length (if b then [] else (level ∷ head_levels levels))) is
+        ∙ sym (ap (λ b. if b then 0 else suc (head_length (letters_of levels))) (sym same ∙ is))
+    by false is same =
+        ap (λ b. length (if b then [] else (level ∷ head_levels levels))) is
+        ∙ ap suc (heads_alike levels)
+        ∙ sym (ap (λ b. if b then 0 else suc (head_length (letters_of levels))) (sym same ∙ is))
+
+-- some level isn't full where not all are dense
+not_full : (levels : List FormatLevel) → (AreAllDense levels → ⊥) → list_all is_full (letters_of levels) ≡ false
+not_full levels some = by (list_all is_full (letters_of levels)) refl
+  where
+    by : (b : Bool) → list_all is_full (letters_of levels) ≡ b → b ≡ false
+    by true is = absurd (some (all_dense levels (same_tests levels ∙ is)))
+    by false is = refl
+
+-- the sink of a result of such a format
+pub sink_fits : (a : Arithmetic) (s : Statement) (formats : List (List FormatLevel)) (k : AppendedSink) → HasOrderedResult s formats
+    → k.levels ≡ format_of formats s.left.tensor → k.head ≡ length (head_levels (format_of formats s.left.tensor)) → k.zero ≡ a.zero
+    → IsSinkOf a formats k
+sink_fits a s formats k ordered levels head zero =
+    let result = ap (format_of formats) ordered.named.result in
+    record {
+      levels = levels ∙ result;
+      head = subst (IsHead (letters_of (format_of formats 0))) (sym (head ∙ ap (λ ls. length (head_levels ls)) result
+          ∙ heads_alike (format_of formats 0)))
+          (some_head (letters_of (format_of formats 0)) (not_full (format_of formats 0) ordered.some));
+      zero = zero;
+    }
 
 module _ (a : Arithmetic) (laws : Laws a) (s : Statement) (formats : List (List FormatLevel)) (order : List ℕ)
     (f : IsForAppended s formats order) (loops : LoopCode) (l : AreLoopsOf s formats order loops) where
