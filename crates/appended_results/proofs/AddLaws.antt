@@ -1,13 +1,12 @@
 -- A row's value is added at its position.
-use Rattle.std.specs.Prelude.{◌≡◌, ℕ, zero, suc, ◌+◌, ◌-◌, ◌*◌, ◌^◌, ◌≤◌, ◌<◌, true, false, List, [], ◌∷◌, ◌++◌, length, drop}
+use Rattle.std.specs.Prelude.{◌≡◌, ℕ, suc, ◌+◌, ◌-◌, ◌*◌, ◌^◌, ◌≤◌, ◌<◌, false, List, [], ◌∷◌, ◌++◌, length, drop}
 use Rattle.std.specs.Prelude.{slice_index, slice_set}
 use Rattle.std.specs.Prelude.{Some, refl}
-use Rattle.std.proofs.Common.{◌∙◌, sym, ap, subst, arith}
+use Rattle.std.proofs.Common.{◌∙◌, sym, ap, arith}
 use Rattle.std.proofs.Math.Nat.{mul-le-mul_left}
 use Rattle.limits.specs.Limits.{greatest_position_count}
 use Rattle.limits.proofs.Limits.{positions_are_small}
 use Rattle.numbers.specs.Arithmetic.{Arithmetic, Laws}
-use Rattle.kernel_code.specs.Arrays.{same_arr}
 use Rattle.kernel_code.proofs.ArrayNames.{same_arr_self}
 use Rattle.kernel_code.specs.Does.{Does, Never}
 use Rattle.kernel_code.proofs.Does.{does_nothing, does_add_to}
@@ -18,7 +17,6 @@ use Rattle.kernel_code.specs.Meaning.{Setting, State, value, set_array}
 use Rattle.kernel_code.specs.declared.syntax.Arr.TheVariants.{Values, Dimension}
 use Rattle.kernel_code.specs.declared.syntax.Op.TheVariants.{Add, Mul}
 use Rattle.kernel_code.specs.declared.syntax.KExpr.{KExpr, Num, Var, At, Bin}
-use Rattle.kernel_code.specs.declared.syntax.KStmt.{KStmt}
 use Rattle.tensor_map.specs.declared.entries.Entry.{Entry}
 use Rattle.tns_io.specs.Positions.{product, IsBelow, position}
 use Rattle.tns_io.proofs.PositionLaws as positions
@@ -27,9 +25,9 @@ use Rattle.level_core.specs.Kinds.{properties}
 use Rattle.level_rows.specs.Rows.{begun}
 use Rattle.level_rows.proofs.RowLaws.{begun_some}
 use Rattle.appended_results.specs.Heads.{letter_at, key_in}
-use Rattle.appended_results.specs.Places.{first_at, place_above, positions_above, rows_above}
+use Rattle.appended_results.specs.Places.{first_at, place_above, rows_above}
 use Rattle.appended_results.specs.Levels.{cursor_at, IsKept, MayHold}
-use Rattle.appended_results.specs.Rows.{HoldsHeads, all_positions}
+use Rattle.appended_results.specs.Rows.{HoldsHeads}
 use Rattle.appended_results.specs.Sums.{head_at, spot_of, HoldsSums}
 use Rattle.appended_results.specs.Values.{place_from, last_place, add_code, HaveTail}
 use Rattle.appended_results.proofs.LevelSteps.{sparse_place, sparse_positions, holds_there}

@@ -1,6 +1,6 @@
 -- The cursors of all levels are set, and then no head is appended.
-use Rattle.std.specs.Prelude.{◌≡◌, ◌⊎◌, ℕ, suc, ◌+◌, ◌*◌, ◌≤◌, ◌<◌, Bool, true, false, List, [], ◌∷◌, ◌++◌, length, slice_index, All}
-use Rattle.std.specs.Prelude.{Some, refl}
+use Rattle.std.specs.Prelude.{◌≡◌, ◌⊎◌, ℕ, suc, ◌+◌, ◌*◌, ◌≤◌, ◌<◌, Bool, true, false, List, [], ◌++◌, length, slice_index, All}
+use Rattle.std.specs.Prelude.{refl}
 use Rattle.std.proofs.Common.{◌∙◌, sym, ap, subst, arith, inl, inr}
 use Rattle.std.proofs.lemmas.Bool.{cases_lt}
 use Rattle.limits.specs.Limits.{greatest_position_count}
@@ -8,7 +8,7 @@ use Rattle.kernel_code.specs.Does.{Does, Never}
 use Rattle.kernel_code.proofs.Does.{does_weaker, does_nothing, does_append}
 use Rattle.kernel_code.specs.Keeps.{Leaves, EveryArray, no_turns}
 use Rattle.kernel_code.proofs.Keeps.{leaves_none}
-use Rattle.kernel_code.specs.Meaning.{Setting, State}
+use Rattle.kernel_code.specs.Meaning.{State}
 use Rattle.kernel_code.specs.declared.syntax.KStmt.{KStmt}
 use Rattle.level_core.specs.declared.letter.Letter.{Letter}
 use Rattle.level_core.specs.Kinds.{properties, capabilities}
@@ -20,11 +20,11 @@ use Rattle.tensor_storage.specs.Laws.{laws}
 use Rattle.tensor_storage.specs.Levels.{meaning}
 use Rattle.tensor_storage.proofs.Steps.{new_level, new_is}
 use Rattle.level_appends.specs.Appended.{IsOfCursor}
-use Rattle.level_appends.specs.Codes.{IsAtStart, BeginsCursor}
+use Rattle.level_appends.specs.Codes.{IsAtStart}
 use Rattle.level_appends.proofs.RowSteps.{level_begun}
 use Rattle.appended_results.specs.Heads.{letter_at, AreAppended, key_in}
 use Rattle.appended_results.specs.Places.{positions_above, rows_above}
-use Rattle.appended_results.specs.Levels.{cursor_at, IsMine, LevelHolds}
+use Rattle.appended_results.specs.Levels.{cursor_at, IsMine}
 use Rattle.appended_results.specs.Rows.{HoldsHeads}
 use Rattle.appended_results.specs.Begins.{Beginning, BeginsOne, BeginsFirst}
 

@@ -5,35 +5,34 @@ use Rattle.std.specs.Prelude.{slice_index, Some, refl}
 use Rattle.std.proofs.Common.{◌∙◌, sym, ap, subst, arith, inl, inr}
 use Rattle.std.proofs.lemmas.Bool.{cases_lt}
 use Rattle.std.proofs.lemmas.Bool.Decides.{nat_tests}
-use Rattle.std.proofs.lemmas.List.{length_push, append_assoc}
+use Rattle.std.proofs.lemmas.List.{length_push}
 use Rattle.limits.specs.Limits.{greatest_position_count}
 use Rattle.limits.proofs.Limits.{positions_are_small, some_positions}
 use Rattle.kernel_code.specs.Arrays.{same_arr, may_have}
 use Rattle.kernel_code.proofs.ArrayNames.{same_arr_self}
 use Rattle.kernel_code.specs.Does.{Does, Never}
 use Rattle.kernel_code.proofs.Does.{does_weaker, does_nothing, does_append, does_set, does_extend}
-use Rattle.kernel_code.specs.Keeps.{Leaves, NoVariable, EveryArray, no_turns}
+use Rattle.kernel_code.specs.Keeps.{Leaves, EveryArray, no_turns}
 use Rattle.kernel_code.proofs.Keeps.{this_var, other_var, this_array, other_array, leaves_none, leaves_set}
 use Rattle.kernel_code.proofs.Words.{difference_is}
-use Rattle.kernel_code.specs.Meaning.{Setting, State, value, length_of, set_var, set_array}
+use Rattle.kernel_code.specs.Meaning.{Setting, State, length_of, set_var, set_array}
 use Rattle.kernel_code.specs.declared.syntax.Arr.{Arr}
 use Rattle.kernel_code.specs.declared.syntax.Arr.TheVariants.{Range, Values, Dimension, Ends, Coordinates, Width, Key, Sums}
 use Rattle.kernel_code.specs.declared.syntax.Arr.TheVariants.{ListCoordinates, ListPositions}
 use Rattle.kernel_code.specs.declared.syntax.Op.TheVariants.{Sub}
-use Rattle.kernel_code.specs.declared.syntax.KExpr.{KExpr, Num, Var, Len, Bin}
-use Rattle.kernel_code.specs.declared.syntax.KStmt.{KStmt, Set, Extend}
+use Rattle.kernel_code.specs.declared.syntax.KExpr.{Num, Var, Len, Bin}
+use Rattle.kernel_code.specs.declared.syntax.KStmt.{KStmt, Set}
 use Rattle.level_core.specs.declared.letter.Letter.{Letter}
 use Rattle.level_core.specs.Fragments.{IsOf, RefusedWithin}
 use Rattle.level_core.specs.Kinds.{properties}
-use Rattle.level_appends.specs.Appended.{IsOfCursor}
 use Rattle.appended_results.specs.Heads.{letter_at, key_in}
-use Rattle.appended_results.specs.Places.{positions_above, place_above, is_fixed}
-use Rattle.appended_results.specs.Levels.{cursor_at, key_at, IsMine, IsKept, LevelHolds, MayHold, PassesPlace, Between}
-use Rattle.appended_results.specs.Codes.{AppendsFirst, KeysTell, AreKeys, IsOutsideResult}
+use Rattle.appended_results.specs.Places.{positions_above, is_fixed}
+use Rattle.appended_results.specs.Levels.{key_at, IsMine, IsKept, LevelHolds, MayHold, PassesPlace, Between}
+use Rattle.appended_results.specs.Codes.{AppendsFirst, AreKeys}
 use Rattle.appended_results.specs.Rows.{HoldsHeads, all_positions, zeros_code, keep_code, HasHead, AppendsHead}
 use Rattle.appended_results.proofs.HeadLaws.{key_last}
 use Rattle.appended_results.proofs.PlaceLaws.{more_positions}
-use Rattle.appended_results.proofs.LevelSteps.{holds_there, one_more, same_coords}
+use Rattle.appended_results.proofs.LevelSteps.{holds_there, same_coords}
 
 -- the variables that keep a head's first n coordinates
 record IsKey (base n y : ℕ) : Type 0 where

@@ -1,5 +1,5 @@
 -- One head more at one level of a result.
-use Rattle.std.specs.Prelude.{◌≡◌, ◌≢◌, ◌⊎◌, ℕ, zero, suc, ◌+◌, ◌-◌, ◌*◌, ◌≤◌, ◌<◌, ◌^◌, Bool, true, false, if◌then◌else◌, List, [], ◌∷◌}
+use Rattle.std.specs.Prelude.{◌≡◌, ◌≢◌, ◌⊎◌, ℕ, suc, ◌+◌, ◌-◌, ◌*◌, ◌≤◌, ◌<◌, Bool, true, false, if◌then◌else◌, List, [], ◌∷◌}
 use Rattle.std.specs.Prelude.{◌++◌}
 use Rattle.std.specs.Prelude.{length, slice_index, Some, refl}
 use Rattle.std.proofs.Common.{◌∙◌, sym, ap, subst, arith, inl, inr}
@@ -7,19 +7,18 @@ use Rattle.std.proofs.lemmas.Bool.{cases_lt}
 use Rattle.std.proofs.lemmas.List.{length_push}
 use Rattle.limits.specs.Limits.{greatest_position_count}
 use Rattle.limits.proofs.Limits.{positions_are_small}
-use Rattle.kernel_code.specs.Arrays.{same_arr}
 use Rattle.kernel_code.specs.Does.{Does, Never}
 use Rattle.kernel_code.proofs.Does.{does_weaker, does_nothing, does_append, does_set, does_if_yes, does_if_no}
-use Rattle.kernel_code.specs.Keeps.{Leaves, NoVariable, EveryArray, Mentions, no_turns}
+use Rattle.kernel_code.specs.Keeps.{Leaves, NoVariable, Mentions, no_turns}
 use Rattle.kernel_code.proofs.Keeps.{this_var, other_var, leaves_set, leaves_none, value_kept}
-use Rattle.kernel_code.proofs.Words.{difference_is, sum_is, product_is, word_is}
+use Rattle.kernel_code.proofs.Words.{difference_is}
 use Rattle.kernel_code.specs.Meaning.{Setting, State, value, word_of, set_var}
 use Rattle.kernel_code.specs.declared.syntax.Arr.{Arr}
 use Rattle.kernel_code.specs.declared.syntax.Arr.TheVariants.{Range, Values, Dimension, Ends, Coordinates, Width, Key, Sums}
 use Rattle.kernel_code.specs.declared.syntax.Arr.TheVariants.{ListCoordinates, ListPositions}
-use Rattle.kernel_code.specs.declared.syntax.Op.TheVariants.{Add, Sub, Mul}
-use Rattle.kernel_code.specs.declared.syntax.KExpr.{KExpr, Num, Var, At, Bin}
-use Rattle.kernel_code.specs.declared.syntax.KStmt.{KStmt, Set, If}
+use Rattle.kernel_code.specs.declared.syntax.Op.TheVariants.{Sub}
+use Rattle.kernel_code.specs.declared.syntax.KExpr.{KExpr, Num, Var, Bin}
+use Rattle.kernel_code.specs.declared.syntax.KStmt.{KStmt, If}
 use Rattle.level_core.specs.declared.letter.Letter.{Letter}
 use Rattle.level_core.specs.Fragments.{IsOf, IsOutside, RefusedWithin, PassesLimit}
 use Rattle.level_core.specs.Kinds.{properties, capabilities}
@@ -28,20 +27,17 @@ use Rattle.level_rows.proofs.RowLaws.{begun_no, begun_some}
 use Rattle.tensor_storage.specs.Laws.{laws}
 use Rattle.tensor_storage.specs.Levels.{meaning}
 use Rattle.level_appends.specs.Appended.{IsOfCursor, LevelAt}
-use Rattle.level_appends.specs.Codes.{ReservesParents, AppendsRow}
-use Rattle.level_appends.specs.Positions.{PassesCount, IsOne, CountsPositions}
-use Rattle.level_appends.proofs.Keeping.{level_along, level_again}
-use Rattle.level_appends.proofs.Placed.{full_within}
+use Rattle.level_appends.specs.Codes.{AppendsRow}
+use Rattle.level_appends.proofs.Keeping.{level_there, level_along, level_again}
 use Rattle.appended_results.specs.Heads.{letter_at, key_in}
 use Rattle.appended_results.specs.Places.{first_at, place_above, positions_above, rows_above, is_fixed}
-use Rattle.appended_results.specs.Levels.{cursor_at, key_at, IsMine, IsKept, LevelHolds, MayHold, PassesPlace, Between}
-use Rattle.appended_results.specs.Codes.{place_appended, place_full, AppendsLevel}
+use Rattle.appended_results.specs.Levels.{cursor_at, key_at, LevelHolds, MayHold, PassesPlace, Between}
+use Rattle.appended_results.specs.Codes.{place_appended, AppendsLevel}
 use Rattle.appended_results.specs.Parts.{Reserves, AsBefore, Anew}
 pub use Rattle.appended_results.specs.SinkLaws.{holds_there}
-use Rattle.appended_results.proofs.HeadLaws.{key_before, key_last}
+use Rattle.appended_results.proofs.HeadLaws.{key_before}
 use Rattle.level_appends.proofs.Logs.{begun_along}
 use Rattle.appended_results.proofs.PlaceLaws.{SameCoords, first_along, rows_along, more_positions, fixed_positions, may_append_at}
-use Rattle.appended_results.proofs.PlaceLaws.{place_within}
 
 apart : {A : Type 0} → true ≡ false → A
 apart e = absurd (never e)

@@ -1,5 +1,5 @@
 -- The head of a row is appended unless it is the last one.
-use Rattle.std.specs.Prelude.{◌≡◌, ◌⊎◌, ℕ, zero, suc, ◌+◌, ◌-◌, ◌*◌, ◌≤◌, ◌<◌, not, Bool, true, false, List, [], ◌∷◌, ◌++◌, length}
+use Rattle.std.specs.Prelude.{◌≡◌, ◌⊎◌, ℕ, zero, suc, ◌-◌, ◌≤◌, ◌<◌, not, Bool, true, false, List, [], ◌∷◌, ◌++◌, length}
 use Rattle.std.specs.Prelude.{slice_index}
 use Rattle.std.specs.Prelude.{Some, refl}
 use Rattle.std.proofs.Common.{◌∙◌, sym, ap, subst, arith, inl, inr}
@@ -7,7 +7,7 @@ use Rattle.std.proofs.lemmas.Bool.{cases_lt}
 use Rattle.std.proofs.lemmas.List.{length_push}
 use Rattle.kernel_code.specs.Does.{Does}
 use Rattle.kernel_code.proofs.Does.{does_weaker, does_nothing, does_if_yes, does_if_no}
-use Rattle.kernel_code.specs.Keeps.{Leaves, no_turns}
+use Rattle.kernel_code.specs.Keeps.{no_turns}
 use Rattle.kernel_code.proofs.Keeps.{leaves_none}
 use Rattle.kernel_code.specs.Meaning.{Setting, State, value, word_of}
 use Rattle.kernel_code.specs.declared.syntax.Arr.TheVariants.{Values}
@@ -26,7 +26,7 @@ use Rattle.level_appends.proofs.Keys.{SameKey, KeyBefore, before_along}
 use Rattle.appended_results.specs.Heads.{letter_at, key_in}
 use Rattle.appended_results.specs.Places.{first_at, positions_above, rows_above}
 use Rattle.appended_results.specs.Levels.{cursor_at, IsMine, IsKept, MayHold}
-use Rattle.appended_results.specs.Codes.{differs_or_first, KeysTell}
+use Rattle.appended_results.specs.Codes.{differs_or_first}
 use Rattle.appended_results.specs.Rows.{HoldsHeads, all_positions, AppendsHead}
 use Rattle.appended_results.specs.Opening.{ComesNext, IsOpen, Opens, RefusesHead, OpensHead}
 use Rattle.appended_results.proofs.HeadLaws.{key_before, key_last}

@@ -1,34 +1,29 @@
 -- The code of a row adds it to those that the sink holds.
-use Rattle.std.specs.Prelude.{◌≡◌, ◌⊎◌, ℕ, zero, suc, ◌+◌, ◌-◌, ◌*◌, ◌≤◌, ◌<◌, ◌^◌, true, false, List, [], ◌∷◌, ◌++◌, length, slice_index}
+use Rattle.std.specs.Prelude.{◌≡◌, ◌⊎◌, ℕ, zero, suc, ◌+◌, ◌*◌, ◌≤◌, ◌<◌, List, [], ◌∷◌, ◌++◌, length, slice_index}
 use Rattle.std.specs.Prelude.{All, Option}
-use Rattle.std.specs.Prelude.{Some, refl}
+use Rattle.std.specs.Prelude.{Some}
 use Rattle.std.specs.List.{range_with_len}
 use Rattle.std.proofs.Common.{◌∙◌, sym, ap, subst, arith, inl, inr}
 use Rattle.std.proofs.lemmas.Bool.{cases_lt}
 use Rattle.std.proofs.lemmas.List.{append_assoc}
 use Rattle.std.proofs.lemmas.List.FromFn.{length-range_with_len, get_or-range_with_len}
-use Rattle.numbers.specs.Arithmetic.{Laws}
 use Rattle.kernel_code.specs.Does.{Does, Never}
 use Rattle.kernel_code.proofs.Does.{does_weaker, does_nothing, does_append, does_set}
 use Rattle.kernel_code.specs.Keeps.{Leaves, NoVariable, EveryArray, no_turns}
 use Rattle.kernel_code.proofs.Keeps.{this_var, other_var, leaves_set, leaves_none}
 use Rattle.kernel_code.specs.Meaning.{Setting, State, set_var}
-use Rattle.kernel_code.specs.declared.syntax.Arr.{Arr}
 use Rattle.kernel_code.specs.declared.syntax.KExpr.{Var}
 use Rattle.kernel_code.specs.declared.syntax.KStmt.{KStmt, Set}
 use Rattle.level_core.specs.Fragments.{RefusedWithin}
-use Rattle.tensor_map.specs.declared.entries.Entry.{Entry}
 use Rattle.tensor_storage.specs.Storages.{in_level_order}
-use Rattle.result_targets.specs.Scratch.{IsThere, SameButLists}
+use Rattle.result_targets.specs.Scratch.{IsThere}
 use Rattle.result_targets.specs.Sinks.{Adds, AddsTo, VarsAre}
-use Rattle.appended_results.specs.Heads.{IsHead}
 use Rattle.appended_results.specs.Levels.{IsMine, IsKept}
 use Rattle.appended_results.specs.Codes.{AreKeys, IsOutsideResult}
-use Rattle.appended_results.specs.Results.{RefusesRows}
-use Rattle.appended_results.specs.Sink.{AppendedSink, letters_in, appended_sink, RefusesSome, IsRowCode, IsCopiedRow, copy_code}
+use Rattle.appended_results.specs.Sink.{AppendedSink, letters_in, appended_sink, IsRowCode, IsCopiedRow, copy_code}
 use Rattle.appended_results.specs.SinkLaws.{appended_laws, many_letters}
 use Rattle.appended_results.specs.Values.{add_code}
-use Rattle.appended_results.proofs.WholeRows.{HasRows, adds_row}
+use Rattle.appended_results.proofs.WholeRows.{adds_row}
 
 var_at : (keys xs : List ℕ) (s : State) (e : ℕ) → VarsAre keys xs s → e < length keys
     → s.vars (slice_index keys e) ≡ Some (slice_index xs e)
@@ -45,18 +40,13 @@ vars_from (y ∷ ys) [] s many h = absurd (omega (arith, many))
 vars_from (y ∷ ys) (x ∷ xs) s many h =
     (h 0 (omega arith), vars_from ys xs s (omega (arith, many)) (λ e l. h (suc e) (omega (arith, l))))
 
-all_at : (keys : List ℕ) (free e : ℕ) → All (λ y. y < free) keys → e < length keys → slice_index keys e < free
-all_at [] free e a h = absurd (omega (arith, h))
-all_at (y ∷ ys) free zero a h = a.0
-all_at (y ∷ ys) free (suc e) a h = all_at ys free e a.1 (omega (arith, h))
-
 -- keys beside the sink's variables
 pub are_keys : (levels base free : ℕ) (keys : List ℕ) → length keys ≡ levels → All (λ y. y < free) keys
     → ((e : ℕ) → e < length keys → IsMine base levels (slice_index keys e) → ⊥) → AreKeys levels base free keys
 are_keys levels base free keys many low other = record {
   many = many;
   outside = λ e h.
-      record { below = all_at keys free e low (omega (arith, h, many)); other = other e (omega (arith, h, many)) };
+      record { below = low e 0 (omega (arith, h, many)); other = other e (omega (arith, h, many)) };
 }
 
 pub row_adds : (k : AppendedSink) (keys : List ℕ) (value free : ℕ) (code : List KStmt) → AreKeys (length k.levels) k.base free keys
@@ -93,7 +83,7 @@ copies c free keys xs s low now (suc n) h =
     does_append c (copy_code free keys n) (Set (free + n) (Var (slice_index keys n)) ∷ []) s _ _ _
     (copies c free keys xs s low now n (omega (arith, h)))
     (λ t k.
-    let y = all_at keys free n low (omega (arith, h)) in
+    let y = low n 0 (omega (arith, h)) in
     does_set c (free + n) (Var (slice_index keys n)) [] t (slice_index xs n) _ _
     (k.leaves.below (slice_index keys n) y (λ never. never) ∙ now n (omega (arith, h)))
     (does_nothing c (set_var t (free + n) (slice_index xs n)) _ _ (record {
@@ -110,36 +100,35 @@ copies c free keys xs s low now (suc n) h =
         subst (λ m. (set_var t (free + n) (slice_index xs n)).vars (free + m) ≡ Some (slice_index xs m)) (sym same)
         (this_var t (free + n) (slice_index xs n))
 
+pub range_more : (from n : ℕ) → range_with_len from (suc n) ≡ range_with_len from n ++ (from + n) ∷ []
+range_more from zero = let same : from ≡ from + 0 = omega arith in ap (λ k. k ∷ []) same
+range_more from (suc n) =
+    let same : from + 1 + n ≡ from + suc n = omega arith in
+    ap (λ ks. from ∷ ks) (range_more (from + 1) n ∙ ap (λ k. range_with_len (from + 1) n ++ k ∷ []) same)
+
+-- variables behind the sink's
+pub range_keys : (levels base free n : ℕ) → n ≡ levels → base + 4 * levels ≤ free
+    → AreKeys levels base (free + n + 1) (range_with_len free n)
+range_keys levels base free n many below = record {
+  many = length-range_with_len free n ∙ many;
+  outside = λ e h.
+      let at = get_or-range_with_len free n e 0 (omega (arith, h, many)) in
+      record {
+        below = omega (arith, at, h, many);
+        other = λ mine. let b = mine.before in omega (arith, b, at, below);
+      };
+}
+
 there_still : (old new : Option (List ℕ)) → new ≡ old → IsThere old → IsThere new
 there_still old new same h = subst IsThere (sym same) h
 
 module _ (k : AppendedSink) (keys : List ℕ) (value free : ℕ) (code : List KStmt) (many : length keys ≡ length k.levels)
     (below : k.base + 4 * length k.levels ≤ free) (low : All (λ y. y < free) keys) (under : value < free)
     (copied : IsCopiedRow k keys value free code) where
-  abbrev moved : List ℕ
-  moved = range_with_len free (length keys)
-
-  moved_at : (e : ℕ) → e < length keys → slice_index (range_with_len free (length keys)) e ≡ free + e
-  moved_at e h = get_or-range_with_len free (length keys) e 0 h
-
-  moved_many : length (range_with_len free (length keys)) ≡ length keys
-  moved_many = length-range_with_len free (length keys)
-
-  moved_keys : AreKeys (length k.levels) k.base (free + length keys + 1) (range_with_len free (length keys))
-  moved_keys = record {
-    many = moved_many ∙ many;
-    outside = λ e h.
-        let at = moved_at e (omega (arith, h, many)) in
-        record {
-          below = omega (arith, at, h, many);
-          other = λ mine. let b = mine.before in omega (arith, b, at, below);
-        };
-  }
-
   moved_adds : AddsTo appended_sink k (range_with_len free (length keys)) (free + length keys) (free + length keys + 1) copied.row
   moved_adds =
-      row_adds k (range_with_len free (length keys)) (free + length keys) (free + length keys + 1) copied.row moved_keys
-      (record { below = omega arith; other = λ mine. let b = mine.before in omega (arith, b, below) }) copied.adds
+      row_adds k (range_with_len free (length keys)) (free + length keys) (free + length keys + 1) copied.row
+      (range_keys (length k.levels) k.base free (length keys) many below) (record { below = omega arith; other = λ mine. let b = mine.before in omega (arith, b, below) }) copied.adds
 
   pub copied_adds : AddsTo appended_sink k keys value free code
   copied_adds c laws mine ranges rows one comes s vars value_is holds =
@@ -170,8 +159,10 @@ module _ (k : AppendedSink) (keys : List ℕ) (value free : ℕ) (code : List KS
       added t now told l =
           does_weaker c copied.row t _ _ _ _
           (moved_adds c laws (λ y m. let f = mine y m in omega (arith, f)) ranges rows one comes t
-          (vars_from (range_with_len free (length keys)) one.coords t (moved_many ∙ sym long)
-          (λ e h. ap (λ y. t.vars y) (moved_at e (omega (arith, h, moved_many))) ∙ now e (omega (arith, h, moved_many)))) told
+          (vars_from (range_with_len free (length keys)) one.coords t (length-range_with_len free (length keys) ∙ sym long)
+          (λ e h.
+          let l = length-range_with_len free (length keys) in
+          ap (λ y. t.vars y) (get_or-range_with_len free (length keys) e 0 (omega (arith, h, l))) ∙ now e (omega (arith, h, l)))) told
           (appended_laws.same k c.arithmetic ranges rows s t (λ y m. l.below y (mine y m) (λ never. never))
           (record {
             same = λ b h. l.arrays b tt;
@@ -186,15 +177,3 @@ module _ (k : AppendedSink) (keys : List ℕ) (value free : ℕ) (code : List KS
             r.1,
           ))
           (λ turns b count z. ((λ j. let x = z.0 j in let w = l.turns j in omega (arith, x, w)), z.1))
-
--- where there is no head or no room, the sink holds no rows
-pub adds_nowhere : (k : AppendedSink) (keys : List ℕ) (value free : ℕ) (code : List KStmt)
-    → (IsHead (letters_in k) k.head → k.base + 4 * length k.levels ≤ free → ⊥) → AddsTo appended_sink k keys value free code
-adds_nowhere k keys value free code none c laws mine ranges rows one comes s vars value_is holds =
-    let is = holds.may.is_head in
-    let some = is.some in
-    let within = is.within in
-    let many = many_letters k.levels in
-    let last = mine (k.base + 4 * length k.levels - 1)
-    (record { from = omega (arith, some, within, many); before = omega (arith, some, within, many) }) in
-    absurd (none is (omega (arith, last, some, within, many)))

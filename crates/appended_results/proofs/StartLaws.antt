@@ -1,16 +1,15 @@
 -- Before the first row a result holds no rows.
-use Rattle.std.specs.Prelude.{◌≡◌, ℕ, suc, ◌+◌, ◌*◌, ◌≤◌, ◌<◌, true, false, Bool, if◌then◌else◌, List, [], length, replicate, slice_index}
+use Rattle.std.specs.Prelude.{◌≡◌, ℕ, suc, List, [], length, replicate, slice_index}
 use Rattle.std.specs.Prelude.{refl}
-use Rattle.std.proofs.Common.{◌∙◌, sym, ap, subst, arith}
+use Rattle.std.proofs.Common.{◌∙◌, sym, subst, arith}
 use Rattle.std.proofs.lemmas.List.{length-replicate}
 use Rattle.numbers.specs.Arithmetic.{Arithmetic}
 use Rattle.kernel_code.specs.Meaning.{State}
 use Rattle.kernel_code.specs.declared.syntax.Arr.TheVariants.{Values}
 use Rattle.level_core.specs.declared.letter.Letter.{Letter}
-use Rattle.level_core.specs.Kinds.{properties, parents_below}
+use Rattle.level_core.specs.Kinds.{parents_below}
 use Rattle.tensor_storage.specs.Storages.{in_level_order}
-use Rattle.appended_results.specs.Heads.{letter_at, key_in}
-use Rattle.appended_results.specs.Places.{positions_above}
+use Rattle.appended_results.specs.Heads.{letter_at}
 use Rattle.appended_results.specs.Rows.{all_positions}
 use Rattle.appended_results.specs.Begins.{Beginning}
 use Rattle.appended_results.specs.Results.{HoldsRows}

@@ -1,11 +1,11 @@
 -- The sums at a result's positions, where a head is appended and where a row is added.
-use Rattle.std.specs.Prelude.{◌≡◌, ◌≢◌, ◌⊎◌, ℕ, zero, suc, ◌+◌, ◌-◌, ◌*◌, ◌^◌, ◌≤◌, ◌<◌, Bool, true, false, List, [], ◌∷◌, ◌++◌, length}
+use Rattle.std.specs.Prelude.{◌≡◌, ◌⊎◌, ℕ, zero, suc, ◌+◌, ◌-◌, ◌*◌, ◌^◌, ◌≤◌, ◌<◌, List, [], ◌∷◌, ◌++◌, length}
 use Rattle.std.specs.Prelude.{drop}
-use Rattle.std.specs.Prelude.{slice_index, slice_index_or, slice_set, replicate, refl}
-use Rattle.std.proofs.Common.{◌∙◌, sym, ap, subst, arith, inl, inr}
-use Rattle.std.proofs.lemmas.Bool.{cases_lt, cases_order}
-use Rattle.std.proofs.lemmas.List.{get_or_append_left, get_or-append_right, get_or_push, get_or-set_same, get_or-set_other, length-set}
-use Rattle.std.proofs.lemmas.List.{length-append, length-replicate, length_push, drop_all}
+use Rattle.std.specs.Prelude.{slice_index, slice_set, refl}
+use Rattle.std.proofs.Common.{◌∙◌, sym, ap, arith, inl, inr}
+use Rattle.std.proofs.lemmas.Bool.{cases_order}
+use Rattle.std.proofs.lemmas.List.{get_or-set_same, get_or-set_other, length-set}
+use Rattle.std.proofs.lemmas.List.{drop_all}
 use Rattle.numbers.specs.Arithmetic.{Arithmetic, Laws}
 use Rattle.numbers.proofs.Sums.{total_fits}
 use Rattle.tensor_map.specs.declared.entries.Entry.{Entry}
@@ -15,12 +15,9 @@ use Rattle.tensor_map.proofs.Lemmas.{tested, value_append, value_here, value_els
 use Rattle.tns_io.specs.Positions.{product, IsBelow, position}
 use Rattle.tns_io.proofs.PositionLaws as positions
 use Rattle.level_core.specs.declared.letter.Letter.{Letter}
-use Rattle.level_core.specs.Kinds.{properties}
-use Rattle.level_rows.specs.Tables.{Increase}
-use Rattle.tensor_storage.proofs.PackSteps.{all_same}
-use Rattle.level_appends.proofs.Keys.{SameKey, same_row}
+use Rattle.level_appends.proofs.Keys.{same_row}
 use Rattle.level_appends.proofs.Placed.{full_within, one_place}
-use Rattle.appended_results.specs.Heads.{letter_at, IsHead, key_in}
+use Rattle.appended_results.specs.Heads.{IsHead, key_in}
 use Rattle.appended_results.specs.Places.{place_above, positions_above}
 use Rattle.appended_results.specs.Levels.{MayHold}
 use Rattle.appended_results.specs.Rows.{all_positions}

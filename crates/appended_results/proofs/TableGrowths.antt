@@ -1,9 +1,9 @@
 -- A growth that is refused where rows are appended is one that the table of the whole result tells to be too large.
-use Rattle.std.specs.Prelude.{◌≡◌, ◌⊎◌, ℕ, zero, suc, ◌+◌, ◌*◌, ◌≤◌, ◌<◌, Bool, true, false, if◌then◌else◌, List, [], ◌∷◌, ◌++◌, length}
-use Rattle.std.specs.Prelude.{◌-◌, take, drop, not, slice_index, slice_index_or, refl}
+use Rattle.std.specs.Prelude.{◌≡◌, ◌⊎◌, ℕ, zero, suc, ◌+◌, ◌*◌, ◌≤◌, ◌<◌, Bool, true, false, if◌then◌else◌, List, ◌∷◌, ◌++◌, length}
+use Rattle.std.specs.Prelude.{◌-◌, drop, not, slice_index, refl}
 use Rattle.std.proofs.Common.{◌∙◌, sym, ap, subst, arith, inl, inr}
 use Rattle.std.proofs.Math.Nat.{mul-le-mul_right}
-use Rattle.std.proofs.lemmas.Bool.{cases_lt, cases_order}
+use Rattle.std.proofs.lemmas.Bool.{cases_lt}
 use Rattle.std.proofs.lemmas.List.{get_or_append_left, get_or-take, length-append}
 use Rattle.kernel_code.specs.declared.syntax.Arr.{Arr}
 use Rattle.kernel_code.specs.Widths.{slot_width}
@@ -20,9 +20,9 @@ use Rattle.tensor_storage.specs.Counts.{different, greatest_below, positions_at,
 use Rattle.tensor_storage.specs.Tables.{Table, agree, begins_at}
 use Rattle.tensor_storage.proofs.Counts.{begun_is}
 use Rattle.tensor_storage.proofs.Tables.{apart, agree_tells, agree_from}
-use Rattle.level_appends.proofs.Keys.{SameKey, KeyBefore, key_sym, before_along, row_order}
-use Rattle.appended_results.specs.Heads.{letter_at, IsHead, AreAppended, key_in, row_at, AreHeads}
-use Rattle.appended_results.specs.Places.{through, first_at, positions_above, rows_above}
+use Rattle.level_appends.proofs.Keys.{SameKey, key_sym, before_along, row_order}
+use Rattle.appended_results.specs.Heads.{letter_at, AreAppended, key_in, row_at, AreHeads}
+use Rattle.appended_results.specs.Places.{through, first_at, positions_above}
 use Rattle.appended_results.specs.Levels.{MayHold, PassesPlace}
 use Rattle.appended_results.specs.Sink.{RefusesSome}
 use Rattle.appended_results.specs.Tables.{NamesRows, PassesTable}
@@ -64,18 +64,21 @@ module _ (heads coords : ℕ → ℕ → ℕ) (head order n count : ℕ) (rise :
           agrees : (b : Bool) → not b ≡ false → b ≡ true
           agrees true e = refl
           agrees false e = sym e
-  begun_between m i (suc more) h unlike = by_first (agree coords m i (i + suc more)) refl
+  begun_between m i (suc more) h unlike =
+      by_first (begun_between m i more (omega (arith, h))) (agree coords m i (i + suc more)) refl
     where
       next : i + suc (suc more) ≡ suc (i + suc more)
       next = omega arith
 
-      by_first : (b : Bool) → agree coords m i (i + suc more) ≡ b
+      by_first : ((SameKey m (λ d. coords d i) (λ d. coords d (i + suc more)) → ⊥)
+          → begun (begins_at coords m) (suc i) < begun (begins_at coords m) (suc (i + suc more)))
+          → (b : Bool) → agree coords m i (i + suc more) ≡ b
           → begun (begins_at coords m) (suc i) < begun (begins_at coords m) (suc (i + suc (suc more)))
-      by_first false is =
-          let before = begun_between m i more (omega (arith, h)) (λ s. apart (sym (agree_from coords m i (i + suc more) s) ∙ is)) in
+      by_first less false is =
+          let before = less (λ s. apart (sym (agree_from coords m i (i + suc more) s) ∙ is)) in
           let after = begun_upto (rows (begins_at coords m)) (suc (i + suc more)) (suc (i + suc (suc more))) (omega arith) in
           omega (arith, before, after)
-      by_first true is = by_last (begins_at coords m (suc (i + suc more))) refl
+      by_first less true is = by_last (begins_at coords m (suc (i + suc more))) refl
         where
           agrees : (b : Bool) → not b ≡ false → b ≡ true
           agrees true e = refl
@@ -168,24 +171,22 @@ module _ (letters : List Letter) (sizes : List ℕ) (table : Table) (appended : 
           ∙ sym (begun_is table.coords (length letters) table.count (through letters d) table.count up (omega arith))
           ∙ sym (ap (λ f. if f then tabled d * slice_index sizes d else begun (first_at letters table.coords d) table.count) sparse)
 
-  pub tabled_from : (e d : ℕ) → d + e < length letters
-      → slice_index (positions_from table d (tabled d) (drop d letters) (drop d sizes)) e ≡ tabled (suc (d + e))
-  tabled_from e d h =
-      ap (λ ls. slice_index (positions_from table d (tabled d) ls (drop d sizes)) e) (letters_from letters d (omega (arith, h)))
+  tabled_here : (e d : ℕ) → d < length letters
+      → slice_index (positions_from table d (tabled d) (drop d letters) (drop d sizes)) e
+      ≡ slice_index (tabled (suc d) ∷ positions_from table (suc d) (tabled (suc d)) (drop (suc d) letters) (drop (suc d) sizes)) e
+  tabled_here e d h =
+      ap (λ ls. slice_index (positions_from table d (tabled d) ls (drop d sizes)) e) (letters_from letters d h)
       ∙ ap (λ ns. slice_index (positions_from table d (tabled d) (letter_at letters d ∷ drop (suc d) letters) ns) e)
       (drop_step sizes d (omega (arith, h, each)))
-      ∙ by_step e h
-    where
-      by_step : (e : ℕ) → d + e < length letters
-          → slice_index (positions_from table d (tabled d) (letter_at letters d ∷ drop (suc d) letters)
-          (slice_index sizes d ∷ drop (suc d) sizes)) e ≡ tabled (suc (d + e))
-      by_step zero h =
-          let same : d ≡ d + 0 = omega arith in tabled_at d (omega (arith, h)) ∙ ap (λ k. tabled (suc k)) same
-      by_step (suc e) h =
-          let same : suc d + e ≡ d + suc e = omega arith in
-          ap (λ p. slice_index (positions_from table (suc d) p (drop (suc d) letters) (drop (suc d) sizes)) e)
-          (tabled_at d (omega (arith, h)))
-          ∙ tabled_from e (suc d) (omega (arith, h)) ∙ ap (λ k. tabled (suc k)) same
+      ∙ ap (λ p. slice_index (p ∷ positions_from table (suc d) p (drop (suc d) letters) (drop (suc d) sizes)) e) (tabled_at d h)
+
+  pub tabled_from : (e d : ℕ) → d + e < length letters
+      → slice_index (positions_from table d (tabled d) (drop d letters) (drop d sizes)) e ≡ tabled (suc (d + e))
+  tabled_from zero d h =
+      let same : d ≡ d + 0 = omega arith in tabled_here 0 d (omega (arith, h)) ∙ ap (λ k. tabled (suc k)) same
+  tabled_from (suc e) d h =
+      let same : suc d + e ≡ d + suc e = omega arith in
+      tabled_here (suc e) d (omega (arith, h)) ∙ tabled_from e (suc d) (omega (arith, h)) ∙ ap (λ k. tabled (suc k)) same
 
 -- heads that the table's rows have tell no more positions than it does
 module _ (letters : List Letter) (sizes : List ℕ) (head : ℕ) (heads : List (List ℕ)) (may : MayHold letters sizes head heads)
@@ -230,7 +231,7 @@ module _ (letters : List Letter) (sizes : List ℕ) (head : ℕ) (rows front res
   front_row i h = let k = ap length is in let l = length-append front rest in omega (arith, h, k, l)
 
   -- the table's row of a head
-  row_of : (j : ℕ) → j < length heads → (k : ℕ) × (k < table.count) × SameKey head (λ d. table.coords d k) (λ d. key_in heads d j)
+  pub row_of : (j : ℕ) → j < length heads → (k : ℕ) × (k < table.count) × SameKey head (λ d. table.coords d k) (λ d. key_in heads d j)
   row_of j h =
       let s = are.some j h in
       let r = names.each s.0 (front_row s.0 s.1) in (

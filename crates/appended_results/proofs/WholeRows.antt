@@ -1,5 +1,5 @@
 -- A row comes: its head is appended unless it is the last one, and its value is added.
-use Rattle.std.specs.Prelude.{◌≡◌, ◌⊎◌, ℕ, zero, suc, ◌+◌, ◌-◌, ◌≤◌, ◌<◌, true, false, List, [], ◌∷◌, ◌++◌, length, take, drop}
+use Rattle.std.specs.Prelude.{◌≡◌, ◌⊎◌, ℕ, zero, suc, ◌+◌, ◌-◌, ◌≤◌, ◌<◌, List, [], ◌∷◌, ◌++◌, length, take, drop}
 use Rattle.std.specs.Prelude.{slice_index, Some, refl}
 use Rattle.std.proofs.Common.{◌∙◌, sym, ap, subst, arith, inl, inr}
 use Rattle.std.proofs.lemmas.List.{get_or-take, ext_get_or, length-take-le, take-append-drop, drop_all, get_or_push, length_push}
@@ -15,18 +15,17 @@ use Rattle.tns_io.specs.Positions.{IsBelow}
 use Rattle.tns_io.proofs.PositionLaws.{below_long}
 use Rattle.level_core.specs.declared.letter.Letter.{Letter}
 use Rattle.level_core.specs.Fragments.{RefusedWithin}
-use Rattle.level_core.specs.Kinds.{properties}
-use Rattle.appended_results.specs.Heads.{letter_at, key_in, AreHeads}
+use Rattle.appended_results.specs.Heads.{AreHeads}
 use Rattle.appended_results.specs.Levels.{IsMine, IsKept, MayHold}
 use Rattle.appended_results.specs.Codes.{AreKeys, IsOutsideResult}
 use Rattle.appended_results.specs.Rows.{HoldsHeads}
-use Rattle.appended_results.specs.Opening.{ComesNext, IsOpen, Opens, RefusesHead, OpensHead}
+use Rattle.appended_results.specs.Opening.{ComesNext, IsOpen, Opens, OpensHead}
 use Rattle.appended_results.specs.Sums.{head_at, HoldsSums}
 use Rattle.appended_results.specs.Values.{add_code, HaveTail}
 use Rattle.appended_results.specs.Results.{HoldsRows, MayCome, RefusesRows}
 use Rattle.appended_results.proofs.SumLaws.{drop_step}
 use Rattle.appended_results.proofs.NewHeads.{head_added}
-use Rattle.appended_results.proofs.AddLaws.{HasRow, adds_value}
+use Rattle.appended_results.proofs.AddLaws.{adds_value}
 use Rattle.appended_results.proofs.RowHeads.{each_at, heads_same, heads_more, head_follows, head_fresh}
 
 below_at : (ns xs : List ℕ) (m : ℕ) → IsBelow ns xs → m < length ns → slice_index xs m < slice_index ns m

@@ -1,6 +1,6 @@
 -- The laws of the sink.
-use Rattle.std.specs.Prelude.{◌≡◌, ℕ, suc, ◌+◌, ◌<◌, false, List, ◌++◌, length, slice_index, refl}
-use Rattle.std.proofs.Common.{◌∙◌, sym, ap, arith}
+use Rattle.std.specs.Prelude.{◌≡◌, ℕ, suc, false, List, ◌++◌, length, slice_index, refl}
+use Rattle.std.proofs.Common.{◌∙◌, ap, arith}
 use Rattle.std.proofs.lemmas.List.{length-map, append_assoc}
 use Rattle.kernel_code.specs.Meaning.{State}
 use Rattle.kernel_code.specs.declared.syntax.Arr.{Arr}
@@ -16,11 +16,11 @@ use Rattle.tensor_storage.specs.Levels.{meaning}
 use Rattle.tensor_storage.specs.Storages.{in_level_order}
 use Rattle.level_appends.specs.Appended.{IsOfCursor}
 use Rattle.level_appends.proofs.Keeping.{level_there}
-use Rattle.result_targets.specs.Scratch.{is_scratch, SameButLists}
+use Rattle.result_targets.specs.Scratch.{is_scratch}
 use Rattle.result_targets.specs.Sinks.{SinkLaws}
 use Rattle.appended_results.specs.Heads.{letter_at, key_in}
 use Rattle.appended_results.specs.Places.{positions_above, rows_above}
-use Rattle.appended_results.specs.Levels.{cursor_at, key_at, IsMine, LevelHolds}
+use Rattle.appended_results.specs.Levels.{cursor_at, key_at, LevelHolds}
 use Rattle.appended_results.specs.Sink.{letters_in, appended_sink}
 pub use Rattle.appended_results.specs.declared.sink.AppendedSink.{AppendedSink}
 

@@ -1,5 +1,5 @@
-use Rattle.std.specs.Prelude.{ℕ, ◌++◌}
-use Rattle.std.proofs.Common.{◌∙◌, sym, subst, arith, ap}
+use Rattle.std.specs.Prelude.{◌++◌}
+use Rattle.std.proofs.Common.{◌∙◌, arith, ap}
 use Rattle.appended_results.proofs.FullSteps.{places_at_level}
 use Rattle.appended_results.proofs.levels.place_head.Goals as goal
 

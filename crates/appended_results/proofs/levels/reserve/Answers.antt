@@ -1,4 +1,4 @@
-use Rattle.std.specs.Prelude.{ℕ, suc, ◌+◌, ◌*◌}
+use Rattle.std.specs.Prelude.{suc, ◌+◌, ◌*◌}
 use Rattle.std.proofs.Common.{◌∙◌, sym, subst}
 use Rattle.kernel_code.specs.declared.syntax.KExpr.{Var}
 use Rattle.level_appends.specs.declared.site.AppendSite.{AppendSite}
