@@ -1,8 +1,11 @@
-use Rattle.std.specs.Prelude.{◌++◌, length}
+use Rattle.std.specs.Prelude.{◌+◌, ◌*◌, ◌++◌, length}
 use Rattle.std.proofs.Common.{◌∙◌, sym, ap, subst, arith}
-use Rattle.format_spec.specs.Formats.{IsFormat}
+use Rattle.format_spec.specs.Formats.{IsFormat, letters_of}
 use Rattle.iteration_graph.specs.Edges.{format_of}
 use Rattle.concrete_notation.specs.Workspaces.{AreAllDense}
+use Rattle.term_code.specs.Places.{StartsAt}
+use Rattle.appended_results.specs.Begins.{BeginsFirst}
+use Rattle.appended_results.specs.Ends.{EndsFirst}
 use Rattle.taco_compiler.proofs.AppendedKernels.{appended_compiled, places_from, sink_fits}
 use Rattle.taco_compiler.proofs.appended.appended_kernel.Goals as goal
 
@@ -23,11 +26,18 @@ returns-clause-compiled g c =
       format = subst (λ t. IsFormat (format_of formats t)) result c.requires.ready.formed.0;
       some = λ dense. c.requires.some (subst (λ t. AreAllDense (format_of formats t)) (sym result) dense);
     } in
+    let levels = c.as_slice.ensures in
+    let top = subst (λ ls. StartsAt (sink.base + 4 * length ls) c.in_ok-body.body) levels c.in_ok-body.ensures in
+    let begin = subst (λ ls. BeginsFirst (letters_of ls) (length ls) sink.base (length ls) c.in_ok-begin.begin) levels
+    c.in_ok-begin.ensures in
+    let end = subst (λ ls. EndsFirst (letters_of ls) sink.base (sink.base + 4 * length ls) (length ls) c.in_ok-end.end) levels
+    c.in_ok-end.ensures in
     appended_compiled a g.met.S.Semiring.laws s formats order
     (record { ordered = ordered; read = c.requires.ready.right; none = c.requires.none }) rows.loops rows.are sink
     (sink_fits a s formats sink ordered c.in_ok-sink.ensures.levels c.in_ok-sink.ensures.head c.in_ok-sink.ensures.zero)
-    rows.places rows.at (places_from s _ rows.places rows.variables rows.at) c.in_ok-body.body c.in_ok-begin.begin c.in_ok-end.end appended
-    c.in_ok-body.ensures ? _ _ (omega arith) rows.adds ? (record {
+    rows.places rows.at (places_from s (sink.base + 4 * length sink.levels) rows.places rows.variables rows.at) c.in_ok-body.body
+    c.in_ok-begin.begin c.in_ok-end.end appended top begin (sink.base + 4 * length sink.levels + 3) (sink.base + 4 * length sink.levels)
+    (omega arith) rows.adds end (record {
       semiring = c.in_ok-semiring.semiring;
       workspaces = c.new.result;
       lists = appended.lists;
