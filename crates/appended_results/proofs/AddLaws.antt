@@ -1,12 +1,12 @@
 -- A row's value is added at its position.
-use Rattle.std.specs.Prelude.{◌≡◌, ℕ, zero, suc, ◌+◌, ◌-◌, ◌*◌, ◌^◌, ◌≤◌, ◌<◌, true, false, List, [], ◌∷◌, ◌++◌, length, drop, slice_index, slice_set}
+use Rattle.std.specs.Prelude.{◌≡◌, ℕ, suc, ◌+◌, ◌-◌, ◌*◌, ◌^◌, ◌≤◌, ◌<◌, false, List, [], ◌∷◌, ◌++◌, length, drop}
+use Rattle.std.specs.Prelude.{slice_index, slice_set}
 use Rattle.std.specs.Prelude.{Some, refl}
-use Rattle.std.proofs.Common.{◌∙◌, sym, ap, subst, arith}
+use Rattle.std.proofs.Common.{◌∙◌, sym, ap, arith}
 use Rattle.std.proofs.Math.Nat.{mul-le-mul_left}
 use Rattle.limits.specs.Limits.{greatest_position_count}
 use Rattle.limits.proofs.Limits.{positions_are_small}
 use Rattle.numbers.specs.Arithmetic.{Arithmetic, Laws}
-use Rattle.kernel_code.specs.Arrays.{same_arr}
 use Rattle.kernel_code.proofs.ArrayNames.{same_arr_self}
 use Rattle.kernel_code.specs.Does.{Does, Never}
 use Rattle.kernel_code.proofs.Does.{does_nothing, does_add_to}
@@ -17,7 +17,6 @@ use Rattle.kernel_code.specs.Meaning.{Setting, State, value, set_array}
 use Rattle.kernel_code.specs.declared.syntax.Arr.TheVariants.{Values, Dimension}
 use Rattle.kernel_code.specs.declared.syntax.Op.TheVariants.{Add, Mul}
 use Rattle.kernel_code.specs.declared.syntax.KExpr.{KExpr, Num, Var, At, Bin}
-use Rattle.kernel_code.specs.declared.syntax.KStmt.{KStmt}
 use Rattle.tensor_map.specs.declared.entries.Entry.{Entry}
 use Rattle.tns_io.specs.Positions.{product, IsBelow, position}
 use Rattle.tns_io.proofs.PositionLaws as positions
@@ -26,9 +25,9 @@ use Rattle.level_core.specs.Kinds.{properties}
 use Rattle.level_rows.specs.Rows.{begun}
 use Rattle.level_rows.proofs.RowLaws.{begun_some}
 use Rattle.appended_results.specs.Heads.{letter_at, key_in}
-use Rattle.appended_results.specs.Places.{first_at, place_above, positions_above, rows_above}
+use Rattle.appended_results.specs.Places.{first_at, place_above, rows_above}
 use Rattle.appended_results.specs.Levels.{cursor_at, IsKept, MayHold}
-use Rattle.appended_results.specs.Rows.{HoldsHeads, all_positions}
+use Rattle.appended_results.specs.Rows.{HoldsHeads}
 use Rattle.appended_results.specs.Sums.{head_at, spot_of, HoldsSums}
 use Rattle.appended_results.specs.Values.{place_from, last_place, add_code, HaveTail}
 use Rattle.appended_results.proofs.LevelSteps.{sparse_place, sparse_positions, holds_there}
@@ -106,7 +105,8 @@ module _ (c : Setting) (laws : Laws c.arithmetic) (letters : List Letter) (sizes
       let sparse = may.is_head.last (head - 1) last in
       let at = (holds.levels (head - 1) (omega (arith, some, w))).appended sparse in
       let many = at.progress.appended.many in
-      let more = begun_some (rows_above letters sizes (key_in heads) (length heads) (head - 1)) (length heads) refl (omega (arith, is_last)) in
+      let more = begun_some (rows_above letters sizes (key_in heads) (length heads) (head - 1)) (length heads) refl
+      (omega (arith, is_last)) in
       let f = holds.few head w in
       let here = sparse_place letters sizes (key_in heads) (head - 1) j sparse in
       difference_is (Var (cursor_at base (head - 1) + 2)) (Num 1) (length at.log.coords) 1 s at.count_is refl
@@ -130,7 +130,8 @@ module _ (c : Setting) (laws : Laws c.arithmetic) (letters : List Letter) (sizes
       let sum = c.arithmetic.plus (slice_index words (spot_of letters sizes head heads j xs)) row.value in
       let after = slice_set words (spot_of letters sizes head heads j xs) sum in
       let t = set_array s (Values 0) after in
-      let told = place_told s head (last_place base head) (place_above letters sizes (key_in heads) head j) (drop head keys) (drop head sizes) xs
+      let told = place_told s head (last_place base head) (place_above letters sizes (key_in heads) head j) (drop head keys)
+      (drop head sizes) xs
       last_told have below (omega (arith, low, few, small)) in
       does_add_to c (Values 0) (place_from head (last_place base head) (drop head keys)) (Var var) [] s
       (spot_of letters sizes head heads j xs) row.value words _ _ told value_is refl held low

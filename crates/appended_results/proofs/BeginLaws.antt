@@ -1,5 +1,6 @@
 -- The cursors of all levels are set, and then no head is appended.
-use Rattle.std.specs.Prelude.{◌≡◌, ◌⊎◌, ℕ, suc, ◌+◌, ◌*◌, ◌≤◌, ◌<◌, Bool, true, false, List, [], ◌∷◌, ◌++◌, length, slice_index, All, Some, refl}
+use Rattle.std.specs.Prelude.{◌≡◌, ◌⊎◌, ℕ, suc, ◌+◌, ◌*◌, ◌≤◌, ◌<◌, Bool, true, false, List, [], ◌++◌, length, slice_index, All}
+use Rattle.std.specs.Prelude.{refl}
 use Rattle.std.proofs.Common.{◌∙◌, sym, ap, subst, arith, inl, inr}
 use Rattle.std.proofs.lemmas.Bool.{cases_lt}
 use Rattle.limits.specs.Limits.{greatest_position_count}
@@ -7,7 +8,7 @@ use Rattle.kernel_code.specs.Does.{Does, Never}
 use Rattle.kernel_code.proofs.Does.{does_weaker, does_nothing, does_append}
 use Rattle.kernel_code.specs.Keeps.{Leaves, EveryArray, no_turns}
 use Rattle.kernel_code.proofs.Keeps.{leaves_none}
-use Rattle.kernel_code.specs.Meaning.{Setting, State}
+use Rattle.kernel_code.specs.Meaning.{State}
 use Rattle.kernel_code.specs.declared.syntax.KStmt.{KStmt}
 use Rattle.level_core.specs.declared.letter.Letter.{Letter}
 use Rattle.level_core.specs.Kinds.{properties, capabilities}
@@ -19,11 +20,11 @@ use Rattle.tensor_storage.specs.Laws.{laws}
 use Rattle.tensor_storage.specs.Levels.{meaning}
 use Rattle.tensor_storage.proofs.Steps.{new_level, new_is}
 use Rattle.level_appends.specs.Appended.{IsOfCursor}
-use Rattle.level_appends.specs.Codes.{IsAtStart, BeginsCursor}
+use Rattle.level_appends.specs.Codes.{IsAtStart}
 use Rattle.level_appends.proofs.RowSteps.{level_begun}
 use Rattle.appended_results.specs.Heads.{letter_at, AreAppended, key_in}
 use Rattle.appended_results.specs.Places.{positions_above, rows_above}
-use Rattle.appended_results.specs.Levels.{cursor_at, IsMine, LevelHolds}
+use Rattle.appended_results.specs.Levels.{cursor_at, IsMine}
 use Rattle.appended_results.specs.Rows.{HoldsHeads}
 use Rattle.appended_results.specs.Begins.{Beginning, BeginsOne, BeginsFirst}
 
@@ -64,7 +65,8 @@ module _ (letters : List Letter) (levels base top d : ℕ) (inside : d < levels)
           }
       by_order e h sparse (inr from) =
           let same : e ≡ d = omega (arith, h, from) in
-          subst (λ k. IsAtStart (cursor_at base k) t) (sym same) (now (ap (λ k. (properties (letter_at letters k)).full) (sym same) ∙ sparse))
+          subst (λ k. IsAtStart (cursor_at base k) t) (sym same)
+          (now (ap (λ k. (properties (letter_at letters k)).full) (sym same) ∙ sparse))
 
 pub next_begun : (letters : List Letter) (levels base d : ℕ) → d < levels → (code more all : List KStmt)
     → BeginsFirst letters levels base d code → BeginsOne (letter_at letters d) (cursor_at base d) more → all ≡ code ++ more
@@ -84,7 +86,8 @@ next_begun letters levels base d inside code more all first one is c top above s
         (one_begun letters levels base top d inside above s t b t
         (leaves_none (IsOfCursor (cursor_at base d)) EveryArray top no_turns t) (λ sparse. absurd (apart (sym full ∙ sparse)))))
     by_full t b false sparse =
-        does_weaker c more t _ _ _ _ (one.sparse sparse c top t) (λ u k. one_begun letters levels base top d inside above s t b u k.0 (λ _. k.1))
+        does_weaker c more t _ _ _ _ (one.sparse sparse c top t)
+        (λ u k. one_begun letters levels base top d inside above s t b u k.0 (λ _. k.1))
         (λ turns a count never. never)
 
 -- a level as a kernel begins it
@@ -132,4 +135,7 @@ nothing_appended letters sizes head base top s0 s able each small few starts b =
         → AreAtStart (letter_at letters e) (slice_index sizes e) (positions_above letters sizes (key_in []) 0 e) 0 (suc e) s.arrays
     at_start e h =
         let at = starts e h in
-        record { size = λ full. b.leaves.arrays _ tt ∙ at.size full; zeros = λ array count is. b.leaves.arrays _ tt ∙ at.zeros array count is }
+        record {
+          size = λ full. b.leaves.arrays _ tt ∙ at.size full;
+          zeros = λ array count is. b.leaves.arrays _ tt ∙ at.zeros array count is;
+        }

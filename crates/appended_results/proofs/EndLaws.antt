@@ -1,8 +1,7 @@
 -- The levels are ended one below another.
-use Rattle.std.specs.Prelude.{◌≡◌, ◌≢◌, ◌⊎◌, ℕ, suc, ◌+◌, ◌*◌, ◌≤◌, ◌<◌, Bool, true, false, List, [], ◌∷◌, ◌++◌, length, slice_index, refl}
-use Rattle.std.proofs.Common.{◌∙◌, sym, ap, subst, arith, inl, inr}
+use Rattle.std.specs.Prelude.{◌≡◌, ◌⊎◌, ℕ, suc, ◌+◌, ◌*◌, ◌≤◌, ◌<◌, Bool, true, false, List, [], ◌++◌, length, slice_index, refl}
+use Rattle.std.proofs.Common.{◌∙◌, sym, subst, arith, inl, inr}
 use Rattle.std.proofs.lemmas.Bool.{cases_lt}
-use Rattle.std.proofs.lemmas.List.{append-nil}
 use Rattle.kernel_code.specs.Does.{Does, Never}
 use Rattle.kernel_code.proofs.Does.{does_weaker, does_nothing, does_append}
 use Rattle.kernel_code.specs.Keeps.{Leaves, NoVariable, no_turns}
@@ -13,16 +12,13 @@ use Rattle.kernel_code.specs.declared.syntax.Arr.TheVariants.{Values, Dimension}
 use Rattle.kernel_code.specs.declared.syntax.KStmt.{KStmt}
 use Rattle.level_core.specs.declared.letter.Letter.{Letter}
 use Rattle.level_core.specs.Fragments.{IsOf, IsOutside}
-use Rattle.level_core.specs.Kinds.{properties, capabilities}
+use Rattle.level_core.specs.Kinds.{properties}
 use Rattle.tensor_storage.specs.Laws.{laws}
 use Rattle.tensor_storage.specs.Levels.{meaning}
-use Rattle.level_appends.specs.Appended.{IsOfCursor, LevelFilled}
-use Rattle.level_appends.specs.Codes.{EndsLevel}
 use Rattle.level_appends.proofs.Fragments.{log_there}
 use Rattle.appended_results.specs.Heads.{letter_at, key_in}
 use Rattle.appended_results.specs.Places.{positions_above, rows_above}
-use Rattle.appended_results.specs.Levels.{cursor_at, IsKept, LevelHolds, MayHold}
-use Rattle.appended_results.specs.Rows.{HoldsHeads}
+use Rattle.appended_results.specs.Levels.{cursor_at, IsKept, MayHold}
 use Rattle.appended_results.specs.Ends.{LevelEnds, Ending, EndsOne, EndsFirst}
 use Rattle.appended_results.proofs.PlaceLaws.{may_append_at}
 use Rattle.appended_results.proofs.LevelSteps.{of_one, holds_there}
@@ -84,7 +80,8 @@ module _ (letters : List Letter) (base free d : ℕ) (inside : d < length letter
       apart : true ≡ false → ⊥
       apart e = cc
 
-      by_full : (f : Bool) → (properties (letter_at letters d)).full ≡ f → Does c more s (Ending letters sizes heads base free (suc d) s0) Never
+      by_full : (f : Bool) → (properties (letter_at letters d)).full ≡ f
+          → Does c more s (Ending letters sizes heads base free (suc d) s0) Never
       by_full true is =
           subst (λ k. Does c k s (Ending letters sizes heads base free (suc d) s0) Never) (sym (one.full is))
           (does_nothing c s _ _

@@ -1,5 +1,6 @@
 -- A level to which heads are appended is one to which the rows of a table are that name the same heads.
-use Rattle.std.specs.Prelude.{◌≡◌, ◌⊎◌, ℕ, zero, suc, ◌+◌, ◌-◌, ◌≤◌, ◌<◌, ◌&&◌, ◌==◌, not, Bool, true, false, List, [], ◌∷◌, length, drop, slice_index, refl}
+use Rattle.std.specs.Prelude.{◌≡◌, ◌⊎◌, ℕ, zero, suc, ◌+◌, ◌-◌, ◌≤◌, ◌<◌, ◌&&◌, ◌==◌, not, Bool, true, false, List, [], ◌∷◌, length, drop}
+use Rattle.std.specs.Prelude.{slice_index, refl}
 use Rattle.std.proofs.Common.{◌∙◌, sym, ap, subst, arith, inl, inr}
 use Rattle.std.proofs.lemmas.Bool.{cases_lt}
 use Rattle.std.proofs.lemmas.List.{drop_all}
@@ -62,7 +63,8 @@ last_unique letters head is chained = by_unique (properties (letter_at letters (
     branches (inr none) =
         subst (Chained (not (properties (letter_at letters (head - 1))).unique)) (drop_all head letters none) here
 
-    by_unique : (b : Bool) → (properties (letter_at letters (head - 1))).unique ≡ b → (properties (letter_at letters (head - 1))).unique ≡ true
+    by_unique : (b : Bool) → (properties (letter_at letters (head - 1))).unique ≡ b
+        → (properties (letter_at letters (head - 1))).unique ≡ true
     by_unique true u = u
     by_unique false u = apart (sym (ap not u) ∙ branches (cases_lt head (length letters)))
 
@@ -168,6 +170,7 @@ module _ (letters : List Letter) (sizes : List ℕ) (head : ℕ) (heads : List (
       record {
         log = f.log;
         held = f.held;
-        filled = refined_filled (rows_above letters sizes (key_in heads) (length heads) d) (rows_at (keys_of table d (through letters d)) ps)
+        filled = refined_filled (rows_above letters sizes (key_in heads) (length heads) d)
+            (rows_at (keys_of table d (through letters d)) ps)
             to refines (positions_above letters sizes (key_in heads) (length heads) d) f.log f.filled;
       }

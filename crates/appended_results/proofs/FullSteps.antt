@@ -1,6 +1,7 @@
 -- One head more at a full level of a result, which stores nothing.
-use Rattle.std.specs.Prelude.{◌≡◌, ◌≢◌, ◌⊎◌, ℕ, suc, ◌+◌, ◌*◌, ◌≤◌, ◌<◌, ◌&&◌, Bool, true, false, List, [], ◌∷◌, ◌++◌, length, slice_index, Some, refl}
-use Rattle.std.proofs.Common.{◌∙◌, sym, ap, subst, arith, inl, inr}
+use Rattle.std.specs.Prelude.{◌≡◌, ℕ, suc, ◌+◌, ◌*◌, ◌≤◌, ◌<◌, ◌&&◌, true, false, List, [], ◌∷◌, ◌++◌, length}
+use Rattle.std.specs.Prelude.{slice_index, Some, refl}
+use Rattle.std.proofs.Common.{◌∙◌, sym, ap, subst, arith, inr}
 use Rattle.limits.specs.Limits.{greatest_position_count}
 use Rattle.limits.proofs.Limits.{positions_are_small}
 use Rattle.kernel_code.specs.Does.{Does}
@@ -8,8 +9,7 @@ use Rattle.kernel_code.proofs.Does.{does_weaker, does_nothing, does_append, does
 use Rattle.kernel_code.specs.Keeps.{Leaves, EveryArray, no_turns}
 use Rattle.kernel_code.proofs.Keeps.{this_var, other_var, leaves_set, leaves_none}
 use Rattle.kernel_code.proofs.Words.{sum_is, product_is, word_is}
-use Rattle.kernel_code.specs.Meaning.{Setting, State, value, word_of, set_var}
-use Rattle.kernel_code.specs.declared.syntax.Arr.{Arr}
+use Rattle.kernel_code.specs.Meaning.{Setting, State, set_var}
 use Rattle.kernel_code.specs.declared.syntax.Arr.TheVariants.{Values, Dimension}
 use Rattle.kernel_code.specs.declared.syntax.Op.TheVariants.{Add, Mul}
 use Rattle.kernel_code.specs.declared.syntax.KExpr.{KExpr, Num, Var, At, Bin}
@@ -18,15 +18,15 @@ use Rattle.level_core.specs.declared.letter.Letter.{Letter}
 use Rattle.level_core.specs.Fragments.{IsOutside, RefusedWithin}
 use Rattle.level_core.specs.Kinds.{properties}
 use Rattle.level_appends.specs.Appended.{IsOfCursor}
-use Rattle.level_appends.specs.Positions.{PassesCount, IsOne, CountsPositions}
+use Rattle.level_appends.specs.Positions.{IsOne}
 use Rattle.level_appends.proofs.Placed.{full_within}
 use Rattle.appended_results.specs.Heads.{letter_at, key_in}
-use Rattle.appended_results.specs.Places.{first_at, place_above, positions_above, is_fixed}
+use Rattle.appended_results.specs.Places.{place_above, positions_above, is_fixed}
 use Rattle.appended_results.specs.Levels.{cursor_at, LevelHolds, MayHold, PassesPlace, Between}
 use Rattle.appended_results.specs.Codes.{place_full, AppendsLevel}
 use Rattle.appended_results.specs.Parts.{Counts, AsCounted, Recounted}
 use Rattle.appended_results.proofs.PlaceLaws.{fixed_positions, place_within}
-use Rattle.appended_results.proofs.LevelSteps.{one_more, between_next, holds_there, full_positions, full_place}
+use Rattle.appended_results.proofs.LevelSteps.{one_more, between_next, full_positions, full_place}
 
 apart : {A : Type 0} → true ≡ false → A
 apart e = absurd (never e)
@@ -188,7 +188,8 @@ places_at_level letters head base free d headed inside above test coord low full
     c sizes heads key may old_few values few s0 s held b tested coord_is =
     subst (λ k. Does c k s (Between letters sizes head base free heads key (suc d) s0)
     (RefusedWithin no_turns s0 (PassesPlace letters sizes (heads ++ key ∷ []) d))) (sym is)
-    (places_head letters head base free d inside above full count counts c sizes heads key may old_few values few s0 s held b headed coord low
+    (places_head letters head base free d inside above full count counts c sizes heads key may old_few values few s0 s held b
+    headed coord low
     (coord_is headed))
 
 -- and at one below it

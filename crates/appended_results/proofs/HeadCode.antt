@@ -1,38 +1,38 @@
 -- The whole code of one head: all levels, the values, and the head's coordinates.
-use Rattle.std.specs.Prelude.{◌≡◌, ◌≢◌, ◌⊎◌, ℕ, zero, suc, ◌+◌, ◌-◌, ◌*◌, ◌≤◌, ◌<◌, nat_le, ◌&&◌, Bool, true, false, List, [], ◌∷◌, ◌++◌, length, replicate}
+use Rattle.std.specs.Prelude.{◌≡◌, ◌≢◌, ◌⊎◌, ℕ, zero, suc, ◌+◌, ◌-◌, ◌*◌, ◌≤◌, ◌<◌, nat_le, ◌&&◌, Bool, true, false, List, [], ◌∷◌, ◌++◌}
+use Rattle.std.specs.Prelude.{length, replicate}
 use Rattle.std.specs.Prelude.{slice_index, Some, refl}
 use Rattle.std.proofs.Common.{◌∙◌, sym, ap, subst, arith, inl, inr}
 use Rattle.std.proofs.lemmas.Bool.{cases_lt}
 use Rattle.std.proofs.lemmas.Bool.Decides.{nat_tests}
-use Rattle.std.proofs.lemmas.List.{length_push, append_assoc}
+use Rattle.std.proofs.lemmas.List.{length_push}
 use Rattle.limits.specs.Limits.{greatest_position_count}
 use Rattle.limits.proofs.Limits.{positions_are_small, some_positions}
 use Rattle.kernel_code.specs.Arrays.{same_arr, may_have}
 use Rattle.kernel_code.proofs.ArrayNames.{same_arr_self}
 use Rattle.kernel_code.specs.Does.{Does, Never}
 use Rattle.kernel_code.proofs.Does.{does_weaker, does_nothing, does_append, does_set, does_extend}
-use Rattle.kernel_code.specs.Keeps.{Leaves, NoVariable, EveryArray, no_turns}
+use Rattle.kernel_code.specs.Keeps.{Leaves, EveryArray, no_turns}
 use Rattle.kernel_code.proofs.Keeps.{this_var, other_var, this_array, other_array, leaves_none, leaves_set}
 use Rattle.kernel_code.proofs.Words.{difference_is}
-use Rattle.kernel_code.specs.Meaning.{Setting, State, value, length_of, set_var, set_array}
+use Rattle.kernel_code.specs.Meaning.{Setting, State, length_of, set_var, set_array}
 use Rattle.kernel_code.specs.declared.syntax.Arr.{Arr}
 use Rattle.kernel_code.specs.declared.syntax.Arr.TheVariants.{Range, Values, Dimension, Ends, Coordinates, Width, Key, Sums}
 use Rattle.kernel_code.specs.declared.syntax.Arr.TheVariants.{ListCoordinates, ListPositions}
 use Rattle.kernel_code.specs.declared.syntax.Op.TheVariants.{Sub}
-use Rattle.kernel_code.specs.declared.syntax.KExpr.{KExpr, Num, Var, Len, Bin}
-use Rattle.kernel_code.specs.declared.syntax.KStmt.{KStmt, Set, Extend}
+use Rattle.kernel_code.specs.declared.syntax.KExpr.{Num, Var, Len, Bin}
+use Rattle.kernel_code.specs.declared.syntax.KStmt.{KStmt, Set}
 use Rattle.level_core.specs.declared.letter.Letter.{Letter}
 use Rattle.level_core.specs.Fragments.{IsOf, RefusedWithin}
 use Rattle.level_core.specs.Kinds.{properties}
-use Rattle.level_appends.specs.Appended.{IsOfCursor}
 use Rattle.appended_results.specs.Heads.{letter_at, key_in}
-use Rattle.appended_results.specs.Places.{positions_above, place_above, is_fixed}
-use Rattle.appended_results.specs.Levels.{cursor_at, key_at, IsMine, IsKept, LevelHolds, MayHold, PassesPlace, Between}
-use Rattle.appended_results.specs.Codes.{AppendsFirst, KeysTell, AreKeys, IsOutsideResult}
+use Rattle.appended_results.specs.Places.{positions_above, is_fixed}
+use Rattle.appended_results.specs.Levels.{key_at, IsMine, IsKept, LevelHolds, MayHold, PassesPlace, Between}
+use Rattle.appended_results.specs.Codes.{AppendsFirst, AreKeys}
 use Rattle.appended_results.specs.Rows.{HoldsHeads, all_positions, zeros_code, keep_code, HasHead, AppendsHead}
 use Rattle.appended_results.proofs.HeadLaws.{key_last}
 use Rattle.appended_results.proofs.PlaceLaws.{more_positions}
-use Rattle.appended_results.proofs.LevelSteps.{holds_there, one_more, same_coords}
+use Rattle.appended_results.proofs.LevelSteps.{holds_there, same_coords}
 
 -- the variables that keep a head's first n coordinates
 record IsKey (base n y : ℕ) : Type 0 where
@@ -64,7 +64,8 @@ module _ (c : Setting) (base : ℕ) (key keys : List ℕ) (s : State) (levels : 
         leaves = λ top. leaves_set (IsKey base (suc n)) EveryArray top no_turns s t (key_at base n) (slice_index key n)
             (λ y l e. record { level = n; inside = omega arith; is = sym e })
             (record {
-              below = λ y l m. (k.leaves top).below y l (λ is. m (record { level = is.level; inside = (let i = is.inside in omega (arith, i)); is = is.is }));
+              below = λ y l m. (k.leaves top).below y l (λ is. m
+                  (record { level = is.level; inside = (let i = is.inside in omega (arith, i)); is = is.is }));
               arrays = (k.leaves top).arrays;
               turns = (k.leaves top).turns;
             });
@@ -108,7 +109,8 @@ unfixed letters (suc d) e sparse h = by_order (λ less. unfixed letters d e spar
         ∙ ap (λ x. is_fixed letters d && x) sparse ∙ and_false (is_fixed letters d)
 
 module _ (letters : List Letter) (head base free nothing : ℕ) (keys : List ℕ) (are : AreKeys (length letters) base free keys)
-    (above : base + 4 * length letters ≤ free) (levels : List KStmt) (first : AppendsFirst letters head base free keys (length letters) levels)
+    (above : base + 4 * length letters ≤ free) (levels : List KStmt)
+    (first : AppendsFirst letters head base free keys (length letters) levels)
     (c : Setting) (sizes : List ℕ) (heads : List (List ℕ)) (key : List ℕ) (may : MayHold letters sizes head (heads ++ key ∷ []))
     (s : State) (holds : HoldsHeads letters sizes head base heads s) (values : List ℕ) (held : s.arrays (Values 0) ≡ Some values)
     (many : length values ≡ all_positions letters sizes heads)
@@ -153,7 +155,8 @@ module _ (letters : List Letter) (head base free nothing : ℕ) (keys : List ℕ
       few_none : (e : ℕ) → e ≡ 0
           → positions_above letters sizes (key_in (heads ++ key ∷ [])) (suc (length heads)) e ≤ greatest_position_count
       few_none e none =
-          subst (λ k. positions_above letters sizes (key_in (heads ++ key ∷ [])) (suc (length heads)) k ≤ greatest_position_count) (sym none)
+          subst (λ k. positions_above letters sizes (key_in (heads ++ key ∷ [])) (suc (length heads)) k ≤ greatest_position_count)
+          (sym none)
           some_positions
 
   module _ (t : State) (b : Between letters sizes head base free heads key (length letters) s t) where
@@ -193,7 +196,8 @@ module _ (letters : List Letter) (head base free nothing : ℕ) (keys : List ℕ
         holds = record {
           levels = level_now;
           few = λ e h.
-              subst (λ m. positions_above letters sizes (key_in (heads ++ key ∷ [])) m e ≤ greatest_position_count) (sym counted) (b.few e h);
+              subst (λ m. positions_above letters sizes (key_in (heads ++ key ∷ [])) m e ≤ greatest_position_count) (sym counted)
+              (b.few e h);
           last = λ e j h is.
               let at : j ≡ length heads = omega (arith, is, counted) in
               k.kept e h ∙ ap Some (sym (key_last heads key e)) ∙ ap (λ i. Some (key_in (heads ++ key ∷ []) e i)) (sym at);
@@ -231,7 +235,8 @@ module _ (letters : List Letter) (head base free nothing : ℕ) (keys : List ℕ
     ends =
         let small = positions_are_small in
         does_extend c (Values 0) (Bin Sub (Var (free + 2 * length letters + 1)) (Len (Values 0))) (Num nothing) (keep_code base keys head) t
-        (positions_above letters sizes (key_in (heads ++ key ∷ [])) (suc (length heads)) (length letters) - length values) nothing values _ _
+        (positions_above letters sizes (key_in (heads ++ key ∷ [])) (suc (length heads)) (length letters) - length values)
+        nothing values _ _
         (difference_is (Var (free + 2 * length letters + 1)) (Len (Values 0))
         (positions_above letters sizes (key_in (heads ++ key ∷ [])) (suc (length heads)) (length letters)) (length values) t
         (b.count not_fixed) (ap length_of value_now) (omega (arith, fits, small)) upto) refl refl value_now
@@ -244,14 +249,16 @@ module _ (letters : List Letter) (head base free nothing : ℕ) (keys : List ℕ
         too_few never_may =
             let all : length values + (positions_above letters sizes (key_in (heads ++ key ∷ [])) (suc (length heads)) (length letters)
             - length values) ≤ greatest_position_count = omega (arith, upto, fits) in
-            let yes : nat_le (length values + (positions_above letters sizes (key_in (heads ++ key ∷ [])) (suc (length heads)) (length letters)
+            let yes : nat_le (length values + (positions_above letters sizes (key_in (heads ++ key ∷ [])) (suc (length heads))
+            (length letters)
             - length values)) greatest_position_count ≡ true = grind (arith, nat_tests) in
             differs (sym yes ∙ never_may)
           where
             differs : true ≡ false → ⊥
             differs e = cc
 
-  whole : Does c (Set (free + 2 * 0) (Num 0) ∷ (levels ++ (zeros_code (free + 2 * length letters + 1) nothing ++ keep_code base keys head))) s
+  whole : Does c (Set (free + 2 * 0) (Num 0) ∷ (levels ++ (zeros_code (free + 2 * length letters + 1) nothing ++ keep_code base keys head)))
+      s
       (HasHead letters sizes head base free nothing heads key values s)
       (RefusedWithin no_turns s (λ a count. (e : ℕ) × (e < length letters) × PassesPlace letters sizes (heads ++ key ∷ []) e a count))
   whole =

@@ -1,24 +1,24 @@
 -- One head more at one level of a result.
-use Rattle.std.specs.Prelude.{◌≡◌, ◌≢◌, ◌⊎◌, ℕ, zero, suc, ◌+◌, ◌-◌, ◌*◌, ◌≤◌, ◌<◌, ◌^◌, Bool, true, false, if◌then◌else◌, List, [], ◌∷◌, ◌++◌}
+use Rattle.std.specs.Prelude.{◌≡◌, ◌≢◌, ◌⊎◌, ℕ, suc, ◌+◌, ◌-◌, ◌*◌, ◌≤◌, ◌<◌, Bool, true, false, if◌then◌else◌, List, [], ◌∷◌}
+use Rattle.std.specs.Prelude.{◌++◌}
 use Rattle.std.specs.Prelude.{length, slice_index, Some, refl}
 use Rattle.std.proofs.Common.{◌∙◌, sym, ap, subst, arith, inl, inr}
 use Rattle.std.proofs.lemmas.Bool.{cases_lt}
 use Rattle.std.proofs.lemmas.List.{length_push}
 use Rattle.limits.specs.Limits.{greatest_position_count}
 use Rattle.limits.proofs.Limits.{positions_are_small}
-use Rattle.kernel_code.specs.Arrays.{same_arr}
 use Rattle.kernel_code.specs.Does.{Does, Never}
 use Rattle.kernel_code.proofs.Does.{does_weaker, does_nothing, does_append, does_set, does_if_yes, does_if_no}
-use Rattle.kernel_code.specs.Keeps.{Leaves, NoVariable, EveryArray, Mentions, no_turns}
+use Rattle.kernel_code.specs.Keeps.{Leaves, NoVariable, Mentions, no_turns}
 use Rattle.kernel_code.proofs.Keeps.{this_var, other_var, leaves_set, leaves_none, value_kept}
-use Rattle.kernel_code.proofs.Words.{difference_is, sum_is, product_is, word_is}
+use Rattle.kernel_code.proofs.Words.{difference_is}
 use Rattle.kernel_code.specs.Meaning.{Setting, State, value, word_of, set_var}
 use Rattle.kernel_code.specs.declared.syntax.Arr.{Arr}
 use Rattle.kernel_code.specs.declared.syntax.Arr.TheVariants.{Range, Values, Dimension, Ends, Coordinates, Width, Key, Sums}
 use Rattle.kernel_code.specs.declared.syntax.Arr.TheVariants.{ListCoordinates, ListPositions}
-use Rattle.kernel_code.specs.declared.syntax.Op.TheVariants.{Add, Sub, Mul}
-use Rattle.kernel_code.specs.declared.syntax.KExpr.{KExpr, Num, Var, At, Bin}
-use Rattle.kernel_code.specs.declared.syntax.KStmt.{KStmt, Set, If}
+use Rattle.kernel_code.specs.declared.syntax.Op.TheVariants.{Sub}
+use Rattle.kernel_code.specs.declared.syntax.KExpr.{KExpr, Num, Var, Bin}
+use Rattle.kernel_code.specs.declared.syntax.KStmt.{KStmt, If}
 use Rattle.level_core.specs.declared.letter.Letter.{Letter}
 use Rattle.level_core.specs.Fragments.{IsOf, IsOutside, RefusedWithin, PassesLimit}
 use Rattle.level_core.specs.Kinds.{properties, capabilities}
@@ -27,18 +27,17 @@ use Rattle.level_rows.proofs.RowLaws.{begun_no, begun_some}
 use Rattle.tensor_storage.specs.Laws.{laws}
 use Rattle.tensor_storage.specs.Levels.{meaning}
 use Rattle.level_appends.specs.Appended.{IsOfCursor, LevelAt}
-use Rattle.level_appends.specs.Codes.{ReservesParents, AppendsRow}
-use Rattle.level_appends.specs.Positions.{PassesCount, IsOne, CountsPositions}
+use Rattle.level_appends.specs.Codes.{AppendsRow}
 use Rattle.level_appends.proofs.Keeping.{level_there, level_along, level_again}
-use Rattle.level_appends.proofs.Placed.{full_within}
 use Rattle.appended_results.specs.Heads.{letter_at, key_in}
 use Rattle.appended_results.specs.Places.{first_at, place_above, positions_above, rows_above, is_fixed}
-use Rattle.appended_results.specs.Levels.{cursor_at, key_at, IsMine, IsKept, LevelHolds, MayHold, PassesPlace, Between}
-use Rattle.appended_results.specs.Codes.{place_appended, place_full, AppendsLevel}
+use Rattle.appended_results.specs.Levels.{cursor_at, key_at, LevelHolds, MayHold, PassesPlace, Between}
+use Rattle.appended_results.specs.Codes.{place_appended, AppendsLevel}
 use Rattle.appended_results.specs.Parts.{Reserves, AsBefore, Anew}
-use Rattle.appended_results.proofs.HeadLaws.{key_before, key_last}
+pub use Rattle.appended_results.specs.SinkLaws.{holds_there}
+use Rattle.appended_results.proofs.HeadLaws.{key_before}
 use Rattle.level_appends.proofs.Logs.{begun_along}
-use Rattle.appended_results.proofs.PlaceLaws.{SameCoords, first_along, rows_along, more_positions, fixed_positions, may_append_at, place_within}
+use Rattle.appended_results.proofs.PlaceLaws.{SameCoords, first_along, rows_along, more_positions, fixed_positions, may_append_at}
 
 apart : {A : Type 0} → true ≡ false → A
 apart e = absurd (never e)
@@ -58,17 +57,6 @@ of_one (Key n i) j k h g = absurd h
 of_one (Sums n) j k h g = absurd h
 of_one (ListCoordinates n) j k h g = absurd h
 of_one (ListPositions n) j k h g = absurd h
-
--- a level stays while its variables and its arrays do
-pub holds_there : (letters : List Letter) (sizes : List ℕ) (heads : List (List ℕ)) (base e : ℕ) (s t : State)
-    → ((y : ℕ) → IsOfCursor (cursor_at base e) y → t.vars y ≡ s.vars y) → ((a : Arr) → IsOf 0 (suc e) a → t.arrays a ≡ s.arrays a)
-    → LevelHolds letters sizes heads base e s → LevelHolds letters sizes heads base e t
-holds_there letters sizes heads base e s t vars arrays h = record {
-  size = λ full. arrays (Dimension 0 (suc e)) (refl, refl) ∙ h.size full;
-  appended = λ sparse. level_there meaning laws (letter_at letters e) (slice_index sizes e) (suc e) (cursor_at base e)
-      (positions_above letters sizes (key_in heads) (length heads) e) (length heads)
-      (rows_above letters sizes (key_in heads) (length heads) e) s t vars arrays (h.appended sparse);
-}
 
 module _ (letters : List Letter) (head base free d : ℕ) (inside : d < length letters) (above : base + 4 * length letters ≤ free)
     (sizes : List ℕ) (heads : List (List ℕ)) (key : List ℕ) where
@@ -131,19 +119,22 @@ module _ (letters : List Letter) (head base free d : ℕ) (inside : d < length l
       few_by e h (inl less) = b.few e (omega (arith, less))
       few_by e h (inr from) =
           let same : e ≡ suc d = omega (arith, h, from) in
-          subst (λ k. positions_above letters sizes (key_in (heads ++ key ∷ [])) (suc (length heads)) k ≤ greatest_position_count) (sym same)
+          subst (λ k. positions_above letters sizes (key_in (heads ++ key ∷ [])) (suc (length heads)) k ≤ greatest_position_count)
+          (sym same)
           few
 
       by_order : (e : ℕ) → e < suc d → (e < d) ⊎ (d ≤ e) → LevelHolds letters sizes (heads ++ key ∷ []) base e t
       by_order e h (inl less) =
-          holds_there letters sizes (heads ++ key ∷ []) base e s t (kept_vars e (λ same. omega (arith, same, less)) (omega (arith, less, inside)))
+          holds_there letters sizes (heads ++ key ∷ []) base e s t
+          (kept_vars e (λ same. omega (arith, same, less)) (omega (arith, less, inside)))
           (λ a of. l.arrays a (λ also. let k = of_one a (suc e) (suc d) of also in omega (arith, k, less)))
           (b.above e less)
       by_order e h (inr from) =
           let same : e ≡ d = omega (arith, h, from) in
           subst (λ k. LevelHolds letters sizes (heads ++ key ∷ []) base k t) (sym same) now
 
-pub sparse_positions : (letters : List Letter) (sizes : List ℕ) (coords : ℕ → ℕ → ℕ) (count d : ℕ) → (properties (letter_at letters d)).full ≡ false
+pub sparse_positions : (letters : List Letter) (sizes : List ℕ) (coords : ℕ → ℕ → ℕ) (count d : ℕ)
+    → (properties (letter_at letters d)).full ≡ false
     → positions_above letters sizes coords count (suc d) ≡ begun (first_at letters coords d) count
 sparse_positions letters sizes coords count d is =
     ap (λ b. if b then positions_above letters sizes coords count d * slice_index sizes d else begun (first_at letters coords d) count) is
@@ -153,7 +144,8 @@ pub sparse_place : (letters : List Letter) (sizes : List ℕ) (coords : ℕ → 
 sparse_place letters sizes coords d i is =
     ap (λ b. if b then place_above letters sizes coords d i * slice_index sizes d + coords d i else place (first_at letters coords d) i) is
 
-pub full_positions : (letters : List Letter) (sizes : List ℕ) (coords : ℕ → ℕ → ℕ) (count d : ℕ) → (properties (letter_at letters d)).full ≡ true
+pub full_positions : (letters : List Letter) (sizes : List ℕ) (coords : ℕ → ℕ → ℕ) (count d : ℕ)
+    → (properties (letter_at letters d)).full ≡ true
     → positions_above letters sizes coords count (suc d) ≡ positions_above letters sizes coords count d * slice_index sizes d
 full_positions letters sizes coords count d is =
     ap (λ b. if b then positions_above letters sizes coords count d * slice_index sizes d else begun (first_at letters coords d) count) is

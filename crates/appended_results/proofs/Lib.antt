@@ -14,3 +14,7 @@ pub mod NewHeads
 pub mod AddLaws
 pub mod RowHeads
 pub mod WholeRows
+pub mod HeadLengths
+pub mod SinkRows
+pub mod StartLaws
+pub mod TableGrowths

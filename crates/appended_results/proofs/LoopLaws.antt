@@ -1,27 +1,23 @@
 -- One head more at all levels of a result, one below another.
-use Rattle.std.specs.Prelude.{◌≡◌, ◌⊎◌, ℕ, zero, suc, ◌+◌, ◌-◌, ◌*◌, ◌≤◌, ◌<◌, true, false, List, [], ◌∷◌, ◌++◌, length, drop, slice_index, Some, refl}
+use Rattle.std.specs.Prelude.{◌≡◌, ◌⊎◌, ℕ, suc, ◌+◌, ◌-◌, ◌*◌, ◌≤◌, ◌<◌, List, [], ◌∷◌, ◌++◌, length}
+use Rattle.std.specs.Prelude.{slice_index, Some, refl}
 use Rattle.std.proofs.Common.{◌∙◌, sym, ap, subst, arith, inl, inr}
 use Rattle.std.proofs.lemmas.Bool.{cases_lt}
-use Rattle.limits.specs.Limits.{greatest_position_count}
 use Rattle.kernel_code.specs.Does.{Does}
 use Rattle.kernel_code.proofs.Does.{does_weaker, does_nothing, does_append}
 use Rattle.kernel_code.specs.Keeps.{no_turns}
-use Rattle.kernel_code.specs.Meaning.{Setting, State, value, word_of}
-use Rattle.kernel_code.specs.declared.syntax.Arr.TheVariants.{Values}
+use Rattle.kernel_code.specs.Meaning.{State, value, word_of}
 use Rattle.kernel_code.specs.declared.syntax.KExpr.{KExpr}
 use Rattle.kernel_code.specs.declared.syntax.KStmt.{KStmt}
 use Rattle.level_core.specs.declared.letter.Letter.{Letter}
 use Rattle.level_core.specs.Fragments.{RefusedWithin}
-use Rattle.level_core.specs.Kinds.{properties}
 use Rattle.level_rows.specs.Rows.{begun}
 use Rattle.level_rows.proofs.RowLaws.{begun_some}
-use Rattle.tensor_storage.specs.Chains.{chain_length}
-use Rattle.tensor_storage.proofs.Chains.{chain_some}
 use Rattle.tensor_storage.specs.Levels.{meaning}
 use Rattle.level_appends.specs.Appended.{LevelAt}
 use Rattle.appended_results.specs.Heads.{letter_at, key_in}
 use Rattle.appended_results.specs.Places.{through, first_at, positions_above, rows_above}
-use Rattle.appended_results.specs.Levels.{cursor_at, key_at, IsMine, LevelHolds, MayHold, PassesPlace, Between}
+use Rattle.appended_results.specs.Levels.{cursor_at, MayHold, PassesPlace, Between}
 use Rattle.appended_results.specs.Codes.{begins_code, AppendsLevel, AppendsFirst, KeysTell, AreKeys}
 use Rattle.appended_results.proofs.HeadLaws.{key_last}
 use Rattle.appended_results.proofs.TestLaws.{begins_told, all_begin}

@@ -1,7 +1,8 @@
 -- The sums at a result's positions once a head is appended: zeros at its positions.
-use Rattle.std.specs.Prelude.{◌≡◌, ◌≢◌, ◌⊎◌, ℕ, zero, suc, ◌+◌, ◌-◌, ◌*◌, ◌≤◌, ◌<◌, true, false, if◌then◌else◌, List, [], ◌∷◌, ◌++◌, length, drop}
+use Rattle.std.specs.Prelude.{◌≡◌, ◌≢◌, ◌⊎◌, ℕ, suc, ◌+◌, ◌-◌, ◌*◌, ◌≤◌, ◌<◌, true, if◌then◌else◌, List, [], ◌∷◌, ◌++◌}
+use Rattle.std.specs.Prelude.{length, drop}
 use Rattle.std.specs.Prelude.{slice_index, replicate, refl}
-use Rattle.std.proofs.Common.{◌∙◌, sym, ap, subst, arith, inl, inr}
+use Rattle.std.proofs.Common.{◌∙◌, sym, ap, arith, inl, inr}
 use Rattle.std.proofs.lemmas.Bool.{cases_lt}
 use Rattle.std.proofs.lemmas.List.{get_or_append_left, get_or-append_right, get_or_push, length-append, length-replicate, length_push}
 use Rattle.numbers.specs.Arithmetic.{Arithmetic}
@@ -12,11 +13,10 @@ use Rattle.tensor_map.proofs.Lemmas.{tested, value_elsewhere}
 use Rattle.tns_io.specs.Positions.{product, IsBelow, position}
 use Rattle.level_core.specs.declared.letter.Letter.{Letter}
 use Rattle.level_rows.specs.Rows.{begun, place}
-use Rattle.tensor_storage.specs.Chains.{chain_length}
 use Rattle.tensor_storage.proofs.Chains.{chain_some}
 use Rattle.tensor_storage.proofs.PackSteps.{all_same}
 use Rattle.level_appends.proofs.Logs.{begun_along}
-use Rattle.appended_results.specs.Heads.{letter_at, key_in, row_at}
+use Rattle.appended_results.specs.Heads.{key_in, row_at}
 use Rattle.appended_results.specs.Places.{through, first_at, place_above, positions_above}
 use Rattle.appended_results.specs.Levels.{MayHold}
 use Rattle.appended_results.specs.Rows.{all_positions}
@@ -85,7 +85,8 @@ module _ (letters : List Letter) (sizes : List ℕ) (head : ℕ) (heads : List (
     each = λ j xs g b. by_order j xs g b (cases_lt j (length heads));
   }
     where
-      by_order : (j : ℕ) (xs : List ℕ) → j < length (heads ++ key ∷ []) → IsBelow (drop head sizes) xs → (j < length heads) ⊎ (length heads ≤ j)
+      by_order : (j : ℕ) (xs : List ℕ) → j < length (heads ++ key ∷ []) → IsBelow (drop head sizes) xs
+          → (j < length heads) ⊎ (length heads ≤ j)
           → slice_index (words ++ replicate (all_positions letters sizes (heads ++ key ∷ []) - length words) nothing)
           (spot_of letters sizes head (heads ++ key ∷ []) j xs) ≡ value_at a rows (head_at (heads ++ key ∷ []) j ++ xs)
       by_order j xs g b (inl less) =

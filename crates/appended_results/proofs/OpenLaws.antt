@@ -1,12 +1,13 @@
 -- The head of a row is appended unless it is the last one.
-use Rattle.std.specs.Prelude.{◌≡◌, ◌⊎◌, ℕ, zero, suc, ◌+◌, ◌-◌, ◌*◌, ◌≤◌, ◌<◌, not, Bool, true, false, List, [], ◌∷◌, ◌++◌, length, slice_index}
+use Rattle.std.specs.Prelude.{◌≡◌, ◌⊎◌, ℕ, zero, suc, ◌-◌, ◌≤◌, ◌<◌, not, Bool, true, false, List, [], ◌∷◌, ◌++◌, length}
+use Rattle.std.specs.Prelude.{slice_index}
 use Rattle.std.specs.Prelude.{Some, refl}
 use Rattle.std.proofs.Common.{◌∙◌, sym, ap, subst, arith, inl, inr}
 use Rattle.std.proofs.lemmas.Bool.{cases_lt}
 use Rattle.std.proofs.lemmas.List.{length_push}
 use Rattle.kernel_code.specs.Does.{Does}
 use Rattle.kernel_code.proofs.Does.{does_weaker, does_nothing, does_if_yes, does_if_no}
-use Rattle.kernel_code.specs.Keeps.{Leaves, no_turns}
+use Rattle.kernel_code.specs.Keeps.{no_turns}
 use Rattle.kernel_code.proofs.Keeps.{leaves_none}
 use Rattle.kernel_code.specs.Meaning.{Setting, State, value, word_of}
 use Rattle.kernel_code.specs.declared.syntax.Arr.TheVariants.{Values}
@@ -25,7 +26,7 @@ use Rattle.level_appends.proofs.Keys.{SameKey, KeyBefore, before_along}
 use Rattle.appended_results.specs.Heads.{letter_at, key_in}
 use Rattle.appended_results.specs.Places.{first_at, positions_above, rows_above}
 use Rattle.appended_results.specs.Levels.{cursor_at, IsMine, IsKept, MayHold}
-use Rattle.appended_results.specs.Codes.{differs_or_first, KeysTell}
+use Rattle.appended_results.specs.Codes.{differs_or_first}
 use Rattle.appended_results.specs.Rows.{HoldsHeads, all_positions, AppendsHead}
 use Rattle.appended_results.specs.Opening.{ComesNext, IsOpen, Opens, RefusesHead, OpensHead}
 use Rattle.appended_results.proofs.HeadLaws.{key_before, key_last}
@@ -115,7 +116,8 @@ module _ (letters : List Letter) (head base free nothing : ℕ) (keys : List ℕ
   anew is_new behind =
       let more = may_hold_more letters sizes head heads key may comes.below behind in
       does_if_yes c (differs_or_first base head keys head) code [] [] s 0
-      (λ t. IsOpen letters sizes head base free heads key values s t ⊎ Opens letters sizes head base free nothing heads key values s t) _ _ is_new
+      (λ t. IsOpen letters sizes head base free heads key values s t ⊎ Opens letters sizes head base free nothing heads key values s t)
+      _ _ is_new
       (does_weaker c code s _ _ _ _ (appends c sizes heads key more s holds values held many now)
       (λ t h. inr (record { may = more; has = h }))
       (λ turns a count z. (z.0, record { may = more; level = z.1.0; inside = z.1.1; passes = z.1.2 })))

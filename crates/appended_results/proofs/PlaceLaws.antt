@@ -1,13 +1,14 @@
 -- The positions of heads level by level: they stay where a head more comes, and the heads may be appended to each level.
-use Rattle.std.specs.Prelude.{◌≡◌, ◌⊎◌, ℕ, zero, suc, ◌+◌, ◌*◌, ◌≤◌, ◌<◌, ◌&&◌, ◌==◌, not, Bool, true, false, if◌then◌else◌, List, [], ◌∷◌, length}
+use Rattle.std.specs.Prelude.{◌≡◌, ℕ, zero, suc, ◌+◌, ◌*◌, ◌≤◌, ◌<◌, ◌&&◌, ◌==◌, not, Bool, true, false, if◌then◌else◌, List}
+use Rattle.std.specs.Prelude.{◌∷◌, length}
 use Rattle.std.specs.Prelude.{drop, slice_index, refl}
-use Rattle.std.proofs.Common.{◌∙◌, sym, ap, subst, arith, inl, inr}
+use Rattle.std.proofs.Common.{◌∙◌, sym, ap, subst, arith}
 use Rattle.std.proofs.Math.Nat.{mul-le-mul_right}
 use Rattle.level_core.specs.declared.letter.Letter.{Letter}
 use Rattle.level_core.specs.Kinds.{properties}
 use Rattle.level_core.proofs.KindLaws.{are_of_a_kind}
 use Rattle.level_rows.specs.Growing.{IsNext}
-use Rattle.level_rows.specs.Rows.{Rows, begun, place, MayAppendRows}
+use Rattle.level_rows.specs.Rows.{begun, place, MayAppendRows}
 use Rattle.level_rows.specs.Tables.{Agree, Increase, IsBefore, AreRowsOf}
 use Rattle.level_rows.proofs.TableLaws.{before as before_row}
 use Rattle.level_rows.proofs.RowLaws.{begun_upto}
@@ -18,7 +19,7 @@ use Rattle.tensor_storage.proofs.Chains.{chain_of_unique, chain_of_groups, chain
 use Rattle.tensor_storage.proofs.Tables.{begins}
 use Rattle.level_appends.proofs.Logs.{SameRows, begun_along, place_along}
 use Rattle.level_appends.proofs.Placed.{PlacedAt, placed_none, placed_appended, placed_full, may_append}
-use Rattle.appended_results.specs.Heads.{letter_at, IsHead}
+use Rattle.appended_results.specs.Heads.{letter_at}
 use Rattle.appended_results.specs.Places.{through, first_at, place_above, positions_above, rows_above, is_fixed}
 use Rattle.appended_results.proofs.HeadLaws.{letters_from}
 
@@ -161,8 +162,10 @@ module _ (letters : List Letter) (sizes : List ℕ) (coords : ℕ → ℕ → �
           groups = false;
           placed =
               subst (λ b. PlacedAt coords count (suc d) (suc d)
-              (if b then positions_above letters sizes coords count d * slice_index sizes d else begun (first_at letters coords d) count) false
-              (λ i. if b then place_above letters sizes coords d i * slice_index sizes d + coords d i else place (first_at letters coords d) i))
+              (if b then positions_above letters sizes coords count d * slice_index sizes d else begun (first_at letters coords d) count)
+              false
+              (λ i. if b then place_above letters sizes coords d i * slice_index sizes d + coords d i
+              else place (first_at letters coords d) i))
               (sym is)
               (placed_full coords head count d a.above (positions_above letters sizes coords count d) (slice_index sizes d) a.groups
               (place_above letters sizes coords d) up a.placed none (λ i h. below d i inside h));

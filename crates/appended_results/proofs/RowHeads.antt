@@ -1,8 +1,9 @@
 -- The heads of rows where one row more comes.
-use Rattle.std.specs.Prelude.{◌≡◌, ◌≢◌, ◌⊎◌, ℕ, zero, suc, ◌+◌, ◌-◌, ◌≤◌, ◌<◌, List, [], ◌∷◌, ◌++◌, length, take, drop, slice_index, slice_index_or, refl}
-use Rattle.std.proofs.Common.{◌∙◌, sym, ap, subst, arith, inl, inr}
+use Rattle.std.specs.Prelude.{◌≡◌, ◌≢◌, ◌⊎◌, ℕ, zero, suc, ◌-◌, ◌≤◌, ◌<◌, List, [], ◌∷◌, ◌++◌, length, take, slice_index}
+use Rattle.std.specs.Prelude.{slice_index_or, refl}
+use Rattle.std.proofs.Common.{◌∙◌, sym, ap, arith, inl, inr}
 use Rattle.std.proofs.lemmas.Bool.{cases_lt}
-use Rattle.std.proofs.lemmas.List.{get_or_append_left, get_or_push, get_or-take, length_push, length-take-le}
+use Rattle.std.proofs.lemmas.List.{get_or_append_left, get_or_push, get_or-take, length_push}
 use Rattle.lists.specs.Each.{Each}
 use Rattle.level_rows.specs.Tables.{Increase}
 use Rattle.tensor_map.specs.declared.entries.Entry.{Entry}
@@ -32,7 +33,8 @@ module _ (head : ℕ) (rows : List Entry) (row : Entry) (heads : List (List ℕ)
   latest = get_or_push rows row no_entry (length rows) refl
 
   -- its head is the last one
-  pub heads_same : (k : ℕ) → length heads ≡ suc k → take head row.coords ≡ slice_index_or heads k [] → AreHeads head (rows ++ row ∷ []) heads
+  pub heads_same : (k : ℕ) → length heads ≡ suc k → take head row.coords ≡ slice_index_or heads k []
+      → AreHeads head (rows ++ row ∷ []) heads
   heads_same k is_last key = record {
     rise = are.rise;
     long = are.long;

@@ -1,10 +1,11 @@
 -- The sums at a result's positions, where a head is appended and where a row is added.
-use Rattle.std.specs.Prelude.{◌≡◌, ◌≢◌, ◌⊎◌, ℕ, zero, suc, ◌+◌, ◌-◌, ◌*◌, ◌^◌, ◌≤◌, ◌<◌, Bool, true, false, List, [], ◌∷◌, ◌++◌, length, drop}
-use Rattle.std.specs.Prelude.{slice_index, slice_index_or, slice_set, replicate, refl}
-use Rattle.std.proofs.Common.{◌∙◌, sym, ap, subst, arith, inl, inr}
-use Rattle.std.proofs.lemmas.Bool.{cases_lt, cases_order}
-use Rattle.std.proofs.lemmas.List.{get_or_append_left, get_or-append_right, get_or_push, get_or-set_same, get_or-set_other, length-set}
-use Rattle.std.proofs.lemmas.List.{length-append, length-replicate, length_push, drop_all}
+use Rattle.std.specs.Prelude.{◌≡◌, ◌⊎◌, ℕ, zero, suc, ◌+◌, ◌-◌, ◌*◌, ◌^◌, ◌≤◌, ◌<◌, List, [], ◌∷◌, ◌++◌, length}
+use Rattle.std.specs.Prelude.{drop}
+use Rattle.std.specs.Prelude.{slice_index, slice_set, refl}
+use Rattle.std.proofs.Common.{◌∙◌, sym, ap, arith, inl, inr}
+use Rattle.std.proofs.lemmas.Bool.{cases_order}
+use Rattle.std.proofs.lemmas.List.{get_or-set_same, get_or-set_other, length-set}
+use Rattle.std.proofs.lemmas.List.{drop_all}
 use Rattle.numbers.specs.Arithmetic.{Arithmetic, Laws}
 use Rattle.numbers.proofs.Sums.{total_fits}
 use Rattle.tensor_map.specs.declared.entries.Entry.{Entry}
@@ -14,12 +15,9 @@ use Rattle.tensor_map.proofs.Lemmas.{tested, value_append, value_here, value_els
 use Rattle.tns_io.specs.Positions.{product, IsBelow, position}
 use Rattle.tns_io.proofs.PositionLaws as positions
 use Rattle.level_core.specs.declared.letter.Letter.{Letter}
-use Rattle.level_core.specs.Kinds.{properties}
-use Rattle.level_rows.specs.Tables.{Increase}
-use Rattle.tensor_storage.proofs.PackSteps.{all_same}
-use Rattle.level_appends.proofs.Keys.{SameKey, same_row}
+use Rattle.level_appends.proofs.Keys.{same_row}
 use Rattle.level_appends.proofs.Placed.{full_within, one_place}
-use Rattle.appended_results.specs.Heads.{letter_at, IsHead, key_in}
+use Rattle.appended_results.specs.Heads.{IsHead, key_in}
 use Rattle.appended_results.specs.Places.{place_above, positions_above}
 use Rattle.appended_results.specs.Levels.{MayHold}
 use Rattle.appended_results.specs.Rows.{all_positions}
@@ -118,21 +116,25 @@ pub row_added : (a : Arithmetic) → Laws a → (letters : List Letter) (sizes :
     → HoldsSums a letters sizes head heads (rows ++ row ∷ [])
     (slice_set words (spot_of letters sizes head heads k ys) (a.plus (slice_index words (spot_of letters sizes head heads k ys)) row.value))
 row_added a laws letters sizes head heads may long rows row words word h k ys inside below is = record {
-  many = length-set words (spot_of letters sizes head heads k ys) (a.plus (slice_index words (spot_of letters sizes head heads k ys)) row.value) ∙ h.many;
+  many = length-set words (spot_of letters sizes head heads k ys)
+      (a.plus (slice_index words (spot_of letters sizes head heads k ys)) row.value) ∙ h.many;
   each = λ j xs g b. elim (tested row.coords (head_at heads j ++ xs)) [
     | same e q ↦
         let parts = same_parts (head_at heads k) (head_at heads j) ys xs (long k inside ∙ sym (long j g)) (sym is ∙ e) in
         let at : k ≡ j = one_head_at letters sizes head heads may k j inside g parts.0 in
         let there : spot_of letters sizes head heads j xs ≡ (spot_of letters sizes head heads k ys) =
         ap (λ i. spot_of letters sizes head heads i xs) (sym at) ∙ ap (spot_of letters sizes head heads k) (sym parts.1) in
-        ap (slice_index (slice_set words (spot_of letters sizes head heads k ys) (a.plus (slice_index words (spot_of letters sizes head heads k ys)) row.value))) there
-        ∙ get_or-set_same words (spot_of letters sizes head heads k ys) (a.plus (slice_index words (spot_of letters sizes head heads k ys)) row.value) 0 low
+        ap (slice_index (slice_set words (spot_of letters sizes head heads k ys)
+        (a.plus (slice_index words (spot_of letters sizes head heads k ys)) row.value))) there
+        ∙ get_or-set_same words (spot_of letters sizes head heads k ys)
+        (a.plus (slice_index words (spot_of letters sizes head heads k ys)) row.value) 0 low
         ∙ ap (λ x. a.plus x row.value) (h.each k ys inside below ∙ ap (value_at a rows) (sym is ∙ e))
         ∙ sym (value_append a laws (head_at heads j ++ xs) rows (row ∷ [])
         ∙ ap (a.plus (value_at a rows (head_at heads j ++ xs)))
         (value_here a (head_at heads j ++ xs) row [] q ∙ laws.plus_zero row.value word))
     | other e q ↦
-        get_or-set_other words (spot_of letters sizes head heads k ys) (spot_of letters sizes head heads j xs) (a.plus (slice_index words (spot_of letters sizes head heads k ys)) row.value) 0
+        get_or-set_other words (spot_of letters sizes head heads k ys) (spot_of letters sizes head heads j xs)
+        (a.plus (slice_index words (spot_of letters sizes head heads k ys)) row.value) 0
         (λ z. let one = one_spot letters sizes head heads may j k xs ys g inside b below z in
         e (is ∙ ap (λ i. head_at heads i ++ ys) (sym one.0) ∙ ap (λ zs. head_at heads j ++ zs) (sym one.1)))
         ∙ h.each j xs g b

@@ -1,8 +1,8 @@
 -- The tests of a head's coordinates tell whether it begins a position.
-use Rattle.std.specs.Prelude.{◌≡◌, ◌≢◌, ◌⊎◌, ℕ, zero, suc, ◌+◌, ◌-◌, ◌*◌, ◌≤◌, ◌<◌, ◌==◌, ◌&&◌, ◌||◌, nat_le, not, Bool, true, false, if◌then◌else◌}
+use Rattle.std.specs.Prelude.{◌≡◌, ◌≢◌, ℕ, zero, suc, ◌+◌, ◌-◌, ◌*◌, ◌≤◌, ◌<◌, ◌==◌, ◌&&◌, ◌||◌, nat_le, not, Bool, true, false}
+use Rattle.std.specs.Prelude.{if◌then◌else◌}
 use Rattle.std.specs.Prelude.{List, [], ◌∷◌, ◌++◌, length, slice_index, Some, refl}
-use Rattle.std.proofs.Common.{◌∙◌, sym, ap, subst, arith, inl, inr}
-use Rattle.std.proofs.lemmas.Bool.{cases_lt}
+use Rattle.std.proofs.Common.{◌∙◌, sym, ap, arith}
 use Rattle.std.proofs.lemmas.Bool.Decides.{nat_tests}
 use Rattle.std.proofs.lemmas.List.{length_push}
 use Rattle.kernel_code.specs.Keeps.{Mentions}
@@ -10,19 +10,14 @@ use Rattle.kernel_code.proofs.Keeps.{mentions_bin}
 use Rattle.kernel_code.proofs.Equations.{value_bin}
 use Rattle.kernel_code.proofs.Words.{binary_is}
 use Rattle.kernel_code.specs.Meaning.{State, value, word_of, apply_both}
-use Rattle.kernel_code.specs.declared.syntax.Arr.{Arr}
 use Rattle.kernel_code.specs.declared.syntax.Op.TheVariants.{Or, Equal, NotEqual}
-use Rattle.kernel_code.specs.declared.syntax.KExpr.{KExpr, Num, Var, Bin}
-use Rattle.level_core.specs.declared.letter.Letter.{Letter}
-use Rattle.level_core.specs.Kinds.{properties}
+use Rattle.kernel_code.specs.declared.syntax.KExpr.{Num, Var, Bin}
 use Rattle.level_rows.specs.Tables.{Increase}
-use Rattle.level_rows.proofs.RowLaws.{begun_some}
 use Rattle.tensor_storage.specs.Tables.{agree, begins_at}
 use Rattle.tensor_storage.proofs.Tables.{agree_tells}
-use Rattle.appended_results.specs.Heads.{letter_at, IsHead, key_in}
-use Rattle.appended_results.specs.Places.{through, first_at, rows_above}
-use Rattle.appended_results.specs.Levels.{cursor_at, key_at, LevelHolds, MayHold, Between}
-use Rattle.appended_results.specs.Codes.{differs, differs_or_first, begins_code, KeysTell, AreKeys}
+use Rattle.appended_results.specs.Heads.{key_in}
+use Rattle.appended_results.specs.Levels.{cursor_at, key_at}
+use Rattle.appended_results.specs.Codes.{differs, differs_or_first, begins_code, KeysTell}
 use Rattle.appended_results.proofs.HeadLaws.{key_before, key_last}
 
 words_or : (a b : Bool) → apply_both Or (Some (word_of a)) (Some (word_of b)) ≡ Some (word_of (a || b))
@@ -60,7 +55,8 @@ module _ (base head : ℕ) (heads : List (List ℕ)) (key keys : List ℕ) (s : 
         → value (differs_or_first base head keys n) s ≡ Some (word_of (begins_at coords n (length heads)))
     new_told n h = by_count (length heads) refl
       where
-        by_count : (k : ℕ) → length heads ≡ k → value (differs_or_first base head keys n) s ≡ Some (word_of (begins_at coords n (length heads)))
+        by_count : (k : ℕ) → length heads ≡ k
+            → value (differs_or_first base head keys n) s ≡ Some (word_of (begins_at coords n (length heads)))
         by_count zero is =
             value_bin Or (Bin Equal (Var (cursor_at base (head - 1) + 2)) (Num 0)) (differs base keys n) s
             ∙ ap (λ v. apply_both Or v (value (differs base keys n) s))

@@ -1,5 +1,6 @@
 -- A row comes: its head is appended unless it is the last one, and its value is added.
-use Rattle.std.specs.Prelude.{◌≡◌, ◌⊎◌, ℕ, zero, suc, ◌+◌, ◌-◌, ◌≤◌, ◌<◌, true, false, List, [], ◌∷◌, ◌++◌, length, take, drop, slice_index, Some, refl}
+use Rattle.std.specs.Prelude.{◌≡◌, ◌⊎◌, ℕ, zero, suc, ◌+◌, ◌-◌, ◌≤◌, ◌<◌, List, [], ◌∷◌, ◌++◌, length, take, drop}
+use Rattle.std.specs.Prelude.{slice_index, Some, refl}
 use Rattle.std.proofs.Common.{◌∙◌, sym, ap, subst, arith, inl, inr}
 use Rattle.std.proofs.lemmas.List.{get_or-take, ext_get_or, length-take-le, take-append-drop, drop_all, get_or_push, length_push}
 use Rattle.numbers.specs.Arithmetic.{Arithmetic, Laws}
@@ -14,18 +15,17 @@ use Rattle.tns_io.specs.Positions.{IsBelow}
 use Rattle.tns_io.proofs.PositionLaws.{below_long}
 use Rattle.level_core.specs.declared.letter.Letter.{Letter}
 use Rattle.level_core.specs.Fragments.{RefusedWithin}
-use Rattle.level_core.specs.Kinds.{properties}
-use Rattle.appended_results.specs.Heads.{letter_at, key_in, AreHeads}
+use Rattle.appended_results.specs.Heads.{AreHeads}
 use Rattle.appended_results.specs.Levels.{IsMine, IsKept, MayHold}
 use Rattle.appended_results.specs.Codes.{AreKeys, IsOutsideResult}
 use Rattle.appended_results.specs.Rows.{HoldsHeads}
-use Rattle.appended_results.specs.Opening.{ComesNext, IsOpen, Opens, RefusesHead, OpensHead}
+use Rattle.appended_results.specs.Opening.{ComesNext, IsOpen, Opens, OpensHead}
 use Rattle.appended_results.specs.Sums.{head_at, HoldsSums}
 use Rattle.appended_results.specs.Values.{add_code, HaveTail}
 use Rattle.appended_results.specs.Results.{HoldsRows, MayCome, RefusesRows}
 use Rattle.appended_results.proofs.SumLaws.{drop_step}
 use Rattle.appended_results.proofs.NewHeads.{head_added}
-use Rattle.appended_results.proofs.AddLaws.{HasRow, adds_value}
+use Rattle.appended_results.proofs.AddLaws.{adds_value}
 use Rattle.appended_results.proofs.RowHeads.{each_at, heads_same, heads_more, head_follows, head_fresh}
 
 below_at : (ns xs : List ℕ) (m : ℕ) → IsBelow ns xs → m < length ns → slice_index xs m < slice_index ns m
@@ -103,7 +103,8 @@ module _ (letters : List Letter) (head base free nothing : ℕ) (keys : List ℕ
   }
 
   -- the value, once the row's head is the last one
-  adds : (t : State) → Leaves (IsMine base (length letters)) IsKept free no_turns s t → (heads : List (List ℕ)) → MayHold letters sizes head heads
+  adds : (t : State) → Leaves (IsMine base (length letters)) IsKept free no_turns s t → (heads : List (List ℕ))
+      → MayHold letters sizes head heads
       → AreHeads head (rows ++ row ∷ []) heads → HoldsHeads letters sizes head base heads t → (words : List ℕ)
       → t.arrays (Values 0) ≡ Some words → HoldsSums c.arithmetic letters sizes head heads rows words
       → (j : ℕ) → length heads ≡ suc j → head_at heads j ≡ take head row.coords
@@ -112,7 +113,8 @@ module _ (letters : List Letter) (head base free nothing : ℕ) (keys : List ℕ
       (RefusedWithin no_turns s (RefusesRows letters sizes head (rows ++ row ∷ [])))
   adds t l heads may are holds words held sums j is same =
       does_weaker c (add_code base head keys var) t _ _ _ _
-      (adds_value c laws letters sizes head base free heads may (λ i g. each_at head heads i are.long g) rows row comes.word t holds words held
+      (adds_value c laws letters sizes head base free heads may (λ i g. each_at head heads i are.long g) rows row comes.word t holds
+      words held
       sums j is (drop head row.coords) keys var (below_from sizes row.coords head comes.below)
       (whole_row ∙ ap (λ k. k ++ drop head row.coords) (sym same))
       (let w = may.is_head.within in
@@ -144,7 +146,9 @@ module _ (letters : List Letter) (head base free nothing : ℕ) (keys : List ℕ
       (RefusedWithin no_turns s (RefusesRows letters sizes head (rows ++ row ∷ [])))
   adds_row =
       does_append c open_code (add_code base head keys var) s
-      (λ t. IsOpen letters sizes head base free h.heads key h.words s t ⊎ Opens letters sizes head base free nothing h.heads key h.words s t) _ _
+      (λ t. IsOpen letters sizes head base free h.heads key h.words s t
+      ⊎ Opens letters sizes head base free nothing h.heads key h.words s t)
+      _ _
       (does_weaker c open_code s _ _ _ _
       (opens c sizes h.heads key h.may comes_next s h.holds h.words h.held h.sums.many key_now) (λ t o. o)
       (λ turns b count z. (
@@ -169,7 +173,8 @@ module _ (letters : List Letter) (head base free nothing : ℕ) (keys : List ℕ
           let many = each_at head h.heads o.last h.are.long (let l = o.is_last in omega (arith, l)) in
           let same : head_at h.heads o.last ≡ take head row.coords =
           ext_get_or 0 (head_at h.heads o.last) (take head row.coords) (many ∙ sym key_long) (λ m l. o.same m (omega (arith, l, many))) in
-          adds t o.leaves h.heads h.may (heads_same head rows row h.heads h.are o.last o.is_last (sym same)) o.holds h.words o.values_are h.sums
+          adds t o.leaves h.heads h.may (heads_same head rows row h.heads h.are o.last o.is_last (sym same)) o.holds h.words o.values_are
+          h.sums
           o.last o.is_last same
       by_case t (inr p) =
           let more = heads_more head rows row h.heads h.are (take head row.coords) refl key_long p.may.rise in

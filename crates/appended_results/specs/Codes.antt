@@ -1,6 +1,6 @@
 -- The code of one head more, level by level.
-use Rattle.std.specs.Prelude.{◌≡◌, ◌⊎◌, ℕ, zero, suc, ◌+◌, ◌-◌, ◌*◌, ◌≤◌, ◌<◌, ◌^◌, true, false, List, [], ◌∷◌, ◌++◌, length, Some, if◌then◌else◌}
-use Rattle.std.specs.Prelude.{nat_le, slice_index}
+use Rattle.std.specs.Prelude.{◌≡◌, ℕ, zero, suc, ◌+◌, ◌-◌, ◌*◌, ◌≤◌, ◌<◌, ◌^◌, if◌then◌else◌}
+use Rattle.std.specs.Prelude.{List, [], ◌∷◌, ◌++◌, length, Some, nat_le, slice_index}
 use Rattle.limits.specs.Limits.{greatest_position_count}
 use Rattle.kernel_code.specs.Does.{Does}
 use Rattle.kernel_code.specs.Keeps.{no_turns}
@@ -8,11 +8,10 @@ use Rattle.kernel_code.specs.Meaning.{Setting, State, value, word_of}
 use Rattle.kernel_code.specs.declared.syntax.Arr.TheVariants.{Values, Dimension}
 use Rattle.kernel_code.specs.declared.syntax.Op.TheVariants.{Add, Sub, Mul, Or, Equal, NotEqual}
 use Rattle.kernel_code.specs.declared.syntax.KExpr.{KExpr, Num, Var, At, Bin}
-use Rattle.kernel_code.specs.declared.syntax.KStmt.{KStmt, Set, If}
+use Rattle.kernel_code.specs.declared.syntax.KStmt.{KStmt, Set}
 use Rattle.level_core.specs.declared.letter.Letter.{Letter}
 use Rattle.level_core.specs.Fragments.{RefusedWithin}
-use Rattle.level_core.specs.Kinds.{properties}
-use Rattle.appended_results.specs.Heads.{letter_at, key_in}
+use Rattle.appended_results.specs.Heads.{key_in}
 use Rattle.appended_results.specs.Places.{first_at, positions_above}
 use Rattle.appended_results.specs.Levels.{cursor_at, key_at, IsMine, MayHold, PassesPlace, Between}
 

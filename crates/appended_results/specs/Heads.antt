@@ -1,5 +1,7 @@
 -- The head of a row of a result: its coordinates through the last level that isn't full, in the order of the levels.
-use Rattle.std.specs.Prelude.{◌≡◌, ◌⊎◌, ℕ, suc, ◌≤◌, ◌<◌, true, false, List, [], ◌∷◌, length, take, slice_index, slice_index_or}
+use Rattle.std.specs.Prelude.{◌≡◌, ◌⊎◌, ℕ, suc, ◌≤◌, ◌<◌, Bool, true, false, if◌then◌else◌}
+use Rattle.std.specs.Prelude.{List, [], ◌∷◌, length, take, slice_index, slice_index_or}
+use Rattle.std.specs.List.{list_all}
 use Rattle.lists.specs.Each.{Each}
 use Rattle.level_core.specs.declared.letter.Letter.{Letter}
 use Rattle.level_core.specs.declared.letter.Letter.TheVariants.{Dense}
@@ -19,6 +21,14 @@ pub record IsHead (letters : List Letter) (head : ℕ) : Type 0 where
   pub some : 0 < head
   pub last : (d : ℕ) → suc d ≡ head → (properties (letter_at letters d)).full ≡ false
   pub tail : (d : ℕ) → head ≤ d → d < length letters → (properties (letter_at letters d)).full ≡ true
+
+abbrev pub is_full : Letter → Bool
+is_full letter = (properties letter).full
+
+-- how many levels there are, from the top, through the last that isn't full: none where all are
+abbrev pub head_length : List Letter → ℕ
+head_length [] = 0
+head_length (letter ∷ letters) = if list_all is_full (letter ∷ letters) then 0 else suc (head_length letters)
 
 -- every level that isn't full is appended to
 abbrev pub AreAppended : List Letter → Type 0

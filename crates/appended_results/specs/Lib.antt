@@ -10,3 +10,7 @@ pub mod Begins
 pub mod Sums
 pub mod Values
 pub mod Results
+pub mod Sink
+pub mod SinkLaws
+pub mod Starts
+pub mod Tables

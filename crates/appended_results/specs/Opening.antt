@@ -46,7 +46,8 @@ pub record RefusesHead (letters : List Letter) (sizes : List ℕ) (head : ℕ) (
 -- the code appends the head of a row, whose coordinates stand in variables, unless it is the last one
 abbrev pub OpensHead : List Letter → ℕ → ℕ → ℕ → ℕ → List ℕ → List KStmt → Type 0
 OpensHead letters head base free nothing keys code =
-    (c : Setting) (sizes : List ℕ) (heads : List (List ℕ)) (key : List ℕ) → MayHold letters sizes head heads → ComesNext sizes head heads key
+    (c : Setting) (sizes : List ℕ) (heads : List (List ℕ)) (key : List ℕ) → MayHold letters sizes head heads
+    → ComesNext sizes head heads key
     → (s : State) → HoldsHeads letters sizes head base heads s → (values : List ℕ) → s.arrays (Values 0) ≡ Some values
     → length values ≡ all_positions letters sizes heads
     → ((e : ℕ) → e < head → s.vars (slice_index keys e) ≡ Some (slice_index key e))

@@ -1,5 +1,5 @@
 -- The code that adds a row's value at its position.
-use Rattle.std.specs.Prelude.{◌≡◌, ℕ, suc, ◌+◌, ◌-◌, ◌*◌, ◌<◌, List, [], ◌∷◌, length, drop, Some}
+use Rattle.std.specs.Prelude.{◌≡◌, ℕ, suc, ◌+◌, ◌-◌, List, [], ◌∷◌, drop, Some}
 use Rattle.kernel_code.specs.Meaning.{State}
 use Rattle.kernel_code.specs.declared.syntax.Arr.TheVariants.{Values, Dimension}
 use Rattle.kernel_code.specs.declared.syntax.Op.TheVariants.{Add, Sub, Mul}

@@ -6,10 +6,14 @@ mod ends;
 mod heads;
 mod keys;
 mod levels;
+mod sink;
 mod starts;
+mod values;
 
 pub use ends::end_levels;
 pub use heads::{append_head, append_levels, open_head};
 pub use keys::{begins, differs_or_first};
 pub use levels::{LevelSite, append_to_level};
+pub use sink::AppendedSink;
 pub use starts::begin_levels;
+pub use values::add_value;

@@ -12,4 +12,5 @@ pub mod Rising
 pub mod Steps
 pub mod Summed
 pub mod Tails
+pub mod TakingLaws
 pub mod Worked

@@ -53,13 +53,15 @@ use Rattle.result_targets.proofs.Scratch.{lists_kept, lists_start}
 use Rattle.kernel_emit.specs.Emitted.{AddsLoops}
 use Rattle.kernel_emit.specs.declared.emitting.Emitted.{Emitted}
 use Rattle.kernel_emit.proofs.ListLaws.{operand_apart}
+use Rattle.row_orders.specs.Takings.{calls_for_workspace}
+use Rattle.row_orders.proofs.Lists.{clash}
 use Rattle.sparse_kernels.proofs.Ends.{ends_weaker}
 use Rattle.taco_compiler.specs.Compiled.{AreFewTurns, DrainsFew, IsCompiled, ProbesFew}
 use Rattle.taco_compiler.specs.Loops.{AreLoopsOf}
 use Rattle.taco_compiler.proofs.LoopTurns.{in_order_of, within_cost, within_searches}
 
 module _ (a : Arithmetic) (laws : Laws a) (s : Statement) (formats : List (List FormatLevel)) (f : IsForDense s formats) (order : List ℕ)
-    (loops : LoopCode) (l : AreLoopsOf s formats order loops) where
+    (free_of : calls_for_workspace s formats order ≡ false) (loops : LoopCode) (l : AreLoopsOf s formats order loops) where
   abbrev c : Concrete
   c = l.concrete
 
@@ -72,7 +74,7 @@ module _ (a : Arithmetic) (laws : Laws a) (s : Statement) (formats : List (List 
   module _ (k : DenseSink) (modes : k.modes ≡ modes_of (format_of formats 0)) (places : Places) (at : AreAtBase s 0 places)
       (top : List KStmt) (emitted : Emitted) (tops : StartsAt 0 top) (free : ℕ)
       (e : AddsLoops a dense_sink k s formats places s.left.vars loops free 0 emitted.lists emitted.code) (kernel : Kernel)
-      (few_lists : emitted.lists ≤ kernel.lists) (body : kernel.body ≡ top ++ emitted.code) where
+      (spaces : kernel.workspaces ≡ []) (few_lists : emitted.lists ≤ kernel.lists) (body : kernel.body ≡ top ++ emitted.code) where
     abbrev code : List KStmt
     code = emitted.code
 
@@ -188,20 +190,23 @@ module _ (a : Arithmetic) (laws : Laws a) (s : Statement) (formats : List (List 
       few_turns (TooLong place count) h = tt
       few_turns NotFinished h = absurd h
 
-      no_drains : (o : KernelOutcome) → ToldTurns o → DrainsFew s (told_by a store) store.format o
+      no_drains : (o : KernelOutcome) → ToldTurns o → DrainsFew s formats order (told_by a store) store.format o
       no_drains (Finished left turns) h =
           let most = h Drain in
           let none = (e.few (operands_in s store) (slice_index store.ranges) start).drains in
-          record { none = λ dense. omega (arith, most, none); within = λ some. absurd (some dense_store.dense) }
+          record {
+            none = λ direct. omega (arith, most, none);
+            within = λ called. absurd (clash (calls_for_workspace s formats order) called free_of);
+          }
       no_drains (GotStuck statement) h = absurd h
       no_drains (TooLong place count) h = tt
       no_drains NotFinished h = absurd h
 
       few_probes : (o : KernelOutcome) → ToldTurns o → ProbesFew s formats order store (told_by a store) o
       few_probes (Finished left turns) h = record {
-        dense = λ dense. within_searches a laws s formats order loops l store (read_store store is) (from_top.most store)
+        none = λ direct. within_searches a laws s formats order loops l store (read_store store is) (from_top.most store)
             (e.few (operands_in s store) (slice_index store.ranges) start) (turns Probe) (h Probe);
-        other = λ some. absurd (some dense_store.dense);
+        within = λ called. absurd (clash (calls_for_workspace s formats order) called free_of);
       }
       few_probes (GotStuck statement) h = absurd h
       few_probes (TooLong place count) h = tt
@@ -214,7 +219,8 @@ module _ (a : Arithmetic) (laws : Laws a) (s : Statement) (formats : List (List 
       few = λ store is arrays given. ends_weaker a (length store.format) kernel arrays (ToldTurns store is arrays given)
           (AreFewTurns s formats order store) (few_turns store is arrays given) (ends_with_turns store is arrays given);
       drains = λ store is arrays given. ends_weaker a (length store.format) kernel arrays (ToldTurns store is arrays given)
-          (DrainsFew s (told_by a store) store.format) (no_drains store is arrays given) (ends_with_turns store is arrays given);
+          (DrainsFew s formats order (told_by a store) store.format) (no_drains store is arrays given) (ends_with_turns store is arrays given);
       probes = λ store is arrays given. ends_weaker a (length store.format) kernel arrays (ToldTurns store is arrays given)
           (ProbesFew s formats order store (told_by a store)) (few_probes store is arrays given) (ends_with_turns store is arrays given);
+      bare = λ direct. spaces;
     }

@@ -1,5 +1,5 @@
 -- Places before all loops, and the loops of a statement, are such as code of loops is made from.
-use Rattle.std.specs.Prelude.{◌≡◌, ◌≢◌, ℕ, zero, suc, ◌≤◌, ◌<◌, Bool, List, [], ◌∷◌, length, All, Some, map}
+use Rattle.std.specs.Prelude.{◌≡◌, ◌≢◌, ℕ, zero, suc, ◌+◌, ◌^◌, ◌≤◌, ◌<◌, Bool, List, [], ◌∷◌, length, All, Some, map}
 use Rattle.std.specs.Prelude.{replicate, slice_get, refl}
 use Rattle.std.proofs.Common.{◌∙◌, sym, ap, subst, arith}
 use Rattle.format_spec.specs.declared.format.FormatLevel.{FormatLevel}
@@ -63,28 +63,28 @@ place_is base (a ∷ accesses) each zero p is =
     positive n other = omega (arith, other)
 place_is base (a ∷ accesses) each (suc k) p is = place_is base accesses each.1 k p is
 
-pub places_fit : (s : Statement) (formats : List (List FormatLevel)) (places : Places) (target : List ℕ) (keys : ℕ) → IsNumbered s
-    → IsWellNamed s → Each (HasFormat formats) s.accesses → places.variables ≡ replicate (length s.vars) 0 → AreAtBase s 0 places
-    → IsTarget s target keys → PlacesFit s formats places target keys 3
-places_fit s formats places target keys numbered named right variables at t = record {
+pub places_fit : (s : Statement) (formats : List (List FormatLevel)) (places : Places) (base : ℕ) (target : List ℕ) (keys : ℕ)
+    → IsNumbered s → IsWellNamed s → Each (HasFormat formats) s.accesses → places.variables ≡ replicate (length s.vars) base
+    → AreAtBase s base places → base + 3 ≤ 2 ^ 62 → IsTarget s target keys → PlacesFit s formats places target keys (base + 3)
+places_fit s formats places base target keys numbered named right variables at room t = record {
   numbered = numbered;
   have_formats = right;
-  accesses = ap length at ∙ map_long (new_access 0) (map (λ (a : Access). a.tensor) s.accesses)
+  accesses = ap length at ∙ map_long (new_access base) (map (λ (a : Access). a.tensor) s.accesses)
       ∙ map_long (λ (a : Access). a.tensor) s.accesses;
-  variables = ap length variables ∙ replicate_long (length s.vars) 0;
+  variables = ap length variables ∙ replicate_long (length s.vars) base;
   operands = λ k p is. (place k p is).operand;
   target_within = t.within;
   short = t.short;
   many = t.many;
   below = record {
-    variables = subst (All (λ y. y < 3)) (sym variables) (replicate_below (length s.vars) 0 3 (omega arith));
-    accesses = λ k p is. let base = (place k p is).base_is in omega (arith, base);
+    variables = subst (All (λ y. y < base + 3)) (sym variables) (replicate_below (length s.vars) base (base + 3) (omega arith));
+    accesses = λ k p is. let at_base = (place k p is).base_is in omega (arith, at_base);
   };
-  room = omega arith;
+  room = room;
 }
   where
-    place : (k : ℕ) (p : AccessPlace) → slice_get places.accesses k ≡ Some p → IsPlace 0 p
-    place k p is = place_is 0 s.accesses named.unread k p (ap (λ ps. slice_get ps k) (sym at) ∙ is)
+    place : (k : ℕ) (p : AccessPlace) → slice_get places.accesses k ≡ Some p → IsPlace base p
+    place k p is = place_is base s.accesses named.unread k p (ap (λ ps. slice_get ps k) (sym at) ∙ is)
 
 -- the left variables are the target of a dense result, which has a mode for each
 pub left_is_target : (s : Statement) (formats : List (List FormatLevel)) (modes : List ℕ) → IsNumbered s → HasFormat formats s.left

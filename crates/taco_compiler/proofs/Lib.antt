@@ -1,3 +1,4 @@
+pub mod AppendedKernels
 pub mod DenseKernels
 pub mod Fits
 pub mod LoopTurns

@@ -1,7 +1,7 @@
--- A kernel whose code pushes the rows of a statement's loops into a workspace, and fills the result from them, is compiled: it is right
--- and sound, its loops turn no more often than the statement costs, and its rows are gone over no more often than twice a level.
+-- A kernel whose code pushes the rows of a statement's loops into a workspace, and fills the result from them, is compiled where the
+-- statement calls for one: it is right and sound, its loops turn no more often than the statement costs, and its rows are gone over no more often than twice a level.
 use Rattle.std.specs.Prelude.{◌≡◌, ℕ, ◌+◌, ◌*◌, ◌≤◌, ◌<◌, List, [], ◌∷◌, ◌++◌, length, Some, slice_get}
-use Rattle.std.specs.Prelude.{slice_index, true}
+use Rattle.std.specs.Prelude.{slice_index, Bool, true, false}
 use Rattle.std.proofs.Common.{◌∙◌, sym, ap, subst, arith}
 use Rattle.std.proofs.Math.Nat.{mul-add, mul_left_comm}
 use Rattle.std.proofs.lemmas.List.{length-map}
@@ -47,6 +47,8 @@ use Rattle.result_targets.specs.Sinks.{TakesAll}
 use Rattle.kernel_emit.specs.Emitted.{AddsLoops}
 use Rattle.kernel_emit.specs.declared.emitting.Emitted.{Emitted}
 use Rattle.kernel_emit.proofs.ListLaws.{operand_apart}
+use Rattle.row_orders.specs.Takings.{calls_for_workspace}
+use Rattle.row_orders.proofs.Lists.{clash}
 use Rattle.sparse_results.specs.Keys.{HasOrderedResult}
 use Rattle.sparse_results.specs.Tables.{IsRow}
 use Rattle.sparse_results.proofs.Loops.{loops_add_rows}
@@ -78,11 +80,12 @@ searches_add made loops width each many levels points is few all =
     omega (arith, few, all, sum, turned)
 
 -- turns of rows that are gone over so often
-few_drains : (s : Statement) (store : Store) (a : Arithmetic) (most turns : LoopKind → ℕ)
-    → (AreAllDense store.format → ⊥) → most Drain ≡ 0
-    → (arrays : Arrays) → AreTurns s (told_by a store) (letters_of store.format) most turns arrays → AreFewDrains s (told_by a store) store.format (turns Drain)
-few_drains s store a most turns some none arrays t = record {
-  none = λ dense. absurd (some dense);
+few_drains : (s : Statement) (formats : List (List FormatLevel)) (order : List ℕ) (store : Store) (a : Arithmetic)
+    (most turns : LoopKind → ℕ) → calls_for_workspace s formats order ≡ true → most Drain ≡ 0
+    → (arrays : Arrays) → AreTurns s (told_by a store) (letters_of store.format) most turns arrays
+    → AreFewDrains s formats order (told_by a store) store.format (turns Drain)
+few_drains s formats order store a most turns called none arrays t = record {
+  none = λ free. absurd (clash (calls_for_workspace s formats order) called free);
   within = λ other. record {
     points = t.points;
     have = t.have;
@@ -92,7 +95,7 @@ few_drains s store a most turns some none arrays t = record {
 }
 
 module _ (a : Arithmetic) (laws : Laws a) (s : Statement) (formats : List (List FormatLevel)) (f : IsForSparse s formats) (order : List ℕ)
-    (loops : LoopCode) (l : AreLoopsOf s formats order loops) where
+    (called : calls_for_workspace s formats order ≡ true) (loops : LoopCode) (l : AreLoopsOf s formats order loops) where
   abbrev c : Concrete
   c = l.concrete
 
@@ -199,10 +202,9 @@ module _ (a : Arithmetic) (laws : Laws a) (s : Statement) (formats : List (List 
       few_turns (TooLong place count) h = tt
       few_turns NotFinished h = absurd h.1
 
-      drains_few : (o : KernelOutcome) → IsTold o → DrainsFew s (told_by a store) store.format o
+      drains_few : (o : KernelOutcome) → IsTold o → DrainsFew s formats order (told_by a store) store.format o
       drains_few (Finished left turns) h =
-          few_drains s store a (pushes.most store) turns
-          (λ dense. f.some (subst AreAllDense is.format_is dense))
+          few_drains s formats order store a (pushes.most store) turns called
           (e.few (operands_in s store) (slice_index store.ranges) start).drains left h.1
       drains_few (GotStuck statement) h = absurd h.1
       drains_few (TooLong place count) h = tt
@@ -210,8 +212,8 @@ module _ (a : Arithmetic) (laws : Laws a) (s : Statement) (formats : List (List 
 
       few_probes : (o : KernelOutcome) → IsTold o → ProbesFew s formats order store (told_by a store) o
       few_probes (Finished left turns) h = record {
-        dense = λ dense. absurd (f.some (subst AreAllDense is.format_is dense));
-        other = λ some. record {
+        none = λ free. absurd (clash (calls_for_workspace s formats order) called free);
+        within = λ some. record {
           points = h.1.points;
           have = h.1.have;
           few = λ width are narrow.
@@ -239,7 +241,8 @@ module _ (a : Arithmetic) (laws : Laws a) (s : Statement) (formats : List (List 
       few = λ store is arrays given. ends_weaker a (length store.format) kernel arrays (IsTold store is arrays given)
           (AreFewTurns s formats order store) (few_turns store is arrays given) (told store is arrays given);
       drains = λ store is arrays given. ends_weaker a (length store.format) kernel arrays (IsTold store is arrays given)
-          (DrainsFew s (told_by a store) store.format) (drains_few store is arrays given) (told store is arrays given);
+          (DrainsFew s formats order (told_by a store) store.format) (drains_few store is arrays given) (told store is arrays given);
       probes = λ store is arrays given. ends_weaker a (length store.format) kernel arrays (IsTold store is arrays given)
           (ProbesFew s formats order store (told_by a store)) (few_probes store is arrays given) (told store is arrays given);
+      bare = λ free. absurd (clash (calls_for_workspace s formats order) called free);
     }

@@ -1,5 +1,5 @@
 -- What is promised of the answer to a statement and formats.
-use Rattle.std.specs.Prelude.{◌≡◌, ℕ, ◌+◌, ◌*◌, ◌≤◌, List, length, Result, Ok, Err, slice_index}
+use Rattle.std.specs.Prelude.{◌≡◌, ℕ, ◌+◌, ◌*◌, ◌≤◌, true, false, List, [], length, Result, Ok, Err, slice_index}
 use Rattle.numbers.specs.Arithmetic.{Arithmetic}
 use Rattle.kernel_code.specs.declared.syntax.Kernel.{Kernel}
 use Rattle.kernel_code.specs.declared.syntax.LoopKind.{LoopKind}
@@ -11,11 +11,11 @@ use Rattle.index_notation.specs.declared.syntax.Statement.{Statement}
 use Rattle.iteration_graph.specs.Edges.{statement_edges}
 use Rattle.iteration_graph.specs.Graphs.{IsLoopOrder, NamesCycle}
 use Rattle.concrete_notation.specs.Contributions.{Inputs}
-use Rattle.concrete_notation.specs.Workspaces.{AreAllDense}
 use Rattle.kernel_correctness.specs.Kernels.{Ends, IsRightKernel, IsSoundKernel}
 use Rattle.kernel_correctness.specs.Stores.{Store, IsStoreOf, IsGiven, operand_of, told_by}
 use Rattle.lowering.specs.Stored.{stored_of}
 use Rattle.simplifier.specs.Folded.{SimpleCode}
+use Rattle.row_orders.specs.Takings.{calls_for_workspace}
 use Rattle.sparse_kernels.specs.Turns.{AreNotWider, HasPoints}
 use Rattle.statement_costs.specs.Costs.{statement_cost, statement_repeats}
 use Rattle.statement_costs.specs.Slots.{statement_slots}
@@ -66,23 +66,24 @@ pub record AreWithinPasses (s : Statement) (inputs : Inputs) (format : List Form
   pub have : HasPoints s inputs points
   pub few : drains ≤ 2 * length format * points
 
--- a result that is dense throughout has no drain turns
-pub record AreFewDrains (s : Statement) (inputs : Inputs) (format : List FormatLevel) (drains : ℕ) : Type 0 where
-  pub none : AreAllDense format → drains ≡ 0
-  pub within : (AreAllDense format → ⊥) → AreWithinPasses s inputs format drains
+-- where a statement calls for no workspace, as for a result that is dense throughout, there are no drain turns
+pub record AreFewDrains (s : Statement) (formats : List (List FormatLevel)) (order : List ℕ) (inputs : Inputs) (format : List FormatLevel)
+    (drains : ℕ) : Type 0 where
+  pub none : calls_for_workspace s formats order ≡ false → drains ≡ 0
+  pub within : calls_for_workspace s formats order ≡ true → AreWithinPasses s inputs format drains
 
 -- so are the drain turns of a run that finishes
-abbrev pub DrainsFew : Statement → Inputs → List FormatLevel → KernelOutcome → Type 0
-DrainsFew s inputs format (Finished arrays turns) = AreFewDrains s inputs format (turns Drain)
-DrainsFew s inputs format (GotStuck statement) = ⊥
-DrainsFew s inputs format (TooLong place count) = Unit {0}
-DrainsFew s inputs format NotFinished = ⊥
+abbrev pub DrainsFew : Statement → List (List FormatLevel) → List ℕ → Inputs → List FormatLevel → KernelOutcome → Type 0
+DrainsFew s formats order inputs format (Finished arrays turns) = AreFewDrains s formats order inputs format (turns Drain)
+DrainsFew s formats order inputs format (GotStuck statement) = ⊥
+DrainsFew s formats order inputs format (TooLong place count) = Unit {0}
+DrainsFew s formats order inputs format NotFinished = ⊥
 
 -- so they are on every store
-abbrev pub KeepsDrains : Arithmetic → Statement → List (List FormatLevel) → Kernel → Type 0
-KeepsDrains a s formats kernel =
+abbrev pub KeepsDrains : Arithmetic → Statement → List (List FormatLevel) → List ℕ → Kernel → Type 0
+KeepsDrains a s formats order kernel =
     (store : Store) → IsStoreOf s formats store → (arrays : Arrays) → IsGiven a.zero store arrays
-    → Ends a (length store.format) kernel arrays (DrainsFew s (told_by a store) store.format)
+    → Ends a (length store.format) kernel arrays (DrainsFew s formats order (told_by a store) store.format)
 
 -- so many points the support has; and a coordinate is sought in each access at most for each merge turn that the cost allows, and in each
 -- level of the result for each point, within so many probe turns as the widest level without order has slots, of an operand or of the result
@@ -94,12 +95,12 @@ pub record AreWithinSearches (s : Statement) (formats : List (List FormatLevel))
       → probes ≤ width * (length s.accesses * statement_cost s formats order (stored_of s (operand_of store)) (slice_index store.ranges)
       + length store.format * points)
 
--- in a result that is dense throughout no coordinate is sought
+-- where a statement calls for no workspace no coordinate is sought in the result
 pub record AreFewProbes (s : Statement) (formats : List (List FormatLevel)) (order : List ℕ) (store : Store) (inputs : Inputs)
     (arrays : Arrays) (probes : ℕ) : Type 0 where
-  pub dense : AreAllDense store.format → (width : ℕ) → AreWidths s formats (operands_in s store) (λ k level. width)
+  pub none : calls_for_workspace s formats order ≡ false → (width : ℕ) → AreWidths s formats (operands_in s store) (λ k level. width)
       → probes ≤ width * (length s.accesses * statement_cost s formats order (stored_of s (operand_of store)) (slice_index store.ranges))
-  pub other : (AreAllDense store.format → ⊥) → AreWithinSearches s formats order store inputs arrays probes
+  pub within : calls_for_workspace s formats order ≡ true → AreWithinSearches s formats order store inputs arrays probes
 
 -- so few are the probe turns of a run that finishes
 abbrev pub ProbesFew : Statement → List (List FormatLevel) → List ℕ → Store → Inputs → KernelOutcome → Type 0
@@ -115,14 +116,15 @@ KeepsProbes a s formats order kernel =
     → Ends a (length store.format) kernel arrays (ProbesFew s formats order store (told_by a store))
 
 -- the kernel is right and sound, its loops turn within the cost, the rows of its workspace are gone over no more often than that, and
--- coordinates are sought within the widths of levels without order
+-- coordinates are sought within the widths of levels without order. It has no workspace where the statement calls for none
 pub record IsCompiled (a : Arithmetic) (s : Statement) (formats : List (List FormatLevel)) (order : List ℕ) (kernel : Kernel)
     : Type 0 where
   pub right : IsRightKernel a s formats kernel
   pub sound : IsSoundKernel a s formats kernel
   pub few : KeepsCost a s formats order kernel
-  pub drains : KeepsDrains a s formats kernel
+  pub drains : KeepsDrains a s formats order kernel
   pub probes : KeepsProbes a s formats order kernel
+  pub bare : calls_for_workspace s formats order ≡ false → kernel.workspaces ≡ []
 
 -- such a kernel in the loop order, in whose code numbers settle nothing and which over the ring adds and multiplies words alone; or the
 -- cycle, where there is one; or want of memory

@@ -1,3 +1,4 @@
+pub mod Appending
 pub mod Compiled
 pub mod Filling
 pub mod Loops

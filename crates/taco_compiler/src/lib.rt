@@ -3,6 +3,7 @@
 //! often its loops turn; of its loops and code it names nothing, but that numbers settle nothing in it.
 #![tactic(auto)]
 
+mod appended;
 mod compiled;
 mod compiling;
 mod dense;

@@ -18,12 +18,17 @@ fn tensors_of(alloc: Global, accesses: &[Access]) -> Result<Items<u64>, AllocErr
     Ok(tensors)
 }
 
-/// Where the variables and the accesses of a statement are kept before all loops. Refused only for want of memory.
-pub(crate) fn first_places(alloc: Global, statement: &Statement) -> Result<Places, AllocError>
-    ensures variables { IfOk result (λ places. places.variables ≡ replicate (length statement.now.vars) 0) }
-    ensures accesses { IfOk result (AreAtBase statement.now 0) }
+/// Where the variables and the accesses of a statement are kept before all loops: in three variables from `base` on. Refused only for
+/// want of memory.
+pub(crate) fn first_places(
+    alloc: Global,
+    statement: &Statement,
+    base: u64,
+) -> Result<Places, AllocError>
+    ensures variables { IfOk result (λ places. places.variables ≡ replicate (length statement.now.vars) base) }
+    ensures accesses { IfOk result (AreAtBase statement.now base) }
 {
     let tensors = tensors_of(alloc, statement.accesses.as_slice())?;
-    let places = Places::new(alloc, statement.vars.len(), tensors.as_slice(), 0)?;
+    let places = Places::new(alloc, statement.vars.len(), tensors.as_slice(), base)?;
     Ok(places)
 }

@@ -1,5 +1,5 @@
-use Rattle.std.specs.Prelude.{◌≡◌, ℕ, suc, ◌+◌, ◌*◌, ◌<◌, ◌≤◌, length, refl}
-use Rattle.std.proofs.Common.{◌∙◌, sym, ap, subst, arith, add-one, get_or}
+use Rattle.std.specs.Prelude.{◌≡◌, suc, ◌+◌, ◌*◌, length}
+use Rattle.std.proofs.Common.{sym, subst, arith, add-one, get_or}
 use Rattle.std.proofs.lemmas.List.{get_or-map, length-map}
 use Rattle.format_spec.specs.declared.format.FormatLevel.{FormatLevel}
 use Rattle.format_spec.specs.Formats.{letters_of}

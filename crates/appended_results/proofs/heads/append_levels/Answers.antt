@@ -1,4 +1,4 @@
-use Rattle.std.specs.Prelude.{◌≡◌, ℕ, ◌+◌, ◌*◌, ◌<◌, ◌≤◌, ◌&&◌, suc, length, slice_index, refl}
+use Rattle.std.specs.Prelude.{◌≡◌, ◌<◌, ◌&&◌, length, slice_index, refl}
 use Rattle.std.proofs.Common.{◌∙◌, sym, ap, subst, arith, add-one, get_or}
 use Rattle.std.proofs.lemmas.List.{get_or-map, length-map}
 use Rattle.kernel_code.specs.Keeps.{Mentions}
@@ -50,7 +50,8 @@ loop-above-preserved c =
           c.loop-above.invariant.0 c.in_ok-level.ensures c.in_ok-append.ensures.ok),
       c.stays_fixed-fixed.ensures ∙ ap (λ f. f && (properties (get_or format above none).letter).full) c.loop-above.invariant.1
           ∙ ap (λ k. is_fixed letters above && (properties k).full)
-          (sym (get_or-map (λ (level : FormatLevel). level.letter) format above none Dense test)) ∙ ap (is_fixed letters) (sym (add-one above)),
+          (sym (get_or-map (λ (level : FormatLevel). level.letter) format above none Dense test))
+          ∙ ap (is_fixed letters) (sym (add-one above)),
     )
 
 pub returns : goal.returns

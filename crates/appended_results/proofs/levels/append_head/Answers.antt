@@ -1,4 +1,4 @@
-use Rattle.std.specs.Prelude.{ℕ, suc, ◌+◌, ◌*◌, ◌≤◌, length, [], ◌∷◌, ◌++◌}
+use Rattle.std.specs.Prelude.{suc, ◌+◌, ◌*◌, [], ◌∷◌, ◌++◌}
 use Rattle.kernel_code.specs.declared.syntax.KStmt.{If}
 use Rattle.std.proofs.Common.{◌∙◌, sym, subst, arith, ap}
 use Rattle.level_appends.specs.declared.site.AppendSite.{AppendSite}

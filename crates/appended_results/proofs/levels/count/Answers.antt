@@ -1,4 +1,4 @@
-use Rattle.std.specs.Prelude.{ℕ, suc, ◌+◌, ◌*◌}
+use Rattle.std.specs.Prelude.{◌+◌, ◌*◌}
 use Rattle.std.proofs.Common.{◌∙◌, subst, add-one}
 use Rattle.kernel_code.specs.declared.syntax.KExpr.{Var}
 use Rattle.level_appends.specs.Positions.{CountsPositions}

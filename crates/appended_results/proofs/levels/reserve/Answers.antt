@@ -1,4 +1,4 @@
-use Rattle.std.specs.Prelude.{ℕ, suc, ◌+◌, ◌*◌}
+use Rattle.std.specs.Prelude.{suc, ◌+◌, ◌*◌}
 use Rattle.std.proofs.Common.{◌∙◌, sym, subst}
 use Rattle.kernel_code.specs.declared.syntax.KExpr.{Var}
 use Rattle.level_appends.specs.declared.site.AppendSite.{AppendSite}
@@ -13,7 +13,8 @@ returns c letters kind is =
     let at = c.args.at in
     let inner = inner_of at.levels at.free in
     Anew (is ∙ c.if-fixed.false)
-    (subst (λ k. ReservesParents meaning k (suc at.above) (at.base + 4 * at.above) (Var (at.free + 2 * at.above + 1)) inner c.in_ok-code.code)
+    (subst (λ k. ReservesParents meaning k (suc at.above) (at.base + 4 * at.above) (Var (at.free + 2 * at.above + 1)) inner
+    c.in_ok-code.code)
     (sym kind)
     (subst (λ (site : AppendSite). ReservesParents meaning (meaning.kind c.args.level.now) site.level site.base
     (Var (at.free + 2 * at.above + 1)) inner c.in_ok-code.code) c.cursor.ensures c.in_ok-code.ensures))

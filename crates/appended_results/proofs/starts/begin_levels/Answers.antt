@@ -1,5 +1,5 @@
-use Rattle.std.specs.Prelude.{◌≡◌, ℕ, suc, ◌+◌, ◌*◌, ◌<◌, length}
-use Rattle.std.proofs.Common.{◌∙◌, sym, subst, arith, add-one, get_or}
+use Rattle.std.specs.Prelude.{◌≡◌, ◌+◌, ◌*◌, length}
+use Rattle.std.proofs.Common.{sym, subst, arith, add-one}
 use Rattle.std.proofs.lemmas.List.{get_or-map}
 use Rattle.format_spec.specs.declared.format.FormatLevel.{FormatLevel}
 use Rattle.format_spec.specs.Formats.{letters_of}
@@ -24,7 +24,8 @@ loop-above-preserved c =
     let above = c.loop-above.above in
     let test = c.loop-above-test.true in
     subst (λ k. BeginsFirst letters (length format) c.args.base k c.append.new.self) (sym (add-one above))
-    (next_begun letters (length format) c.args.base above test c.loop-above.code c.in_ok-level.level c.append.new.self c.loop-above.invariant
+    (next_begun letters (length format) c.args.base above test c.loop-above.code c.in_ok-level.level c.append.new.self
+    c.loop-above.invariant
     (subst (λ k. BeginsOne k (c.args.base + 4 * above) c.in_ok-level.level)
     (sym (get_or-map (λ (level : FormatLevel). level.letter) format above none Dense test)) c.in_ok-level.ensures)
     c.in_ok-append.ensures.ok)

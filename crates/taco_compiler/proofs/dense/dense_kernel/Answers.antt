@@ -7,6 +7,7 @@ use Rattle.concrete_notation.specs.Workspaces.{AreAllDense}
 use Rattle.kernel_emit.specs.Emitted.{AddsLoops}
 use Rattle.kernel_emit.specs.Given.{PlacesFit}
 use Rattle.term_code.specs.DenseSinks.{dense_sink}
+use Rattle.row_orders.proofs.TakingLaws.{dense_calls_for_none}
 use Rattle.taco_compiler.proofs.DenseKernels.{dense_compiled}
 use Rattle.taco_compiler.proofs.Fits.{left_is_target, loops_fit, places_fit}
 use Rattle.taco_compiler.proofs.dense.dense_kernel.Goals as goal
@@ -18,8 +19,8 @@ emit-requires-clause-places g c =
     let modes = c.in_ok-sink.sink.modes in
     let places = c.in_ok-places.places in
     subst (λ target. PlacesFit s formats places target (length modes) 3) (sym c.as_slice-target.ensures)
-    (places_fit s formats places s.left.vars (length modes) c.requires.ready.numbered c.requires.ready.named c.requires.ready.right
-    c.in_ok-places.ensures.variables c.in_ok-places.ensures.accesses
+    (places_fit s formats places 0 s.left.vars (length modes) c.requires.ready.numbered c.requires.ready.named c.requires.ready.right
+    c.in_ok-places.ensures.variables c.in_ok-places.ensures.accesses (omega arith)
     (left_is_target s formats modes c.requires.ready.numbered c.requires.ready.left c.in_ok-sink.ensures))
 
 pub emit-requires-clause-loops : goal.emit-requires-clause-loops
@@ -42,9 +43,9 @@ returns-clause-compiled g c =
       left = c.requires.ready.left;
       read = c.requires.ready.right;
       dense = subst (λ t. AreAllDense (format_of formats t)) result c.requires.dense;
-    }) c.args.order.now loops c.in_ok-loops.ensures sink (c.in_ok-sink.ensures ∙ ap (λ t. modes_of (format_of formats t)) result) places
+    }) c.args.order.now (dense_calls_for_none s formats c.args.order.now c.requires.dense) loops c.in_ok-loops.ensures sink (c.in_ok-sink.ensures ∙ ap (λ t. modes_of (format_of formats t)) result) places
     c.in_ok-places.ensures.accesses c.in_ok-body.body emitted c.in_ok-body.ensures 3
     (subst (λ target. AddsLoops g.S.Semiring.arithmetic dense_sink sink s formats places target loops 3 0 emitted.lists emitted.code)
     c.as_slice-target.ensures c.in_ok-emitted.ensures)
     (record { semiring = c.in_ok-semiring.semiring; workspaces = c.new.result; lists = emitted.lists; body = c.append.new.self })
-    (omega arith) c.in_ok-append.ensures.ok
+    c.new.ensures (omega arith) c.in_ok-append.ensures.ok

@@ -1,5 +1,5 @@
 use Rattle.std.specs.Prelude.{length}
-use Rattle.std.proofs.Common.{◌∙◌, sym, ap, subst}
+use Rattle.std.proofs.Common.{◌∙◌, sym, ap, subst, arith}
 use Rattle.format_spec.specs.Formats.{IsFormat}
 use Rattle.iteration_graph.specs.Edges.{format_of}
 use Rattle.concrete_notation.specs.Workspaces.{AreAllDense}
@@ -19,8 +19,8 @@ emit-requires-clause-places g c =
     let places = c.in_ok-places.places in
     let result = c.requires.ready.named.result in
     subst (λ target. PlacesFit s formats places target (length target) 3) (sym c.as_slice-target.ensures)
-    (places_fit s formats places left (length left) c.requires.ready.numbered c.requires.ready.named c.requires.ready.right
-    c.in_ok-places.ensures.variables c.in_ok-places.ensures.accesses
+    (places_fit s formats places 0 left (length left) c.requires.ready.numbered c.requires.ready.named c.requires.ready.right
+    c.in_ok-places.ensures.variables c.in_ok-places.ensures.accesses (omega arith)
     (subst (λ keys. IsTarget s keys (length left)) (sym c.in_ok-left.ensures)
     (keys_are_target s formats (record {
       numbered = c.requires.ready.numbered;

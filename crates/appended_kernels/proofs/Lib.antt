@@ -1,0 +1,10 @@
+pub mod Ended
+pub mod Finer
+pub mod Kernels
+pub mod Levels
+pub mod Names
+pub mod Rows
+pub mod Starts
+pub mod Takes
+pub mod Tops
+pub mod Values

@@ -1,0 +1,112 @@
+-- When a kernel is right whose result is appended in place: the loops come by its rows in the order of its levels, each row is appended
+-- where it comes, and behind the loops each level's last parent is given its positions. There is no workspace.
+use Rattle.std.specs.Prelude.{◌≡◌, ℕ, ◌+◌, ◌*◌, ◌≤◌, false, List, [], ◌++◌, length}
+use Rattle.numbers.specs.Arithmetic.{Arithmetic, Laws}
+use Rattle.kernel_code.specs.declared.syntax.Arr.{Arr}
+use Rattle.kernel_code.specs.declared.syntax.Kernel.{Kernel}
+use Rattle.kernel_code.specs.declared.syntax.KStmt.{KStmt}
+use Rattle.kernel_code.specs.declared.syntax.LoopKind.{LoopKind}
+use Rattle.kernel_code.specs.Kernels.{KernelOutcome, Finished, GotStuck, TooLong, NotFinished}
+use Rattle.kernel_code.specs.Meaning.{Setting, State}
+use Rattle.level_core.specs.Meaning.{Arrays}
+use Rattle.format_spec.specs.declared.format.FormatLevel.{FormatLevel}
+use Rattle.format_spec.specs.Formats.{letters_of}
+use Rattle.index_notation.specs.declared.syntax.Statement.{Statement}
+use Rattle.iteration_graph.specs.Edges.{format_of, HasFormat}
+use Rattle.lists.specs.Each.{Each}
+use Rattle.expr_terms.specs.ValueLaws.{HasWords}
+use Rattle.concrete_notation.specs.declared.concrete.Concrete.{Concrete}
+use Rattle.concrete_notation.specs.Nests.{SharesLoops, left_in_order, workspaces}
+use Rattle.result_targets.specs.Beside.{beside_lists}
+use Rattle.result_targets.specs.Scratch.{HasLists}
+use Rattle.result_targets.specs.Sinks.{Adds, TakesAll}
+use Rattle.loop_code.specs.declared.loops.LoopCode.{LoopCode}
+use Rattle.loop_code.specs.Loops.{start}
+use Rattle.lowering.specs.Lowered.{AddsRows, IsInOrder, concrete_of, plain}
+use Rattle.lowering.specs.Right.{rows_to}
+use Rattle.lowering.specs.Shapes as shapes
+use Rattle.row_orders.specs.Takings.{calls_for_workspace}
+use Rattle.term_code.specs.declared.places.Places.{Places}
+use Rattle.term_code.specs.Places.{Keeps, StartsAt}
+use Rattle.kernel_correctness.specs.Kernels.{Ends, IsRightOutcome}
+use Rattle.kernel_correctness.specs.Stores.{Store, IsGiven, IsStoreOf, told_by}
+use Rattle.operand_arrays.specs.Apart.{AreFrom}
+use Rattle.operand_arrays.specs.Operands.{stored_in, IsOfOperands}
+use Rattle.dense_results.specs.Kernels.{AreAtBase}
+use Rattle.dense_results.specs.Operands.{IsReadStore, ArrayStands, operands_in}
+use Rattle.sparse_results.specs.Keys.{HasOrderedResult}
+use Rattle.appended_results.specs.Begins.{BeginsFirst}
+use Rattle.appended_results.specs.Ends.{EndsFirst}
+use Rattle.appended_results.specs.Heads.{IsHead}
+use Rattle.appended_results.specs.declared.sink.AppendedSink.{AppendedSink}
+use Rattle.appended_results.specs.Sink.{appended_sink, letters_in}
+
+-- a statement with a format for each tensor, that of its result not dense throughout, which calls for no workspace in this loop order
+pub record IsForAppended (s : Statement) (formats : List (List FormatLevel)) (order : List ℕ) : Type 0 where
+  pub ordered : HasOrderedResult s formats
+  pub read : Each (HasFormat formats) s.accesses
+  pub none : calls_for_workspace s formats order ≡ false
+
+-- a statement in concrete notation without workspaces and with no two loops over one variable side by side, and loops that are its own and
+-- add its rows
+pub record AreAppendedLoops (s : Statement) (formats : List (List FormatLevel)) (c : Concrete) (loops : LoopCode) : Type 0 where
+  pub shares : SharesLoops c
+  pub none : workspaces c ≡ []
+  pub rows : AddsRows s formats c loops
+  pub shape : concrete_of loops ≡ plain c
+  pub words : shapes.EachTerm (λ t. HasWords t.expr) loops
+
+-- a sink that appends to the levels of these formats' result, and begins each value with zero
+pub record IsSinkOf (a : Arithmetic) (formats : List (List FormatLevel)) (k : AppendedSink) : Type 0 where
+  pub levels : k.levels ≡ format_of formats 0
+  pub head : IsHead (letters_of (format_of formats 0)) k.head
+  pub zero : k.zero ≡ a.zero
+
+-- the variable behind those of the sink
+abbrev pub behind : AppendedSink → ℕ
+behind k = k.base + 4 * length k.levels
+
+-- a state at the top of loops that append rows: the arrays hold the operands of a store, each access is at its one parent, and no row is
+-- appended yet. The sink's variables are below those of the places.
+pub record IsAtTop (a : Arithmetic) (k : AppendedSink) (s : Statement) (formats : List (List FormatLevel)) (store : Store)
+    (places : Places) (st : State) : Type 0 where
+  pub stands : ArrayStands s formats store places.accesses st.arrays
+  pub keeps : Keeps places [] start st
+  pub from : AreFrom (behind k) places
+  pub kept : (b : Arr) → IsOfOperands b → appended_sink.kept k b
+  pub held : appended_sink.holds k a store.ranges [] st
+
+-- From the top the code appends the rows that the loops add to these keys, whatever the store, if the sink takes them in turn. It may fill
+-- scratch lists from one number to the one before another.
+pub record AppendsFromTop (a : Arithmetic) (k : AppendedSink) (s : Statement) (formats : List (List FormatLevel)) (places : Places)
+    (keys : List ℕ) (loops : LoopCode) (list past : ℕ) (code : List KStmt) : Type 0 where
+  pub free : ℕ
+  pub most : Store → LoopKind → ℕ
+  pub appends : (c : Setting) → c.arithmetic ≡ a → (store : Store) → IsReadStore s formats store
+      → TakesAll appended_sink k store.ranges []
+      (rows_to a s formats (told_by a store) (stored_in (operands_in s store)) keys loops)
+      → (st : State) → IsAtTop a k s formats store places st → HasLists list past st
+      → Adds (beside_lists appended_sink list past) k c store.ranges code free (most store) []
+      (rows_to a s formats (told_by a store) (stored_in (operands_in s store)) keys loops) st
+
+-- a run that finishes makes no more turns than these
+abbrev pub MakesNoMore : (LoopKind → ℕ) → KernelOutcome → Type 0
+MakesNoMore most (Finished arrays turns) = (j : LoopKind) → turns j ≤ most j
+MakesNoMore most (GotStuck statement) = ⊥
+MakesNoMore most (TooLong place count) = Unit {0}
+MakesNoMore most NotFinished = ⊥
+
+-- on every store a kernel of such code is right, and a run that finishes makes no more turns than the loops' code
+abbrev pub AppendedKernelsAreRight : Type 0
+AppendedKernelsAreRight = (a : Arithmetic) → Laws a → (s : Statement) (formats : List (List FormatLevel))
+    → (c : Concrete) (in_order : IsInOrder s formats c) → IsForAppended s formats in_order.order
+    → (loops : LoopCode) → AreAppendedLoops s formats c loops
+    → (k : AppendedSink) → IsSinkOf a formats k
+    → (base : ℕ) (places : Places) → AreAtBase s base places → AreFrom (behind k) places → behind k ≤ base
+    → (top begin code end : List KStmt) → StartsAt base top → BeginsFirst (letters_in k) (length k.levels) k.base (length k.levels) begin
+    → (list past : ℕ) (appends : AppendsFromTop a k s formats places (left_in_order s in_order.order) loops list past code)
+    → (free : ℕ) → EndsFirst (letters_in k) k.base free (length k.levels) end
+    → (kernel : Kernel) → past ≤ kernel.lists → kernel.body ≡ ((top ++ begin) ++ code) ++ end
+    → (store : Store) → IsStoreOf s formats store → (arrays : Arrays) → IsGiven a.zero store arrays
+    → Ends a (length store.format) kernel arrays (λ outcome. IsRightOutcome a s (told_by a store) store outcome
+    × MakesNoMore (appends.most store) outcome)

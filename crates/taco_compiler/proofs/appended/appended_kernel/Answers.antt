@@ -1,0 +1,37 @@
+use Rattle.std.specs.Prelude.{◌++◌, length}
+use Rattle.std.proofs.Common.{◌∙◌, sym, ap, subst, arith}
+use Rattle.format_spec.specs.Formats.{IsFormat}
+use Rattle.iteration_graph.specs.Edges.{format_of}
+use Rattle.concrete_notation.specs.Workspaces.{AreAllDense}
+use Rattle.taco_compiler.proofs.AppendedKernels.{appended_compiled, places_from, sink_fits}
+use Rattle.taco_compiler.proofs.appended.appended_kernel.Goals as goal
+
+pub returns-clause-compiled : goal.returns-clause-compiled
+returns-clause-compiled g c =
+    let s = c.args.statement.now in
+    let formats = c.args.formats.now in
+    let order = c.args.order.now in
+    let result = c.requires.ready.named.result in
+    let a = g.S.Semiring.arithmetic in
+    let sink = c.in_ok-sink.sink in
+    let rows = c.in_ok-appended.ensures in
+    let appended = c.in_ok-appended.appended in
+    let ordered = record {
+      numbered = c.requires.ready.numbered;
+      named = c.requires.ready.named;
+      left = c.requires.ready.left;
+      format = subst (λ t. IsFormat (format_of formats t)) result c.requires.ready.formed.0;
+      some = λ dense. c.requires.some (subst (λ t. AreAllDense (format_of formats t)) (sym result) dense);
+    } in
+    appended_compiled a g.met.S.Semiring.laws s formats order
+    (record { ordered = ordered; read = c.requires.ready.right; none = c.requires.none }) rows.loops rows.are sink
+    (sink_fits a s formats sink ordered c.in_ok-sink.ensures.levels c.in_ok-sink.ensures.head c.in_ok-sink.ensures.zero)
+    rows.places rows.at (places_from s _ rows.places rows.variables rows.at) c.in_ok-body.body c.in_ok-begin.begin c.in_ok-end.end appended
+    c.in_ok-body.ensures ? _ _ (omega arith) rows.adds ? (record {
+      semiring = c.in_ok-semiring.semiring;
+      workspaces = c.new.result;
+      lists = appended.lists;
+      body = c.append-3.new.self;
+    }) c.new.ensures (omega arith)
+    (c.in_ok-append-3.ensures.ok ∙ ap (λ b. b ++ c.in_ok-end.end)
+    (c.in_ok-append-2.ensures.ok ∙ ap (λ b. b ++ appended.code) c.in_ok-append.ensures.ok))
