@@ -6,6 +6,7 @@ pub mod Equations
 pub mod Fits
 pub mod GatheringLaws
 pub mod Kept
+pub mod KnownLaws
 pub mod ListLaws
 pub mod LoopLaws
 pub mod LoopParts

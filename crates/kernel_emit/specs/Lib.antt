@@ -5,4 +5,5 @@ pub mod Emitted
 pub mod Ending
 pub mod Gathering
 pub mod Given
+pub mod Known
 pub mod Opened

@@ -3,43 +3,34 @@
 
 ghost use Rattle.std.specs.Prelude.{◌≡◌, IfOk};
 ghost use Rattle.kernel_emit.specs.Gathering.{gathered_of};
-ghost use Rattle.loop_code.specs.Parts.{is_live, is_live_below, is_other};
+ghost use Rattle.loop_code.specs.Parts.{is_iterator, is_other};
 
-use crate::alone::{is_iterator, one_of, remains_in};
-use index_notation::Expr;
+use crate::presence::{Accesses, is_live_below};
 use loop_code::{LoopCode, Seek};
 use std::alloc::{AllocError, Global};
 use trees::Items;
 
-/// Whether an access stands in the part of an expression that remains where of the accesses that cursors go over none is present.
-fn stands_in(expr: &Expr, walked: &[Seek], access: usize) -> bool
-    ensures { result ≡ is_live (is_other walked.now) expr.now access }
+/// Whether a level of the access that isn't full is among these.
+fn is_iterator(walked: &[Seek], access: usize) -> bool
+    ensures { result ≡ is_iterator walked.now access }
 {
-    match expr {
-        Expr::Num(_) => false,
-        Expr::Access(other) => *other == access && !is_iterator(walked, *other),
-        Expr::Binary(_, first, second) => {
-            let sides = one_of(
-                stands_in(first.get(), walked, access),
-                stands_in(second.get(), walked, access),
-            );
-            remains_in(expr, walked, None) && sides
-        }
-        Expr::Neg(inner) => stands_in(inner.get(), walked, access),
-    }
+    let Some((first, others)) = walked.split_first() else {
+        return false;
+    };
+    (first.access == access && !first.full) || is_iterator(others, access)
 }
 
-/// The same of some term below.
-fn stands_below(loops: &LoopCode, walked: &[Seek], access: usize) -> bool
-    ensures { result ≡ is_live_below (is_other walked.now) loops.now access }
-{
-    match loops {
-        LoopCode::Loop { body, .. } => stands_below(body.get(), walked, access),
-        LoopCode::Both(first, second) => one_of(
-            stands_below(first.get(), walked, access),
-            stands_below(second.get(), walked, access),
-        ),
-        LoopCode::Add(term) => stands_in(&term.expr, walked, access),
+/// The accesses of which no level that isn't full is among these.
+#[derive(Drop)]
+struct Others<'a> {
+    walked: &'a [Seek],
+}
+
+impl<'a> Accesses for Others<'a> {
+    ghost have = { λ a k. is_other a.walked.now k };
+
+    fn has(&self, access: usize) -> bool {
+        !is_iterator(self.walked, access)
     }
 }
 
@@ -57,7 +48,8 @@ pub(crate) fn gathered_of(
         return Ok(Items::new(alloc));
     };
     let rest = gathered_of(alloc, walked, body, others)?;
-    if !stands_below(body, walked, first.access) {
+    let present = Others { walked };
+    if !is_live_below(body, &present, first.access) {
         return Ok(rest);
     }
     let mut all = Items::new(alloc);

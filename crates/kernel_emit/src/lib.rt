@@ -10,6 +10,8 @@ mod closing;
 mod emitting;
 mod ending;
 mod gathering;
+mod head;
 mod opening;
+mod presence;
 
 pub use emitting::{Emitted, emit};
