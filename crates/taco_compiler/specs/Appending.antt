@@ -4,7 +4,8 @@ use Rattle.numbers.specs.Arithmetic.{Arithmetic}
 use Rattle.format_spec.specs.declared.format.FormatLevel.{FormatLevel}
 use Rattle.index_notation.specs.declared.syntax.Statement.{Statement}
 use Rattle.concrete_notation.specs.Nests.{left_in_order}
-use Rattle.appended_results.specs.Sink.{AppendedSink, appended_sink}
+use Rattle.appended_results.specs.declared.sink.AppendedSink.{AppendedSink}
+use Rattle.appended_results.specs.Sink.{appended_sink}
 use Rattle.appended_kernels.specs.Kernels.{behind}
 use Rattle.dense_results.specs.Kernels.{AreAtBase}
 use Rattle.kernel_emit.specs.Emitted.{AddsLoops}

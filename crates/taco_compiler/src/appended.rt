@@ -1,6 +1,6 @@
 //! The kernel of a statement whose result isn't dense and which calls for no workspace: loops that append their rows to the result's levels
 //! in place, as they come.
-ghost use Rattle.std.specs.Prelude.{◌≡◌, ◌*◌, false, ⊥, IfOk, length};
+ghost use Rattle.std.specs.Prelude.{◌≡◌, false, IfOk, length};
 ghost use Rattle.concrete_notation.specs.Workspaces.{AreAllDense};
 ghost use Rattle.expr_terms.specs.Minus.{HasMeaning};
 ghost use Rattle.iteration_graph.specs.Edges.{HasFormat, format_of};
