@@ -98,17 +98,18 @@ same_tests (level ∷ levels) = ap (λ b. (properties level.letter).full && b) (
 heads_alike : (levels : List FormatLevel) → length (head_levels levels) ≡ head_length (letters_of levels)
 heads_alike [] = refl
 heads_alike (level ∷ levels) =
-    by (list_all is_dense (level ∷ levels)) refl (same_tests (level ∷ levels))
+    by (list_all is_dense (level ∷ levels)) refl (same_tests (level ∷ levels)) (heads_alike levels)
   where
     by : (b : Bool) → list_all is_dense (level ∷ levels) ≡ b
         → list_all is_dense (level ∷ levels) ≡ list_all is_full (letters_of (level ∷ levels))
+        → length (head_levels levels) ≡ head_length (letters_of levels)
         → length (head_levels (level ∷ levels)) ≡ head_length (letters_of (level ∷ levels))
-    by true is same =
+    by true is same again =
         ap (λ b. length (if b then [] else (level ∷ head_levels levels))) is
         ∙ sym (ap (λ b. if b then 0 else suc (head_length (letters_of levels))) (sym same ∙ is))
-    by false is same =
+    by false is same again =
         ap (λ b. length (if b then [] else (level ∷ head_levels levels))) is
-        ∙ ap suc (heads_alike levels)
+        ∙ ap suc again
         ∙ sym (ap (λ b. if b then 0 else suc (head_length (letters_of levels))) (sym same ∙ is))
 
 -- some level isn't full where not all are dense
@@ -123,14 +124,14 @@ not_full levels some = by (list_all is_full (letters_of levels)) refl
 pub sink_fits : (a : Arithmetic) (s : Statement) (formats : List (List FormatLevel)) (k : AppendedSink) → HasOrderedResult s formats
     → k.levels ≡ format_of formats s.left.tensor → k.head ≡ length (head_levels (format_of formats s.left.tensor)) → k.zero ≡ a.zero
     → IsSinkOf a formats k
-sink_fits a s formats k ordered levels head zero =
+sink_fits a s formats k ordered levels head begins_with =
     let result = ap (format_of formats) ordered.named.result in
     record {
       levels = levels ∙ result;
       head = subst (IsHead (letters_of (format_of formats 0))) (sym (head ∙ ap (λ ls. length (head_levels ls)) result
           ∙ heads_alike (format_of formats 0)))
           (some_head (letters_of (format_of formats 0)) (not_full (format_of formats 0) ordered.some));
-      zero = zero;
+      zero = begins_with;
     }
 
 module _ (a : Arithmetic) (laws : Laws a) (s : Statement) (formats : List (List FormatLevel)) (order : List ℕ)

@@ -1,8 +1,11 @@
-use Rattle.std.specs.Prelude.{◌+◌, ◌*◌, length}
+use Rattle.std.specs.Prelude.{◌≡◌, ◌+◌, ◌*◌, length, replicate}
 use Rattle.std.proofs.Common.{◌∙◌, sym, ap, subst, arith}
 use Rattle.format_spec.specs.Formats.{IsFormat}
 use Rattle.iteration_graph.specs.Edges.{format_of}
 use Rattle.concrete_notation.specs.Workspaces.{AreAllDense}
+use Rattle.concrete_notation.specs.Nests.{left_in_order}
+use Rattle.dense_results.specs.Kernels.{AreAtBase}
+use Rattle.sparse_results.specs.Keys.{HasOrderedResult}
 use Rattle.kernel_emit.specs.Emitted.{AddsLoops}
 use Rattle.kernel_emit.specs.Given.{PlacesFit}
 use Rattle.appended_results.specs.Sink.{appended_sink}
@@ -20,7 +23,7 @@ emit-requires-clause-places g c =
     let places = c.in_ok-places.places in
     let sink = c.args.sink.now in
     let result = c.requires.ready.named.result in
-    let ordered = record {
+    let ordered : HasOrderedResult s formats = record {
       numbered = c.requires.ready.numbered;
       named = c.requires.ready.named;
       left = c.requires.ready.left;
@@ -29,11 +32,12 @@ emit-requires-clause-places g c =
     } in
     let few = levels_few s formats sink c.requires.ready.numbered c.requires.ready.left c.requires.levels in
     let base = c.requires.base in
-    subst (λ target. PlacesFit s formats places target (length sink.levels) (sink.base + 4 * length sink.levels + 3))
+    let many = c.len.ensures in
+    subst (λ target. PlacesFit s formats places target (length sink.levels) (sink.base + 4 * c.len.result + 3))
     (sym c.as_slice-target.ensures)
-    (places_fit s formats places (sink.base + 4 * length sink.levels) left (length sink.levels) c.requires.ready.numbered
+    (places_fit s formats places (sink.base + 4 * c.len.result) left (length sink.levels) c.requires.ready.numbered
     c.requires.ready.named c.requires.ready.right c.in_ok-places.ensures.variables c.in_ok-places.ensures.accesses
-    (omega (arith, few, base))
+    (omega (arith, few, base, many))
     (subst (λ keys. IsTarget s keys (length sink.levels)) (sym c.in_ok-left.ensures)
     (keys_are_target s formats ordered order c.requires.ready.is_order (length sink.levels)
     (keys_many s formats ordered order c.requires.ready.is_order ∙ sym (ap length c.requires.levels ∙ c.requires.ready.left.order)))))
@@ -43,15 +47,44 @@ emit-requires-clause-loops g c =
     loops_fit g.S.Semiring.has_minus c.args.statement.now c.args.formats.now c.args.order.now c.in_ok-loops.loops c.requires.ready.numbered
     c.requires.meant c.in_ok-loops.ensures
 
+pub overflow_mul-base : goal.overflow_mul-base
+overflow_mul-base g c =
+    let few = levels_few c.args.statement.now c.args.formats.now c.args.sink.now c.requires.ready.numbered c.requires.ready.left
+    c.requires.levels in
+    let many = c.len.ensures in omega (arith, few, many)
+
+pub overflow_add-base : goal.overflow_add-base
+overflow_add-base g c =
+    let few = levels_few c.args.statement.now c.args.formats.now c.args.sink.now c.requires.ready.numbered c.requires.ready.left
+    c.requires.levels in
+    let many = c.len.ensures in
+    let base = c.requires.base in omega (arith, few, many, base)
+
+pub overflow_add-base-2 : goal.overflow_add-base-2
+overflow_add-base-2 g c =
+    let few = levels_few c.args.statement.now c.args.formats.now c.args.sink.now c.requires.ready.numbered c.requires.ready.left
+    c.requires.levels in
+    let many = c.len.ensures in
+    let base = c.requires.base in omega (arith, few, many, base)
+
 pub returns : goal.returns
-returns g c = record {
-  loops = c.in_ok-loops.loops;
-  are = c.in_ok-loops.ensures;
-  places = c.in_ok-places.places;
-  at = c.in_ok-places.ensures.accesses;
-  variables = c.in_ok-places.ensures.variables;
-  adds = subst (λ target. AddsLoops g.S.Semiring.arithmetic appended_sink c.args.sink.now c.args.statement.now c.args.formats.now
-      c.in_ok-places.places target c.in_ok-loops.loops (c.args.sink.now.base + 4 * length c.args.sink.now.levels + 3) 0
-      c.in_ok-emitted.emitted.lists c.in_ok-emitted.emitted.code)
-      (c.as_slice-target.ensures ∙ c.in_ok-left.ensures) c.in_ok-emitted.ensures;
-}
+returns g c =
+    let s = c.args.statement.now in
+    let formats = c.args.formats.now in
+    let sink = c.args.sink.now in
+    let places = c.in_ok-places.places in
+    let loops = c.in_ok-loops.loops in
+    let emitted = c.in_ok-emitted.emitted in
+    let many = c.len.ensures in
+    record {
+      loops = loops;
+      are = c.in_ok-loops.ensures;
+      places = places;
+      at = subst (λ n. AreAtBase s (sink.base + 4 * n) places) many c.in_ok-places.ensures.accesses;
+      variables = subst (λ n. places.variables ≡ replicate (length s.vars) (sink.base + 4 * n)) many c.in_ok-places.ensures.variables;
+      adds = subst (λ n. AddsLoops g.S.Semiring.arithmetic appended_sink sink s formats places (left_in_order s c.args.order.now) loops
+          (sink.base + 4 * n + 3) 0 emitted.lists emitted.code) many
+          (subst (λ target. AddsLoops g.S.Semiring.arithmetic appended_sink sink s formats places target loops
+          (sink.base + 4 * c.len.result + 3) 0 emitted.lists emitted.code)
+          (c.as_slice-target.ensures ∙ c.in_ok-left.ensures) c.in_ok-emitted.ensures);
+    }

@@ -4,6 +4,7 @@ use Rattle.format_spec.specs.Formats.{IsFormat, letters_of}
 use Rattle.iteration_graph.specs.Edges.{format_of}
 use Rattle.concrete_notation.specs.Workspaces.{AreAllDense}
 use Rattle.term_code.specs.Places.{StartsAt}
+use Rattle.sparse_results.specs.Keys.{HasOrderedResult}
 use Rattle.appended_results.specs.Begins.{BeginsFirst}
 use Rattle.appended_results.specs.Ends.{EndsFirst}
 use Rattle.taco_compiler.proofs.AppendedKernels.{appended_compiled, places_from, sink_fits}
@@ -19,7 +20,7 @@ returns-clause-compiled g c =
     let sink = c.in_ok-sink.sink in
     let rows = c.in_ok-appended.ensures in
     let appended = c.in_ok-appended.appended in
-    let ordered = record {
+    let ordered : HasOrderedResult s formats = record {
       numbered = c.requires.ready.numbered;
       named = c.requires.ready.named;
       left = c.requires.ready.left;
