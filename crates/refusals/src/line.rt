@@ -9,6 +9,7 @@ ghost use Rattle.refusals.specs.Lines.{of_word, of_name, limit_at, too_many_at, 
 ghost use Rattle.refusals.specs.Lines.{binding_line, no_range_text, conflict_text, above_text, range_line, size_text, workspace_text};
 ghost use Rattle.refusals.specs.Lines.{names_behind, cycle_text, named_line, no_minus_text, kind_text, file_bytes_text, bad_line_text, line_of};
 ghost use Rattle.refusals.specs.Lines.{kernel_line_text, trap_text, budget_text, kernel_line};
+ghost use Rattle.refusals.specs.declared.fault.Fault.TheVariants as fault;
 
 use crate::fault::{Fault, KernelFault, NamedFault};
 use bindings::{BindingFault, WordFault, name_at};
@@ -592,6 +593,17 @@ fn put_kernel_fault<S: Sink>(sink: &mut S, fault: &KernelFault<'_>) -> Result<()
     }
 }
 
+/// Appends the line of a result that can't be written: to the output, or into the file of this path.
+fn put_write_fault<S: Sink>(sink: &mut S, path: Option<&str>) -> Result<(), Refusal>
+    ensures whole { OnOk result (Appends (S.state sink.old) (S.state sink.new) (line_of (fault.WriteFault path.entry))) }
+    ensures part { IfErr result (AppendsPart (S.state sink.old) (S.state sink.new) (line_of (fault.WriteFault path.entry))) }
+{
+    match path {
+        None => put_all(sink, b"taco: standard output: write fault\n"),
+        Some(path) => put_of_path(sink, path, b": write fault\n"),
+    }
+}
+
 /// Appends the line of a fault. It takes no memory but what the sink takes. After a refusal of the sink a part of the line at its
 /// front was appended.
 pub fn put_line<S: Sink>(sink: &mut S, fault: &Fault<'_>) -> Result<(), Refusal>
@@ -608,8 +620,7 @@ pub fn put_line<S: Sink>(sink: &mut S, fault: &Fault<'_>) -> Result<(), Refusal>
         Fault::FileBytes(path) => put_file_bytes(sink, path, greatest_bytes_of_file()),
         Fault::BadFile { path, line, kind } => put_bad_line(sink, path, *line, *kind),
         Fault::Kernel(fault) => put_kernel_fault(sink, fault),
-        Fault::WriteFault(None) => put_all(sink, b"taco: standard output: write fault\n"),
-        Fault::WriteFault(Some(path)) => put_of_path(sink, path, b": write fault\n"),
+        Fault::WriteFault(path) => put_write_fault(sink, *path),
         Fault::Memory => put_all(sink, MEMORY),
     }
 }

@@ -17,3 +17,9 @@ returns-in-BadStore-clause-whole g c =
     subst (λ (why : KernelFault). OnOk c.put_all.result
     (Appends (g.S.Sink.state c.args.sink.now) (g.S.Sink.state c.put_all.new.sink) (kernel_line why)))
     (sym c.in-BadStore.is) c.put_all.ensures.whole
+
+pub returns-in-BadStore-clause-part : goal.returns-in-BadStore-clause-part
+returns-in-BadStore-clause-part g c =
+    subst (λ (why : KernelFault). IfErr c.put_all.result
+    (AppendsPart (g.S.Sink.state c.args.sink.now) (g.S.Sink.state c.put_all.new.sink) (kernel_line why)))
+    (sym c.in-BadStore.is) c.put_all.ensures.part
