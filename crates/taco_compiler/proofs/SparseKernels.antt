@@ -1,7 +1,7 @@
 -- A kernel whose code pushes the rows of a statement's loops into a workspace, and fills the result from them, is compiled where the
 -- statement calls for one: it is right and sound, its loops turn no more often than the statement costs, and its rows are gone over no more often than twice a level.
 use Rattle.std.specs.Prelude.{◌≡◌, ℕ, ◌+◌, ◌*◌, ◌≤◌, ◌<◌, List, [], ◌∷◌, ◌++◌, length, Some, slice_get}
-use Rattle.std.specs.Prelude.{slice_index, Bool, true, false}
+use Rattle.std.specs.Prelude.{slice_index, true}
 use Rattle.std.proofs.Common.{◌∙◌, sym, ap, subst, arith}
 use Rattle.std.proofs.Math.Nat.{mul-add, mul_left_comm}
 use Rattle.std.proofs.lemmas.List.{length-map}
@@ -22,7 +22,6 @@ use Rattle.iteration_graph.specs.Edges.{format_of}
 use Rattle.lists.specs.Each.{Each}
 use Rattle.concrete_notation.specs.declared.concrete.Concrete.{Concrete}
 use Rattle.concrete_notation.specs.Nests.{left_in_order}
-use Rattle.concrete_notation.specs.Workspaces.{AreAllDense}
 use Rattle.loop_code.specs.declared.loops.LoopCode.{LoopCode}
 use Rattle.loop_code.specs.Loops.{start}
 use Rattle.lowering.specs.Lowered.{IsInOrder}

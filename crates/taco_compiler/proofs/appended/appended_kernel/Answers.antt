@@ -7,8 +7,17 @@ use Rattle.term_code.specs.Places.{StartsAt}
 use Rattle.sparse_results.specs.Keys.{HasOrderedResult}
 use Rattle.appended_results.specs.Begins.{BeginsFirst}
 use Rattle.appended_results.specs.Ends.{EndsFirst}
-use Rattle.taco_compiler.proofs.AppendedKernels.{appended_compiled, places_from, sink_fits}
+use Rattle.taco_compiler.proofs.AppendedKernels.{appended_compiled, levels_few, places_from, sink_fits}
 use Rattle.taco_compiler.proofs.appended.appended_kernel.Goals as goal
+
+pub end_levels-requires : goal.end_levels-requires
+end_levels-requires g c =
+    let sink = c.in_ok-sink.sink in
+    let few = levels_few c.args.statement.now c.args.formats.now sink c.requires.ready.numbered c.requires.ready.left
+    c.in_ok-sink.ensures.levels in
+    let base = c.in_ok-sink.ensures.base in
+    let same = ap length c.as_slice-levels.ensures in
+    record { room = record { result = omega arith; code = omega (arith, few, base, same) } }
 
 pub returns-clause-compiled : goal.returns-clause-compiled
 returns-clause-compiled g c =
@@ -27,7 +36,7 @@ returns-clause-compiled g c =
       format = subst (λ t. IsFormat (format_of formats t)) result c.requires.ready.formed.0;
       some = λ dense. c.requires.some (subst (λ t. AreAllDense (format_of formats t)) (sym result) dense);
     } in
-    let levels = c.as_slice.ensures in
+    let levels = c.as_slice-levels.ensures in
     let top = subst (λ ls. StartsAt (sink.base + 4 * length ls) c.in_ok-body.body) levels c.in_ok-body.ensures in
     let begin = subst (λ ls. BeginsFirst (letters_of ls) (length ls) sink.base (length ls) c.in_ok-begin.begin) levels
     c.in_ok-begin.ensures in

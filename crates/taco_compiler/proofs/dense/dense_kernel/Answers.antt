@@ -1,5 +1,4 @@
 use Rattle.std.specs.Prelude.{length}
-use Rattle.std.specs.Prelude.{◌≤◌}
 use Rattle.std.proofs.Common.{◌∙◌, sym, ap, subst, arith}
 use Rattle.format_spec.specs.Formats.{modes_of}
 use Rattle.iteration_graph.specs.Edges.{format_of}
