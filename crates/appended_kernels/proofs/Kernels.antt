@@ -1,10 +1,12 @@
 -- Kernels are right whose code appends the rows of a statement's loops to the result, and then ends its levels.
-use Rattle.std.specs.Prelude.{◌≡◌, ℕ, ◌+◌, ◌≤◌, ◌<◌, List, [], ◌++◌, length, Some, refl}
+use Rattle.std.specs.Prelude.{◌≡◌, ◌⊎◌, ℕ, suc, ◌+◌, ◌≤◌, ◌<◌, List, [], ◌++◌, length, Some, refl}
 use Rattle.std.specs.List.{list_any}
-use Rattle.std.proofs.Common.{◌∙◌, sym, ap, subst, arith}
+use Rattle.std.proofs.Common.{◌∙◌, sym, ap, subst, arith, inl, inr}
 use Rattle.std.proofs.lemmas.List.{length-map}
 use Rattle.numbers.specs.Arithmetic.{Arithmetic, Laws}
 use Rattle.kernel_code.specs.declared.syntax.Arr.{Arr}
+use Rattle.kernel_code.specs.declared.syntax.Arr.TheVariants.{Range, Values, Dimension, Ends, Coordinates, Width, Key, Sums}
+use Rattle.kernel_code.specs.declared.syntax.Arr.TheVariants.{ListCoordinates, ListPositions}
 use Rattle.kernel_code.specs.declared.syntax.Kernel.{Kernel}
 use Rattle.kernel_code.specs.declared.syntax.KStmt.{KStmt}
 use Rattle.kernel_code.specs.declared.syntax.LoopKind.{LoopKind}
@@ -14,7 +16,7 @@ use Rattle.kernel_code.specs.Keeps.{Leaves, NoVariable, EveryArray, no_turns}
 use Rattle.kernel_code.specs.Meaning.{Setting, State}
 use Rattle.kernel_code.proofs.Does.{does_append, does_weaker}
 use Rattle.level_core.specs.Entries.{one}
-use Rattle.level_core.specs.Fragments.{RefusedWithin}
+use Rattle.level_core.specs.Fragments.{IsOf, RefusedWithin}
 use Rattle.level_core.specs.Meaning.{Arrays}
 use Rattle.level_cursors.specs.Children.{ChildLeft}
 use Rattle.format_spec.specs.declared.format.FormatLevel.{FormatLevel}
@@ -60,12 +62,29 @@ use Rattle.appended_results.specs.Sink.{appended_sink, letters_in, RefusesSome}
 use Rattle.appended_results.specs.Starts.{MayStart, StartsResult}
 use Rattle.appended_results.proofs.StartLaws.{sink_holds_none}
 use Rattle.appended_results.proofs.TableGrowths.{refused_passes}
-use Rattle.appended_kernels.specs.Kernels.{IsForAppended, AreAppendedLoops, IsSinkOf, AppendsFromTop, MakesNoMore, behind}
-use Rattle.appended_kernels.specs.Kernels.{AppendedKernelsAreRight}
+use Rattle.appended_kernels.specs.Kernels.{IsForAppended, AreAppendedLoops, IsSinkOf, AppendsFromTop, IsLevel, MakesNoMore}
+use Rattle.appended_kernels.specs.Kernels.{NeedsNoWorkspace, AppendedKernelsAreRight, behind}
 use Rattle.appended_kernels.proofs.Ended.{ended_stands}
 use Rattle.appended_kernels.proofs.Rows.{read_store, are_rows, rows_for, names_rows, rows_taken}
 use Rattle.appended_kernels.proofs.Starts.{starts_result, starts_few, all_appended}
 use Rattle.appended_kernels.proofs.Tops.{at_top}
+
+-- the arrays of a level, and the values, stand at levels
+of_level : (order level : ℕ) (b : Arr) → IsOf 0 level b ⊎ (b ≡ Values 0) → IsLevel (place_of order b)
+of_level order level b (inr is) = subst (λ x. IsLevel (place_of order x)) (sym is) tt
+of_level order level b (inl of) = by b of
+  where
+    by : (b : Arr) → IsOf 0 level b → IsLevel (place_of order b)
+    by Range h = absurd h
+    by (Values n) h = absurd h
+    by (Dimension n k) h = tt
+    by (Ends n k) h = tt
+    by (Coordinates n k) h = tt
+    by (Width n k) h = tt
+    by (Key n k) h = absurd h
+    by (Sums n) h = absurd h
+    by (ListCoordinates n) h = absurd h
+    by (ListPositions n) h = absurd h
 
 module _ (a : Arithmetic) (s : Statement) (store : Store) (most : LoopKind → ℕ) where
   -- the state leaves the result, and few turns were made
@@ -75,16 +94,19 @@ module _ (a : Arithmetic) (s : Statement) (store : Store) (most : LoopKind → �
   -- the growth may be refused
   abbrev MayBe : (LoopKind → ℕ) → Arr → ℕ → Type 0
   MayBe turns b count = IsRightOutcome a s (told_by a store) store (TooLong (place_of (length store.format) b) count)
+      × IsLevel (place_of (length store.format) b)
 
   done_told : (o : KernelOutcome) → ToldOf (length store.format) IsDone MayBe o
-      → IsRightOutcome a s (told_by a store) store o × MakesNoMore most o
+      → IsRightOutcome a s (told_by a store) store o × MakesNoMore most o × NeedsNoWorkspace o
   done_told (Finished arrays turns) h = (
     subst (LeavesResult a s (told_by a store) store) h.2 h.1.0,
     subst (λ (made : LoopKind → ℕ). (j : LoopKind) → made j ≤ most j) h.3 h.1.1,
+    tt,
   )
   done_told (GotStuck statement) h = absurd h
   done_told (TooLong place count) h =
-      let r = h.1 in (subst (λ p. IsRightOutcome a s (told_by a store) store (TooLong p count)) r.2 r.1, tt)
+      let r = h.1 in
+      (subst (λ p. IsRightOutcome a s (told_by a store) store (TooLong p count)) r.2 r.1.0, tt, subst IsLevel r.2 r.1.1)
   done_told NotFinished h = absurd h
 
 module _ (a : Arithmetic) (laws : Laws a) (s : Statement) (formats : List (List FormatLevel)) (c : Concrete)
@@ -223,14 +245,16 @@ module _ (a : Arithmetic) (laws : Laws a) (s : Statement) (formats : List (List 
             let here = subst (λ (levels : List FormatLevel).
             RefusesSome (letters_of levels) (in_level_order levels store.ranges) k.head rows b count) same_levels r in
             let p = refused_passes (letters_of store.format) (in_level_order store.format store.ranges) k.head rows b count here
-            (table_of (sums_of a rows)) (names_rows a laws s formats c in_order f loops l store is) in
-            levels_may_pass a s store (sums_of a rows) (are_rows a laws s formats c in_order f loops l store is) p.level b count
-            (record {
-              inside = (let inside = p.inside in omega (arith, inside, letters_many));
-              array = p.array;
-              above = p.above;
-              within = p.within;
-            })
+            (table_of (sums_of a rows)) (names_rows a laws s formats c in_order f loops l store is) in (
+              levels_may_pass a s store (sums_of a rows) (are_rows a laws s formats c in_order f loops l store is) p.level b count
+                  (record {
+                    inside = (let inside = p.inside in omega (arith, inside, letters_many));
+                    array = p.array;
+                    above = p.above;
+                    within = p.within;
+                  }),
+              of_level (length store.format) (suc p.level) b p.array,
+            )
 
     -- ---- the levels are ended
     from_loops : (t : State) → HoldsAll t → Does setting end t IsEnd MayEnd
@@ -266,7 +290,7 @@ module _ (a : Arithmetic) (laws : Laws a) (s : Statement) (formats : List (List 
 
     pub ends : kernel.body ≡ ((top ++ begin) ++ code) ++ end
         → EndsSo a (length store.format) kernel arrays (λ outcome. IsRightOutcome a s (told_by a store) store outcome
-        × MakesNoMore most outcome)
+        × MakesNoMore most outcome × NeedsNoWorkspace outcome)
     ends body =
         let e = ends_as_code_does a (length store.format) kernel arrays IsEnd MayEnd
         (subst (λ (b : List KStmt). Does setting b first IsEnd MayEnd) (sym body) whole) in

@@ -6,6 +6,8 @@ use Rattle.kernel_code.specs.declared.syntax.Arr.{Arr}
 use Rattle.kernel_code.specs.declared.syntax.Kernel.{Kernel}
 use Rattle.kernel_code.specs.declared.syntax.KStmt.{KStmt}
 use Rattle.kernel_code.specs.declared.syntax.LoopKind.{LoopKind}
+use Rattle.kernel_code.specs.declared.syntax.Place.{Place}
+use Rattle.kernel_code.specs.declared.syntax.Place.TheVariants.{Level, Workspace}
 use Rattle.kernel_code.specs.Kernels.{KernelOutcome, Finished, GotStuck, TooLong, NotFinished}
 use Rattle.kernel_code.specs.Meaning.{Setting, State}
 use Rattle.level_core.specs.Meaning.{Arrays}
@@ -96,7 +98,19 @@ MakesNoMore most (GotStuck statement) = ⊥
 MakesNoMore most (TooLong place count) = Unit {0}
 MakesNoMore most NotFinished = ⊥
 
--- on every store a kernel of such code is right, and a run that finishes makes no more turns than the loops' code
+abbrev pub IsLevel : Place → Type 0
+IsLevel (Level level) = Unit {0}
+IsLevel Workspace = ⊥
+
+-- no workspace is refused a growth
+abbrev pub NeedsNoWorkspace : KernelOutcome → Type 0
+NeedsNoWorkspace (Finished arrays turns) = Unit {0}
+NeedsNoWorkspace (GotStuck statement) = Unit {0}
+NeedsNoWorkspace (TooLong place count) = IsLevel place
+NeedsNoWorkspace NotFinished = Unit {0}
+
+-- on every store a kernel of such code is right, no workspace is refused a growth, and a run that finishes makes no more turns than the
+-- loops' code
 abbrev pub AppendedKernelsAreRight : Type 0
 AppendedKernelsAreRight = (a : Arithmetic) → Laws a → (s : Statement) (formats : List (List FormatLevel))
     → (c : Concrete) (in_order : IsInOrder s formats c) → IsForAppended s formats in_order.order
@@ -109,4 +123,4 @@ AppendedKernelsAreRight = (a : Arithmetic) → Laws a → (s : Statement) (forma
     → (kernel : Kernel) → past ≤ kernel.lists → kernel.body ≡ ((top ++ begin) ++ code) ++ end
     → (store : Store) → IsStoreOf s formats store → (arrays : Arrays) → IsGiven a.zero store arrays
     → Ends a (length store.format) kernel arrays (λ outcome. IsRightOutcome a s (told_by a store) store outcome
-    × MakesNoMore (appends.most store) outcome)
+    × MakesNoMore (appends.most store) outcome × NeedsNoWorkspace outcome)

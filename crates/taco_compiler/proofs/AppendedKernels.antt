@@ -1,5 +1,5 @@
--- A kernel whose code appends the rows of a statement's loops to its result in place is compiled where the statement calls for no workspace:
--- it is right and sound, its loops turn no more often than the statement costs, and it has no rows to go over again.
+-- A kernel whose code appends the rows of a statement's loops to its result in place is compiled where the statement calls for no
+-- workspace: it is right and sound, its loops turn no more often than the statement costs, and it has no rows to go over again.
 use Rattle.std.specs.Prelude.{◌≡◌, ℕ, zero, suc, ◌≤◌, ◌<◌, true, false, List, [], ◌∷◌, ◌++◌, length, All, Some, map, refl}
 use Rattle.std.specs.Prelude.{replicate, slice_get, slice_index, ◌^◌, ◌&&◌, Bool, if◌then◌else◌}
 use Rattle.std.specs.List.{list_all}
@@ -52,10 +52,11 @@ use Rattle.appended_results.specs.Heads.{IsHead, head_length, is_full}
 use Rattle.appended_results.proofs.HeadLengths.{some_head}
 use Rattle.appended_results.specs.declared.sink.AppendedSink.{AppendedSink}
 use Rattle.appended_results.specs.Sink.{appended_sink, letters_in}
-use Rattle.appended_kernels.specs.Kernels.{AppendsFromTop, AreAppendedLoops, IsForAppended, IsSinkOf, MakesNoMore, behind}
+use Rattle.appended_kernels.specs.Kernels.{AppendsFromTop, AreAppendedLoops, IsForAppended, IsSinkOf, MakesNoMore}
+use Rattle.appended_kernels.specs.Kernels.{NeedsNoWorkspace, behind}
 use Rattle.appended_kernels.proofs.Kernels.{appended_kernels_are_right}
 use Rattle.sparse_kernels.proofs.Ends.{ends_weaker}
-use Rattle.taco_compiler.specs.Compiled.{AreFewTurns, DrainsFew, IsCompiled, ProbesFew}
+use Rattle.taco_compiler.specs.Compiled.{AreFewTurns, DrainsFew, IsCompiled, IsUnrefused, ProbesFew}
 use Rattle.taco_compiler.specs.Loops.{AreLoopsOf}
 use Rattle.taco_compiler.proofs.LoopTurns.{in_order_of, within_cost, within_searches}
 use Rattle.taco_compiler.proofs.Targets.{keys_bound}
@@ -199,12 +200,13 @@ module _ (a : Arithmetic) (laws : Laws a) (s : Statement) (formats : List (List 
     -- a run
     module _ (store : Store) (is : IsStoreOf s formats store) (arrays : Arrays) (given : IsGiven a.zero store arrays) where
       abbrev IsTold : KernelOutcome → Type 0
-      IsTold outcome = IsRightOutcome a s (told_by a store) store outcome × MakesNoMore (appends.most store) outcome
+      IsTold outcome =
+          IsRightOutcome a s (told_by a store) store outcome × MakesNoMore (appends.most store) outcome × NeedsNoWorkspace outcome
 
       told : Ends a (length store.format) kernel arrays IsTold
       told =
-          appended_kernels_are_right a laws s formats c in_order f loops own_loops k own (behind k) places at from (omega arith) top begin code
-          end tops begins 0 emitted.lists appends past ending kernel lists body store is arrays given
+          appended_kernels_are_right a laws s formats c in_order f loops own_loops k own (behind k) places at from (omega arith) top begin
+          code end tops begins 0 emitted.lists appends past ending kernel lists body store is arrays given
 
       few_turns : (o : KernelOutcome) → IsTold o → AreFewTurns s formats order store o
       few_turns (Finished left turns) h =
@@ -236,6 +238,12 @@ module _ (a : Arithmetic) (laws : Laws a) (s : Statement) (formats : List (List 
       few_probes (TooLong place count) h = tt
       few_probes NotFinished h = absurd h.1
 
+      unrefused : (o : KernelOutcome) → IsTold o → IsUnrefused o
+      unrefused (Finished left turns) h = tt
+      unrefused (GotStuck statement) h = absurd h.1
+      unrefused (TooLong place count) h = h.2
+      unrefused NotFinished h = absurd h.1
+
     right_kernel : IsRightKernel a s formats kernel
     right_kernel store is arrays given =
         ends_weaker a (length store.format) kernel arrays (IsTold store is arrays given) (IsRightOutcome a s (told_by a store) store)
@@ -251,5 +259,7 @@ module _ (a : Arithmetic) (laws : Laws a) (s : Statement) (formats : List (List 
           (DrainsFew s formats order (told_by a store) store.format) (no_drains store is arrays given) (told store is arrays given);
       probes = λ store is arrays given. ends_weaker a (length store.format) kernel arrays (IsTold store is arrays given)
           (ProbesFew s formats order store (told_by a store)) (few_probes store is arrays given) (told store is arrays given);
-      bare = λ direct. spaces;
+      bare = λ none. spaces;
+      direct = λ none store is arrays given. ends_weaker a (length store.format) kernel arrays (IsTold store is arrays given) IsUnrefused
+          (unrefused store is arrays given) (told store is arrays given);
     }

@@ -56,7 +56,7 @@ use Rattle.kernel_emit.proofs.ListLaws.{operand_apart}
 use Rattle.row_orders.specs.Takings.{calls_for_workspace}
 use Rattle.row_orders.proofs.Lists.{clash}
 use Rattle.sparse_kernels.proofs.Ends.{ends_weaker}
-use Rattle.taco_compiler.specs.Compiled.{AreFewTurns, DrainsFew, IsCompiled, ProbesFew}
+use Rattle.taco_compiler.specs.Compiled.{AreFewTurns, DrainsFew, IsCompiled, IsUnrefused, ProbesFew}
 use Rattle.taco_compiler.specs.Loops.{AreLoopsOf}
 use Rattle.taco_compiler.proofs.LoopTurns.{in_order_of, within_cost, within_searches}
 
@@ -123,8 +123,9 @@ module _ (a : Arithmetic) (laws : Laws a) (s : Statement) (formats : List (List 
     }
 
     right_kernel : IsRightKernel a s formats kernel
-    right_kernel = dense_kernels_are_right a laws s formats f c in_order loops l.rows k modes 0 places at top code tops 0 emitted.lists from_top
-        kernel few_lists body
+    right_kernel =
+        dense_kernels_are_right a laws s formats f c in_order loops l.rows k modes 0 places at top code tops 0 emitted.lists from_top kernel
+        few_lists body
 
     -- the turns of a run
     module _ (store : Store) (is : IsStoreOf s formats store) (arrays : Arrays) (given : IsGiven a.zero store arrays) where
@@ -212,6 +213,19 @@ module _ (a : Arithmetic) (laws : Laws a) (s : Statement) (formats : List (List 
       few_probes (TooLong place count) h = tt
       few_probes NotFinished h = absurd h
 
+      unrefused : (o : KernelOutcome) → ToldOf (length store.format) (λ u. AreMost u.turns) Never o → IsUnrefused o
+      unrefused (Finished left turns) h = tt
+      unrefused (GotStuck statement) h = absurd h
+      unrefused (TooLong place count) h = absurd h.1.1
+      unrefused NotFinished h = absurd h
+
+      ends_unrefused : Ends a (length store.format) kernel arrays IsUnrefused
+      ends_unrefused =
+          ends_weaker a (length store.format) kernel arrays (ToldOf (length store.format) (λ u. AreMost u.turns) Never) IsUnrefused unrefused
+          (ends_as_code_does a (length store.format) kernel arrays (λ u. AreMost u.turns) Never
+          (subst (λ (b : List KStmt). Does setting b begin (λ u. AreMost u.turns) Never) (sym body)
+          (does_append setting top code begin HasTop (λ u. AreMost u.turns) Never (tops setting begin) behind)))
+
     pub dense_compiled : IsCompiled a s formats order kernel
     dense_compiled = record {
       right = right_kernel;
@@ -219,8 +233,10 @@ module _ (a : Arithmetic) (laws : Laws a) (s : Statement) (formats : List (List 
       few = λ store is arrays given. ends_weaker a (length store.format) kernel arrays (ToldTurns store is arrays given)
           (AreFewTurns s formats order store) (few_turns store is arrays given) (ends_with_turns store is arrays given);
       drains = λ store is arrays given. ends_weaker a (length store.format) kernel arrays (ToldTurns store is arrays given)
-          (DrainsFew s formats order (told_by a store) store.format) (no_drains store is arrays given) (ends_with_turns store is arrays given);
+          (DrainsFew s formats order (told_by a store) store.format) (no_drains store is arrays given)
+          (ends_with_turns store is arrays given);
       probes = λ store is arrays given. ends_weaker a (length store.format) kernel arrays (ToldTurns store is arrays given)
           (ProbesFew s formats order store (told_by a store)) (few_probes store is arrays given) (ends_with_turns store is arrays given);
-      bare = λ direct. spaces;
+      bare = λ none. spaces;
+      direct = λ none store is arrays given. ends_unrefused store is arrays given;
     }

@@ -1,5 +1,6 @@
 -- A kernel whose code pushes the rows of a statement's loops into a workspace, and fills the result from them, is compiled where the
--- statement calls for one: it is right and sound, its loops turn no more often than the statement costs, and its rows are gone over no more often than twice a level.
+-- statement calls for one: it is right and sound, its loops turn no more often than the statement costs, and its rows are gone over no more
+-- often than twice a level.
 use Rattle.std.specs.Prelude.{◌≡◌, ℕ, ◌+◌, ◌*◌, ◌≤◌, ◌<◌, List, [], ◌∷◌, ◌++◌, length, Some, slice_get}
 use Rattle.std.specs.Prelude.{slice_index, true}
 use Rattle.std.proofs.Common.{◌∙◌, sym, ap, subst, arith}
@@ -244,4 +245,5 @@ module _ (a : Arithmetic) (laws : Laws a) (s : Statement) (formats : List (List 
       probes = λ store is arrays given. ends_weaker a (length store.format) kernel arrays (IsTold store is arrays given)
           (ProbesFew s formats order store (told_by a store)) (few_probes store is arrays given) (told store is arrays given);
       bare = λ free. absurd (clash (calls_for_workspace s formats order) called free);
+      direct = λ free. absurd (clash (calls_for_workspace s formats order) called free);
     }

@@ -16,6 +16,7 @@ use Rattle.kernel_correctness.specs.Stores.{Store, IsStoreOf, IsGiven, operand_o
 use Rattle.lowering.specs.Stored.{stored_of}
 use Rattle.simplifier.specs.Folded.{SimpleCode}
 use Rattle.row_orders.specs.Takings.{calls_for_workspace}
+use Rattle.appended_kernels.specs.Kernels.{IsLevel}
 use Rattle.sparse_kernels.specs.Turns.{AreNotWider, HasPoints}
 use Rattle.statement_costs.specs.Costs.{statement_cost, statement_repeats}
 use Rattle.statement_costs.specs.Slots.{statement_slots}
@@ -98,7 +99,8 @@ pub record AreWithinSearches (s : Statement) (formats : List (List FormatLevel))
 -- where a statement calls for no workspace no coordinate is sought in the result
 pub record AreFewProbes (s : Statement) (formats : List (List FormatLevel)) (order : List ℕ) (store : Store) (inputs : Inputs)
     (arrays : Arrays) (probes : ℕ) : Type 0 where
-  pub none : calls_for_workspace s formats order ≡ false → (width : ℕ) → AreWidths s formats (operands_in s store) (λ k level. width)
+  pub none : calls_for_workspace s formats order ≡ false → (width : ℕ)
+      → AreWidths s formats (operands_in s store) (λ k level. width)
       → probes ≤ width * (length s.accesses * statement_cost s formats order (stored_of s (operand_of store)) (slice_index store.ranges))
   pub within : calls_for_workspace s formats order ≡ true → AreWithinSearches s formats order store inputs arrays probes
 
@@ -115,8 +117,22 @@ KeepsProbes a s formats order kernel =
     (store : Store) → IsStoreOf s formats store → (arrays : Arrays) → IsGiven a.zero store arrays
     → Ends a (length store.format) kernel arrays (ProbesFew s formats order store (told_by a store))
 
+-- a run is neither stuck nor unfinished, and no workspace is refused a growth
+abbrev pub IsUnrefused : KernelOutcome → Type 0
+IsUnrefused (Finished arrays turns) = Unit {0}
+IsUnrefused (GotStuck statement) = ⊥
+IsUnrefused (TooLong place count) = IsLevel place
+IsUnrefused NotFinished = ⊥
+
+-- so it is on every store
+abbrev pub NeedsNone : Arithmetic → Statement → List (List FormatLevel) → Kernel → Type 0
+NeedsNone a s formats kernel =
+    (store : Store) → IsStoreOf s formats store → (arrays : Arrays) → IsGiven a.zero store arrays
+    → Ends a (length store.format) kernel arrays IsUnrefused
+
 -- the kernel is right and sound, its loops turn within the cost, the rows of its workspace are gone over no more often than that, and
--- coordinates are sought within the widths of levels without order. It has no workspace where the statement calls for none
+-- coordinates are sought within the widths of levels without order. It has no workspace where the statement calls for none, and is refused
+-- none there
 pub record IsCompiled (a : Arithmetic) (s : Statement) (formats : List (List FormatLevel)) (order : List ℕ) (kernel : Kernel)
     : Type 0 where
   pub right : IsRightKernel a s formats kernel
@@ -125,6 +141,7 @@ pub record IsCompiled (a : Arithmetic) (s : Statement) (formats : List (List For
   pub drains : KeepsDrains a s formats order kernel
   pub probes : KeepsProbes a s formats order kernel
   pub bare : calls_for_workspace s formats order ≡ false → kernel.workspaces ≡ []
+  pub direct : calls_for_workspace s formats order ≡ false → NeedsNone a s formats kernel
 
 -- such a kernel in the loop order, in whose code numbers settle nothing and which over the ring adds and multiplies words alone; or the
 -- cycle, where there is one; or want of memory

@@ -117,9 +117,10 @@ pub(crate) fn appended_kernel<S: Semiring>(
     body.append(appended.code)?;
     let end = end_levels(alloc, levels, sink.base, base)?;
     body.append(end)?;
+    let workspaces = Items::new(alloc);
     Ok(Kernel {
         semiring,
-        workspaces: Items::new(alloc),
+        workspaces,
         lists: appended.lists,
         body,
     })

@@ -49,9 +49,9 @@ returns-clause-compiled g c =
     c.in_ok-begin.begin c.in_ok-end.end appended top begin (sink.base + 4 * length sink.levels + 3) (sink.base + 4 * length sink.levels)
     (omega arith) rows.adds end (record {
       semiring = c.in_ok-semiring.semiring;
-      workspaces = c.new.result;
+      workspaces = c.new-workspaces.result;
       lists = appended.lists;
       body = c.append-3.new.self;
-    }) c.new.ensures (omega arith)
+    }) c.new-workspaces.ensures (omega arith)
     (c.in_ok-append-3.ensures.ok ∙ ap (λ b. b ++ c.in_ok-end.end)
     (c.in_ok-append-2.ensures.ok ∙ ap (λ b. b ++ appended.code) c.in_ok-append.ensures.ok))

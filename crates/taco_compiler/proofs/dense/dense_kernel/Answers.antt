@@ -42,7 +42,8 @@ returns-clause-compiled g c =
       left = c.requires.ready.left;
       read = c.requires.ready.right;
       dense = subst (λ t. AreAllDense (format_of formats t)) result c.requires.dense;
-    }) c.args.order.now (dense_calls_for_none s formats c.args.order.now c.requires.dense) loops c.in_ok-loops.ensures sink (c.in_ok-sink.ensures ∙ ap (λ t. modes_of (format_of formats t)) result) places
+    }) c.args.order.now (dense_calls_for_none s formats c.args.order.now c.requires.dense) loops c.in_ok-loops.ensures sink
+    (c.in_ok-sink.ensures ∙ ap (λ t. modes_of (format_of formats t)) result) places
     c.in_ok-places.ensures.accesses c.in_ok-body.body emitted c.in_ok-body.ensures 3
     (subst (λ target. AddsLoops g.S.Semiring.arithmetic dense_sink sink s formats places target loops 3 0 emitted.lists emitted.code)
     c.as_slice-target.ensures c.in_ok-emitted.ensures)
