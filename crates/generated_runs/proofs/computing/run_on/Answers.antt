@@ -4,6 +4,7 @@ use Rattle.limits.specs.Limits.{greatest_position_count}
 use Rattle.limits.proofs.Limits.{workloads_are_ranges}
 use Rattle.numbers.specs.Ring.{ring}
 use Rattle.operand_packing.specs.Runnable.{IsRunnable}
+use Rattle.kernel_correctness.specs.Kernels.{IsRightKernel}
 use Rattle.kernel_runs.specs.Runs.{MayRefuseRun}
 use Rattle.kernel_runs.proofs.Fits.{none_refused}
 use Rattle.generated_runs.specs.Workloads.{workload_statement, workload_formats}
@@ -32,3 +33,8 @@ memory_of-requires c =
     c.requires.formats
     (subst (λ s. MayRefuseRun ring s c.args.formats.now given operands c.args.operands.bounds.items c.in-Err.fault)
     c.requires.statement c.in-Err.ensures.refused)))
+
+pub run_kernel-requires-clause-right : goal.run_kernel-requires-clause-right
+run_kernel-requires-clause-right c =
+    subst (λ s. IsRightKernel ring s c.args.formats.now c.args.kernel.now) (sym c.requires.statement)
+    (subst (λ formats. IsRightKernel ring workload_statement formats c.args.kernel.now) (sym c.requires.formats) c.requires.kernel.1.right)
