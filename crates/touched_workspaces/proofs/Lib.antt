@@ -1,0 +1,5 @@
+pub mod Coordinates
+pub mod DrainLaws
+pub mod RowLaws
+pub mod SortLaws
+pub mod StartLaws
