@@ -42,7 +42,7 @@ below_first size [] h = absurd h
 below_first size (x ∷ coords) h = h.0
 
 -- the row behind those that were taken
-key_at : (taken : List Entry) (row : Entry) (waiting : List Entry)
+pub key_at : (taken : List Entry) (row : Entry) (waiting : List Entry)
     → slice_get (column 0 (taken ++ row ∷ waiting)) (length taken) ≡ Some (slice_index row.coords 0)
 key_at [] row waiting = refl
 key_at (first ∷ taken) row waiting = key_at taken row waiting

@@ -1,8 +1,8 @@
 -- The code before all rows, that of one row, which sets a coordinate's mark at its first touch and lists it, and that of the drain.
-use Rattle.std.specs.Prelude.{ℕ, List, [], ◌∷◌}
+use Rattle.std.specs.Prelude.{ℕ, ◌+◌, List, [], ◌∷◌, ◌++◌}
 use Rattle.kernel_code.specs.declared.syntax.Arr.TheVariants.{Range, Key, Sums}
 use Rattle.kernel_code.specs.declared.syntax.Op.TheVariants.{Less}
-use Rattle.kernel_code.specs.declared.syntax.KExpr.{KExpr, Num, Var, At, Bin}
+use Rattle.kernel_code.specs.declared.syntax.KExpr.{KExpr, Num, Var, At, Len, Bin}
 use Rattle.kernel_code.specs.declared.syntax.KStmt.{KStmt, Set, Put, AddTo, Push, Extend, Cut, If}
 use Rattle.term_code.specs.WorkspaceSinks.{push_code}
 use Rattle.touched_workspaces.specs.Sizes.{greatest_marked_range}
@@ -37,6 +37,15 @@ take_code k at x =
 
 abbrev pub next_code : TouchedSink → ℕ → ℕ → List KStmt
 next_code k at x = If (is_large k.variable) [] (take_code k at x) ∷ []
+
+-- the row is taken, and read
+abbrev pub taken_code : TouchedSink → ℕ → ℕ → List KStmt
+taken_code k at x =
+    next_code k at x ++ Set x (At (Key k.list 0) (Var at)) ∷ Set (x + 1) (At (Sums k.list) (Var at)) ∷ []
+
+-- whether a row waits
+abbrev pub wait_test : TouchedSink → ℕ → KExpr
+wait_test k at = Bin Less (Var at) (Len (Key k.list 0))
 
 abbrev pub empty_code : TouchedSink → List KStmt
 empty_code k = Cut (Key k.list 0) (Num 0) ∷ Cut (Sums k.list) (Num 0) ∷ []

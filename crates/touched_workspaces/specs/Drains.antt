@@ -1,15 +1,16 @@
 -- Draining: once the list is sorted, its rows are taken from the top. Those that wait have their marks and sums, those that were taken have
 -- their sums in the list, and neither marks nor sums any more. So whether a range is large or not, what is left of rows are their sums.
-use Rattle.std.specs.Prelude.{◌≡◌, ℕ, ◌<◌, ◌≤◌, List, [], ◌∷◌, ◌++◌, length, replicate, Option, Some, slice_get, slice_index}
+use Rattle.std.specs.Prelude.{◌≡◌, ℕ, ◌+◌, ◌<◌, ◌≤◌, List, [], ◌∷◌, ◌++◌, length, replicate, Option, Some, slice_get, slice_index}
 use Rattle.limits.specs.Limits.{greatest_workspace_pairs}
 use Rattle.numbers.specs.Arithmetic.{Arithmetic, Laws}
 use Rattle.lists.specs.Each.{Each}
 use Rattle.kernel_code.specs.declared.syntax.Arr.{Arr}
 use Rattle.kernel_code.specs.declared.syntax.Arr.TheVariants.{Key, Sums}
+use Rattle.kernel_code.specs.declared.syntax.KExpr.{KExpr}
 use Rattle.kernel_code.specs.declared.syntax.KStmt.{KStmt, SortSum}
 use Rattle.kernel_code.specs.Does.{Does, Never}
 use Rattle.kernel_code.specs.Keeps.{Leaves, NoVariable, no_turns}
-use Rattle.kernel_code.specs.Meaning.{Setting, State, word_of}
+use Rattle.kernel_code.specs.Meaning.{Setting, State, value, word_of}
 use Rattle.tensor_map.specs.declared.entries.Entry.{Entry}
 use Rattle.tensor_map.specs.Entries.{StrictlyIncreasing}
 use Rattle.workspaces.specs.Workspaces.{AreSums}
@@ -59,6 +60,27 @@ TakesNext k at free code =
     → IsDraining k c.arithmetic size taken (row ∷ waiting) s → s.vars at ≡ Some (length taken)
     → Does c code s
     (λ t. Leaves NoVariable (IsOther k) free no_turns s t × IsDraining k c.arithmetic size (taken ++ row ∷ []) waiting t) Never
+
+-- and leaves its coordinate in variable free, and its value in the next one
+pub record IsTakenRow (k : TouchedSink) (a : Arithmetic) (size free : ℕ) (taken : List Entry) (row : Entry) (waiting : List Entry)
+    (s t : State) : Type 0 where
+  pub coordinate : t.vars free ≡ Some (slice_index row.coords 0)
+  pub value_is : t.vars (free + 1) ≡ Some row.value
+  pub draining : IsDraining k a size (taken ++ row ∷ []) waiting t
+  pub leaves : Leaves NoVariable (IsOther k) free no_turns s t
+
+abbrev pub TakesRow : TouchedSink → ℕ → ℕ → List KStmt → Type 0
+TakesRow k at free code =
+    (c : Setting) → Laws c.arithmetic → (size : ℕ) (taken : List Entry) (row : Entry) (waiting : List Entry) (s : State)
+    → IsDraining k c.arithmetic size taken (row ∷ waiting) s → s.vars at ≡ Some (length taken)
+    → Does c code s (IsTakenRow k c.arithmetic size free taken row waiting s) Never
+
+-- the test is 0 where no row waits, else 1: the place of the next one stands in a variable
+pub record TellsWaiting (k : TouchedSink) (at : ℕ) (test : KExpr) : Type 0 where
+  pub none : (a : Arithmetic) (size : ℕ) (taken : List Entry) (s : State) → IsDraining k a size taken [] s
+      → s.vars at ≡ Some (length taken) → value test s ≡ Some 0
+  pub some : (a : Arithmetic) (size : ℕ) (taken : List Entry) (row : Entry) (waiting : List Entry) (s : State)
+      → IsDraining k a size taken (row ∷ waiting) s → s.vars at ≡ Some (length taken) → value test s ≡ Some 1
 
 -- all rows were taken: the list has them, and where the range isn't large no mark and no sum is left
 pub record HoldsTaken (k : TouchedSink) (a : Arithmetic) (size : ℕ) (taken : List Entry) (s : State) : Type 0 where

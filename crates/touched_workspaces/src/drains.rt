@@ -1,10 +1,10 @@
 //! Draining: the rows of the sorted list are taken from the top, and then the list is emptied.
-ghost use Rattle.std.specs.Prelude.{◌≡◌, ◌<◌, [], ◌∷◌, IfOk};
-ghost use Rattle.touched_workspaces.specs.Codes.{take_code, next_code, empty_code};
-ghost use Rattle.touched_workspaces.specs.Drains.{TakesNext, EmptiesTouched};
+ghost use Rattle.std.specs.Prelude.{◌≡◌, ◌+◌, ◌<◌, ◌≤◌, ◌^◌, [], ◌∷◌, IfOk};
+ghost use Rattle.touched_workspaces.specs.Codes.{take_code, next_code, taken_code, wait_test, empty_code};
+ghost use Rattle.touched_workspaces.specs.Drains.{TakesNext, TakesRow, TellsWaiting, EmptiesTouched};
 
 use crate::sink::{TouchedSink, is_large};
-use kernel_code::{Arr, KExpr, KStmt, one_statement, word_at};
+use kernel_code::{Arr, KExpr, KStmt, Op, binary, one_statement, word_at};
 use std::alloc::{AllocError, Global};
 use trees::Items;
 
@@ -95,6 +95,66 @@ pub fn take_next(
 {
     let code = next_code(alloc, sink, at, free)?;
     Ok(code)
+}
+
+/// The value of the row of the list whose place stands in a variable. Refused for want of memory alone.
+fn read(alloc: Global, sink: TouchedSink, at: u64, value: u64) -> Result<KStmt, AllocError>
+    ensures { IfOk result (λ s. s ≡ KStmt.Set value (KExpr.At (Arr.Sums sink.list) (KExpr.Var at))) }
+{
+    let word = word_at(alloc, Arr::Sums(sink.list), KExpr::Var(at))?;
+    Ok(KStmt::Set(value, word))
+}
+
+/// The code of a row that is taken and read. Refused for want of memory alone.
+fn taken_code(
+    alloc: Global,
+    sink: TouchedSink,
+    at: u64,
+    free: u64,
+) -> Result<Items<KStmt>, AllocError>
+    requires { free ≤ 2 ^ 62 }
+    ensures { IfOk result (λ code. code ≡ taken_code sink at free) }
+{
+    let found = find(alloc, sink, at, free)?;
+    let mut reads = one_statement(alloc, found)?;
+    let value = read(alloc, sink, at, free + 1)?;
+    reads.push(value)?;
+    let mut code = next_code(alloc, sink, at, free)?;
+    code.append(reads)?;
+    Ok(code)
+}
+
+/// Code that takes the next row, whose place in the list stands in a variable, and leaves its coordinate in the variable `free` and its
+/// value in the one after it. Variables from `free` on are its own. Refused for want of memory alone.
+pub fn take_row(
+    alloc: Global,
+    sink: TouchedSink,
+    at: u64,
+    free: u64,
+) -> Result<Items<KStmt>, AllocError>
+    requires below { at < free }
+    requires room { free ≤ 2 ^ 62 }
+    ensures { IfOk result (TakesRow sink at free) }
+{
+    let code = taken_code(alloc, sink, at, free)?;
+    Ok(code)
+}
+
+/// The test whether a row waits. Refused for want of memory alone.
+fn wait_test(alloc: Global, sink: TouchedSink, at: u64) -> Result<KExpr, AllocError>
+    ensures { IfOk result (λ test. test ≡ wait_test sink at) }
+{
+    let rows = KExpr::Len(Arr::Key(sink.list, 0));
+    let test = binary(alloc, Op::Less, KExpr::Var(at), rows)?;
+    Ok(test)
+}
+
+/// Whether a row waits: the place of the next one stands in a variable. Refused for want of memory alone.
+pub fn rows_wait(alloc: Global, sink: TouchedSink, at: u64) -> Result<KExpr, AllocError>
+    ensures { IfOk result (TellsWaiting sink at) }
+{
+    let test = wait_test(alloc, sink, at)?;
+    Ok(test)
 }
 
 /// Code behind the drain: the list is emptied, and the workspace holds no rows. Refused for want of memory alone.

@@ -8,7 +8,7 @@ mod sink;
 mod sizes;
 mod starts;
 
-pub use drains::{empty_touched, take_next};
+pub use drains::{empty_touched, rows_wait, take_next, take_row};
 pub use sink::TouchedSink;
 pub use sizes::{GREATEST_MARKED_RANGE, greatest_range_of_marks};
 pub use starts::begin_touched;
