@@ -1,0 +1,6 @@
+pub mod Coordinates
+pub mod DrainLaws
+pub mod ReadLaws
+pub mod RowLaws
+pub mod SortLaws
+pub mod StartLaws
