@@ -1,22 +1,28 @@
 -- The loop that counts the positions of rows at a full level.
-use Rattle.std.specs.Prelude.{◌≡◌, ◌⊎◌, ℕ, ◌+◌, ◌-◌, ◌*◌, ◌≤◌, ◌<◌, ◌^◌, true, false, List, length, slice_index, slice_set, Some}
+use Rattle.std.specs.Prelude.{◌≡◌, ◌⊎◌, ℕ, zero, suc, ◌+◌, ◌-◌, ◌*◌, ◌≤◌, ◌<◌, ◌^◌, true, false, List, length, replicate, slice_index, slice_set, Some, refl}
 use Rattle.std.proofs.Common.{◌∙◌, sym, ap, subst, arith, inl, inr}
 use Rattle.std.proofs.Math.Nat.{mul-le-mul_right}
 use Rattle.std.proofs.lemmas.Bool.{cases_lt}
-use Rattle.std.proofs.lemmas.List.{get_or-set_same, get_or-set_other, length-set}
+use Rattle.std.proofs.lemmas.List.{get_or-set_same, get_or-set_other, get_or_past, length-set}
 use Rattle.limits.specs.Limits.{greatest_position_count}
 use Rattle.limits.proofs.Limits.{positions_are_small}
-use Rattle.level_core.specs.Kinds.{properties, positions_for, MayPrepare}
+use Rattle.level_core.specs.Kinds.{properties, capabilities, positions_for, MayPrepare}
 use Rattle.level_core.specs.Meaning.{Meaning}
 use Rattle.level_core.specs.Laws.{Laws}
 use Rattle.level_core.proofs.KindLaws.{are_of_a_kind, full_positions}
-use Rattle.level_rows.specs.Rows.{Rows, MayInsertRows}
+use Rattle.level_rows.specs.Rows.{Rows, Keys, rows_at, HasCoords, MayInsertRows}
 use Rattle.level_rows.specs.Taken.{InsertsRows}
+use Rattle.level_rows.specs.Filling.{AreNeeded, MayFill, FillsRows}
 use Rattle.level_rows.proofs.InsertLoop.{inserts}
 use Rattle.level_rows.proofs.FullLaws.{full_position}
 
 apart : true ≡ false → ⊥
 apart e = cc
+
+zeros : (n i : ℕ) → slice_index (replicate n 0) i ≡ 0
+zeros zero i = refl
+zeros (suc n) zero = refl
+zeros (suc n) (suc i) = zeros n i
 
 -- the first rows have their positions at a full level of this range, and the others those of their parents
 pub record Counted (size done : ℕ) (rows : Rows) (positions : List ℕ) : Type 0 where
@@ -91,3 +97,48 @@ module _ {L : Type 0} (means : Meaning L) (laws : Laws means) (parents most : �
         ahead = λ i from h. absurd (omega (arith, from, h));
         upto = omega arith;
       })
+
+-- where all rows are below the first parent their coordinates are their positions
+first_counted : (size : ℕ) (keys : Keys) (column : List ℕ) → HasCoords keys column
+    → Counted size keys.count (rows_at keys (replicate keys.count 0)) column
+first_counted size keys column has = record {
+  many = has.long;
+  behind = λ i h.
+      let own : keys.coord i ≡ 0 * size + keys.coord i = omega arith in
+      has.at i h ∙ own ∙ ap (λ p. p * size + keys.coord i) (sym (zeros keys.count i));
+  ahead = λ i from. let long = has.long in get_or_past column i 0 (omega (arith, long, from)) ∙ sym (zeros keys.count i);
+}
+
+-- a new full level is given rows that are all below the first parent
+module _ {L : Type 0} (means : Meaning L) (laws : Laws means) (parents size : ℕ) (keys : Keys) (old : L)
+    (full : (properties (means.kind old)).full ≡ true) (is : size ≡ means.size old)
+    (may : MayFill means parents (rows_at keys (replicate keys.count 0)) old) where
+  not_appended : (capabilities (means.kind old)).append ≡ false
+  not_appended = (are_of_a_kind (means.kind old)).not_both ((are_of_a_kind (means.kind old)).full_inserted full)
+
+  pub first_needed : AreNeeded (means.kind old) (means.size old) parents (rows_at keys (replicate keys.count 0)) (parents * size) 0
+  first_needed = record {
+    appended = λ able. absurd (apart (sym able ∙ not_appended));
+    inserted = λ _. ap (λ n. parents * n) is ∙ sym (full_positions (means.kind old) (means.size old) parents 0 full);
+    greatest = λ _ none. absurd (apart (sym full ∙ none));
+    full = λ _. refl;
+  }
+
+  pub first_may : MayPrepare (means.kind old) (means.width old) 0
+  first_may = record {
+    able = (are_of_a_kind (means.kind old)).full_inserted full;
+    unprepared = (may.inserts not_appended).2;
+    coordinates = omega arith;
+  }
+
+  pub first_within : parents * size ≤ greatest_position_count
+      → positions_for (means.kind old) (means.size old) parents 0 ≤ greatest_position_count
+  first_within few = subst (λ n. n ≤ greatest_position_count) (first_needed.inserted not_appended) few
+
+  pub first_filled : (column : List ℕ) (new : L) → HasCoords keys column → means.keeps old → parents * size ≤ greatest_position_count
+      → means.prepared old parents 0 new → FillsRows means parents 0 (rows_at keys (replicate keys.count 0)) column old new
+  first_filled column new has keeps few prepared = record {
+    appended = λ able. absurd (apart (sym able ∙ not_appended));
+    inserted = λ _. counts means laws parents 0 (rows_at keys (replicate keys.count 0)) old (may.inserts not_appended).0 full size column new
+        keeps first_may (first_within few) prepared is (first_counted size keys column has);
+  }

@@ -1,12 +1,15 @@
-ghost use Rattle.std.specs.Prelude.{◌≡◌, ◌≤◌, ◌<◌, ◌+◌, ℕ, true, false, length, OnOk, OnErr};
+ghost use Rattle.std.specs.Prelude.{◌≡◌, ◌≤◌, ◌<◌, ◌+◌, ℕ, List, true, false, length, replicate, OnOk, OnErr};
 ghost use Rattle.limits.specs.Limits.{greatest_position_count};
 ghost use Rattle.level_core.specs.Entries.{one};
 ghost use Rattle.level_core.specs.Kinds.{properties, positions_for, MayPrepare, MayInsert};
-ghost use Rattle.level_rows.specs.Rows.{rows_at, begun_below, MayInsertRows};
+ghost use Rattle.level_rows.specs.Filling.{AreNeeded, MayFill, FillAnswer};
+ghost use Rattle.level_rows.specs.Rows.{rows_at, begun_below, HasCoords, MayInsertRows};
 ghost use Rattle.level_rows.specs.Taken.{InsertsRows};
 
+use crate::filling::FillRefusal;
 use crate::rows::SortedRows;
 use level_core::Insert;
+use limits::greatest_positions;
 use std::alloc::AllocError;
 
 /// Inserts a row's coordinate if it begins a position, and answers the row's position: else that of the row before.
@@ -91,4 +94,37 @@ pub(crate) fn insert_full<L: Insert, R: SortedRows>(
         positions[row] = positions[row] * size + rows.coord(row);
     }
     Ok(())
+}
+
+/// Gives a new full level, of this range, its rows below so many parents, as `fill_level` does, where all are below the first parent and
+/// their coordinates stand in a list: that has their positions too, and none is told.
+pub fn fill_first<L: Insert, R: SortedRows>(
+    level: &mut L,
+    size: u64,
+    parents: u64,
+    _rows: &R,
+    _column: &[u32],
+) -> Result<u64, FillRefusal>
+    requires full { (properties (L.meaning.kind level.old)).full ≡ true }
+    requires size { size ≡ L.meaning.size level.old }
+    requires range { size ≤ greatest_position_count }
+    requires parents { parents ≤ greatest_position_count }
+    requires rows { MayFill L.meaning parents (rows_at (R.keys _rows.now) (replicate (R.keys _rows.now).count 0)) level.old }
+    requires column { HasCoords (R.keys _rows.now) _column.now }
+    ensures { (needed : ℕ) × (most : ℕ) × (places : List ℕ)
+        × AreNeeded (L.meaning.kind level.old) (L.meaning.size level.old) parents
+        (rows_at (R.keys _rows.now) (replicate (R.keys _rows.now).count 0)) needed most
+        × FillAnswer L.meaning parents (rows_at (R.keys _rows.now) (replicate (R.keys _rows.now).count 0)) needed most
+        (replicate (R.keys _rows.now).count 0) places level.old level.new result
+        × OnOk result (places ≡ _column.now) }
+{
+    let positions = parents as u128 * size as u128;
+    if positions > greatest_positions() as u128 {
+        return Err(FillRefusal::TooMany(positions));
+    }
+    level.tell_rules();
+    match level.prepare(parents, 0) {
+        Ok(()) => Ok(positions as u64),
+        Err(_) => Err(FillRefusal::Memory),
+    }
 }

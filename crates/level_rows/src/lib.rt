@@ -19,7 +19,7 @@ pub use appending::append_rows;
 pub use counting::{greatest_below, positions_begun};
 pub use emitting::{DrainSite, emit_append_rows};
 pub use filling::{FillRefusal, fill_level, prepared_positions};
-pub use inserting::insert_rows;
+pub use inserting::{fill_first, insert_rows};
 pub use numbering::fill_numbered;
 pub use placing::{emit_greatest_below, emit_insert_rows};
 pub use rows::SortedRows;

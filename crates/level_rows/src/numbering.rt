@@ -15,7 +15,7 @@ use limits::greatest_positions;
 use std::alloc::AllocError;
 
 /// Where the rows from this one on end that have its parent.
-fn run_end(positions: &[u64], first: usize) -> usize
+fn run_end(positions: &[u32], first: usize) -> usize
     requires { first < length positions.now }
     ensures within { result ≤ length positions.now }
     ensures more { first < result }
@@ -38,7 +38,7 @@ fn append_numbered<L: Append, R: SortedRows>(
     most: u64,
     _rows: &R,
     column: &[u32],
-    positions: &[u64],
+    positions: &[u32],
 ) -> Result<(), AllocError>
     requires rows { MayAppendRows (L.meaning.kind level.old) (L.meaning.size level.old) parents (rows_at (R.keys _rows.now) positions.now) }
     requires many { length positions.now ≡ (R.keys _rows.now).count }
@@ -62,7 +62,7 @@ fn append_numbered<L: Append, R: SortedRows>(
     let mut done = 0;
     while done < positions.len() {
         let end = run_end(positions, done);
-        at = turn(level, at, positions[done]);
+        at = turn(level, at, positions[done] as u64);
         at = append_run(level, at, &column[done..end]);
         done = end;
     }
@@ -72,14 +72,14 @@ fn append_numbered<L: Append, R: SortedRows>(
 }
 
 /// Gives a new level that is appended to its rows, below so many parents, as `fill_level` does, where each row begins a position and the
-/// coordinates stand in a list. `positions` has the position of the level above of each row; at this level each row's is its own number,
-/// which isn't told.
+/// coordinates stand in a list. `positions` has the position of the level above of each row, four bytes each, as where a column of
+/// coordinates has them; at this level each row's is its own number, which isn't told.
 pub fn fill_numbered<L: Append, R: SortedRows>(
     level: &mut L,
     parents: u64,
     rows: &R,
     column: &[u32],
-    positions: &[u64],
+    positions: &[u32],
 ) -> Result<u64, FillRefusal>
     requires append { (capabilities (L.meaning.kind level.old)).append ≡ true }
     requires parents { parents ≤ greatest_position_count }

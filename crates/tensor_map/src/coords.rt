@@ -1,7 +1,7 @@
 ghost use Rattle.std.specs.Prelude.{◌≡◌, ◌≤◌, ◌<◌, [], ◌∷◌, ◌++◌, ◌↔◌, length, IsTrue};
 ghost use Rattle.limits.specs.Limits.{greatest_order};
 
-use arrayvec::ArrayVec;
+use smallvec::SmallVec;
 use std::alloc::Global;
 use std::marker::Model;
 
@@ -9,27 +9,28 @@ use std::marker::Model;
 /// they stand in the value itself.
 #[derive(Debug, Drop)]
 pub struct Coords {
-    numbers: ArrayVec<u64, 6, Global>,
+    numbers: SmallVec<u64, 6>,
 }
 
 impl Model for Coords {
     ghost use Rattle.std.specs.Prelude.{List, ℕ};
-    ghost use Rattle.tensor_map.specs.Coords.{IsShort};
+    ghost use Rattle.tensor_map.specs.Coords.{IsInline};
 
     ghost Value = { List ℕ };
 
     ghost view = { λ c. c.numbers.items };
 
-    ghost invariant = { λ c. IsShort c.numbers.items };
+    ghost invariant = { λ c. IsInline c.numbers };
 }
 
 impl Coords {
     /// No coordinates.
+    #[tactic(auto, unfolding(limits::specs::Limits::greatest_order))]
     pub fn new(alloc: Global) -> Coords
         ensures { result ≡ [] }
     {
         Coords {
-            numbers: ArrayVec::new_in(alloc),
+            numbers: SmallVec::new(alloc),
         }
     }
 
@@ -39,9 +40,9 @@ impl Coords {
         requires { length coords.now ≤ greatest_order }
         ensures { result ≡ coords.now }
     {
-        let mut numbers = ArrayVec::new_in(alloc);
-        numbers.try_extend_from_slice(coords).unwrap();
-        Coords { numbers }
+        Coords {
+            numbers: SmallVec::from_slice(alloc, coords).unwrap(),
+        }
     }
 
     /// The same coordinates once more.
@@ -58,7 +59,7 @@ impl Coords {
         requires { length self.old < greatest_order }
         ensures { self.new ≡ self.old ++ coordinate ∷ [] }
     {
-        self.numbers.push(coordinate);
+        self.numbers.push_reserved(coordinate);
     }
 
     /// The coordinates, from mode 0 on.
