@@ -14,4 +14,6 @@ mod head;
 mod opening;
 mod presence;
 
+pub use beginning::{Begun, begin_loop, end_loop};
 pub use emitting::{Emitted, emit};
+pub use opening::Opened;
