@@ -1,0 +1,4 @@
+pub mod Fronts
+pub mod Orders
+pub mod Groups
+pub mod Loops
