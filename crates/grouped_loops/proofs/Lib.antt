@@ -2,3 +2,4 @@ pub mod Fronts
 pub mod Orders
 pub mod Groups
 pub mod Loops
+pub mod Chains
