@@ -43,6 +43,7 @@ pub(crate) fn take_line(
 
 /// Takes a line as `take_line` does. Where `value` is told, it is that of the line's last token, and `numbers` are those of the others:
 /// coordinates of the entry take their place.
+#[inline(always)]
 pub(crate) fn take_read_line(
     line: &[u8],
     value: Option<i64>,
