@@ -246,7 +246,7 @@ fn lengthen(columns: &mut [Vec<u32>], count: usize) -> Result<usize, AllocError>
     ensures more { IfOk result (λ more. count < more) }
     ensures long { IfOk result (AreLong (λ column. column.items) columns.new) }
 {
-    let Some(wanted) = count.checked_add(count.min(4096).max(4)) else {
+    let Some(wanted) = count.checked_add(count.min(512).max(4)) else {
         return Err(AllocError);
     };
     for mode in 0..columns.len() {

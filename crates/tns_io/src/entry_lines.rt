@@ -67,7 +67,11 @@ pub(crate) fn take_read_line(
             };
         }
     }
-    take_line(line, number, signed, entries)
+    // A fault of its own, so that lines that are read above needn't look for one.
+    match take_line(line, number, signed, entries) {
+        Ok(()) => Ok(()),
+        Err(fault) => Err(fault),
+    }
 }
 
 /// Reads a line: the coordinates of an entry into `coords`, and its value. None where the line is skipped.
