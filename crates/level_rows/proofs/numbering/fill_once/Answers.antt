@@ -15,7 +15,8 @@ returns-then-count-greatest_positions g c =
       length c.args.column.now,
       length c.args.column.now,
       (places_once c.args.each (g.R.SortedRows.keys c.args.rows.now).count),
-      needed_there g.L.LevelKind.meaning c.args.parents (length c.args.column.now) rows c.args.level.now c.requires.column.long c.requires.all
+      needed_there g.L.LevelKind.meaning c.args.parents (length c.args.column.now) rows c.args.level.now c.requires.column.long
+          c.requires.all
           c.requires.append,
       (many, refl, refl, refl),
     )
@@ -32,10 +33,13 @@ returns-in-Ok g c =
       length c.args.column.now,
       length c.args.column.now,
       range_with_len 0 (g.R.SortedRows.keys c.args.rows.now).count,
-      needed_there g.L.LevelKind.meaning c.args.parents (length c.args.column.now) rows c.args.level.now c.requires.column.long c.requires.all
+      needed_there g.L.LevelKind.meaning c.args.parents (length c.args.column.now) rows c.args.level.now c.requires.column.long
+          c.requires.all
           c.requires.append,
-      filled_there g.L.LevelKind.meaning c.args.parents (length c.args.column.now) rows c.args.level.now c.requires.column.long c.requires.all
-          c.requires.append (range_with_len 0 (g.R.SortedRows.keys c.args.rows.now).count) (places_once c.args.each (g.R.SortedRows.keys c.args.rows.now).count) c.append_once.new.level few filled,
+      filled_there g.L.LevelKind.meaning c.args.parents (length c.args.column.now) rows c.args.level.now c.requires.column.long
+          c.requires.all
+          c.requires.append (range_with_len 0 (g.R.SortedRows.keys c.args.rows.now).count) (places_once c.args.each (g.R.SortedRows.keys
+          c.args.rows.now).count) c.append_once.new.level few filled,
     )
 
 pub returns-in-Err : goal.returns-in-Err
@@ -46,7 +50,8 @@ returns-in-Err g c =
       length c.args.column.now,
       (places_once c.args.each (g.R.SortedRows.keys c.args.rows.now).count),
       needed_there g.L.LevelKind.meaning c.args.parents (length c.args.column.now)
-          (rows_at (g.R.SortedRows.keys c.args.rows.now) (places_once c.args.each (g.R.SortedRows.keys c.args.rows.now).count)) c.args.level.now c.requires.column.long c.requires.all
+          (rows_at (g.R.SortedRows.keys c.args.rows.now) (places_once c.args.each (g.R.SortedRows.keys c.args.rows.now).count))
+          c.args.level.now c.requires.column.long c.requires.all
           c.requires.append,
       (few, c.in-Err.ensures.err, refl),
     )

@@ -46,14 +46,14 @@ returns-in-Some-taken_once g c =
       | in-Ok-fill_whole w ↦
           let e = w.in-Ok-fill_whole.ensures in
           subst (λ r. PlacedAnswer c.args.parents (rows_at keys (places_in c.args.places)) (places_in c.args.places)
-              c.args.stored.now c.fill_whole.new.stored r) (sym w.result-is)
+          c.args.stored.now c.fill_whole.new.stored r) (sym w.result-is)
           (filled_answer keys c.args.parents w.in-Ok-fill_whole.count (places_once c.in-Some-taken_once.each table.count)
           (places_in c.args.places) e.2 (range_with_len 0 (length c.in-Some.column.now)) c.args.stored.now c.fill_whole.new.stored
           (sym is) (e.5 ∙ ap (range_with_len 0) (sym long)) (e.0, e.1, e.3, e.4))
       | in-Err-fill_whole w ↦
           let e = w.in-Err-fill_whole.ensures in
           subst (λ r. PlacedAnswer c.args.parents (rows_at keys (places_in c.args.places)) (places_in c.args.places)
-              c.args.stored.now c.fill_whole.new.stored r) (sym w.result-is)
+          c.args.stored.now c.fill_whole.new.stored r) (sym w.result-is)
           (refused_answer keys c.args.parents (places_once c.in-Some-taken_once.each table.count) (places_in c.args.places) e.2
           c.args.stored.now c.fill_whole.new.stored w.in-Err-fill_whole.refusal (sym is) (e.0, e.1, e.3, e.4))
     ]

@@ -30,6 +30,7 @@ returns g c =
       e.3,
       e.4,
       numbered_answer (g.T.RowTable.table c.args.rows.now.table.now) c.args.levels c.args.rows.now.level c.args.rows.now.through
-          c.args.parents e.0 e.1 (places_once c.args.each (g.T.RowTable.table c.args.rows.now.table.now).count) e.2 c.args.stored.now c.fill_once.new.level c.requires.order c.requires.apart
+          c.args.parents e.0 e.1 (places_once c.args.each (g.T.RowTable.table c.args.rows.now.table.now).count) e.2 c.args.stored.now
+          c.fill_once.new.level c.requires.order c.requires.apart
           c.requires.append c.fill_once.result e.4,
     )
