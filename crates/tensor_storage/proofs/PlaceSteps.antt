@@ -1,5 +1,5 @@
 -- The positions of rows where they are not told: what stands for them, and what filling a level leaves of them.
-use Rattle.std.specs.Prelude.{◌≡◌, ℕ, suc, ◌≤◌, ◌<◌, true, List, length, replicate, slice_index, Result, Ok, Err, OnOk}
+use Rattle.std.specs.Prelude.{◌≡◌, ℕ, suc, ◌+◌, ◌≤◌, ◌<◌, true, false, List, length, replicate, slice_index, Result, Ok, Err, OnOk}
 use Rattle.std.specs.List.{range_with_len}
 use Rattle.std.proofs.Common.{◌∙◌, sym, ap, subst, arith}
 use Rattle.std.proofs.lemmas.List.{ext_get_or}
@@ -88,3 +88,9 @@ pub refused_answer : (keys : Keys) (parents : ℕ) (ps before places : List ℕ)
 refused_answer keys parents ps before places old new refusal same e =
     subst (λ qs. PlacedAnswer parents (rows_at keys qs) qs old new (Err refusal)) same
     (refused parents (rows_at keys ps) ps old new refusal (e.0, e.1, places, e.2, e.3))
+
+pub no_more : {A : Type 0} → false ≡ true → A
+no_more e = absurd (no e)
+  where
+    no : false ≡ true → ⊥
+    no e = cc

@@ -3,9 +3,9 @@ ghost use Rattle.std.specs.List.{range_with_len};
 ghost use Rattle.std.specs.Prelude.{IfOk, MatchResult};
 ghost use Rattle.limits.specs.Limits.{greatest_position_count};
 ghost use Rattle.format_spec.specs.Formats.{letters_of, IsFormat};
-ghost use Rattle.level_core.specs.Kinds.{capabilities};
+ghost use Rattle.level_core.specs.Kinds.{capabilities, properties};
 ghost use Rattle.level_rows.specs.Rows.{rows_at};
-ghost use Rattle.level_rows.specs.Filling.{AreNeeded, MayFill, FillAnswer};
+ghost use Rattle.level_rows.specs.Filling.{AreNeeded, MayFill, FillAnswer, places_once};
 ghost use Rattle.level_rows.specs.Tables.{Increase};
 ghost use Rattle.level_rows.specs.Values.{StoresValues};
 ghost use Rattle.tensor_storage.specs.Counts.{positions_of};
@@ -18,11 +18,11 @@ ghost use Rattle.tensor_storage.specs.Levels.{meaning};
 
 use crate::kinds::chain_end;
 use crate::level::{StorageLevel, new_level};
-use crate::places::{Places, are_first, are_own, kept, lent_places, repeated, told};
+use crate::places::{Places, are_first, are_own, kept, lent_places, repeated, taken_once, told};
 use crate::table::{ColumnRows, LevelRows, RowTable};
 use format_spec::FormatLevel;
 use level_core::{Letter, LevelKind, caps_of};
-use level_rows::{FillRefusal, fill_first, fill_level, fill_numbered, store_values};
+use level_rows::{FillRefusal, fill_first, fill_level, fill_numbered, fill_once, store_values};
 use numbers::Semiring;
 use std::alloc::{AllocError, Global};
 use trees::Items;
@@ -184,6 +184,45 @@ fn fill_apart<T: RowTable>(
     fill_numbered(stored, parents, &narrow, column, above)
 }
 
+/// Gives a new level that is appended to its rows, of which each begins a position, where their coordinates stand in a column: at once,
+/// below the first parent or, where `each` says so, each row below its own.
+fn fill_whole<T: RowTable>(
+    stored: &mut StorageLevel,
+    parents: u64,
+    rows: &LevelRows<T>,
+    levels: usize,
+    column: &[u32],
+    each: bool,
+) -> Result<u64, FillRefusal>
+    requires parents { parents ≤ greatest_position_count }
+    requires each { each ≡ true → (properties (meaning.kind stored.old)).branchless ≡ true }
+    requires rows { MayFill meaning parents
+        (rows_at (keys_of (T.table rows.now.table.now) rows.now.level rows.now.through)
+        (places_once each (T.table rows.now.table.now).count)) stored.old }
+    requires among { rows.now.level < rows.now.through }
+    requires order { Increase (T.table rows.now.table.now).coords levels (T.table rows.now.table.now).count }
+    requires apart { levels ≤ rows.now.through }
+    requires append { (capabilities (meaning.kind stored.old)).append ≡ true }
+    requires column { column.now ≡ level_column (T.table rows.now.table.now) rows.now.level }
+    ensures { (needed : ℕ) × (most : ℕ) × (after : List ℕ)
+        × AreNeeded (meaning.kind stored.old) (meaning.size stored.old) parents
+        (rows_at (keys_of (T.table rows.now.table.now) rows.now.level rows.now.through)
+        (places_once each (T.table rows.now.table.now).count)) needed most
+        × FillAnswer meaning parents (rows_at (keys_of (T.table rows.now.table.now) rows.now.level rows.now.through)
+        (places_once each (T.table rows.now.table.now).count))
+        needed most (places_once each (T.table rows.now.table.now).count) after stored.old stored.new result
+        × OnOk result (after ≡ range_with_len 0 (T.table rows.now.table.now).count) }
+{
+    let narrow = ColumnRows {
+        table: rows.table,
+        level: rows.level,
+        through: rows.through,
+        column,
+        all_begin: true,
+    };
+    fill_once(stored, parents, &narrow, column, each)
+}
+
 /// Gives a new level its rows, as `fill_level` does, and tells no position where it follows from what stands in memory already: that of a
 /// row at a dense level on top is its coordinate, and one that is appended has its own number where each row begins a position.
 fn fill_placed<'a, T: RowTable>(
@@ -219,12 +258,21 @@ fn fill_placed<'a, T: RowTable>(
             Err(refusal) => Err(refusal),
         };
     }
-    let Some(above) = lent_places(&places) else {
-        return fill_told(alloc, stored, size, parents, rows, levels, places);
-    };
     if !numbers_rows(stored.letter(), rows.through, levels) {
         return fill_told(alloc, stored, size, parents, rows, levels, places);
     }
+    if let Some(each) = taken_once(&places, stored.props().branchless) {
+        return match fill_whole(stored, parents, rows, levels, column, each) {
+            Ok(count) => Ok(Filled {
+                count,
+                places: Places::Own(column.len()),
+            }),
+            Err(refusal) => Err(refusal),
+        };
+    }
+    let Some(above) = lent_places(&places) else {
+        return fill_told(alloc, stored, size, parents, rows, levels, places);
+    };
     match fill_apart(stored, parents, rows, levels, column, above) {
         Ok(count) => Ok(Filled {
             count,

@@ -1,6 +1,7 @@
 //! The position of each row at a level, told only where it must be: mostly it follows from what stands in memory already.
 ghost use Rattle.std.specs.Prelude.{◌≡◌, ◌<◌, ℕ, length, replicate, slice_index, true, IfOk, IfSome};
 ghost use Rattle.std.specs.List.{range_with_len};
+ghost use Rattle.level_rows.specs.Filling.{places_once};
 ghost use Rattle.tensor_storage.specs.Places.{places_in};
 
 use std::alloc::{AllocError, Global};
@@ -99,4 +100,22 @@ pub(crate) fn lent_places<'a>(places: &Places<'a>) -> Option<&'a [u32]>
         Places::Column(column) => Some(*column),
         Places::First(_) | Places::Own(_) | Places::Told(_) => None,
     }
+}
+
+/// Whether a level may take all rows at once, each of which begins a position there: where all are below the first parent, or where it is
+/// branchless and they have their own numbers, which it then says.
+pub(crate) fn taken_once(places: &Places<'_>, branchless: bool) -> Option<bool>
+    ensures { IfSome result (λ each. (places_in places.now ≡ places_once each (length (places_in places.now)))
+        × (each ≡ true → branchless ≡ true)) }
+{
+    if are_first(places) {
+        return Some(false);
+    }
+    if !branchless {
+        return None;
+    }
+    if are_own(places) {
+        return Some(true);
+    }
+    None
 }
