@@ -118,6 +118,8 @@ fn answer(fault: Option<FileFault>) -> Result<(), AllocError>
 }
 
 /// Reads the lines that end in a piece. A matrix's are read by code of their own, whose numbers are two wherever they are gone through.
+/// This is a function apart, so that what its callers keep takes none of its registers.
+#[inline(never)]
 #[tactic(auto, unfolding(limits::specs::Limits::greatest_order))]
 fn read_lines(
     lines: &mut LineReader,

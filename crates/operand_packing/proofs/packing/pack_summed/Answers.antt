@@ -30,8 +30,8 @@ returns-in-Ok-clause-packed g c =
       words = c.in-Ok.ensures.words;
     }
 
-pub returns-in-Err-clause-packed : goal.returns-in-Err-clause-packed
-returns-in-Err-clause-packed g c =
+pub returns-clause-packed : goal.returns-clause-packed
+returns-clause-packed g c =
     let summed = c.sum_up.new.entries.list in
     c.fault_of.ensures g.S.Semiring.arithmetic c.args.format.now c.args.sizes.now c.args.entries.now.list summed
     (subst (λ n. AreSummed g.S.Semiring.arithmetic n c.args.entries.now.list c.sum_up.new.entries.list) c.requires.order
