@@ -1,0 +1,46 @@
+-- Rows with coordinates before their own, and the variables that have them.
+use Rattle.std.specs.Prelude.{◌≡◌, ℕ, zero, suc, ◌+◌, ◌<◌, ◌≤◌, List, [], ◌∷◌, ◌++◌, All, refl}
+use Rattle.std.specs.List.{range_with_len}
+use Rattle.std.proofs.Common.{◌∙◌, ap, arith}
+use Rattle.std.proofs.lemmas.List.Elements.{All-nil, All-cons}
+use Rattle.lists.specs.Each.{Each}
+use Rattle.kernel_code.specs.Meaning.{State}
+use Rattle.tensor_map.specs.declared.entries.Entry.{Entry}
+use Rattle.result_targets.specs.Sinks.{VarsAre}
+use Rattle.drained_workspaces.specs.Drained.{prefixed_row, prefixed}
+
+-- one row among others
+pub prefixed_between : (coords : List ℕ) (taken : List Entry) (row : Entry) (waiting : List Entry)
+    → prefixed coords (taken ++ row ∷ waiting) ≡ prefixed coords taken ++ prefixed_row coords row ∷ prefixed coords waiting
+prefixed_between coords [] row waiting = refl
+prefixed_between coords (first ∷ taken) row waiting =
+    ap (λ rows. prefixed_row coords first ∷ rows) (prefixed_between coords taken row waiting)
+
+-- variables and more variables have numbers and more numbers
+pub vars_both : (ys xs more others : List ℕ) (s : State) → VarsAre ys xs s → VarsAre more others s → VarsAre (ys ++ more) (xs ++ others) s
+vars_both [] [] more others s h g = g
+vars_both [] (x ∷ xs) more others s h g = absurd h
+vars_both (y ∷ ys) [] more others s h g = absurd h
+vars_both (y ∷ ys) (x ∷ xs) more others s h g = (h.0, vars_both ys xs more others s h.1 g)
+
+-- they keep them while they stay
+pub vars_stay : (P : ℕ → Type 0) (ys xs : List ℕ) (s t : State) → Each P ys → ((y : ℕ) → P y → t.vars y ≡ s.vars y) → VarsAre ys xs s
+    → VarsAre ys xs t
+vars_stay P [] [] s t each f h = tt
+vars_stay P [] (x ∷ xs) s t each f h = h
+vars_stay P (y ∷ ys) [] s t each f h = h
+vars_stay P (y ∷ ys) (x ∷ xs) s t each f h = (f y each.0 ∙ h.0, vars_stay P ys xs s t each.1 f h.1)
+
+-- so many numbers from one on are below all behind them
+pub range_below : (first count free : ℕ) → first + count ≤ free → All (λ y. y < free) (range_with_len first count)
+range_below first zero free h = All-nil (λ y. y < free)
+range_below first (suc count) free h =
+    All-cons (λ y. y < free) first (range_with_len (first + 1) count) (omega (arith, h))
+    (range_below (first + 1) count free (omega (arith, h)))
+
+-- one number more
+pub range_more : (first count : ℕ) → range_with_len first (suc count) ≡ range_with_len first count ++ (first + count) ∷ []
+range_more first zero = let same : first ≡ first + 0 = omega arith in ap (λ n. n ∷ []) same
+range_more first (suc count) =
+    let same : first + 1 + count ≡ first + suc count = omega arith in
+    ap (λ ns. first ∷ ns) (range_more (first + 1) count ∙ ap (λ n. range_with_len (first + 1) count ++ n ∷ []) same)
