@@ -1,12 +1,15 @@
--- Rows with coordinates before their own, and the variables that have them.
-use Rattle.std.specs.Prelude.{◌≡◌, ℕ, zero, suc, ◌+◌, ◌<◌, ◌≤◌, List, [], ◌∷◌, ◌++◌, All, refl}
+-- Rows with coordinates before their own, and the variables that have these coordinates.
+use Rattle.std.specs.Prelude.{◌≡◌, ℕ, zero, suc, ◌+◌, ◌<◌, ◌≤◌, List, [], ◌∷◌, ◌++◌, length, All, refl}
 use Rattle.std.specs.List.{range_with_len}
-use Rattle.std.proofs.Common.{◌∙◌, ap, arith}
-use Rattle.std.proofs.lemmas.List.Elements.{All-nil, All-cons}
+use Rattle.std.proofs.Common.{◌∙◌, sym, ap, subst, arith}
+use Rattle.std.proofs.lemmas.List.{length-append}
+use Rattle.std.proofs.lemmas.List.Elements.{All-nil, All-cons, All-append}
+use Rattle.std.proofs.lemmas.List.FromFn.{length-range_with_len}
 use Rattle.lists.specs.Each.{Each}
+use Rattle.kernel_code.specs.declared.syntax.KStmt.{KStmt}
 use Rattle.kernel_code.specs.Meaning.{State}
 use Rattle.tensor_map.specs.declared.entries.Entry.{Entry}
-use Rattle.result_targets.specs.Sinks.{VarsAre}
+use Rattle.result_targets.specs.Sinks.{Sink, VarsAre, AddsTo}
 use Rattle.drained_workspaces.specs.Drained.{prefixed_row, prefixed}
 
 -- one row among others
@@ -44,3 +47,22 @@ range_more first zero = let same : first ≡ first + 0 = omega arith in ap (λ n
 range_more first (suc count) =
     let same : first + 1 + count ≡ first + suc count = omega arith in
     ap (λ ns. first ∷ ns) (range_more (first + 1) count ∙ ap (λ n. range_with_len (first + 1) count ++ n ∷ []) same)
+
+-- variables and so many more
+module _ (keys head : List ℕ) (first count n : ℕ) (are : keys ≡ head ++ range_with_len first count) (is : count ≡ n) where
+  pub so_many : (total : ℕ) → length head + n ≡ total → length keys ≡ total
+  so_many total h =
+      ap (λ (ks : List ℕ). length ks) are ∙ length-append head (range_with_len first count)
+      ∙ ap (λ m. length head + m) (length-range_with_len first count ∙ is) ∙ h
+
+  pub all_below : (free top : ℕ) → All (λ y. y < free) head → free ≤ top → first + count ≤ top → All (λ y. y < top) keys
+  all_below free top all h g =
+      subst (All (λ y. y < top)) (sym are)
+      (All-append (λ y. y < top) head (range_with_len first count) (λ i d l. let low = all i d l in omega (arith, low, h))
+      (range_below first count top g))
+
+  pub adds_named : {K : Type 0} (sink : Sink K) (k : K) (add : List KStmt) → AddsTo sink k keys (first + count) (first + count + 1) add
+      → AddsTo sink k (head ++ range_with_len first n) (first + n) (first + n + 1) add
+  adds_named sink k add h =
+      subst (λ m. AddsTo sink k (head ++ range_with_len first m) (first + m) (first + m + 1) add) is
+      (subst (λ ks. AddsTo sink k ks (first + count) (first + count + 1) add) are h)
