@@ -301,12 +301,15 @@ module _ {K W : Type 0} (outer : Sink K) (outer_laws : SinkLaws outer) (k : K) (
       (λ t b count z. absurd z))))
 
 pub drains_into : {K W : Type 0} (outer : Sink K) → SinkLaws outer → (k : K) (inner : Sink W) (drains : Draining W)
-    → DrainingLaws inner drains → (w : W) (head : List ℕ) (free : ℕ) (test : KExpr) (sort take add empty : List KStmt)
+    → DrainingLaws inner drains → (w : W) (head : List ℕ) (free : ℕ) (test : KExpr) (sort take add empty turn code : List KStmt)
     → Sorts inner drains w sort → TellsWaiting drains w free test → TakesRow inner drains w free (free + 1) take
     → AddsTo outer k (head ++ range_with_len (free + 1) (inner.keys w)) (free + 1 + inner.keys w) (free + 1 + inner.keys w + 1) add
-    → Empties inner drains w empty
-    → DrainsInto outer k inner drains w head free (drain_code free test sort (turn_code free take add) empty)
-drains_into outer outer_laws k inner drains drain_laws w head free test sort take add empty sorts tells takes adds empties =
-    λ c ranges inner_ranges rows sums before coords s m.
+    → Empties inner drains w empty → turn ≡ turn_code free take add → code ≡ drain_code free test sort turn empty
+    → DrainsInto outer k inner drains w head free code
+drains_into outer outer_laws k inner drains drain_laws w head free test sort take add empty turn code sorts tells takes adds empties turn_is
+    code_is =
+    subst (DrainsInto outer k inner drains w head free)
+    (sym (code_is ∙ ap (λ body. drain_code free test sort body empty) turn_is))
+    (λ c ranges inner_ranges rows sums before coords s m.
     drains_rows outer outer_laws k inner drains drain_laws w head free test sort take add empty sorts tells takes adds empties c ranges
-    inner_ranges rows sums before coords s m
+    inner_ranges rows sums before coords s m)

@@ -48,16 +48,20 @@ range_more first (suc count) =
     let same : first + 1 + count ≡ first + suc count = omega arith in
     ap (λ ns. first ∷ ns) (range_more (first + 1) count ∙ ap (λ n. range_with_len (first + 1) count ++ n ∷ []) same)
 
--- variables and so many more
-module _ (keys head : List ℕ) (first count n : ℕ) (are : keys ≡ head ++ range_with_len first count) (is : count ≡ n) where
+-- variables, and so many more behind them
+module _ (keys list head : List ℕ) (first count n : ℕ) (slice : keys ≡ list) (are : list ≡ head ++ range_with_len first count)
+    (is : count ≡ n) where
+  keys_are : keys ≡ head ++ range_with_len first count
+  keys_are = slice ∙ are
+
   pub so_many : (total : ℕ) → length head + n ≡ total → length keys ≡ total
   so_many total h =
-      ap (λ (ks : List ℕ). length ks) are ∙ length-append head (range_with_len first count)
+      ap (λ (ks : List ℕ). length ks) keys_are ∙ length-append head (range_with_len first count)
       ∙ ap (λ m. length head + m) (length-range_with_len first count ∙ is) ∙ h
 
   pub all_below : (free top : ℕ) → All (λ y. y < free) head → free ≤ top → first + count ≤ top → All (λ y. y < top) keys
   all_below free top all h g =
-      subst (All (λ y. y < top)) (sym are)
+      subst (All (λ y. y < top)) (sym keys_are)
       (All-append (λ y. y < top) head (range_with_len first count) (λ i d l. let low = all i d l in omega (arith, low, h))
       (range_below first count top g))
 
@@ -65,4 +69,4 @@ module _ (keys head : List ℕ) (first count n : ℕ) (are : keys ≡ head ++ ra
       → AddsTo sink k (head ++ range_with_len first n) (first + n) (first + n + 1) add
   adds_named sink k add h =
       subst (λ m. AddsTo sink k (head ++ range_with_len first m) (first + m) (first + m + 1) add) is
-      (subst (λ ks. AddsTo sink k ks (first + count) (first + count + 1) add) are h)
+      (subst (λ ks. AddsTo sink k ks (first + count) (first + count + 1) add) keys_are h)

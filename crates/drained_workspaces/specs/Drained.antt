@@ -1,5 +1,5 @@
 -- A workspace drained into a sink: each row of its sums is added to the sink, with the same coordinates before its own.
-use Rattle.std.specs.Prelude.{◌≡◌, ℕ, ◌+◌, ◌<◌, List, [], ◌∷◌, ◌++◌, length, map}
+use Rattle.std.specs.Prelude.{◌≡◌, ℕ, ◌<◌, List, [], ◌∷◌, ◌++◌, length, map}
 use Rattle.numbers.specs.Arithmetic.{Arithmetic, Laws}
 use Rattle.lists.specs.Each.{Each}
 use Rattle.kernel_code.specs.declared.syntax.Arr.{Arr}

@@ -24,10 +24,14 @@ pub record Draining (W : Type 0) : Type 1 where
   pub draining : W → Arithmetic → List ℕ → List Entry → List Entry → State → Type 0
 
 pub record DrainingLaws {W : Type 0} (sink : Sink W) (drains : Draining W) : Type 0 where
-  -- it goes on while the workspace's arrays and the ranges stay, whatever else is done
+  -- draining goes on while the workspace's arrays and the ranges stay, whatever else is done
   pub stays : (w : W) (a : Arithmetic) (ranges : List ℕ) (taken waiting : List Entry) (s t : State)
       → ((b : Arr) → (sink.kept w b → ⊥) → t.arrays b ≡ s.arrays b) → t.arrays Range ≡ s.arrays Range
       → drains.draining w a ranges taken waiting s → drains.draining w a ranges taken waiting t
+  -- and what it holds stays then too
+  pub holds_on : (w : W) (a : Arithmetic) (ranges : List ℕ) (rows : List Entry) (s t : State)
+      → ((b : Arr) → (sink.kept w b → ⊥) → t.arrays b ≡ s.arrays b) → t.arrays Range ≡ s.arrays Range
+      → sink.holds w a ranges rows s → sink.holds w a ranges rows t
   -- there are no more rows than a workspace may have
   pub few : (w : W) (a : Arithmetic) (ranges : List ℕ) (taken waiting : List Entry) (s : State)
       → drains.draining w a ranges taken waiting s → length (taken ++ waiting) ≤ greatest_workspace_pairs

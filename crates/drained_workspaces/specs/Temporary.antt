@@ -1,4 +1,4 @@
-use Rattle.std.specs.Prelude.{ℕ, List}
+use Rattle.std.specs.Prelude.{List}
 use Rattle.numbers.specs.Arithmetic.{Arithmetic}
 use Rattle.tensor_map.specs.Entries.{SameListed, SameValues, StrictlyIncreasing}
 use Rattle.tensor_map.specs.declared.entries.Entry.{Entry}
