@@ -1,2 +1,3 @@
 pub mod DrainLaws
 pub mod Prefixes
+pub mod Sums

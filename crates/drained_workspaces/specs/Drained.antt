@@ -13,7 +13,7 @@ use Rattle.kernel_code.specs.Keeps.{Leaves}
 use Rattle.kernel_code.specs.Meaning.{Setting, State}
 use Rattle.level_core.specs.Fragments.{RefusedWithin, turns_of}
 use Rattle.tensor_map.specs.declared.entries.Entry.{Entry}
-use Rattle.drained_workspaces.specs.Temporary.{AreSums}
+use Rattle.workspaces.specs.Workspaces.{AreSums}
 use Rattle.result_targets.specs.Sinks.{Sink, VarsAre, TakesAll}
 use Rattle.drained_workspaces.specs.Draining.{Draining, AreWords}
 

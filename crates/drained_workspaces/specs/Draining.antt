@@ -13,7 +13,7 @@ use Rattle.kernel_code.specs.Does.{Does, Never}
 use Rattle.kernel_code.specs.Keeps.{Leaves, NoVariable, no_turns}
 use Rattle.kernel_code.specs.Meaning.{Setting, State, value}
 use Rattle.tensor_map.specs.declared.entries.Entry.{Entry}
-use Rattle.drained_workspaces.specs.Temporary.{AreSums}
+use Rattle.workspaces.specs.Workspaces.{AreSums}
 use Rattle.result_targets.specs.Sinks.{Sink, VarsAre}
 
 -- what is seen of the workspaces of a type that are drained; the ranges are those that their sink is told
