@@ -1,5 +1,5 @@
 -- A row that is pushed is held with those before it.
-use Rattle.std.specs.Prelude.{ℕ, List, [], ◌∷◌, ◌++◌}
+use Rattle.std.specs.Prelude.{ℕ, List, [], ◌∷◌}
 use Rattle.lists.proofs.Each.{each_append}
 use Rattle.kernel_code.specs.declared.syntax.KStmt.{KStmt}
 use Rattle.kernel_code.proofs.Does.{does_weaker}

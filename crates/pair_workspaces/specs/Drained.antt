@@ -1,5 +1,5 @@
 -- A workspace of pairs as one that is drained: once its rows are sorted and summed, they stay where they are until all were taken.
-use Rattle.std.specs.Prelude.{◌≡◌, ℕ, List, ◌++◌, Some, slice_get}
+use Rattle.std.specs.Prelude.{◌≡◌, List, ◌++◌, Some, slice_get}
 use Rattle.lists.specs.Each.{Each}
 use Rattle.kernel_code.specs.Meaning.{State}
 use Rattle.tensor_map.specs.declared.entries.Entry.{Entry}

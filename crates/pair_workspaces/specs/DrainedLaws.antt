@@ -1,5 +1,5 @@
 -- What is true of a workspace of pairs that is drained: all that it holds is in its arrays.
-use Rattle.std.specs.Prelude.{◌≡◌, ℕ, List, refl}
+use Rattle.std.specs.Prelude.{◌≡◌, List, refl}
 use Rattle.std.proofs.Common.{◌∙◌}
 use Rattle.kernel_code.specs.declared.syntax.Arr.{Arr}
 use Rattle.kernel_code.specs.declared.syntax.Arr.TheVariants.{Key, Sums}

@@ -1,5 +1,5 @@
 -- The laws of a workspace of pairs as a sink.
-use Rattle.std.specs.Prelude.{ℕ, refl}
+use Rattle.std.specs.Prelude.{refl}
 use Rattle.std.proofs.Common.{◌∙◌}
 use Rattle.kernel_code.specs.declared.syntax.Arr.TheVariants.{Key, Sums}
 use Rattle.result_targets.specs.Sinks.{SinkLaws}

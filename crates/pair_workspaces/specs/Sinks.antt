@@ -1,5 +1,5 @@
 -- A workspace of pairs as the place where rows go: each row is a pair of its coordinates and its value, in arrays that grow.
-use Rattle.std.specs.Prelude.{ℕ, List}
+use Rattle.std.specs.Prelude.{List}
 use Rattle.lists.specs.Each.{Each}
 use Rattle.kernel_code.specs.Keeps.{NoVariable}
 use Rattle.kernel_code.specs.Meaning.{State}

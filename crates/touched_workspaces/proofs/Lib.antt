@@ -1,6 +1,6 @@
 pub mod Coordinates
 pub mod DrainLaws
-pub mod Drained
+pub mod DrainedCodes
 pub mod ReadLaws
 pub mod RowLaws
 pub mod SortLaws

@@ -1,15 +1,14 @@
 -- A row that is taken is read, and whether one waits.
 use Rattle.std.specs.Prelude.{◌≡◌, ℕ, ◌+◌, ◌≤◌, ◌<◌, nat_lt, Bool, true, false, List, [], ◌∷◌, ◌++◌, length, replicate, Some, slice_get}
 use Rattle.std.specs.Prelude.{slice_index, refl}
-use Rattle.std.proofs.Common.{◌∙◌, ap, arith, inl, inr}
+use Rattle.std.proofs.Common.{◌∙◌, ap, arith}
 use Rattle.std.proofs.lemmas.Bool.Decides.{nat_tests}
 use Rattle.std.proofs.lemmas.List.{append_assoc, length-append, length-map}
 use Rattle.numbers.specs.Arithmetic.{Arithmetic}
 use Rattle.kernel_code.specs.Does.{Never}
 use Rattle.kernel_code.specs.Keeps.{NoVariable, no_turns}
 use Rattle.kernel_code.specs.Meaning.{State, set_var, length_of}
-use Rattle.kernel_code.specs.declared.syntax.Arr.{Arr}
-use Rattle.kernel_code.specs.declared.syntax.Arr.TheVariants.{Range, Key, Sums}
+use Rattle.kernel_code.specs.declared.syntax.Arr.TheVariants.{Key, Sums}
 use Rattle.kernel_code.specs.declared.syntax.KExpr.{Var, At, Len}
 use Rattle.kernel_code.specs.declared.syntax.KStmt.{Set}
 use Rattle.kernel_code.proofs.Does.{does_nothing, does_append, does_set}
@@ -19,11 +18,10 @@ use Rattle.tensor_map.specs.declared.entries.Entry.{Entry}
 use Rattle.term_code.specs.WorkspaceSinks.{column, values}
 use Rattle.touched_workspaces.specs.DrainedLaws.{draining_stays}
 use Rattle.touched_workspaces.specs.Codes.{next_code, taken_code, wait_test}
-use Rattle.touched_workspaces.specs.Drains.{AreWaiting, IsDraining, IsTakenRow, TakesRow, TellsWaiting}
-use Rattle.touched_workspaces.specs.Sinks.{TouchedSink, IsOfTouched, IsOther}
+use Rattle.touched_workspaces.specs.Drains.{IsDraining, IsTakenRow, TakesRow, TellsWaiting}
+use Rattle.touched_workspaces.specs.Sinks.{TouchedSink, IsOther}
 use Rattle.touched_workspaces.specs.Sizes.{greatest_marked_range}
 use Rattle.touched_workspaces.proofs.DrainLaws.{key_at, takes_next}
-use Rattle.touched_workspaces.proofs.RowLaws.{range_kept}
 
 -- the value of a row in a column of values
 value_of : (taken : List Entry) (row : Entry) (waiting : List Entry)

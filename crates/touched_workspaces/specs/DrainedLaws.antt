@@ -1,5 +1,5 @@
 -- What is true of a workspace of one key that is drained: all that it holds is in its arrays.
-use Rattle.std.specs.Prelude.{◌≡◌, ℕ, ◌≤◌, ◌<◌, List, length, refl}
+use Rattle.std.specs.Prelude.{◌≡◌, ℕ, List, refl}
 use Rattle.std.proofs.Common.{◌∙◌, inl, inr}
 use Rattle.numbers.specs.Arithmetic.{Arithmetic}
 use Rattle.kernel_code.specs.declared.syntax.Arr.{Arr}
@@ -8,7 +8,7 @@ use Rattle.kernel_code.specs.Meaning.{State}
 use Rattle.tensor_map.specs.declared.entries.Entry.{Entry}
 use Rattle.term_code.specs.WorkspaceSinks.{HoldsRows}
 use Rattle.drained_workspaces.specs.Draining.{DrainingLaws}
-use Rattle.touched_workspaces.specs.Drained.{IsDrained, touched_draining}
+use Rattle.touched_workspaces.specs.Drained.{touched_draining}
 use Rattle.touched_workspaces.specs.Drains.{AreWaiting, IsDraining}
 use Rattle.touched_workspaces.specs.Sinks.{TouchedSink, HasRange, IsOfTouched, HoldsTouched, touched_sink}
 use Rattle.touched_workspaces.specs.Touched.{HoldsMarked}

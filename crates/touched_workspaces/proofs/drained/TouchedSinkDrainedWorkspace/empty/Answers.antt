@@ -1,4 +1,4 @@
-use Rattle.touched_workspaces.proofs.Drained.{empties_as}
+use Rattle.touched_workspaces.proofs.DrainedCodes.{empties_as}
 use Rattle.touched_workspaces.proofs.drained.TouchedSinkDrainedWorkspace.empty.Goals as goal
 
 pub returns : goal.returns

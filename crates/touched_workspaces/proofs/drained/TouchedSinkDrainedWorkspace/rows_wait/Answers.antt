@@ -1,4 +1,4 @@
-use Rattle.touched_workspaces.proofs.Drained.{tells_as}
+use Rattle.touched_workspaces.proofs.DrainedCodes.{tells_as}
 use Rattle.touched_workspaces.proofs.drained.TouchedSinkDrainedWorkspace.rows_wait.Goals as goal
 
 pub returns : goal.returns

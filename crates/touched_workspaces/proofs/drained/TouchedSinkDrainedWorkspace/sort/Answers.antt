@@ -2,7 +2,7 @@ use Rattle.std.proofs.Common.{sym, subst}
 use Rattle.drained_workspaces.specs.Draining.{Sorts}
 use Rattle.touched_workspaces.specs.Drained.{touched_draining}
 use Rattle.touched_workspaces.specs.Sinks.{touched_sink}
-use Rattle.touched_workspaces.proofs.Drained.{sorts_as}
+use Rattle.touched_workspaces.proofs.DrainedCodes.{sorts_as}
 use Rattle.touched_workspaces.proofs.drained.TouchedSinkDrainedWorkspace.sort.Goals as goal
 
 pub returns : goal.returns

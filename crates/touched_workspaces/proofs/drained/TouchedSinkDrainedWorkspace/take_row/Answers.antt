@@ -1,4 +1,4 @@
-use Rattle.touched_workspaces.proofs.Drained.{takes_as}
+use Rattle.touched_workspaces.proofs.DrainedCodes.{takes_as}
 use Rattle.touched_workspaces.proofs.drained.TouchedSinkDrainedWorkspace.take_row.Goals as goal
 
 pub returns : goal.returns

@@ -5,7 +5,6 @@ use Rattle.kernel_code.specs.declared.syntax.KExpr.{KExpr}
 use Rattle.kernel_code.specs.declared.syntax.KStmt.{KStmt, SortSum}
 use Rattle.kernel_code.specs.Does.{Never}
 use Rattle.kernel_code.proofs.Does.{does_weaker}
-use Rattle.tensor_map.specs.declared.entries.Entry.{Entry}
 use Rattle.concrete_notation.specs.Contributions.{sums_of}
 use Rattle.concrete_notation.proofs.SumsOf.{are_sums}
 use Rattle.result_targets.specs.Sinks.{VarsAre}
