@@ -20,12 +20,14 @@ use Rattle.kernel_code.proofs.Keeps.{this_var, other_var}
 use Rattle.kernel_code.proofs.Words.{sum_is}
 use Rattle.level_core.specs.Fragments.{RefusedWithin, turns_of}
 use Rattle.tensor_map.specs.declared.entries.Entry.{Entry}
+use Rattle.result_targets.specs.Beside.{LeavesLists}
+use Rattle.result_targets.specs.Scratch.{IsThere}
 use Rattle.result_targets.specs.Sinks.{Sink, SinkLaws, AddsTo, VarsAre, TakesAll}
 use Rattle.result_targets.proofs.Scratch.{all_same}
 use Rattle.result_targets.proofs.Taken.{takes_second}
 use Rattle.drained_workspaces.specs.Draining.{Draining, DrainingLaws, Sorts, TellsWaiting, TakesRow, IsTaken, Empties}
 use Rattle.drained_workspaces.specs.Drained.{prefixed_row, prefixed, KeptByBoth, IsOfHead, MayDrain, HasDrained, DrainsInto}
-use Rattle.drained_workspaces.specs.Drained.{turn_code, drain_code}
+use Rattle.drained_workspaces.specs.Drained.{SameBeside, turn_code, drain_code}
 use Rattle.drained_workspaces.proofs.Prefixes.{prefixed_between, vars_both, vars_stay}
 
 -- the turns of a drain
@@ -46,13 +48,22 @@ one_more taken row = length-append taken (row ∷ [])
 zero_one : (o : Option ℕ) → o ≡ Some 0 → o ≡ Some 1 → ⊥
 zero_one o h g = cc
 
+-- a workspace leaves scratch lists, so where the arrays are that it leaves, all are but its own
+pub all_beside : {W : Type 0} (inner : Sink W) (w : W) → LeavesLists inner w → (s t : State)
+    → ((b : Arr) → inner.kept w b → t.arrays b ≡ s.arrays b) → SameBeside inner w s t
+all_beside inner w lists s t arrays = record {
+  same = λ b no kept. arrays b kept;
+  there = λ b is there. subst IsThere (sym (arrays b (lists b is))) there;
+}
+
 module _ {K W : Type 0} (outer : Sink K) (outer_laws : SinkLaws outer) (k : K) (inner : Sink W) (drains : Draining W)
     (drain_laws : DrainingLaws inner drains) (w : W) (head : List ℕ) (free : ℕ) (test : KExpr) (sort take add empty : List KStmt)
     (sorts : Sorts inner drains w sort) (tells : TellsWaiting drains w free test) (takes : TakesRow inner drains w free (free + 1) take)
     (adds : AddsTo outer k (head ++ range_with_len (free + 1) (inner.keys w)) (free + 1 + inner.keys w) (free + 1 + inner.keys w + 1) add)
     (empties : Empties inner drains w empty)
     (c : Setting) (ranges inner_ranges : List ℕ) (rows sums before : List Entry) (coords : List ℕ) (s0 : State)
-    (m : MayDrain outer k inner drains w head free c ranges inner_ranges rows sums before coords s0) where
+    (m : MayDrain outer k inner drains w head free c ranges rows sums before coords s0)
+    (holds : inner.holds w c.arithmetic inner_ranges rows s0) where
   abbrev Refused : Refusal
   Refused = RefusedWithin (turns_of Drain (length sums)) s0 (outer.refused k ranges (before ++ prefixed coords sums))
 
@@ -146,7 +157,7 @@ module _ {K W : Type 0} (outer : Sink K) (outer_laws : SinkLaws outer) (k : K) (
       held_still : outer.holds k c.arithmetic ranges (before ++ prefixed coords taken) t1
       held_still =
           m.beside.stays c.arithmetic ranges (before ++ prefixed coords taken) s t1
-          (λ y is. let b = m.mine_below y is in h.leaves.below y (omega (arith, b)) (λ none. none)) (λ b kept. h.leaves.arrays b kept) held
+          (λ y is. let b = m.mine_below y is in h.leaves.below y (omega (arith, b)) (λ none. none)) (all_beside inner w (drain_laws.lists w) s t1 (λ b kept. h.leaves.arrays b kept)) held
 
       keys_are : VarsAre (head ++ range_with_len (free + 1) (inner.keys w)) (coords ++ row.coords) t1
       keys_are =
@@ -266,7 +277,8 @@ module _ {K W : Type 0} (outer : Sink K) (outer_laws : SinkLaws outer) (k : K) (
         (m.beside.stays c.arithmetic ranges before s0 (set_var t free 0)
         (λ y is.
         let b = m.mine_below y is in
-        other_var t free y 0 (λ e. omega (arith, b, e)) ∙ l.below y b (λ none. none)) (λ b kept. l.arrays b kept) m.held);
+        other_var t free y 0 (λ e. omega (arith, b, e)) ∙ l.below y b (λ none. none))
+        (all_beside inner w (drain_laws.lists w) s0 (set_var t free 0) (λ b kept. l.arrays b kept)) m.held);
     leaves = record {
       below = λ y low other. other_var t free y 0 (λ e. omega (arith, low, e)) ∙ l.below y low (λ none. none);
       arrays = λ b kept. l.arrays b kept.1;
@@ -284,7 +296,8 @@ module _ {K W : Type 0} (outer : Sink K) (outer_laws : SinkLaws outer) (k : K) (
       turns = λ j. let first = d.leaves.turns j in let turns = l.turns j in omega (arith, first, turns);
     };
     held = m.beside.stays c.arithmetic ranges (before ++ prefixed coords sums) t u
-        (λ y is. l.below y (m.mine_below y is) (λ none. none)) (λ b kept. l.arrays b kept) d.held;
+        (λ y is. l.below y (m.mine_below y is) (λ none. none))
+        (all_beside inner w (drain_laws.lists w) t u (λ b kept. l.arrays b kept)) d.held;
     empty = empty;
   }
 
@@ -292,7 +305,7 @@ module _ {K W : Type 0} (outer : Sink K) (outer_laws : SinkLaws outer) (k : K) (
       (HasDrained outer k inner w free c.arithmetic ranges inner_ranges sums before coords s0) Refused
   drains_rows =
       does_append c sort _ s0 _ _ Refused
-      (does_weaker c sort s0 _ _ Never Refused (sorts c m.laws m.suits inner_ranges rows sums m.are_sums m.are_words s0 m.holds free)
+      (does_weaker c sort s0 _ _ Never Refused (sorts c m.laws m.suits inner_ranges rows sums m.are_sums m.are_words s0 holds free)
       (λ t q. q) (λ t b count z. absurd z))
       (λ t q. does_set c free (Num 0) _ t 0 _ Refused refl
       (does_while c Drain test (turn_code free take add) empty Inv Done _ Refused none_more at_end turn (length sums) (set_var t free 0)
@@ -310,6 +323,6 @@ drains_into outer outer_laws k inner drains drain_laws w head free test sort tak
     code_is =
     subst (DrainsInto outer k inner drains w head free)
     (sym (code_is ∙ ap (λ body. drain_code free test sort body empty) turn_is))
-    (λ c ranges inner_ranges rows sums before coords s m.
+    (λ c ranges inner_ranges rows sums before coords s m holds.
     drains_rows outer outer_laws k inner drains drain_laws w head free test sort take add empty sorts tells takes adds empties c ranges
-    inner_ranges rows sums before coords s m)
+    inner_ranges rows sums before coords s m holds)

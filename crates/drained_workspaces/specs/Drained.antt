@@ -1,5 +1,5 @@
 -- A workspace drained into a sink: each row of its sums is added to the sink, with the same coordinates before its own.
-use Rattle.std.specs.Prelude.{◌≡◌, ℕ, ◌<◌, List, [], ◌∷◌, ◌++◌, length, map}
+use Rattle.std.specs.Prelude.{◌≡◌, ℕ, ◌<◌, true, false, List, [], ◌∷◌, ◌++◌, length, map}
 use Rattle.numbers.specs.Arithmetic.{Arithmetic, Laws}
 use Rattle.lists.specs.Each.{Each}
 use Rattle.kernel_code.specs.declared.syntax.Arr.{Arr}
@@ -14,6 +14,7 @@ use Rattle.kernel_code.specs.Meaning.{Setting, State}
 use Rattle.level_core.specs.Fragments.{RefusedWithin, turns_of}
 use Rattle.tensor_map.specs.declared.entries.Entry.{Entry}
 use Rattle.workspaces.specs.Workspaces.{AreSums}
+use Rattle.result_targets.specs.Scratch.{is_scratch, IsThere}
 use Rattle.result_targets.specs.Sinks.{Sink, VarsAre, TakesAll}
 use Rattle.drained_workspaces.specs.Draining.{Draining, AreWords}
 
@@ -24,11 +25,16 @@ prefixed_row coords row = record { coords = coords ++ row.coords; value = row.va
 abbrev pub prefixed : List ℕ → List Entry → List Entry
 prefixed coords rows = map (prefixed_row coords) rows
 
--- what a sink holds stays while its variables and all arrays do but those of the workspace
+-- the second state has the arrays of the first, but those of a workspace, and that scratch lists which are there may have other rows
+pub record SameBeside {W : Type 0} (inner : Sink W) (w : W) (s t : State) : Type 0 where
+  pub same : (b : Arr) → is_scratch b ≡ false → inner.kept w b → t.arrays b ≡ s.arrays b
+  pub there : (b : Arr) → is_scratch b ≡ true → IsThere (s.arrays b) → IsThere (t.arrays b)
+
+-- what a sink holds stays then, while its variables do
 abbrev pub StaysBeside : {K W : Type 0} → Sink K → K → Sink W → W → Type 0
 StaysBeside outer k inner w =
     (a : Arithmetic) (ranges : List ℕ) (rows : List Entry) (s t : State) → ((y : ℕ) → outer.mine k y → t.vars y ≡ s.vars y)
-    → ((b : Arr) → inner.kept w b → t.arrays b ≡ s.arrays b) → outer.holds k a ranges rows s → outer.holds k a ranges rows t
+    → SameBeside inner w s t → outer.holds k a ranges rows s → outer.holds k a ranges rows t
 
 -- a sink and a workspace leave each other what they hold, and the sink leaves the ranges
 pub record AreBeside {K W : Type 0} (outer : Sink K) (k : K) (inner : Sink W) (w : W) : Type 0 where
@@ -45,17 +51,16 @@ pub record IsOfHead {K : Type 0} (outer : Sink K) (k : K) (free y : ℕ) : Type 
   pub below : y < free
   pub other : outer.mine k y → ⊥
 
--- The workspace, told these ranges, holds rows that have these sums, and the sink, told those, holds some and takes each of the sums in
--- turn, with the numbers of the head's variables before its coordinates.
+-- A workspace is to be drained of rows that have these sums: the sink holds some rows, and takes each of the sums in turn, with the numbers of
+-- the head's variables before its coordinates.
 pub record MayDrain {K W : Type 0} (outer : Sink K) (k : K) (inner : Sink W) (drains : Draining W) (w : W) (head : List ℕ) (free : ℕ)
-    (c : Setting) (ranges inner_ranges : List ℕ) (rows sums before : List Entry) (coords : List ℕ) (s : State) : Type 0 where
+    (c : Setting) (ranges : List ℕ) (rows sums before : List Entry) (coords : List ℕ) (s : State) : Type 0 where
   pub laws : Laws c.arithmetic
   pub suits : drains.suits w c.workspaces
   pub beside : AreBeside outer k inner w
   pub mine_below : (y : ℕ) → outer.mine k y → y < free
   pub head_is : Each (IsOfHead outer k free) head
   pub coords_are : VarsAre head coords s
-  pub holds : inner.holds w c.arithmetic inner_ranges rows s
   pub are_sums : AreSums c.arithmetic rows sums
   pub are_words : AreWords sums
   pub held : outer.holds k c.arithmetic ranges before s
@@ -69,11 +74,11 @@ pub record HasDrained {K W : Type 0} (outer : Sink K) (k : K) (inner : Sink W) (
   pub held : outer.holds k a ranges (before ++ prefixed coords sums) t
   pub empty : inner.holds w a inner_ranges [] t
 
--- the code drains a workspace into a sink, or is refused a growth as the sink may be
+-- the code drains a workspace into a sink, or is refused a growth as the sink may be; the workspace is told these ranges, the sink those
 abbrev pub DrainsInto : {K W : Type 0} → Sink K → K → Sink W → Draining W → W → List ℕ → ℕ → List KStmt → Type 0
 DrainsInto outer k inner drains w head free code =
     (c : Setting) (ranges inner_ranges : List ℕ) (rows sums before : List Entry) (coords : List ℕ) (s : State)
-    → MayDrain outer k inner drains w head free c ranges inner_ranges rows sums before coords s
+    → MayDrain outer k inner drains w head free c ranges rows sums before coords s → inner.holds w c.arithmetic inner_ranges rows s
     → Does c code s (HasDrained outer k inner w free c.arithmetic ranges inner_ranges sums before coords s)
     (RefusedWithin (turns_of Drain (length sums)) s (outer.refused k ranges (before ++ prefixed coords sums)))
 

@@ -14,6 +14,7 @@ use Rattle.kernel_code.specs.Keeps.{Leaves, NoVariable, no_turns}
 use Rattle.kernel_code.specs.Meaning.{Setting, State, value}
 use Rattle.tensor_map.specs.declared.entries.Entry.{Entry}
 use Rattle.workspaces.specs.Workspaces.{AreSums}
+use Rattle.result_targets.specs.Beside.{LeavesLists}
 use Rattle.result_targets.specs.Sinks.{Sink, VarsAre}
 
 -- what is seen of the workspaces of a type that are drained; the ranges are those that their sink is told
@@ -32,6 +33,9 @@ pub record DrainingLaws {W : Type 0} (sink : Sink W) (drains : Draining W) : Typ
   pub holds_on : (w : W) (a : Arithmetic) (ranges : List ℕ) (rows : List Entry) (s t : State)
       → ((b : Arr) → (sink.kept w b → ⊥) → t.arrays b ≡ s.arrays b) → t.arrays Range ≡ s.arrays Range
       → sink.holds w a ranges rows s → sink.holds w a ranges rows t
+  -- it has no variables, and leaves each scratch list
+  pub plain : (w : W) (y : ℕ) → sink.mine w y → ⊥
+  pub lists : (w : W) → LeavesLists sink w
   -- there are no more rows than a workspace may have
   pub few : (w : W) (a : Arithmetic) (ranges : List ℕ) (taken waiting : List Entry) (s : State)
       → drains.draining w a ranges taken waiting s → length (taken ++ waiting) ≤ greatest_workspace_pairs
