@@ -157,7 +157,8 @@ module _ {K W : Type 0} (outer : Sink K) (outer_laws : SinkLaws outer) (k : K) (
       held_still : outer.holds k c.arithmetic ranges (before ++ prefixed coords taken) t1
       held_still =
           m.beside.stays c.arithmetic ranges (before ++ prefixed coords taken) s t1
-          (λ y is. let b = m.mine_below y is in h.leaves.below y (omega (arith, b)) (λ none. none)) (all_beside inner w (drain_laws.lists w) s t1 (λ b kept. h.leaves.arrays b kept)) held
+          (λ y is. let b = m.mine_below y is in h.leaves.below y (omega (arith, b)) (λ none. none))
+          (all_beside inner w (drain_laws.lists w) s t1 (λ b kept. h.leaves.arrays b kept)) held
 
       keys_are : VarsAre (head ++ range_with_len (free + 1) (inner.keys w)) (coords ++ row.coords) t1
       keys_are =
@@ -208,7 +209,8 @@ module _ {K W : Type 0} (outer : Sink K) (outer_laws : SinkLaws outer) (k : K) (
             let more = drains_upto (length taken + 1) (length sums) j long in
             omega (arith, first, taking, until, more),
         subst (λ es. outer.refused k ranges es b count) (sym rows_split)
-            (outer_laws.more k ranges ((before ++ prefixed coords taken) ++ prefixed_row coords row ∷ []) (prefixed coords waiting) b count r.1),
+            (outer_laws.more k ranges ((before ++ prefixed coords taken) ++ prefixed_row coords row ∷ []) (prefixed coords waiting) b count
+            r.1),
       )
 
       adds_and_steps : Does c (add ++ Set free (Bin Add (Var free) (Num 1)) ∷ []) t1 (Inv left) Refused

@@ -51,8 +51,8 @@ pub record IsOfHead {K : Type 0} (outer : Sink K) (k : K) (free y : ℕ) : Type 
   pub below : y < free
   pub other : outer.mine k y → ⊥
 
--- A workspace is to be drained of rows that have these sums: the sink holds some rows, and takes each of the sums in turn, with the numbers of
--- the head's variables before its coordinates.
+-- A workspace is to be drained of rows that have these sums: the sink holds some rows, and takes each of the sums in turn, with the numbers
+-- of the head's variables before its coordinates.
 pub record MayDrain {K W : Type 0} (outer : Sink K) (k : K) (inner : Sink W) (drains : Draining W) (w : W) (head : List ℕ) (free : ℕ)
     (c : Setting) (ranges : List ℕ) (rows sums before : List Entry) (coords : List ℕ) (s : State) : Type 0 where
   pub laws : Laws c.arithmetic
@@ -66,8 +66,8 @@ pub record MayDrain {K W : Type 0} (outer : Sink K) (k : K) (inner : Sink W) (dr
   pub held : outer.holds k c.arithmetic ranges before s
   pub takes : TakesAll outer k ranges before (prefixed coords sums)
 
--- the sums were drained: the sink holds them behind those that it held, the workspace none, and all else below free stays, with a drain turn
--- for each at most
+-- the sums were drained: the sink holds them behind those that it held, the workspace none, and all else below free stays, with a drain
+-- turn for each at most
 pub record HasDrained {K W : Type 0} (outer : Sink K) (k : K) (inner : Sink W) (w : W) (free : ℕ) (a : Arithmetic)
     (ranges inner_ranges : List ℕ) (sums before : List Entry) (coords : List ℕ) (s t : State) : Type 0 where
   pub leaves : Leaves (outer.mine k) (KeptByBoth outer k inner w) free (turns_of Drain (length sums)) s t

@@ -1,5 +1,5 @@
--- What is seen of workspaces that are drained: their rows are sorted and summed, the sums are taken one by one, and at last the workspace is
--- emptied.
+-- What is seen of workspaces that are drained: their rows are sorted and summed, the sums are taken one by one, and at last the workspace
+-- is emptied.
 use Rattle.std.specs.Prelude.{◌≡◌, ℕ, ◌+◌, ◌<◌, ◌≤◌, ◌^◌, List, [], ◌∷◌, ◌++◌, length, Some}
 use Rattle.std.specs.List.{range_with_len}
 use Rattle.limits.specs.Limits.{greatest_workspace_pairs}

@@ -62,9 +62,9 @@ fn drain_code(
     Ok(code)
 }
 
-/// Code that drains a workspace into a sink: its rows are sorted and summed, each of the sums is added to the sink, with the coordinates that
-/// stand in the variables `head` before its own, and the workspace is emptied. Variables from `free` on are its own. Refused for want of
-/// memory alone.
+/// Code that drains a workspace into a sink: its rows are sorted and summed, each of the sums is added to the sink, with the coordinates
+/// that stand in the variables `head` before its own, and the workspace is emptied. Variables from `free` on are its own. Refused for want
+/// of memory alone.
 pub fn drain_into<W: DrainedWorkspace, K: RowSink>(
     alloc: Global,
     workspace: &W,

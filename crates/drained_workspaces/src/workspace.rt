@@ -6,8 +6,8 @@ use result_targets::RowSink;
 use std::alloc::{AllocError, Global};
 use trees::Items;
 
-/// A workspace that is drained: rows are added to it as to a sink; then they are sorted and summed, the sums are taken one by one, and it is
-/// emptied. None of this code is refused a growth or takes a turn.
+/// A workspace that is drained: rows are added to it as to a sink; then they are sorted and summed, the sums are taken one by one, and it
+/// is emptied. None of this code is refused a growth or takes a turn.
 pub trait DrainedWorkspace: RowSink {
     /// What is seen of the workspaces of this type.
     ghost draining: { Draining Self };

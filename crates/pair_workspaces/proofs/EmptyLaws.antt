@@ -62,7 +62,8 @@ module _ (k : PairSink) (c : Setting) (taken : List Entry) (s : State) (d : IsDr
     leaves = leaves_none NoVariable (IsOther k) top no_turns s;
   })
   cuts (suc n) h =
-      does_append c (cut_code k.number n) (Cut (Key k.number n) (Num 0) ∷ []) s (AreCut n) (AreCut (suc n)) Never (cuts n (omega (arith, h)))
+      does_append c (cut_code k.number n) (Cut (Key k.number n) (Num 0) ∷ []) s (AreCut n) (AreCut (suc n)) Never
+      (cuts n (omega (arith, h)))
       (λ t r. does_cut c (Key k.number n) (Num 0) [] t 0 (column n (taken ++ [])) (AreCut (suc n)) Never refl refl
       (r.due n (omega arith) ∙ d.held.key n (omega (arith, h)))
       (does_nothing c (set_array t (Key k.number n) []) (AreCut (suc n)) Never (one_more n t r)))
@@ -85,7 +86,8 @@ module _ (k : PairSink) (c : Setting) (taken : List Entry) (s : State) (d : IsDr
 
   empties : Does c (empty_code k.number k.keys) s IsEmpty Never
   empties =
-      does_append c (cut_code k.number k.keys) (Cut (Sums k.number) (Num 0) ∷ []) s (AreCut k.keys) IsEmpty Never (cuts k.keys (omega arith))
+      does_append c (cut_code k.number k.keys) (Cut (Sums k.number) (Num 0) ∷ []) s (AreCut k.keys) IsEmpty Never
+      (cuts k.keys (omega arith))
       (λ t r. does_cut c (Sums k.number) (Num 0) [] t 0 (values (taken ++ [])) IsEmpty Never refl refl (r.sums ∙ d.held.sums)
       (does_nothing c (set_array t (Sums k.number) []) IsEmpty Never (is_empty t r)))
 

@@ -22,7 +22,8 @@ use Rattle.pair_workspaces.specs.Drained.{pair_draining}
 use Rattle.pair_workspaces.specs.Sinks.{PairSink, pair_sink}
 
 -- sums of words are words
-put_words : (a : Arithmetic) → Laws a → (pair : Entry) (row : List Entry) → pair.value < 2 ^ 64 → AreWords row → AreWords (put_pair a pair row)
+put_words : (a : Arithmetic) → Laws a → (pair : Entry) (row : List Entry) → pair.value < 2 ^ 64 → AreWords row
+    → AreWords (put_pair a pair row)
 put_words a laws pair [] is each = (is, tt)
 put_words a laws pair (first ∷ others) is each = by (slice_cmp nat_cmp pair.coords first.coords) (put_words a laws pair others is each.1)
   where
@@ -60,6 +61,7 @@ sorts_pairs k c laws suits ranges rows sums are words s holds top =
       record {
         held = subst (λ es. HoldsRows k.number k.keys es t.arrays) is h.holds;
         each = are_rows k.keys sums
-            (subst (Each (λ (row : Entry). length row.coords ≡ k.keys)) is (sums_each (λ coords. length coords ≡ k.keys) a rows long)) words;
+            (subst (Each (λ (row : Entry). length row.coords ≡ k.keys)) is
+            (sums_each (λ coords. length coords ≡ k.keys) a rows long)) words;
       },
     )) (λ t b count none. none)

@@ -75,8 +75,8 @@ module _ (k : PairSink) (at free : ℕ) (low : at < free) (c : Setting) (ranges 
       does_nothing c s (AreRead 0) Never
       (record { vars = λ i l. absurd (omega (arith, l)); leaves = leaves_none NoVariable EveryArray free no_turns s })
   reads (suc n) h =
-      does_append c (read_code k.number at free n) (Set (free + n) (At (Key k.number n) (Var at)) ∷ []) s (AreRead n) (AreRead (suc n)) Never
-      (reads n (omega (arith, h)))
+      does_append c (read_code k.number at free n) (Set (free + n) (At (Key k.number n) (Var at)) ∷ []) s (AreRead n)
+      (AreRead (suc n)) Never (reads n (omega (arith, h)))
       (λ t r. does_set c (free + n) (At (Key k.number n) (Var at)) [] t (slice_index row.coords n) (AreRead (suc n)) Never
       (word_is (Key k.number n) (Var at) (column n (taken ++ row ∷ waiting)) (length taken) (slice_index row.coords n) t
       (r.leaves.arrays (Key k.number n) tt ∙ d.held.key n (omega (arith, h))) (r.leaves.below at low (λ none. none) ∙ place)

@@ -1,17 +1,36 @@
 -- What is true of a workspace of one key that is drained: all that it holds is in its arrays.
-use Rattle.std.specs.Prelude.{◌≡◌, ℕ, List, refl}
-use Rattle.std.proofs.Common.{◌∙◌, inl, inr}
+use Rattle.std.specs.Prelude.{◌≡◌, ℕ, true, false, List, refl}
+use Rattle.std.proofs.Common.{◌∙◌, sym, inl, inr}
 use Rattle.numbers.specs.Arithmetic.{Arithmetic}
 use Rattle.kernel_code.specs.declared.syntax.Arr.{Arr}
-use Rattle.kernel_code.specs.declared.syntax.Arr.TheVariants.{Range, Key, Sums}
+use Rattle.kernel_code.specs.declared.syntax.Arr.TheVariants.{Range, Values, Dimension, Ends, Coordinates, Width, Key, Sums}
+use Rattle.kernel_code.specs.declared.syntax.Arr.TheVariants.{ListCoordinates, ListPositions}
 use Rattle.kernel_code.specs.Meaning.{State}
 use Rattle.tensor_map.specs.declared.entries.Entry.{Entry}
-use Rattle.term_code.specs.WorkspaceSinks.{HoldsRows}
+use Rattle.term_code.specs.WorkspaceSinks.{HoldsRows, IsOfWorkspace}
+use Rattle.result_targets.specs.Scratch.{is_scratch}
 use Rattle.drained_workspaces.specs.Draining.{DrainingLaws}
 use Rattle.touched_workspaces.specs.Drained.{touched_draining}
 use Rattle.touched_workspaces.specs.Drains.{AreWaiting, IsDraining}
 use Rattle.touched_workspaces.specs.Sinks.{TouchedSink, HasRange, IsOfTouched, HoldsTouched, touched_sink}
 use Rattle.touched_workspaces.specs.Touched.{HoldsMarked}
+
+-- no array of a workspace is a scratch list's
+not_list : (w : ℕ) (b : Arr) → IsOfWorkspace w b → is_scratch b ≡ false
+not_list w Range of = refl
+not_list w (Values n) of = refl
+not_list w (Dimension n k) of = refl
+not_list w (Ends n k) of = refl
+not_list w (Coordinates n k) of = refl
+not_list w (Width n k) of = refl
+not_list w (Key n k) of = refl
+not_list w (Sums n) of = refl
+not_list w (ListCoordinates n) of = absurd of
+not_list w (ListPositions n) of = absurd of
+
+pub not_scratch : (k : TouchedSink) (b : Arr) → IsOfTouched k b → is_scratch b ≡ false
+not_scratch k b (inl of) = not_list k.dense b of
+not_scratch k b (inr of) = not_list k.list b of
 
 range_stays : (variable size : ℕ) (s t : State) → t.arrays Range ≡ s.arrays Range → HasRange variable size s → HasRange variable size t
 range_stays variable size s t stay h = record { words = h.words; words_are = stay ∙ h.words_are; told = h.told }
@@ -105,5 +124,7 @@ touched_draining_laws = record {
     draining = draining_stays k a s t (λ b of. stay b (λ other. other of)) range h.size taken waiting h.draining;
   };
   holds_on = λ k a ranges rows s t stay range h. rows_held k a s t (λ b of. stay b (λ other. other of)) range ranges rows h;
+  plain = λ k y none. none;
+  lists = λ k b is of. absurd (let both : true ≡ false = sym is ∙ not_scratch k b of in cc both);
   few = λ k a ranges taken waiting s h. h.draining.few;
 }
