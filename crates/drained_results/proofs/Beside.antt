@@ -13,8 +13,9 @@ use Rattle.result_targets.specs.Scratch.{is_scratch}
 use Rattle.result_targets.specs.Sinks.{Sink}
 use Rattle.term_code.specs.WorkspaceSinks.{IsOfWorkspace}
 use Rattle.appended_results.specs.Levels.{IsMine, IsKept, key_at}
-use Rattle.appended_results.specs.Sink.{AppendedSink, letters_in, appended_sink}
+use Rattle.appended_results.specs.Sink.{letters_in, appended_sink}
 use Rattle.appended_results.specs.SinkLaws.{holds_there, many_letters}
+use Rattle.appended_results.specs.declared.sink.AppendedSink.{AppendedSink}
 use Rattle.drained_workspaces.specs.Drained.{AreBeside}
 use Rattle.pair_workspaces.specs.Sinks.{pair_sink}
 use Rattle.touched_workspaces.specs.Sinks.{IsOfTouched, touched_sink}
