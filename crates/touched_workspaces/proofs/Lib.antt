@@ -1,5 +1,6 @@
 pub mod Coordinates
 pub mod DrainLaws
+pub mod DrainedCodes
 pub mod ReadLaws
 pub mod RowLaws
 pub mod SortLaws

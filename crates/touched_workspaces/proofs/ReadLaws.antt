@@ -1,15 +1,14 @@
 -- A row that is taken is read, and whether one waits.
 use Rattle.std.specs.Prelude.{◌≡◌, ℕ, ◌+◌, ◌≤◌, ◌<◌, nat_lt, Bool, true, false, List, [], ◌∷◌, ◌++◌, length, replicate, Some, slice_get}
 use Rattle.std.specs.Prelude.{slice_index, refl}
-use Rattle.std.proofs.Common.{◌∙◌, ap, arith, inl, inr}
+use Rattle.std.proofs.Common.{◌∙◌, ap, arith}
 use Rattle.std.proofs.lemmas.Bool.Decides.{nat_tests}
 use Rattle.std.proofs.lemmas.List.{append_assoc, length-append, length-map}
 use Rattle.numbers.specs.Arithmetic.{Arithmetic}
 use Rattle.kernel_code.specs.Does.{Never}
 use Rattle.kernel_code.specs.Keeps.{NoVariable, no_turns}
 use Rattle.kernel_code.specs.Meaning.{State, set_var, length_of}
-use Rattle.kernel_code.specs.declared.syntax.Arr.{Arr}
-use Rattle.kernel_code.specs.declared.syntax.Arr.TheVariants.{Range, Key, Sums}
+use Rattle.kernel_code.specs.declared.syntax.Arr.TheVariants.{Key, Sums}
 use Rattle.kernel_code.specs.declared.syntax.KExpr.{Var, At, Len}
 use Rattle.kernel_code.specs.declared.syntax.KStmt.{Set}
 use Rattle.kernel_code.proofs.Does.{does_nothing, does_append, does_set}
@@ -17,12 +16,12 @@ use Rattle.kernel_code.proofs.Keeps.{this_var, other_var, leaves_set}
 use Rattle.kernel_code.proofs.Words.{word_is, less_yes, less_no}
 use Rattle.tensor_map.specs.declared.entries.Entry.{Entry}
 use Rattle.term_code.specs.WorkspaceSinks.{column, values}
+use Rattle.touched_workspaces.specs.DrainedLaws.{draining_stays}
 use Rattle.touched_workspaces.specs.Codes.{next_code, taken_code, wait_test}
-use Rattle.touched_workspaces.specs.Drains.{AreWaiting, IsDraining, IsTakenRow, TakesRow, TellsWaiting}
-use Rattle.touched_workspaces.specs.Sinks.{TouchedSink, IsOfTouched, IsOther}
+use Rattle.touched_workspaces.specs.Drains.{IsDraining, IsTakenRow, TakesRow, TellsWaiting}
+use Rattle.touched_workspaces.specs.Sinks.{TouchedSink, IsOther}
 use Rattle.touched_workspaces.specs.Sizes.{greatest_marked_range}
 use Rattle.touched_workspaces.proofs.DrainLaws.{key_at, takes_next}
-use Rattle.touched_workspaces.proofs.RowLaws.{range_kept}
 
 -- the value of a row in a column of values
 value_of : (taken : List Entry) (row : Entry) (waiting : List Entry)
@@ -62,43 +61,10 @@ has_value k a size taken row waiting s h = by (nat_lt greatest_marked_range size
           there = last_value taken row (replicate (length waiting) a.zero);
         }
 
--- draining goes on while the arrays of the two workspaces and the ranges stay, whatever else is done
-pub draining_stays : (k : TouchedSink) (a : Arithmetic) (size : ℕ) (taken waiting : List Entry) (s t : State)
-    → ((b : Arr) → IsOfTouched k b → t.arrays b ≡ s.arrays b) → t.arrays Range ≡ s.arrays Range
-    → IsDraining k a size taken waiting s → IsDraining k a size taken waiting t
-draining_stays k a size taken waiting s t stay range h = record {
-  range = range_kept k.variable size s t range h.range;
-  zero_is = h.zero_is;
-  apart = h.apart;
-  increasing = h.increasing;
-  each = h.each;
-  few = h.few;
-  keys_are = stay (Key k.list 0) (inr refl) ∙ h.keys_are;
-  marked = λ small. waiting_stay (h.marked small);
-  pushed = λ large. stay (Sums k.list) (inr refl) ∙ h.pushed large;
-}
-  where
-    waiting_stay : AreWaiting k a size taken waiting s.arrays → AreWaiting k a size taken waiting t.arrays
-    waiting_stay w = record {
-      values_are = stay (Sums k.list) (inr refl) ∙ w.values_are;
-      marked = record {
-        marks = w.marked.marks;
-        held = stay (Key k.dense 0) (inl refl) ∙ w.marked.held;
-        many = w.marked.many;
-        each = w.marked.each;
-      };
-      summed = record {
-        sums = w.summed.sums;
-        held = stay (Sums k.dense) (inl refl) ∙ w.summed.held;
-        many = w.summed.many;
-        each = w.summed.each;
-      };
-    }
-
--- so it does while a variable is set
+-- draining goes on while a variable is set
 drains_still : (k : TouchedSink) (a : Arithmetic) (size : ℕ) (taken waiting : List Entry) (s : State) (x v : ℕ)
     → IsDraining k a size taken waiting s → IsDraining k a size taken waiting (set_var s x v)
-drains_still k a size taken waiting s x v h = draining_stays k a size taken waiting s (set_var s x v) (λ b of. refl) refl h
+drains_still k a size taken waiting s x v h = draining_stays k a s (set_var s x v) (λ b of. refl) refl size taken waiting h
 
 pub takes_row : (k : TouchedSink) (at free : ℕ) → at < free → TakesRow k at free (taken_code k at free)
 takes_row k at free low = λ c laws size taken row waiting s h place.

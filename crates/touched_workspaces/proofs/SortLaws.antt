@@ -141,7 +141,7 @@ rows_one : (size : ℕ) (rows : List Entry) → Each (IsTouching (size ∷ [])) 
 rows_one size [] each = tt
 rows_one size (row ∷ rows) each = (each.0.below, rows_one size rows each.1)
 
-rows_words : (size : ℕ) (rows : List Entry) → Each (IsTouching (size ∷ [])) rows → Each (λ (e : Entry). e.value < 2 ^ 64) rows
+pub rows_words : (size : ℕ) (rows : List Entry) → Each (IsTouching (size ∷ [])) rows → Each (λ (e : Entry). e.value < 2 ^ 64) rows
 rows_words size [] each = tt
 rows_words size (row ∷ rows) each = (each.0.word, rows_words size rows each.1)
 

@@ -1,4 +1,6 @@
 pub mod Codes
+pub mod Drained
+pub mod DrainedLaws
 pub mod Drains
 pub mod SinkLaws
 pub mod Sizes

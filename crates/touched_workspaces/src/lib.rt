@@ -3,6 +3,7 @@
 //! hold, `specs/Sinks.antt` what such a workspace is as a place where rows go, and `specs/Drains.antt` that both ways leave the same sums.
 #![tactic(auto)]
 
+mod drained;
 mod drains;
 mod sink;
 mod sizes;

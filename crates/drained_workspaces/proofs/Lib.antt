@@ -1,0 +1,4 @@
+pub mod DrainLaws
+pub mod FillLaws
+pub mod Prefixes
+pub mod Sums

@@ -1,0 +1,4 @@
+pub mod EmptyLaws
+pub mod RowLaws
+pub mod SortLaws
+pub mod TakeLaws

@@ -1,0 +1,5 @@
+pub mod Codes
+pub mod Drained
+pub mod DrainedLaws
+pub mod SinkLaws
+pub mod Sinks
