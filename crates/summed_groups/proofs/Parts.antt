@@ -1,10 +1,10 @@
 -- The sums of two groups of rows, of which one comes before the other.
-use Rattle.std.specs.Prelude.{◌≡◌, ℕ, zero, suc, List, [], ◌∷◌, ◌++◌, take, refl}
+use Rattle.std.specs.Prelude.{◌≡◌, ℕ, zero, suc, List, [], ◌∷◌, ◌++◌, refl}
 use Rattle.std.specs.declared.cmp.Ordering.{Ordering}
 use Rattle.std.specs.declared.cmp.Ordering.TheVariants.{Less, Equal, Greater}
 use Rattle.std.specs.Ordering.{nat_cmp, MatchOrdering}
 use Rattle.std.specs.Cmp.Lexicographic.{slice_cmp}
-use Rattle.std.proofs.Common.{◌∙◌, sym, ap, subst, inl, inr}
+use Rattle.std.proofs.Common.{◌∙◌, ap, subst, inl, inr}
 use Rattle.numbers.specs.Arithmetic.{Arithmetic}
 use Rattle.lists.specs.Each.{Each}
 use Rattle.tensor_map.specs.declared.entries.Entry.{Entry}
@@ -12,7 +12,7 @@ use Rattle.tensor_map.specs.Order.{IsBefore}
 use Rattle.tensor_map.proofs.OrderLaws.{before_irreflexive, before_trans, compared_as}
 use Rattle.concrete_notation.specs.Contributions.{put_by, put_pair, sums_of}
 use Rattle.concrete_notation.proofs.SumsOf.{sums_each}
-use Rattle.summed_groups.specs.Groups.{AllBefore, ComesBefore, GroupsBefore}
+use Rattle.summed_groups.specs.Groups.{ComesBefore, GroupsBefore}
 
 -- what comes before by the first coordinates comes before
 pub whole_before : (n : ℕ) (xs ys : List ℕ) → ComesBefore n xs ys → IsBefore xs ys
