@@ -1,5 +1,0 @@
-pub mod Fronts
-pub mod Orders
-pub mod Groups
-pub mod Loops
-pub mod Chains

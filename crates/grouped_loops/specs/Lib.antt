@@ -1,4 +1,0 @@
-pub mod Grouped
-pub mod GroupedLaws
-pub mod Chains
-pub mod Emitted
