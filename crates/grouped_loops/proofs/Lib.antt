@@ -3,3 +3,4 @@ pub mod Orders
 pub mod Groups
 pub mod Loops
 pub mod Chains
+pub mod Whole
