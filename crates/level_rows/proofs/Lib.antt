@@ -12,6 +12,8 @@ pub mod RunSteps
 pub mod RunLoop
 pub mod OwnNumbers
 pub mod AtOnce
+pub mod RunNumbers
+pub mod FirstRows
 pub mod InsertLaws
 pub mod InsertLoop
 pub mod FullLaws

@@ -6,6 +6,7 @@ pub mod Tables
 pub mod Values
 pub mod Growing
 pub mod Filling
+pub mod Runs
 pub mod Draining
 pub mod Placing
 pub mod Counting

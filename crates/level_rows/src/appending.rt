@@ -42,7 +42,7 @@ pub(crate) fn turn<L: Append>(level: &mut L, at: Cursor, next: u64) -> Cursor
 
 /// Appends a row's coordinate if it begins a position.
 #[inline(always)]
-fn append_first<L: Append>(level: &mut L, at: Cursor, begins: bool, x: u64) -> Cursor
+pub(crate) fn append_first<L: Append>(level: &mut L, at: Cursor, begins: bool, x: u64) -> Cursor
     requires may { begins ≡ true → MayAppend (L.meaning.kind level.old) (L.meaning.size level.old) x (L.meaning.log level.old) }
     requires spare { begins ≡ true → 0 < L.spare level.old }
     requires room { begins ≡ true → length (L.meaning.log level.old).coords < greatest_position_count }

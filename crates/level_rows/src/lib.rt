@@ -13,6 +13,7 @@ mod inserting;
 mod numbering;
 mod placing;
 mod rows;
+mod runs;
 mod values;
 
 pub use appending::append_rows;
@@ -23,4 +24,5 @@ pub use inserting::{fill_first, insert_rows};
 pub use numbering::{fill_numbered, fill_once};
 pub use placing::{emit_greatest_below, emit_insert_rows};
 pub use rows::SortedRows;
+pub use runs::{begins_run, fill_runs};
 pub use values::{RowValues, store_values};

@@ -1,48 +1,49 @@
 //! Rows that are appended where nobody asks for their positions: each begins one, whose number is the row's own.
-ghost use Rattle.std.specs.Prelude.{◌≡◌, ◌≤◌, ◌<◌, ◌+◌, ◌-◌, ℕ, List, true, length, slice_index, OnOk, OnErr};
+ghost use Rattle.std.specs.Prelude.{◌≡◌, ◌≤◌, ◌<◌, ◌-◌, ℕ, List, true, if◌then◌else◌, length, slice_index, OnOk, OnErr};
 ghost use Rattle.std.specs.List.{range_with_len};
 ghost use Rattle.limits.specs.Limits.{greatest_position_count};
 ghost use Rattle.level_core.specs.Kinds.{capabilities, properties};
 ghost use Rattle.level_core.specs.Logs.{nothing_reserved};
 ghost use Rattle.level_rows.specs.Filling.{AreNeeded, MayFill, FillAnswer, places_once};
 ghost use Rattle.level_rows.specs.Rows.{rows_at, begun, AllBegin, HasCoords, MayAppendRows};
+ghost use Rattle.level_rows.specs.Runs.{told_by};
 ghost use Rattle.level_rows.specs.Taken.{AppendsRows};
 
 use crate::appending::{Cursor, append_run, close, turn};
 use crate::filling::FillRefusal;
 use crate::rows::SortedRows;
+use crate::runs::run_end;
 use level_core::Append;
 use limits::greatest_positions;
 use std::alloc::AllocError;
 
-/// Where the rows from this one on end that have its parent.
-fn run_end(positions: &[u32], first: usize) -> usize
-    requires { first < length positions.now }
-    ensures within { result ≤ length positions.now }
-    ensures more { first < result }
-    ensures same { (i : ℕ) → first ≤ i → i < result → slice_index positions.now i ≡ slice_index positions.now first }
+/// The parent of a run's rows, of which this one is the first: what stands in the column, or the number of the run, where runs are counted.
+#[inline(always)]
+fn parent_of(above: &[u32], counted: bool, run: u64, first: usize) -> u64
+    requires { first < length above.now }
+    ensures { result ≡ (if counted then run else slice_index above.now first) }
 {
-    let parent = positions[first];
-    for next in first + 1..positions.len() {
-        if positions[next] != parent {
-            return next;
-        }
+    if counted {
+        return run;
     }
-    positions.len()
+    above[first] as u64
 }
 
 /// Fills a level as `append_rows` does, of rows of which each begins a position and whose coordinates stand in a list: they are taken from
-/// there, the rows of one parent at once, and no position is told.
+/// there, the rows of one parent at once, and no position is told. `above` tells the parents, which are the numbers of its runs where these
+/// are counted.
 fn append_numbered<L: Append, R: SortedRows>(
     level: &mut L,
     parents: u64,
     most: u64,
     _rows: &R,
     column: &[u32],
-    positions: &[u32],
+    above: &[u32],
+    counted: bool,
 ) -> Result<(), AllocError>
-    requires rows { MayAppendRows (L.meaning.kind level.old) (L.meaning.size level.old) parents (rows_at (R.keys _rows.now) positions.now) }
-    requires many { length positions.now ≡ (R.keys _rows.now).count }
+    requires rows { MayAppendRows (L.meaning.kind level.old) (L.meaning.size level.old) parents
+        (rows_at (R.keys _rows.now) (told_by counted above.now)) }
+    requires many { length above.now ≡ (R.keys _rows.now).count }
     requires fresh { L.meaning.log level.old ≡ nothing_reserved }
     requires parents { parents ≤ greatest_position_count }
     requires most { most ≡ begun (R.keys _rows.now).first (R.keys _rows.now).count }
@@ -50,7 +51,7 @@ fn append_numbered<L: Append, R: SortedRows>(
     requires all { AllBegin (R.keys _rows.now) }
     requires column { HasCoords (R.keys _rows.now) column.now }
     ensures ok { OnOk result ((places : List ℕ)
-        × AppendsRows L.meaning parents (rows_at (R.keys _rows.now) positions.now) places level.old level.new) }
+        × AppendsRows L.meaning parents (rows_at (R.keys _rows.now) (told_by counted above.now)) places level.old level.new) }
     ensures err { OnErr result (level.new ≡ level.old) }
 {
     level.reserve(most, parents)?;
@@ -60,11 +61,13 @@ fn append_numbered<L: Append, R: SortedRows>(
         begin: 0,
         count: 0,
     };
+    let mut run = 0;
     let mut done = 0;
-    while done < positions.len() {
-        let end = run_end(positions, done);
-        at = turn(level, at, positions[done] as u64);
+    while done < above.len() {
+        let end = run_end(above, done);
+        at = turn(level, at, parent_of(above, counted, run, done));
         at = append_run(level, at, &column[done..end]);
+        run += 1;
         done = end;
     }
     close(level, at, done > 0);
@@ -73,31 +76,34 @@ fn append_numbered<L: Append, R: SortedRows>(
 }
 
 /// Gives a new level that is appended to its rows, below so many parents, as `fill_level` does, where each row begins a position and the
-/// coordinates stand in a list. `positions` has the position of the level above of each row, four bytes each, as where a column of
-/// coordinates has them; at this level each row's is its own number, which isn't told.
+/// coordinates stand in a list. `above` tells the position of the level above of each row: it stands there, four bytes each, as where a
+/// column of coordinates has them, or is the number of the row's run, where these are counted. At this level each row's is its own
+/// number, which isn't told.
 pub fn fill_numbered<L: Append, R: SortedRows>(
     level: &mut L,
     parents: u64,
     rows: &R,
     column: &[u32],
-    positions: &[u32],
+    above: &[u32],
+    counted: bool,
 ) -> Result<u64, FillRefusal>
     requires append { (capabilities (L.meaning.kind level.old)).append ≡ true }
     requires parents { parents ≤ greatest_position_count }
-    requires rows { MayFill L.meaning parents (rows_at (R.keys rows.now) positions.now) level.old }
-    requires many { length positions.now ≡ (R.keys rows.now).count }
+    requires rows { MayFill L.meaning parents (rows_at (R.keys rows.now) (told_by counted above.now)) level.old }
+    requires many { length above.now ≡ (R.keys rows.now).count }
     requires all { AllBegin (R.keys rows.now) }
     requires column { HasCoords (R.keys rows.now) column.now }
     ensures { (needed : ℕ) × (most : ℕ) × (places : List ℕ)
-        × AreNeeded (L.meaning.kind level.old) (L.meaning.size level.old) parents (rows_at (R.keys rows.now) positions.now) needed most
-        × FillAnswer L.meaning parents (rows_at (R.keys rows.now) positions.now) needed most positions.now places
-        level.old level.new result }
+        × AreNeeded (L.meaning.kind level.old) (L.meaning.size level.old) parents
+        (rows_at (R.keys rows.now) (told_by counted above.now)) needed most
+        × FillAnswer L.meaning parents (rows_at (R.keys rows.now) (told_by counted above.now)) needed most
+        (told_by counted above.now) places level.old level.new result }
 {
-    let count = positions.len() as u64;
+    let count = above.len() as u64;
     if count > greatest_positions() {
         return Err(FillRefusal::TooMany(count as u128));
     }
-    match append_numbered(level, parents, count, rows, column, positions) {
+    match append_numbered(level, parents, count, rows, column, above, counted) {
         Ok(()) => Ok(count),
         Err(_) => Err(FillRefusal::Memory),
     }

@@ -1,5 +1,6 @@
 -- The positions of rows where they are not told: what stands for them, and what filling a level leaves of them.
-use Rattle.std.specs.Prelude.{◌≡◌, ℕ, suc, ◌+◌, ◌≤◌, ◌<◌, true, false, List, length, replicate, slice_index, Result, Ok, Err, OnOk}
+use Rattle.std.specs.Prelude.{◌≡◌, ℕ, zero, suc, ◌≤◌, ◌<◌, ◌==◌, ◌&&◌, not, Bool, true, false, List, length, replicate, slice_index}
+use Rattle.std.specs.Prelude.{Result, Ok, Err, OnOk, refl}
 use Rattle.std.specs.List.{range_with_len}
 use Rattle.std.proofs.Common.{◌∙◌, sym, ap, subst, arith}
 use Rattle.std.proofs.lemmas.List.{ext_get_or}
@@ -9,11 +10,12 @@ use Rattle.level_rows.specs.Rows.{Rows, Keys, HasCoords, place, rows_at}
 use Rattle.level_rows.specs.Filling.{AreNeeded, FillAnswer}
 use Rattle.level_rows.specs.declared.filling.FillRefusal.{FillRefusal}
 use Rattle.level_rows.specs.declared.filling.FillRefusal.TheVariants.{Memory, TooMany}
+use Rattle.level_rows.specs.Runs.{AreRuns}
 use Rattle.level_rows.specs.Tables.{Increase}
 use Rattle.level_rows.proofs.RowLaws.{begun_all}
 use Rattle.tensor_storage.specs.Levels.{StorageLevel, meaning}
 use Rattle.tensor_storage.specs.Places.{PlacedAnswer}
-use Rattle.tensor_storage.specs.Tables.{Table, begins_at, keys_of, level_column}
+use Rattle.tensor_storage.specs.Tables.{Table, agree, begins_at, keys_of, level_column}
 use Rattle.tensor_storage.proofs.Tables.{all_apart, all_begin_apart, column_long, column_at}
 
 -- a list that has each row's own number is that of the numbers from 0 on
@@ -27,6 +29,23 @@ column_coords table d n column is = record {
   long = ap length is ∙ column_long table d;
   at = λ i h. ap (λ xs. slice_index xs i) is ∙ column_at table d i h;
 }
+
+and_true : (b : Bool) → (true && b) ≡ b
+and_true true = refl
+and_true false = refl
+
+-- at the level on top, which alone tells its rows apart, rows begin positions where runs of its column begin
+pub runs_on_top : (table : Table) (d n : ℕ) (column : List ℕ) → n ≡ 1 → d < n → column ≡ level_column table d
+    → AreRuns (keys_of table d n) column
+runs_on_top table d n column one within is zero h = refl
+runs_on_top table d n column one within is (suc i) h =
+    ap (λ m. not (agree table.coords m i (suc i))) one
+    ∙ ap not (and_true (table.coords 0 i == table.coords 0 (suc i)) ∙ ap (λ x. x == table.coords 0 (suc i)) (sym (at i (omega (arith, h))))
+    ∙ ap (λ y. slice_index column i == y) (sym (at (suc i) h)))
+  where
+    at : (j : ℕ) → j < table.count → slice_index column j ≡ table.coords 0 j
+    at j l = (column_coords table d n column is).at j l
+        ∙ ap (λ m. table.coords m j) (let top : d ≡ 0 = omega (arith, one, within) in top)
 
 -- a level that is refused
 pub refused : (parents : ℕ) (rows : Rows) (before : List ℕ) (old new : StorageLevel) (refusal : FillRefusal)

@@ -3,17 +3,19 @@ use Rattle.std.specs.Prelude.{ℕ, List, replicate, Result, Ok, Err}
 use Rattle.std.specs.List.{range_with_len}
 use Rattle.level_rows.specs.Rows.{Rows}
 use Rattle.level_rows.specs.Filling.{AreNeeded, FillAnswer}
+use Rattle.level_rows.specs.Runs.{run_numbers}
 use Rattle.level_rows.specs.declared.filling.FillRefusal.{FillRefusal}
 use Rattle.level_rows.specs.declared.filling.FillRefusal.TheVariants.{Memory, TooMany}
 use Rattle.tensor_storage.specs.Levels.{StorageLevel, meaning}
 use Rattle.tensor_storage.specs.declared.places.Places.{Places}
-use Rattle.tensor_storage.specs.declared.places.Places.TheVariants.{First, Column, Own, Told}
+use Rattle.tensor_storage.specs.declared.places.Places.TheVariants.{First, Column, Runs, Own, Told}
 use Rattle.tensor_storage.specs.declared.packing.Filled.{Filled}
 
 -- the position of each row
 abbrev pub places_in : Places → List ℕ
 places_in (First count) = replicate count 0
 places_in (Column column) = column.now
+places_in (Runs column) = run_numbers column.now
 places_in (Own count) = range_with_len 0 count
 places_in (Told places) = places.items
 

@@ -6,6 +6,7 @@ ghost use Rattle.format_spec.specs.Formats.{letters_of, IsFormat};
 ghost use Rattle.level_core.specs.Kinds.{capabilities, properties};
 ghost use Rattle.level_rows.specs.Rows.{rows_at};
 ghost use Rattle.level_rows.specs.Filling.{AreNeeded, MayFill, FillAnswer, places_once};
+ghost use Rattle.level_rows.specs.Runs.{told_by};
 ghost use Rattle.level_rows.specs.Tables.{Increase};
 ghost use Rattle.level_rows.specs.Values.{StoresValues};
 ghost use Rattle.tensor_storage.specs.Counts.{positions_of};
@@ -18,11 +19,15 @@ ghost use Rattle.tensor_storage.specs.Levels.{meaning};
 
 use crate::kinds::chain_end;
 use crate::level::{StorageLevel, new_level};
-use crate::places::{Places, are_first, are_own, kept, lent_places, repeated, taken_once, told};
+use crate::places::{
+    LentPlaces, Places, are_first, are_own, kept, lent_places, repeated, taken_once, told,
+};
 use crate::table::{ColumnRows, LevelRows, RowTable};
 use format_spec::FormatLevel;
 use level_core::{Letter, LevelKind, caps_of};
-use level_rows::{FillRefusal, fill_first, fill_level, fill_numbered, fill_once, store_values};
+use level_rows::{
+    FillRefusal, fill_first, fill_level, fill_numbered, fill_once, fill_runs, store_values,
+};
 use numbers::Semiring;
 use std::alloc::{AllocError, Global};
 use trees::Items;
@@ -72,6 +77,24 @@ fn numbers_last(letter: Letter, level: usize, through: usize, levels: usize) -> 
         return false;
     }
     numbers_rows(letter, through, levels)
+}
+
+/// Whether a level takes a coordinate for each run of its column: where it is on top and appended to, and tells its rows apart alone, of
+/// which there are some.
+fn takes_runs(places: &Places<'_>, letter: Letter, through: usize, column: &[u32]) -> bool
+    ensures { result ≡ true → (through ≡ 1) × (places_in places.now ≡ replicate (length (places_in places.now)) 0)
+        × ((capabilities letter).append ≡ true) × (0 < length column.now) }
+{
+    if through != 1 {
+        return false;
+    }
+    if column.is_empty() {
+        return false;
+    }
+    if !are_first(places) {
+        return false;
+    }
+    caps_of(letter).append
 }
 
 /// Gives a new level its rows, below so many parents, as `fill_level` does. The rows increase by so many `levels`. Where the table has
@@ -149,19 +172,20 @@ fn fill_told<'a, T: RowTable>(
 }
 
 /// Gives a new level that is appended to its rows, of which each begins a position, where their coordinates and the positions of their
-/// parents stand in columns: no position is told.
+/// parents are told by columns: no position is told.
 fn fill_apart<T: RowTable>(
     stored: &mut StorageLevel,
     parents: u64,
     rows: &LevelRows<T>,
     levels: usize,
     column: &[u32],
-    above: &[u32],
+    above: LentPlaces<'_>,
 ) -> Result<u64, FillRefusal>
     requires parents { parents ≤ greatest_position_count }
     requires rows { MayFill meaning parents
-        (rows_at (keys_of (T.table rows.now.table.now) rows.now.level rows.now.through) above.now) stored.old }
-    requires many { length above.now ≡ (T.table rows.now.table.now).count }
+        (rows_at (keys_of (T.table rows.now.table.now) rows.now.level rows.now.through) (told_by above.counted above.column.now))
+        stored.old }
+    requires many { length above.column.now ≡ (T.table rows.now.table.now).count }
     requires among { rows.now.level < rows.now.through }
     requires order { Increase (T.table rows.now.table.now).coords levels (T.table rows.now.table.now).count }
     requires apart { levels ≤ rows.now.through }
@@ -169,9 +193,12 @@ fn fill_apart<T: RowTable>(
     requires column { column.now ≡ level_column (T.table rows.now.table.now) rows.now.level }
     ensures { (needed : ℕ) × (most : ℕ) × (after : List ℕ)
         × AreNeeded (meaning.kind stored.old) (meaning.size stored.old) parents
-        (rows_at (keys_of (T.table rows.now.table.now) rows.now.level rows.now.through) above.now) needed most
-        × FillAnswer meaning parents (rows_at (keys_of (T.table rows.now.table.now) rows.now.level rows.now.through) above.now)
-        needed most above.now after stored.old stored.new result
+        (rows_at (keys_of (T.table rows.now.table.now) rows.now.level rows.now.through)
+        (told_by above.entry.counted above.entry.column.now)) needed most
+        × FillAnswer meaning parents
+        (rows_at (keys_of (T.table rows.now.table.now) rows.now.level rows.now.through)
+        (told_by above.entry.counted above.entry.column.now))
+        needed most (told_by above.entry.counted above.entry.column.now) after stored.old stored.new result
         × OnOk result (after ≡ range_with_len 0 (T.table rows.now.table.now).count) }
 {
     let narrow = ColumnRows {
@@ -181,7 +208,14 @@ fn fill_apart<T: RowTable>(
         column,
         all_begin: true,
     };
-    fill_numbered(stored, parents, &narrow, column, above)
+    fill_numbered(
+        stored,
+        parents,
+        &narrow,
+        column,
+        above.column,
+        above.counted,
+    )
 }
 
 /// Gives a new level that is appended to its rows, of which each begins a position, where their coordinates stand in a column: at once,
@@ -223,6 +257,43 @@ fn fill_whole<T: RowTable>(
     fill_once(stored, parents, &narrow, column, each)
 }
 
+/// Gives a new level its rows, as `fill_level` does, some of which may share a position. Where the level on top is appended to, runs of its
+/// column share positions, and no position is told.
+fn fill_shared<'a, T: RowTable>(
+    alloc: Global,
+    stored: &mut StorageLevel,
+    size: u64,
+    parents: u64,
+    rows: &LevelRows<'a, T>,
+    levels: usize,
+    places: Places<'a>,
+    column: &'a [u32],
+) -> Result<Filled<'a>, FillRefusal>
+    requires size { size ≡ meaning.size stored.old }
+    requires range { size ≤ greatest_position_count }
+    requires parents { parents ≤ greatest_position_count }
+    requires rows { MayFill meaning parents
+        (rows_at (keys_of (T.table rows.now.table.now) rows.now.level rows.now.through) (places_in places)) stored.old }
+    requires many { length (places_in places) ≡ (T.table rows.now.table.now).count }
+    requires among { rows.now.level < rows.now.through }
+    requires order { Increase (T.table rows.now.table.now).coords levels (T.table rows.now.table.now).count }
+    requires column { column.now ≡ level_column (T.table rows.now.table.now) rows.now.level }
+    ensures { PlacedAnswer parents
+        (rows_at (keys_of (T.table rows.now.table.now) rows.now.level rows.now.through) (places_in places.entry))
+        (places_in places.entry) stored.old stored.new result }
+{
+    if !takes_runs(&places, stored.letter(), rows.through, column) {
+        return fill_told(alloc, stored, size, parents, rows, levels, places);
+    }
+    match fill_runs(stored, parents, rows, column) {
+        Ok(count) => Ok(Filled {
+            count,
+            places: Places::Runs(column),
+        }),
+        Err(refusal) => Err(refusal),
+    }
+}
+
 /// Gives a new level its rows, as `fill_level` does, and tells no position where it follows from what stands in memory already: that of a
 /// row at a dense level on top is its coordinate, and one that is appended has its own number where each row begins a position.
 fn fill_placed<'a, T: RowTable>(
@@ -259,7 +330,7 @@ fn fill_placed<'a, T: RowTable>(
         };
     }
     if !numbers_rows(stored.letter(), rows.through, levels) {
-        return fill_told(alloc, stored, size, parents, rows, levels, places);
+        return fill_shared(alloc, stored, size, parents, rows, levels, places, column);
     }
     if let Some(each) = taken_once(&places, stored.props().branchless) {
         return match fill_whole(stored, parents, rows, levels, column, each) {
@@ -276,7 +347,7 @@ fn fill_placed<'a, T: RowTable>(
     match fill_apart(stored, parents, rows, levels, column, above) {
         Ok(count) => Ok(Filled {
             count,
-            places: Places::Own(above.len()),
+            places: Places::Own(column.len()),
         }),
         Err(refusal) => Err(refusal),
     }
@@ -405,7 +476,8 @@ fn values_of<S: Semiring, T: RowTable>(
 ) -> Result<Items<u64>, AllocError>
     requires many { length (places_in places) ≡ (T.table table.now).count }
     requires within { (i : ℕ) → i < (T.table table.now).count → slice_index (places_in places) i < positions }
-    requires apart { (i j : ℕ) → i < j → j < (T.table table.now).count → slice_index (places_in places) i ≢ slice_index (places_in places) j }
+    requires apart { (i j : ℕ) → i < j → j < (T.table table.now).count
+        → slice_index (places_in places) i ≢ slice_index (places_in places) j }
     ensures stored { IfOk result (λ values. StoresValues (T.table table.now).count (slice_index (places_in places.entry))
         (T.table table.now).values (replicate positions S.arithmetic.zero) values) }
     ensures words { IfOk result (λ values. All (λ v. v < 2 ^ 64) values) }

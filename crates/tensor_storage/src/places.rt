@@ -2,8 +2,10 @@
 ghost use Rattle.std.specs.Prelude.{◌≡◌, ◌<◌, ℕ, length, replicate, slice_index, true, IfOk, IfSome};
 ghost use Rattle.std.specs.List.{range_with_len};
 ghost use Rattle.level_rows.specs.Filling.{places_once};
+ghost use Rattle.level_rows.specs.Runs.{run_numbers, told_by};
 ghost use Rattle.tensor_storage.specs.Places.{places_in};
 
+use level_rows::begins_run;
 use std::alloc::{AllocError, Global};
 
 /// The position of each row at a level.
@@ -13,10 +15,19 @@ pub(crate) enum Places<'a> {
     First(usize),
     /// The positions are coordinates that stand next to one another.
     Column(&'a [u32]),
+    /// Each row's position is the number of its run in a column of coordinates.
+    Runs(&'a [u32]),
     /// So many rows have their own numbers.
     Own(usize),
     /// The positions stand in a list.
     Told(Vec<u64>),
+}
+
+/// A column that tells each row's position: it stands there or, where runs are counted, is the number of the row's run.
+#[derive(Clone, Copy, Drop)]
+pub(crate) struct LentPlaces<'a> {
+    pub(crate) column: &'a [u32],
+    pub(crate) counted: bool,
 }
 
 /// So many times a value. Refused for want of memory alone.
@@ -49,6 +60,21 @@ fn own_numbers(alloc: Global, count: usize) -> Result<Vec<u64>, AllocError>
     Ok(numbers)
 }
 
+/// The number of each row's run. Refused for want of memory alone.
+fn numbers_of_runs(alloc: Global, column: &[u32]) -> Result<Vec<u64>, AllocError>
+    ensures { IfOk result (λ numbers. numbers.items ≡ run_numbers column.now) }
+{
+    let mut numbers = Vec::with_capacity(alloc, column.len())?;
+    let mut runs = 0;
+    for row in 0..column.len() {
+        if begins_run(column, row) {
+            runs += 1;
+        }
+        numbers.push(runs - 1)?;
+    }
+    Ok(numbers)
+}
+
 /// The positions in a list. Refused for want of memory alone.
 pub(crate) fn told(alloc: Global, places: Places<'_>) -> Result<Vec<u64>, AllocError>
     ensures { IfOk result (λ list. list.items ≡ places_in places.entry) }
@@ -56,6 +82,7 @@ pub(crate) fn told(alloc: Global, places: Places<'_>) -> Result<Vec<u64>, AllocE
     match places {
         Places::First(count) => repeated(alloc, 0, count),
         Places::Column(column) => widened(alloc, column),
+        Places::Runs(column) => numbers_of_runs(alloc, column),
         Places::Own(count) => own_numbers(alloc, count),
         Places::Told(list) => Ok(list),
     }
@@ -78,7 +105,7 @@ pub(crate) fn are_own(places: &Places<'_>) -> bool
 {
     match places {
         Places::Own(_) => true,
-        Places::First(_) | Places::Column(_) | Places::Told(_) => false,
+        Places::First(_) | Places::Column(_) | Places::Runs(_) | Places::Told(_) => false,
     }
 }
 
@@ -88,16 +115,23 @@ pub(crate) fn are_first(places: &Places<'_>) -> bool
 {
     match places {
         Places::First(_) => true,
-        Places::Own(_) | Places::Column(_) | Places::Told(_) => false,
+        Places::Own(_) | Places::Column(_) | Places::Runs(_) | Places::Told(_) => false,
     }
 }
 
-/// The column that has the positions, if one has.
-pub(crate) fn lent_places<'a>(places: &Places<'a>) -> Option<&'a [u32]>
-    ensures { IfSome result (λ column. column.now ≡ places_in places.now) }
+/// The column that tells the positions, if one does.
+pub(crate) fn lent_places<'a>(places: &Places<'a>) -> Option<LentPlaces<'a>>
+    ensures { IfSome result (λ lent. told_by lent.counted lent.column.now ≡ places_in places.now) }
 {
     match places {
-        Places::Column(column) => Some(*column),
+        Places::Column(column) => Some(LentPlaces {
+            column: *column,
+            counted: false,
+        }),
+        Places::Runs(column) => Some(LentPlaces {
+            column: *column,
+            counted: true,
+        }),
         Places::First(_) | Places::Own(_) | Places::Told(_) => None,
     }
 }

@@ -1,3 +1,4 @@
+use Rattle.level_rows.specs.Runs.{told_by}
 use Rattle.tensor_storage.proofs.Tables.{all_apart, all_begin_apart}
 use Rattle.tensor_storage.proofs.PlaceSteps.{column_coords, numbered_answer}
 use Rattle.tensor_storage.proofs.packing.fill_apart.Goals as goal
@@ -29,6 +30,7 @@ returns g c =
       e.3,
       e.4,
       numbered_answer (g.T.RowTable.table c.args.rows.now.table.now) c.args.levels c.args.rows.now.level c.args.rows.now.through
-          c.args.parents e.0 e.1 c.args.above.now e.2 c.args.stored.now c.fill_numbered.new.level c.requires.order c.requires.apart
+          c.args.parents e.0 e.1 (told_by c.args.above.counted c.args.above.column.now) e.2 c.args.stored.now c.fill_numbered.new.level
+          c.requires.order c.requires.apart
           c.requires.append c.fill_numbered.result e.4,
     )

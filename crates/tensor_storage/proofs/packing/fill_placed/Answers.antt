@@ -3,6 +3,8 @@ use Rattle.std.specs.List.{range_with_len}
 use Rattle.std.proofs.Common.{◌∙◌, ap, sym, subst}
 use Rattle.level_rows.specs.Rows.{rows_at}
 use Rattle.level_rows.specs.Filling.{MayFill, places_once}
+use Rattle.level_rows.specs.Runs.{told_by}
+use Rattle.level_rows.proofs.RunNumbers.{told_long}
 use Rattle.tensor_storage.specs.Levels.{meaning}
 use Rattle.tensor_storage.specs.Places.{places_in, PlacedAnswer}
 use Rattle.tensor_storage.specs.Tables.{keys_of}
@@ -20,14 +22,20 @@ fill_apart-requires-clause-rows g c =
     let keys = keys_of (g.T.RowTable.table c.args.rows.now.table.now) c.args.rows.now.level c.args.rows.now.through in
     subst (λ ps. MayFill meaning c.args.parents (rows_at keys ps) c.args.stored.now) (sym c.in-Some-lent_places.ensures) c.requires.rows
 
+pub fill_apart-requires-clause-many : goal.fill_apart-requires-clause-many
+fill_apart-requires-clause-many g c =
+    let above = c.in-Some-lent_places.above in
+    sym (told_long above.counted above.column.now) ∙ ap length c.in-Some-lent_places.ensures ∙ c.requires.many
+
 pub returns-in-Ok-fill_apart : goal.returns-in-Ok-fill_apart
 returns-in-Ok-fill_apart g c =
     let table = g.T.RowTable.table c.args.rows.now.table.now in
+    let above = c.in-Some-lent_places.above in
+    let long = (column_coords table c.args.rows.now.level c.args.rows.now.through c.in-Some.column.now c.in-Some.ensures).long in
     let e = c.in-Ok-fill_apart.ensures in
     filled_answer (keys_of table c.args.rows.now.level c.args.rows.now.through) c.args.parents c.in-Ok-fill_apart.count
-    c.in-Some-lent_places.above.now (places_in c.args.places) e.2 (range_with_len 0 (length c.in-Some-lent_places.above.now))
-    c.args.stored.now c.fill_apart.new.stored c.in-Some-lent_places.ensures
-    (e.5 ∙ ap (range_with_len 0) (sym (ap length c.in-Some-lent_places.ensures ∙ c.requires.many))) (e.0, e.1, e.3, e.4)
+    (told_by above.counted above.column.now) (places_in c.args.places) e.2 (range_with_len 0 (length c.in-Some.column.now))
+    c.args.stored.now c.fill_apart.new.stored c.in-Some-lent_places.ensures (e.5 ∙ ap (range_with_len 0) (sym long)) (e.0, e.1, e.3, e.4)
 
 pub fill_whole-requires-clause-rows : goal.fill_whole-requires-clause-rows
 fill_whole-requires-clause-rows g c =

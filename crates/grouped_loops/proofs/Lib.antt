@@ -1,0 +1,6 @@
+pub mod Fronts
+pub mod Orders
+pub mod Groups
+pub mod Loops
+pub mod Chains
+pub mod Whole
