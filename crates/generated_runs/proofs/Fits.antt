@@ -7,6 +7,7 @@ use Rattle.std.proofs.lemmas.List.Elements.{All-nil, All-cons}
 use Rattle.limits.specs.Limits.{greatest_position_count, greatest_workload}
 use Rattle.lists.proofs.Tests.{both_true}
 use Rattle.numbers.specs.Arithmetic.{Arithmetic}
+use Rattle.kernel_code.specs.declared.syntax.Kernel.{Kernel}
 use Rattle.level_core.specs.declared.letter.Letter.TheVariants.{Dense, Compressed}
 use Rattle.tensor_map.specs.declared.entries.Entry.{Entry}
 use Rattle.tensor_map.specs.Entries.{Entries, Listed}
@@ -29,7 +30,7 @@ use Rattle.operand_packing.specs.Operands.{mode_sizes}
 use Rattle.operand_packing.specs.Packed.{FitsLevels, OperandsFit, operand_sizes}
 use Rattle.kernel_runs.specs.declared.fault.RunFault.{RunFault}
 use Rattle.kernel_runs.specs.declared.fault.RunFault.TheVariants.{Range, SizeLimit, Workspace, Memory}
-use Rattle.kernel_runs.specs.Runs.{AllFit, IsStoreFor, MayRefuseRun, RefusesNoneThatFit, result_level_sizes}
+use Rattle.kernel_runs.specs.Runs.{IsStoreFor, LevelsFit, MayRefuseRun, PairsFit, RefusesNoneThatFit, result_level_sizes}
 use Rattle.generated_runs.specs.Matrices.{AreMatrices, IsMatrix}
 use Rattle.generated_runs.specs.Refused.{IsForMemory}
 use Rattle.generated_runs.specs.Workloads.{by_rows, workload_statement, workload_formats}
@@ -185,33 +186,41 @@ module _ (a : Arithmetic) (n : ℕ) (first second third : Entries) (few : n ≤ 
   unfolding workload_formats
   begins = (omega (arith, small), (omega arith, tt))
 
-  fit : AllFit a workload_statement workload_formats (n ∷ n ∷ []) (first ∷ second ∷ third ∷ [])
-  fit = record {
+  levels : LevelsFit a workload_statement workload_formats (n ∷ n ∷ []) (first ∷ second ∷ third ∷ [])
+  levels = record {
     operands_fit = operands_fit;
     begins = begins;
     result_fits = λ store for table named. result_fits store for table named;
-    pairs_fit = λ sparse store for. pairs_fit store for;
   }
 
 -- whatever the values
-pub all_fit : (a : Arithmetic) (n : ℕ) (operands : List Entries) → n ≤ greatest_workload → AreMatrices n operands
-    → AllFit a workload_statement workload_formats (n ∷ n ∷ []) operands
-all_fit a n [] few are = absurd are
-all_fit a n (first ∷ []) few are = absurd are
-all_fit a n (first ∷ second ∷ []) few are = absurd are
-all_fit a n (first ∷ second ∷ third ∷ x ∷ xs) few are = absurd are
-all_fit a n (first ∷ second ∷ third ∷ []) few are = fit a n first second third few are
+pub levels_fit : (a : Arithmetic) (n : ℕ) (operands : List Entries) → n ≤ greatest_workload → AreMatrices n operands
+    → LevelsFit a workload_statement workload_formats (n ∷ n ∷ []) operands
+levels_fit a n [] few are = absurd are
+levels_fit a n (first ∷ []) few are = absurd are
+levels_fit a n (first ∷ second ∷ []) few are = absurd are
+levels_fit a n (first ∷ second ∷ third ∷ x ∷ xs) few are = absurd are
+levels_fit a n (first ∷ second ∷ third ∷ []) few are = levels a n first second third few are
+
+-- and so do the pairs
+pub workspace_fits : (a : Arithmetic) (n : ℕ) (operands : List Entries) → n ≤ greatest_workload → AreMatrices n operands
+    → PairsFit a workload_statement workload_formats (n ∷ n ∷ []) operands
+workspace_fits a n [] few are sparse store for = absurd are
+workspace_fits a n (first ∷ []) few are sparse store for = absurd are
+workspace_fits a n (first ∷ second ∷ []) few are sparse store for = absurd are
+workspace_fits a n (first ∷ second ∷ third ∷ x ∷ xs) few are sparse store for = absurd are
+workspace_fits a n (first ∷ second ∷ third ∷ []) few are sparse store for = pairs_fit a n first second third few are store for
 
 -- so a run of the workload is refused for want of memory alone
-pub refused_for_memory : (a : Arithmetic) (n : ℕ) (operands : List Entries) → n ≤ greatest_workload → AreMatrices n operands
-    → RefusesNoneThatFit → (fault : RunFault)
-    → MayRefuseRun a workload_statement workload_formats (Some n ∷ Some n ∷ []) operands [] fault → IsForMemory fault
-refused_for_memory a n operands few are none (Memory error) why = tt
-refused_for_memory a n operands few are none (Range fault) why =
+pub refused_for_memory : (a : Arithmetic) (kernel : Kernel) (n : ℕ) (operands : List Entries) → n ≤ greatest_workload
+    → AreMatrices n operands → RefusesNoneThatFit → (fault : RunFault)
+    → MayRefuseRun a workload_statement workload_formats kernel (Some n ∷ Some n ∷ []) operands [] fault → IsForMemory fault
+refused_for_memory a kernel n operands few are none (Memory error) why = tt
+refused_for_memory a kernel n operands few are none (Range fault) why =
     let both : Ok (n ∷ n ∷ []) ≡ Err fault = sym (told n) ∙ why in absurd cc
-refused_for_memory a n operands few are none (SizeLimit large) why =
-    none a workload_statement workload_formats (Some n ∷ Some n ∷ []) operands [] (n ∷ n ∷ []) (SizeLimit large) (told n)
-    (all_fit a n operands few are) why tt
-refused_for_memory a n operands few are none (Workspace count) why =
-    none a workload_statement workload_formats (Some n ∷ Some n ∷ []) operands [] (n ∷ n ∷ []) (Workspace count) (told n)
-    (all_fit a n operands few are) why tt
+refused_for_memory a kernel n operands few are none (SizeLimit large) why =
+    none a workload_statement workload_formats kernel (Some n ∷ Some n ∷ []) operands [] (n ∷ n ∷ []) (SizeLimit large) (told n) why
+    (levels_fit a n operands few are)
+refused_for_memory a kernel n operands few are none (Workspace count) why =
+    none a workload_statement workload_formats kernel (Some n ∷ Some n ∷ []) operands [] (n ∷ n ∷ []) (Workspace count) (told n) why
+    (workspace_fits a n operands few are)

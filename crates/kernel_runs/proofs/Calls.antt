@@ -86,7 +86,7 @@ module _ (a : Arithmetic) (s : Statement) (formats : List (List FormatLevel)) (o
             is_format storages (packed_lent storages packed))
 
         pub refused_lent : (fault : RunFault) → RefusedOn a kernel (store_of rs ts first) fault
-            → RefusedBy a s formats ranges operands fault
+            → RefusedBy a s formats kernel ranges operands fault
         refused_lent fault why =
             refused a laws s formats kernel right operands are ranges fits first (first_is first front)
             is_format storages (packed_lent storages packed) fault

@@ -1,4 +1,4 @@
--- Where all fits, no fault of sizes may come.
+-- No fault may come of sizes that fit.
 use Rattle.std.specs.Prelude.{◌≡◌, ℕ, zero, suc, ◌≤◌, List, [], ◌∷◌, ◌++◌, Result, Ok, Err}
 use Rattle.std.proofs.Common.{◌∙◌, sym, subst, arith, inl, inr}
 use Rattle.std.proofs.lemmas.List.Elements.{All-tail}
@@ -6,6 +6,7 @@ use Rattle.limits.specs.Limits.{greatest_position_count}
 use Rattle.expr_terms.specs.declared.range_fault.RangeFault.{RangeFault}
 use Rattle.numbers.specs.Arithmetic.{Arithmetic}
 use Rattle.tensor_map.specs.Entries.{Entries}
+use Rattle.kernel_code.specs.declared.syntax.Kernel.{Kernel}
 use Rattle.level_core.specs.declared.letter.Letter.{Letter}
 use Rattle.format_spec.specs.declared.format.FormatLevel.{FormatLevel}
 use Rattle.index_notation.specs.declared.syntax.Statement.{Statement}
@@ -16,8 +17,8 @@ use Rattle.kernel_machine.specs.Begins as begins
 use Rattle.operand_packing.proofs.SizeLaws.{index_small}
 use Rattle.kernel_runs.specs.declared.fault.RunFault.TheVariants.{Range, SizeLimit, Workspace, Memory}
 use Rattle.operand_packing.specs.Drawn.{drawn}
-use Rattle.kernel_runs.specs.Planned.{AllFitPlanned, PlannedRefusesNoneThatFit}
-use Rattle.kernel_runs.specs.Runs.{RefusesNoneThatFit, AllFit, IsLargeLevelBy, result_level_sizes}
+use Rattle.kernel_runs.specs.Planned.{PlannedRefusesNoneThatFit}
+use Rattle.kernel_runs.specs.Runs.{IsLargeLevelBy, LevelsFit, PairsFit, RefusesNoneThatFit, result_level_sizes}
 
 -- no number in the midst of few ones passes the limit
 few_within : (above below : List ℕ) (count : ℕ) → AreFew (above ++ (count ∷ below)) → count ≤ greatest_position_count
@@ -41,17 +42,18 @@ same_ranges (Ok zs) xs ys x y =
 same_ranges (Err fault) xs ys x y = absurd cc
 
 -- no level is too large
-none_large : (a : Arithmetic) (s : Statement) (formats : List (List FormatLevel)) (ranges : List ℕ) (operands : List Entries)
-    (tensor level count : ℕ) → AllFit a s formats ranges operands → IsLargeLevelBy a s formats ranges operands tensor level count → ⊥
-none_large a s formats ranges operands zero level count all (inl c) =
+none_large : (a : Arithmetic) (s : Statement) (formats : List (List FormatLevel)) (kernel : Kernel) (ranges : List ℕ)
+    (operands : List Entries) (tensor level count : ℕ) → LevelsFit a s formats ranges operands
+    → IsLargeLevelBy a s formats kernel ranges operands tensor level count → ⊥
+none_large a s formats kernel ranges operands zero level count all (inl c) =
     begins_not _ (result_level_sizes formats ranges) 1 1 level count all.begins c.first
-none_large a s formats ranges operands zero level count all (inr c) =
+none_large a s formats kernel ranges operands zero level count all (inr c) =
     let few = index_small greatest_position_count (positions_of c.store.format c.store.ranges c.passes.table)
     (all.result_fits c.store c.is_store c.passes.table c.passes.named) c.passes.at in
     let most = c.passes.most in
     let passes = c.passes.passes in
     omega (arith, few, most, passes)
-none_large a s formats ranges operands (suc n) level count all large =
+none_large a s formats kernel ranges operands (suc n) level count all large =
     let first = large.large.first in
     let few = few_within first.above first.below count
     (subst AreFew first.all (all.operands_fit large.n large.entries large.is large.large.counts large.large.have)) in
@@ -59,31 +61,32 @@ none_large a s formats ranges operands (suc n) level count all large =
     omega (arith, few, passes)
 
 pub none_refused : RefusesNoneThatFit
-none_refused a s formats given operands bounds ranges (Range fault) told fit may of = of
-none_refused a s formats given operands bounds ranges (Memory error) told fit may of = of
-none_refused a s formats given operands bounds ranges (Workspace count) told fit may of =
+none_refused a s formats kernel given operands bounds ranges (Range fault) told may fit = fit
+none_refused a s formats kernel given operands bounds ranges (Memory error) told may fit = fit
+none_refused a s formats kernel given operands bounds ranges (Workspace count) told may fit =
     let same = same_ranges _ ranges may.ranges told may.ranges_are in
-    let all : AllFit a s formats may.ranges operands = subst (λ rs. AllFit a s formats rs operands) same fit in
-    let few = all.pairs_fit may.sparse may.store may.is_store in
+    let pairs : PairsFit a s formats may.ranges operands = subst (λ rs. PairsFit a s formats rs operands) same fit in
+    let few = pairs may.sparse may.store may.is_store in
     let most = may.most in
     let passes = may.passes in
     omega (arith, few, most, passes)
-none_refused a s formats given operands bounds ranges (SizeLimit large) told fit may of =
+none_refused a s formats kernel given operands bounds ranges (SizeLimit large) told may fit =
     let same = same_ranges _ ranges may.ranges told may.ranges_are in
-    none_large a s formats may.ranges operands large.tensor large.level large.count
-    (subst (λ rs. AllFit a s formats rs operands) same fit) may.by
+    none_large a s formats kernel may.ranges operands large.tensor large.level large.count
+    (subst (λ rs. LevelsFit a s formats rs operands) same fit) may.by
 
 pub planned_none_refused : PlannedRefusesNoneThatFit
-planned_none_refused a s plan given operands bounds ranges (Range fault) told fit may of = of
-planned_none_refused a s plan given operands bounds ranges (Memory error) told fit may of = of
-planned_none_refused a s plan given operands bounds ranges (Workspace count) told fit may of =
+planned_none_refused a s plan kernel given operands bounds ranges (Range fault) told may fit = fit
+planned_none_refused a s plan kernel given operands bounds ranges (Memory error) told may fit = fit
+planned_none_refused a s plan kernel given operands bounds ranges (Workspace count) told may fit =
     let same = same_ranges _ ranges may.ranges told may.ranges_are in
-    let all : AllFitPlanned a plan may.ranges operands = subst (λ rs. AllFitPlanned a plan rs operands) same fit in
-    let few = all.pairs_fit may.sparse may.store may.is_store in
+    let pairs : PairsFit a plan.statement plan.formats may.ranges (drawn plan.origins operands) =
+    subst (λ rs. PairsFit a plan.statement plan.formats rs (drawn plan.origins operands)) same fit in
+    let few = pairs may.sparse may.store may.is_store in
     let most = may.most in
     let passes = may.passes in
     omega (arith, few, most, passes)
-planned_none_refused a s plan given operands bounds ranges (SizeLimit large) told fit may of =
+planned_none_refused a s plan kernel given operands bounds ranges (SizeLimit large) told may fit =
     let same = same_ranges _ ranges may.ranges told may.ranges_are in
-    none_large a plan.statement plan.formats may.ranges (drawn plan.origins operands) large.tensor large.level large.count
-    (subst (λ rs. AllFitPlanned a plan rs operands) same fit) may.by
+    none_large a plan.statement plan.formats kernel may.ranges (drawn plan.origins operands) large.tensor large.level large.count
+    (subst (λ rs. LevelsFit a plan.statement plan.formats rs (drawn plan.origins operands)) same fit) may.by

@@ -19,11 +19,12 @@ use Rattle.kernel_runs.proofs.Whole.{IsRunBy, RefusedBy}
 
 module _ (a : Arithmetic) (s : Statement) (plan : Planned) (given : List (Option ℕ)) (operands : List Entries)
     (bounds : List (Vec Bound Global)) (ranges : List ℕ) (told : told_ranges s given bounds ≡ Ok ranges) where
-  pub planned_refusal : (fault : RunFault) → RefusedBy a plan.statement plan.formats ranges (drawn plan.origins operands) fault
-      → MayRefusePlanned a s plan given operands bounds fault
-  planned_refusal (Range fault) why = absurd why
-  planned_refusal (SizeLimit large) why = record { ranges = ranges; ranges_are = told; by = why }
-  planned_refusal (Workspace count) why = record {
+  pub planned_refusal : (kernel : Kernel) (fault : RunFault)
+      → RefusedBy a plan.statement plan.formats kernel ranges (drawn plan.origins operands) fault
+      → MayRefusePlanned a s plan kernel given operands bounds fault
+  planned_refusal kernel (Range fault) why = absurd why
+  planned_refusal kernel (SizeLimit large) why = record { ranges = ranges; ranges_are = told; by = why }
+  planned_refusal kernel (Workspace count) why = record {
     ranges = ranges;
     ranges_are = told;
     store = why.store;
@@ -31,8 +32,9 @@ module _ (a : Arithmetic) (s : Statement) (plan : Planned) (given : List (Option
     passes = why.passes;
     most = why.most;
     sparse = why.sparse;
+    stops = why.stops;
   }
-  planned_refusal (Memory error) why = tt
+  planned_refusal kernel (Memory error) why = tt
 
   pub planned_run : (kernel : Kernel) → IsPlannedRunnable s plan given operands bounds → (shape : List ℕ) (entries : Entries)
       (tensor : Storage) (turns : Turns)

@@ -27,42 +27,42 @@ use Rattle.kernel_runs.specs.Runs.{IsLargeLevelBy, IsRun, MayRefuseRun}
 use Rattle.kernel_runs.proofs.Whole.{IsRunBy, RefusedBy}
 
 -- a refusal of the ranges, by the bounds as they are lent, is one of the run
-pub range_refusal : (a : Arithmetic) (s : Statement) (formats : List (List FormatLevel)) (given : List (Option ℕ)) (operands : List Entries)
-    (bounds lent : List (Vec Bound Global)) (refusal : RangeFault)
+pub range_refusal : (a : Arithmetic) (s : Statement) (formats : List (List FormatLevel)) (kernel : Kernel) (given : List (Option ℕ))
+    (operands : List Entries) (bounds lent : List (Vec Bound Global)) (refusal : RangeFault)
     → lent ≡ bounds → told.MayRefuseRanges (told_ranges s given lent) refusal
-    → MayRefuseRun a s formats given operands bounds (of_ranges refusal)
-range_refusal a s formats given operands bounds lent refusal same h =
+    → MayRefuseRun a s formats kernel given operands bounds (of_ranges refusal)
+range_refusal a s formats kernel given operands bounds lent refusal same h =
     by refusal (subst (λ (bs : List (Vec Bound Global)). told.MayRefuseRanges (told_ranges s given bs) refusal) same h)
   where
     by : (refusal : RangeFault) → told.MayRefuseRanges (told_ranges s given bounds) refusal
-        → MayRefuseRun a s formats given operands bounds (of_ranges refusal)
+        → MayRefuseRun a s formats kernel given operands bounds (of_ranges refusal)
     by (NoRange var) h = h
     by (RangeConflict var first other) h = h
     by (OutOfRange tensor coordinate range) h = h
     by (Memory error) h = tt
 
 -- and of a planned one, which is refused so exactly where the given one is
-pub planned_range_refusal : (a : Arithmetic) (s : Statement) (plan : Planned) (given : List (Option ℕ)) (operands : List Entries)
-    (bounds lent : List (Vec Bound Global)) (refusal : RangeFault)
+pub planned_range_refusal : (a : Arithmetic) (s : Statement) (plan : Planned) (kernel : Kernel) (given : List (Option ℕ))
+    (operands : List Entries) (bounds lent : List (Vec Bound Global)) (refusal : RangeFault)
     → lent ≡ bounds → told.MayRefuseRanges (told_ranges s given lent) refusal
-    → MayRefusePlanned a s plan given operands bounds (of_ranges refusal)
-planned_range_refusal a s plan given operands bounds lent refusal same h =
+    → MayRefusePlanned a s plan kernel given operands bounds (of_ranges refusal)
+planned_range_refusal a s plan kernel given operands bounds lent refusal same h =
     by refusal (subst (λ (bs : List (Vec Bound Global)). told.MayRefuseRanges (told_ranges s given bs) refusal) same h)
   where
     by : (refusal : RangeFault) → told.MayRefuseRanges (told_ranges s given bounds) refusal
-        → MayRefusePlanned a s plan given operands bounds (of_ranges refusal)
+        → MayRefusePlanned a s plan kernel given operands bounds (of_ranges refusal)
     by (NoRange var) h = h
     by (RangeConflict var first other) h = h
     by (OutOfRange tensor coordinate range) h = h
     by (Memory error) h = tt
 
 -- one of packing is one by the ranges
-pub pack_refusal : (a : Arithmetic) (s : Statement) (formats : List (List FormatLevel)) (operands : List Entries) (ranges : List ℕ)
-    (refusal : PackFault) → MayNotPack a s formats (slice_index ranges) operands refusal
-    → RefusedBy a s formats ranges operands (of_packing refusal)
-pack_refusal a s formats operands ranges (pack.Memory error) may = tt
-pack_refusal a s formats operands ranges (pack.SizeLimit large) may =
-    subst (λ t. IsLargeLevelBy a s formats ranges operands t large.level large.count) (sym may.tensor_is) (record {
+pub pack_refusal : (a : Arithmetic) (s : Statement) (formats : List (List FormatLevel)) (kernel : Kernel) (operands : List Entries)
+    (ranges : List ℕ) (refusal : PackFault) → MayNotPack a s formats (slice_index ranges) operands refusal
+    → RefusedBy a s formats kernel ranges operands (of_packing refusal)
+pack_refusal a s formats kernel operands ranges (pack.Memory error) may = tt
+pack_refusal a s formats kernel operands ranges (pack.SizeLimit large) may =
+    subst (λ t. IsLargeLevelBy a s formats kernel ranges operands t large.level large.count) (sym may.tensor_is) (record {
       n = may.n;
       tensor_is = refl;
       entries = may.entries;
@@ -72,12 +72,17 @@ pack_refusal a s formats operands ranges (pack.SizeLimit large) may =
     })
 
 -- and that is one of the run
-pub run_refusal : (a : Arithmetic) (s : Statement) (formats : List (List FormatLevel)) (given : List (Option ℕ)) (operands : List Entries)
-    (bounds : List (Vec Bound Global)) (ranges : List ℕ) → told_ranges s given bounds ≡ Ok ranges → (fault : RunFault)
-    → RefusedBy a s formats ranges operands fault → MayRefuseRun a s formats given operands bounds fault
-run_refusal a s formats given operands bounds ranges told (Range fault) why = absurd why
-run_refusal a s formats given operands bounds ranges told (SizeLimit large) why = record { ranges = ranges; ranges_are = told; by = why }
-run_refusal a s formats given operands bounds ranges told (Workspace count) why = record {
+pub run_refusal : (a : Arithmetic) (s : Statement) (formats : List (List FormatLevel)) (kernel : Kernel) (given : List (Option ℕ))
+    (operands : List Entries) (bounds : List (Vec Bound Global)) (ranges : List ℕ) → told_ranges s given bounds ≡ Ok ranges
+    → (fault : RunFault) → RefusedBy a s formats kernel ranges operands fault
+    → MayRefuseRun a s formats kernel given operands bounds fault
+run_refusal a s formats kernel given operands bounds ranges told (Range fault) why = absurd why
+run_refusal a s formats kernel given operands bounds ranges told (SizeLimit large) why = record {
+  ranges = ranges;
+  ranges_are = told;
+  by = why;
+}
+run_refusal a s formats kernel given operands bounds ranges told (Workspace count) why = record {
   ranges = ranges;
   ranges_are = told;
   store = why.store;
@@ -85,8 +90,9 @@ run_refusal a s formats given operands bounds ranges told (Workspace count) why 
   passes = why.passes;
   most = why.most;
   sparse = why.sparse;
+  stops = why.stops;
 }
-run_refusal a s formats given operands bounds ranges told (fault.Memory error) why = tt
+run_refusal a s formats kernel given operands bounds ranges told (fault.Memory error) why = tt
 
 pub run_is : (a : Arithmetic) (s : Statement) (formats : List (List FormatLevel)) (kernel : Kernel) (given : List (Option ℕ))
     (operands : List Entries) (bounds : List (Vec Bound Global)) (ranges : List ℕ) → told_ranges s given bounds ≡ Ok ranges

@@ -47,22 +47,24 @@ numbers_fit from (suc count) most each h =
     let rest = numbers_fit (from + 1) count most each.1 (omega (arith, first)) in
     omega (arith, rest)
 
--- on a store of the operands the workspace, which there is only where some level of the result isn't dense, needs too many pairs
-pub record NeedsPairsBy (a : Arithmetic) (s : Statement) (formats : List (List FormatLevel)) (ranges : List ℕ) (operands : List Entries)
-    (count : ℕ) : Type 0 where
+-- on a store of the operands the kernel is refused a workspace, which there is only where some level of the result isn't dense: it needs
+-- too many pairs
+pub record NeedsPairsBy (a : Arithmetic) (s : Statement) (formats : List (List FormatLevel)) (kernel : Kernel) (ranges : List ℕ)
+    (operands : List Entries) (count : ℕ) : Type 0 where
   pub store : Store
   pub is_store : IsStoreFor a s formats ranges operands store
   pub passes : greatest_position_count < count
   pub most : count ≤ pairs s (standing_order s) (told_by a store)
   pub sparse : AreAllDense (format_of formats 0) → ⊥
+  pub stops : StopsOn a kernel store place.Workspace count
 
 -- why a statement isn't computed by these ranges
-abbrev pub RefusedBy : Arithmetic → Statement → List (List FormatLevel) → List ℕ → List Entries → RunFault → Type 0
-RefusedBy a s formats ranges operands (Range fault) = ⊥
-RefusedBy a s formats ranges operands (SizeLimit large) =
-    IsLargeLevelBy a s formats ranges operands large.tensor large.level large.count
-RefusedBy a s formats ranges operands (Workspace count) = NeedsPairsBy a s formats ranges operands count
-RefusedBy a s formats ranges operands (Memory error) = Unit {0}
+abbrev pub RefusedBy : Arithmetic → Statement → List (List FormatLevel) → Kernel → List ℕ → List Entries → RunFault → Type 0
+RefusedBy a s formats kernel ranges operands (Range fault) = ⊥
+RefusedBy a s formats kernel ranges operands (SizeLimit large) =
+    IsLargeLevelBy a s formats kernel ranges operands large.tensor large.level large.count
+RefusedBy a s formats kernel ranges operands (Workspace count) = NeedsPairsBy a s formats kernel ranges operands count
+RefusedBy a s formats kernel ranges operands (Memory error) = Unit {0}
 
 -- what is left where it is
 pub record IsRunBy (a : Arithmetic) (s : Statement) (formats : List (List FormatLevel)) (kernel : Kernel) (ranges : List ℕ)
@@ -110,7 +112,7 @@ module _ (a : Arithmetic) (laws : Laws a) (s : Statement) (formats : List (List 
         apart e = cc
 
     pub refused : (fault : RunFault) → RefusedOn a kernel (store_of ranges storages format) fault
-        → RefusedBy a s formats ranges operands fault
+        → RefusedBy a s formats kernel ranges operands fault
     refused (Range fault) why = absurd why
     refused (Memory error) why = tt
     refused (Workspace count) why =
@@ -121,13 +123,14 @@ module _ (a : Arithmetic) (laws : Laws a) (s : Statement) (formats : List (List 
           passes = outcome.0;
           most = outcome.1;
           sparse = λ dense. outcome.2 (subst AreAllDense (sym format_is) dense);
+          stops = why;
         }
     refused (SizeLimit large) why =
-        subst (λ t. IsLargeLevelBy a s formats ranges operands t large.level large.count) (sym why.0) (of_result why.1)
+        subst (λ t. IsLargeLevelBy a s formats kernel ranges operands t large.level large.count) (sym why.0) (of_result why.1)
       where
         of_result : begins.IsTooLarge (letters_of format) (in_level_order format ranges) 1 1 large.level large.count
             ⊎ StopsOn a kernel (store_of ranges storages format) (place.Level large.level) large.count
-            → IsLargeLevelBy a s formats ranges operands 0 large.level large.count
+            → IsLargeLevelBy a s formats kernel ranges operands 0 large.level large.count
         of_result (inl first) = inl (record {
           storages = storages;
           packed = packed;
@@ -137,6 +140,7 @@ module _ (a : Arithmetic) (laws : Laws a) (s : Statement) (formats : List (List 
           store = store_of ranges storages format;
           is_store = store_for stops.few;
           passes = stopped (place.Level large.level) large.count stops;
+          stops = stops;
         })
 
     pub is_run : (tensor : Storage) (turns : Turns) (entries : Entries) (shape : List ℕ)

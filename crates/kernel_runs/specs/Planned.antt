@@ -6,6 +6,7 @@ use Rattle.limits.specs.Limits.{greatest_position_count}
 use Rattle.numbers.specs.Arithmetic.{Arithmetic}
 use Rattle.tensor_map.specs.Entries.{Entries}
 use Rattle.kernel_code.specs.declared.syntax.Kernel.{Kernel}
+use Rattle.kernel_code.specs.declared.syntax.Place.TheVariants as place
 use Rattle.kernel_code.specs.declared.syntax.Turns.{Turns}
 use Rattle.format_spec.specs.declared.format.FormatLevel.{FormatLevel}
 use Rattle.index_notation.specs.declared.syntax.Statement.{Statement}
@@ -21,8 +22,8 @@ use Rattle.kernel_correctness.specs.Stores.{Store, told_by}
 use Rattle.operand_packing.specs.Drawn.{drawn}
 use Rattle.operand_packing.specs.Runnable.{IsRunnable, told_ranges}
 use Rattle.operand_packing.specs.declared.large_level.LargeLevel.{LargeLevel}
-use Rattle.kernel_runs.specs.Runs.{AllFit, IsLargeLevelBy, IsOfSizes, IsStoreFor, IsTensorOf, RunsKernel}
-use Rattle.kernel_runs.specs.Steps.{ListsNonzero}
+use Rattle.kernel_runs.specs.Runs.{IsLargeLevelBy, IsStoreFor, IsTensorOf, RunsKernel, SizesFit}
+use Rattle.kernel_runs.specs.Steps.{ListsNonzero, StopsOn}
 use Rattle.kernel_runs.specs.declared.fault.RunFault.{RunFault}
 use Rattle.kernel_runs.specs.declared.fault.RunFault.TheVariants.{Range, SizeLimit, Workspace, Memory}
 
@@ -52,15 +53,16 @@ pub record IsPlannedRun (a : Arithmetic) (s : Statement) (plan : Planned) (kerne
   pub tensor_of : IsTensorOf a s operands (slice_index ranges) shape entries
 
 -- the ranges of the given statement agree, and by them this level of this tensor of the planned one has too many positions, so many
-pub record IsLargePlannedLevel (a : Arithmetic) (s : Statement) (plan : Planned) (given : List (Option ℕ))
+pub record IsLargePlannedLevel (a : Arithmetic) (s : Statement) (plan : Planned) (kernel : Kernel) (given : List (Option ℕ))
     (operands : List Entries) (bounds : List (Vec Bound Global)) (large : LargeLevel) : Type 0 where
   pub ranges : List ℕ
   pub ranges_are : told_ranges s given bounds ≡ Ok ranges
-  pub by : IsLargeLevelBy a plan.statement plan.formats ranges (drawn plan.origins operands) large.tensor large.level large.count
+  pub by : IsLargeLevelBy a plan.statement plan.formats kernel ranges (drawn plan.origins operands) large.tensor large.level large.count
 
--- the ranges of the given statement agree, and on a store of the operands the workspace, which there is only where some level of the
--- planned result isn't dense, needs more pairs than may be: as many at most as there are of a term and a point where it is present
-pub record NeedsPlannedPairs (a : Arithmetic) (s : Statement) (plan : Planned) (given : List (Option ℕ))
+-- the ranges of the given statement agree, and on a store of the operands the kernel's run is refused a workspace, which there is only
+-- where some level of the planned result isn't dense: it needs more pairs than may be, as many at most as there are of a term and a point
+-- where it is present
+pub record NeedsPlannedPairs (a : Arithmetic) (s : Statement) (plan : Planned) (kernel : Kernel) (given : List (Option ℕ))
     (operands : List Entries) (bounds : List (Vec Bound Global)) (count : ℕ) : Type 0 where
   pub ranges : List ℕ
   pub ranges_are : told_ranges s given bounds ≡ Ok ranges
@@ -69,23 +71,22 @@ pub record NeedsPlannedPairs (a : Arithmetic) (s : Statement) (plan : Planned) (
   pub passes : greatest_position_count < count
   pub most : count ≤ pairs plan.statement (standing_order plan.statement) (told_by a store)
   pub sparse : AreAllDense (format_of plan.formats 0) → ⊥
+  pub stops : StopsOn a kernel store place.Workspace count
 
--- why a statement isn't computed by its plan: the first fault of its ranges; a level of the planned one that is too large; a workspace;
--- or want of memory
-abbrev pub MayRefusePlanned : Arithmetic → Statement → Planned → List (Option ℕ) → List Entries → List (Vec Bound Global)
+-- why a statement isn't computed by the kernel of its plan: the first fault of its ranges; a level of the planned one that is too large;
+-- a workspace; or want of memory
+abbrev pub MayRefusePlanned : Arithmetic → Statement → Planned → Kernel → List (Option ℕ) → List Entries → List (Vec Bound Global)
     → RunFault → Type 0
-MayRefusePlanned a s plan given operands bounds (Range fault) = told_ranges s given bounds ≡ Err fault
-MayRefusePlanned a s plan given operands bounds (SizeLimit large) = IsLargePlannedLevel a s plan given operands bounds large
-MayRefusePlanned a s plan given operands bounds (Workspace count) = NeedsPlannedPairs a s plan given operands bounds count
-MayRefusePlanned a s plan given operands bounds (Memory error) = Unit {0}
+MayRefusePlanned a s plan kernel given operands bounds (Range fault) = told_ranges s given bounds ≡ Err fault
+MayRefusePlanned a s plan kernel given operands bounds (SizeLimit large) =
+    IsLargePlannedLevel a s plan kernel given operands bounds large
+MayRefusePlanned a s plan kernel given operands bounds (Workspace count) =
+    NeedsPlannedPairs a s plan kernel given operands bounds count
+MayRefusePlanned a s plan kernel given operands bounds (Memory error) = Unit {0}
 
--- no level of what the planned statement stores has more positions than may be, and no workspace needs more pairs
-abbrev pub AllFitPlanned : Arithmetic → Planned → List ℕ → List Entries → Type 0
-AllFitPlanned a plan ranges operands = AllFit a plan.statement plan.formats ranges (drawn plan.origins operands)
-
--- where the ranges agree and all fits, no fault of sizes may come
+-- where the ranges agree, no fault may come of sizes that fit: of what the planned statement stores
 abbrev pub PlannedRefusesNoneThatFit : Type 0
-PlannedRefusesNoneThatFit = (a : Arithmetic) (s : Statement) (plan : Planned) (given : List (Option ℕ))
+PlannedRefusesNoneThatFit = (a : Arithmetic) (s : Statement) (plan : Planned) (kernel : Kernel) (given : List (Option ℕ))
     (operands : List Entries) (bounds : List (Vec Bound Global)) (ranges : List ℕ) (fault : RunFault)
-    → told_ranges s given bounds ≡ Ok ranges → AllFitPlanned a plan ranges operands
-    → MayRefusePlanned a s plan given operands bounds fault → IsOfSizes fault → ⊥
+    → told_ranges s given bounds ≡ Ok ranges → MayRefusePlanned a s plan kernel given operands bounds fault
+    → SizesFit a plan.statement plan.formats ranges (drawn plan.origins operands) fault → ⊥

@@ -5,6 +5,7 @@ use Rattle.limits.specs.Limits.{greatest_position_count}
 use Rattle.numbers.specs.Arithmetic.{Arithmetic}
 use Rattle.tensor_map.specs.Entries.{Entries, StrictlyIncreasing, NoneIsZero, value_at}
 use Rattle.kernel_code.specs.declared.syntax.Kernel.{Kernel}
+use Rattle.kernel_code.specs.declared.syntax.Place.TheVariants as place
 use Rattle.kernel_code.specs.declared.syntax.Turns.{Turns}
 use Rattle.level_core.specs.Meaning.{Arrays}
 use Rattle.format_spec.specs.declared.format.FormatLevel.{FormatLevel}
@@ -29,7 +30,7 @@ use Rattle.kernel_machine.specs.Runs.{HasRun}
 use Rattle.operand_packing.specs.Runnable.{told_ranges}
 use Rattle.operand_packing.specs.declared.large_level.LargeLevel.{LargeLevel}
 use Rattle.operand_packing.specs.Packed.{ArePackedOperands, OperandsFit, IsFirstLargeOperand}
-use Rattle.kernel_runs.specs.Steps.{ListsNonzero}
+use Rattle.kernel_runs.specs.Steps.{ListsNonzero, StopsOn}
 use Rattle.kernel_runs.specs.declared.fault.RunFault.{RunFault}
 use Rattle.kernel_runs.specs.declared.fault.RunFault.TheVariants.{Range, SizeLimit, Workspace, Memory}
 
@@ -86,30 +87,31 @@ pub record CantBegin (a : Arithmetic) (s : Statement) (formats : List (List Form
   pub packed : ArePackedOperands a s formats (slice_index ranges) operands storages
   pub first : begins.IsTooLarge (letters_of (format_of formats 0)) (result_level_sizes formats ranges) 1 1 level count
 
--- the result can't be finished: on a store of the operands a level may grow too large, and the kernel's run tells so
-pub record CantFinish (a : Arithmetic) (s : Statement) (formats : List (List FormatLevel)) (ranges : List ℕ) (operands : List Entries)
-    (level count : ℕ) : Type 0 where
+-- the result can't be finished: on a store of the operands a level may grow too large, and the kernel's run is refused that growth
+pub record CantFinish (a : Arithmetic) (s : Statement) (formats : List (List FormatLevel)) (kernel : Kernel) (ranges : List ℕ)
+    (operands : List Entries) (level count : ℕ) : Type 0 where
   pub store : Store
   pub is_store : IsStoreFor a s formats ranges operands store
   pub passes : MayPass a s (told_by a store) store level count
+  pub stops : StopsOn a kernel store (place.Level level) count
 
 -- a level of a tensor is too large: the result is tensor 0
-abbrev pub IsLargeLevelBy : Arithmetic → Statement → List (List FormatLevel) → List ℕ → List Entries → ℕ → ℕ → ℕ → Type 0
-IsLargeLevelBy a s formats ranges operands zero level count =
-    CantBegin a s formats ranges operands level count ⊎ CantFinish a s formats ranges operands level count
-IsLargeLevelBy a s formats ranges operands (suc n) level count =
+abbrev pub IsLargeLevelBy : Arithmetic → Statement → List (List FormatLevel) → Kernel → List ℕ → List Entries → ℕ → ℕ → ℕ → Type 0
+IsLargeLevelBy a s formats kernel ranges operands zero level count =
+    CantBegin a s formats ranges operands level count ⊎ CantFinish a s formats kernel ranges operands level count
+IsLargeLevelBy a s formats kernel ranges operands (suc n) level count =
     IsFirstLargeOperand a s formats (slice_index ranges) operands (suc n) level count
 
 -- the ranges agree, and by them this level of this tensor has too many positions, so many
-pub record IsLargeLevel (a : Arithmetic) (s : Statement) (formats : List (List FormatLevel)) (given : List (Option ℕ))
+pub record IsLargeLevel (a : Arithmetic) (s : Statement) (formats : List (List FormatLevel)) (kernel : Kernel) (given : List (Option ℕ))
     (operands : List Entries) (bounds : List (Vec Bound Global)) (large : LargeLevel) : Type 0 where
   pub ranges : List ℕ
   pub ranges_are : told_ranges s given bounds ≡ Ok ranges
-  pub by : IsLargeLevelBy a s formats ranges operands large.tensor large.level large.count
+  pub by : IsLargeLevelBy a s formats kernel ranges operands large.tensor large.level large.count
 
--- the ranges agree, and on a store of the operands the workspace, which there is only where some level of the result isn't dense,
--- needs more pairs than may be: as many at most as there are of a term and a point where it is present
-pub record NeedsPairs (a : Arithmetic) (s : Statement) (formats : List (List FormatLevel)) (given : List (Option ℕ))
+-- the ranges agree, and on a store of the operands the kernel's run is refused a workspace, which there is only where some level of the
+-- result isn't dense: it needs more pairs than may be, as many at most as there are of a term and a point where it is present
+pub record NeedsPairs (a : Arithmetic) (s : Statement) (formats : List (List FormatLevel)) (kernel : Kernel) (given : List (Option ℕ))
     (operands : List Entries) (bounds : List (Vec Bound Global)) (count : ℕ) : Type 0 where
   pub ranges : List ℕ
   pub ranges_are : told_ranges s given bounds ≡ Ok ranges
@@ -118,35 +120,40 @@ pub record NeedsPairs (a : Arithmetic) (s : Statement) (formats : List (List For
   pub passes : greatest_position_count < count
   pub most : count ≤ pairs s (standing_order s) (told_by a store)
   pub sparse : AreAllDense (format_of formats 0) → ⊥
+  pub stops : StopsOn a kernel store place.Workspace count
 
--- why a statement isn't computed: the first fault of the ranges; a level that is too large; a workspace; or want of memory
-abbrev pub MayRefuseRun : Arithmetic → Statement → List (List FormatLevel) → List (Option ℕ) → List Entries → List (Vec Bound Global)
-    → RunFault → Type 0
-MayRefuseRun a s formats given operands bounds (Range fault) = told_ranges s given bounds ≡ Err fault
-MayRefuseRun a s formats given operands bounds (SizeLimit large) = IsLargeLevel a s formats given operands bounds large
-MayRefuseRun a s formats given operands bounds (Workspace count) = NeedsPairs a s formats given operands bounds count
-MayRefuseRun a s formats given operands bounds (Memory error) = Unit {0}
+-- why a statement isn't computed by a kernel: the first fault of the ranges; a level that is too large; a workspace; or want of memory
+abbrev pub MayRefuseRun : Arithmetic → Statement → List (List FormatLevel) → Kernel → List (Option ℕ) → List Entries
+    → List (Vec Bound Global) → RunFault → Type 0
+MayRefuseRun a s formats kernel given operands bounds (Range fault) = told_ranges s given bounds ≡ Err fault
+MayRefuseRun a s formats kernel given operands bounds (SizeLimit large) = IsLargeLevel a s formats kernel given operands bounds large
+MayRefuseRun a s formats kernel given operands bounds (Workspace count) = NeedsPairs a s formats kernel given operands bounds count
+MayRefuseRun a s formats kernel given operands bounds (Memory error) = Unit {0}
 
--- no level of an operand or of the result's storage has more positions than may be, and no workspace needs more pairs
-pub record AllFit (a : Arithmetic) (s : Statement) (formats : List (List FormatLevel)) (ranges : List ℕ)
+-- no level of an operand or of the result's storage has more positions than may be
+pub record LevelsFit (a : Arithmetic) (s : Statement) (formats : List (List FormatLevel)) (ranges : List ℕ)
     (operands : List Entries) : Type 0 where
   pub operands_fit : OperandsFit a s formats (slice_index ranges) operands
   pub begins : StartsFew (letters_of (format_of formats 0)) (result_level_sizes formats ranges) 1
   pub result_fits : (store : Store) → IsStoreFor a s formats ranges operands store → (table : Table)
       → IsNamedResult a s (told_by a store) store.format table → AreFew (positions_of store.format store.ranges table)
-  pub pairs_fit : (AreAllDense (format_of formats 0) → ⊥) → (store : Store) → IsStoreFor a s formats ranges operands store
-      → pairs s (standing_order s) (told_by a store) ≤ greatest_position_count
 
--- a fault of sizes
-abbrev pub IsOfSizes : RunFault → Type 0
-IsOfSizes (Range fault) = ⊥
-IsOfSizes (SizeLimit large) = Unit {0}
-IsOfSizes (Workspace count) = Unit {0}
-IsOfSizes (Memory error) = ⊥
+-- the workspace of a result that isn't dense needs no more pairs than may be
+abbrev pub PairsFit : Arithmetic → Statement → List (List FormatLevel) → List ℕ → List Entries → Type 0
+PairsFit a s formats ranges operands =
+    (AreAllDense (format_of formats 0) → ⊥) → (store : Store) → IsStoreFor a s formats ranges operands store
+    → pairs s (standing_order s) (told_by a store) ≤ greatest_position_count
 
--- where the ranges agree and all fits, no fault of sizes may come
+-- what a fault of sizes is about fits: levels, or a workspace. Other faults are about no size
+abbrev pub SizesFit : Arithmetic → Statement → List (List FormatLevel) → List ℕ → List Entries → RunFault → Type 0
+SizesFit a s formats ranges operands (Range fault) = ⊥
+SizesFit a s formats ranges operands (SizeLimit large) = LevelsFit a s formats ranges operands
+SizesFit a s formats ranges operands (Workspace count) = PairsFit a s formats ranges operands
+SizesFit a s formats ranges operands (Memory error) = ⊥
+
+-- where the ranges agree, no fault may come of sizes that fit
 abbrev pub RefusesNoneThatFit : Type 0
-RefusesNoneThatFit = (a : Arithmetic) (s : Statement) (formats : List (List FormatLevel)) (given : List (Option ℕ))
+RefusesNoneThatFit = (a : Arithmetic) (s : Statement) (formats : List (List FormatLevel)) (kernel : Kernel) (given : List (Option ℕ))
     (operands : List Entries) (bounds : List (Vec Bound Global)) (ranges : List ℕ) (fault : RunFault)
-    → told_ranges s given bounds ≡ Ok ranges → AllFit a s formats ranges operands
-    → MayRefuseRun a s formats given operands bounds fault → IsOfSizes fault → ⊥
+    → told_ranges s given bounds ≡ Ok ranges → MayRefuseRun a s formats kernel given operands bounds fault
+    → SizesFit a s formats ranges operands fault → ⊥

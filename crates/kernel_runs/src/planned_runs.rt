@@ -39,7 +39,7 @@ pub fn run_planned<S: Semiring>(
     ensures entries { IfOk result (λ run. AreEntries run.entries) }
 
     // The first fault, or what a level or the workspace would need, or want of memory.
-    ensures refused { IfErr result (MayRefusePlanned S.arithmetic statement.now plan.now given.now operands.entries.items
+    ensures refused { IfErr result (MayRefusePlanned S.arithmetic statement.now plan.now kernel.now given.now operands.entries.items
         operands.bounds.items) }
 {
     let ranges = ranges(alloc, statement, given, operands.bounds.as_slice())?;

@@ -97,7 +97,7 @@ pub fn run_kernel<S: Semiring>(
     ensures entries { IfOk result (λ run. AreEntries run.entries) }
 
     // The first fault, or what a level or the workspace would need, or want of memory.
-    ensures refused { IfErr result (MayRefuseRun S.arithmetic statement.now formats.now given.now operands.entries.items
+    ensures refused { IfErr result (MayRefuseRun S.arithmetic statement.now formats.now kernel.now given.now operands.entries.items
         operands.bounds.items) }
 {
     let ranges = ranges(alloc, statement, given, operands.bounds.as_slice())?;

@@ -1,6 +1,7 @@
 pub mod Accepted
 pub mod Answered
 pub mod BoundNames
+pub mod Called
 pub mod CycleLaws
 pub mod ExecLines
 pub mod Executes

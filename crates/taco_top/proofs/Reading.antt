@@ -139,6 +139,7 @@ module _ (over : Values) where
     run_of_request plan kernel shape result tensor turns run =
         as_asked (λ fs gs. IsStoredRun over r.statement fs plan kernel gs entries bounds shape result tensor turns) run
 
-    pub uncomputed_of_request : (plan : Option Planned) (why : Fault) → IsUncomputed over r.statement formats plan given entries bounds why
-        → IsUncomputed over r.statement r.formats plan r.given entries bounds why
-    uncomputed_of_request plan why is = as_asked (λ fs gs. IsUncomputed over r.statement fs plan gs entries bounds why) is
+    pub uncomputed_of_request : (plan : Option Planned) (kernel : Kernel) (why : Fault)
+        → IsUncomputed over r.statement formats plan kernel given entries bounds why
+        → IsUncomputed over r.statement r.formats plan kernel r.given entries bounds why
+    uncomputed_of_request plan kernel why is = as_asked (λ fs gs. IsUncomputed over r.statement fs plan kernel gs entries bounds why) is

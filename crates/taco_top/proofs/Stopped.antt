@@ -40,10 +40,11 @@ use Rattle.generated_runs.specs.Workloads.{IsWorkload}
 use Rattle.reports.specs.Reports.{workload_line, kernel_report, run_report}
 use Rattle.taco_top.specs.Ends.{Cause, PutsLine}
 use Rattle.taco_top.specs.Run.{Request, AsksFor}
-use Rattle.taco_top.specs.Stored.{IsRunBy}
+use Rattle.taco_top.specs.Stored.{IsRunBy, stored_statement, stored_formats}
 use Rattle.taco_top.specs.declared.computing.Computed.{Computed}
 use Rattle.taco_top.specs.declared.ending.Done.{Done}
 use Rattle.taco_top.specs.Prepared.{IsPrepared, IsUncomputed, end_of, end_of_printing}
+use Rattle.taco_top.proofs.Called.{pairs_called}
 
 module _ (over : Values) where
   -- the words are refused, and no file was opened
@@ -80,10 +81,12 @@ module _ (over : Values) where
     no_fault = record { read_faults_are = operands.read.quiet.read_faults_are; faulted_is = operands.read.quiet.faulted_is };
   }
 
-  -- what the words ask for isn't computed over its operands
+  -- what the words ask for isn't computed over its operands, by the kernel of what is run of it
   module _ (words : List (List ℕ)) (old new : FolderState) (r : Request) (plan : Option Planned) (is_plan : IsRunBy r plan)
+      (order : List ℕ) (kernel : Kernel)
+      (is_kernel : IsKernelOf over (stored_statement r.statement plan) (stored_formats r.formats plan) order kernel)
       (entries : List Entries) (bounds : List (Vec Bound Global)) (operands : HasOperands over words old new r entries bounds) where
-    pub stops_uncomputed : (why : Fault) → IsUncomputed over r.statement r.formats plan r.given entries bounds why
+    pub stops_uncomputed : (why : Fault) → IsUncomputed over r.statement r.formats plan kernel r.given entries bounds why
         → Stops over words old new why
     stops_uncomputed (fault.Named t (named.Range why)) (same, is) =
         record {
@@ -100,6 +103,9 @@ module _ (over : Values) where
           plan = plan;
           is_plan = is_plan;
           statement_is = sym same;
+          order = order;
+          kernel = kernel;
+          is_kernel = is_kernel;
           entries = entries;
           bounds = bounds;
           operands = operands;
@@ -110,6 +116,10 @@ module _ (over : Values) where
           request = r;
           plan = plan;
           is_plan = is_plan;
+          order = order;
+          kernel = kernel;
+          is_kernel = is_kernel;
+          called = pairs_called over r.statement r.formats plan order kernel r.given entries bounds count is_kernel needs;
           entries = entries;
           bounds = bounds;
           operands = operands;

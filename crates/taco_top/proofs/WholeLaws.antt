@@ -1,6 +1,6 @@
 -- Where all input is whole, a run ends with its result.
 use Rattle.std.specs.Prelude.{◌≡◌, ℕ, zero, suc, ◌-◌, ◌⊎◌, List, [], ◌∷◌, length, map, Option, Some, None, Result, Ok, Err}
-use Rattle.std.specs.Prelude.{Vec, String, string_bytes, slice_get, refl}
+use Rattle.std.specs.Prelude.{true, Vec, String, string_bytes, slice_get, refl}
 use Rattle.std.specs.Option.{option_map}
 use Rattle.std.proofs.Common.{◌∙◌, sym, ap, subst, inl, inr}
 use Rattle.std.proofs.lemmas.List.FromFn.{length-map-range_with_len}
@@ -16,6 +16,7 @@ use Rattle.outside.specs.Count.{Rose}
 use Rattle.outside.specs.Folder.{FolderState}
 use Rattle.outside.specs.Sink.{SinkState}
 use Rattle.tensor_map.specs.Entries.{Entries}
+use Rattle.kernel_code.specs.declared.syntax.Kernel.{Kernel}
 use Rattle.index_notation.specs.declared.syntax.Statement.{Statement}
 use Rattle.expr_terms.specs.Ranges.{ranges_of}
 use Rattle.expr_terms.specs.Told.{given_at, bound_at, bound_or_none, modes_of}
@@ -28,11 +29,12 @@ use Rattle.operand_files.specs.declared.fault.OperandFault.TheVariants as operan
 use Rattle.operand_files.proofs.ToldLaws.{told_answer, told_bad_line, told_others}
 use Rattle.iteration_graph.specs.Edges.{statement_edges}
 use Rattle.iteration_graph.proofs.OrderLaws.{no_order}
-use Rattle.taco_compiler.specs.Compiled.{HasCycle}
+use Rattle.row_orders.specs.Takings.{calls_for_workspace}
+use Rattle.taco_compiler.specs.Compiled.{HasCycle, IsOrder}
 use Rattle.operand_packing.specs.Runnable.{told_ranges}
 use Rattle.mode_planner.specs.Planned.{HaveOrder}
 use Rattle.mode_planner.specs.declared.planned.Planned.{Planned}
-use Rattle.kernel_runs.specs.Runs.{AllFit, IsOfSizes}
+use Rattle.kernel_runs.specs.Runs.{LevelsFit, PairsFit, SizesFit}
 use Rattle.operand_packing.specs.declared.large_level.LargeLevel.{LargeLevel}
 use Rattle.kernel_runs.specs.declared.fault.RunFault.{RunFault}
 use Rattle.kernel_runs.specs.declared.fault.RunFault.TheVariants.{SizeLimit, Workspace}
@@ -139,22 +141,34 @@ module _ (over : Values) (words : List (List ℕ)) (files : FolderState) (whole 
         ∙ whole.ranges_are
 
     -- no size passes a limit, as the operands are stored
-    fits : (plan : Option Planned) → IsRunBy whole.request plan
-        → AllFit over.arithmetic (stored_statement whole.request.statement plan) (stored_formats whole.request.formats plan) whole.ranges
-        (stored_entries entries plan)
-    fits plan is_plan =
-        subst (λ es. AllFit over.arithmetic (stored_statement whole.request.statement plan)
+    levels_fit : (plan : Option Planned) → IsRunBy whole.request plan
+        → LevelsFit over.arithmetic (stored_statement whole.request.statement plan) (stored_formats whole.request.formats plan)
+        whole.ranges (stored_entries entries plan)
+    levels_fit plan is_plan =
+        subst (λ es. LevelsFit over.arithmetic (stored_statement whole.request.statement plan)
         (stored_formats whole.request.formats plan) whole.ranges
-        (stored_entries es plan)) (sym entries_are) (whole.fits plan is_plan)
+        (stored_entries es plan)) (sym entries_are) (whole.levels_fit plan is_plan)
 
-    no_size_fault : (plan : Option Planned) (why : RunFault) → IsRunBy whole.request plan
-        → MayRefuseStored over whole.request.statement whole.request.formats plan whole.request.given entries bounds why → IsOfSizes why → ⊥
-    no_size_fault None why is_plan may of_sizes =
-        none_refused over.arithmetic whole.request.statement whole.request.formats whole.request.given entries bounds whole.ranges why
-        told_there (fits None is_plan) may of_sizes
-    no_size_fault (Some plan) why is_plan may of_sizes =
-        planned_none_refused over.arithmetic whole.request.statement plan whole.request.given entries bounds whole.ranges why
-        told_there (fits (Some plan) is_plan) may of_sizes
+    pairs_fit : (plan : Option Planned) → IsRunBy whole.request plan → (order : List ℕ)
+        → IsOrder (stored_statement whole.request.statement plan) (stored_formats whole.request.formats plan) order
+        → calls_for_workspace (stored_statement whole.request.statement plan) (stored_formats whole.request.formats plan) order ≡ true
+        → PairsFit over.arithmetic (stored_statement whole.request.statement plan) (stored_formats whole.request.formats plan)
+        whole.ranges (stored_entries entries plan)
+    pairs_fit plan is_plan order is_order called =
+        subst (λ es. PairsFit over.arithmetic (stored_statement whole.request.statement plan)
+        (stored_formats whole.request.formats plan) whole.ranges
+        (stored_entries es plan)) (sym entries_are) (whole.pairs_fit plan is_plan order is_order called)
+
+    no_size_fault : (plan : Option Planned) (kernel : Kernel) (why : RunFault)
+        → MayRefuseStored over whole.request.statement whole.request.formats plan kernel whole.request.given entries bounds why
+        → SizesFit over.arithmetic (stored_statement whole.request.statement plan) (stored_formats whole.request.formats plan)
+        whole.ranges (stored_entries entries plan) why → ⊥
+    no_size_fault None kernel why may fit =
+        none_refused over.arithmetic whole.request.statement whole.request.formats kernel whole.request.given entries bounds
+        whole.ranges why told_there may fit
+    no_size_fault (Some plan) kernel why may fit =
+        planned_none_refused over.arithmetic whole.request.statement plan kernel whole.request.given entries bounds whole.ranges why
+        told_there may fit
 
   operands_at : (new : FolderState) (r : Request) (entries : List Entries) (bounds : List (Vec Bound Global))
       → HasOperands over words files new r entries bounds → HasOperands over words files new whole.request entries bounds
@@ -162,17 +176,20 @@ module _ (over : Values) (words : List (List ℕ)) (files : FolderState) (whole 
       subst (λ q. HasOperands over words files new q entries bounds) (request_is r operands.accepted.asks) operands
 
   -- what is too large, as the run's refusal
-  large_stored : (plan : Option Planned) (entries : List Entries) (bounds : List (Vec Bound Global)) (large : LargeLevel)
-      → IsLargeStoredLevel over whole.request.statement whole.request.formats plan whole.request.given entries bounds large
-      → MayRefuseStored over whole.request.statement whole.request.formats plan whole.request.given entries bounds (SizeLimit large)
-  large_stored None entries bounds large is = is
-  large_stored (Some plan) entries bounds large is = is
+  large_stored : (plan : Option Planned) (kernel : Kernel) (entries : List Entries) (bounds : List (Vec Bound Global))
+      (large : LargeLevel)
+      → IsLargeStoredLevel over whole.request.statement whole.request.formats plan kernel whole.request.given entries bounds large
+      → MayRefuseStored over whole.request.statement whole.request.formats plan kernel whole.request.given entries bounds
+      (SizeLimit large)
+  large_stored None kernel entries bounds large is = is
+  large_stored (Some plan) kernel entries bounds large is = is
 
-  pairs_stored : (plan : Option Planned) (entries : List Entries) (bounds : List (Vec Bound Global)) (count : ℕ)
-      → NeedsStoredPairs over whole.request.statement whole.request.formats plan whole.request.given entries bounds count
-      → MayRefuseStored over whole.request.statement whole.request.formats plan whole.request.given entries bounds (Workspace count)
-  pairs_stored None entries bounds count is = is
-  pairs_stored (Some plan) entries bounds count is = is
+  pairs_stored : (plan : Option Planned) (kernel : Kernel) (entries : List Entries) (bounds : List (Vec Bound Global)) (count : ℕ)
+      → NeedsStoredPairs over whole.request.statement whole.request.formats plan kernel whole.request.given entries bounds count
+      → MayRefuseStored over whole.request.statement whole.request.formats plan kernel whole.request.given entries bounds
+      (Workspace count)
+  pairs_stored None kernel entries bounds count is = is
+  pairs_stored (Some plan) kernel entries bounds count is = is
 
   -- ---- no stage has a cause
   module _ (new : FolderState) (no_fault : Rose files.read_faults new.read_faults → ⊥) where
@@ -192,21 +209,25 @@ module _ (over : Values) (words : List (List ℕ)) (files : FolderState) (whole 
 
     no_level_fault : (s : Statement) (large : LargeLevel) → HasLargeLevel over words files new s large → ⊥
     no_level_fault s large is =
-        no_size_fault new is.entries is.bounds (operands_at new is.request is.entries is.bounds is.operands) is.plan (SizeLimit large)
-        (subst (λ q. IsRunBy q is.plan) (request_is is.request is.operands.accepted.asks) is.is_plan)
-        (large_stored is.plan is.entries is.bounds large
-        (subst (λ q. IsLargeStoredLevel over q.statement q.formats is.plan q.given is.entries is.bounds large)
-        (request_is is.request is.operands.accepted.asks) is.is))
-        tt
+        let same = request_is is.request is.operands.accepted.asks in
+        let operands = operands_at new is.request is.entries is.bounds is.operands in
+        no_size_fault new is.entries is.bounds operands is.plan is.kernel (SizeLimit large)
+        (large_stored is.plan is.kernel is.entries is.bounds large
+        (subst (λ q. IsLargeStoredLevel over q.statement q.formats is.plan is.kernel q.given is.entries is.bounds large) same is.is))
+        (levels_fit new is.entries is.bounds operands is.plan (subst (λ q. IsRunBy q is.plan) same is.is_plan))
 
     no_pairs_fault : (count : ℕ) → HasManyPairs over words files new count → ⊥
     no_pairs_fault count is =
-        no_size_fault new is.entries is.bounds (operands_at new is.request is.entries is.bounds is.operands) is.plan (Workspace count)
-        (subst (λ q. IsRunBy q is.plan) (request_is is.request is.operands.accepted.asks) is.is_plan)
-        (pairs_stored is.plan is.entries is.bounds count
-        (subst (λ q. NeedsStoredPairs over q.statement q.formats is.plan q.given is.entries is.bounds count)
-        (request_is is.request is.operands.accepted.asks) is.needs))
-        tt
+        let same = request_is is.request is.operands.accepted.asks in
+        let operands = operands_at new is.request is.entries is.bounds is.operands in
+        no_size_fault new is.entries is.bounds operands is.plan is.kernel (Workspace count)
+        (pairs_stored is.plan is.kernel is.entries is.bounds count
+        (subst (λ q. NeedsStoredPairs over q.statement q.formats is.plan is.kernel q.given is.entries is.bounds count) same is.needs))
+        (pairs_fit new is.entries is.bounds operands is.plan (subst (λ q. IsRunBy q is.plan) same is.is_plan) is.order
+        (subst (λ q. IsOrder (stored_statement q.statement is.plan) (stored_formats q.formats is.plan) is.order) same
+        is.is_kernel.is_order)
+        (subst (λ q. calls_for_workspace (stored_statement q.statement is.plan) (stored_formats q.formats is.plan) is.order ≡ true) same
+        is.called))
 
     -- a graph with a loop order has no cycle
     no_cycle_fault : (s : Statement) (cycle : List ℕ) → HasCycleFault words s cycle → ⊥
@@ -356,5 +377,6 @@ whole_text words files files' others others' out out' away away' whole holds fir
       operands_are = subst (λ h. told_operands (means (values_in words)) h (asked_orders whole.request) (asked_paths whole.request)
           ≡ Ok whole.operands) (sym holds) whole.operands_are;
       ranges_are = whole.ranges_are;
-      fits = whole.fits;
+      levels_fit = whole.levels_fit;
+      pairs_fit = whole.pairs_fit;
     }

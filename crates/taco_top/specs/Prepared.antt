@@ -56,21 +56,23 @@ IsStoredRun over s formats (Some plan) kernel given entries bounds shape result 
     IsPlannedRun over.arithmetic s plan kernel given entries bounds shape result tensor turns
 
 -- why it doesn't
-abbrev pub MayRefuseStored : Values → Statement → List (List FormatLevel) → Option Planned → List (Option ℕ) → List Entries
+abbrev pub MayRefuseStored : Values → Statement → List (List FormatLevel) → Option Planned → Kernel → List (Option ℕ) → List Entries
     → List (Vec Bound Global) → RunFault → Type 0
-MayRefuseStored over s formats None given entries bounds why = MayRefuseRun over.arithmetic s formats given entries bounds why
-MayRefuseStored over s formats (Some plan) given entries bounds why = MayRefusePlanned over.arithmetic s plan given entries bounds why
+MayRefuseStored over s formats None kernel given entries bounds why = MayRefuseRun over.arithmetic s formats kernel given entries bounds why
+MayRefuseStored over s formats (Some plan) kernel given entries bounds why =
+    MayRefusePlanned over.arithmetic s plan kernel given entries bounds why
 
 -- and that as the program's fault
-abbrev pub IsUncomputed : Values → Statement → List (List FormatLevel) → Option Planned → List (Option ℕ) → List Entries
+abbrev pub IsUncomputed : Values → Statement → List (List FormatLevel) → Option Planned → Kernel → List (Option ℕ) → List Entries
     → List (Vec Bound Global) → Fault → Type 0
-IsUncomputed over s formats plan given entries bounds (fault.Named t (named.Range why)) = (t ≡ s) × (told_ranges s given bounds ≡ Err why)
-IsUncomputed over s formats plan given entries bounds (fault.Named t (named.SizeLimit large)) =
-    (t ≡ stored_statement s plan) × IsLargeStoredLevel over s formats plan given entries bounds large
-IsUncomputed over s formats plan given entries bounds
-    (fault.WorkspaceLimit count) = NeedsStoredPairs over s formats plan given entries bounds count
-IsUncomputed over s formats plan given entries bounds fault.Memory = Unit {0}
-IsUncomputed over s formats plan given entries bounds _ = ⊥
+IsUncomputed over s formats plan kernel given entries bounds (fault.Named t (named.Range why)) =
+    (t ≡ s) × (told_ranges s given bounds ≡ Err why)
+IsUncomputed over s formats plan kernel given entries bounds (fault.Named t (named.SizeLimit large)) =
+    (t ≡ stored_statement s plan) × IsLargeStoredLevel over s formats plan kernel given entries bounds large
+IsUncomputed over s formats plan kernel given entries bounds (fault.WorkspaceLimit count) =
+    NeedsStoredPairs over s formats plan kernel given entries bounds count
+IsUncomputed over s formats plan kernel given entries bounds fault.Memory = Unit {0}
+IsUncomputed over s formats plan kernel given entries bounds _ = ⊥
 
 -- what the words ask for was computed, for this task, and this is kept of it
 pub record IsPrepared (over : Values) (words : List (List ℕ)) (task : Task) (old new : FolderState) (kept : Computed) : Type 0 where

@@ -7,10 +7,12 @@ use Rattle.std.specs.Option.{option_map}
 use Rattle.outside.specs.Folder.{FolderState}
 use Rattle.outside.specs.Sink.{SinkState}
 use Rattle.tensor_map.specs.Entries.{Entries}
+use Rattle.kernel_code.specs.declared.syntax.Kernel.{Kernel}
 use Rattle.index_notation.specs.declared.syntax.Statement.{Statement}
 use Rattle.expr_terms.specs.declared.bound.Bound.{Bound}
 use Rattle.expr_terms.specs.declared.range_fault.RangeFault.{RangeFault}
 use Rattle.operand_files.specs.Reads.{OnlyReads, RefusedAtFault, RefusedAtLength, RefusedAtLine, OpensFirst, NoReadFails}
+use Rattle.row_orders.specs.Takings.{calls_for_workspace}
 use Rattle.taco_compiler.specs.Compiled.{HasCycle}
 use Rattle.operand_packing.specs.Runnable.{told_ranges}
 use Rattle.operand_packing.specs.declared.large_level.LargeLevel.{LargeLevel}
@@ -24,9 +26,9 @@ use Rattle.mode_planner.specs.declared.planned.Planned.{Planned}
 use Rattle.taco_top.specs.Values.{Values}
 use Rattle.taco_top.specs.Asked.{IsRefusedByWords, needs_files, needs_order, writes_result}
 use Rattle.taco_top.specs.Run.{Request, AsksFor, path_of}
-use Rattle.taco_top.specs.Stored.{IsRunBy, stored_statement, IsLargeStoredLevel, NeedsStoredPairs}
+use Rattle.taco_top.specs.Stored.{IsRunBy, stored_statement, stored_formats, IsLargeStoredLevel, NeedsStoredPairs}
 use Rattle.taco_top.specs.Written.{means, IsAccepted, asked_orders, asked_paths, HasOperands, HasResult, result_ranges, result_value}
-use Rattle.taco_top.specs.Told.{IsComputed, IsTextOf, Tells}
+use Rattle.taco_top.specs.Told.{IsComputed, IsKernelOf, IsTextOf, Tells}
 
 -- a statement is accepted, and no more was opened of its operands' files than the first of them, in order
 pub record OpensOperands (words : List (List ℕ)) (old new : FolderState) : Type 0 where
@@ -60,26 +62,33 @@ pub record HasRangeFault (over : Values) (words : List (List ℕ)) (old new : Fo
   pub operands : HasOperands over words old new request entries bounds
   pub is : told_ranges s request.given bounds ≡ Err why
 
--- this level of a tensor of the statement that is run has too many positions
+-- this level of a tensor of the statement that is run by this kernel has too many positions
 pub record HasLargeLevel (over : Values) (words : List (List ℕ)) (old new : FolderState) (s : Statement) (large : LargeLevel) : Type 0 where
   pub request : Request
   pub plan : Option Planned
   pub is_plan : IsRunBy request plan
   pub statement_is : stored_statement request.statement plan ≡ s
+  pub order : List ℕ
+  pub kernel : Kernel
+  pub is_kernel : IsKernelOf over (stored_statement request.statement plan) (stored_formats request.formats plan) order kernel
   pub entries : List Entries
   pub bounds : List (Vec Bound Global)
   pub operands : HasOperands over words old new request entries bounds
-  pub is : IsLargeStoredLevel over request.statement request.formats plan request.given entries bounds large
+  pub is : IsLargeStoredLevel over request.statement request.formats plan kernel request.given entries bounds large
 
--- the result's workspace needs too many pairs
+-- the statement that is run calls for a workspace, in the order of its loops, and this kernel's run is refused it: it needs too many pairs
 pub record HasManyPairs (over : Values) (words : List (List ℕ)) (old new : FolderState) (count : ℕ) : Type 0 where
   pub request : Request
   pub plan : Option Planned
   pub is_plan : IsRunBy request plan
+  pub order : List ℕ
+  pub kernel : Kernel
+  pub is_kernel : IsKernelOf over (stored_statement request.statement plan) (stored_formats request.formats plan) order kernel
+  pub called : calls_for_workspace (stored_statement request.statement plan) (stored_formats request.formats plan) order ≡ true
   pub entries : List Entries
   pub bounds : List (Vec Bound Global)
   pub operands : HasOperands over words old new request entries bounds
-  pub needs : NeedsStoredPairs over request.statement request.formats plan request.given entries bounds count
+  pub needs : NeedsStoredPairs over request.statement request.formats plan kernel request.given entries bounds count
 
 -- no file was opened, and the words are refused so
 pub record RefusesWords (words : List (List ℕ)) (old new : FolderState) (why : Fault) : Type 0 where

@@ -3,6 +3,7 @@
 use Rattle.std.specs.Prelude.{ℕ, List, Option, None, Some, Vec}
 use Rattle.std.specs.declared.alloc.Global.{Global}
 use Rattle.tensor_map.specs.Entries.{Entries}
+use Rattle.kernel_code.specs.declared.syntax.Kernel.{Kernel}
 use Rattle.format_spec.specs.declared.format.FormatLevel.{FormatLevel}
 use Rattle.index_notation.specs.declared.syntax.Statement.{Statement}
 use Rattle.expr_terms.specs.declared.bound.Bound.{Bound}
@@ -34,15 +35,19 @@ abbrev pub stored_entries : List Entries → Option Planned → List Entries
 stored_entries entries None = entries
 stored_entries entries (Some plan) = drawn plan.origins entries
 
--- a level of a tensor, as it is stored, has too many positions by the ranges of the statement that is asked for
-abbrev pub IsLargeStoredLevel : Values → Statement → List (List FormatLevel) → Option Planned → List (Option ℕ) → List Entries
+-- a level of a tensor, as it is stored, has too many positions by the ranges of the statement that is asked for: one of the result also
+-- where a run of the kernel is refused its growth
+abbrev pub IsLargeStoredLevel : Values → Statement → List (List FormatLevel) → Option Planned → Kernel → List (Option ℕ) → List Entries
     → List (Vec Bound Global) → LargeLevel → Type 0
-IsLargeStoredLevel over s formats None given entries bounds large = IsLargeLevel over.arithmetic s formats given entries bounds large
-IsLargeStoredLevel over s formats
-    (Some plan) given entries bounds large = IsLargePlannedLevel over.arithmetic s plan given entries bounds large
+IsLargeStoredLevel over s formats None kernel given entries bounds large =
+    IsLargeLevel over.arithmetic s formats kernel given entries bounds large
+IsLargeStoredLevel over s formats (Some plan) kernel given entries bounds large =
+    IsLargePlannedLevel over.arithmetic s plan kernel given entries bounds large
 
--- the workspace of the result, as it is stored, needs too many pairs
-abbrev pub NeedsStoredPairs : Values → Statement → List (List FormatLevel) → Option Planned → List (Option ℕ) → List Entries
+-- a run of the kernel is refused the workspace of the result, as it is stored: it needs too many pairs
+abbrev pub NeedsStoredPairs : Values → Statement → List (List FormatLevel) → Option Planned → Kernel → List (Option ℕ) → List Entries
     → List (Vec Bound Global) → ℕ → Type 0
-NeedsStoredPairs over s formats None given entries bounds count = NeedsPairs over.arithmetic s formats given entries bounds count
-NeedsStoredPairs over s formats (Some plan) given entries bounds count = NeedsPlannedPairs over.arithmetic s plan given entries bounds count
+NeedsStoredPairs over s formats None kernel given entries bounds count =
+    NeedsPairs over.arithmetic s formats kernel given entries bounds count
+NeedsStoredPairs over s formats (Some plan) kernel given entries bounds count =
+    NeedsPlannedPairs over.arithmetic s plan kernel given entries bounds count

@@ -9,7 +9,9 @@ use Rattle.expr_terms.specs.declared.range_fault.RangeFault.{RangeFault}
 use Rattle.operand_files.specs.Decoded.{Operand}
 use Rattle.operand_files.specs.Laws.{AreTold, told_operands}
 use Rattle.mode_planner.specs.declared.planned.Planned.{Planned}
-use Rattle.kernel_runs.specs.Runs.{AllFit}
+use Rattle.row_orders.specs.Takings.{calls_for_workspace}
+use Rattle.taco_compiler.specs.Compiled.{IsOrder}
+use Rattle.kernel_runs.specs.Runs.{LevelsFit, PairsFit}
 use Rattle.taco_top.specs.Values.{Values}
 use Rattle.taco_top.specs.Asked.{needs_files}
 use Rattle.taco_top.specs.Written.{IsAccepted, asked_orders, asked_paths, means}
@@ -29,8 +31,8 @@ abbrev pub ranges_told : Statement → List (Option ℕ) → List Operand → Re
 ranges_told s given operands = ranges_of s (given_at given) (bound_told (map (λ operand. operand.bounds) operands))
 
 -- the words of `run`, `auto` or `report` pass, with a loop order where the task needs one; every operand's file is there and stands for
--- entries; the ranges agree; no level of an operand or of the result has more positions than may be, as they are stored; and no workspace
--- needs more pairs
+-- entries; the ranges agree; no level of an operand or of the result has more positions than may be, as they are stored; and where the
+-- statement that is run calls for a workspace, it needs no more pairs
 pub record IsWhole (over : Values) (words : List (List ℕ)) (holds : List ℕ → Told) : Type 0 where
   pub request : Request
   pub operands : List Operand
@@ -40,6 +42,11 @@ pub record IsWhole (over : Values) (words : List (List ℕ)) (holds : List ℕ �
   pub told : AreTold holds (asked_paths request)
   pub operands_are : told_operands (means over) holds (asked_orders request) (asked_paths request) ≡ Ok operands
   pub ranges_are : ranges_told request.statement request.given operands ≡ Ok ranges
-  pub fits : (plan : Option Planned) → IsRunBy request plan
-      → AllFit over.arithmetic (stored_statement request.statement plan) (stored_formats request.formats plan) ranges
+  pub levels_fit : (plan : Option Planned) → IsRunBy request plan
+      → LevelsFit over.arithmetic (stored_statement request.statement plan) (stored_formats request.formats plan) ranges
+      (stored_entries (map (λ operand. operand.entries) operands) plan)
+  pub pairs_fit : (plan : Option Planned) → IsRunBy request plan → (order : List ℕ)
+      → IsOrder (stored_statement request.statement plan) (stored_formats request.formats plan) order
+      → calls_for_workspace (stored_statement request.statement plan) (stored_formats request.formats plan) order ≡ true
+      → PairsFit over.arithmetic (stored_statement request.statement plan) (stored_formats request.formats plan) ranges
       (stored_entries (map (λ operand. operand.entries) operands) plan)

@@ -6,6 +6,7 @@ ghost use Rattle.kernel_correctness.specs.Kernels.{IsRightKernel};
 ghost use Rattle.mode_planner.specs.Planned.{Answers};
 ghost use Rattle.operand_packing.specs.Runnable.{IsRunnable};
 ghost use Rattle.tensor_map.specs.Entries.{AreEntries, Entries};
+ghost use Rattle.kernel_code.specs.declared.syntax.Kernel.{Kernel as AKernel};
 ghost use Rattle.format_spec.specs.declared.format.FormatLevel.{FormatLevel};
 ghost use Rattle.index_notation.specs.Statement.{IsNumbered};
 ghost use Rattle.expr_terms.specs.declared.bound.Bound.{Bound};
@@ -56,10 +57,10 @@ fn stored(statement: Statement, plan: Option<Planned>) -> Statement
 
 /// The refusal of a run, told by the names of the statement.
 fn fault_of<'a>(statement: Statement, plan: Option<Planned>, why: RunFault) -> Fault<'a>
-    ensures { (over : Values) (formats : List (List FormatLevel)) (given : List (Option ℕ)) (entries : List Entries) (bounds : List
-        (Vec Bound AGlobal))
-        → MayRefuseStored over statement formats plan given entries bounds why
-        → IsUncomputed over statement formats plan given entries bounds result }
+    ensures { (over : Values) (formats : List (List FormatLevel)) (kernel : AKernel) (given : List (Option ℕ)) (entries : List Entries)
+        (bounds : List (Vec Bound AGlobal))
+        → MayRefuseStored over statement formats plan kernel given entries bounds why
+        → IsUncomputed over statement formats plan kernel given entries bounds result }
 {
     match why {
         RunFault::Range(why) => Fault::Named {
@@ -92,7 +93,7 @@ fn run_stored<S: Semiring>(
         formats.now plan.now kernel.now given.now operands.entries.items operands.bounds.items run.shape run.entries run.tensor run.turns) }
     ensures entries { IfOk result (λ run. AreEntries run.entries) }
     ensures refused { IfErr result (MayRefuseStored (semiring S.arithmetic S.has_minus S.is_ring S.is_signed S.name) statement.now
-        formats.now plan.now given.now operands.entries.items operands.bounds.items) }
+        formats.now plan.now kernel.now given.now operands.entries.items operands.bounds.items) }
 {
     match plan {
         None => run_kernel::<S>(alloc, statement, formats, kernel, given, operands),

@@ -27,11 +27,12 @@ pub memory_of-requires : goal.memory_of-requires
 memory_of-requires c =
     let given = Some c.args.size ∷ Some c.args.size ∷ [] in
     let operands = c.args.operands.entries.items in
-    refused_for_memory ring c.args.size operands c.requires.small c.requires.matrices none_refused c.in-Err.fault
-    (subst (λ bounds. MayRefuseRun ring workload_statement workload_formats given operands bounds c.in-Err.fault) c.requires.untold
-    (subst (λ formats. MayRefuseRun ring workload_statement formats given operands c.args.operands.bounds.items c.in-Err.fault)
+    let kernel = c.args.kernel.now in
+    refused_for_memory ring kernel c.args.size operands c.requires.small c.requires.matrices none_refused c.in-Err.fault
+    (subst (λ bounds. MayRefuseRun ring workload_statement workload_formats kernel given operands bounds c.in-Err.fault) c.requires.untold
+    (subst (λ formats. MayRefuseRun ring workload_statement formats kernel given operands c.args.operands.bounds.items c.in-Err.fault)
     c.requires.formats
-    (subst (λ s. MayRefuseRun ring s c.args.formats.now given operands c.args.operands.bounds.items c.in-Err.fault)
+    (subst (λ s. MayRefuseRun ring s c.args.formats.now kernel given operands c.args.operands.bounds.items c.in-Err.fault)
     c.requires.statement c.in-Err.ensures.refused)))
 
 pub run_kernel-requires-clause-right : goal.run_kernel-requires-clause-right

@@ -16,7 +16,7 @@ use Rattle.kernel_runs.proofs.planned_runs.run_planned.Goals as goal
 
 pub returns-in_err-ranges-clause-refused : goal.returns-in_err-ranges-clause-refused
 returns-in_err-ranges-clause-refused g c =
-    let h = planned_range_refusal g.S.Semiring.arithmetic c.args.statement.now c.args.plan.now c.args.given.now
+    let h = planned_range_refusal g.S.Semiring.arithmetic c.args.statement.now c.args.plan.now c.args.kernel.now c.args.given.now
     c.args.operands.entries.items c.args.operands.bounds.items c.as_slice.result.now c.in_err-ranges.field-0.0 c.as_slice.ensures.value
     c.in_err-ranges.ensures.fault in
     search (rules, h)
@@ -119,13 +119,15 @@ returns-in_err-tensors-clause-refused g c =
     let lent_is : drawn c.as_slice-origins.result.now c.as_mut_slice-entries.result.now ≡ drawn plan.origins operands =
     ap (λ origins. drawn origins c.as_mut_slice-entries.result.now) c.as_slice-origins.ensures
     ∙ ap (drawn plan.origins) c.as_mut_slice-entries.ensures.value in
-    let why : RefusedBy a plan.statement plan.formats ranges (drawn plan.origins operands) (of_packing c.in_err-tensors.field-0.0) =
-    subst (λ fs. RefusedBy a plan.statement fs ranges (drawn plan.origins operands) (of_packing c.in_err-tensors.field-0.0)) (sym back)
-    (pack_refusal a plan.statement formats (drawn plan.origins operands) ranges c.in_err-tensors.field-0.0
+    let kernel = c.args.kernel.now in
+    let why : RefusedBy a plan.statement plan.formats kernel ranges (drawn plan.origins operands) (of_packing c.in_err-tensors.field-0.0) =
+    subst (λ fs. RefusedBy a plan.statement fs kernel ranges (drawn plan.origins operands) (of_packing c.in_err-tensors.field-0.0))
+    (sym back)
+    (pack_refusal a plan.statement formats kernel (drawn plan.origins operands) ranges c.in_err-tensors.field-0.0
     (unpacked_lent a plan.statement formats (drawn plan.origins operands) are ranges fits
     c.deref.result.now c.deref.ensures.value (drawn c.as_slice-origins.result.now c.as_mut_slice-entries.result.now) lent_is
     c.in_err-tensors.field-0.0 c.in_err-tensors.ensures)) in
-    let h = planned_refusal a s plan given operands bounds ranges told (of_packing c.in_err-tensors.field-0.0) why in
+    let h = planned_refusal a s plan given operands bounds ranges told kernel (of_packing c.in_err-tensors.field-0.0) why in
     search (rules, h)
 
 pub bounds-formats-0 : goal.bounds-formats-0
@@ -382,8 +384,8 @@ returns-clause-refused g c =
     ∙ ap (drawn plan.origins) c.as_mut_slice-entries.ensures.value in
     let right : IsRightKernel a plan.statement formats c.args.kernel.now =
     subst (λ fs. IsRightKernel a plan.statement fs c.args.kernel.now) back c.requires.right in
-    planned_refusal a s plan given operands bounds ranges told c.in-Err.fault
-    (subst (λ fs. RefusedBy a plan.statement fs ranges (drawn plan.origins operands) c.in-Err.fault) (sym back)
+    planned_refusal a s plan given operands bounds ranges told c.args.kernel.now c.in-Err.fault
+    (subst (λ fs. RefusedBy a plan.statement fs c.args.kernel.now ranges (drawn plan.origins operands) c.in-Err.fault) (sym back)
     (refused_lent a plan.statement formats (drawn plan.origins operands) are ranges fits
     c.deref.result.now c.deref.ensures.value (drawn c.as_slice-origins.result.now c.as_mut_slice-entries.result.now) lent_is
     g.met.S.Semiring.laws c.args.kernel.now right c.deref-3.result.now c.deref-3.ensures.value c.copied-format.result

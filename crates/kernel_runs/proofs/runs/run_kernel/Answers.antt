@@ -9,8 +9,8 @@ use Rattle.kernel_runs.proofs.runs.run_kernel.Goals as goal
 
 pub returns-in_err-ranges-clause-refused : goal.returns-in_err-ranges-clause-refused
 returns-in_err-ranges-clause-refused g c =
-    let h = range_refusal g.S.Semiring.arithmetic c.args.statement.now c.args.formats.now c.args.given.now c.args.operands.entries.items
-    c.args.operands.bounds.items c.as_slice.result.now c.in_err-ranges.field-0.0 c.as_slice.ensures.value
+    let h = range_refusal g.S.Semiring.arithmetic c.args.statement.now c.args.formats.now c.args.kernel.now c.args.given.now
+    c.args.operands.entries.items c.args.operands.bounds.items c.as_slice.result.now c.in_err-ranges.field-0.0 c.as_slice.ensures.value
     c.in_err-ranges.ensures.fault in
     search (rules, h)
 
@@ -59,8 +59,8 @@ returns-in_err-tensors-clause-refused g c =
     ∙ c.in_ok-ranges.ensures.ranges in
     let are = c.requires.runnable.operands_are in
     let fits = c.requires.runnable.ranges_fit ranges told in
-    let h = run_refusal a s formats given operands bounds ranges told (of_packing c.in_err-tensors.field-0.0)
-    (pack_refusal a s formats operands ranges c.in_err-tensors.field-0.0
+    let h = run_refusal a s formats c.args.kernel.now given operands bounds ranges told (of_packing c.in_err-tensors.field-0.0)
+    (pack_refusal a s formats c.args.kernel.now operands ranges c.in_err-tensors.field-0.0
     (unpacked_lent a s formats operands are ranges fits
     c.deref.result.now c.deref.ensures.value c.as_mut_slice-entries.result.now c.as_mut_slice-entries.ensures.value
     c.in_err-tensors.field-0.0 c.in_err-tensors.ensures)) in
@@ -225,7 +225,7 @@ returns-clause-refused g c =
     ∙ c.in_ok-ranges.ensures.ranges in
     let are = c.requires.runnable.operands_are in
     let fits = c.requires.runnable.ranges_fit ranges told in
-    run_refusal a s formats given operands bounds ranges told c.in-Err.fault
+    run_refusal a s formats c.args.kernel.now given operands bounds ranges told c.in-Err.fault
     (refused_lent a s formats operands are ranges fits
     c.deref.result.now c.deref.ensures.value c.as_mut_slice-entries.result.now c.as_mut_slice-entries.ensures.value
     g.met.S.Semiring.laws c.args.kernel.now c.requires.right c.deref-3.result.now c.deref-3.ensures.value c.copied-format.result

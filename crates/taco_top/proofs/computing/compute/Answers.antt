@@ -45,9 +45,11 @@ pub returns-clause-stops : goal.returns-clause-stops
 returns-clause-stops g c = λ words accepted.
     let over = semiring g.S.Semiring.arithmetic g.S.Semiring.has_minus g.S.Semiring.is_ring g.S.Semiring.is_signed g.S.Semiring.name in
     stops_uncomputed over words (g.F.Folder.state c.args.files.now) (g.F.Folder.state c.operands_of.new.files)
-    (request_of c.args.accepted.asked) c.args.accepted.plan c.requires.plan c.in-Ok.operands.entries.items
+    (request_of c.args.accepted.asked) c.args.accepted.plan c.requires.plan c.args.accepted.compiled.order
+    c.args.accepted.compiled.kernel c.requires.kernel c.in-Ok.operands.entries.items
     c.in-Ok.operands.bounds.items (c.in-Ok.ensures.read words accepted) c.fault_of.result
     (uncomputed_of_request over (request_of c.args.accepted.asked) c.as_slice.result.now c.as_slice.ensures.value c.as_slice-2.result.now
-    c.as_slice-2.ensures.value c.in-Ok.operands.entries.items c.in-Ok.operands.bounds.items c.args.accepted.plan c.fault_of.result
-    (c.fault_of.ensures over c.as_slice.result.now c.as_slice-2.result.now
+    c.as_slice-2.ensures.value c.in-Ok.operands.entries.items c.in-Ok.operands.bounds.items c.args.accepted.plan
+    c.args.accepted.compiled.kernel c.fault_of.result
+    (c.fault_of.ensures over c.as_slice.result.now c.args.accepted.compiled.kernel c.as_slice-2.result.now
     c.in-Ok.operands.entries.items c.in-Ok.operands.bounds.items c.in-Err-run_stored.ensures.refused))
