@@ -1,0 +1,4 @@
+pub mod Grouped
+pub mod GroupedLaws
+pub mod Chains
+pub mod Emitted
