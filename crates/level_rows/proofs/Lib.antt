@@ -11,6 +11,7 @@ pub mod AppendLoop
 pub mod RunSteps
 pub mod RunLoop
 pub mod OwnNumbers
+pub mod AtOnce
 pub mod InsertLaws
 pub mod InsertLoop
 pub mod FullLaws

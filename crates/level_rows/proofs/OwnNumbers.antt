@@ -1,12 +1,11 @@
 -- The loop that appends rows whose positions aren't told: the list that has them after each step, and what the call answers.
-use Rattle.std.specs.Prelude.{◌≡◌, ℕ, ◌+◌, ◌-◌, ◌≤◌, ◌<◌, Bool, true, false, List, ◌++◌, length, drop, slice_index, Result, Ok, Err, refl}
+use Rattle.std.specs.Prelude.{◌≡◌, ℕ, ◌+◌, ◌-◌, ◌≤◌, ◌<◌, true, false, List, ◌++◌, length, drop, slice_index, Ok, refl}
 use Rattle.std.specs.List.{range_with_len}
-use Rattle.std.proofs.Common.{◌∙◌, sym, ap, subst, arith}
+use Rattle.std.proofs.Common.{◌∙◌, sym, ap, arith}
 use Rattle.std.proofs.lemmas.List.{get_or_append_left, get_or-append-add, get_or-drop, length-append, length-drop}
 use Rattle.std.proofs.lemmas.List.FromFn.{length-range_with_len, get_or-range_with_len}
 use Rattle.limits.specs.Limits.{greatest_position_count}
-use Rattle.level_core.specs.declared.letter.Letter.{Letter}
-use Rattle.level_core.specs.Kinds.{properties, capabilities}
+use Rattle.level_core.specs.Kinds.{capabilities}
 use Rattle.level_core.specs.Meaning.{Meaning}
 use Rattle.level_core.proofs.KindLaws.{appended_stored}
 use Rattle.level_rows.specs.Rows.{Rows, begun}
@@ -49,7 +48,7 @@ numbered_to done end positions order within = record {
   behind = λ i h. number_behind end i positions h ∙ sym (number_behind done i positions (omega (arith, h, order)));
 }
 
-apart : {A : Type 0} → true ≡ false → A
+pub apart : {A : Type 0} → true ≡ false → A
 apart e = absurd (no e)
   where
     no : true ≡ false → ⊥

@@ -22,7 +22,7 @@ module _ (rows : Rows) (all : (i : ℕ) → i < rows.count → rows.first i ≡ 
   begun_here n h = begun_all rows.first n (λ i l. all i (omega (arith, h, l)))
 
   -- each row's position is its number
-  place_here : (i : ℕ) → i < rows.count → place rows.first i ≡ i
+  pub place_here : (i : ℕ) → i < rows.count → place rows.first i ≡ i
   place_here i h = let k = begun_here (suc i) (omega (arith, h)) in omega (arith, k)
 
   placed_run : (done end : ℕ) (positions then_positions : List ℕ) → Placing done rows (place rows.first) positions → done ≤ end

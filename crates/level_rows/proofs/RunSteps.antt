@@ -77,7 +77,7 @@ runs letter size parents done parent begin rows (x ∷ xs) log o r p =
     (subst (λ cs. Progress letter parents (suc done + length xs) parent begin rows (record log { coords = cs }))
     (append_assoc log.coords (x ∷ []) xs) rest)
 
-coords_below : (n : ℕ) (xs : List ℕ) → ((j : ℕ) → j < length xs → slice_index xs j < n) → CoordsBelow n xs
+pub coords_below : (n : ℕ) (xs : List ℕ) → ((j : ℕ) → j < length xs → slice_index xs j < n) → CoordsBelow n xs
 coords_below n [] h = tt
 coords_below n (x ∷ xs) h = (h 0 (omega arith), coords_below n xs (λ j l. h (suc j) (omega (arith, l))))
 

@@ -1,5 +1,6 @@
 -- What a call leaves that gives a level of any kind its rows.
-use Rattle.std.specs.Prelude.{◌≡◌, ℕ, ◌≤◌, ◌<◌, true, false, List, Result, Ok, Err, None}
+use Rattle.std.specs.Prelude.{◌≡◌, ℕ, ◌≤◌, ◌<◌, Bool, true, false, List, replicate, Result, Ok, Err, None}
+use Rattle.std.specs.List.{range_with_len}
 use Rattle.limits.specs.Limits.{greatest_position_count}
 use Rattle.level_core.specs.declared.letter.Letter.{Letter}
 use Rattle.level_core.specs.Kinds.{properties, capabilities, positions_for}
@@ -39,3 +40,8 @@ FillAnswer means parents rows needed most before after old new (Err Memory) =
     (needed ≤ greatest_position_count) × (new ≡ old) × (after ≡ before)
 FillAnswer means parents rows needed most before after old new (Err (TooMany count)) =
     (greatest_position_count < needed) × (count ≡ needed) × (new ≡ old) × (after ≡ before)
+
+-- the positions of so many rows above a level that takes them all at once: their own numbers, or that of the first parent
+abbrev pub places_once : Bool → ℕ → List ℕ
+places_once true count = range_with_len 0 count
+places_once false count = replicate count 0

@@ -20,7 +20,7 @@ pub use counting::{greatest_below, positions_begun};
 pub use emitting::{DrainSite, emit_append_rows};
 pub use filling::{FillRefusal, fill_level, prepared_positions};
 pub use inserting::{fill_first, insert_rows};
-pub use numbering::fill_numbered;
+pub use numbering::{fill_numbered, fill_once};
 pub use placing::{emit_greatest_below, emit_insert_rows};
 pub use rows::SortedRows;
 pub use values::{RowValues, store_values};

@@ -81,6 +81,7 @@ impl Columns {
 
     /// The coordinate of an entry in a mode, in 32 bits.
     #[tactic(auto, unfolding(limits::specs::Limits::greatest_order))]
+    #[inline(always)]
     fn narrow(&self, i: usize, mode: usize) -> u32
         requires entry { i < length self.now.list }
         requires mode { mode < self.now.order }
@@ -111,6 +112,7 @@ impl Columns {
     }
 
     /// Whether the last entry's coordinates are before these.
+    #[inline(always)]
     pub(crate) fn is_last_before(&self, coords: &[u64]) -> bool
         requires some { 0 < length self.now.list }
         requires long { length coords.now ≡ self.now.order }
@@ -177,6 +179,7 @@ impl Columns {
 
     /// Appends an entry. Refused for want of memory, the entries are as before.
     #[tactic(auto, unfolding(limits::specs::Limits::greatest_order))]
+    #[inline(always)]
     pub(crate) fn push(&mut self, coords: &[u64], value: u64) -> Result<(), AllocError>
         requires long { length coords.now ≡ self.old.order }
         requires narrow { All (λ coordinate. coordinate < 2 ^ 32) coords.now }
@@ -193,6 +196,7 @@ impl Columns {
 
 /// Puts a coordinate into each column, after its first `count` ones, and answers how many numbers each column has then, or more: they
 /// had `room`. Refused for want of memory, the first ones stay.
+#[inline(always)]
 fn append(
     columns: &mut [Vec<u32>],
     count: usize,
@@ -215,6 +219,7 @@ fn append(
 
 /// Makes columns longer than `count`, if they aren't, and answers how many numbers each has then, or more: they had `room`. Refused for
 /// want of memory, the first `count` numbers stay.
+#[inline(always)]
 fn with_room(columns: &mut [Vec<u32>], count: usize, room: usize) -> Result<usize, AllocError>
     requires kept { AreLong (λ column. column.items) columns.old count }
     requires room { AreLong (λ column. column.items) columns.old room }
@@ -241,7 +246,7 @@ fn lengthen(columns: &mut [Vec<u32>], count: usize) -> Result<usize, AllocError>
     ensures more { IfOk result (λ more. count < more) }
     ensures long { IfOk result (AreLong (λ column. column.items) columns.new) }
 {
-    let Some(wanted) = count.checked_add(count.min(4096).max(4)) else {
+    let Some(wanted) = count.checked_add(count.min(512).max(4)) else {
         return Err(AllocError);
     };
     for mode in 0..columns.len() {
@@ -252,6 +257,7 @@ fn lengthen(columns: &mut [Vec<u32>], count: usize) -> Result<usize, AllocError>
 }
 
 /// Puts a coordinate at a place of each column.
+#[inline(always)]
 fn put(columns: &mut [Vec<u32>], place: usize, coords: &[u64])
     requires long { length coords.now ≡ length columns.old }
     requires narrow { All (λ coordinate. coordinate < 2 ^ 32) coords.now }

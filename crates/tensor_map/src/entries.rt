@@ -53,6 +53,7 @@ impl Entries {
 
     /// Appends an entry. Refused for want of memory, the entries are as before.
     #[tactic(auto, unfolding(limits::specs::Limits::greatest_order))]
+    #[inline(always)]
     pub fn push(&mut self, coords: &[u64], v: u64) -> Result<(), AllocError>
         requires { length coords.now ≡ self.old.order }
         ensures order { self.new.order ≡ self.old.order }
@@ -181,6 +182,7 @@ impl Entries {
 }
 
 /// Raises the greatest coordinate of each mode to an entry's, where that is greater.
+#[inline(always)]
 fn raise(greatest: &mut [u64], coords: &[u64])
     requires { length coords.now ≤ length greatest.old }
     ensures { (mode : ℕ) → slice_index greatest.new mode ≡ max (slice_index coords.now mode) (slice_index greatest.old mode) }

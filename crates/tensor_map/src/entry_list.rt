@@ -142,6 +142,7 @@ impl EntryList {
     }
 
     /// Appends an entry. Refused for want of memory, the entries are as before.
+    #[inline(always)]
     pub(crate) fn push(&mut self, coords: &[u64], value: u64) -> Result<(), AllocError>
         requires { length coords.now ≡ self.old.order }
         ensures order { self.new.order ≡ self.old.order }
@@ -263,6 +264,7 @@ fn keep_nonzero<S: Semiring>(columns: &mut Columns)
 }
 
 /// Whether the coordinates are after those of the last entry.
+#[inline(always)]
 fn come_last(columns: &Columns, coords: &[u64]) -> bool
     requires { length coords.now ≡ columns.now.order }
     ensures { IsTrue result ↔ ComeLast columns.now.list coords.now }
@@ -271,6 +273,7 @@ fn come_last(columns: &Columns, coords: &[u64]) -> bool
 }
 
 /// Whether each coordinate fits 32 bits.
+#[inline(always)]
 fn are_narrow(coords: &[u64]) -> bool
     ensures { IsTrue result ↔ All (λ coordinate. coordinate < 2 ^ 32) coords.now }
 {

@@ -29,7 +29,7 @@ use Rattle.singleton_level.specs.Laws.{reserved, reserved_keeps, reserved_logs, 
 use Rattle.singleton_level.proofs.Handed.{held_words as singleton_words}
 use Rattle.singleton_level.proofs.Laws.{appended_keeps, edges_log}
 use Rattle.hashed_level.specs.Hashed as hashed
-use Rattle.hashed_level.specs.Slots.{empty_slot, place, Passes, Stops}
+use Rattle.hashed_level.specs.Slots.{Passes}
 use Rattle.hashed_level.proofs.Laws.{never_passes, stops_first}
 use Rattle.tensor_storage.specs.declared.level.StorageLevel.TheVariants.{Dense as OfDense, Compressed as OfCompressed}
 use Rattle.tensor_storage.specs.declared.level.StorageLevel.TheVariants.{Singleton as OfSingleton, Hashed as OfHashed}

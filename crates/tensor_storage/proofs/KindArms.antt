@@ -1,5 +1,5 @@
 -- Facts about a level of any kind: what holds it if nothing is appended to it, and which level is dense.
-use Rattle.std.specs.Prelude.{◌≡◌, ℕ, false, refl}
+use Rattle.std.specs.Prelude.{◌≡◌, ℕ, false}
 use Rattle.std.proofs.Common.{◌∙◌, sym, ap}
 use Rattle.kernel_code.specs.Arrays.{same_arr}
 use Rattle.kernel_code.specs.declared.syntax.Arr.{Arr}

@@ -22,6 +22,7 @@ pub mod Located
 pub mod OneKind
 pub mod PackSteps
 pub mod Paths
+pub mod PlaceSteps
 pub mod RouteLaws
 pub mod Searches
 pub mod Sorting

@@ -21,7 +21,6 @@ use Rattle.level_rows.specs.Stacks.{Column, last_place, last_positions}
 use Rattle.level_rows.specs.Tables.{Increase, ShareBy, AreRowsOf}
 use Rattle.level_rows.specs.Growing.{column_of, Growing, IsNext, Grows}
 use Rattle.level_rows.proofs.Growing.{levels_grow}
-use Rattle.level_rows.proofs.RowLaws.{begun_all}
 use Rattle.format_spec.specs.declared.format.FormatLevel.{FormatLevel}
 use Rattle.format_spec.specs.Formats.{letters_of, Chained, InsertedBelowUnordered, IsFormat}
 use Rattle.tensor_storage.specs.Storages.{in_level_order}
@@ -30,11 +29,11 @@ use Rattle.tensor_storage.specs.Chains.{chain_length}
 use Rattle.tensor_storage.specs.Counts.{different, greatest_below, positions_at, positions_from, positions_of, last_of, AreFew}
 use Rattle.tensor_storage.specs.New.{IsNew}
 use Rattle.tensor_storage.specs.Packed.{MayFollow, ArePacked, IsFirstAbove}
-use Rattle.tensor_storage.specs.Tables.{Table, AreBelow, begins_at, keys_of}
+use Rattle.tensor_storage.specs.Tables.{Table, AreBelow, keys_of}
 use Rattle.tensor_storage.proofs.Chains.{chain_of_unique, chain_of_groups, chain_some, letter_left}
 use Rattle.tensor_storage.proofs.Counts.{begun_is, most_is}
 use Rattle.tensor_storage.proofs.Paths.{coordinate_left}
-use Rattle.tensor_storage.proofs.Tables.{apart, both, joined, rows_are, all_apart, all_begin_apart}
+use Rattle.tensor_storage.proofs.Tables.{apart, both, joined, rows_are}
 
 one_more : {A B : Type 0} (f : A → B) (xs : List A) (x : A) (y : B) (rest left all : List B) → map f xs ++ left ≡ all → left ≡ y ∷ rest
     → f x ≡ y → map f (xs ++ x ∷ []) ++ rest ≡ all
@@ -422,17 +421,3 @@ module _ {L : Type 0} (means : Meaning L) (laws : Laws means) (format : List For
       counts_long : length (counts_of p.columns) ≡ length levels
       counts_long = length-map p.columns (λ column. column.positions)
           ∙ as_many_built means table (letters_of format) levels p.columns 0 (λ i. 0) 1 p.built
-
--- where rows that all differ are appended to a level that tells them apart, each row's place is its number
-pub numbered_after : {L : Type 0} (means : Meaning L) (table : Table) (order level through parents needed most count size : ℕ)
-    (ps places : List ℕ) (old new : L) (letter : Letter) → Increase table.coords order table.count → order ≤ through
-    → IsNew means letter size old → (capabilities letter).append ≡ true
-    → FillAnswer means parents (rows_at (keys_of table level through) ps) needed most ps places old new (Ok count)
-    → (i : ℕ) → i < table.count → slice_index places i ≡ i
-numbered_after means table order level through parents needed most count size ps places old new letter up far is able e i h =
-    let fills = e.2 in
-    let appends = fills.appended (ap (λ k. (capabilities k).append) is.kind ∙ able) in
-    let all = begun_all (begins_at table.coords through) (suc i)
-    (λ j l. all_begin_apart table through (all_apart table order through up far) j (omega (arith, h, l))) in
-    let own : place (begins_at table.coords through) i ≡ i = omega (arith, all) in
-    appends.numbered i h ∙ own

@@ -11,6 +11,7 @@ pub mod Laws
 pub mod Levels
 pub mod New
 pub mod Packed
+pub mod Places
 pub mod Routes
 pub mod Standing
 pub mod Stands

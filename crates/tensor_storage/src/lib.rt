@@ -13,6 +13,7 @@ mod kinds;
 mod level;
 mod listing;
 mod packing;
+mod places;
 mod reading;
 mod table;
 mod tensor;

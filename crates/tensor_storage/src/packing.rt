@@ -1,25 +1,28 @@
-ghost use Rattle.std.specs.Prelude.{◌≡◌, ◌≢◌, ◌<◌, ◌≤◌, ◌+◌, ◌^◌, ℕ, All, length, drop, replicate, slice_index, true};
+ghost use Rattle.std.specs.Prelude.{◌≡◌, ◌≢◌, ◌<◌, ◌≤◌, ◌+◌, ◌^◌, ℕ, List, All, length, drop, replicate, slice_index, true, OnOk};
+ghost use Rattle.std.specs.List.{range_with_len};
 ghost use Rattle.std.specs.Prelude.{IfOk, MatchResult};
 ghost use Rattle.limits.specs.Limits.{greatest_position_count};
 ghost use Rattle.format_spec.specs.Formats.{letters_of, IsFormat};
-ghost use Rattle.level_core.specs.Kinds.{capabilities};
+ghost use Rattle.level_core.specs.Kinds.{capabilities, properties};
 ghost use Rattle.level_rows.specs.Rows.{rows_at};
-ghost use Rattle.level_rows.specs.Filling.{AreNeeded, MayFill, FillAnswer};
+ghost use Rattle.level_rows.specs.Filling.{AreNeeded, MayFill, FillAnswer, places_once};
 ghost use Rattle.level_rows.specs.Tables.{Increase};
 ghost use Rattle.level_rows.specs.Values.{StoresValues};
 ghost use Rattle.tensor_storage.specs.Counts.{positions_of};
 ghost use Rattle.tensor_storage.specs.Packed.{ArePacked, IsRefusal};
+ghost use Rattle.tensor_storage.specs.Places.{places_in, PlacedAnswer};
 ghost use Rattle.tensor_storage.specs.Stands.{IsPacked};
 ghost use Rattle.tensor_storage.specs.Storages.{IsStorage, storage_of, in_level_order};
-ghost use Rattle.tensor_storage.specs.Tables.{AreBelow, keys_of};
+ghost use Rattle.tensor_storage.specs.Tables.{AreBelow, keys_of, level_column};
 ghost use Rattle.tensor_storage.specs.Levels.{meaning};
 
 use crate::kinds::chain_end;
 use crate::level::{StorageLevel, new_level};
+use crate::places::{Places, are_first, are_own, kept, lent_places, repeated, taken_once, told};
 use crate::table::{ColumnRows, LevelRows, RowTable};
 use format_spec::FormatLevel;
-use level_core::{Letter, caps_of};
-use level_rows::{FillRefusal, fill_level, store_values};
+use level_core::{Letter, LevelKind, caps_of};
+use level_rows::{FillRefusal, fill_first, fill_level, fill_numbered, fill_once, store_values};
 use numbers::Semiring;
 use std::alloc::{AllocError, Global};
 use trees::Items;
@@ -33,13 +36,19 @@ pub enum PackRefusal {
     SizeLimit { level: usize, count: u128 },
 }
 
-/// The levels of a format with the rows of a table, how many positions the last one has, and whether it is known that each row's is its
-/// own number.
+/// The levels of a format with the rows of a table, and how many positions the last one has and each row's.
 #[derive(Drop)]
-struct PackedLevels {
+struct PackedLevels<'a> {
     levels: Items<StorageLevel>,
     positions: u64,
-    numbered: bool,
+    places: Places<'a>,
+}
+
+/// How many positions a level has, and each row's.
+#[derive(Drop)]
+struct Filled<'a> {
+    count: u64,
+    places: Places<'a>,
 }
 
 /// Whether rows that differ at the first `levels` have their own numbers as positions at a level of this kind, where they begin positions
@@ -51,6 +60,18 @@ fn numbers_rows(letter: Letter, through: usize, levels: usize) -> bool
         return false;
     }
     caps_of(letter).append
+}
+
+/// Whether it is known of a level, the last of so many, that rows have their own numbers as positions there: at any other the next level
+/// asks for their list.
+fn numbers_last(letter: Letter, level: usize, through: usize, levels: usize) -> bool
+    requires { level < through }
+    ensures { result ≡ true → (levels ≤ through) × ((capabilities letter).append ≡ true) }
+{
+    if level + 1 < levels {
+        return false;
+    }
+    numbers_rows(letter, through, levels)
 }
 
 /// Gives a new level its rows, below so many parents, as `fill_level` does. The rows increase by so many `levels`. Where the table has
@@ -92,30 +113,195 @@ fn fill_stored<T: RowTable>(
     }
 }
 
-/// Packs the levels of a format one below another. `sizes` has the ranges of the modes; `places` has a zero for each row, and then
-/// its position at the last level.
-fn pack_levels<T: RowTable>(
+/// Gives a new level its rows, as `fill_level` does, with the positions of all rows in a list.
+fn fill_told<'a, T: RowTable>(
+    alloc: Global,
+    stored: &mut StorageLevel,
+    size: u64,
+    parents: u64,
+    rows: &LevelRows<'a, T>,
+    levels: usize,
+    places: Places<'a>,
+) -> Result<Filled<'a>, FillRefusal>
+    requires size { size ≡ meaning.size stored.old }
+    requires range { size ≤ greatest_position_count }
+    requires parents { parents ≤ greatest_position_count }
+    requires rows { MayFill meaning parents
+        (rows_at (keys_of (T.table rows.now.table.now) rows.now.level rows.now.through) (places_in places)) stored.old }
+    requires many { length (places_in places) ≡ (T.table rows.now.table.now).count }
+    requires among { rows.now.level < rows.now.through }
+    requires order { Increase (T.table rows.now.table.now).coords levels (T.table rows.now.table.now).count }
+    ensures { PlacedAnswer parents
+        (rows_at (keys_of (T.table rows.now.table.now) rows.now.level rows.now.through) (places_in places.entry))
+        (places_in places.entry) stored.old stored.new result }
+{
+    let Ok(mut list) = told(alloc, places) else {
+        return Err(FillRefusal::Memory);
+    };
+    let own = numbers_last(stored.letter(), rows.level, rows.through, levels);
+    match fill_stored(stored, size, parents, rows, levels, &mut list) {
+        Ok(count) => Ok(Filled {
+            count,
+            places: kept(own, list),
+        }),
+        Err(refusal) => Err(refusal),
+    }
+}
+
+/// Gives a new level that is appended to its rows, of which each begins a position, where their coordinates and the positions of their
+/// parents stand in columns: no position is told.
+fn fill_apart<T: RowTable>(
+    stored: &mut StorageLevel,
+    parents: u64,
+    rows: &LevelRows<T>,
+    levels: usize,
+    column: &[u32],
+    above: &[u32],
+) -> Result<u64, FillRefusal>
+    requires parents { parents ≤ greatest_position_count }
+    requires rows { MayFill meaning parents
+        (rows_at (keys_of (T.table rows.now.table.now) rows.now.level rows.now.through) above.now) stored.old }
+    requires many { length above.now ≡ (T.table rows.now.table.now).count }
+    requires among { rows.now.level < rows.now.through }
+    requires order { Increase (T.table rows.now.table.now).coords levels (T.table rows.now.table.now).count }
+    requires apart { levels ≤ rows.now.through }
+    requires append { (capabilities (meaning.kind stored.old)).append ≡ true }
+    requires column { column.now ≡ level_column (T.table rows.now.table.now) rows.now.level }
+    ensures { (needed : ℕ) × (most : ℕ) × (after : List ℕ)
+        × AreNeeded (meaning.kind stored.old) (meaning.size stored.old) parents
+        (rows_at (keys_of (T.table rows.now.table.now) rows.now.level rows.now.through) above.now) needed most
+        × FillAnswer meaning parents (rows_at (keys_of (T.table rows.now.table.now) rows.now.level rows.now.through) above.now)
+        needed most above.now after stored.old stored.new result
+        × OnOk result (after ≡ range_with_len 0 (T.table rows.now.table.now).count) }
+{
+    let narrow = ColumnRows {
+        table: rows.table,
+        level: rows.level,
+        through: rows.through,
+        column,
+        all_begin: true,
+    };
+    fill_numbered(stored, parents, &narrow, column, above)
+}
+
+/// Gives a new level that is appended to its rows, of which each begins a position, where their coordinates stand in a column: at once,
+/// below the first parent or, where `each` says so, each row below its own.
+fn fill_whole<T: RowTable>(
+    stored: &mut StorageLevel,
+    parents: u64,
+    rows: &LevelRows<T>,
+    levels: usize,
+    column: &[u32],
+    each: bool,
+) -> Result<u64, FillRefusal>
+    requires parents { parents ≤ greatest_position_count }
+    requires each { each ≡ true → (properties (meaning.kind stored.old)).branchless ≡ true }
+    requires rows { MayFill meaning parents
+        (rows_at (keys_of (T.table rows.now.table.now) rows.now.level rows.now.through)
+        (places_once each (T.table rows.now.table.now).count)) stored.old }
+    requires among { rows.now.level < rows.now.through }
+    requires order { Increase (T.table rows.now.table.now).coords levels (T.table rows.now.table.now).count }
+    requires apart { levels ≤ rows.now.through }
+    requires append { (capabilities (meaning.kind stored.old)).append ≡ true }
+    requires column { column.now ≡ level_column (T.table rows.now.table.now) rows.now.level }
+    ensures { (needed : ℕ) × (most : ℕ) × (after : List ℕ)
+        × AreNeeded (meaning.kind stored.old) (meaning.size stored.old) parents
+        (rows_at (keys_of (T.table rows.now.table.now) rows.now.level rows.now.through)
+        (places_once each (T.table rows.now.table.now).count)) needed most
+        × FillAnswer meaning parents (rows_at (keys_of (T.table rows.now.table.now) rows.now.level rows.now.through)
+        (places_once each (T.table rows.now.table.now).count))
+        needed most (places_once each (T.table rows.now.table.now).count) after stored.old stored.new result
+        × OnOk result (after ≡ range_with_len 0 (T.table rows.now.table.now).count) }
+{
+    let narrow = ColumnRows {
+        table: rows.table,
+        level: rows.level,
+        through: rows.through,
+        column,
+        all_begin: true,
+    };
+    fill_once(stored, parents, &narrow, column, each)
+}
+
+/// Gives a new level its rows, as `fill_level` does, and tells no position where it follows from what stands in memory already: that of a
+/// row at a dense level on top is its coordinate, and one that is appended has its own number where each row begins a position.
+fn fill_placed<'a, T: RowTable>(
+    alloc: Global,
+    stored: &mut StorageLevel,
+    size: u64,
+    parents: u64,
+    rows: &LevelRows<'a, T>,
+    levels: usize,
+    places: Places<'a>,
+) -> Result<Filled<'a>, FillRefusal>
+    requires size { size ≡ meaning.size stored.old }
+    requires range { size ≤ greatest_position_count }
+    requires parents { parents ≤ greatest_position_count }
+    requires rows { MayFill meaning parents
+        (rows_at (keys_of (T.table rows.now.table.now) rows.now.level rows.now.through) (places_in places)) stored.old }
+    requires many { length (places_in places) ≡ (T.table rows.now.table.now).count }
+    requires among { rows.now.level < rows.now.through }
+    requires order { Increase (T.table rows.now.table.now).coords levels (T.table rows.now.table.now).count }
+    ensures { PlacedAnswer parents
+        (rows_at (keys_of (T.table rows.now.table.now) rows.now.level rows.now.through) (places_in places.entry))
+        (places_in places.entry) stored.old stored.new result }
+{
+    let Some(column) = rows.table.column(rows.level) else {
+        return fill_told(alloc, stored, size, parents, rows, levels, places);
+    };
+    if are_first(&places) && stored.props().full {
+        return match fill_first(stored, size, parents, rows, column) {
+            Ok(count) => Ok(Filled {
+                count,
+                places: Places::Column(column),
+            }),
+            Err(refusal) => Err(refusal),
+        };
+    }
+    if !numbers_rows(stored.letter(), rows.through, levels) {
+        return fill_told(alloc, stored, size, parents, rows, levels, places);
+    }
+    if let Some(each) = taken_once(&places, stored.props().branchless) {
+        return match fill_whole(stored, parents, rows, levels, column, each) {
+            Ok(count) => Ok(Filled {
+                count,
+                places: Places::Own(column.len()),
+            }),
+            Err(refusal) => Err(refusal),
+        };
+    }
+    let Some(above) = lent_places(&places) else {
+        return fill_told(alloc, stored, size, parents, rows, levels, places);
+    };
+    match fill_apart(stored, parents, rows, levels, column, above) {
+        Ok(count) => Ok(Filled {
+            count,
+            places: Places::Own(above.len()),
+        }),
+        Err(refusal) => Err(refusal),
+    }
+}
+
+/// Packs the levels of a format one below another, and tells each row's position at the last level. `ranges` has the ranges of the modes.
+fn pack_levels<'a, T: RowTable>(
     alloc: Global,
     format: &[FormatLevel],
     ranges: &[u64],
-    table: &T,
-    places: &mut [u64],
-) -> Result<PackedLevels, PackRefusal>
+    table: &'a T,
+) -> Result<PackedLevels<'a>, PackRefusal>
     requires format { IsFormat format.now }
     requires ranges { length ranges.now ≡ length format.now }
     requires small { All (λ range. range ≤ greatest_position_count) ranges.now }
     requires order { Increase (T.table table.now).coords (length format.now) (T.table table.now).count }
     requires below { AreBelow (T.table table.now) (in_level_order format.now ranges.now) }
-    requires places { places.old ≡ replicate (T.table table.now).count 0 }
     ensures { MatchResult result
         (λ packed. ArePacked meaning (letters_of format.now) (in_level_order format.now ranges.now) (T.table table.now)
-        (length format.now) packed.levels places.new packed.positions × (packed.positions ≤ greatest_position_count)
-        × (packed.numbered ≡ true → (i : ℕ) → i < (T.table table.now).count → slice_index places.new i ≡ i))
+        (length format.now) packed.levels (places_in packed.places) packed.positions × (packed.positions ≤ greatest_position_count))
         (IsRefusal (positions_of format.now ranges.now (T.table table.now))) }
 {
     let mut levels = Items::new(alloc);
     let mut parents = 1;
-    let mut numbered = false;
+    let mut places = Places::First(table.count());
     for level in 0..format.len() {
         let size = ranges[format[level].mode];
         let Ok(mut stored) = new_level(alloc, format[level].letter, size) else {
@@ -126,8 +312,19 @@ fn pack_levels<T: RowTable>(
             level,
             through: chain_end(format, level),
         };
-        match fill_stored(&mut stored, size, parents, &rows, format.len(), places) {
-            Ok(count) => parents = count,
+        match fill_placed(
+            alloc,
+            &mut stored,
+            size,
+            parents,
+            &rows,
+            format.len(),
+            places,
+        ) {
+            Ok(filled) => {
+                parents = filled.count;
+                places = filled.places;
+            }
             Err(FillRefusal::Memory) => return Err(PackRefusal::Memory),
             Err(FillRefusal::TooMany(count)) => {
                 return Err(PackRefusal::SizeLimit {
@@ -136,7 +333,6 @@ fn pack_levels<T: RowTable>(
                 });
             }
         }
-        numbered = numbers_rows(format[level].letter, rows.through, format.len());
         let Ok(()) = levels.push(stored) else {
             return Err(PackRefusal::Memory);
         };
@@ -144,16 +340,8 @@ fn pack_levels<T: RowTable>(
     Ok(PackedLevels {
         levels,
         positions: parents,
-        numbered,
+        places,
     })
-}
-
-/// So many times a value. Refused for want of memory alone.
-fn repeated(alloc: Global, value: u64, count: usize) -> Result<Vec<u64>, AllocError>
-    ensures { IfOk result (λ values. values.items ≡ replicate count value) }
-{
-    let values = vec![in alloc; value; count]?;
-    Ok(values)
 }
 
 /// The levels of a format with the rows of a table, and the values at the positions of the last one.
@@ -188,32 +376,49 @@ fn copy_of(alloc: Global, words: &[u64]) -> Result<Items<u64>, AllocError>
     Ok(copy)
 }
 
-/// The values of rows at their places, of so many positions, and the zero of `S` at any other. Where it is known that each place is its
-/// row's number, and the table has the values next to one another, they are copied at once. Refused for want of memory alone.
+/// The values of rows at their places, of so many positions, and the zero of `S` at any other. Refused for want of memory alone.
 fn values_at<S: Semiring, T: RowTable>(
     alloc: Global,
     table: &T,
     places: &[u64],
     positions: u64,
-    numbered: bool,
 ) -> Result<Items<u64>, AllocError>
     requires many { length places.now ≡ (T.table table.now).count }
     requires within { (i : ℕ) → i < (T.table table.now).count → slice_index places.now i < positions }
     requires apart { (i j : ℕ) → i < j → j < (T.table table.now).count → slice_index places.now i ≢ slice_index places.now j }
-    requires numbered { numbered ≡ true → (i : ℕ) → i < (T.table table.now).count → slice_index places.now i ≡ i }
     ensures stored { IfOk result (λ values. StoresValues (T.table table.now).count (slice_index places.now) (T.table table.now).values
         (replicate positions S.arithmetic.zero) values) }
     ensures words { IfOk result (λ values. All (λ v. v < 2 ^ 64) values) }
 {
-    if numbered && table.count() as u64 == positions {
+    let mut values = repeated(alloc, S::zero(), positions as usize)?;
+    store_rows(table, places, &mut values);
+    Ok(Items::from_vec(values))
+}
+
+/// The values of rows as `values_at` answers them. Where it is known that each place is its row's number, and the table has the values
+/// next to one another, they are copied at once.
+fn values_of<S: Semiring, T: RowTable>(
+    alloc: Global,
+    table: &T,
+    places: Places<'_>,
+    positions: u64,
+) -> Result<Items<u64>, AllocError>
+    requires many { length (places_in places) ≡ (T.table table.now).count }
+    requires within { (i : ℕ) → i < (T.table table.now).count → slice_index (places_in places) i < positions }
+    requires apart { (i j : ℕ) → i < j → j < (T.table table.now).count → slice_index (places_in places) i ≢ slice_index (places_in places) j }
+    ensures stored { IfOk result (λ values. StoresValues (T.table table.now).count (slice_index (places_in places.entry))
+        (T.table table.now).values (replicate positions S.arithmetic.zero) values) }
+    ensures words { IfOk result (λ values. All (λ v. v < 2 ^ 64) values) }
+{
+    if are_own(&places) && table.count() as u64 == positions {
         if let Some(lent) = table.values() {
             let copied = copy_of(alloc, lent)?;
             return Ok(copied);
         }
     }
-    let mut values = repeated(alloc, S::zero(), positions as usize)?;
-    store_rows(table, places, &mut values);
-    Ok(Items::from_vec(values))
+    let list = told(alloc, places)?;
+    let values = values_at::<S, T>(alloc, table, &list, positions)?;
+    Ok(values)
 }
 
 /// Packs the rows of a table, which increase in the order of the levels, with the zero of `S` for every other value. `ranges`
@@ -235,19 +440,16 @@ pub(crate) fn pack_table<S: Semiring, T: RowTable>(
         (IsRefusal (positions_of format.now ranges.now (T.table table.now))) }
     ensures words { IfOk result (λ packed. All (λ v. v < 2 ^ 64) packed.values) }
 {
-    let Ok(mut places) = repeated(alloc, 0, table.count()) else {
-        return Err(PackRefusal::Memory);
-    };
-    let packed = match pack_levels(alloc, format, ranges, table, &mut places) {
+    let packed = match pack_levels(alloc, format, ranges, table) {
         Ok(packed) => packed,
         Err(refusal) => return Err(refusal),
     };
     let PackedLevels {
         levels,
         positions,
-        numbered,
+        places,
     } = packed;
-    let Ok(values) = values_at::<S, T>(alloc, table, &places, positions, numbered) else {
+    let Ok(values) = values_of::<S, T>(alloc, table, places, positions) else {
         return Err(PackRefusal::Memory);
     };
     Ok(PackedTable { levels, values })

@@ -43,6 +43,7 @@ pub(crate) fn take_line(
 
 /// Takes a line as `take_line` does. Where `value` is told, it is that of the line's last token, and `numbers` are those of the others:
 /// coordinates of the entry take their place.
+#[inline(always)]
 pub(crate) fn take_read_line(
     line: &[u8],
     value: Option<i64>,
@@ -66,7 +67,11 @@ pub(crate) fn take_read_line(
             };
         }
     }
-    take_line(line, number, signed, entries)
+    // A fault of its own, so that lines that are read above needn't look for one.
+    match take_line(line, number, signed, entries) {
+        Ok(()) => Ok(()),
+        Err(fault) => Err(fault),
+    }
 }
 
 /// Reads a line: the coordinates of an entry into `coords`, and its value. None where the line is skipped.

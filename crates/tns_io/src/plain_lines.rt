@@ -8,6 +8,7 @@ use crate::entry_lines::word;
 
 /// The value, as a word, of an entry whose line has these numbers, counted from 1, and this value behind them; its coordinates, counted
 /// from 0, take the place of the numbers. None where a number is no coordinate, or values have no sign and this one is below 0.
+#[inline(always)]
 pub(crate) fn entry_of_numbers(value: i64, signed: bool, numbers: &mut [u64]) -> Option<u64>
     ensures { IfSome result (λ word. (tokens : List (List ℕ)) → AreNumbers tokens numbers.old value
         → IsEntryOf signed (length numbers.old) tokens numbers.new (Ok word)) }
@@ -23,6 +24,7 @@ pub(crate) fn entry_of_numbers(value: i64, signed: bool, numbers: &mut [u64]) ->
 }
 
 /// Counts numbers from 0 that were counted from 1, and answers whether each is such as a file may have.
+#[inline(always)]
 fn count_from_zero(numbers: &mut [u64]) -> bool
     ensures { IsTrue result → CountFromZero numbers.old numbers.new }
 {

@@ -1,5 +1,5 @@
 // Reads `.tns` files piece by piece.
-ghost use Rattle.std.specs.Prelude.{◌≡◌, ◌+◌, ◌++◌, false, true, min, IfErr, OnOk, MatchResult};
+ghost use Rattle.std.specs.Prelude.{◌≡◌, ◌+◌, ◌++◌, false, true, length, min, IfErr, OnOk, MatchResult};
 ghost use Rattle.tns_io.specs.ReadSoFar.{IsReadSoFar, FailsPiece, is_want};
 ghost use Rattle.tns_io.specs.TnsReader.{IsRead, Refuses, read_to};
 
@@ -117,7 +117,9 @@ fn answer(fault: Option<FileFault>) -> Result<(), AllocError>
     }
 }
 
-/// Reads the lines that end in a piece: each that stands whole in it where it stands.
+/// Reads the lines that end in a piece. A matrix's are read by code of their own, whose numbers are two wherever they are gone through.
+/// This is a function apart, so that what its callers keep takes none of its registers.
+#[inline(never)]
 #[tactic(auto, unfolding(limits::specs::Limits::greatest_order))]
 fn read_lines(
     lines: &mut LineReader,
@@ -131,10 +133,32 @@ fn read_lines(
     ensures read { OnOk result (IsReadSoFar signed entries.new.order lines.new.text entries.new.list) }
     ensures fails { IfErr result (FailsPiece signed entries.old.order lines.old.text piece.now) }
 {
+    let order = entries.order();
+    if order == 2 {
+        return read_lines_with(lines, signed, entries, piece, &mut [0; 2]);
+    }
     let mut numbers = [0; GREATEST_ORDER];
+    read_lines_with(lines, signed, entries, piece, &mut numbers[..order])
+}
+
+/// Reads the lines that end in a piece, each that stands whole in it where it stands, with room for a line's coordinates.
+#[inline(always)]
+fn read_lines_with(
+    lines: &mut LineReader,
+    signed: bool,
+    entries: &mut Entries,
+    piece: &[u8],
+    coords: &mut [u64],
+) -> Result<(), FileFault>
+    requires long { length coords.old ≡ entries.old.order }
+    requires read { IsReadSoFar signed entries.old.order lines.old.text entries.old.list }
+    ensures order { entries.new.order ≡ entries.old.order }
+    ensures text { OnOk result (lines.new.text ≡ lines.old.text ++ piece.now) }
+    ensures read { OnOk result (IsReadSoFar signed entries.new.order lines.new.text entries.new.list) }
+    ensures fails { IfErr result (FailsPiece signed entries.old.order lines.old.text piece.now) }
+{
     let mut rest = piece;
     loop {
-        let coords = &mut numbers[..entries.order()];
         if let Some((taken, line, value)) = lines.take_numbers(rest, coords) {
             match take_read_line(line, value, coords, lines.number(), signed, entries) {
                 Ok(()) => rest = rest.split_at(taken).1,

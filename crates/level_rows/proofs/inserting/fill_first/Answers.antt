@@ -1,4 +1,4 @@
-use Rattle.std.specs.Prelude.{◌≡◌, ◌*◌, ◌<◌, ◌≤◌, replicate, refl}
+use Rattle.std.specs.Prelude.{◌*◌, ◌<◌, ◌≤◌, replicate, refl}
 use Rattle.std.proofs.Common.{arith}
 use Rattle.limits.specs.Limits.{greatest_position_count}
 use Rattle.level_rows.proofs.FullLoop.{first_needed, first_filled}

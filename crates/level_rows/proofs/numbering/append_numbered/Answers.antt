@@ -1,4 +1,4 @@
-use Rattle.std.specs.Prelude.{◌≡◌, ◌≤◌, ◌<◌, ◌-◌, ℕ, length, take, drop, slice_index, nat_lt, refl}
+use Rattle.std.specs.Prelude.{◌≡◌, ◌≤◌, ◌<◌, ◌-◌, take, drop, slice_index, nat_lt, refl}
 use Rattle.std.proofs.Common.{ap, subst, arith}
 use Rattle.level_rows.specs.Rows.{rows_at}
 use Rattle.level_rows.proofs.AppendLoop.{Filling, turned_to, may_close, may_finish_it, appends}

@@ -8,13 +8,11 @@ use Rattle.tensor_map.proofs.OrderLaws.{compared_as}
 use Rattle.tensor_storage.proofs.AppendSteps.{increasing_from, is_less}
 use Rattle.tensor_storage.proofs.listing.are_increasing.Goals as goal
 
--- the entries that were compared
-before_next : (c : goal.Else-ne) → IsBefore c.as_slice.result.now c.as_slice-in-loop-next.result.now
-before_next c = compared_as c.as_slice.result.now c.as_slice-in-loop-next.result.now Less
-    (sym c.cmp.ensures ∙ is_less c.cmp.result (sym c.ne.ensures ∙ c.if-ne.false))
-
 pub loop-next-preserved : goal.loop-next-preserved
-loop-next-preserved c = λ k d less. by_order k d less (before_next c) (cases_lt (suc k) c.loop-next.next)
+loop-next-preserved c = λ k d less. by_order k d less
+    (compared_as c.as_slice.result.now c.as_slice-in-loop-next.result.now Less
+    (sym c.cmp.ensures ∙ is_less c.cmp.result (sym c.ne.ensures ∙ c.if-ne.false)))
+    (cases_lt (suc k) c.loop-next.next)
   where
     by_order : (k : ℕ) (d : Entry) → suc k < c.loop-next.next + 1 → IsBefore c.as_slice.result.now c.as_slice-in-loop-next.result.now
         → (suc k < c.loop-next.next) ⊎ (c.loop-next.next ≤ suc k)

@@ -1,14 +1,8 @@
 use Rattle.std.specs.Prelude.{◌≡◌, ℕ, List, length, replicate, slice_index}
 use Rattle.std.proofs.Common.{◌∙◌, ap, sym, subst, arith}
 use Rattle.level_rows.specs.Values.{StoresValues}
-use Rattle.tensor_storage.proofs.Standing.{copied_stored, written}
+use Rattle.tensor_storage.proofs.Standing.{written}
 use Rattle.tensor_storage.proofs.packing.values_at.Goals as goal
-
-pub returns-in-Some-clause-stored : goal.returns-in-Some-clause-stored
-returns-in-Some-clause-stored g c =
-    let many : c.args.positions ≡ (g.T.RowTable.table c.args.table.now).count = sym c.if-count-positions.true ∙ c.count.ensures in
-    copied_stored (g.T.RowTable.table c.args.table.now) c.args.places.now c.args.positions g.S.Semiring.arithmetic.zero c.in-Some.lent.now
-    c.in_ok-copied.copied many (c.requires.numbered c.if-numbered.true) c.in-Some.ensures c.in_ok-copied.ensures.same
 
 pub returns-clause-stored : goal.returns-clause-stored
 returns-clause-stored g c =

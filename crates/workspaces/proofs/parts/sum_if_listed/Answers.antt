@@ -15,7 +15,7 @@ loop-i-preserved g c =
     let below : c.loop-i.i < length entries = omega (arith, c.len-i-end.ensures.value) in
     let d : Entry = record { coords = coords; value = 0 } in
     let test : c.eq.result ≡ pointwise nat_eq (slice_index_or entries c.loop-i.i d).coords coords =
-    c.eq.ensures ∙ ap (λ xs. pointwise nat_eq xs coords) (c.as_slice.ensures.value ∙ c.coords.ensures.value d) in
+    c.eq.ensures ∙ ap (λ xs. pointwise nat_eq xs coords) (c.as_slice-in-loop-i.ensures.value ∙ c.coords.ensures.value d) in
     elim c.if-eq.branch [
       | then-eq w ↦ subst (TellsEntries a laws coords (take (c.loop-i.i + 1) entries)) (sym w.sum-is)
           (tells_more a laws coords entries c.loop-i.i d w.value.result c.loop-i.sum w.either-sum.result below (sym test ∙ w.if-eq.true)

@@ -1,6 +1,6 @@
 use Rattle.std.proofs.Common.{◌≡◌, length}
 use Rattle.tns_io.specs.ReadSoFar.{ReadsPiece}
-use Rattle.tns_io.proofs.tns_reader.read_lines.Given as goal
+use Rattle.tns_io.proofs.tns_reader.read_lines_with.Given as goal
 
 abbrev pub invariant-loop-taken : goal.invariant-loop-taken
 invariant-loop-taken l = record {

@@ -12,7 +12,7 @@ use Rattle.tns_io.specs.ReadSoFar.{Fails, FailsPiece, ReadsPiece, Takes}
 use Rattle.tns_io.specs.declared.file_fault.FileFault.TheVariants.{Line}
 use Rattle.text_lines.specs.declared.line_kind.LineKind.TheVariants.{LongLine}
 use Rattle.tns_io.proofs.EntryLaws.{piece_more, piece_fails, piece_too_long}
-use Rattle.tns_io.proofs.tns_reader.read_lines.Goals as goal
+use Rattle.tns_io.proofs.tns_reader.read_lines_with.Goals as goal
 
 line_told : (old new : LineReader) (piece : List ℕ) (taken : ℕ) (step : Step) → step ≡ Told → Feeds old new piece taken step
     → TellsLine old new
