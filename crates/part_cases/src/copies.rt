@@ -1,4 +1,7 @@
-//! Cases of copies: the objects in memory that never fail, and the real ones, through the same functions. And one run of each law.
+//! Cases of copies: the objects in memory that never fail, and the real ones, through the same functions, also where one call of the system
+//! fails. And one run of each law.
+use crate::counted::{Calls, CountedFiles};
+use crate::scripted::Scripted;
 use case_files::Answer;
 use outside::{
     Batch, FileSink, Folder, NeverFails, RealFolder, Refusal, Sink, StdSink, read_through,
@@ -81,6 +84,29 @@ fn tell_real_copy<R: Files + Print + AllocGlobal>(
     tell_removed(rt, answer, &mut folder)
 }
 
+/// A file of the system is written, read back and removed, where one call for it fails: what both answer, the bytes that were read, and
+/// how many calls there were.
+fn tell_counted<R: Files + AllocGlobal>(
+    rt: &R,
+    answer: &mut Answer,
+    case: Scripted<'_>,
+) -> Option<()> {
+    let calls = Calls::new(case.fails.first().copied()?);
+    let files = CountedFiles { rt, calls: &calls };
+    let mut folder = RealFolder::new(rt.alloc(), files);
+    answer.show(write_text(&mut folder, case.text));
+    let mut eaten = Vec::new(answer.alloc());
+    let outcome = read_through(&mut folder, NAME, 100, &mut eaten);
+    answer.tell(" ");
+    answer.show(outcome);
+    answer.tell(" ");
+    answer.quote(eaten.as_slice());
+    answer.tell(" calls ");
+    answer.show(calls.made());
+    let _removed = fs::remove_file(rt, NAME);
+    Some(())
+}
+
 /// Each claim is the contract of a call that does nothing.
 fn call_laws() {
     tensors_have_one_text();
@@ -92,11 +118,12 @@ pub(crate) fn tell<R: Files + Print + AllocGlobal>(
     rt: &R,
     answer: &mut Answer,
     keyword: &str,
-    text: &[u8],
+    case: Scripted<'_>,
 ) -> Option<()> {
     match keyword {
-        "copy" => tell_copy_in_memory(answer, text),
-        "copy_real" => tell_real_copy(rt, answer, text),
+        "copy" => tell_copy_in_memory(answer, case.text),
+        "copy_real" => tell_real_copy(rt, answer, case.text),
+        "copy_counted" => tell_counted(rt, answer, case),
         "laws" => {
             call_laws();
             answer.tell("called");

@@ -41,6 +41,7 @@
 //! batch 9000 fail 2 | a       The text is put 9,000 times into a batch over a sink.
 //! copy | abc                  A file is written, read back and given to a sink, over objects that never fail.
 //! copy_real | abc             So is a file of the system, over a longer one; its text is printed.
+//! copy_counted fail 2 | abc   A file of the system is written and read back, and this call for it fails, of all that are counted.
 //! laws |                      Each call that states a law.
 //! ```
 //!
@@ -85,6 +86,7 @@
 
 mod arithmetics;
 mod copies;
+mod counted;
 mod files;
 mod formats;
 mod forms;

@@ -82,7 +82,9 @@ impl<'a, R: Files + Print + AllocGlobal> Session<'a, R> {
         match keyword {
             "put" | "read" | "absent" | "write" | "batch" => streams::tell(answer, keyword, case),
             "tns" | "put_tns" | "mtx" => files::tell(answer, keyword, case),
-            "copy" | "copy_real" | "laws" => copies::tell(self.rt, answer, keyword, case.text),
+            "copy" | "copy_real" | "copy_counted" | "laws" => {
+                copies::tell(self.rt, answer, keyword, case)
+            }
             _ => tokens::tell(answer, keyword, case),
         }
     }
