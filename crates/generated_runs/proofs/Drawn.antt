@@ -1,5 +1,5 @@
 -- Entries drawn one after another, and what stands of them once they are sorted and added.
-use Rattle.std.specs.Prelude.{◌≡◌, ℕ, zero, suc, ◌+◌, ◌*◌, ◌%◌, ◌<◌, ◌≤◌, List, [], ◌∷◌, ◌++◌, length, All, slice_index_or, refl}
+use Rattle.std.specs.Prelude.{◌≡◌, ℕ, zero, suc, ◌+◌, ◌*◌, ◌%◌, ◌<◌, ◌≤◌, List, [], ◌∷◌, ◌++◌, length, All, slice_index_or}
 use Rattle.std.specs.List.{range_with_len}
 use Rattle.std.proofs.Common.{◌∙◌, ap, sym, subst, arith, inl, inr, add-zero, zero-add, lit≤}
 use Rattle.std.proofs.lemmas.List.Elements.{All-nil, All-cons, All-tail, All-map}
