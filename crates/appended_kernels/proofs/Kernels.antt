@@ -1,22 +1,19 @@
--- Kernels are right whose code appends the rows of a statement's loops to the result, and then ends its levels.
-use Rattle.std.specs.Prelude.{◌≡◌, ◌⊎◌, ℕ, suc, ◌+◌, ◌≤◌, ◌<◌, List, [], ◌++◌, length, Some, refl}
-use Rattle.std.specs.List.{list_any}
-use Rattle.std.proofs.Common.{◌∙◌, sym, ap, subst, arith, inl, inr}
+-- Kernels are right whose code appends rows to the result that have the sums of the loops' rows, and then ends its levels.
+use Rattle.std.specs.Prelude.{◌≡◌, ℕ, ◌+◌, ◌≤◌, ◌<◌, List, [], ◌++◌, length, Some, slice_get, refl}
+use Rattle.std.proofs.Common.{◌∙◌, sym, ap, subst, arith}
 use Rattle.std.proofs.lemmas.List.{length-map}
 use Rattle.numbers.specs.Arithmetic.{Arithmetic, Laws}
 use Rattle.kernel_code.specs.declared.syntax.Arr.{Arr}
-use Rattle.kernel_code.specs.declared.syntax.Arr.TheVariants.{Range, Values, Dimension, Ends, Coordinates, Width, Key, Sums}
-use Rattle.kernel_code.specs.declared.syntax.Arr.TheVariants.{ListCoordinates, ListPositions}
 use Rattle.kernel_code.specs.declared.syntax.Kernel.{Kernel}
 use Rattle.kernel_code.specs.declared.syntax.KStmt.{KStmt}
 use Rattle.kernel_code.specs.declared.syntax.LoopKind.{LoopKind}
+use Rattle.kernel_code.specs.declared.syntax.Place.{Place}
 use Rattle.kernel_code.specs.Does.{Does, Never}
-use Rattle.kernel_code.specs.Kernels.{KernelOutcome, Finished, GotStuck, TooLong, NotFinished, place_of, start_state}
+use Rattle.kernel_code.specs.Kernels.{KernelOutcome, Finished, GotStuck, TooLong, NotFinished, start_state}
 use Rattle.kernel_code.specs.Keeps.{Leaves, NoVariable, EveryArray, no_turns}
 use Rattle.kernel_code.specs.Meaning.{Setting, State}
 use Rattle.kernel_code.proofs.Does.{does_append, does_weaker}
 use Rattle.level_core.specs.Entries.{one}
-use Rattle.level_core.specs.Fragments.{IsOf, RefusedWithin}
 use Rattle.level_core.specs.Meaning.{Arrays}
 use Rattle.level_cursors.specs.Children.{ChildLeft}
 use Rattle.format_spec.specs.declared.format.FormatLevel.{FormatLevel}
@@ -26,7 +23,6 @@ use Rattle.iteration_graph.specs.Edges.{format_of}
 use Rattle.concrete_notation.specs.declared.concrete.Concrete.{Concrete}
 use Rattle.concrete_notation.specs.Contributions.{sums_of}
 use Rattle.concrete_notation.specs.Nests.{left_in_order}
-use Rattle.concrete_notation.proofs.Points.{neither}
 use Rattle.tensor_map.specs.declared.entries.Entry.{Entry}
 use Rattle.loop_code.specs.declared.loops.LoopCode.{LoopCode}
 use Rattle.lowering.specs.Lowered.{IsInOrder}
@@ -37,67 +33,50 @@ use Rattle.term_code.specs.Places.{StartsAt}
 use Rattle.kernel_correctness.specs.CodeEnds.{ToldOf}
 use Rattle.kernel_correctness.specs.Kernels.{IsRightOutcome, Ends as EndsSo}
 use Rattle.kernel_correctness.specs.Results.{LeavesResult}
-use Rattle.kernel_correctness.specs.Stores.{Store, IsStoreOf, IsGiven, told_by}
+use Rattle.kernel_correctness.specs.Stores.{Store, IsStoreOf, IsGiven, result_sizes, told_by}
 use Rattle.kernel_correctness.proofs.CodeEnds.{ends_as_code_does}
 use Rattle.kernel_correctness.proofs.Starts.{starts_on_store}
 use Rattle.operand_arrays.specs.Apart.{AreFrom}
 use Rattle.operand_arrays.specs.Operands.{stored_in}
 use Rattle.dense_results.specs.Kernels.{AreAtBase}
 use Rattle.dense_results.specs.Operands.{operands_in}
+use Rattle.level_rows.specs.Tables.{Increase}
+use Rattle.tensor_storage.specs.Tables.{AreBelow}
+use Rattle.sparse_kernels.proofs.Starts.{starts_empty}
+use Rattle.sparse_results.specs.Stored.{StandForRows}
 use Rattle.sparse_results.specs.Tables.{table_of}
-use Rattle.sparse_results.proofs.Growths.{levels_may_pass}
 use Rattle.sparse_results.proofs.Loops.{stores_have_small_levels}
 use Rattle.sparse_results.proofs.Stored.{standing_is_result}
-use Rattle.result_targets.specs.Beside.{beside_lists}
-use Rattle.result_targets.specs.Sinks.{Sink}
+use Rattle.term_code.specs.WorkspaceSinks as RowsOf
 use Rattle.result_targets.proofs.Scratch.{lists_kept, lists_start}
-use Rattle.row_orders.specs.Heads.{head as left_head, result_levels}
-use Rattle.row_orders.specs.Takings.{is_inside_sum, is_unordered}
+use Rattle.row_orders.specs.Heads.{result_levels}
 use Rattle.appended_results.specs.Begins.{Beginning, BeginsFirst}
 use Rattle.appended_results.specs.Ends.{Ending, EndsFirst}
 use Rattle.appended_results.specs.Heads.{IsHead, AreAppended}
 use Rattle.appended_results.specs.Results.{HoldsRows}
 use Rattle.appended_results.specs.declared.sink.AppendedSink.{AppendedSink}
-use Rattle.appended_results.specs.Sink.{appended_sink, letters_in, RefusesSome}
+use Rattle.appended_results.specs.Sink.{appended_sink, letters_in}
 use Rattle.appended_results.specs.Starts.{MayStart, StartsResult}
 use Rattle.appended_results.proofs.StartLaws.{sink_holds_none}
-use Rattle.appended_results.proofs.TableGrowths.{refused_passes}
-use Rattle.appended_kernels.specs.Kernels.{IsForAppended, AreAppendedLoops, IsSinkOf, AppendsFromTop, IsLevel, MakesNoMore}
-use Rattle.appended_kernels.specs.Kernels.{NeedsNoWorkspace, AppendedKernelsAreRight, behind}
+use Rattle.appended_kernels.specs.Ended.{AreRowsFor}
+use Rattle.appended_kernels.specs.Kernels.{IsForAppended, AreAppendedLoops, IsSinkOf, AppendsFromTop, HasAppended, HaveNoRows}
+use Rattle.appended_kernels.specs.Kernels.{MakesNoMore, MayBeRefused, RefusesOnly, AppendedKernelsAreRight, behind}
 use Rattle.appended_kernels.proofs.Ended.{ended_stands}
-use Rattle.appended_kernels.proofs.Rows.{read_store, are_rows, rows_for, names_rows, rows_taken}
+use Rattle.appended_kernels.proofs.Rows.{read_store, are_rows, rows_for}
 use Rattle.appended_kernels.proofs.Starts.{starts_result, starts_few, all_appended}
 use Rattle.appended_kernels.proofs.Tops.{at_top}
 
--- the arrays of a level, and the values, stand at levels
-of_level : (order level : ℕ) (b : Arr) → IsOf 0 level b ⊎ (b ≡ Values 0) → IsLevel (place_of order b)
-of_level order level b (inr is) = subst (λ x. IsLevel (place_of order x)) (sym is) tt
-of_level order level b (inl of) = by b of
-  where
-    by : (b : Arr) → IsOf 0 level b → IsLevel (place_of order b)
-    by Range h = absurd h
-    by (Values n) h = absurd h
-    by (Dimension n k) h = tt
-    by (Ends n k) h = tt
-    by (Coordinates n k) h = tt
-    by (Width n k) h = tt
-    by (Key n k) h = absurd h
-    by (Sums n) h = absurd h
-    by (ListCoordinates n) h = absurd h
-    by (ListPositions n) h = absurd h
-
-module _ (a : Arithmetic) (s : Statement) (store : Store) (most : LoopKind → ℕ) where
+module _ (a : Arithmetic) (s : Statement) (store : Store) (most : LoopKind → ℕ) (Allowed : Place → Type 0) where
   -- the state leaves the result, and few turns were made
   abbrev IsDone : State → Type 0
   IsDone t = LeavesResult a s (told_by a store) store t.arrays × ((j : LoopKind) → t.turns j ≤ most j)
 
   -- the growth may be refused
   abbrev MayBe : (LoopKind → ℕ) → Arr → ℕ → Type 0
-  MayBe turns b count = IsRightOutcome a s (told_by a store) store (TooLong (place_of (length store.format) b) count)
-      × IsLevel (place_of (length store.format) b)
+  MayBe turns b count = MayBeRefused a s store Allowed b count
 
   done_told : (o : KernelOutcome) → ToldOf (length store.format) IsDone MayBe o
-      → IsRightOutcome a s (told_by a store) store o × MakesNoMore most o × NeedsNoWorkspace o
+      → IsRightOutcome a s (told_by a store) store o × MakesNoMore most o × RefusesOnly Allowed o
   done_told (Finished arrays turns) h = (
     subst (LeavesResult a s (told_by a store) store) h.2 h.1.0,
     subst (λ (made : LoopKind → ℕ). (j : LoopKind) → made j ≤ most j) h.3 h.1.1,
@@ -106,11 +85,11 @@ module _ (a : Arithmetic) (s : Statement) (store : Store) (most : LoopKind → �
   done_told (GotStuck statement) h = absurd h
   done_told (TooLong place count) h =
       let r = h.1 in
-      (subst (λ p. IsRightOutcome a s (told_by a store) store (TooLong p count)) r.2 r.1.0, tt, subst IsLevel r.2 r.1.1)
+      (subst (λ p. IsRightOutcome a s (told_by a store) store (TooLong p count)) r.2 r.1.right, tt, subst Allowed r.2 r.1.allowed)
   done_told NotFinished h = absurd h
 
 module _ (a : Arithmetic) (laws : Laws a) (s : Statement) (formats : List (List FormatLevel)) (c : Concrete)
-    (in_order : IsInOrder s formats c) (f : IsForAppended s formats in_order.order) (loops : LoopCode)
+    (in_order : IsInOrder s formats c) (f : IsForAppended s formats) (loops : LoopCode)
     (l : AreAppendedLoops s formats c loops) (store : Store) (is : IsStoreOf s formats store)
     (k : AppendedSink) (fits : IsSinkOf a formats k) where
   abbrev keys : List ℕ
@@ -133,9 +112,7 @@ module _ (a : Arithmetic) (laws : Laws a) (s : Statement) (formats : List (List 
         appended =
             subst (λ (levels : List FormatLevel). AreAppended (letters_of levels))
             (ap (format_of formats) f.ordered.named.result ∙ sym is.format_is)
-            (all_appended (result_levels s formats)
-            (neither (list_any is_unordered (result_levels s formats)) (list_any (is_inside_sum s in_order.order) (left_head s formats))
-            f.none).0);
+            (all_appended (result_levels s formats) f.sorted);
         chained = is.format.chained;
         each = small.each;
         small = small.small;
@@ -144,10 +121,10 @@ module _ (a : Arithmetic) (laws : Laws a) (s : Statement) (formats : List (List 
 
   module _ (base : ℕ) (places : Places) (at : AreAtBase s base places) (from : AreFrom (behind k) places) (apart : behind k ≤ base)
       (top begin code end : List KStmt) (tops : StartsAt base top)
-      (begins : BeginsFirst (letters_in k) (length k.levels) k.base (length k.levels) begin) (list past : ℕ)
-      (appends : AppendsFromTop a k s formats places keys loops list past code) (free : ℕ)
+      (begins : BeginsFirst (letters_in k) (length k.levels) k.base (length k.levels) begin) (list past : ℕ) (spaces : List ℕ)
+      (Allowed : Place → Type 0) (appends : AppendsFromTop a k s formats places keys loops list past spaces Allowed code) (free : ℕ)
       (ends_code : EndsFirst (letters_in k) k.base free (length k.levels) end) (kernel : Kernel) (few : past ≤ kernel.lists)
-      (arrays : Arrays) (given : IsGiven a.zero store arrays) where
+      (declared : kernel.workspaces ≡ spaces) (arrays : Arrays) (given : IsGiven a.zero store arrays) where
     abbrev setting : Setting
     setting = record { arithmetic = a; workspaces = kernel.workspaces }
 
@@ -158,13 +135,13 @@ module _ (a : Arithmetic) (laws : Laws a) (s : Statement) (formats : List (List 
     most = appends.most store
 
     abbrev IsEnd : State → Type 0
-    IsEnd = IsDone a s store most
+    IsEnd = IsDone a s store most Allowed
 
     abbrev MayEnd : (LoopKind → ℕ) → Arr → ℕ → Type 0
-    MayEnd = MayBe a s store most
+    MayEnd = MayBe a s store most Allowed
 
-    abbrev sink : Sink AppendedSink
-    sink = beside_lists appended_sink list past
+    abbrev held : List Entry
+    held = appends.held store
 
     abbrev HasTop : State → Type 0
     HasTop t = Leaves NoVariable EveryArray base no_turns first t × ChildLeft base (Some (one 0)) t
@@ -176,7 +153,7 @@ module _ (a : Arithmetic) (laws : Laws a) (s : Statement) (formats : List (List 
 
     -- behind them: it holds all
     abbrev HoldsAll : State → Type 0
-    HoldsAll t = HoldsRows a (letters_of store.format) (in_level_order store.format store.ranges) k.head k.base k.zero rows t
+    HoldsAll t = HoldsRows a (letters_of store.format) (in_level_order store.format store.ranges) k.head k.base k.zero held t
         × ((j : LoopKind) → t.turns j ≤ most j)
 
     given_start : IsGiven a.zero store first.arrays
@@ -218,43 +195,38 @@ module _ (a : Arithmetic) (laws : Laws a) (s : Statement) (formats : List (List 
     -- ---- the loops append their rows
     from_begun : (t : State) → HasBegun t → Does setting code t HoldsAll MayEnd
     from_begun t h =
-        does_weaker setting code t (λ u. Leaves (appended_sink.mine k) (sink.kept k) appends.free most t u
-        × sink.holds k a store.ranges ([] ++ rows) u) HoldsAll
-        (RefusedWithin most t (sink.refused k store.ranges ([] ++ rows))) MayEnd
-        (appends.appends setting refl store (read_store a laws s formats c in_order f loops l store is)
-        (rows_taken a laws s formats c in_order f loops l store is k fits) t
-        (at_top a k s formats store (read_store a laws s formats c in_order f loops l store is) base places at from t given_here
-        h.2 h.3)
-        (lists_kept list past first t h.0 (lists_start kernel arrays list past few)))
-        appended (λ turns b count r. passed turns b count r.1)
+        does_weaker setting code t (HasAppended a k store.ranges held most t) HoldsAll MayEnd MayEnd
+        (appends.appends setting refl declared store is t
+        (at_top a k s formats store (read_store a laws s formats c in_order f loops l store is) base places at from t given_here h.2 h.3)
+        no_rows (lists_kept list past first t h.0 (lists_start kernel arrays list past few)))
+        appended (λ turns b count r. r)
       where
         given_here : IsGiven a.zero store t.arrays
         given_here = subst (IsGiven a.zero store) (λ i b. sym (h.0 b) i) given_start
 
-        appended : (u : State) → Leaves (appended_sink.mine k) (sink.kept k) appends.free most t u
-            × sink.holds k a store.ranges ([] ++ rows) u → HoldsAll u
+        no_rows : HaveNoRows spaces t
+        no_rows w keys there =
+            subst (RowsOf.HoldsRows w keys []) (λ i b. sym (h.0 b) i)
+            (starts_empty kernel arrays w keys (subst (λ ns. slice_get ns w ≡ Some keys) (sym declared) there))
+
+        appended : (u : State) → HasAppended a k store.ranges held most t u → HoldsAll u
         appended u p = (
           subst (λ (levels : List FormatLevel).
-              HoldsRows a (letters_of levels) (in_level_order levels store.ranges) k.head k.base k.zero rows u)
-              same_levels p.1.0,
-          (λ j. let made = p.0.turns j in let before = h.1 j in omega (arith, made, before)),
+              HoldsRows a (letters_of levels) (in_level_order levels store.ranges) k.head k.base k.zero held u)
+              same_levels p.held,
+          (λ j. let made = p.turns j in let before = h.1 j in omega (arith, made, before)),
         )
 
-        passed : (turns : LoopKind → ℕ) (b : Arr) (count : ℕ) → appended_sink.refused k store.ranges rows b count → MayEnd turns b count
-        passed turns b count r =
-            let here = subst (λ (levels : List FormatLevel).
-            RefusesSome (letters_of levels) (in_level_order levels store.ranges) k.head rows b count) same_levels r in
-            let p = refused_passes (letters_of store.format) (in_level_order store.format store.ranges) k.head rows b count here
-            (table_of (sums_of a rows)) (names_rows a laws s formats c in_order f loops l store is) in (
-              levels_may_pass a s store (sums_of a rows) (are_rows a laws s formats c in_order f loops l store is) p.level b count
-                  (record {
-                    inside = (let inside = p.inside in omega (arith, inside, letters_many));
-                    array = p.array;
-                    above = p.above;
-                    within = p.within;
-                  }),
-              of_level (length store.format) (suc p.level) b p.array,
-            )
+    held_for : AreRowsFor a store held
+    held_for =
+        let all = rows_for a laws s formats c in_order f loops l store is in
+        record {
+          format = all.format;
+          each = appends.each store is;
+          order =
+              subst (λ sums. Increase (table_of sums).coords (length store.format) (length sums)) (sym (appends.same store is)) all.order;
+          below = subst (λ sums. AreBelow (table_of sums) (result_sizes store)) (sym (appends.same store is)) all.below;
+        }
 
     -- ---- the levels are ended
     from_loops : (t : State) → HoldsAll t → Does setting end t IsEnd MayEnd
@@ -274,8 +246,8 @@ module _ (a : Arithmetic) (laws : Laws a) (s : Statement) (formats : List (List 
             (length (letters_of store.format)) t u → IsEnd u
         ended u e = (
           standing_is_result a s store (sums_of a rows) (are_rows a laws s formats c in_order f loops l store is) u.arrays
-              (ended_stands a laws store rows (rows_for a laws s formats c in_order f loops l store is) k.head k.base free k.zero t u h.0
-              e),
+              (subst (λ sums. StandForRows a store sums u.arrays) (appends.same store is)
+              (ended_stands a laws store held held_for k.head k.base free k.zero t u h.0 e)),
           (λ j. let made = e.leaves.turns j in let before = h.1 j in omega (arith, made, before)),
         )
 
@@ -290,14 +262,14 @@ module _ (a : Arithmetic) (laws : Laws a) (s : Statement) (formats : List (List 
 
     pub ends : kernel.body ≡ ((top ++ begin) ++ code) ++ end
         → EndsSo a (length store.format) kernel arrays (λ outcome. IsRightOutcome a s (told_by a store) store outcome
-        × MakesNoMore most outcome × NeedsNoWorkspace outcome)
+        × MakesNoMore most outcome × RefusesOnly Allowed outcome)
     ends body =
         let e = ends_as_code_does a (length store.format) kernel arrays IsEnd MayEnd
         (subst (λ (b : List KStmt). Does setting b first IsEnd MayEnd) (sym body) whole) in
-        record { turns = e.turns; outcome = e.outcome; is = e.is; so = done_told a s store most e.outcome e.so }
+        record { turns = e.turns; outcome = e.outcome; is = e.is; so = done_told a s store most Allowed e.outcome e.so }
 
 pub appended_kernels_are_right : AppendedKernelsAreRight
 appended_kernels_are_right a laws s formats c in_order f loops l k fits base places at from apart top begin code end tops begins list past
-    appends free ends_code kernel few body store is arrays given =
-    ends a laws s formats c in_order f loops l store is k fits base places at from apart top begin code end tops begins list past appends
-    free ends_code kernel few arrays given body
+    spaces Allowed appends free ends_code kernel few declared body store is arrays given =
+    ends a laws s formats c in_order f loops l store is k fits base places at from apart top begin code end tops begins list past spaces
+    Allowed appends free ends_code kernel few declared arrays given body

@@ -1,5 +1,6 @@
 pub mod Ended
 pub mod Finer
+pub mod Direct
 pub mod Kernels
 pub mod Levels
 pub mod Names

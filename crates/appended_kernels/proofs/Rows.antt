@@ -1,5 +1,5 @@
 -- The rows that loops append to a result: they come in its order, and their sums are its table.
-use Rattle.std.specs.Prelude.{◌≡◌, ℕ, ◌≤◌, ◌<◌, List, [], length, slice_index, refl}
+use Rattle.std.specs.Prelude.{◌≡◌, ℕ, ◌≤◌, ◌<◌, false, List, [], length, slice_index, refl}
 use Rattle.std.proofs.Common.{◌∙◌, sym, ap, subst, arith, inl}
 use Rattle.std.proofs.lemmas.List.{length-map}
 use Rattle.lists.specs.Each.{Each}
@@ -24,6 +24,7 @@ use Rattle.lowering.specs.Lowered.{IsInOrder}
 use Rattle.lowering.specs.Right.{rows_to}
 use Rattle.row_orders.specs.Heads.{head, head_levels, left_levels, result_levels}
 use Rattle.row_orders.specs.Orders.{HasResult, NeverFallAt, row_coords}
+use Rattle.row_orders.specs.Takings.{calls_for_workspace}
 use Rattle.row_orders.proofs.Orders.{lowered_rows_come_in_order}
 use Rattle.kernel_correctness.specs.Stores.{Store, IsStoreOf, told_by}
 use Rattle.operand_arrays.specs.Operands.{stored_in}
@@ -44,7 +45,7 @@ use Rattle.appended_kernels.proofs.Takes.{takes_all}
 use Rattle.appended_kernels.proofs.Values.{below_from}
 
 module _ (a : Arithmetic) (laws : Laws a) (s : Statement) (formats : List (List FormatLevel)) (c : Concrete)
-    (in_order : IsInOrder s formats c) (f : IsForAppended s formats in_order.order) (loops : LoopCode)
+    (in_order : IsInOrder s formats c) (f : IsForAppended s formats) (loops : LoopCode)
     (l : AreAppendedLoops s formats c loops) (store : Store) (is : IsStoreOf s formats store) where
   pub read_store : IsReadStore s formats store
   read_store = record { numbered = f.ordered.numbered; named = f.ordered.named; read = f.read; is = is }
@@ -73,7 +74,7 @@ module _ (a : Arithmetic) (laws : Laws a) (s : Statement) (formats : List (List 
       ap length keys_are ∙ length-map (modes_of (format_of formats 0)) (slice_index s.left.vars)
       ∙ length-map (format_of formats 0) (λ (level : FormatLevel). level.mode) ∙ ap length (sym is.format_is)
 
-  each_row : Each (IsRow (length store.format))
+  pub each_row : Each (IsRow (length store.format))
       (rows_to a s formats (told_by a store) (stored_in (operands_in s store)) (left_in_order s in_order.order) loops)
   each_row =
       subst (λ n. Each (IsRow n) rows) keys_many
@@ -109,7 +110,7 @@ module _ (a : Arithmetic) (laws : Laws a) (s : Statement) (formats : List (List 
       (sum_long a (length store.format) rows each_row r.0 r.1 ∙ sym sizes_many) (λ d within. are_rows.below d r.0 within r.1))
 
   -- ---- in the order of the levels
-  module _ (k : AppendedSink) (fits : IsSinkOf a formats k) where
+  module _ (direct : calls_for_workspace s formats in_order.order ≡ false) (k : AppendedSink) (fits : IsSinkOf a formats k) where
     head_is : IsHead (letters_of store.format) k.head
     head_is = subst (λ (levels : List FormatLevel). IsHead (letters_of levels) k.head) (sym is.format_is) fits.head
 
@@ -135,7 +136,7 @@ module _ (a : Arithmetic) (laws : Laws a) (s : Statement) (formats : List (List 
         (subst (λ vs. NeverFallAt
         (row_coords (rows_to a s formats (told_by a store) (stored_in (operands_in s store)) vs loops)) (length (head s formats))
         (length (rows_to a s formats (told_by a store) (stored_in (operands_in s store)) vs loops))) same_keys
-        (lowered_rows_come_in_order s formats has_result c in_order l.shares (inl l.none) f.none loops l.shape a (told_by a store)
+        (lowered_rows_come_in_order s formats has_result c in_order l.shares (inl l.none) direct loops l.shape a (told_by a store)
         (stored_in (operands_in s store))).places)
 
     row_long : (i : ℕ) → i < length rows → k.head ≤ length (row_at rows i).coords

@@ -1,6 +1,7 @@
--- When a kernel is right whose result is appended in place: the loops come by its rows in the order of its levels, each row is appended
--- where it comes, and behind the loops each level's last parent is given its positions. There is no workspace.
-use Rattle.std.specs.Prelude.{◌≡◌, ℕ, ◌+◌, ◌*◌, ◌≤◌, false, List, [], ◌++◌, length}
+-- When a kernel is right whose result is appended to: rows whose sums are those of the loops' rows are appended in the order of the result's
+-- levels, as they come or out of workspaces, and behind the loops each level's last parent is given its positions.
+use Rattle.std.specs.Prelude.{◌≡◌, ℕ, ◌+◌, ◌*◌, ◌≤◌, false, List, [], ◌++◌, length, Some, slice_get}
+use Rattle.std.specs.List.{list_any}
 use Rattle.numbers.specs.Arithmetic.{Arithmetic, Laws}
 use Rattle.kernel_code.specs.declared.syntax.Arr.{Arr}
 use Rattle.kernel_code.specs.declared.syntax.Kernel.{Kernel}
@@ -8,9 +9,11 @@ use Rattle.kernel_code.specs.declared.syntax.KStmt.{KStmt}
 use Rattle.kernel_code.specs.declared.syntax.LoopKind.{LoopKind}
 use Rattle.kernel_code.specs.declared.syntax.Place.{Place}
 use Rattle.kernel_code.specs.declared.syntax.Place.TheVariants.{Level, Workspace}
-use Rattle.kernel_code.specs.Kernels.{KernelOutcome, Finished, GotStuck, TooLong, NotFinished}
+use Rattle.kernel_code.specs.Does.{Does}
+use Rattle.kernel_code.specs.Kernels.{KernelOutcome, Finished, GotStuck, TooLong, NotFinished, place_of}
 use Rattle.kernel_code.specs.Meaning.{Setting, State}
 use Rattle.level_core.specs.Meaning.{Arrays}
+use Rattle.tensor_map.specs.declared.entries.Entry.{Entry}
 use Rattle.format_spec.specs.declared.format.FormatLevel.{FormatLevel}
 use Rattle.format_spec.specs.Formats.{letters_of}
 use Rattle.index_notation.specs.declared.syntax.Statement.{Statement}
@@ -18,6 +21,7 @@ use Rattle.iteration_graph.specs.Edges.{format_of, HasFormat}
 use Rattle.lists.specs.Each.{Each}
 use Rattle.expr_terms.specs.ValueLaws.{HasWords}
 use Rattle.concrete_notation.specs.declared.concrete.Concrete.{Concrete}
+use Rattle.concrete_notation.specs.Contributions.{sums_of}
 use Rattle.concrete_notation.specs.Nests.{SharesLoops, left_in_order, workspaces}
 use Rattle.result_targets.specs.Beside.{beside_lists}
 use Rattle.result_targets.specs.Scratch.{HasLists}
@@ -27,9 +31,11 @@ use Rattle.loop_code.specs.Loops.{start}
 use Rattle.lowering.specs.Lowered.{AddsRows, IsInOrder, concrete_of, plain}
 use Rattle.lowering.specs.Right.{rows_to}
 use Rattle.lowering.specs.Shapes as shapes
-use Rattle.row_orders.specs.Takings.{calls_for_workspace}
+use Rattle.row_orders.specs.Heads.{result_levels}
+use Rattle.row_orders.specs.Takings.{is_unordered}
 use Rattle.term_code.specs.declared.places.Places.{Places}
 use Rattle.term_code.specs.Places.{Keeps, StartsAt}
+use Rattle.term_code.specs.WorkspaceSinks.{HoldsRows}
 use Rattle.kernel_correctness.specs.Kernels.{Ends, IsRightOutcome}
 use Rattle.kernel_correctness.specs.Stores.{Store, IsGiven, IsStoreOf, told_by}
 use Rattle.operand_arrays.specs.Apart.{AreFrom}
@@ -37,17 +43,18 @@ use Rattle.operand_arrays.specs.Operands.{stored_in, IsOfOperands}
 use Rattle.dense_results.specs.Kernels.{AreAtBase}
 use Rattle.dense_results.specs.Operands.{IsReadStore, ArrayStands, operands_in}
 use Rattle.sparse_results.specs.Keys.{HasOrderedResult}
+use Rattle.sparse_results.specs.Tables.{IsRow}
 use Rattle.appended_results.specs.Begins.{BeginsFirst}
 use Rattle.appended_results.specs.Ends.{EndsFirst}
 use Rattle.appended_results.specs.Heads.{IsHead}
 use Rattle.appended_results.specs.declared.sink.AppendedSink.{AppendedSink}
 use Rattle.appended_results.specs.Sink.{appended_sink, letters_in}
 
--- a statement with a format for each tensor, that of its result not dense throughout, which calls for no workspace in this loop order
-pub record IsForAppended (s : Statement) (formats : List (List FormatLevel)) (order : List ℕ) : Type 0 where
+-- a statement with a format for each tensor, that of its result not dense throughout and of levels that have an order
+pub record IsForAppended (s : Statement) (formats : List (List FormatLevel)) : Type 0 where
   pub ordered : HasOrderedResult s formats
   pub read : Each (HasFormat formats) s.accesses
-  pub none : calls_for_workspace s formats order ≡ false
+  pub sorted : list_any is_unordered (result_levels s formats) ≡ false
 
 -- a statement in concrete notation without workspaces and with no two loops over one variable side by side, and loops that are its own and
 -- add its rows
@@ -80,7 +87,7 @@ pub record IsAtTop (a : Arithmetic) (k : AppendedSink) (s : Statement) (formats 
 
 -- From the top the code appends the rows that the loops add to these keys, whatever the store, if the sink takes them in turn. It may fill
 -- scratch lists from one number to the one before another.
-pub record AppendsFromTop (a : Arithmetic) (k : AppendedSink) (s : Statement) (formats : List (List FormatLevel)) (places : Places)
+pub record AddsFromTop (a : Arithmetic) (k : AppendedSink) (s : Statement) (formats : List (List FormatLevel)) (places : Places)
     (keys : List ℕ) (loops : LoopCode) (list past : ℕ) (code : List KStmt) : Type 0 where
   pub free : ℕ
   pub most : Store → LoopKind → ℕ
@@ -90,6 +97,35 @@ pub record AppendsFromTop (a : Arithmetic) (k : AppendedSink) (s : Statement) (f
       → (st : State) → IsAtTop a k s formats store places st → HasLists list past st
       → Adds (beside_lists appended_sink list past) k c store.ranges code free (most store) []
       (rows_to a s formats (told_by a store) (stored_in (operands_in s store)) keys loops) st
+
+-- the workspaces of a kernel, which have these numbers of keys, have no rows
+abbrev pub HaveNoRows : List ℕ → State → Type 0
+HaveNoRows spaces st = (w keys : ℕ) → slice_get spaces w ≡ Some keys → HoldsRows w keys [] st.arrays
+
+-- the sink holds rows, and no more turns were made
+pub record HasAppended (a : Arithmetic) (k : AppendedSink) (ranges : List ℕ) (rows : List Entry) (most : LoopKind → ℕ) (s t : State)
+    : Type 0 where
+  pub held : appended_sink.holds k a ranges rows t
+  pub turns : (j : LoopKind) → t.turns j ≤ s.turns j + most j
+
+-- a growth that a kernel may be refused, of such a place
+pub record MayBeRefused (a : Arithmetic) (s : Statement) (store : Store) (Allowed : Place → Type 0) (b : Arr) (count : ℕ) : Type 0 where
+  pub right : IsRightOutcome a s (told_by a store) store (TooLong (place_of (length store.format) b) count)
+  pub allowed : Allowed (place_of (length store.format) b)
+
+-- From the top the code appends rows that have the sums of those that the loops add to these keys, whatever the store; the kernel's
+-- workspaces have these numbers of keys, and no rows. It may fill scratch lists from one number to the one before another.
+pub record AppendsFromTop (a : Arithmetic) (k : AppendedSink) (s : Statement) (formats : List (List FormatLevel)) (places : Places)
+    (keys : List ℕ) (loops : LoopCode) (list past : ℕ) (spaces : List ℕ) (Allowed : Place → Type 0) (code : List KStmt) : Type 0 where
+  pub most : Store → LoopKind → ℕ
+  pub held : Store → List Entry
+  pub each : (store : Store) → IsStoreOf s formats store → Each (IsRow (length store.format)) (held store)
+  pub same : (store : Store) → IsStoreOf s formats store → sums_of a (held store)
+      ≡ sums_of a (rows_to a s formats (told_by a store) (stored_in (operands_in s store)) keys loops)
+  pub appends : (c : Setting) → c.arithmetic ≡ a → c.workspaces ≡ spaces → (store : Store) → IsStoreOf s formats store
+      → (st : State) → IsAtTop a k s formats store places st → HaveNoRows spaces st → HasLists list past st
+      → Does c code st (HasAppended a k store.ranges (held store) (most store) st)
+      (λ turns. MayBeRefused a s store Allowed)
 
 -- a run that finishes makes no more turns than these
 abbrev pub MakesNoMore : (LoopKind → ℕ) → KernelOutcome → Type 0
@@ -102,25 +138,25 @@ abbrev pub IsLevel : Place → Type 0
 IsLevel (Level level) = Unit {0}
 IsLevel Workspace = ⊥
 
--- no workspace is refused a growth
-abbrev pub NeedsNoWorkspace : KernelOutcome → Type 0
-NeedsNoWorkspace (Finished arrays turns) = Unit {0}
-NeedsNoWorkspace (GotStuck statement) = Unit {0}
-NeedsNoWorkspace (TooLong place count) = IsLevel place
-NeedsNoWorkspace NotFinished = Unit {0}
+-- such places alone are refused a growth
+abbrev pub RefusesOnly : (Place → Type 0) → KernelOutcome → Type 0
+RefusesOnly Allowed (Finished arrays turns) = Unit {0}
+RefusesOnly Allowed (GotStuck statement) = Unit {0}
+RefusesOnly Allowed (TooLong place count) = Allowed place
+RefusesOnly Allowed NotFinished = Unit {0}
 
--- on every store a kernel of such code is right, no workspace is refused a growth, and a run that finishes makes no more turns than the
--- loops' code
-abbrev pub AppendedKernelsAreRight : Type 0
+-- on every store a kernel of such code is right, and a run that finishes makes no more turns than the loops' code
+abbrev pub AppendedKernelsAreRight : Type 1
 AppendedKernelsAreRight = (a : Arithmetic) → Laws a → (s : Statement) (formats : List (List FormatLevel))
-    → (c : Concrete) (in_order : IsInOrder s formats c) → IsForAppended s formats in_order.order
+    → (c : Concrete) (in_order : IsInOrder s formats c) → IsForAppended s formats
     → (loops : LoopCode) → AreAppendedLoops s formats c loops
     → (k : AppendedSink) → IsSinkOf a formats k
     → (base : ℕ) (places : Places) → AreAtBase s base places → AreFrom (behind k) places → behind k ≤ base
     → (top begin code end : List KStmt) → StartsAt base top → BeginsFirst (letters_in k) (length k.levels) k.base (length k.levels) begin
-    → (list past : ℕ) (appends : AppendsFromTop a k s formats places (left_in_order s in_order.order) loops list past code)
+    → (list past : ℕ) (spaces : List ℕ) (Allowed : Place → Type 0)
+    → (appends : AppendsFromTop a k s formats places (left_in_order s in_order.order) loops list past spaces Allowed code)
     → (free : ℕ) → EndsFirst (letters_in k) k.base free (length k.levels) end
-    → (kernel : Kernel) → past ≤ kernel.lists → kernel.body ≡ ((top ++ begin) ++ code) ++ end
+    → (kernel : Kernel) → past ≤ kernel.lists → kernel.workspaces ≡ spaces → kernel.body ≡ ((top ++ begin) ++ code) ++ end
     → (store : Store) → IsStoreOf s formats store → (arrays : Arrays) → IsGiven a.zero store arrays
     → Ends a (length store.format) kernel arrays (λ outcome. IsRightOutcome a s (told_by a store) store outcome
-    × MakesNoMore (appends.most store) outcome × NeedsNoWorkspace outcome)
+    × MakesNoMore (appends.most store) outcome × RefusesOnly Allowed outcome)

@@ -52,8 +52,9 @@ use Rattle.appended_results.specs.Heads.{IsHead, head_length, is_full}
 use Rattle.appended_results.proofs.HeadLengths.{some_head}
 use Rattle.appended_results.specs.declared.sink.AppendedSink.{AppendedSink}
 use Rattle.appended_results.specs.Sink.{appended_sink, letters_in}
-use Rattle.appended_kernels.specs.Kernels.{AppendsFromTop, AreAppendedLoops, IsForAppended, IsSinkOf, MakesNoMore}
-use Rattle.appended_kernels.specs.Kernels.{NeedsNoWorkspace, behind}
+use Rattle.appended_kernels.specs.Kernels.{AddsFromTop, AppendsFromTop, AreAppendedLoops, IsForAppended, IsLevel, IsSinkOf, MakesNoMore}
+use Rattle.appended_kernels.specs.Kernels.{RefusesOnly, behind}
+use Rattle.appended_kernels.proofs.Direct.{appends_directly}
 use Rattle.appended_kernels.proofs.Kernels.{appended_kernels_are_right}
 use Rattle.sparse_kernels.proofs.Ends.{ends_weaker}
 use Rattle.taco_compiler.specs.Compiled.{AreFewTurns, DrainsFew, IsCompiled, IsUnrefused, ProbesFew}
@@ -135,7 +136,8 @@ sink_fits a s formats k ordered levels head begins_with =
     }
 
 module _ (a : Arithmetic) (laws : Laws a) (s : Statement) (formats : List (List FormatLevel)) (order : List ℕ)
-    (f : IsForAppended s formats order) (loops : LoopCode) (l : AreLoopsOf s formats order loops) where
+    (f : IsForAppended s formats) (direct : calls_for_workspace s formats order ≡ false) (loops : LoopCode)
+    (l : AreLoopsOf s formats order loops) where
   abbrev c : Concrete
   c = l.concrete
 
@@ -179,8 +181,8 @@ module _ (a : Arithmetic) (laws : Laws a) (s : Statement) (formats : List (List 
     lists_left (ListPositions n) h = record { outside = λ j no. no; no_values = refl }
 
     -- from the top the code appends the loops' rows
-    abbrev appends : AppendsFromTop a k s formats places keys loops 0 emitted.lists code
-    appends = record {
+    abbrev adds_all : AddsFromTop a k s formats places keys loops 0 emitted.lists code
+    adds_all = record {
       free = free;
       most = λ store. e.most (operands_in s store) (slice_index store.ranges) start;
       appends = λ setting same store r taken st t has.
@@ -197,16 +199,19 @@ module _ (a : Arithmetic) (laws : Laws a) (s : Statement) (formats : List (List 
           });
     }
 
+    abbrev appends : AppendsFromTop a k s formats places keys loops 0 emitted.lists [] IsLevel code
+    appends = appends_directly a laws s formats c in_order f loops own_loops direct k own places 0 emitted.lists code adds_all []
+
     -- a run
     module _ (store : Store) (is : IsStoreOf s formats store) (arrays : Arrays) (given : IsGiven a.zero store arrays) where
       abbrev IsTold : KernelOutcome → Type 0
       IsTold outcome =
-          IsRightOutcome a s (told_by a store) store outcome × MakesNoMore (appends.most store) outcome × NeedsNoWorkspace outcome
+          IsRightOutcome a s (told_by a store) store outcome × MakesNoMore (appends.most store) outcome × RefusesOnly IsLevel outcome
 
       told : Ends a (length store.format) kernel arrays IsTold
       told =
           appended_kernels_are_right a laws s formats c in_order f loops own_loops k own (behind k) places at from (omega arith) top begin
-          code end tops begins 0 emitted.lists appends past ending kernel lists body store is arrays given
+          code end tops begins 0 emitted.lists [] IsLevel appends past ending kernel lists spaces body store is arrays given
 
       few_turns : (o : KernelOutcome) → IsTold o → AreFewTurns s formats order store o
       few_turns (Finished left turns) h =
@@ -221,8 +226,8 @@ module _ (a : Arithmetic) (laws : Laws a) (s : Statement) (formats : List (List 
           let most = h.1 Drain in
           let none = (e.few (operands_in s store) (slice_index store.ranges) start).drains in
           record {
-            none = λ direct. omega (arith, most, none);
-            within = λ called. absurd (clash (calls_for_workspace s formats order) called f.none);
+            none = λ uncalled. omega (arith, most, none);
+            within = λ called. absurd (clash (calls_for_workspace s formats order) called direct);
           }
       no_drains (GotStuck statement) h = absurd h.1
       no_drains (TooLong place count) h = tt
@@ -230,9 +235,9 @@ module _ (a : Arithmetic) (laws : Laws a) (s : Statement) (formats : List (List 
 
       few_probes : (o : KernelOutcome) → IsTold o → ProbesFew s formats order store (told_by a store) o
       few_probes (Finished left turns) h = record {
-        none = λ direct. within_searches a laws s formats order loops l store (read_store store is) (appends.most store)
+        none = λ uncalled. within_searches a laws s formats order loops l store (read_store store is) (appends.most store)
             (e.few (operands_in s store) (slice_index store.ranges) start) (turns Probe) (h.1 Probe);
-        within = λ called. absurd (clash (calls_for_workspace s formats order) called f.none);
+        within = λ called. absurd (clash (calls_for_workspace s formats order) called direct);
       }
       few_probes (GotStuck statement) h = absurd h.1
       few_probes (TooLong place count) h = tt

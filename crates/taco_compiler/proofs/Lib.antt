@@ -1,6 +1,7 @@
 pub mod AppendedKernels
 pub mod DenseKernels
 pub mod Fits
+pub mod GroupedKernels
 pub mod LoopTurns
 pub mod NoLevels
 pub mod Passed

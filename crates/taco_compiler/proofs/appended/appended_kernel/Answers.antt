@@ -1,8 +1,12 @@
 use Rattle.std.specs.Prelude.{◌+◌, ◌*◌, ◌++◌, length}
+use Rattle.std.specs.List.{list_any}
 use Rattle.std.proofs.Common.{◌∙◌, sym, ap, subst, arith}
 use Rattle.format_spec.specs.Formats.{IsFormat, letters_of}
 use Rattle.iteration_graph.specs.Edges.{format_of}
+use Rattle.concrete_notation.proofs.Points.{neither}
 use Rattle.concrete_notation.specs.Workspaces.{AreAllDense}
+use Rattle.row_orders.specs.Heads.{head as left_head, result_levels}
+use Rattle.row_orders.specs.Takings.{is_inside_sum, is_unordered}
 use Rattle.term_code.specs.Places.{StartsAt}
 use Rattle.sparse_results.specs.Keys.{HasOrderedResult}
 use Rattle.appended_results.specs.Begins.{BeginsFirst}
@@ -43,7 +47,12 @@ returns-clause-compiled g c =
     let end = subst (λ ls. EndsFirst (letters_of ls) sink.base (sink.base + 4 * length ls) (length ls) c.in_ok-end.end) levels
     c.in_ok-end.ensures in
     appended_compiled a g.met.S.Semiring.laws s formats order
-    (record { ordered = ordered; read = c.requires.ready.right; none = c.requires.none }) rows.loops rows.are sink
+    (record {
+      ordered = ordered;
+      read = c.requires.ready.right;
+      sorted = (neither (list_any is_unordered (result_levels s formats)) (list_any (is_inside_sum s order) (left_head s formats))
+          c.requires.none).0;
+    }) c.requires.none rows.loops rows.are sink
     (sink_fits a s formats sink ordered c.in_ok-sink.ensures.levels c.in_ok-sink.ensures.head c.in_ok-sink.ensures.zero)
     rows.places rows.at (places_from s (sink.base + 4 * length sink.levels) rows.places rows.variables rows.at) c.in_ok-body.body
     c.in_ok-begin.begin c.in_ok-end.end appended top begin (sink.base + 4 * length sink.levels + 3) (sink.base + 4 * length sink.levels)

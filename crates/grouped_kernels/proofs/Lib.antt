@@ -1,0 +1,6 @@
+pub mod Chains
+pub mod Counts
+pub mod Sums
+pub mod Takes
+pub mod Workspaces
+pub mod Groups
