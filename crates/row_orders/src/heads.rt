@@ -29,8 +29,8 @@ pub(crate) fn is_all_dense(format: &Format) -> bool
     format.levels().iter().all(|level| is_dense(*level))
 }
 
-/// Whether some level of a format has no order.
-pub(crate) fn has_unordered(format: &Format) -> bool
+/// Whether some level of a format has no order, so that coordinates are inserted into it. It takes no memory.
+pub fn has_unordered(format: &Format) -> bool
     ensures { result ≡ list_any is_unordered format.now }
 {
     format.levels().iter().any(|level| is_unordered(*level))

@@ -5,5 +5,5 @@
 mod heads;
 mod takings;
 
-pub use heads::head_length;
-pub use takings::{Taking, calls_for_workspace, taking_of};
+pub use heads::{has_unordered, head_length};
+pub use takings::{Taking, calls_for_workspace, is_inside_sum, taking_of};
