@@ -5,7 +5,7 @@ use Rattle.std.proofs.lemmas.List.{append-nil, drop_all, length-map}
 use Rattle.lists.specs.Each.{Each}
 use Rattle.numbers.specs.Arithmetic.{Arithmetic, Laws}
 use Rattle.kernel_code.specs.Meaning.{State}
-use Rattle.tensor_map.specs.declared.entries.Entry.{Entry}
+use Rattle.tensor_map.specs.Entries.{Entry}
 use Rattle.level_core.specs.declared.letter.Letter.{Letter}
 use Rattle.level_rows.specs.Tables.{Increase}
 use Rattle.format_spec.specs.declared.format.FormatLevel.{FormatLevel}

@@ -23,7 +23,7 @@ use Rattle.iteration_graph.specs.Edges.{format_of}
 use Rattle.concrete_notation.specs.declared.concrete.Concrete.{Concrete}
 use Rattle.concrete_notation.specs.Contributions.{sums_of}
 use Rattle.concrete_notation.specs.Nests.{left_in_order}
-use Rattle.tensor_map.specs.declared.entries.Entry.{Entry}
+use Rattle.tensor_map.specs.Entries.{Entry}
 use Rattle.loop_code.specs.declared.loops.LoopCode.{LoopCode}
 use Rattle.lowering.specs.Lowered.{IsInOrder}
 use Rattle.lowering.specs.Right.{rows_to}

@@ -10,8 +10,7 @@ use Rattle.std.proofs.lemmas.Grind.{same_number_lists}
 use Rattle.std.proofs.lemmas.List.{get_or-take, length-take-le, take-append-drop}
 use Rattle.lists.specs.Each.{Each}
 use Rattle.numbers.specs.Arithmetic.{Arithmetic, Laws}
-use Rattle.tensor_map.specs.declared.entries.Entry.{Entry}
-use Rattle.tensor_map.specs.Entries.{Listed}
+use Rattle.tensor_map.specs.Entries.{Entry, Listed}
 use Rattle.tensor_map.proofs.Lemmas.{listed_at}
 use Rattle.level_rows.specs.Tables.{Increase}
 use Rattle.concrete_notation.specs.Contributions.{put_by, put_pair, sums_of}

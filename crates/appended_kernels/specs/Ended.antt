@@ -2,7 +2,7 @@
 use Rattle.std.specs.Prelude.{ℕ, List, length}
 use Rattle.numbers.specs.Arithmetic.{Arithmetic, Laws}
 use Rattle.kernel_code.specs.Meaning.{State}
-use Rattle.tensor_map.specs.declared.entries.Entry.{Entry}
+use Rattle.tensor_map.specs.Entries.{Entry}
 use Rattle.lists.specs.Each.{Each}
 use Rattle.level_rows.specs.Tables.{Increase}
 use Rattle.format_spec.specs.Formats.{letters_of, IsFormat}

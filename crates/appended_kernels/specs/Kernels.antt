@@ -13,7 +13,7 @@ use Rattle.kernel_code.specs.Does.{Does}
 use Rattle.kernel_code.specs.Kernels.{KernelOutcome, Finished, GotStuck, TooLong, NotFinished, place_of}
 use Rattle.kernel_code.specs.Meaning.{Setting, State}
 use Rattle.level_core.specs.Meaning.{Arrays}
-use Rattle.tensor_map.specs.declared.entries.Entry.{Entry}
+use Rattle.tensor_map.specs.Entries.{Entry}
 use Rattle.format_spec.specs.declared.format.FormatLevel.{FormatLevel}
 use Rattle.format_spec.specs.Formats.{letters_of}
 use Rattle.index_notation.specs.declared.syntax.Statement.{Statement}

@@ -17,7 +17,7 @@ use Rattle.kernel_code.specs.Meaning.{Setting, State, value, set_array}
 use Rattle.kernel_code.specs.declared.syntax.Arr.TheVariants.{Values, Dimension}
 use Rattle.kernel_code.specs.declared.syntax.Op.TheVariants.{Add, Mul}
 use Rattle.kernel_code.specs.declared.syntax.KExpr.{KExpr, Num, Var, At, Bin}
-use Rattle.tensor_map.specs.declared.entries.Entry.{Entry}
+use Rattle.tensor_map.specs.Entries.{Entry}
 use Rattle.tns_io.specs.Positions.{product, IsBelow, position}
 use Rattle.tns_io.proofs.PositionLaws as positions
 use Rattle.level_core.specs.declared.letter.Letter.{Letter}

@@ -6,8 +6,7 @@ use Rattle.std.proofs.Common.{◌∙◌, sym, ap, arith, inl, inr}
 use Rattle.std.proofs.lemmas.Bool.{cases_lt}
 use Rattle.std.proofs.lemmas.List.{get_or_append_left, get_or-append_right, get_or_push, length-append, length-replicate, length_push}
 use Rattle.numbers.specs.Arithmetic.{Arithmetic}
-use Rattle.tensor_map.specs.declared.entries.Entry.{Entry}
-use Rattle.tensor_map.specs.Entries.{value_at}
+use Rattle.tensor_map.specs.Entries.{Entry, value_at}
 use Rattle.tensor_map.specs.Laws.{same, other}
 use Rattle.tensor_map.proofs.Lemmas.{tested, value_elsewhere}
 use Rattle.tns_io.specs.Positions.{product, IsBelow, position}

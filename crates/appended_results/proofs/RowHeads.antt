@@ -6,7 +6,7 @@ use Rattle.std.proofs.lemmas.Bool.{cases_lt}
 use Rattle.std.proofs.lemmas.List.{get_or_append_left, get_or_push, get_or-take, length_push}
 use Rattle.lists.specs.Each.{Each}
 use Rattle.level_rows.specs.Tables.{Increase}
-use Rattle.tensor_map.specs.declared.entries.Entry.{Entry}
+use Rattle.tensor_map.specs.Entries.{Entry}
 use Rattle.tensor_storage.specs.Arranged.{no_entry}
 use Rattle.level_appends.proofs.Keys.{SameKey, KeyBefore, before_along, same_row}
 use Rattle.appended_results.specs.Heads.{key_in, row_at, AreHeads, Follows}

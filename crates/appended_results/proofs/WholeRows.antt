@@ -10,7 +10,7 @@ use Rattle.kernel_code.specs.Keeps.{Leaves, no_turns}
 use Rattle.kernel_code.specs.Meaning.{Setting, State}
 use Rattle.kernel_code.specs.declared.syntax.Arr.TheVariants.{Values}
 use Rattle.kernel_code.specs.declared.syntax.KStmt.{KStmt}
-use Rattle.tensor_map.specs.declared.entries.Entry.{Entry}
+use Rattle.tensor_map.specs.Entries.{Entry}
 use Rattle.tns_io.specs.Positions.{IsBelow}
 use Rattle.tns_io.proofs.PositionLaws.{below_long}
 use Rattle.level_core.specs.declared.letter.Letter.{Letter}

@@ -7,7 +7,7 @@ use Rattle.level_core.specs.declared.letter.Letter.{Letter}
 use Rattle.level_core.specs.declared.letter.Letter.TheVariants.{Dense}
 use Rattle.level_core.specs.Kinds.{properties, capabilities}
 use Rattle.level_rows.specs.Tables.{Increase}
-use Rattle.tensor_map.specs.declared.entries.Entry.{Entry}
+use Rattle.tensor_map.specs.Entries.{Entry}
 use Rattle.tensor_storage.specs.Arranged.{no_entry}
 use Rattle.level_appends.proofs.Keys.{KeyBefore}
 

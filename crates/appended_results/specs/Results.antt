@@ -4,7 +4,7 @@ use Rattle.numbers.specs.Arithmetic.{Arithmetic}
 use Rattle.kernel_code.specs.Meaning.{State}
 use Rattle.kernel_code.specs.declared.syntax.Arr.{Arr}
 use Rattle.kernel_code.specs.declared.syntax.Arr.TheVariants.{Values}
-use Rattle.tensor_map.specs.declared.entries.Entry.{Entry}
+use Rattle.tensor_map.specs.Entries.{Entry}
 use Rattle.tns_io.specs.Positions.{IsBelow}
 use Rattle.level_core.specs.declared.letter.Letter.{Letter}
 use Rattle.appended_results.specs.Heads.{AreHeads, Follows}

@@ -1,8 +1,7 @@
 -- The values of a result that heads are appended to: at each position the sum of the rows that have its coordinates.
 use Rattle.std.specs.Prelude.{◌≡◌, ℕ, ◌+◌, ◌*◌, ◌<◌, List, [], ◌++◌, length, drop, slice_index, slice_index_or}
 use Rattle.numbers.specs.Arithmetic.{Arithmetic}
-use Rattle.tensor_map.specs.declared.entries.Entry.{Entry}
-use Rattle.tensor_map.specs.Entries.{value_at}
+use Rattle.tensor_map.specs.Entries.{Entry, value_at}
 use Rattle.tns_io.specs.Positions.{product, IsBelow, position}
 use Rattle.level_core.specs.declared.letter.Letter.{Letter}
 use Rattle.appended_results.specs.Heads.{key_in}

@@ -6,7 +6,7 @@ use Rattle.kernel_code.specs.declared.syntax.Arr.TheVariants.{Values}
 use Rattle.level_core.specs.declared.letter.Letter.{Letter}
 use Rattle.level_core.specs.Fragments.{IsOf}
 use Rattle.level_rows.specs.Tables.{Increase}
-use Rattle.tensor_map.specs.declared.entries.Entry.{Entry}
+use Rattle.tensor_map.specs.Entries.{Entry}
 use Rattle.tensor_storage.specs.Counts.{positions_from}
 use Rattle.tensor_storage.specs.Tables.{Table}
 use Rattle.appended_results.specs.Heads.{row_at}

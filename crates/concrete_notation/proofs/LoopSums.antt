@@ -5,8 +5,7 @@ use Rattle.std.proofs.Common.{◌∙◌, sym, ap}
 use Rattle.numbers.specs.Arithmetic.{Arithmetic, Laws}
 use Rattle.numbers.specs.Sums.{sum_below, total_of}
 use Rattle.numbers.proofs.Sums.{sum_same, sum_zeros, sum_plus, total_append}
-use Rattle.tensor_map.specs.declared.entries.Entry.{Entry}
-use Rattle.tensor_map.specs.Entries.{value_at}
+use Rattle.tensor_map.specs.Entries.{Entry, value_at}
 use Rattle.tensor_map.specs.Laws.{same, other}
 use Rattle.tensor_map.proofs.Lemmas.{tested, value_here, value_elsewhere, value_append}
 use Rattle.index_notation.specs.declared.syntax.Access.{Access}

@@ -3,8 +3,7 @@ use Rattle.std.specs.Prelude.{◌≡◌, ◌⊎◌, ℕ, zero, suc, ◌<◌, Boo
 use Rattle.std.proofs.Common.{◌∙◌, sym, ap, subst, arith, inl, inr}
 use Rattle.std.proofs.lemmas.Bool.{cases_eq, eqb-true, eqb-false, eq-eqb}
 use Rattle.numbers.specs.Arithmetic.{Arithmetic}
-use Rattle.tensor_map.specs.declared.entries.Entry.{Entry}
-use Rattle.tensor_map.specs.Entries.{Listed}
+use Rattle.tensor_map.specs.Entries.{Entry, Listed}
 use Rattle.tensor_map.proofs.Lemmas.{listed_append}
 use Rattle.index_notation.specs.declared.syntax.Access.{Access}
 use Rattle.expr_terms.specs.Points.{with_coordinate}

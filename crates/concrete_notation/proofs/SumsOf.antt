@@ -8,9 +8,8 @@ use Rattle.std.proofs.Common.{◌∙◌, sym, ap, arith, inl, inr}
 use Rattle.std.proofs.lemmas.List.Elements.{All-nil, All-cons}
 use Rattle.numbers.specs.Arithmetic.{Arithmetic, Laws}
 use Rattle.lists.specs.Each.{Each}
-use Rattle.tensor_map.specs.declared.entries.Entry.{Entry}
 use Rattle.tensor_map.specs.Order.{IsBefore, IsBeforeAll}
-use Rattle.tensor_map.specs.Entries.{IsEntry, coords_of, is_at, value_at, Listed, StrictlyIncreasing}
+use Rattle.tensor_map.specs.Entries.{Entry, IsEntry, coords_of, is_at, value_at, Listed, StrictlyIncreasing}
 use Rattle.tensor_map.specs.Laws.{same, other}
 use Rattle.tensor_map.proofs.OrderLaws.{compared_as, before_all_trans}
 use Rattle.tensor_map.proofs.Lemmas.{tested, value_here, value_elsewhere, value_cons}

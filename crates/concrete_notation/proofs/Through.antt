@@ -6,8 +6,7 @@ use denote.Hole.Carrier.{hidden}
 use Rattle.lists.specs.Each.{Each}
 use Rattle.numbers.specs.Arithmetic.{Arithmetic, Laws}
 use Rattle.numbers.specs.Sums.{total_of}
-use Rattle.tensor_map.specs.declared.entries.Entry.{Entry}
-use Rattle.tensor_map.specs.Entries.{value_at, Listed}
+use Rattle.tensor_map.specs.Entries.{Entry, value_at, Listed}
 use Rattle.tensor_map.specs.Laws.{same, other}
 use Rattle.tensor_map.proofs.Lemmas.{tested, at_itself, value_here, value_elsewhere}
 use Rattle.index_notation.specs.Statement.{IsDistinct, IsNumbered, IsWellNamed}

@@ -1,8 +1,7 @@
 -- When a concrete statement is right for a statement.
 use Rattle.std.specs.Prelude.{◌≡◌, ◌⊎◌, ◌↔◌, ℕ, ◌<◌, true, false, List, [], ◌∷◌, map}
 use Rattle.numbers.specs.Arithmetic.{Arithmetic, Laws}
-use Rattle.tensor_map.specs.declared.entries.Entry.{Entry}
-use Rattle.tensor_map.specs.Entries.{value_at, Listed}
+use Rattle.tensor_map.specs.Entries.{Entry, value_at, Listed}
 use Rattle.index_notation.specs.declared.syntax.Statement.{Statement}
 use Rattle.expr_terms.specs.Points.{point_of}
 use Rattle.expr_terms.specs.Result.{AreBelow}

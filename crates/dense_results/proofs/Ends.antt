@@ -10,8 +10,7 @@ use Rattle.level_core.specs.Meaning.{Arrays}
 use Rattle.format_spec.specs.declared.format.FormatLevel.{FormatLevel}
 use Rattle.format_spec.specs.Formats.{modes_of}
 use Rattle.index_notation.specs.declared.syntax.Statement.{Statement}
-use Rattle.tensor_map.specs.declared.entries.Entry.{Entry}
-use Rattle.tensor_map.specs.Entries.{value_at, Listed}
+use Rattle.tensor_map.specs.Entries.{Entry, value_at, Listed}
 use Rattle.tensor_map.proofs.Lemmas.{value_unlisted}
 use Rattle.expr_terms.specs.Result.{AreBelow}
 use Rattle.expr_terms.specs.Terms.{contains, statement_value}

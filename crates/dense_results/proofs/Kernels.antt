@@ -26,7 +26,7 @@ use Rattle.index_notation.specs.declared.syntax.Statement.{Statement}
 use Rattle.iteration_graph.specs.Edges.{format_of}
 use Rattle.concrete_notation.specs.declared.concrete.Concrete.{Concrete}
 use Rattle.concrete_notation.specs.Workspaces.{AreAllDense}
-use Rattle.tensor_map.specs.declared.entries.Entry.{Entry}
+use Rattle.tensor_map.specs.Entries.{Entry}
 use Rattle.loop_code.specs.declared.loops.LoopCode.{LoopCode}
 use Rattle.lowering.specs.Lowered.{AddsRows, IsInOrder}
 use Rattle.lowering.specs.Right.{HaveValues, rows_to}

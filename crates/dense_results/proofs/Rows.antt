@@ -12,7 +12,7 @@ use Rattle.index_notation.specs.declared.operator.Operator.{Operator}
 use Rattle.index_notation.specs.declared.operator.Operator.TheVariants as op
 use Rattle.index_notation.specs.declared.syntax.Expr.{Expr, Num, Access as AccessOf, Binary', Neg', Row_of-Expr, end_of-Expr, more_of-Expr}
 use Rattle.index_notation.specs.declared.syntax.Statement.{Statement}
-use Rattle.tensor_map.specs.declared.entries.Entry.{Entry}
+use Rattle.tensor_map.specs.Entries.{Entry}
 use Rattle.tensor_map.proofs.Lemmas.{listed_at}
 use Rattle.expr_terms.specs.Points.{coords_at}
 use Rattle.expr_terms.specs.Value.{minus}

@@ -1,7 +1,7 @@
 -- A result whose levels are all dense: what its arrays hold before any row is added, and what they leave once all rows are.
 use Rattle.std.specs.Prelude.{◌≡◌, ℕ, List, [], length, map, slice_index}
 use Rattle.numbers.specs.Arithmetic.{Arithmetic, Laws}
-use Rattle.tensor_map.specs.declared.entries.Entry.{Entry}
+use Rattle.tensor_map.specs.Entries.{Entry}
 use Rattle.level_core.specs.Meaning.{Arrays}
 use Rattle.format_spec.specs.declared.format.FormatLevel.{FormatLevel}
 use Rattle.format_spec.specs.Formats.{modes_of}

@@ -7,7 +7,7 @@ use Rattle.kernel_code.specs.declared.syntax.Arr.TheVariants.{Range, Values, Dim
 use Rattle.kernel_code.specs.declared.syntax.Arr.TheVariants.{ListCoordinates, ListPositions}
 use Rattle.kernel_code.specs.Meaning.{State}
 use Rattle.level_core.specs.Fragments.{IsOf}
-use Rattle.tensor_map.specs.declared.entries.Entry.{Entry}
+use Rattle.tensor_map.specs.Entries.{Entry}
 use Rattle.tensor_storage.specs.Storages.{in_level_order}
 use Rattle.result_targets.specs.Scratch.{is_scratch}
 use Rattle.result_targets.specs.Sinks.{Sink}

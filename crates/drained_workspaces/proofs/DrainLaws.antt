@@ -19,7 +19,7 @@ use Rattle.kernel_code.proofs.Does.{does_append, does_nothing, does_set, does_wh
 use Rattle.kernel_code.proofs.Keeps.{this_var, other_var}
 use Rattle.kernel_code.proofs.Words.{sum_is}
 use Rattle.level_core.specs.Fragments.{RefusedWithin, turns_of}
-use Rattle.tensor_map.specs.declared.entries.Entry.{Entry}
+use Rattle.tensor_map.specs.Entries.{Entry}
 use Rattle.result_targets.specs.Beside.{LeavesLists}
 use Rattle.result_targets.specs.Scratch.{IsThere}
 use Rattle.result_targets.specs.Sinks.{Sink, SinkLaws, AddsTo, VarsAre, TakesAll}

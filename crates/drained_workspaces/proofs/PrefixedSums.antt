@@ -4,8 +4,7 @@ use Rattle.std.specs.Cmp.Lexicographic.{pointwise}
 use Rattle.std.proofs.Common.{◌∙◌, sym, ap, subst, inl, inr}
 use Rattle.std.proofs.lemmas.Bool.Decides.{eqb_tells}
 use Rattle.numbers.specs.Arithmetic.{Arithmetic, Laws}
-use Rattle.tensor_map.specs.declared.entries.Entry.{Entry}
-use Rattle.tensor_map.specs.Entries.{coords_of, is_at, value_at, Listed, StrictlyIncreasing}
+use Rattle.tensor_map.specs.Entries.{Entry, coords_of, is_at, value_at, Listed, StrictlyIncreasing}
 use Rattle.tensor_map.specs.Laws.{same, other}
 use Rattle.tensor_map.specs.Order.{IsBefore, IsBeforeAll}
 use Rattle.tensor_map.proofs.Lemmas.{tested, at_itself, value_here, value_elsewhere, value_unlisted}

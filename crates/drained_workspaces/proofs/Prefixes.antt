@@ -8,7 +8,7 @@ use Rattle.std.proofs.lemmas.List.FromFn.{length-range_with_len}
 use Rattle.lists.specs.Each.{Each}
 use Rattle.kernel_code.specs.declared.syntax.KStmt.{KStmt}
 use Rattle.kernel_code.specs.Meaning.{State}
-use Rattle.tensor_map.specs.declared.entries.Entry.{Entry}
+use Rattle.tensor_map.specs.Entries.{Entry}
 use Rattle.result_targets.specs.Sinks.{Sink, VarsAre, AddsTo}
 use Rattle.drained_workspaces.specs.Drained.{prefixed_row, prefixed}
 

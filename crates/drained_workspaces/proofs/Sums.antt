@@ -2,8 +2,7 @@
 use Rattle.std.specs.Prelude.{◌≡◌, ℕ, zero, suc, ◌<◌, ◌^◌, List, [], ◌∷◌, length, slice_index_or}
 use Rattle.std.proofs.Common.{◌∙◌, sym, arith}
 use Rattle.numbers.specs.Arithmetic.{Arithmetic, Laws}
-use Rattle.tensor_map.specs.Entries.{value_at}
-use Rattle.tensor_map.specs.declared.entries.Entry.{Entry}
+use Rattle.tensor_map.specs.Entries.{Entry, value_at}
 use Rattle.tensor_map.proofs.Lemmas.{value_of_entry}
 use Rattle.workspaces.specs.Workspaces.{AreSums}
 use Rattle.workspaces.proofs.SumsOfPairs.{same_rows}

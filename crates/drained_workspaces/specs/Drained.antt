@@ -12,7 +12,7 @@ use Rattle.kernel_code.specs.Does.{Does}
 use Rattle.kernel_code.specs.Keeps.{Leaves}
 use Rattle.kernel_code.specs.Meaning.{Setting, State}
 use Rattle.level_core.specs.Fragments.{RefusedWithin, turns_of}
-use Rattle.tensor_map.specs.declared.entries.Entry.{Entry}
+use Rattle.tensor_map.specs.Entries.{Entry}
 use Rattle.workspaces.specs.Workspaces.{AreSums}
 use Rattle.result_targets.specs.Scratch.{is_scratch, IsThere}
 use Rattle.result_targets.specs.Sinks.{Sink, VarsAre, TakesAll}

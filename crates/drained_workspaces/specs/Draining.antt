@@ -12,7 +12,7 @@ use Rattle.kernel_code.specs.declared.syntax.KStmt.{KStmt}
 use Rattle.kernel_code.specs.Does.{Does, Never}
 use Rattle.kernel_code.specs.Keeps.{Leaves, NoVariable, no_turns}
 use Rattle.kernel_code.specs.Meaning.{Setting, State, value}
-use Rattle.tensor_map.specs.declared.entries.Entry.{Entry}
+use Rattle.tensor_map.specs.Entries.{Entry}
 use Rattle.workspaces.specs.Workspaces.{AreSums}
 use Rattle.result_targets.specs.Beside.{LeavesLists}
 use Rattle.result_targets.specs.Sinks.{Sink, VarsAre}

@@ -4,8 +4,7 @@ use Rattle.std.specs.Prelude.{[], ◌∷◌, ◌++◌, map, length, None, Ok, Re
 use Rattle.std.specs.Prelude.{filter_map, refl}
 use Rattle.std.proofs.Common.{◌∙◌, ap, arith}
 use Rattle.std.proofs.lemmas.Bool.{eq-eqb}
-use Rattle.tensor_map.specs.declared.entries.Entry.{Entry}
-use Rattle.tensor_map.specs.Entries.{IsGreatest}
+use Rattle.tensor_map.specs.Entries.{Entry, IsGreatest}
 use Rattle.index_notation.specs.Statement.{numbers_from, IsWellNamed}
 use Rattle.lists.specs.Each.{Each}
 use Rattle.index_notation.specs.declared.syntax.Access.{Access}

@@ -1,8 +1,7 @@
 -- The operands of a statement: the entries of tensor 1, of tensor 2 and so on, in a row. Tensor 0, the result, has none.
 use Rattle.std.specs.Prelude.{ℕ, zero, suc, List, [], Option, None, Some, slice_get}
 use Rattle.numbers.specs.Arithmetic.{Arithmetic}
-use Rattle.tensor_map.specs.declared.entries.Entry.{Entry}
-use Rattle.tensor_map.specs.Entries.{Entries, value_at}
+use Rattle.tensor_map.specs.Entries.{Entry, Entries, value_at}
 
 abbrev pub list_or_none : Option Entries → List Entry
 list_or_none None = []

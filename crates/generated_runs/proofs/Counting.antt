@@ -6,8 +6,7 @@ use Rattle.lists.specs.Each.{Each}
 use Rattle.lists.proofs.Tests.{number_same}
 use Rattle.level_core.specs.Entries.{Distinct, Lacks}
 use Rattle.level_core.specs.declared.span.Entry.{Entry as LevelEntry}
-use Rattle.tensor_map.specs.declared.entries.Entry.{Entry}
-use Rattle.tensor_map.specs.Entries.{Listed, is_at}
+use Rattle.tensor_map.specs.Entries.{Entry, Listed, is_at}
 use Rattle.tensor_map.specs.Laws.{Tested, same, other}
 use Rattle.tensor_map.proofs.Lemmas.{tested}
 use Rattle.loop_code.specs.Turns.{count_below}

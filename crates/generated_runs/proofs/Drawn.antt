@@ -7,8 +7,7 @@ use Rattle.std.proofs.lemmas.List.FromFn.{map-range_with_len_more, length-map-ra
 use Rattle.std.proofs.Math.Nat.{mod-lt}
 use Rattle.limits.specs.Limits.{greatest_order}
 use Rattle.numbers.specs.Ring.{ring}
-use Rattle.tensor_map.specs.declared.entries.Entry.{Entry}
-use Rattle.tensor_map.specs.Entries.{Entries, Listed, SameValues, SameListed, StrictlyIncreasing}
+use Rattle.tensor_map.specs.Entries.{Entry, Entries, Listed, SameValues, SameListed, StrictlyIncreasing}
 use Rattle.tensor_map.proofs.Lemmas.{listed_at}
 use Rattle.generated_runs.specs.Draws.{next_state, state_after, draw}
 use Rattle.generated_runs.specs.Generated.{entry_at, first_drawn, drawn, AreSummed, IsGenerated}

@@ -9,8 +9,7 @@ use Rattle.lists.proofs.Tests.{both_true}
 use Rattle.numbers.specs.Arithmetic.{Arithmetic}
 use Rattle.kernel_code.specs.declared.syntax.Kernel.{Kernel}
 use Rattle.level_core.specs.declared.letter.Letter.TheVariants.{Dense, Compressed}
-use Rattle.tensor_map.specs.declared.entries.Entry.{Entry}
-use Rattle.tensor_map.specs.Entries.{Entries, Listed}
+use Rattle.tensor_map.specs.Entries.{Entry, Entries, Listed}
 use Rattle.tensor_map.proofs.Lemmas.{listed_append}
 use Rattle.format_spec.specs.Formats.{letters_of}
 use Rattle.index_notation.specs.declared.syntax.Expr.TheBlock.{hidden-the_row-Expr-0}

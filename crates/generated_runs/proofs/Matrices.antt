@@ -3,8 +3,7 @@ use Rattle.std.specs.Prelude.{◌≡◌, ℕ, ◌+◌, ◌<◌, ◌≤◌, ◌^�
 use Rattle.std.proofs.Common.{◌∙◌, arith}
 use Rattle.limits.specs.Limits.{greatest_workload}
 use Rattle.limits.proofs.Limits.{positions_are_small, workloads_are_ranges}
-use Rattle.tensor_map.specs.declared.entries.Entry.{Entry}
-use Rattle.tensor_map.specs.Entries.{AreEntries, Entries}
+use Rattle.tensor_map.specs.Entries.{Entry, AreEntries, Entries}
 use Rattle.tns_io.specs.Positions.{IsBelow}
 use Rattle.generated_runs.specs.Generated.{AreSummed}
 use Rattle.generated_runs.specs.Matrices.{IsMatrix}

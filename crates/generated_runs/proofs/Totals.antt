@@ -5,7 +5,7 @@ use Rattle.std.proofs.lemmas.List.{take_more, map-append}
 use Rattle.numbers.specs.Arithmetic.{Arithmetic, Laws}
 use Rattle.numbers.specs.Sums.{total_of}
 use Rattle.numbers.proofs.Sums.{total_append}
-use Rattle.tensor_map.specs.declared.entries.Entry.{Entry}
+use Rattle.tensor_map.specs.Entries.{Entry}
 
 abbrev pub values_of : List Entry → List ℕ
 values_of entries = map (λ entry. entry.value) entries

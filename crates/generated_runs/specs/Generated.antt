@@ -3,8 +3,7 @@ use Rattle.std.specs.Prelude.{◌≡◌, ℕ, ◌*◌, ◌%◌, ◌<◌, ◌≤�
 use Rattle.std.specs.List.{range_with_len}
 use Rattle.numbers.specs.Ring.{ring}
 use Rattle.numbers.specs.Signed.{word_of_signed}
-use Rattle.tensor_map.specs.declared.entries.Entry.{Entry}
-use Rattle.tensor_map.specs.Entries.{Entries, SameValues, SameListed, StrictlyIncreasing}
+use Rattle.tensor_map.specs.Entries.{Entry, Entries, SameValues, SameListed, StrictlyIncreasing}
 use Rattle.generated_runs.specs.Draws.{draw, state_after}
 
 -- the value of a draw: what is left of it by 19, less 9

@@ -5,7 +5,7 @@ use Rattle.std.proofs.Common.{◌∙◌, sym, ap, arith, inl}
 use Rattle.std.proofs.lemmas.List.{length-append, length-map}
 use Rattle.numbers.specs.Arithmetic.{Arithmetic}
 use Rattle.lists.proofs.Each.{each_append}
-use Rattle.tensor_map.specs.declared.entries.Entry.{Entry}
+use Rattle.tensor_map.specs.Entries.{Entry}
 use Rattle.format_spec.specs.declared.format.FormatLevel.{FormatLevel}
 use Rattle.index_notation.specs.declared.syntax.Statement.{Statement}
 use Rattle.expr_terms.specs.Points.{with_coordinate}

@@ -4,8 +4,7 @@ use Rattle.std.specs.Prelude.{◌≡◌, ◌⊎◌, ℕ, zero, suc, ◌≤◌, �
 use Rattle.std.proofs.Common.{◌∙◌, ap, subst, arith, inl, inr}
 use Rattle.lists.specs.Each.{Each}
 use Rattle.lists.proofs.Each.{each_append}
-use Rattle.tensor_map.specs.declared.entries.Entry.{Entry}
-use Rattle.tensor_map.specs.Entries.{coords_of, StrictlyIncreasing}
+use Rattle.tensor_map.specs.Entries.{Entry, coords_of, StrictlyIncreasing}
 use Rattle.tensor_map.specs.Order.{IsBefore, IsBeforeAll}
 use Rattle.tensor_storage.specs.Arranged.{no_entry}
 use Rattle.tensor_storage.specs.Storages.{in_level_order}

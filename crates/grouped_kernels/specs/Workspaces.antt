@@ -6,7 +6,7 @@ use Rattle.kernel_code.specs.declared.syntax.KStmt.{KStmt}
 use Rattle.kernel_code.specs.Does.{Does, Never}
 use Rattle.kernel_code.specs.Keeps.{Leaves, NoVariable, no_turns}
 use Rattle.kernel_code.specs.Meaning.{Setting, State}
-use Rattle.tensor_map.specs.declared.entries.Entry.{Entry}
+use Rattle.tensor_map.specs.Entries.{Entry}
 use Rattle.index_notation.specs.declared.syntax.Statement.{Statement}
 use Rattle.result_targets.specs.Sinks.{Sink}
 use Rattle.term_code.specs.WorkspaceSinks.{PassesPairs}

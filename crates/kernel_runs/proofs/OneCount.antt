@@ -11,9 +11,8 @@ use Rattle.numbers.specs.Arithmetic.{Arithmetic}
 use Rattle.level_core.specs.declared.letter.Letter.{Letter}
 use Rattle.level_core.specs.Kinds.{capabilities, positions_for}
 use Rattle.level_rows.specs.Tables.{IsBefore as IsRowBefore}
-use Rattle.tensor_map.specs.Entries.{Listed, SameListed, StrictlyIncreasing, coords_of}
+use Rattle.tensor_map.specs.Entries.{Entry, Listed, SameListed, StrictlyIncreasing, coords_of}
 use Rattle.tensor_map.specs.Order.{IsBefore, Increasing}
-use Rattle.tensor_map.specs.declared.entries.Entry.{Entry}
 use Rattle.tensor_map.proofs.OrderLaws.{before_all_trans}
 use Rattle.format_spec.specs.declared.format.FormatLevel.{FormatLevel}
 use Rattle.format_spec.specs.Formats.{letters_of}

@@ -1,7 +1,7 @@
 //! A claim about operands, as a call whose contract is the claim. It does nothing.
 ghost use Rattle.std.specs.Prelude.{◌≡◌, ℕ, List};
 ghost use Rattle.numbers.specs.Arithmetic.{Arithmetic};
-ghost use Rattle.tensor_map.specs.declared.entries.Entry.{Entry};
+ghost use Rattle.tensor_map.specs.Entries.{Entry};
 ghost use Rattle.format_spec.specs.declared.format.FormatLevel.{FormatLevel};
 ghost use Rattle.tensor_storage.specs.Counts.{AreFew};
 ghost use Rattle.operand_packing.specs.Packed.{FitsLevels, HavePositions};

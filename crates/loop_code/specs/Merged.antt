@@ -1,6 +1,6 @@
 -- The coordinates at which a merged loop turns.
 use Rattle.std.specs.Prelude.{◌≡◌, ◌⊎◌, ℕ, ◌+◌, ◌≤◌, ◌<◌, List, [], ◌∷◌, ◌++◌}
-use Rattle.tensor_map.specs.declared.entries.Entry.{Entry}
+use Rattle.tensor_map.specs.Entries.{Entry}
 
 -- numbers that rise strictly, from least on, below n
 abbrev pub RiseBelow : ℕ → ℕ → List ℕ → Type 0

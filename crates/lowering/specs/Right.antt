@@ -2,8 +2,7 @@
 use Rattle.std.specs.Prelude.{◌≡◌, ◌↔◌, ℕ, true, Bool, false, List, [], ◌∷◌, map}
 use Rattle.std.specs.List.{sum_by}
 use Rattle.numbers.specs.Arithmetic.{Arithmetic, Laws}
-use Rattle.tensor_map.specs.declared.entries.Entry.{Entry}
-use Rattle.tensor_map.specs.Entries.{value_at, Listed}
+use Rattle.tensor_map.specs.Entries.{Entry, value_at, Listed}
 use Rattle.format_spec.specs.declared.format.FormatLevel.{FormatLevel}
 use Rattle.index_notation.specs.Statement.{IsDistinct}
 use Rattle.index_notation.specs.declared.syntax.Access.{Access}

@@ -10,7 +10,7 @@ use Rattle.std.proofs.lemmas.Bool.{and_parts, leb-true, ltb-true, eqb-true, eq-e
 use Rattle.std.proofs.lemmas.List.Elements.{All-nil, All-cons, All-append, All-tail}
 use Rattle.limits.specs.Limits.{greatest_file_coordinate, greatest_matrix_entries, greatest_matrix_size}
 use Rattle.numbers.specs.Arithmetic.{Arithmetic}
-use Rattle.tensor_map.specs.declared.entries.Entry.{Entry}
+use Rattle.tensor_map.specs.Entries.{Entry}
 use Rattle.text_lines.specs.Cutting.{is_long}
 use Rattle.text_lines.specs.Lines.{lines}
 use Rattle.text_lines.specs.Numbers.{index_within, number_of}

@@ -7,7 +7,7 @@ use Rattle.text_lines.specs.Cutting.{begun_line, ended_lines, has_long_line, tol
 use Rattle.text_lines.specs.LineReader.{LineReader, TellsThis}
 use Rattle.text_lines.proofs.CuttingLaws.{ended_append, all_told, short_now, told_line_short}
 use Rattle.numbers.specs.Arithmetic.{Arithmetic}
-use Rattle.tensor_map.specs.declared.entries.Entry.{Entry}
+use Rattle.tensor_map.specs.Entries.{Entry}
 use Rattle.text_lines.specs.Cutting.{is_long}
 use Rattle.text_lines.specs.Tokens.{tokens}
 use Rattle.mtx_io.specs.Entry.{PlacedValue, entries_of}

@@ -9,8 +9,7 @@ use Rattle.std.proofs.lemmas.List.Elements.{All-cons, All-tail}
 use Rattle.limits.specs.Limits.{greatest_position_count}
 use Rattle.limits.proofs.Limits.{positions_are_small}
 use Rattle.numbers.specs.Arithmetic.{Arithmetic}
-use Rattle.tensor_map.specs.Entries.{is_nonzero}
-use Rattle.tensor_map.specs.declared.entries.Entry.{Entry}
+use Rattle.tensor_map.specs.Entries.{Entry, is_nonzero}
 use Rattle.mtx_io.specs.Text.{AreSmall, IsBelow, entry_text, entries_text}
 
 module _ (a : Arithmetic) (entries : List Entry) (i : ℕ) (d : Entry) (value : ℕ) (is : value ≡ (slice_index_or entries i d).value)

@@ -12,8 +12,7 @@ use Rattle.limits.proofs.Limits.{file_coordinates_are_ranges, matrix_sizes_are_r
 use Rattle.limits.proofs.Limits.{some_file_coordinates}
 use Rattle.numbers.specs.Arithmetic.{Arithmetic, Laws}
 use Rattle.numbers.specs.Signed.{written_of}
-use Rattle.tensor_map.specs.Entries.{IsEntry, value_at, is_nonzero, StrictlyIncreasing}
-use Rattle.tensor_map.specs.declared.entries.Entry.{Entry}
+use Rattle.tensor_map.specs.Entries.{Entry, IsEntry, value_at, is_nonzero, StrictlyIncreasing}
 use Rattle.tensor_map.proofs.Lemmas.{value_nonzero, increasing_filter, none_zero_filter, all_nonzero, one_row}
 use Rattle.text_lines.specs.Cutting.{is_long}
 use Rattle.text_lines.specs.LineLaws.{IsLine, joined_lines}

@@ -4,7 +4,7 @@ use Rattle.std.specs.Prelude.{Option, Some, None, Result, Ok, Err, if◌then◌e
 use Rattle.limits.specs.Limits.{greatest_file_coordinate}
 use Rattle.numbers.specs.Arithmetic.{Arithmetic}
 use Rattle.numbers.specs.Signed.{word_of_signed}
-use Rattle.tensor_map.specs.declared.entries.Entry.{Entry}
+use Rattle.tensor_map.specs.Entries.{Entry}
 use Rattle.text_lines.specs.Numbers.{number_of, read_whole_of}
 use Rattle.text_lines.specs.declared.num_fault.NumFault.{NumFault}
 use Rattle.text_lines.specs.declared.num_fault.NumFault.TheVariants.{NotNumber as NoNumber, NotWhole as NoWhole, NumRange as NoRange}

@@ -4,7 +4,7 @@ use Rattle.std.specs.Prelude.{ℕ, ◌+◌, Bool, ◌||◌, ◌&&◌, not, ◌==
 use Rattle.std.specs.Prelude.{◌∷◌, ◌++◌, length, filter, drop, Option, Some, None}
 use Rattle.std.specs.Prelude.{Result, Ok, Err, if◌then◌else◌, slice_index}
 use Rattle.numbers.specs.Arithmetic.{Arithmetic}
-use Rattle.tensor_map.specs.declared.entries.Entry.{Entry}
+use Rattle.tensor_map.specs.Entries.{Entry}
 use Rattle.text_lines.specs.Cutting.{is_long}
 use Rattle.text_lines.specs.Lines.{lines}
 use Rattle.text_lines.specs.Tokens.{tokens}

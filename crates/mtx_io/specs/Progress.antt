@@ -2,7 +2,7 @@
 use Rattle.std.specs.Prelude.{◌≡◌, ℕ, ◌+◌, ◌-◌, ◌^◌, ◌⊎◌, min, Bool}
 use Rattle.std.specs.Prelude.{true, List, [], ◌∷◌, ◌++◌, length, Result, Ok, Err}
 use Rattle.numbers.specs.Arithmetic.{Arithmetic}
-use Rattle.tensor_map.specs.declared.entries.Entry.{Entry}
+use Rattle.tensor_map.specs.Entries.{Entry}
 use Rattle.mtx_io.specs.Banner.{needs_minus}
 use Rattle.mtx_io.specs.Matrix.{BadLine, Matrix, numbered, kept, entries_from, matrix_with, sized_from, matrix_from}
 use Rattle.mtx_io.specs.declared.stage.Stage.{Stage}

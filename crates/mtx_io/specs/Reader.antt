@@ -1,8 +1,7 @@
 -- What a reader of Matrix Market files keeps.
 use Rattle.std.specs.Prelude.{◌<◌, ◌≡◌, ℕ, ◌+◌, Bool, true, false, List, ◌++◌, length, Result, Ok, Err}
 use Rattle.numbers.specs.Arithmetic.{Arithmetic}
-use Rattle.tensor_map.specs.Entries.{Entries}
-use Rattle.tensor_map.specs.declared.entries.Entry.{Entry}
+use Rattle.tensor_map.specs.Entries.{Entry, Entries}
 use Rattle.text_lines.specs.Cutting.{has_long_line, told_lines}
 use Rattle.text_lines.specs.LineReader.{LineReader}
 use Rattle.text_lines.specs.Tokens.{tokens}

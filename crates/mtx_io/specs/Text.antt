@@ -5,8 +5,7 @@ use Rattle.std.specs.List.{flat_map}
 use Rattle.std.specs.Fmt.{decimal, signed_decimal}
 use Rattle.numbers.specs.Arithmetic.{Arithmetic}
 use Rattle.numbers.specs.Signed.{written_of}
-use Rattle.tensor_map.specs.Entries.{IsEntry, StrictlyIncreasing, NoneIsZero, value_at}
-use Rattle.tensor_map.specs.declared.entries.Entry.{Entry}
+use Rattle.tensor_map.specs.Entries.{Entry, IsEntry, StrictlyIncreasing, NoneIsZero, value_at}
 
 -- the coordinates are below the ranges, one for each
 abbrev pub IsBelow : List ℕ → List ℕ → Type 0

@@ -4,8 +4,7 @@ ghost use Rattle.std.specs.Prelude.{All, slice_index_or, length, filter, codes, 
 ghost use Rattle.std.specs.Fmt.{decimal, signed_decimal};
 ghost use Rattle.numbers.specs.Signed.{written_of};
 ghost use Rattle.outside.specs.Sink.{Appends};
-ghost use Rattle.tensor_map.specs.declared.entries.Entry.{Entry};
-ghost use Rattle.tensor_map.specs.Entries.{is_nonzero, StrictlyIncreasing};
+ghost use Rattle.tensor_map.specs.Entries.{Entry, is_nonzero, StrictlyIncreasing};
 ghost use Rattle.text_lines.specs.Puts.{AppendsPart, Prints};
 ghost use Rattle.mtx_io.specs.Progress.{IsMatrixOrder};
 ghost use Rattle.mtx_io.specs.Text.{AreSmall, IsBelow, line_of, columns_of, entries_text, matrix_text};

@@ -3,8 +3,7 @@ use Rattle.std.proofs.Common.{ℕ, zero, suc, ◌<◌, List, [], ◌∷◌, arit
 use Rattle.std.specs.Prelude.{All, slice_index, slice_index_or}
 use Rattle.limits.specs.Limits.{greatest_position_count}
 use Rattle.limits.proofs.Limits.{some_positions}
-use Rattle.tensor_map.specs.Entries.{IsGreatest}
-use Rattle.tensor_map.specs.declared.entries.Entry.{Entry}
+use Rattle.tensor_map.specs.Entries.{Entry, IsGreatest}
 use Rattle.tns_io.specs.Text.{AreInRange}
 
 at_small : (coords : List ℕ) (n mode : ℕ) → 0 < n → All (λ c. c < n) coords → slice_index coords mode < n

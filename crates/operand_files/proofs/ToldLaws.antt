@@ -8,8 +8,7 @@ use Rattle.numbers.specs.Arithmetic.{Arithmetic}
 use Rattle.outside.specs.Count.{Rose}
 use Rattle.outside.specs.Folder.{FolderState}
 use Rattle.outside.specs.Told.{Told, Untold, NoFile, Bytes}
-use Rattle.tensor_map.specs.Entries.{Entries}
-use Rattle.tensor_map.specs.declared.entries.Entry.{Entry}
+use Rattle.tensor_map.specs.Entries.{Entry, Entries}
 use Rattle.expr_terms.specs.Ranges.{reach}
 use Rattle.expr_terms.specs.declared.bound.Bound.{Bound}
 use Rattle.expr_terms.specs.declared.bound.Bound.TheVariants.{AtLeast}

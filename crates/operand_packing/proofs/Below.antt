@@ -1,7 +1,7 @@
 -- Coordinates below the ranges of an access's variables.
 use Rattle.std.specs.Prelude.{◌≡◌, ℕ, zero, suc, ◌<◌, List, [], ◌∷◌, length, map, slice_index}
 use Rattle.std.proofs.Common.{arith}
-use Rattle.tensor_map.specs.declared.entries.Entry.{Entry}
+use Rattle.tensor_map.specs.Entries.{Entry}
 use Rattle.tns_io.specs.Positions.{IsBelow}
 
 abbrev pub HasCoordsBelow : List ℕ → Entry → Type 0

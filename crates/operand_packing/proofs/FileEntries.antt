@@ -10,7 +10,7 @@ use Rattle.lists.specs.Each.{Each}
 use Rattle.limits.specs.Limits.{greatest_position_count, greatest_matrix_size}
 use Rattle.limits.proofs.Limits.{file_coordinates_are_ranges, matrix_sizes_are_ranges}
 use Rattle.numbers.specs.Arithmetic.{Arithmetic}
-use Rattle.tensor_map.specs.declared.entries.Entry.{Entry}
+use Rattle.tensor_map.specs.Entries.{Entry}
 use Rattle.text_lines.specs.Cutting.{is_long}
 use Rattle.text_lines.specs.Lines.{lines}
 use Rattle.text_lines.specs.Tokens.{tokens}

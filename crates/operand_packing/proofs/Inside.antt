@@ -2,8 +2,7 @@
 use Rattle.std.specs.Prelude.{ℕ, ◌<◌, List, [], ◌∷◌, length, slice_index, slice_index_or}
 use Rattle.std.proofs.Common.{subst, arith, inl, inr}
 use Rattle.std.proofs.lemmas.List.Elements.{All-tail}
-use Rattle.tensor_map.specs.Entries.{Listed, SameListed}
-use Rattle.tensor_map.specs.declared.entries.Entry.{Entry}
+use Rattle.tensor_map.specs.Entries.{Entry, Listed, SameListed}
 use Rattle.tensor_map.proofs.Lemmas.{listed_at}
 use Rattle.tensor_storage.specs.Arranged.{AreInside}
 

@@ -4,8 +4,7 @@ use Rattle.std.specs.Prelude.{All, Some, slice_get, slice_index, slice_index_or,
 use Rattle.std.proofs.Common.{◌∙◌, sym, ap, subst, arith, add-one}
 use Rattle.lists.proofs.Each.{each_get}
 use Rattle.limits.specs.Limits.{greatest_position_count}
-use Rattle.tensor_map.specs.Entries.{Entries}
-use Rattle.tensor_map.specs.declared.entries.Entry.{Entry}
+use Rattle.tensor_map.specs.Entries.{Entry, Entries}
 use Rattle.format_spec.specs.declared.format.FormatLevel.{FormatLevel}
 use Rattle.index_notation.specs.Statement.{IsAccess, numbers_from}
 use Rattle.index_notation.specs.declared.syntax.Statement.{Statement}

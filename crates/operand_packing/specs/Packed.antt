@@ -2,8 +2,7 @@
 use Rattle.std.specs.Prelude.{◌≡◌, ℕ, suc, ◌<◌, ◌^◌, List, length, All, Some, slice_get}
 use Rattle.numbers.specs.Arithmetic.{Arithmetic}
 use Rattle.tensor_map.specs.Coords.{IsShape}
-use Rattle.tensor_map.specs.Entries.{Entries, IsEntry, SameListed, SameValues, StrictlyIncreasing}
-use Rattle.tensor_map.specs.declared.entries.Entry.{Entry}
+use Rattle.tensor_map.specs.Entries.{Entry, Entries, IsEntry, SameListed, SameValues, StrictlyIncreasing}
 use Rattle.format_spec.specs.declared.format.FormatLevel.{FormatLevel}
 use Rattle.format_spec.specs.Formats.{IsFormat}
 use Rattle.index_notation.specs.declared.syntax.Statement.{Statement}

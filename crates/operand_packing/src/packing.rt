@@ -2,7 +2,7 @@
 ghost use Rattle.std.specs.Prelude.{◌≡◌, ◌≢◌, ◌+◌, ◌<◌, ℕ, List, [], false, true, length, slice_index, IfOk, OnOk, MatchResult};
 ghost use Rattle.std.specs.List.{range_with_len};
 ghost use Rattle.numbers.specs.Arithmetic.{Arithmetic};
-ghost use Rattle.tensor_map.specs.declared.entries.Entry.{Entry as AnEntry};
+ghost use Rattle.tensor_map.specs.Entries.{Entry as AnEntry};
 ghost use Rattle.format_spec.specs.declared.format.FormatLevel.{FormatLevel as ALevel};
 ghost use Rattle.tensor_map.specs.Coords.{IsShape};
 ghost use Rattle.tensor_storage.specs.Arranged.{IsRefusalOf};

@@ -13,7 +13,7 @@ use Rattle.kernel_code.specs.Meaning.{Setting, State, set_array}
 use Rattle.kernel_code.proofs.ArrayNames.{same_arr_self, same_arr_is}
 use Rattle.kernel_code.proofs.Does.{does_nothing, does_append, does_cut}
 use Rattle.kernel_code.proofs.Keeps.{this_array, other_array, leaves_none, leaves_array}
-use Rattle.tensor_map.specs.declared.entries.Entry.{Entry}
+use Rattle.tensor_map.specs.Entries.{Entry}
 use Rattle.term_code.specs.WorkspaceSinks.{IsOfWorkspace, column, values}
 use Rattle.drained_workspaces.specs.Draining as drained
 use Rattle.pair_workspaces.specs.Codes.{cut_code, empty_code}

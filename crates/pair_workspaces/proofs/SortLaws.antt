@@ -10,7 +10,7 @@ use Rattle.lists.specs.Each.{Each}
 use Rattle.kernel_code.specs.declared.syntax.KStmt.{SortSum}
 use Rattle.kernel_code.specs.Does.{Never}
 use Rattle.kernel_code.proofs.Does.{does_weaker}
-use Rattle.tensor_map.specs.declared.entries.Entry.{Entry}
+use Rattle.tensor_map.specs.Entries.{Entry}
 use Rattle.concrete_notation.specs.Contributions.{put_by, put_pair, sums_of}
 use Rattle.concrete_notation.proofs.SumsOf.{are_sums, sums_each}
 use Rattle.term_code.specs.WorkspaceSinks.{HoldsRows}

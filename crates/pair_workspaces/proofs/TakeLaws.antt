@@ -14,7 +14,7 @@ use Rattle.kernel_code.specs.Meaning.{Setting, State, set_var, length_of}
 use Rattle.kernel_code.proofs.Does.{does_nothing, does_append, does_set}
 use Rattle.kernel_code.proofs.Keeps.{this_var, other_var, leaves_none, leaves_set}
 use Rattle.kernel_code.proofs.Words.{word_is, less_yes, less_no}
-use Rattle.tensor_map.specs.declared.entries.Entry.{Entry}
+use Rattle.tensor_map.specs.Entries.{Entry}
 use Rattle.result_targets.specs.Sinks.{VarsAre}
 use Rattle.term_code.specs.WorkspaceSinks.{column, values}
 use Rattle.drained_workspaces.specs.Draining as drained

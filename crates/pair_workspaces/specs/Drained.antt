@@ -2,7 +2,7 @@
 use Rattle.std.specs.Prelude.{◌≡◌, List, ◌++◌, Some, slice_get}
 use Rattle.lists.specs.Each.{Each}
 use Rattle.kernel_code.specs.Meaning.{State}
-use Rattle.tensor_map.specs.declared.entries.Entry.{Entry}
+use Rattle.tensor_map.specs.Entries.{Entry}
 use Rattle.term_code.specs.WorkspaceSinks.{HoldsRows}
 use Rattle.sparse_results.specs.Tables.{IsRow}
 use Rattle.drained_workspaces.specs.Draining.{Draining}

@@ -4,7 +4,7 @@ use Rattle.lists.specs.Each.{Each}
 use Rattle.kernel_code.specs.Keeps.{NoVariable}
 use Rattle.kernel_code.specs.Meaning.{State}
 use Rattle.kernel_code.specs.declared.syntax.Arr.{Arr}
-use Rattle.tensor_map.specs.declared.entries.Entry.{Entry}
+use Rattle.tensor_map.specs.Entries.{Entry}
 use Rattle.result_targets.specs.Sinks.{Sink}
 use Rattle.term_code.specs.WorkspaceSinks.{HoldsRows, IsOfWorkspace, PassesPairs}
 use Rattle.sparse_results.specs.Tables.{IsRow}

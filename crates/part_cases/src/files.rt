@@ -1,8 +1,7 @@
 //! Cases of files, fed to a reader piece by piece over a semiring, and of written ones.
 ghost use Rattle.std.specs.Prelude.{◌<◌, ◌≤◌, IfOk, IfSome, List};
 ghost use Rattle.limits.specs.Limits.{greatest_order};
-ghost use Rattle.tensor_map.specs.Entries.{SameListed};
-ghost use Rattle.tensor_map.specs.declared.entries.Entry.{Entry};
+ghost use Rattle.tensor_map.specs.Entries.{Entry, SameListed};
 ghost use Rattle.tns_io.specs.Text.{AreInRange};
 
 use crate::matrices::tell_mtx;

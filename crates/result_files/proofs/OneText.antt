@@ -3,8 +3,7 @@ use Rattle.std.specs.Prelude.{◌≡◌, ◌⊎◌, ℕ, suc, ◌<◌, ◌≤◌
 use Rattle.std.proofs.Common.{sym, subst, ap, ◌∙◌, inl, inr, arith}
 use Rattle.std.proofs.lemmas.Bool.{cases_lt}
 use Rattle.numbers.specs.Arithmetic.{Arithmetic, Laws}
-use Rattle.tensor_map.specs.declared.entries.Entry.{Entry}
-use Rattle.tensor_map.specs.Entries.{Listed, value_at}
+use Rattle.tensor_map.specs.Entries.{Entry, Listed, value_at}
 use Rattle.tensor_map.proofs.Lemmas.{value_unlisted, all_nonzero, one_row}
 use Rattle.tns_io.specs.Positions.{IsBelow}
 use Rattle.tns_io.proofs.TextLaws as tns

@@ -1,9 +1,8 @@
 -- The text of a result's entries.
 use Rattle.std.specs.Prelude.{◌≡◌, ℕ, Bool, true, List, length, filter, All, if◌then◌else◌}
 use Rattle.numbers.specs.Arithmetic.{Arithmetic}
-use Rattle.tensor_map.specs.Entries.{AreEntries, Entries, StrictlyIncreasing, is_nonzero}
+use Rattle.tensor_map.specs.Entries.{Entry, AreEntries, Entries, StrictlyIncreasing, is_nonzero}
 use Rattle.tensor_map.specs.Coords.{IsShape}
-use Rattle.tensor_map.specs.declared.entries.Entry.{Entry}
 use Rattle.tns_io.specs.Positions.{IsBelow}
 use Rattle.tns_io.specs.Text.{entries_text}
 use Rattle.mtx_io.specs.Progress.{IsMatrixOrder}

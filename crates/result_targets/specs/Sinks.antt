@@ -8,7 +8,7 @@ use Rattle.kernel_code.specs.Meaning.{Setting, State}
 use Rattle.kernel_code.specs.Does.{Does}
 use Rattle.kernel_code.specs.Keeps.{Leaves, no_turns}
 use Rattle.level_core.specs.Fragments.{RefusedWithin}
-use Rattle.tensor_map.specs.declared.entries.Entry.{Entry}
+use Rattle.tensor_map.specs.Entries.{Entry}
 use Rattle.result_targets.specs.Scratch.{SameButLists}
 
 -- what is seen of the sinks of a type. The numbers in a list are the ranges of the modes of the result.

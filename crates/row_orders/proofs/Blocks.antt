@@ -3,7 +3,7 @@ use Rattle.std.specs.Prelude.{◌≡◌, ℕ, zero, suc, ◌<◌, List, [], ◌�
 use Rattle.std.proofs.Common.{ap, arith, inl, inr}
 use Rattle.lists.specs.Each.{Each}
 use Rattle.lists.proofs.Each.{each_append}
-use Rattle.tensor_map.specs.declared.entries.Entry.{Entry}
+use Rattle.tensor_map.specs.Entries.{Entry}
 use Rattle.tensor_map.proofs.Summed.{IsNotAfterAll, NeverFalls}
 use Rattle.concrete_notation.specs.Contributions.{rows_below}
 

@@ -5,7 +5,7 @@ use Rattle.std.specs.List.{list_all, list_any, All}
 use Rattle.std.proofs.Common.{◌∙◌, sym, ap, subst, arith}
 use Rattle.lists.specs.Each.{Each}
 use Rattle.numbers.specs.Arithmetic.{Arithmetic}
-use Rattle.tensor_map.specs.declared.entries.Entry.{Entry}
+use Rattle.tensor_map.specs.Entries.{Entry}
 use Rattle.tensor_map.proofs.Summed.{NeverFalls}
 use Rattle.format_spec.specs.declared.format.FormatLevel.{FormatLevel}
 use Rattle.format_spec.specs.Formats.{modes_of}

@@ -5,7 +5,7 @@ use Rattle.std.proofs.Common.{◌∙◌, sym, ap, subst, arith, inl, inr}
 use Rattle.std.proofs.lemmas.List.{length-take-le}
 use Rattle.lists.specs.Each.{Each}
 use Rattle.level_rows.specs.Tables.{IsBefore}
-use Rattle.tensor_map.specs.declared.entries.Entry.{Entry}
+use Rattle.tensor_map.specs.Entries.{Entry}
 use Rattle.tensor_map.specs.Order as lists
 use Rattle.tensor_map.proofs.Summed.{IsNotAfterAll, NeverFalls}
 use Rattle.tensor_storage.specs.Arranged.{no_entry}

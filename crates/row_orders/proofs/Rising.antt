@@ -8,7 +8,7 @@ use denote.Hole.Carrier.{hidden}
 use Rattle.lists.specs.Each.{Each}
 use Rattle.lists.proofs.Each.{each_append}
 use Rattle.numbers.specs.Arithmetic.{Arithmetic}
-use Rattle.tensor_map.specs.declared.entries.Entry.{Entry}
+use Rattle.tensor_map.specs.Entries.{Entry}
 use Rattle.tensor_map.proofs.Summed.{NeverFalls}
 use Rattle.index_notation.specs.Statement.{IsDistinct}
 use Rattle.expr_terms.specs.Points.{coords_at, with_coordinate}

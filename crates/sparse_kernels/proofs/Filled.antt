@@ -20,7 +20,7 @@ use Rattle.level_rows.specs.Tables.{Increase}
 use Rattle.format_spec.specs.declared.format.FormatLevel.{FormatLevel}
 use Rattle.format_spec.specs.Formats.{letters_of}
 use Rattle.index_notation.specs.declared.syntax.Statement.{Statement}
-use Rattle.tensor_map.specs.declared.entries.Entry.{Entry}
+use Rattle.tensor_map.specs.Entries.{Entry}
 use Rattle.tensor_storage.specs.Storages.{in_level_order}
 use Rattle.result_targets.specs.Scratch.{is_scratch, IsOffLists}
 use Rattle.result_targets.proofs.Scratch.{off_lists}

@@ -33,7 +33,7 @@ use Rattle.concrete_notation.specs.declared.concrete.Concrete.{Concrete}
 use Rattle.concrete_notation.specs.Contributions.{sums_of}
 use Rattle.concrete_notation.specs.Nests.{left_in_order}
 use Rattle.concrete_notation.specs.Workspaces.{AreAllDense}
-use Rattle.tensor_map.specs.declared.entries.Entry.{Entry}
+use Rattle.tensor_map.specs.Entries.{Entry}
 use Rattle.loop_code.specs.declared.loops.LoopCode.{LoopCode}
 use Rattle.lowering.specs.Lowered.{AddsRows, IsInOrder}
 use Rattle.lowering.specs.Right.{rows_to}

@@ -11,7 +11,7 @@ use Rattle.format_spec.specs.declared.format.FormatLevel.{FormatLevel}
 use Rattle.format_spec.specs.Formats.{IsFormat, letters_of, modes_of}
 use Rattle.format_spec.proofs.Pigeonholes.{each_mode_stands}
 use Rattle.index_notation.specs.declared.syntax.Statement.{Statement}
-use Rattle.tensor_map.specs.declared.entries.Entry.{Entry}
+use Rattle.tensor_map.specs.Entries.{Entry}
 use Rattle.concrete_notation.specs.Right.{IsInSupport}
 use Rattle.concrete_notation.proofs.Points.{below_long}
 use Rattle.tensor_storage.specs.Stands.{row_from}

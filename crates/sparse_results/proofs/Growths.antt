@@ -10,7 +10,7 @@ use Rattle.kernel_code.specs.declared.syntax.Place.{Place}
 use Rattle.kernel_code.specs.declared.syntax.Place.TheVariants.{Level, Workspace}
 use Rattle.kernel_code.specs.Kernels.{TooLong, place_of}
 use Rattle.level_core.specs.Fragments.{IsOf}
-use Rattle.tensor_map.specs.declared.entries.Entry.{Entry}
+use Rattle.tensor_map.specs.Entries.{Entry}
 use Rattle.index_notation.specs.declared.syntax.Statement.{Statement}
 use Rattle.iteration_graph.specs.Edges.{statement_edges}
 use Rattle.concrete_notation.proofs.Orders.{is_order_of}

@@ -9,7 +9,7 @@ use Rattle.lists.proofs.Each.{each_append}
 use Rattle.numbers.specs.Arithmetic.{Arithmetic, Laws}
 use Rattle.format_spec.specs.declared.format.FormatLevel.{FormatLevel}
 use Rattle.index_notation.specs.declared.syntax.Statement.{Statement}
-use Rattle.tensor_map.specs.declared.entries.Entry.{Entry}
+use Rattle.tensor_map.specs.Entries.{Entry}
 use Rattle.expr_terms.specs.Points.{coords_at}
 use Rattle.concrete_notation.specs.declared.concrete.Concrete.{Concrete}
 use Rattle.concrete_notation.specs.Contributions.{rows_below}

@@ -21,7 +21,7 @@ use Rattle.kernel_code.proofs.ArrayNames.{same_arr_is, same_arr_self}
 use Rattle.kernel_code.proofs.Does.{does_sort_sum, does_nothing}
 use Rattle.kernel_code.proofs.SumLemmas.{joins, joins_not, next_column}
 use Rattle.tensor_map.specs.Order.{IsBefore}
-use Rattle.tensor_map.specs.declared.entries.Entry.{Entry}
+use Rattle.tensor_map.specs.Entries.{Entry}
 use Rattle.tensor_map.proofs.OrderLaws.{compared_as, before_irreflexive, before_trans}
 use Rattle.lists.specs.Each.{Each}
 use Rattle.concrete_notation.specs.Contributions.{put_by, put_pair, sums_of}

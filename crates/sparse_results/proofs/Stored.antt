@@ -2,7 +2,7 @@
 use Rattle.std.specs.Prelude.{◌≡◌, ℕ, zero, suc, ◌<◌, List, [], ◌∷◌, length, slice_index, refl}
 use Rattle.std.proofs.Common.{arith}
 use Rattle.std.proofs.lemmas.List.{length-map}
-use Rattle.tensor_map.specs.declared.entries.Entry.{Entry}
+use Rattle.tensor_map.specs.Entries.{Entry}
 use Rattle.term_code.specs.WorkspaceSinks.{values}
 use Rattle.sparse_results.specs.Stored.{StandingIsResult, ColumnsAreTables}
 use Rattle.sparse_results.specs.Tables.{table_of}

@@ -7,8 +7,7 @@ use Rattle.std.specs.Cmp.Lexicographic.{slice_cmp}
 use Rattle.std.proofs.Common.{◌∙◌, sym, ap, subst, arith, inl, inr}
 use Rattle.std.proofs.lemmas.List.{length-map}
 use Rattle.numbers.specs.Arithmetic.{Arithmetic, Laws}
-use Rattle.tensor_map.specs.declared.entries.Entry.{Entry}
-use Rattle.tensor_map.specs.Entries.{value_at, Listed, StrictlyIncreasing}
+use Rattle.tensor_map.specs.Entries.{Entry, value_at, Listed, StrictlyIncreasing}
 use Rattle.tensor_map.specs.Order.{IsBefore}
 use Rattle.tensor_map.proofs.Lemmas.{before_at, value_of_entry}
 use Rattle.level_rows.specs.Tables.{Increase}

@@ -4,7 +4,7 @@ use Rattle.kernel_code.specs.Does.{Does, Never}
 use Rattle.kernel_code.specs.Keeps.{Leaves, NoVariable, no_turns}
 use Rattle.kernel_code.specs.Meaning.{Setting, State}
 use Rattle.kernel_code.specs.declared.syntax.KStmt.{SortSum}
-use Rattle.tensor_map.specs.declared.entries.Entry.{Entry}
+use Rattle.tensor_map.specs.Entries.{Entry}
 use Rattle.lists.specs.Each.{Each}
 use Rattle.concrete_notation.specs.Contributions.{sums_of}
 use Rattle.term_code.specs.WorkspaceSinks.{HoldsRows, IsOfWorkspace}

@@ -4,7 +4,7 @@ use Rattle.numbers.specs.Arithmetic.{Arithmetic}
 use Rattle.level_core.specs.Meaning.{Arrays}
 use Rattle.format_spec.specs.Formats.{letters_of}
 use Rattle.index_notation.specs.declared.syntax.Statement.{Statement}
-use Rattle.tensor_map.specs.declared.entries.Entry.{Entry}
+use Rattle.tensor_map.specs.Entries.{Entry}
 use Rattle.concrete_notation.specs.Contributions.{sums_of}
 use Rattle.tensor_storage.specs.declared.level.StorageLevel.{StorageLevel}
 use Rattle.tensor_storage.specs.Levels.{meaning}

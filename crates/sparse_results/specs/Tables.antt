@@ -1,6 +1,6 @@
 -- The rows of a workspace as a table, level by level.
 use Rattle.std.specs.Prelude.{◌≡◌, ℕ, ◌^◌, ◌<◌, List, length, slice_index, slice_index_or}
-use Rattle.tensor_map.specs.declared.entries.Entry.{Entry}
+use Rattle.tensor_map.specs.Entries.{Entry}
 use Rattle.tensor_storage.specs.Arranged.{no_entry}
 use Rattle.tensor_storage.specs.Tables.{Table}
 

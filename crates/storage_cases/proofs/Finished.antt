@@ -1,7 +1,7 @@
 -- What comes of packing entries.
 use Rattle.std.specs.Prelude.{ℕ, List, Result, Ok, Err, MatchResult, IfOk}
 use Rattle.format_spec.specs.declared.format.FormatLevel.{FormatLevel}
-use Rattle.tensor_map.specs.declared.entries.Entry.{Entry}
+use Rattle.tensor_map.specs.Entries.{Entry}
 use Rattle.tensor_storage.specs.Arranged.{IsPackedFrom, IsRefusalOf}
 use Rattle.tensor_storage.specs.Storages.{Storage}
 use Rattle.tensor_storage.specs.declared.packing.PackRefusal.{PackRefusal}

@@ -7,7 +7,7 @@ use Rattle.std.specs.Cmp.Lexicographic.{slice_cmp}
 use Rattle.std.proofs.Common.{◌∙◌, ap, subst, inl, inr}
 use Rattle.numbers.specs.Arithmetic.{Arithmetic}
 use Rattle.lists.specs.Each.{Each}
-use Rattle.tensor_map.specs.declared.entries.Entry.{Entry}
+use Rattle.tensor_map.specs.Entries.{Entry}
 use Rattle.tensor_map.specs.Order.{IsBefore}
 use Rattle.tensor_map.proofs.OrderLaws.{before_irreflexive, before_trans, compared_as}
 use Rattle.concrete_notation.specs.Contributions.{put_by, put_pair, sums_of}

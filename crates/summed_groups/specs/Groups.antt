@@ -2,7 +2,7 @@
 use Rattle.std.specs.Prelude.{ℕ, List, ◌++◌, map, take}
 use Rattle.lists.specs.Each.{Each}
 use Rattle.tensor_map.specs.Order.{IsBefore}
-use Rattle.tensor_map.specs.declared.entries.Entry.{Entry}
+use Rattle.tensor_map.specs.Entries.{Entry}
 
 -- the first n of some coordinates come before the first n of others
 abbrev pub ComesBefore : ℕ → List ℕ → List ℕ → Type 0

@@ -13,7 +13,7 @@ use Rattle.kernel_code.specs.Kernels.{KernelOutcome, Finished, GotStuck, TooLong
 use Rattle.level_core.specs.Meaning.{Arrays}
 use Rattle.format_spec.specs.declared.format.FormatLevel.{FormatLevel}
 use Rattle.format_spec.specs.Formats.{letters_of}
-use Rattle.tensor_map.specs.declared.entries.Entry.{Entry}
+use Rattle.tensor_map.specs.Entries.{Entry}
 use Rattle.index_notation.specs.declared.syntax.Statement.{Statement}
 use Rattle.iteration_graph.specs.Edges.{format_of}
 use Rattle.concrete_notation.specs.declared.concrete.Concrete.{Concrete}

@@ -9,7 +9,11 @@ use Rattle.limits.specs.Limits.{greatest_order}
 use Rattle.numbers.specs.Arithmetic.{Arithmetic}
 use Rattle.numbers.specs.Sums.{total_of}
 use Rattle.tensor_map.specs.Order.{IsBefore, Increasing}
-pub use Rattle.tensor_map.specs.declared.entries.Entry.{Entry}
+
+-- the coordinates of an entry, counted from 0, one a mode, and the value there
+pub record Entry : Type 0 where
+  pub coords : List ℕ
+  pub value : ℕ
 
 -- the number of modes, and the entries in their order
 pub record Entries : Type 0 where

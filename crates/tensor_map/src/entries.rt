@@ -10,13 +10,6 @@ use numbers::Semiring;
 use std::alloc::{AllocError, Global};
 use std::marker::Model;
 
-/// Coordinates and the value there.
-#[derive(Debug, Drop)]
-pub(crate) struct Entry {
-    pub(crate) coords: Coords,
-    pub(crate) value: u64,
-}
-
 /// Entries of a tensor in a row, which may repeat coordinates. The greatest coordinates are noted as each is pushed.
 #[derive(Debug, Drop)]
 pub struct Entries {

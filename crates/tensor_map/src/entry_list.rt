@@ -4,15 +4,16 @@ ghost use Rattle.std.specs.Prelude.{◌≡◌, ◌≤◌, ◌<◌, ◌^◌, ◌�
 ghost use Rattle.std.specs.Prelude.{length, slice_index, slice_index_or, take, filter};
 ghost use Rattle.std.specs.Prelude.{All, IsTrue, IfOk, OnOk, OnErr, IfSome};
 ghost use Rattle.limits.specs.Limits.{greatest_order};
-ghost use Rattle.tensor_map.specs.Entries.{Entry, IsEntry, ComeLast, column_in, values_in, is_nonzero};
+ghost use Rattle.tensor_map.specs.Entries.{Entry, IsEntry, ComeLast};
+ghost use Rattle.tensor_map.specs.Entries.{column_in, values_in, is_nonzero};
 ghost use Rattle.tensor_map.specs.Summed.{SortsAndAdds};
 
 use crate::Coords;
 use crate::columns::Columns;
-use crate::entries::Entry;
 use crate::pair_entry::PairEntry;
 use crate::rows::Rows;
 use crate::sorted_rows::sort_rows;
+use crate::whole_entry::WholeEntry;
 use numbers::Semiring;
 use std::alloc::{AllocError, Global};
 use std::marker::Model;
@@ -25,7 +26,7 @@ pub(crate) enum EntryForm {
     /// Each by itself, of a matrix: their coordinates fit 32 bits.
     Pairs(Vec<PairEntry>),
     /// Each whole.
-    Rows(Vec<Entry>),
+    Rows(Vec<WholeEntry>),
 }
 
 /// Entries in a row.
@@ -88,7 +89,7 @@ impl EntryList {
         match &self.form {
             EntryForm::Columns(columns) => columns.coords(i),
             EntryForm::Pairs(pairs) => pairs[i].coords(self.alloc),
-            EntryForm::Rows(rows) => rows[i].coords.copied(),
+            EntryForm::Rows(rows) => rows[i].coords(self.alloc),
         }
     }
 
@@ -102,7 +103,7 @@ impl EntryList {
         match &self.form {
             EntryForm::Columns(columns) => columns.coordinate(i, mode),
             EntryForm::Pairs(pairs) => pairs[i].coordinate(mode),
-            EntryForm::Rows(rows) => rows[i].coords.as_slice()[mode],
+            EntryForm::Rows(rows) => rows[i].as_slice()[mode],
         }
     }
 
@@ -126,7 +127,7 @@ impl EntryList {
         match &self.form {
             EntryForm::Columns(columns) => columns.value(i),
             EntryForm::Pairs(pairs) => pairs[i].value(),
-            EntryForm::Rows(rows) => rows[i].value,
+            EntryForm::Rows(rows) => rows[i].value(),
         }
     }
 
@@ -186,10 +187,10 @@ impl EntryList {
         ensures err { OnErr result (self.new ≡ self.old) }
     {
         match &mut self.form {
-            EntryForm::Rows(rows) => push_row(self.alloc, rows, coords, value)?,
+            EntryForm::Rows(rows) => rows.push(WholeEntry::new(coords, value))?,
             EntryForm::Pairs(pairs) => {
                 let mut rows = whole(self.alloc, pairs)?;
-                push_row(self.alloc, &mut rows, coords, value)?;
+                rows.push(WholeEntry::new(coords, value))?;
                 self.form = EntryForm::Rows(rows);
             }
             EntryForm::Columns(columns) => {
@@ -199,7 +200,7 @@ impl EntryList {
                     self.form = EntryForm::Pairs(pairs);
                 } else {
                     let mut rows = rows_of(self.alloc, columns)?;
-                    push_row(self.alloc, &mut rows, coords, value)?;
+                    rows.push(WholeEntry::new(coords, value))?;
                     self.form = EntryForm::Rows(rows);
                 }
             }
@@ -225,7 +226,7 @@ impl EntryList {
                 }
             }
             EntryForm::Rows(rows) => {
-                sort_rows::<S, Vec<Entry>>(rows);
+                sort_rows::<S, Vec<WholeEntry>>(rows);
                 if let Some(columns) = columns_of(self.alloc, self.order, rows) {
                     self.form = EntryForm::Columns(columns);
                 }
@@ -241,7 +242,7 @@ impl EntryList {
         match &mut self.form {
             EntryForm::Columns(columns) => keep_nonzero::<S>(columns),
             EntryForm::Pairs(pairs) => pairs.retain(|entry| entry.value() != S::zero()),
-            EntryForm::Rows(rows) => rows.retain(|entry| entry.value != S::zero()),
+            EntryForm::Rows(rows) => rows.retain(|entry| entry.value() != S::zero()),
         }
     }
 }
@@ -282,22 +283,6 @@ fn are_narrow(coords: &[u64]) -> bool
         .all(|coordinate| *coordinate <= u32::MAX as u64)
 }
 
-/// Appends an entry. Refused for want of memory, the entries are as before.
-fn push_row(
-    alloc: Global,
-    rows: &mut Vec<Entry>,
-    coords: &[u64],
-    value: u64,
-) -> Result<(), AllocError>
-    requires { length coords.now ≤ greatest_order }
-    ensures ok { OnOk result (rows.new.items ≡ rows.old.items ++ record { coords = coords.now; value = value } ∷ []) }
-    ensures err { OnErr result (rows.new.items ≡ rows.old.items) }
-{
-    let coords = Coords::from_slice(alloc, coords);
-    rows.push(Entry { coords, value })?;
-    Ok(())
-}
-
 /// An entry of a matrix as a pair, if its coordinates fit.
 fn pair_of(coords: &[u64], value: u64) -> Option<PairEntry>
     ensures pair { IfSome result (λ pair. pair ≡ record { coords = coords.now; value = value }) }
@@ -330,29 +315,25 @@ fn pairs_of(alloc: Global, columns: &Columns) -> Result<Vec<PairEntry>, AllocErr
 }
 
 /// The same entries, each whole. Refused for want of memory alone.
-fn whole(alloc: Global, pairs: &[PairEntry]) -> Result<Vec<Entry>, AllocError>
+fn whole(alloc: Global, pairs: &[PairEntry]) -> Result<Vec<WholeEntry>, AllocError>
     ensures { IfOk result (λ rows. rows.items ≡ pairs.now) }
 {
     let mut rows = Vec::with_capacity(alloc, room_behind(pairs.len()))?;
     for pair in pairs {
-        rows.push(Entry {
-            coords: pair.coords(alloc),
-            value: pair.value(),
-        })?;
+        let coords = pair.coords(alloc);
+        rows.push(WholeEntry::new(coords.as_slice(), pair.value()))?;
     }
     Ok(rows)
 }
 
 /// The entries, each whole. Refused for want of memory alone.
-fn rows_of(alloc: Global, columns: &Columns) -> Result<Vec<Entry>, AllocError>
+fn rows_of(alloc: Global, columns: &Columns) -> Result<Vec<WholeEntry>, AllocError>
     ensures { IfOk result (λ rows. rows.items ≡ columns.now.list) }
 {
     let mut rows = Vec::with_capacity(alloc, room_behind(columns.len()))?;
     for i in 0..columns.len() {
-        rows.push(Entry {
-            coords: columns.coords(i),
-            value: columns.value(i),
-        })?;
+        let coords = columns.coords(i);
+        rows.push(WholeEntry::new(coords.as_slice(), columns.value(i)))?;
     }
     Ok(rows)
 }

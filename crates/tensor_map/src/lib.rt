@@ -12,6 +12,7 @@ mod pair_entry;
 mod rows;
 mod shape;
 mod sorted_rows;
+mod whole_entry;
 
 pub use coords::Coords;
 pub use entries::Entries;

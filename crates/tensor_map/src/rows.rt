@@ -7,8 +7,8 @@ ghost use Rattle.tensor_map.specs.Entries.{Entry};
 ghost use Rattle.tensor_map.specs.Sorted.{is_before, with_value};
 
 use crate::Coords;
-use crate::entries::Entry;
 use crate::pair_entry::PairEntry;
+use crate::whole_entry::WholeEntry;
 use std::alloc::Global;
 
 /// Entries in a row.
@@ -60,7 +60,7 @@ pub(crate) trait Rows {
         ensures { entries self.new ≡ take count (entries self.old) };
 }
 
-impl Rows for Vec<Entry> {
+impl Rows for Vec<WholeEntry> {
     ghost entries = { λ rows. rows.items };
 
     fn count(&self) -> usize {
@@ -68,25 +68,25 @@ impl Rows for Vec<Entry> {
     }
 
     fn coords_at(&self, alloc: Global, i: usize) -> Coords {
-        let _alloc = alloc;
-        self[i].coords.copied()
+        self[i].coords(alloc)
     }
 
     fn value_at(&self, i: usize) -> u64 {
-        self[i].value
+        self[i].value()
     }
 
     fn put_value_at(&mut self, i: usize, value: u64) {
         let entry = &mut self[i];
-        entry.value = value;
+        entry.put_value(value);
     }
 
     fn are_equal(&self, i: usize, j: usize) -> bool {
-        self[i].coords.as_slice() == self[j].coords.as_slice()
+        let other = &self[j];
+        self[i].is_at(other)
     }
 
     fn sort_by_coords(&mut self) {
-        self.sort_unstable_by(|left, right| left.coords.as_slice().cmp(&right.coords.as_slice()));
+        self.sort_unstable_by(|left, right| left.compare(right));
     }
 
     fn exchange(&mut self, i: usize, j: usize) {

@@ -8,9 +8,8 @@ use Rattle.std.proofs.Common.{◌∙◌, sym, ap, arith, get_or, drop-cons}
 use Rattle.std.proofs.lemmas.List.{append-nil, append_assoc, map-append}
 use Rattle.level_core.specs.declared.span.Span.{Span}
 use Rattle.level_core.specs.declared.span.Entry.{Entry}
-use Rattle.tensor_map.specs.declared.entries.Entry.{Entry as TensorEntry}
 use Rattle.tensor_map.specs.Order.{IsBefore}
-use Rattle.tensor_map.specs.Entries.{coords_of, StrictlyIncreasing}
+use Rattle.tensor_map.specs.Entries.{Entry as TensorEntry, coords_of, StrictlyIncreasing}
 use Rattle.tensor_map.proofs.OrderLaws.{before_all_trans}
 use Rattle.tensor_storage.specs.Routes.{Route, longer, routes_through, entry_of}
 use Rattle.tensor_storage.specs.Walks.{Walking, IsNext}

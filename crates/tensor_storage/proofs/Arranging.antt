@@ -24,8 +24,7 @@ use Rattle.format_spec.proofs.Pigeonholes.{each_mode_stands}
 use Rattle.level_core.specs.declared.letter.Letter.TheVariants.{Dense}
 use Rattle.level_rows.specs.Tables.{IsBefore, Increase}
 use Rattle.tensor_map.specs.Order.{IsBefore as IsListBefore}
-use Rattle.tensor_map.specs.declared.entries.Entry.{Entry}
-use Rattle.tensor_map.specs.Entries.{IsEntry, StrictlyIncreasing}
+use Rattle.tensor_map.specs.Entries.{Entry, IsEntry, StrictlyIncreasing}
 use Rattle.tensor_map.proofs.OrderLaws.{before_irreflexive, before_trans, compared_as}
 use Rattle.tensor_map.proofs.Lemmas.{apart_at, before_at}
 use Rattle.tensor_storage.specs.declared.packing.PackRefusal.{PackRefusal}

@@ -8,8 +8,7 @@ use Rattle.std.proofs.lemmas.List.{length-map, get_or-map}
 use Rattle.std.proofs.lemmas.List.FromFn.{length-range_with_len}
 use Rattle.std.proofs.lemmas.Option.{slice_get_cases, slice_get_within, get_or_from_slice_get}
 use Rattle.format_spec.specs.declared.format.FormatLevel.{FormatLevel}
-use Rattle.tensor_map.specs.declared.entries.Entry.{Entry}
-use Rattle.tensor_map.specs.Entries.{column_in, values_in}
+use Rattle.tensor_map.specs.Entries.{Entry, column_in, values_in}
 use Rattle.tensor_storage.specs.declared.entries.EntryOrder.{EntryOrder}
 use Rattle.tensor_storage.specs.declared.entries.EntryOrder.TheVariants.{Own}
 use Rattle.tensor_storage.specs.Arranged.{no_entry, level_coords, table_of}

@@ -11,8 +11,7 @@ use Rattle.level_core.specs.declared.letter.Letter.TheVariants.{Dense}
 use Rattle.level_rows.specs.Stacks.{Path}
 use Rattle.format_spec.specs.declared.format.FormatLevel.{FormatLevel}
 use Rattle.format_spec.specs.Formats.{modes_of, IsFormat}
-use Rattle.tensor_map.specs.declared.entries.Entry.{Entry}
-use Rattle.tensor_map.specs.Entries.{IsEntry, Entries, Listed, value_at}
+use Rattle.tensor_map.specs.Entries.{Entry, IsEntry, Entries, Listed, value_at}
 use Rattle.tensor_map.specs.Laws.{same, other}
 use Rattle.tensor_map.proofs.Lemmas.{tested, at_itself, value_here, value_elsewhere, value_unlisted}
 use Rattle.tensor_storage.specs.Levels.{meaning}

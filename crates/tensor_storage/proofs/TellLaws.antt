@@ -12,8 +12,7 @@ use Rattle.level_core.specs.Entries.{one}
 use Rattle.level_rows.specs.Stacks.{Path}
 use Rattle.format_spec.specs.declared.format.FormatLevel.{FormatLevel}
 use Rattle.format_spec.specs.Formats.{letters_of, IsFormat}
-use Rattle.tensor_map.specs.declared.entries.Entry.{Entry}
-use Rattle.tensor_map.specs.Entries.{IsEntry, Listed, value_at, StrictlyIncreasing}
+use Rattle.tensor_map.specs.Entries.{Entry, IsEntry, Listed, value_at, StrictlyIncreasing}
 use Rattle.tensor_map.specs.Laws.{same, other}
 use Rattle.tensor_map.proofs.Lemmas.{tested, listed_at, value_unlisted, value_of_entry}
 use Rattle.tensor_storage.specs.Arranged.{no_entry, level_coords, table_of, AreInside, IsPackedFrom}

@@ -3,7 +3,7 @@ use Rattle.std.specs.Prelude.{ℕ, ◌<◌, List, [], length, All, slice_index, 
 use Rattle.std.specs.List.{range_with_len}
 use Rattle.level_rows.specs.Tables.{Increase}
 use Rattle.format_spec.specs.declared.format.FormatLevel.{FormatLevel}
-use Rattle.tensor_map.specs.declared.entries.Entry.{Entry}
+use Rattle.tensor_map.specs.Entries.{Entry}
 use Rattle.tensor_storage.specs.Counts.{positions_of}
 use Rattle.tensor_storage.specs.Packed.{IsFirstAbove}
 use Rattle.tensor_storage.specs.Stands.{IsPacked}

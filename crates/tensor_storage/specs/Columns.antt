@@ -1,7 +1,7 @@
 -- The coordinates of arranged entries, looked up once and kept level by level.
 use Rattle.std.specs.Prelude.{◌≡◌, ℕ, ◌<◌, List, [], length, map, slice_index, slice_index_or}
 use Rattle.format_spec.specs.declared.format.FormatLevel.{FormatLevel}
-use Rattle.tensor_map.specs.declared.entries.Entry.{Entry}
+use Rattle.tensor_map.specs.Entries.{Entry}
 use Rattle.tensor_storage.specs.Arranged.{level_coords}
 
 -- the coordinates at a level of the entries that numbers name, one after another

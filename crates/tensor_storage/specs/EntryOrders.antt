@@ -3,7 +3,7 @@ use Rattle.std.specs.Prelude.{◌≡◌, ℕ, List, Vec}
 use Rattle.std.specs.List.{range_with_len}
 use Rattle.std.specs.declared.alloc.Global.{Global}
 use Rattle.format_spec.specs.declared.format.FormatLevel.{FormatLevel}
-use Rattle.tensor_map.specs.declared.entries.Entry.{Entry}
+use Rattle.tensor_map.specs.Entries.{Entry}
 use Rattle.tensor_storage.specs.declared.entries.EntryOrder.{EntryOrder}
 use Rattle.tensor_storage.specs.declared.entries.EntryOrder.TheVariants.{Own, Sorted}
 use Rattle.tensor_storage.specs.Columns.{AreColumns}

@@ -3,7 +3,7 @@ use Rattle.std.specs.Prelude.{◌≡◌, ◌↔◌, ℕ, ◌<◌, List, [], ◌�
 use Rattle.level_core.specs.declared.span.Span.{Span}
 use Rattle.level_core.specs.declared.span.Entry.{Entry}
 use Rattle.level_core.specs.Meaning.{Meaning}
-use Rattle.tensor_map.specs.declared.entries.Entry.{Entry as TensorEntry}
+use Rattle.tensor_map.specs.Entries.{Entry as TensorEntry}
 use Rattle.numbers.specs.Arithmetic.{Arithmetic}
 use Rattle.tensor_map.specs.Entries.{Entries, IsEntry, Listed, value_at, SameListed, SameValues, StrictlyIncreasing}
 use Rattle.tensor_storage.specs.Storages.{Storage, EndsAt}

@@ -5,8 +5,7 @@ use Rattle.level_core.specs.declared.letter.Letter.{Letter}
 use Rattle.level_rows.specs.Tables.{Increase}
 use Rattle.format_spec.specs.declared.format.FormatLevel.{FormatLevel}
 use Rattle.format_spec.specs.Formats.{IsFormat}
-use Rattle.tensor_map.specs.declared.entries.Entry.{Entry}
-use Rattle.tensor_map.specs.Entries.{IsEntry, StrictlyIncreasing}
+use Rattle.tensor_map.specs.Entries.{Entry, IsEntry, StrictlyIncreasing}
 use Rattle.tensor_storage.specs.Arranged.{table_of, AreArranged, AreInside, IsPackedFrom}
 use Rattle.tensor_storage.specs.Counts.{positions_from, positions_of, AreFew}
 use Rattle.tensor_storage.specs.declared.level.StorageLevel.{StorageLevel}

@@ -3,8 +3,7 @@ use Rattle.std.specs.Prelude.{◌≡◌, ℕ, List, length, All, slice_index}
 use Rattle.numbers.specs.Arithmetic.{Arithmetic}
 use Rattle.format_spec.specs.declared.format.FormatLevel.{FormatLevel}
 use Rattle.format_spec.specs.Formats.{IsFormat}
-use Rattle.tensor_map.specs.declared.entries.Entry.{Entry}
-use Rattle.tensor_map.specs.Entries.{IsEntry, Listed, value_at, StrictlyIncreasing}
+use Rattle.tensor_map.specs.Entries.{Entry, IsEntry, Listed, value_at, StrictlyIncreasing}
 use Rattle.tensor_storage.specs.Arranged.{AreInside, IsPackedFrom}
 use Rattle.tensor_storage.specs.Storages.{Storage, EndsAt}
 

@@ -12,7 +12,7 @@ use Rattle.kernel_code.proofs.Does.{does_append, does_nothing, does_if_yes, does
 use Rattle.kernel_code.specs.Keeps.{Leaves, no_turns}
 use Rattle.kernel_code.proofs.Keeps.{leaves_none}
 use Rattle.level_core.specs.Fragments.{OptionLeft, RefusedWithin}
-use Rattle.tensor_map.specs.declared.entries.Entry.{Entry}
+use Rattle.tensor_map.specs.Entries.{Entry}
 use Rattle.expr_terms.specs.Points.{coords_at}
 use Rattle.expr_terms.specs.Terms.{contains}
 use Rattle.expr_terms.specs.declared.term.Term.{Term}

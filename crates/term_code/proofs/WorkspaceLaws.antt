@@ -17,7 +17,7 @@ use Rattle.kernel_code.proofs.Does.{does_nothing, does_push, does_weaker}
 use Rattle.kernel_code.specs.Keeps.{Leaves, NoVariable, no_turns}
 use Rattle.kernel_code.proofs.Keeps.{this_array, other_array}
 use Rattle.level_core.specs.Fragments.{RefusedWithin}
-use Rattle.tensor_map.specs.declared.entries.Entry.{Entry}
+use Rattle.tensor_map.specs.Entries.{Entry}
 use Rattle.result_targets.specs.Sinks.{AddsTo, VarsAre}
 use Rattle.term_code.specs.WorkspaceSinks.{WorkspaceSink, column, values, IsOfWorkspace, HoldsRows, PassesPairs, workspace_sink, push_code}
 

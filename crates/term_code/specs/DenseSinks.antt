@@ -9,8 +9,7 @@ use Rattle.kernel_code.specs.declared.syntax.Op.TheVariants.{Add, Mul}
 use Rattle.kernel_code.specs.declared.syntax.KExpr.{KExpr, Num, Var, At, Bin}
 use Rattle.kernel_code.specs.Arrays.{same_arr}
 use Rattle.kernel_code.specs.Keeps.{NoVariable}
-use Rattle.tensor_map.specs.declared.entries.Entry.{Entry}
-use Rattle.tensor_map.specs.Entries.{value_at}
+use Rattle.tensor_map.specs.Entries.{Entry, value_at}
 use Rattle.tns_io.specs.Positions.{product, IsBelow, position}
 use Rattle.expr_terms.specs.Terms.{contains}
 use Rattle.result_targets.specs.Sinks.{Sink}

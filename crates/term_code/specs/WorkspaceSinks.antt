@@ -7,7 +7,7 @@ use Rattle.kernel_code.specs.declared.syntax.Arr.TheVariants.{ListCoordinates, L
 use Rattle.kernel_code.specs.declared.syntax.KExpr.{Var}
 use Rattle.kernel_code.specs.declared.syntax.KStmt.{KStmt, Push}
 use Rattle.kernel_code.specs.Keeps.{NoVariable}
-use Rattle.tensor_map.specs.declared.entries.Entry.{Entry}
+use Rattle.tensor_map.specs.Entries.{Entry}
 use Rattle.result_targets.specs.Sinks.{Sink}
 pub use Rattle.term_code.specs.declared.workspace_sink.WorkspaceSink.{WorkspaceSink}
 

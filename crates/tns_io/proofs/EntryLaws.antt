@@ -5,7 +5,7 @@ use Rattle.std.specs.Prelude.{Ok, Err, refl}
 use Rattle.std.proofs.Common.{arith, ap, subst, sym, ◌∙◌, inl, inr, append_assoc, append-nil, length-append}
 use Rattle.std.proofs.Math.Seq.{take-length}
 use Rattle.std.proofs.lemmas.List.{take-append-drop}
-use Rattle.tensor_map.specs.declared.entries.Entry.{Entry}
+use Rattle.tensor_map.specs.Entries.{Entry}
 use Rattle.text_lines.specs.Buffered.{count_of}
 use Rattle.text_lines.specs.Cutting.{begun_line, ended_lines, has_long_line, told_lines}
 use Rattle.text_lines.specs.LineReader.{LineReader, TellsLine, TellsThis, IsTooLong}

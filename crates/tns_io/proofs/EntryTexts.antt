@@ -5,8 +5,7 @@ use Rattle.std.specs.List.{flat_map}
 use Rattle.std.proofs.Common.{arith, ap, sym, ◌∙◌, inl, inr, subst}
 use Rattle.std.proofs.lemmas.List.Elements.{All-filter, All-tail}
 use Rattle.numbers.specs.Arithmetic.{Arithmetic, Laws}
-use Rattle.tensor_map.specs.declared.entries.Entry.{Entry}
-use Rattle.tensor_map.specs.Entries.{IsEntry, Listed, StrictlyIncreasing, coords_of, is_nonzero, value_at}
+use Rattle.tensor_map.specs.Entries.{Entry, IsEntry, Listed, StrictlyIncreasing, coords_of, is_nonzero, value_at}
 use Rattle.tensor_map.specs.Laws.{AllNonzero}
 use Rattle.tensor_map.proofs.Lemmas.{increasing_filter, listed_nonzero, none_zero_filter, all_nonzero, value_nonzero, value_of_entry}
 use Rattle.tns_io.specs.Positions.{IsBelow}

@@ -2,7 +2,7 @@
 use Rattle.std.specs.Prelude.{◌≡◌, ℕ, ◌+◌, ◌<◌, List, [], ◌∷◌, ◌++◌, length, take, slice_set, Result, Ok, Err, refl}
 use Rattle.std.proofs.Common.{arith, ap, subst, sym, ◌∙◌, append_assoc}
 use Rattle.std.proofs.lemmas.List.{take_more_set}
-use Rattle.tensor_map.specs.declared.entries.Entry.{Entry}
+use Rattle.tensor_map.specs.Entries.{Entry}
 use Rattle.tns_io.specs.Fields.{AreCoordinates, behind_coords}
 use Rattle.tns_io.specs.Reading.{coordinate_of, with_first, entry_of}
 use Rattle.text_lines.specs.declared.line_kind.LineKind.{LineKind}

@@ -4,8 +4,7 @@ use Rattle.std.specs.Prelude.{Option, Some, None}
 use Rattle.std.specs.Prelude.{Result, Ok, Err, IfErr, MatchResult, refl}
 use Rattle.std.proofs.Common.{subst}
 use Rattle.limits.specs.Limits.{greatest_file_coordinate, greatest_line_bytes}
-use Rattle.tensor_map.specs.Entries.{Entries}
-use Rattle.tensor_map.specs.declared.entries.Entry.{Entry}
+use Rattle.tensor_map.specs.Entries.{Entry, Entries}
 use Rattle.text_lines.specs.Lines.{lines}
 use Rattle.text_lines.specs.Numbers.{number_of, read_whole_of}
 use Rattle.text_lines.specs.Tokens.{tokens}

@@ -6,7 +6,7 @@ use Rattle.std.specs.Option.{option_map}
 use Rattle.std.specs.Str.{all_ascii_digits}
 use Rattle.std.proofs.Common.{arith, ap, sym, subst, ◌∙◌}
 use Rattle.std.proofs.lemmas.Bool.{and_right, eq-eqb, eqb-true}
-use Rattle.tensor_map.specs.declared.entries.Entry.{Entry}
+use Rattle.tensor_map.specs.Entries.{Entry}
 use Rattle.text_lines.specs.Cutting.{is_long}
 use Rattle.text_lines.specs.Numbers.{is_decimal, is_point, number_of, whole_part_of, whole_within, with_sign}
 use Rattle.text_lines.specs.Tokens.{tokens}

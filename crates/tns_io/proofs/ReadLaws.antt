@@ -6,8 +6,7 @@ use Rattle.std.proofs.lemmas.Bool.{ltb-true}
 use Rattle.std.proofs.lemmas.List.Elements.{All-nil, All-cons, All-tail}
 use Rattle.limits.specs.Limits.{greatest_file_coordinate}
 use Rattle.limits.proofs.Limits.{file_coordinates_are_ranges}
-use Rattle.tensor_map.specs.declared.entries.Entry.{Entry}
-use Rattle.tensor_map.specs.Entries.{Listed, SameListed}
+use Rattle.tensor_map.specs.Entries.{Entry, Listed, SameListed}
 use Rattle.tensor_map.proofs.Lemmas.{listed_at}
 use Rattle.text_lines.specs.Cutting.{is_long}
 use Rattle.text_lines.specs.Numbers.{number_of}

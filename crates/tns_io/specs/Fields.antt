@@ -1,7 +1,7 @@
 -- The tokens of a line, from the left.
 use Rattle.std.specs.Prelude.{◌≡◌, ℕ, ◌+◌, ◌<◌, ◌==◌, List, ◌++◌, length}
 use Rattle.std.specs.Prelude.{Bool, Option, Some, None, Result, Ok, Err, if◌then◌else◌}
-use Rattle.tensor_map.specs.declared.entries.Entry.{Entry}
+use Rattle.tensor_map.specs.Entries.{Entry}
 use Rattle.tns_io.specs.Reading.{Reading, entry_of}
 use Rattle.tns_io.specs.Reading.Reading.{Skipped, Read, Bad}
 use Rattle.text_lines.specs.declared.line_kind.LineKind.{LineKind}

@@ -1,6 +1,6 @@
 -- What a reader of `.tns` files keeps of the lines that it has read.
 use Rattle.std.specs.Prelude.{◌≡◌, ℕ, false, List, [], ◌∷◌, ◌++◌, Ok, Option, Some, None, Bool, true}
-use Rattle.tensor_map.specs.declared.entries.Entry.{Entry}
+use Rattle.tensor_map.specs.Entries.{Entry}
 use Rattle.text_lines.specs.Cutting.{has_long_line, told_lines}
 use Rattle.text_lines.specs.LineReader.{LineReader}
 use Rattle.tns_io.specs.Reading.{Reading, entries_from}

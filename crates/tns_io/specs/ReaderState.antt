@@ -1,6 +1,6 @@
 -- What is true of a reader of `.tns` files at all times.
 use Rattle.std.specs.Prelude.{◌≡◌, ℕ, Bool, List, Option, Some, None}
-use Rattle.tensor_map.specs.declared.entries.Entry.{Entry}
+use Rattle.tensor_map.specs.Entries.{Entry}
 use Rattle.tns_io.specs.ReadSoFar.{IsReadSoFar, StaysBad}
 use Rattle.tns_io.specs.declared.file_fault.FileFault.{FileFault}
 use Rattle.tns_io.specs.declared.file_fault.FileFault.TheVariants.{Line, Memory}

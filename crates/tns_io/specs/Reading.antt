@@ -4,7 +4,7 @@ use Rattle.std.specs.Prelude.{ℕ, zero, suc, ◌+◌, ℤ, pos, negsuc, Bool, t
 use Rattle.std.specs.Prelude.{Result, Ok, Err, if◌then◌else◌, slice_index}
 use Rattle.limits.specs.Limits.{greatest_file_coordinate, greatest_line_bytes}
 use Rattle.numbers.specs.Signed.{word_of_signed}
-use Rattle.tensor_map.specs.declared.entries.Entry.{Entry}
+use Rattle.tensor_map.specs.Entries.{Entry}
 use Rattle.text_lines.specs.Lines.{lines}
 use Rattle.text_lines.specs.Numbers.{number_of, read_whole_of}
 use Rattle.text_lines.specs.Tokens.{tokens}

@@ -7,7 +7,7 @@ use Rattle.limits.specs.Limits.{greatest_position_count}
 use Rattle.numbers.specs.Arithmetic.{Arithmetic}
 use Rattle.numbers.specs.Signed.{written_of}
 use Rattle.tensor_map.specs.Order.{Increasing}
-use Rattle.tensor_map.specs.declared.entries.Entry.{Entry}
+use Rattle.tensor_map.specs.Entries.{Entry}
 use Rattle.tns_io.specs.Positions.{IsBelow}
 
 -- each coordinate, counted from 1, and a blank behind it

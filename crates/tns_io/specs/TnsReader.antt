@@ -1,7 +1,6 @@
 -- What contracts see of a reader of `.tns` files, and what it answers.
 use Rattle.std.specs.Prelude.{◌≡◌, ℕ, min, Bool, true, false, List, [], ◌∷◌, ◌++◌, Ok, Err, ◌⊎◌}
-use Rattle.tensor_map.specs.Entries.{Entries}
-use Rattle.tensor_map.specs.declared.entries.Entry.{Entry}
+use Rattle.tensor_map.specs.Entries.{Entry, Entries}
 use Rattle.text_lines.specs.Cutting.{ended_lines}
 use Rattle.tns_io.specs.Reading.{is_entry_kind, reading, entries_from, entries_of_text}
 use Rattle.tns_io.specs.Reading.Reading.{Read}

@@ -4,8 +4,7 @@ use Rattle.std.specs.Fmt.{decimal, signed_decimal}
 use Rattle.limits.specs.Limits.{greatest_file_coordinate}
 use Rattle.numbers.specs.Arithmetic.{Arithmetic}
 use Rattle.numbers.specs.Signed.{written_of}
-use Rattle.tensor_map.specs.declared.entries.Entry.{Entry}
-use Rattle.tensor_map.specs.Entries.{value_at}
+use Rattle.tensor_map.specs.Entries.{Entry, value_at}
 use Rattle.tns_io.specs.Positions.{IsBelow}
 use Rattle.tns_io.specs.Reading.{BadLine}
 use Rattle.tns_io.specs.Text.{coords_text}

@@ -21,8 +21,7 @@ use Rattle.kernel_code.proofs.ArrayNames.{same_arr_self}
 use Rattle.kernel_code.proofs.Does.{does_nothing, does_set, does_put, does_add_to, does_cut, does_if_yes, does_if_no}
 use Rattle.kernel_code.proofs.Keeps.{this_var, other_var, this_array, other_array, leaves_none, leaves_set, leaves_array}
 use Rattle.kernel_code.proofs.Words.{word_is}
-use Rattle.tensor_map.specs.declared.entries.Entry.{Entry}
-use Rattle.tensor_map.specs.Entries.{Listed, is_at, value_at}
+use Rattle.tensor_map.specs.Entries.{Entry, Listed, is_at, value_at}
 use Rattle.tensor_map.specs.Laws.{same, other}
 use Rattle.tensor_map.proofs.Lemmas.{tested, value_elsewhere, value_unlisted, value_of_entry, unlisted_before}
 use Rattle.tns_io.specs.Positions.{IsBelow}

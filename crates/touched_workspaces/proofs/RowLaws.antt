@@ -24,8 +24,7 @@ use Rattle.kernel_code.proofs.Does.{does_nothing, does_weaker, does_put, does_pu
 use Rattle.kernel_code.proofs.Keeps.{this_array, other_array, leaves_none, leaves_array, leaves_wider}
 use Rattle.kernel_code.proofs.Words.{word_is, less_is}
 use Rattle.level_core.specs.Fragments.{RefusedWithin}
-use Rattle.tensor_map.specs.declared.entries.Entry.{Entry}
-use Rattle.tensor_map.specs.Entries.{Listed, SameListed, is_at, value_at, values_at}
+use Rattle.tensor_map.specs.Entries.{Entry, Listed, SameListed, is_at, value_at, values_at}
 use Rattle.tensor_map.specs.Laws.{same, other}
 use Rattle.tensor_map.proofs.Lemmas.{tested, at_itself, value_append, value_here, value_elsewhere, listed_append}
 use Rattle.tns_io.specs.Positions.{IsBelow}

@@ -18,8 +18,7 @@ use Rattle.kernel_code.specs.declared.syntax.Arr.TheVariants.{Range, Key, Sums}
 use Rattle.kernel_code.specs.declared.syntax.KStmt.{SortSum}
 use Rattle.kernel_code.proofs.Does.{does_weaker}
 use Rattle.kernel_code.proofs.Keeps.{leaves_wider}
-use Rattle.tensor_map.specs.declared.entries.Entry.{Entry}
-use Rattle.tensor_map.specs.Entries.{Listed, SameListed, coords_of}
+use Rattle.tensor_map.specs.Entries.{Entry, Listed, SameListed, coords_of}
 use Rattle.tensor_map.specs.Order.{Increasing}
 use Rattle.tns_io.specs.Positions.{IsBelow}
 use Rattle.workspaces.proofs.SumsOfPairs.{same_rows}

@@ -2,7 +2,7 @@
 use Rattle.std.specs.Prelude.{◌≡◌, ℕ, List, [], ◌∷◌, Some, slice_get}
 use Rattle.numbers.specs.Arithmetic.{Arithmetic}
 use Rattle.kernel_code.specs.Meaning.{State}
-use Rattle.tensor_map.specs.declared.entries.Entry.{Entry}
+use Rattle.tensor_map.specs.Entries.{Entry}
 use Rattle.drained_workspaces.specs.Draining.{Draining}
 use Rattle.touched_workspaces.specs.Drains.{IsDraining}
 use Rattle.touched_workspaces.specs.Sinks.{TouchedSink}

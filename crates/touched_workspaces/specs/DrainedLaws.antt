@@ -6,7 +6,7 @@ use Rattle.kernel_code.specs.declared.syntax.Arr.{Arr}
 use Rattle.kernel_code.specs.declared.syntax.Arr.TheVariants.{Range, Values, Dimension, Ends, Coordinates, Width, Key, Sums}
 use Rattle.kernel_code.specs.declared.syntax.Arr.TheVariants.{ListCoordinates, ListPositions}
 use Rattle.kernel_code.specs.Meaning.{State}
-use Rattle.tensor_map.specs.declared.entries.Entry.{Entry}
+use Rattle.tensor_map.specs.Entries.{Entry}
 use Rattle.term_code.specs.WorkspaceSinks.{HoldsRows, IsOfWorkspace}
 use Rattle.result_targets.specs.Scratch.{is_scratch}
 use Rattle.drained_workspaces.specs.Draining.{DrainingLaws}

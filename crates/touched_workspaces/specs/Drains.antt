@@ -11,8 +11,7 @@ use Rattle.kernel_code.specs.declared.syntax.KStmt.{KStmt, SortSum}
 use Rattle.kernel_code.specs.Does.{Does, Never}
 use Rattle.kernel_code.specs.Keeps.{Leaves, NoVariable, no_turns}
 use Rattle.kernel_code.specs.Meaning.{Setting, State, value, word_of}
-use Rattle.tensor_map.specs.declared.entries.Entry.{Entry}
-use Rattle.tensor_map.specs.Entries.{StrictlyIncreasing}
+use Rattle.tensor_map.specs.Entries.{Entry, StrictlyIncreasing}
 use Rattle.workspaces.specs.Workspaces.{AreSums}
 use Rattle.concrete_notation.specs.Contributions.{sums_of}
 use Rattle.term_code.specs.WorkspaceSinks.{HoldsRows, column, values}

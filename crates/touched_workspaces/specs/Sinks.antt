@@ -6,7 +6,7 @@ use Rattle.kernel_code.specs.declared.syntax.Arr.{Arr}
 use Rattle.kernel_code.specs.declared.syntax.Arr.TheVariants.{Range}
 use Rattle.kernel_code.specs.Keeps.{NoVariable}
 use Rattle.kernel_code.specs.Meaning.{State}
-use Rattle.tensor_map.specs.declared.entries.Entry.{Entry}
+use Rattle.tensor_map.specs.Entries.{Entry}
 use Rattle.tns_io.specs.Positions.{IsBelow}
 use Rattle.result_targets.specs.Sinks.{Sink}
 use Rattle.term_code.specs.WorkspaceSinks.{HoldsRows, IsOfWorkspace, PassesPairs}

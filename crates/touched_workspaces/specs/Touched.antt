@@ -7,8 +7,7 @@ use Rattle.numbers.specs.Arithmetic.{Arithmetic}
 use Rattle.kernel_code.specs.declared.syntax.Arr.{Arr}
 use Rattle.kernel_code.specs.declared.syntax.Arr.TheVariants.{Key, Sums}
 use Rattle.kernel_code.specs.Meaning.{word_of}
-use Rattle.tensor_map.specs.declared.entries.Entry.{Entry}
-use Rattle.tensor_map.specs.Entries.{SameListed, value_at}
+use Rattle.tensor_map.specs.Entries.{Entry, SameListed, value_at}
 use Rattle.term_code.specs.WorkspaceSinks.{HoldsRows}
 
 -- whether a coordinate stands in a list

@@ -8,8 +8,7 @@ use Rattle.std.proofs.Math.Bool.{or-false}
 use denote.Hole.Carrier.{hidden}
 use Rattle.numbers.specs.Arithmetic.{Arithmetic, Laws}
 use Rattle.numbers.proofs.Sums.{total_fits}
-use Rattle.tensor_map.specs.declared.entries.Entry.{Entry}
-use Rattle.tensor_map.specs.Entries.{is_at, value_at, values_at}
+use Rattle.tensor_map.specs.Entries.{Entry, is_at, value_at, values_at}
 use Rattle.tensor_map.proofs.Lemmas.{value_here, value_elsewhere, value_append}
 use Rattle.index_notation.specs.declared.operator.Operator.{Operator}
 use Rattle.index_notation.specs.declared.syntax.Access.{Access}

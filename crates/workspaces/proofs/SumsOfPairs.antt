@@ -7,8 +7,7 @@ use Rattle.std.specs.Cmp.Lexicographic.{slice_cmp}
 use Rattle.std.proofs.Common.{arith, ap, subst, sym, ◌∙◌, inl, inr}
 use Rattle.numbers.specs.Arithmetic.{Arithmetic, Laws}
 use Rattle.tensor_map.specs.Order.{IsBefore, IsBeforeAll}
-use Rattle.tensor_map.specs.Entries.{IsEntry, coords_of, value_at, Listed, StrictlyIncreasing}
-use Rattle.tensor_map.specs.declared.entries.Entry.{Entry}
+use Rattle.tensor_map.specs.Entries.{Entry, IsEntry, coords_of, value_at, Listed, StrictlyIncreasing}
 use Rattle.tensor_map.proofs.OrderLaws.{before_irreflexive, compared_as, before_all_trans}
 use Rattle.tensor_map.proofs.Lemmas.{unlisted_before, value_of_entry}
 use Rattle.tensor_map.proofs.Permutations.{value_permutation, listed_permutation}

@@ -4,8 +4,7 @@
 use Rattle.std.specs.Prelude.{◌≡◌, ℕ, Bool, true, false, List, Option, None, Some, slice_get}
 use Rattle.std.specs.List.{list_any}
 use Rattle.numbers.specs.Arithmetic.{Arithmetic}
-use Rattle.tensor_map.specs.declared.entries.Entry.{Entry}
-use Rattle.tensor_map.specs.Entries.{Entries, is_at}
+use Rattle.tensor_map.specs.Entries.{Entry, Entries, is_at}
 use Rattle.index_notation.specs.declared.syntax.Access.{Access}
 use Rattle.index_notation.specs.declared.syntax.Expr.{Expr, Num, Access as AccessOf, Binary', Neg', Row_of-Expr, end_of-Expr, more_of-Expr}
 use Rattle.index_notation.specs.Operators.{is_there}

@@ -2,8 +2,7 @@
 -- 'Tensor Algebra Compilation with Workspaces' (CGO 2019), what is drained is what the pairs add up to, by coordinates.
 use Rattle.std.specs.Prelude.{ℕ, List}
 use Rattle.numbers.specs.Arithmetic.{Arithmetic}
-use Rattle.tensor_map.specs.Entries.{SameListed, SameValues, StrictlyIncreasing}
-use Rattle.tensor_map.specs.declared.entries.Entry.{Entry}
+use Rattle.tensor_map.specs.Entries.{Entry, SameListed, SameValues, StrictlyIncreasing}
 
 -- the number of coordinates of each pair, and the pairs in the order in which they were added
 pub record Workspace : Type 0 where

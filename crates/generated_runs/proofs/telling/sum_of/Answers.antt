@@ -3,7 +3,7 @@ use Rattle.std.proofs.Common.{◌∙◌, ap, subst, arith}
 use Rattle.numbers.specs.Ring.{ring}
 use Rattle.numbers.specs.RingLaws.{ring_laws}
 use Rattle.numbers.specs.Sums.{total_of}
-use Rattle.tensor_map.specs.declared.entries.Entry.{Entry}
+use Rattle.tensor_map.specs.Entries.{Entry}
 use Rattle.generated_runs.proofs.Totals.{values_of, total_more}
 use Rattle.generated_runs.proofs.telling.sum_of.Goals as goal
 

@@ -1,5 +1,5 @@
 use Rattle.std.proofs.Common.{◌≢◌, ◌<◌, ◌∙◌, sym, ap, [], ◌+◌, arith, length}
-use Rattle.tensor_map.specs.declared.entries.Entry.{Entry}
+use Rattle.tensor_map.specs.Entries.{Entry}
 use Rattle.mtx_io.proofs.WrittenEntries.{count_more, count_same}
 use Rattle.mtx_io.proofs.printing.count_nonzero.Goals.{then-value-zero, else-value-zero}
 use Rattle.mtx_io.proofs.printing.count_nonzero.Goals as goal

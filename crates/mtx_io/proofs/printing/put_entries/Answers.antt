@@ -1,7 +1,6 @@
 use Rattle.std.proofs.Common.{[], ◌∷◌, ◌+◌, ◌<◌, length, arith}
 use Rattle.std.specs.Prelude.{filter, drop, slice_index_or}
-use Rattle.tensor_map.specs.Entries.{is_nonzero}
-use Rattle.tensor_map.specs.declared.entries.Entry.{Entry}
+use Rattle.tensor_map.specs.Entries.{Entry, is_nonzero}
 use Rattle.mtx_io.specs.Text.{entries_text}
 use Rattle.text_lines.proofs.PutPieces.{more_so_far, rest_told, then_rest, refused}
 use Rattle.mtx_io.proofs.WrittenEntries.{left_is}

@@ -1,5 +1,5 @@
 use Rattle.std.proofs.Common.{◌+◌, ◌<◌, ◌^◌, ℕ, List, [], arith, ap, length, subst, sym, ◌∙◌, slice_index_or}
-use Rattle.tensor_map.specs.declared.entries.Entry.{Entry}
+use Rattle.tensor_map.specs.Entries.{Entry}
 use Rattle.mtx_io.specs.Text.{AreSmall}
 use Rattle.mtx_io.proofs.printing.put_if_nonzero.Goals as goal
 

@@ -1,6 +1,5 @@
 use Rattle.std.specs.Prelude.{Bool, List, Result, Ok, Err, IfOk, MatchResult}
-use Rattle.tensor_map.specs.Entries.{Entries, SameListed}
-use Rattle.tensor_map.specs.declared.entries.Entry.{Entry}
+use Rattle.tensor_map.specs.Entries.{Entry, Entries, SameListed}
 use Rattle.tns_io.specs.Text.{AreInRange}
 use Rattle.tns_io.specs.TnsReader.{TnsReader, IsRead, Refuses}
 use Rattle.tns_io.specs.declared.file_fault.FileFault.{FileFault}

@@ -1,5 +1,5 @@
 use Rattle.std.specs.Prelude.{ℕ, ◌<◌, length, slice_index, slice_index_or}
-use Rattle.tensor_map.specs.declared.entries.Entry.{Entry}
+use Rattle.tensor_map.specs.Entries.{Entry}
 use Rattle.storage_cases.proofs.tensors.are_inside.Given as goal
 
 abbrev pub invariant-loop-i : goal.invariant-loop-i

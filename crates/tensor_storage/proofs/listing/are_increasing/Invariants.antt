@@ -1,5 +1,5 @@
 use Rattle.std.specs.Prelude.{ℕ, suc, ◌<◌, slice_index_or}
-use Rattle.tensor_map.specs.declared.entries.Entry.{Entry}
+use Rattle.tensor_map.specs.Entries.{Entry}
 use Rattle.tensor_map.specs.Order.{IsBefore}
 use Rattle.tensor_storage.proofs.listing.are_increasing.Given as goal
 

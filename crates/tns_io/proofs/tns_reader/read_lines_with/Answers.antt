@@ -3,7 +3,7 @@ use Rattle.std.proofs.Common.{ap, subst, sym, ◌∙◌}
 use Rattle.text_lines.specs.Buffered.{count_of}
 use Rattle.text_lines.specs.Cutting.{told_lines}
 use Rattle.text_lines.specs.LineReader.{Feeds, LineReader, TellsLine, IsTooLong}
-use Rattle.tensor_map.specs.declared.entries.Entry.{Entry}
+use Rattle.tensor_map.specs.Entries.{Entry}
 use Rattle.text_lines.specs.declared.step.Step.{Step}
 use Rattle.text_lines.specs.declared.step.Step.TheVariants.{Line as Told}
 use Rattle.text_lines.proofs.CuttingLaws.{told_line_short}

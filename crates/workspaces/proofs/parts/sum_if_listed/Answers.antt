@@ -1,7 +1,7 @@
 use Rattle.std.specs.Prelude.{◌≡◌, ◌+◌, ◌<◌, nat_eq, length, take, slice_index_or}
 use Rattle.std.specs.Cmp.Lexicographic.{pointwise}
 use Rattle.std.proofs.Common.{◌∙◌, sym, ap, subst, arith}
-use Rattle.tensor_map.specs.declared.entries.Entry.{Entry}
+use Rattle.tensor_map.specs.Entries.{Entry}
 use Rattle.workspaces.proofs.Present.{TellsEntries, tells_more, tells_no_more}
 use Rattle.workspaces.proofs.parts.sum_if_listed.Goals as goal
 use Rattle.workspaces.proofs.parts.sum_if_listed.Goals.{then-eq, else-eq}

@@ -2,7 +2,7 @@ use Rattle.std.proofs.Common.{rules}
 use Rattle.std.proofs.lemmas.List.Sorted.{answers_always}
 use Rattle.tensor_map.specs.Sorted.{is_before}
 use Rattle.tensor_map.proofs.Sorting.{is_before_orders}
-use Rattle.tensor_map.proofs.rows.VecEntryRows.sort_by_coords.Goals as goal
+use Rattle.tensor_map.proofs.rows.VecWholeEntryRows.sort_by_coords.Goals as goal
 
 pub returns-clause-sorted : goal.returns-clause-sorted
 returns-clause-sorted c =
