@@ -30,11 +30,13 @@ use Rattle.term_code.specs.declared.places.Places.{Places}
 use Rattle.term_code.specs.Places.{StartsAt}
 use Rattle.operand_arrays.specs.Apart.{AreFrom}
 use Rattle.operand_arrays.specs.Operands.{stored_in}
+use Rattle.operand_arrays.specs.Terms.{TargetIsBound}
 use Rattle.kernel_correctness.specs.Kernels.{Ends, IsRightKernel, IsRightOutcome}
 use Rattle.kernel_correctness.proofs.Sound.{right_is_sound}
 use Rattle.kernel_correctness.specs.Stores.{Store, IsStoreOf, IsGiven, operand_of, told_by}
 use Rattle.dense_results.specs.Kernels.{AreAtBase}
 use Rattle.dense_results.specs.Operands.{IsReadStore, operands_in}
+use Rattle.dense_results.proofs.Loops.{lowered_loops_go_through}
 use Rattle.kernel_emit.specs.Emitted.{AreFew}
 use Rattle.row_orders.specs.Takings.{calls_for_workspace}
 use Rattle.row_orders.proofs.Lists.{clash}
@@ -60,6 +62,7 @@ use Rattle.grouped_kernels.proofs.Groups.{appends_by_groups}
 use Rattle.taco_compiler.specs.Compiled.{AreFewTurns, DrainsFew, IsCompiled, ProbesFew}
 use Rattle.taco_compiler.specs.Loops.{AreLoopsOf}
 use Rattle.taco_compiler.proofs.LoopTurns.{in_order_of, within_cost, within_searches}
+use Rattle.taco_compiler.proofs.Targets.{keys_bound}
 
 -- turns of all kinds but those of drains
 abbrev undrained : (LoopKind → ℕ) → LoopKind → ℕ
@@ -86,6 +89,11 @@ module _ (a : Arithmetic) (laws : Laws a) (s : Statement) (formats : List (List 
 
   own_loops : AreAppendedLoops s formats c loops
   own_loops = record { shares = l.shares; none = l.none; rows = l.rows; shape = l.shape; words = l.words }
+
+  pub bound_there : TargetIsBound (left_in_order s order) [] loops
+  bound_there =
+      keys_bound s formats f.ordered order l.is_order loops
+      (lowered_loops_go_through s f.ordered.numbered formats c in_order loops l.shape true).bound
 
   module _ {W : Type 0} (within : Sink W) (drains : Draining W) (g : Grouped W AppendedSink) (own : IsSinkOf a formats g.outer.now)
       (places : Places) (at : AreAtBase s (behind g.outer.now) places) (from : AreFrom (behind g.outer.now) places)

@@ -1,5 +1,6 @@
 pub mod Appending
 pub mod Compiled
 pub mod Filling
+pub mod Grouping
 pub mod Loops
 pub mod Shorter

@@ -1,0 +1,7 @@
+use Rattle.std.specs.Prelude.{take}
+use Rattle.row_orders.specs.Orders.{AreOutsideSums}
+use Rattle.taco_compiler.proofs.grouped.outer_count.Given as goal
+
+-- no summed variable stands before one of those so far
+abbrev pub invariant-loop-depth : goal.invariant-loop-depth
+invariant-loop-depth l = AreOutsideSums l.statement l.order (take l.depth l.left)
