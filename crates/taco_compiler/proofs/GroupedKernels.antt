@@ -1,6 +1,6 @@
 -- A kernel whose code appends rows to its result out of a workspace inside its outer loops is compiled where the statement calls for one: it
 -- is right and sound, its loops turn no more often than the statement costs, and it drains no more rows than the support has points.
-use Rattle.std.specs.Prelude.{◌≡◌, ℕ, ◌+◌, ◌*◌, ◌≤◌, true, List, [], ◌++◌, length, take, drop, slice_index, refl}
+use Rattle.std.specs.Prelude.{◌≡◌, ℕ, ◌+◌, ◌*◌, ◌≤◌, true, if◌then◌else◌, List, [], ◌∷◌, ◌++◌, length, take, drop, slice_index, refl}
 use Rattle.std.proofs.Common.{◌∙◌, sym, ap, subst, arith}
 use Rattle.std.proofs.lemmas.List.{length-map, take-append-drop}
 use Rattle.std.proofs.lemmas.Nat.{mul-le}
@@ -61,6 +61,7 @@ use Rattle.grouped_kernels.specs.Kernels.{Everywhere, GroupsFromTop}
 use Rattle.grouped_kernels.proofs.Groups.{appends_by_groups}
 use Rattle.taco_compiler.specs.Compiled.{AreFewTurns, DrainsFew, IsCompiled, ProbesFew}
 use Rattle.taco_compiler.specs.Loops.{AreLoopsOf}
+use Rattle.taco_compiler.specs.Tails.{tail_of, tail_workspaces}
 use Rattle.taco_compiler.proofs.LoopTurns.{in_order_of, within_cost, within_searches}
 use Rattle.taco_compiler.proofs.Targets.{keys_bound}
 
@@ -102,7 +103,7 @@ module _ (a : Arithmetic) (laws : Laws a) (s : Statement) (formats : List (List 
       (free past : ℕ) (spaces : List ℕ) (groups : GroupsFromTop a within drains g s formats order places loops free past spaces ready emitted)
       (chain : IsChain (take g.first keys) loops) (ended : ℕ)
       (ending : EndsFirst (letters_in g.outer.now) g.outer.now.base ended (length g.outer.now.levels) end) (kernel : Kernel)
-      (declared : kernel.workspaces ≡ spaces) (lists : past ≤ kernel.lists)
+      (declared : kernel.workspaces ≡ spaces) (sized : spaces ≡ tail_workspaces (length (tail_of s order))) (lists : past ≤ kernel.lists)
       (body : kernel.body ≡ ((top ++ begin) ++ (ready ++ emitted)) ++ end) where
     abbrev k : AppendedSink
     k = g.outer.now
@@ -179,6 +180,11 @@ module _ (a : Arithmetic) (laws : Laws a) (s : Statement) (formats : List (List 
               let product = mul-le 1 (length sums) (2 * length store.format) (length sums) (omega (arith, level)) (omega arith) in
               omega (arith, made, drained, product);
         };
+        once = λ some sorted. record {
+          points = length sums;
+          have = has_points a s store sums are is.format many;
+          few = let made = h.1 Drain in let drained = drained_few in omega (arith, made, drained);
+        };
       }
       drains_few (GotStuck statement) h = absurd h.1
       drains_few (TooLong place count) h = tt
@@ -221,4 +227,6 @@ module _ (a : Arithmetic) (laws : Laws a) (s : Statement) (formats : List (List 
           (ProbesFew s formats order store (told_by a store)) (few_probes store is arrays given) (told store is arrays given);
       bare = λ free. absurd (clash (calls_for_workspace s formats order) called free);
       direct = λ free. absurd (clash (calls_for_workspace s formats order) called free);
+      keyed = λ some. declared ∙ sized
+          ∙ sym (ap (λ b. if b then (length s.left.vars ∷ []) else tail_workspaces (length (tail_of s order))) f.sorted);
     }

@@ -1,7 +1,7 @@
 -- The tail of a result in a loop order: the modes of its left variables behind the first summed one.
-use Rattle.std.specs.Prelude.{◌≡◌, ℕ, zero, suc, ◌+◌, ◌-◌, ◌<◌, ◌≤◌, List, [], ◌∷◌, All, length, take, drop, slice_index_or, refl}
+use Rattle.std.specs.Prelude.{◌≡◌, ℕ, zero, suc, ◌+◌, ◌-◌, ◌<◌, ◌≤◌, true, false, if◌then◌else◌, List, [], ◌∷◌, All, length, take, drop, slice_index_or, refl}
 use Rattle.std.proofs.Common.{◌∙◌, sym, ap, subst, arith}
-use Rattle.std.proofs.lemmas.List.{length-drop, take_all}
+use Rattle.std.proofs.lemmas.List.{drop_more, length-drop, take_all}
 use Rattle.std.proofs.lemmas.List.Elements.{All-drop}
 use Rattle.lists.specs.Each.{Each}
 use Rattle.format_spec.specs.declared.format.FormatLevel.{FormatLevel}
@@ -13,10 +13,12 @@ use Rattle.concrete_notation.specs.Nests.{left_in_order}
 use Rattle.concrete_notation.specs.Workspaces.{AreAllDense}
 use Rattle.row_orders.specs.Heads.{result_levels}
 use Rattle.row_orders.specs.Orders.{AreOutsideSums}
+use Rattle.row_orders.specs.Takings.{is_inside_sum}
 use Rattle.row_orders.proofs.LevelOrders.{modes_below, modes_many}
 use Rattle.sparse_results.specs.Keys.{HasOrderedResult}
 use Rattle.taco_compiler.specs.Grouping.{IsTail}
 use Rattle.taco_compiler.specs.Loops.{MayBeLowered}
+use Rattle.taco_compiler.specs.Tails.{from_sum, tail_of}
 use Rattle.taco_compiler.proofs.Targets.{keys_many}
 
 -- a result that is not dense throughout orders the loops
@@ -47,12 +49,37 @@ pub first_within : (s : Statement) (formats : List (List FormatLevel)) (order : 
 first_within s formats order ready some first all within is =
     let many = levels_many s formats order ready some in let same = ap length is in omega (arith, within, many, same)
 
+-- a variable that has a summed one before it is where the tail begins
+pub tail_begins : (s : Statement) (order vs : List ℕ) (n : ℕ) → n < length vs
+    → is_inside_sum s order (slice_index_or vs n 0) ≡ true → drop n vs ≡ from_sum s order (drop n vs)
+tail_begins s order vs n inside is =
+    let behind = drop_more vs n 0 inside in
+    behind
+    ∙ sym (ap (λ b. if b then (slice_index_or vs n 0 ∷ drop (n + 1) vs) else from_sum s order (drop (n + 1) vs)) is)
+    ∙ sym (ap (from_sum s order) behind)
+
+-- one that has none is passed by
+pub tail_behind : (s : Statement) (order vs : List ℕ) (n : ℕ) → n < length vs
+    → is_inside_sum s order (slice_index_or vs n 0) ≡ false → from_sum s order (drop (n + 1) vs) ≡ from_sum s order (drop n vs)
+tail_behind s order vs n inside is =
+    sym (ap (from_sum s order) (drop_more vs n 0 inside)
+    ∙ ap (λ b. if b then (slice_index_or vs n 0 ∷ drop (n + 1) vs) else from_sum s order (drop (n + 1) vs)) is)
+
+-- the tail has as many variables as modes
+pub tail_many : (s : Statement) (formats : List (List FormatLevel)) (order : List ℕ) (first : ℕ) (modes : List ℕ)
+    → IsTail s formats order first modes → length (tail_of s order) ≡ length modes
+tail_many s formats order first modes tail =
+    let long = length-drop first (left_in_order s order) in
+    let same = ap length tail.rest in
+    let many = tail.many in
+    omega (arith, long, same, many)
+
 -- the modes behind those of the first ones are the tail's
 pub tail_is : (s : Statement) (formats : List (List FormatLevel)) (order : List ℕ) → MayBeLowered s formats order
     → (AreAllDense (format_of formats s.left.tensor) → ⊥) → (first : ℕ) (all modes : List ℕ) → first ≤ length (left_in_order s order)
-    → AreOutsideSums s order (take first (left_in_order s order)) → all ≡ modes_of (format_of formats s.left.tensor)
+    → AreOutsideSums s order (take first (left_in_order s order)) → drop first (left_in_order s order) ≡ tail_of s order → all ≡ modes_of (format_of formats s.left.tensor)
     → modes ≡ take (length all - first) (drop first all) → IsTail s formats order first modes
-tail_is s formats order ready some first all modes within outside is are =
+tail_is s formats order ready some first all modes within outside rest is are =
     let long = length-drop first all in
     let whole : modes ≡ drop first all = are ∙ take_all (length all - first) (drop first all) (omega (arith, long)) in
     let inside = first_within s formats order ready some first all within is in
@@ -61,6 +88,7 @@ tail_is s formats order ready some first all modes within outside is are =
     let each = ap length whole in
     record {
       outside = outside;
+      rest = rest;
       modes = whole ∙ ap (drop first) is;
       many = omega (arith, long, inside, many, same, each);
     }

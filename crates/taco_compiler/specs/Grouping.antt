@@ -23,6 +23,7 @@ use Rattle.row_orders.specs.Heads.{head_levels, result_levels}
 use Rattle.row_orders.specs.Orders.{AreOutsideSums}
 use Rattle.row_orders.specs.Takings.{calls_for_workspace, is_unordered}
 use Rattle.taco_compiler.specs.Loops.{AreLoopsOf, MayBeLowered}
+use Rattle.taco_compiler.specs.Tails.{tail_of}
 use Rattle.term_code.specs.declared.places.Places.{Places}
 use Rattle.term_code.specs.Places.{AreBelow}
 
@@ -40,9 +41,10 @@ pub record AppendsToResult (a : Arithmetic) (s : Statement) (formats : List (Lis
   pub base : sink.base ≡ 0
   pub zero : sink.zero ≡ a.zero
 
--- so many of the left variables in loop order have no summed one before them, and these are the modes of the others
+-- so many of the left variables in loop order have no summed one before them; the others are the tail, and these are its modes
 pub record IsTail (s : Statement) (formats : List (List FormatLevel)) (order : List ℕ) (first : ℕ) (modes : List ℕ) : Type 0 where
   pub outside : AreOutsideSums s order (take first (left_in_order s order))
+  pub rest : drop first (left_in_order s order) ≡ tail_of s order
   pub modes : modes ≡ drop first (modes_of (format_of formats s.left.tensor))
   pub many : first + length modes ≡ length (left_in_order s order)
 

@@ -4,3 +4,4 @@ pub mod Filling
 pub mod Grouping
 pub mod Loops
 pub mod Shorter
+pub mod Tails

@@ -1,6 +1,6 @@
 //! The kernel of a statement that calls for a workspace, all of whose result's levels have an order: the workspace stands inside the loops
 //! over the left variables before the first summed one, and at each of their points it is drained into the result.
-ghost use Rattle.std.specs.Prelude.{◌≡◌, ◌+◌, ◌≤◌, ◌∷◌, [], IfOk, length, take};
+ghost use Rattle.std.specs.Prelude.{◌≡◌, ◌+◌, ◌≤◌, ◌∷◌, [], IfOk, length, take, drop};
 ghost use Rattle.concrete_notation.specs.Nests.{left_in_order};
 ghost use Rattle.concrete_notation.specs.Workspaces.{AreAllDense};
 ghost use Rattle.expr_terms.specs.Groups.{groups as groups_of};
@@ -12,6 +12,7 @@ ghost use Rattle.row_orders.specs.Orders.{AreOutsideSums};
 ghost use Rattle.taco_compiler.specs.Compiled.{IsCompiled};
 ghost use Rattle.taco_compiler.specs.Grouping.{AddsLoopsByGroups, AppendsToResult, IsTail, MayBeGrouped};
 ghost use Rattle.taco_compiler.specs.Loops.{MayBeLowered};
+ghost use Rattle.taco_compiler.specs.Tails.{from_sum, tail_of, tail_workspaces};
 
 use crate::appended::result_sink;
 use crate::dense::level_modes;
@@ -90,6 +91,7 @@ fn kernel_around<S: Semiring, W: DrainedWorkspace>(
     requires keys { W.sink.keys sink.now.workspace.now ≡ length sink.now.modes.now }
     requires workspace { IsWorkspace W.sink W.draining sink.now.workspace.now }
     requires suits { W.draining.suits sink.now.workspace.now workspaces }
+    requires spaces { workspaces ≡ tail_workspaces (length (tail_of statement.now order.now)) }
     requires begins { BeginsEmpty W.sink sink.now.workspace.now sink.now.modes.now statement.now workspaces S.arithmetic begun }
     ensures compiled { IfOk result (IsCompiled S.arithmetic statement.now formats.now order.now) }
     ensures over { IfOk result (λ kernel. kernel.semiring ≡ semiring_of S.is_ring S.name) }
@@ -184,6 +186,7 @@ fn paired_kernel<S: Semiring>(
     requires meant { HasMeaning S.has_minus statement.now.expr }
     requires outer { AppendsToResult S.arithmetic statement.now formats.now outer.now }
     requires tail { IsTail statement.now formats.now order.now first modes.now }
+    requires several { length modes.now ≡ 1 → ⊥ }
     ensures compiled { IfOk result (IsCompiled S.arithmetic statement.now formats.now order.now) }
     ensures over { IfOk result (λ kernel. kernel.semiring ≡ semiring_of S.is_ring S.name) }
 {
@@ -207,6 +210,7 @@ fn outer_count(statement: &Statement, groups: &Groups, order: &[usize], left: &[
     requires { groups.now.list ≡ groups_of statement.now }
     ensures within { result ≤ length left.now }
     ensures outside { AreOutsideSums statement.now order.now (take result left.now) }
+    ensures rest { drop result left.now ≡ from_sum statement.now order.now left.now }
 {
     for (depth, variable) in left.iter().enumerate() {
         if is_inside_sum(statement, groups, order, *variable) {

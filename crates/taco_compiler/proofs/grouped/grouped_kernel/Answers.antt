@@ -1,7 +1,8 @@
-use Rattle.std.specs.Prelude.{◌≡◌, ◌≤◌, length, refl, take}
+use Rattle.std.specs.Prelude.{◌≡◌, ◌≤◌, ℕ, List, length, refl, take, drop}
 use Rattle.std.proofs.Common.{◌∙◌, sym, ap, subst, arith}
 use Rattle.concrete_notation.specs.Nests.{left_in_order}
 use Rattle.row_orders.specs.Orders.{AreOutsideSums}
+use Rattle.taco_compiler.specs.Tails.{from_sum}
 use Rattle.taco_compiler.proofs.Tails.{first_within, tail_is}
 use Rattle.taco_compiler.proofs.grouped.grouped_kernel.Goals as goal
 
@@ -24,6 +25,7 @@ marked_kernel-requires-clause-tail g c =
     c.as_slice-modes.result.now _
     (subst (λ (vs : List ℕ). c.outer_count-first.result ≤ length vs) left c.outer_count-first.ensures.within)
     (subst (λ (vs : List ℕ). AreOutsideSums s order (take c.outer_count-first.result vs)) left c.outer_count-first.ensures.outside)
+    (subst (λ (vs : List ℕ). drop c.outer_count-first.result vs ≡ from_sum s order vs) left c.outer_count-first.ensures.rest)
     (c.as_slice-modes.ensures ∙ c.in_ok-all.ensures) refl
 
 pub paired_kernel-requires-clause-tail : goal.paired_kernel-requires-clause-tail
@@ -35,4 +37,5 @@ paired_kernel-requires-clause-tail g c =
     c.as_slice-modes.result.now _
     (subst (λ (vs : List ℕ). c.outer_count-first.result ≤ length vs) left c.outer_count-first.ensures.within)
     (subst (λ (vs : List ℕ). AreOutsideSums s order (take c.outer_count-first.result vs)) left c.outer_count-first.ensures.outside)
+    (subst (λ (vs : List ℕ). drop c.outer_count-first.result vs ≡ from_sum s order vs) left c.outer_count-first.ensures.rest)
     (c.as_slice-modes.ensures ∙ c.in_ok-all.ensures) refl

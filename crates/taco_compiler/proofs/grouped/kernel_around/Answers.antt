@@ -72,7 +72,7 @@ returns-clause-compiled g c =
       workspaces = c.args.workspaces;
       lists = emitted.lists;
       body = c.append-4.new.self;
-    }) refl (omega arith)
+    }) refl c.requires.spaces (omega arith)
     (c.in_ok-append-4.ensures.ok ∙ ap (λ b. b ++ c.in_ok-end.end)
     (c.in_ok-append-3.ensures.ok ∙ ap (λ b. b ++ c.append-2.new.self) c.in_ok-append.ensures.ok
     ∙ ap (λ d. (c.in_ok-body.body ++ c.in_ok-begin.begin) ++ d) c.in_ok-append-2.ensures.ok))
