@@ -114,5 +114,6 @@ tail_variable s formats order first modes ready tail one =
     subst (All (λ m. m < length s.left.vars)) (sym tail.modes)
     (All-drop (λ m. m < length s.left.vars) first (modes_of (result_levels s formats))
     (modes_below s formats (record { numbered = ready.numbered; left = ready.left; format = ready.formed.0 }))) in
-    place_below 0 (length s.left.vars) (length s.vars) (slice_index_or modes 0 0)
-    (subst (Each (λ v. v < length s.vars)) ready.named.standing ready.numbered.left.vars_stand) (below 0 0 (omega (arith, one)))
+    let inside = place_below 0 (length s.left.vars) (length s.vars) (slice_index_or modes 0 0)
+    (subst (Each (λ v. v < length s.vars)) ready.named.standing ready.numbered.left.vars_stand) (below 0 0 (omega (arith, one))) in
+    omega (arith, inside)

@@ -39,3 +39,19 @@ paired_kernel-requires-clause-tail g c =
     (subst (λ (vs : List ℕ). AreOutsideSums s order (take c.outer_count-first.result vs)) left c.outer_count-first.ensures.outside)
     (subst (λ (vs : List ℕ). drop c.outer_count-first.result vs ≡ from_sum s order vs) left c.outer_count-first.ensures.rest)
     (c.as_slice-modes.ensures ∙ c.in_ok-all.ensures) refl
+
+pub marked_kernel-requires-clause-outer : goal.marked_kernel-requires-clause-outer
+marked_kernel-requires-clause-outer g c = record {
+  levels = c.in_ok-outer.ensures.levels;
+  head = c.in_ok-outer.ensures.head;
+  base = c.in_ok-outer.ensures.base;
+  zero = c.in_ok-outer.ensures.zero;
+}
+
+pub paired_kernel-requires-clause-outer : goal.paired_kernel-requires-clause-outer
+paired_kernel-requires-clause-outer g c = record {
+  levels = c.in_ok-outer.ensures.levels;
+  head = c.in_ok-outer.ensures.head;
+  base = c.in_ok-outer.ensures.base;
+  zero = c.in_ok-outer.ensures.zero;
+}
