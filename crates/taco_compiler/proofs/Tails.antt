@@ -89,7 +89,7 @@ tail_is s formats order ready some first all modes within outside rest is are =
     record {
       outside = outside;
       rest = rest;
-      modes = whole ∙ ap (drop first) is;
+      are = whole ∙ ap (drop first) is;
       many = omega (arith, long, inside, many, same, each);
     }
 
@@ -111,7 +111,7 @@ pub tail_variable : (s : Statement) (formats : List (List FormatLevel)) (order :
     → MayBeLowered s formats order → IsTail s formats order first modes → length modes ≡ 1 → slice_index_or modes 0 0 < length s.vars
 tail_variable s formats order first modes ready tail one =
     let below : All (λ m. m < length s.left.vars) modes =
-    subst (All (λ m. m < length s.left.vars)) (sym tail.modes)
+    subst (All (λ m. m < length s.left.vars)) (sym tail.are)
     (All-drop (λ m. m < length s.left.vars) first (modes_of (result_levels s formats))
     (modes_below s formats (record { numbered = ready.numbered; left = ready.left; format = ready.formed.0 }))) in
     let inside = place_below 0 (length s.left.vars) (length s.vars) (slice_index_or modes 0 0)

@@ -45,7 +45,7 @@ pub record AppendsToResult (a : Arithmetic) (s : Statement) (formats : List (Lis
 pub record IsTail (s : Statement) (formats : List (List FormatLevel)) (order : List ℕ) (first : ℕ) (modes : List ℕ) : Type 0 where
   pub outside : AreOutsideSums s order (take first (left_in_order s order))
   pub rest : drop first (left_in_order s order) ≡ tail_of s order
-  pub modes : modes ≡ drop first (modes_of (format_of formats s.left.tensor))
+  pub are : modes ≡ drop first (modes_of (format_of formats s.left.tensor))
   pub many : first + length modes ≡ length (left_in_order s order)
 
 -- the loops of a statement, in this order, of which the first ones stand alone inside one another, add their rows to the result by groups;

@@ -58,7 +58,7 @@ returns-clause-compiled g c =
     (record {
       workspace = c.requires.workspace;
       suits = c.requires.suits;
-      modes = c.requires.tail.modes ∙ ap (λ t. drop grouped.first (modes_of (format_of formats t))) result;
+      modes = c.requires.tail.are ∙ ap (λ t. drop grouped.first (modes_of (format_of formats t))) result;
       keys = ap (λ n. grouped.first + n) c.requires.keys ∙ c.requires.tail.many;
       begins = c.requires.begins;
       places_below = rows.below;
