@@ -38,7 +38,8 @@ pub count_over_more : (ranges : ℕ → ℕ) (vs : List ℕ) (f g : (ℕ → ℕ
     → count_over ranges vs f point ≤ count_over ranges vs g point
 count_over_more ranges [] f g h point = h point
 count_over_more ranges (v ∷ vs) f g h point =
-    count_more (ranges v) (λ x. count_over ranges vs f (with_coordinate point v x)) (λ x. count_over ranges vs g (with_coordinate point v x))
+    count_more (ranges v) (λ x. count_over ranges vs f (with_coordinate point v x))
+    (λ x. count_over ranges vs g (with_coordinate point v x))
     (λ x. count_over_more ranges vs f g h (with_coordinate point v x))
 
 -- counts over two ranges change places

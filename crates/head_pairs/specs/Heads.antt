@@ -1,6 +1,7 @@
--- Pairs of a term and a point at which it is present, those of one head alone: of the points that have the same coordinates of some variables.
-use Rattle.std.specs.Prelude.{◌≡◌, ℕ, ◌≤◌, nat_eq, ◌&&◌, Bool, List, ◌++◌, length, take}
-use Rattle.std.specs.List.{count_by, sum_by}
+-- Pairs of a term and a point at which it is present, those of one head alone: of the points at which some variables have the same
+-- coordinates.
+use Rattle.std.specs.Prelude.{◌≡◌, ℕ, ◌≤◌, nat_eq, ◌&&◌, not, Bool, List, ◌++◌, length, take}
+use Rattle.std.specs.List.{count_by, sum_by, take_while}
 use Rattle.std.specs.Cmp.Lexicographic.{pointwise}
 use Rattle.numbers.specs.Arithmetic.{Arithmetic, Laws}
 use Rattle.tensor_map.specs.Entries.{Entry}
@@ -14,13 +15,14 @@ use Rattle.expr_terms.specs.declared.term.Term.{Term}
 use Rattle.workspaces.specs.Presence.{is_present}
 use Rattle.concrete_notation.specs.declared.concrete.Concrete.{Concrete}
 use Rattle.concrete_notation.specs.Contributions.{Inputs}
-use Rattle.concrete_notation.specs.Nests.{IsOrderOf, Nest, nest_of}
+use Rattle.concrete_notation.specs.Nests.{IsOrderOf, Nest, left_in_order, nest_of}
 use Rattle.loop_code.specs.declared.loops.LoopCode.{LoopCode}
 use Rattle.loop_code.specs.Loops.{Stored}
 use Rattle.lowering.specs.Held.{AreHeld}
 use Rattle.lowering.specs.Layouts.{layout_of}
 use Rattle.lowering.specs.Lowered.{AddsRows, IsInOrder}
 use Rattle.lowering.specs.Right.{count_over, one_if, pairs, rows_to}
+use Rattle.row_orders.specs.Takings.{is_inside_sum}
 use Rattle.summed_groups.specs.Groups.{with_fronts}
 
 -- whether these variables have these coordinates at a point
@@ -37,6 +39,15 @@ pairs_of_at inputs accesses vars coords point n =
 abbrev pub pairs_at : Statement → List ℕ → List ℕ → List ℕ → Inputs → ℕ
 pairs_at s order vars coords inputs =
     sum_by (λ (t : Term). pairs_of_at inputs s.accesses vars coords (λ v. 0) (nest_of s order t)) (terms s.expr)
+
+-- the head's variables: the left ones, in a loop order, before the first that has a summed one before it
+abbrev pub head_variables : Statement → List ℕ → List ℕ
+head_variables s order = take_while (λ v. not (is_inside_sum s order v)) (left_in_order s order)
+
+-- so many pairs there are at one head of these variables, or more
+pub record AreAtOneHead (s : Statement) (order vars : List ℕ) (inputs : Inputs) (count : ℕ) : Type 0 where
+  pub coords : List ℕ
+  pub many : count ≤ pairs_at s order vars coords inputs
 
 -- whether these are the first n coordinates of a row
 abbrev pub has_front : ℕ → List ℕ → Entry → Bool
