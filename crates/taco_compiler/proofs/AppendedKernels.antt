@@ -228,6 +228,7 @@ module _ (a : Arithmetic) (laws : Laws a) (s : Statement) (formats : List (List 
           record {
             none = λ uncalled. omega (arith, most, none);
             within = λ called. absurd (clash (calls_for_workspace s formats order) called direct);
+            once = λ called sorted. absurd (clash (calls_for_workspace s formats order) called direct);
           }
       no_drains (GotStuck statement) h = absurd h.1
       no_drains (TooLong place count) h = tt
@@ -265,6 +266,7 @@ module _ (a : Arithmetic) (laws : Laws a) (s : Statement) (formats : List (List 
       probes = λ store is arrays given. ends_weaker a (length store.format) kernel arrays (IsTold store is arrays given)
           (ProbesFew s formats order store (told_by a store)) (few_probes store is arrays given) (told store is arrays given);
       bare = λ none. spaces;
+      keyed = λ called. absurd (clash (calls_for_workspace s formats order) called direct);
       direct = λ none store is arrays given. ends_weaker a (length store.format) kernel arrays (IsTold store is arrays given) IsUnrefused
           (unrefused store is arrays given) (told store is arrays given);
     }

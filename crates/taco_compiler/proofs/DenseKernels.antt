@@ -198,6 +198,7 @@ module _ (a : Arithmetic) (laws : Laws a) (s : Statement) (formats : List (List 
           record {
             none = λ direct. omega (arith, most, none);
             within = λ called. absurd (clash (calls_for_workspace s formats order) called free_of);
+            once = λ called sorted. absurd (clash (calls_for_workspace s formats order) called free_of);
           }
       no_drains (GotStuck statement) h = absurd h
       no_drains (TooLong place count) h = tt
@@ -238,5 +239,6 @@ module _ (a : Arithmetic) (laws : Laws a) (s : Statement) (formats : List (List 
       probes = λ store is arrays given. ends_weaker a (length store.format) kernel arrays (ToldTurns store is arrays given)
           (ProbesFew s formats order store (told_by a store)) (few_probes store is arrays given) (ends_with_turns store is arrays given);
       bare = λ none. spaces;
+      keyed = λ called. absurd (clash (calls_for_workspace s formats order) called free_of);
       direct = λ none store is arrays given. ends_unrefused store is arrays given;
     }

@@ -1,6 +1,6 @@
 -- A kernel whose code appends rows to its result out of a workspace inside its outer loops is compiled where the statement calls for one: it
 -- is right and sound, its loops turn no more often than the statement costs, and it drains no more rows than the support has points.
-use Rattle.std.specs.Prelude.{◌≡◌, ℕ, ◌+◌, ◌*◌, ◌≤◌, true, List, [], ◌++◌, length, take, drop, slice_index, refl}
+use Rattle.std.specs.Prelude.{◌≡◌, ℕ, ◌+◌, ◌*◌, ◌≤◌, true, if◌then◌else◌, List, [], ◌∷◌, ◌++◌, length, take, drop, slice_index, refl}
 use Rattle.std.proofs.Common.{◌∙◌, sym, ap, subst, arith}
 use Rattle.std.proofs.lemmas.List.{length-map, take-append-drop}
 use Rattle.std.proofs.lemmas.Nat.{mul-le}
@@ -30,11 +30,13 @@ use Rattle.term_code.specs.declared.places.Places.{Places}
 use Rattle.term_code.specs.Places.{StartsAt}
 use Rattle.operand_arrays.specs.Apart.{AreFrom}
 use Rattle.operand_arrays.specs.Operands.{stored_in}
+use Rattle.operand_arrays.specs.Terms.{TargetIsBound}
 use Rattle.kernel_correctness.specs.Kernels.{Ends, IsRightKernel, IsRightOutcome}
 use Rattle.kernel_correctness.proofs.Sound.{right_is_sound}
 use Rattle.kernel_correctness.specs.Stores.{Store, IsStoreOf, IsGiven, operand_of, told_by}
 use Rattle.dense_results.specs.Kernels.{AreAtBase}
 use Rattle.dense_results.specs.Operands.{IsReadStore, operands_in}
+use Rattle.dense_results.proofs.Loops.{lowered_loops_go_through}
 use Rattle.kernel_emit.specs.Emitted.{AreFew}
 use Rattle.row_orders.specs.Takings.{calls_for_workspace}
 use Rattle.row_orders.proofs.Lists.{clash}
@@ -59,7 +61,9 @@ use Rattle.grouped_kernels.specs.Kernels.{Everywhere, GroupsFromTop}
 use Rattle.grouped_kernels.proofs.Groups.{appends_by_groups}
 use Rattle.taco_compiler.specs.Compiled.{AreFewTurns, DrainsFew, IsCompiled, ProbesFew}
 use Rattle.taco_compiler.specs.Loops.{AreLoopsOf}
+use Rattle.taco_compiler.specs.Tails.{tail_of, tail_workspaces}
 use Rattle.taco_compiler.proofs.LoopTurns.{in_order_of, within_cost, within_searches}
+use Rattle.taco_compiler.proofs.Targets.{keys_bound}
 
 -- turns of all kinds but those of drains
 abbrev undrained : (LoopKind → ℕ) → LoopKind → ℕ
@@ -87,6 +91,11 @@ module _ (a : Arithmetic) (laws : Laws a) (s : Statement) (formats : List (List 
   own_loops : AreAppendedLoops s formats c loops
   own_loops = record { shares = l.shares; none = l.none; rows = l.rows; shape = l.shape; words = l.words }
 
+  pub bound_there : TargetIsBound (left_in_order s order) [] loops
+  bound_there =
+      keys_bound s formats f.ordered order l.is_order loops
+      (lowered_loops_go_through s f.ordered.numbered formats c in_order loops l.shape true).bound
+
   module _ {W : Type 0} (within : Sink W) (drains : Draining W) (g : Grouped W AppendedSink) (own : IsSinkOf a formats g.outer.now)
       (places : Places) (at : AreAtBase s (behind g.outer.now) places) (from : AreFrom (behind g.outer.now) places)
       (top begin ready emitted end : List KStmt) (tops : StartsAt (behind g.outer.now) top)
@@ -94,7 +103,7 @@ module _ (a : Arithmetic) (laws : Laws a) (s : Statement) (formats : List (List 
       (free past : ℕ) (spaces : List ℕ) (groups : GroupsFromTop a within drains g s formats order places loops free past spaces ready emitted)
       (chain : IsChain (take g.first keys) loops) (ended : ℕ)
       (ending : EndsFirst (letters_in g.outer.now) g.outer.now.base ended (length g.outer.now.levels) end) (kernel : Kernel)
-      (declared : kernel.workspaces ≡ spaces) (lists : past ≤ kernel.lists)
+      (declared : kernel.workspaces ≡ spaces) (sized : spaces ≡ tail_workspaces (length (tail_of s order))) (lists : past ≤ kernel.lists)
       (body : kernel.body ≡ ((top ++ begin) ++ (ready ++ emitted)) ++ end) where
     abbrev k : AppendedSink
     k = g.outer.now
@@ -171,6 +180,11 @@ module _ (a : Arithmetic) (laws : Laws a) (s : Statement) (formats : List (List 
               let product = mul-le 1 (length sums) (2 * length store.format) (length sums) (omega (arith, level)) (omega arith) in
               omega (arith, made, drained, product);
         };
+        once = λ some sorted. record {
+          points = length sums;
+          have = has_points a s store sums are is.format many;
+          few = let made = h.1 Drain in let drained = drained_few in omega (arith, made, drained);
+        };
       }
       drains_few (GotStuck statement) h = absurd h.1
       drains_few (TooLong place count) h = tt
@@ -213,4 +227,6 @@ module _ (a : Arithmetic) (laws : Laws a) (s : Statement) (formats : List (List 
           (ProbesFew s formats order store (told_by a store)) (few_probes store is arrays given) (told store is arrays given);
       bare = λ free. absurd (clash (calls_for_workspace s formats order) called free);
       direct = λ free. absurd (clash (calls_for_workspace s formats order) called free);
+      keyed = λ some. declared ∙ sized
+          ∙ sym (ap (λ b. if b then (length s.left.vars ∷ []) else tail_workspaces (length (tail_of s order))) f.sorted);
     }

@@ -7,4 +7,5 @@ pub mod NoLevels
 pub mod Passed
 pub mod Simplified
 pub mod SparseKernels
+pub mod Tails
 pub mod Targets

@@ -1,8 +1,9 @@
 -- A kernel whose code pushes the rows of a statement's loops into a workspace, and fills the result from them, is compiled where the
--- statement calls for one: it is right and sound, its loops turn no more often than the statement costs, and its rows are gone over no more
+-- statement calls for one and some level of its result has no order: it is right and sound, its loops turn no more often than the statement costs, and its rows are gone over no more
 -- often than twice a level.
 use Rattle.std.specs.Prelude.{◌≡◌, ℕ, ◌+◌, ◌*◌, ◌≤◌, ◌<◌, List, [], ◌∷◌, ◌++◌, length, Some, slice_get}
-use Rattle.std.specs.Prelude.{slice_index, true}
+use Rattle.std.specs.Prelude.{slice_index, true, if◌then◌else◌}
+use Rattle.std.specs.List.{list_any}
 use Rattle.std.proofs.Common.{◌∙◌, sym, ap, subst, arith}
 use Rattle.std.proofs.Math.Nat.{mul-add, mul_left_comm}
 use Rattle.std.proofs.lemmas.List.{length-map}
@@ -47,7 +48,8 @@ use Rattle.result_targets.specs.Sinks.{TakesAll}
 use Rattle.kernel_emit.specs.Emitted.{AddsLoops}
 use Rattle.kernel_emit.specs.declared.emitting.Emitted.{Emitted}
 use Rattle.kernel_emit.proofs.ListLaws.{operand_apart}
-use Rattle.row_orders.specs.Takings.{calls_for_workspace}
+use Rattle.row_orders.specs.Heads.{result_levels}
+use Rattle.row_orders.specs.Takings.{calls_for_workspace, is_unordered}
 use Rattle.row_orders.proofs.Lists.{clash}
 use Rattle.sparse_results.specs.Keys.{HasOrderedResult}
 use Rattle.sparse_results.specs.Tables.{IsRow}
@@ -59,6 +61,7 @@ use Rattle.sparse_kernels.proofs.Kernels.{sparse_kernels_are_right}
 use Rattle.taco_compiler.specs.Compiled.{AreFewDrains, AreFewTurns, DrainsFew, IsCompiled, ProbesFew}
 use Rattle.taco_compiler.specs.Filling.{FillsFromRows}
 use Rattle.taco_compiler.specs.Loops.{AreLoopsOf}
+use Rattle.taco_compiler.specs.Tails.{tail_of, tail_workspaces}
 use Rattle.taco_compiler.proofs.LoopTurns.{in_order_of, within_cost, within_searches}
 use Rattle.taco_compiler.proofs.Targets.{keys_bound, keys_many}
 
@@ -81,10 +84,11 @@ searches_add made loops width each many levels points is few all =
 
 -- turns of rows that are gone over so often
 few_drains : (s : Statement) (formats : List (List FormatLevel)) (order : List ℕ) (store : Store) (a : Arithmetic)
-    (most turns : LoopKind → ℕ) → calls_for_workspace s formats order ≡ true → most Drain ≡ 0
+    (most turns : LoopKind → ℕ) → calls_for_workspace s formats order ≡ true → list_any is_unordered (result_levels s formats) ≡ true
+    → most Drain ≡ 0
     → (arrays : Arrays) → AreTurns s (told_by a store) (letters_of store.format) most turns arrays
     → AreFewDrains s formats order (told_by a store) store.format (turns Drain)
-few_drains s formats order store a most turns called none arrays t = record {
+few_drains s formats order store a most turns called unordered none arrays t = record {
   none = λ free. absurd (clash (calls_for_workspace s formats order) called free);
   within = λ other. record {
     points = t.points;
@@ -92,10 +96,12 @@ few_drains s formats order store a most turns called none arrays t = record {
     few = subst (λ n. turns Drain ≤ 2 * n * t.points) (length-map store.format (λ (level : FormatLevel). level.letter))
         (drop_none (turns Drain) (most Drain) (2 * length (letters_of store.format) * t.points) none t.drains);
   };
+  once = λ other sorted. absurd (clash (list_any is_unordered (result_levels s formats)) unordered sorted);
 }
 
 module _ (a : Arithmetic) (laws : Laws a) (s : Statement) (formats : List (List FormatLevel)) (f : IsForSparse s formats) (order : List ℕ)
-    (called : calls_for_workspace s formats order ≡ true) (loops : LoopCode) (l : AreLoopsOf s formats order loops) where
+    (called : calls_for_workspace s formats order ≡ true) (unordered : list_any is_unordered (result_levels s formats) ≡ true)
+    (loops : LoopCode) (l : AreLoopsOf s formats order loops) where
   abbrev c : Concrete
   c = l.concrete
 
@@ -204,7 +210,7 @@ module _ (a : Arithmetic) (laws : Laws a) (s : Statement) (formats : List (List 
 
       drains_few : (o : KernelOutcome) → IsTold o → DrainsFew s formats order (told_by a store) store.format o
       drains_few (Finished left turns) h =
-          few_drains s formats order store a (pushes.most store) turns called
+          few_drains s formats order store a (pushes.most store) turns called unordered
           (e.few (operands_in s store) (slice_index store.ranges) start).drains left h.1
       drains_few (GotStuck statement) h = absurd h.1
       drains_few (TooLong place count) h = tt
@@ -246,4 +252,6 @@ module _ (a : Arithmetic) (laws : Laws a) (s : Statement) (formats : List (List 
           (ProbesFew s formats order store (told_by a store)) (few_probes store is arrays given) (told store is arrays given);
       bare = λ free. absurd (clash (calls_for_workspace s formats order) called free);
       direct = λ free. absurd (clash (calls_for_workspace s formats order) called free);
+      keyed = λ some. spaces
+          ∙ sym (ap (λ b. if b then (length s.left.vars ∷ []) else tail_workspaces (length (tail_of s order))) unordered);
     }

@@ -1,5 +1,6 @@
 -- What is promised of the answer to a statement and formats.
 use Rattle.std.specs.Prelude.{◌≡◌, ℕ, ◌+◌, ◌*◌, ◌≤◌, true, false, List, [], length, Result, Ok, Err, slice_index}
+use Rattle.std.specs.List.{list_any}
 use Rattle.numbers.specs.Arithmetic.{Arithmetic}
 use Rattle.kernel_code.specs.declared.syntax.Kernel.{Kernel}
 use Rattle.kernel_code.specs.declared.syntax.LoopKind.{LoopKind}
@@ -15,7 +16,8 @@ use Rattle.kernel_correctness.specs.Kernels.{Ends, IsRightKernel, IsSoundKernel}
 use Rattle.kernel_correctness.specs.Stores.{Store, IsStoreOf, IsGiven, operand_of, told_by}
 use Rattle.lowering.specs.Stored.{stored_of}
 use Rattle.simplifier.specs.Folded.{SimpleCode}
-use Rattle.row_orders.specs.Takings.{calls_for_workspace}
+use Rattle.row_orders.specs.Heads.{result_levels}
+use Rattle.row_orders.specs.Takings.{calls_for_workspace, is_unordered}
 use Rattle.appended_kernels.specs.Kernels.{IsLevel}
 use Rattle.sparse_kernels.specs.Turns.{AreNotWider, HasPoints}
 use Rattle.statement_costs.specs.Costs.{statement_cost, statement_repeats}
@@ -25,6 +27,7 @@ use Rattle.kernel_emit.specs.Emitted.{AreWidths}
 use Rattle.taco_compiler.specs.declared.compiled.CompileFault.{CompileFault}
 use Rattle.taco_compiler.specs.declared.compiled.CompileFault.TheVariants.{Cycle, Memory}
 use Rattle.taco_compiler.specs.declared.compiled.Compiled.{Compiled}
+use Rattle.taco_compiler.specs.Tails.{called_workspaces}
 
 -- the variables in the one loop order that the iteration graph has
 abbrev pub IsOrder : Statement → List (List FormatLevel) → List ℕ → Type 0
@@ -61,17 +64,20 @@ KeepsCost a s formats order kernel =
     (store : Store) → IsStoreOf s formats store → (arrays : Arrays) → IsGiven a.zero store arrays
     → Ends a (length store.format) kernel arrays (AreFewTurns s formats order store)
 
--- so many points the support has, and there are two drain turns for each level and point at most
-pub record AreWithinPasses (s : Statement) (inputs : Inputs) (format : List FormatLevel) (drains : ℕ) : Type 0 where
+-- so many points the support has, and at most so many drain turns are made for each
+pub record AreWithinPasses (s : Statement) (inputs : Inputs) (passes drains : ℕ) : Type 0 where
   pub points : ℕ
   pub have : HasPoints s inputs points
-  pub few : drains ≤ 2 * length format * points
+  pub few : drains ≤ passes * points
 
--- where a statement calls for no workspace, as for a result that is dense throughout, there are no drain turns
+-- where a statement calls for no workspace, as for a result that is dense throughout, there are no drain turns. Else there are two for each
+-- level and point at most, and one for each point where each level of the result has an order
 pub record AreFewDrains (s : Statement) (formats : List (List FormatLevel)) (order : List ℕ) (inputs : Inputs) (format : List FormatLevel)
     (drains : ℕ) : Type 0 where
   pub none : calls_for_workspace s formats order ≡ false → drains ≡ 0
-  pub within : calls_for_workspace s formats order ≡ true → AreWithinPasses s inputs format drains
+  pub within : calls_for_workspace s formats order ≡ true → AreWithinPasses s inputs (2 * length format) drains
+  pub once : calls_for_workspace s formats order ≡ true → list_any is_unordered (result_levels s formats) ≡ false
+      → AreWithinPasses s inputs 1 drains
 
 -- so are the drain turns of a run that finishes
 abbrev pub DrainsFew : Statement → List (List FormatLevel) → List ℕ → Inputs → List FormatLevel → KernelOutcome → Type 0
@@ -132,7 +138,7 @@ NeedsNone a s formats kernel =
 
 -- the kernel is right and sound, its loops turn within the cost, the rows of its workspace are gone over no more often than that, and
 -- coordinates are sought within the widths of levels without order. It has no workspace where the statement calls for none, and is refused
--- none there
+-- none there; else it has those that are called for
 pub record IsCompiled (a : Arithmetic) (s : Statement) (formats : List (List FormatLevel)) (order : List ℕ) (kernel : Kernel)
     : Type 0 where
   pub right : IsRightKernel a s formats kernel
@@ -142,6 +148,7 @@ pub record IsCompiled (a : Arithmetic) (s : Statement) (formats : List (List For
   pub probes : KeepsProbes a s formats order kernel
   pub bare : calls_for_workspace s formats order ≡ false → kernel.workspaces ≡ []
   pub direct : calls_for_workspace s formats order ≡ false → NeedsNone a s formats kernel
+  pub keyed : calls_for_workspace s formats order ≡ true → kernel.workspaces ≡ called_workspaces s formats order
 
 -- such a kernel in the loop order, in whose code numbers settle nothing and which over the ring adds and multiplies words alone; or the
 -- cycle, where there is one; or want of memory

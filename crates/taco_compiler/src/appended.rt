@@ -37,7 +37,7 @@ fn levels_of(alloc: Global, format: &Format) -> Result<Items<FormatLevel>, Alloc
 }
 
 /// The sink that appends rows to a statement's result. Its variables are the first ones. Refused for want of memory alone.
-fn result_sink<S: Semiring>(
+pub(crate) fn result_sink<S: Semiring>(
     alloc: Global,
     statement: &Statement,
     formats: &[Format],

@@ -7,6 +7,7 @@ mod appended;
 mod compiled;
 mod compiling;
 mod dense;
+mod grouped;
 mod lowered;
 mod sparse;
 mod starts;
