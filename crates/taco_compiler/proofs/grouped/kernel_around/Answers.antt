@@ -1,4 +1,4 @@
-use Rattle.std.specs.Prelude.{◌≡◌, ◌+◌, ◌*◌, ◌++◌, length, drop, refl}
+use Rattle.std.specs.Prelude.{◌+◌, ◌*◌, ◌++◌, length, drop, refl}
 use Rattle.std.proofs.Common.{◌∙◌, sym, ap, subst, arith}
 use Rattle.format_spec.specs.Formats.{IsFormat, letters_of, modes_of}
 use Rattle.iteration_graph.specs.Edges.{format_of}

@@ -1,4 +1,4 @@
-use Rattle.std.specs.Prelude.{◌≡◌, [], ◌∷◌, length, slice_get, slice_index_or}
+use Rattle.std.specs.Prelude.{slice_get, slice_index_or}
 use Rattle.std.proofs.Common.{◌∙◌, sym, ap, subst, arith}
 use Rattle.grouped_kernels.specs.Workspaces.{BeginsEmpty}
 use Rattle.grouped_kernels.proofs.Workspaces.{touched_begins, touched_workspace}

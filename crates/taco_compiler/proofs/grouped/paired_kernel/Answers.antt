@@ -1,5 +1,5 @@
-use Rattle.std.specs.Prelude.{◌≡◌, if◌then◌else◌, [], ◌∷◌, length, slice_get}
-use Rattle.std.proofs.Common.{◌∙◌, sym, ap, subst, arith}
+use Rattle.std.specs.Prelude.{if◌then◌else◌, [], ◌∷◌, length, slice_get}
+use Rattle.std.proofs.Common.{◌∙◌, sym, ap, subst}
 use Rattle.grouped_kernels.specs.Workspaces.{BeginsEmpty}
 use Rattle.grouped_kernels.proofs.Workspaces.{pair_workspace, pairs_begin}
 use Rattle.pair_workspaces.specs.Sinks.{pair_sink}
