@@ -33,6 +33,7 @@ use Rattle.appended_results.specs.declared.sink.AppendedSink.{AppendedSink}
 use Rattle.appended_results.specs.Sink.{appended_sink, RefusesSome}
 use Rattle.appended_results.proofs.TableGrowths.{refused_passes}
 use Rattle.appended_kernels.specs.Kernels.{AddsFromTop, AppendsFromTop, AreAppendedLoops, IsForAppended, IsLevel, IsSinkOf, MayBeRefused}
+use Rattle.appended_kernels.specs.Kernels.{OnlyLevels}
 use Rattle.appended_kernels.proofs.Rows.{read_store, are_rows, each_row, names_rows, rows_taken}
 
 -- the arrays of a level, and the values, stand at levels
@@ -68,7 +69,7 @@ module _ (a : Arithmetic) (laws : Laws a) (s : Statement) (formats : List (List 
     letters_many = length-map store.format (λ (level : FormatLevel). level.letter)
 
     pub passed : (b : Arr) (count : ℕ) → appended_sink.refused k store.ranges (rows_on store) b count
-        → MayBeRefused a s store IsLevel b count
+        → MayBeRefused a s store OnlyLevels b count
     passed b count r =
         let rows = rows_on store in
         let here = subst (λ (levels : List FormatLevel).
@@ -87,7 +88,7 @@ module _ (a : Arithmetic) (laws : Laws a) (s : Statement) (formats : List (List 
         }
 
   abbrev pub appends_directly : (spaces : List ℕ)
-      → AppendsFromTop a k s formats places (left_in_order s in_order.order) loops list past spaces IsLevel code
+      → AppendsFromTop a k s formats places (left_in_order s in_order.order) loops list past spaces OnlyLevels code
   appends_directly spaces = record {
     most = adds.most;
     held = rows_on;
@@ -95,7 +96,7 @@ module _ (a : Arithmetic) (laws : Laws a) (s : Statement) (formats : List (List 
     same = λ store is. refl;
     appends = λ setting same declared store is st top none has.
         let read = read_store a laws s formats c in_order f loops l store is in
-        does_weaker setting code st _ _ _ (λ turns. MayBeRefused a s store IsLevel)
+        does_weaker setting code st _ _ _ (λ turns. MayBeRefused a s store OnlyLevels)
         (adds.appends setting same store read (rows_taken a laws s formats c in_order f loops l store is direct k fits) st top has)
         (λ t p. record {
           held = subst (λ b. appended_sink.holds k b store.ranges (rows_on store) t) same p.1.0;

@@ -66,7 +66,7 @@ use Rattle.appended_kernels.proofs.Rows.{read_store, are_rows, rows_for}
 use Rattle.appended_kernels.proofs.Starts.{starts_result, starts_few, all_appended}
 use Rattle.appended_kernels.proofs.Tops.{at_top}
 
-module _ (a : Arithmetic) (s : Statement) (store : Store) (most : LoopKind → ℕ) (Allowed : Place → Type 0) where
+module _ (a : Arithmetic) (s : Statement) (store : Store) (most : LoopKind → ℕ) (Allowed : Store → Place → ℕ → Type 0) where
   -- the state leaves the result, and few turns were made
   abbrev IsDone : State → Type 0
   IsDone t = LeavesResult a s (told_by a store) store t.arrays × ((j : LoopKind) → t.turns j ≤ most j)
@@ -76,7 +76,7 @@ module _ (a : Arithmetic) (s : Statement) (store : Store) (most : LoopKind → �
   MayBe turns b count = MayBeRefused a s store Allowed b count
 
   done_told : (o : KernelOutcome) → ToldOf (length store.format) IsDone MayBe o
-      → IsRightOutcome a s (told_by a store) store o × MakesNoMore most o × RefusesOnly Allowed o
+      → IsRightOutcome a s (told_by a store) store o × MakesNoMore most o × RefusesOnly (Allowed store) o
   done_told (Finished arrays turns) h = (
     subst (LeavesResult a s (told_by a store) store) h.2 h.1.0,
     subst (λ (made : LoopKind → ℕ). (j : LoopKind) → made j ≤ most j) h.3 h.1.1,
@@ -85,7 +85,8 @@ module _ (a : Arithmetic) (s : Statement) (store : Store) (most : LoopKind → �
   done_told (GotStuck statement) h = absurd h
   done_told (TooLong place count) h =
       let r = h.1 in
-      (subst (λ p. IsRightOutcome a s (told_by a store) store (TooLong p count)) r.2 r.1.right, tt, subst Allowed r.2 r.1.allowed)
+      (subst (λ p. IsRightOutcome a s (told_by a store) store (TooLong p count)) r.2 r.1.right, tt,
+      subst (λ p. Allowed store p count) r.2 r.1.allowed)
   done_told NotFinished h = absurd h
 
 module _ (a : Arithmetic) (laws : Laws a) (s : Statement) (formats : List (List FormatLevel)) (c : Concrete)
@@ -122,7 +123,8 @@ module _ (a : Arithmetic) (laws : Laws a) (s : Statement) (formats : List (List 
   module _ (base : ℕ) (places : Places) (at : AreAtBase s base places) (from : AreFrom (behind k) places) (apart : behind k ≤ base)
       (top begin code end : List KStmt) (tops : StartsAt base top)
       (begins : BeginsFirst (letters_in k) (length k.levels) k.base (length k.levels) begin) (list past : ℕ) (spaces : List ℕ)
-      (Allowed : Place → Type 0) (appends : AppendsFromTop a k s formats places keys loops list past spaces Allowed code) (free : ℕ)
+      (Allowed : Store → Place → ℕ → Type 0) (appends : AppendsFromTop a k s formats places keys loops list past spaces Allowed code)
+      (free : ℕ)
       (ends_code : EndsFirst (letters_in k) k.base free (length k.levels) end) (kernel : Kernel) (few : past ≤ kernel.lists)
       (declared : kernel.workspaces ≡ spaces) (arrays : Arrays) (given : IsGiven a.zero store arrays) where
     abbrev setting : Setting
@@ -262,7 +264,7 @@ module _ (a : Arithmetic) (laws : Laws a) (s : Statement) (formats : List (List 
 
     pub ends : kernel.body ≡ ((top ++ begin) ++ code) ++ end
         → EndsSo a (length store.format) kernel arrays (λ outcome. IsRightOutcome a s (told_by a store) store outcome
-        × MakesNoMore most outcome × RefusesOnly Allowed outcome)
+        × MakesNoMore most outcome × RefusesOnly (Allowed store) outcome)
     ends body =
         let e = ends_as_code_does a (length store.format) kernel arrays IsEnd MayEnd
         (subst (λ (b : List KStmt). Does setting b first IsEnd MayEnd) (sym body) whole) in

@@ -108,15 +108,17 @@ pub record HasAppended (a : Arithmetic) (k : AppendedSink) (ranges : List ℕ) (
   pub held : appended_sink.holds k a ranges rows t
   pub turns : (j : LoopKind) → t.turns j ≤ s.turns j + most j
 
--- a growth that a kernel may be refused, of such a place
-pub record MayBeRefused (a : Arithmetic) (s : Statement) (store : Store) (Allowed : Place → Type 0) (b : Arr) (count : ℕ) : Type 0 where
+-- a growth that a kernel may be refused on a store, of such a place and to so many
+pub record MayBeRefused (a : Arithmetic) (s : Statement) (store : Store) (Allowed : Store → Place → ℕ → Type 0) (b : Arr) (count : ℕ)
+    : Type 0 where
   pub right : IsRightOutcome a s (told_by a store) store (TooLong (place_of (length store.format) b) count)
-  pub allowed : Allowed (place_of (length store.format) b)
+  pub allowed : Allowed store (place_of (length store.format) b) count
 
 -- From the top the code appends rows that have the sums of those that the loops add to these keys, whatever the store; the kernel's
 -- workspaces have these numbers of keys, and no rows. It may fill scratch lists from one number to the one before another.
 pub record AppendsFromTop (a : Arithmetic) (k : AppendedSink) (s : Statement) (formats : List (List FormatLevel)) (places : Places)
-    (keys : List ℕ) (loops : LoopCode) (list past : ℕ) (spaces : List ℕ) (Allowed : Place → Type 0) (code : List KStmt) : Type 0 where
+    (keys : List ℕ) (loops : LoopCode) (list past : ℕ) (spaces : List ℕ) (Allowed : Store → Place → ℕ → Type 0) (code : List KStmt)
+    : Type 0 where
   pub most : Store → LoopKind → ℕ
   pub held : Store → List Entry
   pub each : (store : Store) → IsStoreOf s formats store → Each (IsRow (length store.format)) (held store)
@@ -138,11 +140,15 @@ abbrev pub IsLevel : Place → Type 0
 IsLevel (Level level) = Unit {0}
 IsLevel Workspace = ⊥
 
--- such places alone are refused a growth
-abbrev pub RefusesOnly : (Place → Type 0) → KernelOutcome → Type 0
+-- levels alone, on whatever store
+abbrev pub OnlyLevels : Store → Place → ℕ → Type 0
+OnlyLevels store place count = IsLevel place
+
+-- such growths alone are refused
+abbrev pub RefusesOnly : (Place → ℕ → Type 0) → KernelOutcome → Type 0
 RefusesOnly Allowed (Finished arrays turns) = Unit {0}
 RefusesOnly Allowed (GotStuck statement) = Unit {0}
-RefusesOnly Allowed (TooLong place count) = Allowed place
+RefusesOnly Allowed (TooLong place count) = Allowed place count
 RefusesOnly Allowed NotFinished = Unit {0}
 
 -- on every store a kernel of such code is right, and a run that finishes makes no more turns than the loops' code
@@ -153,10 +159,10 @@ AppendedKernelsAreRight = (a : Arithmetic) → Laws a → (s : Statement) (forma
     → (k : AppendedSink) → IsSinkOf a formats k
     → (base : ℕ) (places : Places) → AreAtBase s base places → AreFrom (behind k) places → behind k ≤ base
     → (top begin code end : List KStmt) → StartsAt base top → BeginsFirst (letters_in k) (length k.levels) k.base (length k.levels) begin
-    → (list past : ℕ) (spaces : List ℕ) (Allowed : Place → Type 0)
+    → (list past : ℕ) (spaces : List ℕ) (Allowed : Store → Place → ℕ → Type 0)
     → (appends : AppendsFromTop a k s formats places (left_in_order s in_order.order) loops list past spaces Allowed code)
     → (free : ℕ) → EndsFirst (letters_in k) k.base free (length k.levels) end
     → (kernel : Kernel) → past ≤ kernel.lists → kernel.workspaces ≡ spaces → kernel.body ≡ ((top ++ begin) ++ code) ++ end
     → (store : Store) → IsStoreOf s formats store → (arrays : Arrays) → IsGiven a.zero store arrays
     → Ends a (length store.format) kernel arrays (λ outcome. IsRightOutcome a s (told_by a store) store outcome
-    × MakesNoMore (appends.most store) outcome × RefusesOnly Allowed outcome)
+    × MakesNoMore (appends.most store) outcome × RefusesOnly (Allowed store) outcome)

@@ -1,5 +1,5 @@
 -- Code that adds the rows of loops by groups appends rows that have their sums: each sum once, in increasing order.
-use Rattle.std.specs.Prelude.{◌≡◌, ℕ, zero, suc, ◌+◌, ◌-◌, ◌≤◌, ◌<◌, List, [], ◌∷◌, ◌++◌, length, drop, refl}
+use Rattle.std.specs.Prelude.{◌≡◌, ℕ, zero, suc, ◌-◌, ◌≤◌, ◌<◌, List, [], ◌∷◌, ◌++◌, length, drop, take, refl}
 use Rattle.std.specs.Prelude.{slice_index}
 use Rattle.std.proofs.Common.{◌∙◌, sym, ap, subst, arith, inl, inr}
 use Rattle.std.proofs.lemmas.List.{length-append, length-map}
@@ -10,7 +10,10 @@ use Rattle.kernel_code.specs.declared.syntax.Arr.TheVariants.{Range, Values, Dim
 use Rattle.kernel_code.specs.declared.syntax.Arr.TheVariants.{ListCoordinates, ListPositions}
 use Rattle.kernel_code.specs.declared.syntax.KStmt.{KStmt}
 use Rattle.kernel_code.specs.declared.syntax.LoopKind.{LoopKind}
+use Rattle.kernel_code.specs.declared.syntax.Place.{Place}
+use Rattle.kernel_code.specs.declared.syntax.Place.TheVariants.{Level, Workspace}
 use Rattle.kernel_code.specs.Does.{Does, Never}
+use Rattle.kernel_code.specs.Kernels.{place_of}
 use Rattle.kernel_code.specs.Keeps.{Leaves, NoVariable, no_turns}
 use Rattle.kernel_code.specs.Meaning.{Setting, State}
 use Rattle.kernel_code.proofs.Does.{does_append, does_weaker}
@@ -39,6 +42,7 @@ use Rattle.term_code.proofs.PlaceLaws.{keeps_kept}
 use Rattle.kernel_correctness.specs.Stores.{Store, IsStoreOf, told_by}
 use Rattle.operand_arrays.specs.Operands.{stored_in}
 use Rattle.dense_results.specs.Operands.{operands_in}
+use Rattle.dense_results.proofs.Operands.{told}
 use Rattle.kernel_emit.specs.Emitted.{Stands}
 use Rattle.kernel_emit.proofs.Kept.{ranges_kept, ready_kept}
 use Rattle.kernel_emit.proofs.ListLaws.{operand_apart}
@@ -51,16 +55,19 @@ use Rattle.appended_results.specs.Sink.{appended_sink, RefusesSome}
 use Rattle.appended_results.specs.Tables.{NamesRows}
 use Rattle.appended_results.proofs.TableGrowths.{refused_passes}
 use Rattle.appended_kernels.specs.Kernels.{AppendsFromTop, AreAppendedLoops, HasAppended, HaveNoRows, IsAtTop, IsForAppended, IsSinkOf}
-use Rattle.appended_kernels.specs.Kernels.{MayBeRefused, behind}
+use Rattle.appended_kernels.specs.Kernels.{IsLevel, MayBeRefused, behind}
+use Rattle.appended_kernels.proofs.Direct.{of_level}
 use Rattle.appended_kernels.proofs.Names.{each_at, listed_row}
 use Rattle.appended_kernels.proofs.Rows.{read_store, are_rows, each_row, names_rows}
 use Rattle.appended_kernels.proofs.Values.{below_from}
+use Rattle.head_pairs.specs.Heads.{AreAtOneHead, pairs_at}
+use Rattle.head_pairs.proofs.Counted.{groups_are_few}
 use Rattle.summed_groups.specs.Groups.{with_front, with_fronts}
 use Rattle.drained_workspaces.specs.Draining.{Draining}
 use Rattle.grouped_loops.specs.Emitted.{IsRow, IsTaken}
 use Rattle.grouped_loops.specs.declared.grouped.Grouped.{Grouped}
 use Rattle.grouped_loops.specs.Grouped.{HoldsSums, RefusesGroup, RefusesSums, grouped_sink, ranges_of}
-use Rattle.grouped_kernels.specs.Kernels.{AppendByGroups, Everywhere, GroupsFromTop}
+use Rattle.grouped_kernels.specs.Kernels.{AppendByGroups, AtOneHead, GroupsFromTop}
 use Rattle.grouped_kernels.proofs.Sums.{sums_again, sums_rows}
 use Rattle.grouped_kernels.proofs.Takes.{takes_behind}
 
@@ -114,6 +121,22 @@ module _ (a : Arithmetic) (laws : Laws a) (s : Statement) (formats : List (List 
 
   abbrev keys : List ℕ
   keys = left_in_order s in_order.order
+
+  -- the variables of the head, and what may be refused
+  abbrev vars : List ℕ
+  vars = take g.first keys
+
+  abbrev Allowed : Store → Place → ℕ → Type 0
+  Allowed = AtOneHead a s in_order.order vars
+
+  level_allowed : (store : Store) (place : Place) (count : ℕ) → IsLevel place → Allowed store place count
+  level_allowed store (Level level) count h = tt
+  level_allowed store Workspace count h = absurd h
+
+  head_allowed : (store : Store) (place : Place) (count : ℕ) → AreAtOneHead s in_order.order vars (told_by a store) count
+      → Allowed store place count
+  head_allowed store (Level level) count h = tt
+  head_allowed store Workspace count h = h
 
   abbrev both : Sink (Grouped W AppendedSink)
   both = grouped_sink within appended_sink
@@ -208,7 +231,7 @@ module _ (a : Arithmetic) (laws : Laws a) (s : Statement) (formats : List (List 
 
       -- ---- growths that are refused may be
       passed_sums : (b : Arr) (count : ℕ) → RefusesSums appended_sink k store.ranges rows b count
-          → MayBeRefused a s store Everywhere b count
+          → MayBeRefused a s store Allowed b count
       passed_sums b count r =
           let here = subst (λ (levels : List FormatLevel).
           RefusesSome (letters_of levels) (in_level_order levels store.ranges) k.head (sums_of r.a r.first) b count) same_levels r.refused in
@@ -222,7 +245,8 @@ module _ (a : Arithmetic) (laws : Laws a) (s : Statement) (formats : List (List 
                   above = p.above;
                   within = p.within;
                 });
-            allowed = tt;
+            allowed = level_allowed store (place_of (length store.format) b) count
+                (of_level (length store.format) (suc p.level) b p.array);
           }
         where
           row_there : (i : ℕ) → i < length (sums_of r.a r.first)
@@ -243,8 +267,8 @@ module _ (a : Arithmetic) (laws : Laws a) (s : Statement) (formats : List (List 
       not_dense : AreAllDense store.format → ⊥
       not_dense dense = f.ordered.some (subst AreAllDense is.format_is dense)
 
-      passed_group : (b : Arr) (count : ℕ) → RefusesGroup within w (ranges_of g.modes.now store.ranges) rows b count
-          → MayBeRefused a s store Everywhere b count
+      passed_group : (b : Arr) (count : ℕ) → RefusesGroup within w g.first (ranges_of g.modes.now store.ranges) rows b count
+          → MayBeRefused a s store Allowed b count
       passed_group b count r =
           let p = from.workspace.passes (ranges_of g.modes.now store.ranges) r.group b count r.refused in
           record {
@@ -260,7 +284,16 @@ module _ (a : Arithmetic) (laws : Laws a) (s : Statement) (formats : List (List 
                       let group = length-map r.group (with_front r.front) in
                       omega (arith, most_of, whole, parts, later, group);
                 });
-            allowed = tt;
+            allowed = head_allowed store (place_of (length store.format) b) count (record {
+              coords = r.front;
+              many =
+                  let most_of = p.1.within in
+                  let held = (told s formats store (read_store a laws s formats c in_order f loops l store is) a laws).held in
+                  let few = groups_are_few s formats c in_order loops l.rows a laws (told_by a store) (stored_in (operands_in s store)) held
+                  keys r.front r.before r.group r.rest r.is in
+                  let same = ap (λ n. pairs_at s in_order.order (take n keys) r.front (told_by a store)) r.long in
+                  omega (arith, most_of, few, same);
+            });
           }
 
       -- ---- the code before the loops, and that of the loops
@@ -273,7 +306,7 @@ module _ (a : Arithmetic) (laws : Laws a) (s : Statement) (formats : List (List 
         IsEnd t = HasAppended a k store.ranges (sums_of a rows) (most store) st t
 
         abbrev MayEnd : (LoopKind → ℕ) → Arr → ℕ → Type 0
-        MayEnd turns = MayBeRefused a s store Everywhere
+        MayEnd turns = MayBeRefused a s store Allowed
 
         module _ (u : State) (begun : HasBegun u) where
           kept_lists : HasLists 0 past u
@@ -342,7 +375,7 @@ module _ (a : Arithmetic) (laws : Laws a) (s : Statement) (formats : List (List 
             (from.begins setting same store.ranges st top.stands.ranges none free) (λ u h. h) (λ turns b count no. absurd no))
             from_begun
 
-  abbrev pub appends_by_groups : AppendsFromTop a g.outer.now s formats places (left_in_order s in_order.order) loops 0 past spaces Everywhere
+  abbrev pub appends_by_groups : AppendsFromTop a g.outer.now s formats places (left_in_order s in_order.order) loops 0 past spaces Allowed
       (begin ++ emitted)
   appends_by_groups = record {
     most = most;

@@ -1,8 +1,9 @@
 -- What the code of a kernel has to do that appends rows to its result out of a workspace inside its outer loops.
-use Rattle.std.specs.Prelude.{◌≡◌, ℕ, ◌+◌, ◌≤◌, List, [], ◌++◌, length, drop}
+use Rattle.std.specs.Prelude.{◌≡◌, ℕ, ◌+◌, ◌≤◌, List, [], ◌++◌, length, drop, take}
 use Rattle.numbers.specs.Arithmetic.{Arithmetic, Laws}
 use Rattle.kernel_code.specs.declared.syntax.KStmt.{KStmt}
 use Rattle.kernel_code.specs.declared.syntax.Place.{Place}
+use Rattle.kernel_code.specs.declared.syntax.Place.TheVariants.{Level, Workspace}
 use Rattle.format_spec.specs.declared.format.FormatLevel.{FormatLevel}
 use Rattle.format_spec.specs.Formats.{modes_of}
 use Rattle.index_notation.specs.declared.syntax.Statement.{Statement}
@@ -11,6 +12,8 @@ use Rattle.concrete_notation.specs.declared.concrete.Concrete.{Concrete}
 use Rattle.concrete_notation.specs.Nests.{left_in_order}
 use Rattle.loop_code.specs.declared.loops.LoopCode.{LoopCode}
 use Rattle.lowering.specs.Lowered.{IsInOrder, IsInPlace}
+use Rattle.head_pairs.specs.Heads.{AreAtOneHead}
+use Rattle.kernel_correctness.specs.Stores.{Store, told_by}
 use Rattle.result_targets.specs.Sinks.{Sink}
 use Rattle.term_code.specs.declared.places.Places.{Places}
 use Rattle.term_code.specs.Places.{AreBelow}
@@ -23,9 +26,10 @@ use Rattle.grouped_loops.specs.Emitted.{AddsGroups}
 use Rattle.grouped_loops.specs.declared.grouped.Grouped.{Grouped}
 use Rattle.grouped_kernels.specs.Workspaces.{BeginsEmpty, IsWorkspace}
 
--- any place may be refused a growth
-abbrev pub Everywhere : Place → Type 0
-Everywhere place = Unit {0}
+-- any level may be refused a growth, and a workspace one to no more pairs than there are at one head of these variables
+abbrev pub AtOneHead : Arithmetic → Statement → List ℕ → List ℕ → Store → Place → ℕ → Type 0
+AtOneHead a s order vars store (Level level) count = Unit {0}
+AtOneHead a s order vars store Workspace count = AreAtOneHead s order vars (told_by a store) count
 
 -- from the top the code of loops adds their rows by groups, out of a workspace of the result's modes behind the first ones that the code
 -- before them leaves empty
@@ -43,11 +47,12 @@ pub record GroupsFromTop (a : Arithmetic) {W : Type 0} (within : Sink W) (drains
   pub bound : TargetIsBound (left_in_order s order) [] loops
   pub adds : AddsGroups a within appended_sink drains g s formats places (left_in_order s order) 0 loops free 0 past emitted
 
--- such code appends rows that have the sums of those that the loops add
+-- such code appends rows that have the sums of those that the loops add, and its workspace holds the pairs of one head at a time
 abbrev pub AppendByGroups : Type 1
 AppendByGroups = (a : Arithmetic) → Laws a → (s : Statement) (formats : List (List FormatLevel)) (c : Concrete)
     (in_order : IsInOrder s formats c) → IsForAppended s formats → (loops : LoopCode) → AreAppendedLoops s formats c loops
     → (W : Type 0) (within : Sink W) (drains : Draining W) (g : Grouped W AppendedSink) → IsSinkOf a formats g.outer.now
     → (places : Places) (free past : ℕ) (spaces : List ℕ) (begin emitted : List KStmt)
     → GroupsFromTop a within drains g s formats in_order.order places loops free past spaces begin emitted
-    → AppendsFromTop a g.outer.now s formats places (left_in_order s in_order.order) loops 0 past spaces Everywhere (begin ++ emitted)
+    → AppendsFromTop a g.outer.now s formats places (left_in_order s in_order.order) loops 0 past spaces
+    (AtOneHead a s in_order.order (take g.first (left_in_order s in_order.order))) (begin ++ emitted)

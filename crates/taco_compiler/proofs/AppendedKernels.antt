@@ -52,13 +52,14 @@ use Rattle.appended_results.specs.Heads.{IsHead, head_length, is_full}
 use Rattle.appended_results.proofs.HeadLengths.{some_head}
 use Rattle.appended_results.specs.declared.sink.AppendedSink.{AppendedSink}
 use Rattle.appended_results.specs.Sink.{appended_sink, letters_in}
-use Rattle.appended_kernels.specs.Kernels.{AddsFromTop, AppendsFromTop, AreAppendedLoops, IsForAppended, IsLevel, IsSinkOf, MakesNoMore}
-use Rattle.appended_kernels.specs.Kernels.{RefusesOnly, behind}
+use Rattle.appended_kernels.specs.Kernels.{AddsFromTop, AppendsFromTop, AreAppendedLoops, IsForAppended, IsSinkOf, MakesNoMore}
+use Rattle.appended_kernels.specs.Kernels.{OnlyLevels, RefusesOnly, behind}
 use Rattle.appended_kernels.proofs.Direct.{appends_directly}
 use Rattle.appended_kernels.proofs.Kernels.{appended_kernels_are_right}
 use Rattle.sparse_kernels.proofs.Ends.{ends_weaker}
-use Rattle.taco_compiler.specs.Compiled.{AreFewTurns, DrainsFew, IsCompiled, IsUnrefused, ProbesFew}
+use Rattle.taco_compiler.specs.Compiled.{AreFewTurns, DrainsFew, IsCompiled, IsUnrefused, NeedsOneHead, ProbesFew}
 use Rattle.taco_compiler.specs.Loops.{AreLoopsOf}
+use Rattle.taco_compiler.proofs.Heads.{needs_no_head}
 use Rattle.taco_compiler.proofs.LoopTurns.{in_order_of, within_cost, within_searches}
 use Rattle.taco_compiler.proofs.Targets.{keys_bound}
 
@@ -199,19 +200,20 @@ module _ (a : Arithmetic) (laws : Laws a) (s : Statement) (formats : List (List 
           });
     }
 
-    abbrev appends : AppendsFromTop a k s formats places keys loops 0 emitted.lists [] IsLevel code
+    abbrev appends : AppendsFromTop a k s formats places keys loops 0 emitted.lists [] OnlyLevels code
     appends = appends_directly a laws s formats c in_order f loops own_loops direct k own places 0 emitted.lists code adds_all []
 
     -- a run
     module _ (store : Store) (is : IsStoreOf s formats store) (arrays : Arrays) (given : IsGiven a.zero store arrays) where
       abbrev IsTold : KernelOutcome → Type 0
       IsTold outcome =
-          IsRightOutcome a s (told_by a store) store outcome × MakesNoMore (appends.most store) outcome × RefusesOnly IsLevel outcome
+          IsRightOutcome a s (told_by a store) store outcome × MakesNoMore (appends.most store) outcome
+          × RefusesOnly (OnlyLevels store) outcome
 
       told : Ends a (length store.format) kernel arrays IsTold
       told =
           appended_kernels_are_right a laws s formats c in_order f loops own_loops k own (behind k) places at from (omega arith) top begin
-          code end tops begins 0 emitted.lists [] IsLevel appends past ending kernel lists spaces body store is arrays given
+          code end tops begins 0 emitted.lists [] OnlyLevels appends past ending kernel lists spaces body store is arrays given
 
       few_turns : (o : KernelOutcome) → IsTold o → AreFewTurns s formats order store o
       few_turns (Finished left turns) h =
@@ -269,4 +271,7 @@ module _ (a : Arithmetic) (laws : Laws a) (s : Statement) (formats : List (List 
       keyed = λ called. absurd (clash (calls_for_workspace s formats order) called direct);
       direct = λ none store is arrays given. ends_weaker a (length store.format) kernel arrays (IsTold store is arrays given) IsUnrefused
           (unrefused store is arrays given) (told store is arrays given);
+      heads = λ sorted store is arrays given. ends_weaker a (length store.format) kernel arrays (IsTold store is arrays given)
+          (NeedsOneHead s order (told_by a store))
+          (λ o h. needs_no_head s order (told_by a store) o (unrefused store is arrays given o h)) (told store is arrays given);
     }

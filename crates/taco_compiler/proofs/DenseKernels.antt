@@ -56,8 +56,9 @@ use Rattle.kernel_emit.proofs.ListLaws.{operand_apart}
 use Rattle.row_orders.specs.Takings.{calls_for_workspace}
 use Rattle.row_orders.proofs.Lists.{clash}
 use Rattle.sparse_kernels.proofs.Ends.{ends_weaker}
-use Rattle.taco_compiler.specs.Compiled.{AreFewTurns, DrainsFew, IsCompiled, IsUnrefused, ProbesFew}
+use Rattle.taco_compiler.specs.Compiled.{AreFewTurns, DrainsFew, IsCompiled, IsUnrefused, NeedsOneHead, ProbesFew}
 use Rattle.taco_compiler.specs.Loops.{AreLoopsOf}
+use Rattle.taco_compiler.proofs.Heads.{needs_no_head}
 use Rattle.taco_compiler.proofs.LoopTurns.{in_order_of, within_cost, within_searches}
 
 module _ (a : Arithmetic) (laws : Laws a) (s : Statement) (formats : List (List FormatLevel)) (f : IsForDense s formats) (order : List ℕ)
@@ -241,4 +242,6 @@ module _ (a : Arithmetic) (laws : Laws a) (s : Statement) (formats : List (List 
       bare = λ none. spaces;
       keyed = λ called. absurd (clash (calls_for_workspace s formats order) called free_of);
       direct = λ none store is arrays given. ends_unrefused store is arrays given;
+      heads = λ sorted store is arrays given. ends_weaker a (length store.format) kernel arrays IsUnrefused
+          (NeedsOneHead s order (told_by a store)) (needs_no_head s order (told_by a store)) (ends_unrefused store is arrays given);
     }

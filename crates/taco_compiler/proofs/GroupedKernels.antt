@@ -9,6 +9,8 @@ use Rattle.kernel_code.specs.declared.syntax.Kernel.{Kernel}
 use Rattle.kernel_code.specs.declared.syntax.KStmt.{KStmt}
 use Rattle.kernel_code.specs.declared.syntax.LoopKind.{LoopKind}
 use Rattle.kernel_code.specs.declared.syntax.LoopKind.TheVariants.{Merge, Skip, Gather, Drain, Probe}
+use Rattle.kernel_code.specs.declared.syntax.Place.{Place}
+use Rattle.kernel_code.specs.declared.syntax.Place.TheVariants.{Level, Workspace}
 use Rattle.kernel_code.specs.Kernels.{KernelOutcome, Finished, GotStuck, TooLong, NotFinished}
 use Rattle.level_core.specs.Meaning.{Arrays}
 use Rattle.format_spec.specs.declared.format.FormatLevel.{FormatLevel}
@@ -54,12 +56,13 @@ use Rattle.appended_kernels.specs.Kernels.{RefusesOnly, behind}
 use Rattle.appended_kernels.proofs.Kernels.{appended_kernels_are_right}
 use Rattle.appended_kernels.proofs.Rows.{are_rows}
 use Rattle.drained_workspaces.specs.Draining.{Draining}
+use Rattle.head_pairs.specs.Heads.{AreAtOneHead, head_variables}
 use Rattle.grouped_loops.specs.Chains.{IsChain}
 use Rattle.grouped_loops.specs.declared.grouped.Grouped.{Grouped}
 use Rattle.grouped_kernels.proofs.Counts.{sums_few}
-use Rattle.grouped_kernels.specs.Kernels.{Everywhere, GroupsFromTop}
+use Rattle.grouped_kernels.specs.Kernels.{AtOneHead, GroupsFromTop}
 use Rattle.grouped_kernels.proofs.Groups.{appends_by_groups}
-use Rattle.taco_compiler.specs.Compiled.{AreFewTurns, DrainsFew, IsCompiled, ProbesFew}
+use Rattle.taco_compiler.specs.Compiled.{AreFewTurns, DrainsFew, IsCompiled, NeedsOneHead, ProbesFew}
 use Rattle.taco_compiler.specs.Loops.{AreLoopsOf}
 use Rattle.taco_compiler.specs.Tails.{tail_of, tail_workspaces}
 use Rattle.taco_compiler.proofs.LoopTurns.{in_order_of, within_cost, within_searches}
@@ -101,26 +104,30 @@ module _ (a : Arithmetic) (laws : Laws a) (s : Statement) (formats : List (List 
       (top begin ready emitted end : List KStmt) (tops : StartsAt (behind g.outer.now) top)
       (begins : BeginsFirst (letters_in g.outer.now) (length g.outer.now.levels) g.outer.now.base (length g.outer.now.levels) begin)
       (free past : ℕ) (spaces : List ℕ) (groups : GroupsFromTop a within drains g s formats order places loops free past spaces ready emitted)
-      (chain : IsChain (take g.first keys) loops) (ended : ℕ)
+      (chain : IsChain (take g.first keys) loops) (head : take g.first keys ≡ head_variables s order) (ended : ℕ)
       (ending : EndsFirst (letters_in g.outer.now) g.outer.now.base ended (length g.outer.now.levels) end) (kernel : Kernel)
       (declared : kernel.workspaces ≡ spaces) (sized : spaces ≡ tail_workspaces (length (tail_of s order))) (lists : past ≤ kernel.lists)
       (body : kernel.body ≡ ((top ++ begin) ++ (ready ++ emitted)) ++ end) where
     abbrev k : AppendedSink
     k = g.outer.now
 
-    abbrev appends : AppendsFromTop a k s formats places keys loops 0 past spaces Everywhere (ready ++ emitted)
+    abbrev Allowed : Store → Place → ℕ → Type 0
+    Allowed = AtOneHead a s order (take g.first keys)
+
+    abbrev appends : AppendsFromTop a k s formats places keys loops 0 past spaces Allowed (ready ++ emitted)
     appends = appends_by_groups a laws s formats c in_order f loops own_loops within drains g own places free past spaces ready emitted groups
 
     -- a run
     module _ (store : Store) (is : IsStoreOf s formats store) (arrays : Arrays) (given : IsGiven a.zero store arrays) where
       abbrev IsTold : KernelOutcome → Type 0
       IsTold outcome =
-          IsRightOutcome a s (told_by a store) store outcome × MakesNoMore (appends.most store) outcome × RefusesOnly Everywhere outcome
+          IsRightOutcome a s (told_by a store) store outcome × MakesNoMore (appends.most store) outcome
+          × RefusesOnly (Allowed store) outcome
 
       told : Ends a (length store.format) kernel arrays IsTold
       told =
           appended_kernels_are_right a laws s formats c in_order f loops own_loops k own (behind k) places at from (omega arith) top begin
-          (ready ++ emitted) end tops begins 0 past spaces Everywhere appends ended ending kernel lists declared body store is arrays given
+          (ready ++ emitted) end tops begins 0 past spaces Allowed appends ended ending kernel lists declared body store is arrays given
 
       abbrev most : LoopKind → ℕ
       most = groups.adds.most (operands_in s store) (slice_index store.ranges) start
@@ -210,6 +217,13 @@ module _ (a : Arithmetic) (laws : Laws a) (s : Statement) (formats : List (List 
       few_probes (TooLong place count) h = tt
       few_probes NotFinished h = absurd h.1
 
+      one_head : (o : KernelOutcome) → IsTold o → NeedsOneHead s order (told_by a store) o
+      one_head (Finished left turns) h = tt
+      one_head (GotStuck statement) h = absurd h.1
+      one_head (TooLong (Level level) count) h = tt
+      one_head (TooLong Workspace count) h = subst (λ vars. AreAtOneHead s order vars (told_by a store) count) head h.2
+      one_head NotFinished h = absurd h.1
+
     right_kernel : IsRightKernel a s formats kernel
     right_kernel store is arrays given =
         ends_weaker a (length store.format) kernel arrays (IsTold store is arrays given) (IsRightOutcome a s (told_by a store) store)
@@ -227,6 +241,8 @@ module _ (a : Arithmetic) (laws : Laws a) (s : Statement) (formats : List (List 
           (ProbesFew s formats order store (told_by a store)) (few_probes store is arrays given) (told store is arrays given);
       bare = λ free. absurd (clash (calls_for_workspace s formats order) called free);
       direct = λ free. absurd (clash (calls_for_workspace s formats order) called free);
+      heads = λ sorted store is arrays given. ends_weaker a (length store.format) kernel arrays (IsTold store is arrays given)
+          (NeedsOneHead s order (told_by a store)) (one_head store is arrays given) (told store is arrays given);
       keyed = λ some. declared ∙ sized
           ∙ sym (ap (λ b. if b then (length s.left.vars ∷ []) else tail_workspaces (length (tail_of s order))) f.sorted);
     }

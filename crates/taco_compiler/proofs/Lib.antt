@@ -2,6 +2,7 @@ pub mod AppendedKernels
 pub mod DenseKernels
 pub mod Fits
 pub mod GroupedKernels
+pub mod Heads
 pub mod LoopTurns
 pub mod NoLevels
 pub mod Passed

@@ -4,6 +4,7 @@ use Rattle.std.specs.List.{list_any}
 use Rattle.numbers.specs.Arithmetic.{Arithmetic}
 use Rattle.kernel_code.specs.declared.syntax.Kernel.{Kernel}
 use Rattle.kernel_code.specs.declared.syntax.LoopKind.{LoopKind}
+use Rattle.kernel_code.specs.declared.syntax.Place.TheVariants.{Level, Workspace}
 use Rattle.kernel_code.specs.declared.syntax.LoopKind.TheVariants.{Merge, Skip, Gather, Drain, Probe}
 use Rattle.kernel_code.specs.Kernels.{KernelOutcome, Finished, GotStuck, TooLong, NotFinished}
 use Rattle.level_core.specs.Meaning.{Arrays}
@@ -16,6 +17,7 @@ use Rattle.kernel_correctness.specs.Kernels.{Ends, IsRightKernel, IsSoundKernel}
 use Rattle.kernel_correctness.specs.Stores.{Store, IsStoreOf, IsGiven, operand_of, told_by}
 use Rattle.lowering.specs.Stored.{stored_of}
 use Rattle.simplifier.specs.Folded.{SimpleCode}
+use Rattle.head_pairs.specs.Heads.{AreAtOneHead, head_variables}
 use Rattle.row_orders.specs.Heads.{result_levels}
 use Rattle.row_orders.specs.Takings.{calls_for_workspace, is_unordered}
 use Rattle.appended_kernels.specs.Kernels.{IsLevel}
@@ -136,9 +138,23 @@ NeedsNone a s formats kernel =
     (store : Store) → IsStoreOf s formats store → (arrays : Arrays) → IsGiven a.zero store arrays
     → Ends a (length store.format) kernel arrays IsUnrefused
 
+-- a run is neither stuck nor unfinished, and a workspace is refused no more pairs than there are at one head
+abbrev pub NeedsOneHead : Statement → List ℕ → Inputs → KernelOutcome → Type 0
+NeedsOneHead s order inputs (Finished arrays turns) = Unit {0}
+NeedsOneHead s order inputs (GotStuck statement) = ⊥
+NeedsOneHead s order inputs (TooLong (Level level) count) = Unit {0}
+NeedsOneHead s order inputs (TooLong Workspace count) = AreAtOneHead s order (head_variables s order) inputs count
+NeedsOneHead s order inputs NotFinished = ⊥
+
+-- so it is on every store
+abbrev pub KeepsHeads : Arithmetic → Statement → List (List FormatLevel) → List ℕ → Kernel → Type 0
+KeepsHeads a s formats order kernel =
+    (store : Store) → IsStoreOf s formats store → (arrays : Arrays) → IsGiven a.zero store arrays
+    → Ends a (length store.format) kernel arrays (NeedsOneHead s order (told_by a store))
+
 -- the kernel is right and sound, its loops turn within the cost, the rows of its workspace are gone over no more often than that, and
 -- coordinates are sought within the widths of levels without order. It has no workspace where the statement calls for none, and is refused
--- none there; else it has those that are called for
+-- none there; else it has those that are called for, and where each level of the result has an order it needs the pairs of one head at most
 pub record IsCompiled (a : Arithmetic) (s : Statement) (formats : List (List FormatLevel)) (order : List ℕ) (kernel : Kernel)
     : Type 0 where
   pub right : IsRightKernel a s formats kernel
@@ -148,6 +164,7 @@ pub record IsCompiled (a : Arithmetic) (s : Statement) (formats : List (List For
   pub probes : KeepsProbes a s formats order kernel
   pub bare : calls_for_workspace s formats order ≡ false → kernel.workspaces ≡ []
   pub direct : calls_for_workspace s formats order ≡ false → NeedsNone a s formats kernel
+  pub heads : list_any is_unordered (result_levels s formats) ≡ false → KeepsHeads a s formats order kernel
   pub keyed : calls_for_workspace s formats order ≡ true → kernel.workspaces ≡ called_workspaces s formats order
 
 -- such a kernel in the loop order, in whose code numbers settle nothing and which over the ring adds and multiplies words alone; or the

@@ -1,5 +1,10 @@
--- A kernel of a statement is refused a workspace only where the statement calls for one.
-use Rattle.std.specs.Prelude.{◌≡◌, ℕ, Bool, true, false, List, length, Option, None, Some, Vec, refl}
+-- A kernel of a statement is refused a workspace only where the statement calls for one, and where each level of the result has an order
+-- only where one head needs so many pairs.
+use Rattle.std.specs.Prelude.{◌≡◌, ℕ, ◌<◌, Bool, true, false, List, length, Option, None, Some, Result, Ok, Err, Vec, refl}
+use Rattle.std.specs.List.{list_any}
+use Rattle.std.proofs.Common.{◌∙◌, sym, subst, arith}
+use Rattle.limits.specs.Limits.{greatest_position_count}
+use Rattle.numbers.specs.Arithmetic.{Arithmetic}
 use Rattle.std.specs.declared.alloc.Global.{Global}
 use Rattle.tensor_map.specs.Entries.{Entries}
 use Rattle.kernel_code.specs.declared.syntax.Kernel.{Kernel}
@@ -8,15 +13,22 @@ use Rattle.kernel_code.specs.Kernels.{NotFinished, TooLong}
 use Rattle.format_spec.specs.declared.format.FormatLevel.{FormatLevel}
 use Rattle.index_notation.specs.declared.syntax.Statement.{Statement}
 use Rattle.expr_terms.specs.declared.bound.Bound.{Bound}
-use Rattle.kernel_correctness.specs.Stores.{Store, IsStoreOf}
+use Rattle.expr_terms.specs.declared.range_fault.RangeFault.{RangeFault}
+use Rattle.kernel_correctness.specs.Stores.{Store, IsStoreOf, told_by}
 use Rattle.mode_planner.specs.declared.planned.Planned.{Planned}
-use Rattle.row_orders.specs.Takings.{calls_for_workspace}
-use Rattle.taco_compiler.specs.Compiled.{IsUnrefused}
+use Rattle.row_orders.specs.Heads.{result_levels}
+use Rattle.row_orders.specs.Takings.{calls_for_workspace, is_unordered}
+use Rattle.head_pairs.specs.Heads.{AreAtOneHead, head_variables}
+use Rattle.operand_packing.specs.Drawn.{drawn}
+use Rattle.operand_packing.specs.Runnable.{told_ranges}
+use Rattle.taco_compiler.specs.Compiled.{IsUnrefused, NeedsOneHead}
+use Rattle.kernel_runs.specs.Runs.{IsStoreFor}
 use Rattle.kernel_runs.specs.Steps.{StopsOn}
 use Rattle.kernel_runs.proofs.Outcomes.{outcome_is}
 use Rattle.taco_top.specs.Values.{Values}
 use Rattle.taco_top.specs.Told.{IsKernelOf}
-use Rattle.taco_top.specs.Stored.{NeedsStoredPairs, stored_statement, stored_formats}
+use Rattle.taco_top.specs.Stored.{NeedsStoredPairs, NeedsStoredWorkspace, stored_entries, stored_formats, stored_statement}
+use Rattle.taco_top.specs.Whole.{HeadsFit}
 
 -- where none is called for, the same run ends in no such way
 called_for : (over : Values) (s : Statement) (formats : List (List FormatLevel)) (order : List ℕ) (kernel : Kernel)
@@ -43,3 +55,58 @@ pairs_called over s formats None order kernel given entries bounds count is need
     called_for over s formats order kernel is needs.store needs.is_store.is_store count needs.stops
 pairs_called over s formats (Some plan) order kernel given entries bounds count is needs =
     called_for over plan.statement plan.formats order kernel is needs.store needs.is_store.is_store count needs.stops
+
+-- where each level has an order, the run that is refused a workspace needs so many pairs at one head
+at_one_head : (over : Values) (s : Statement) (formats : List (List FormatLevel)) (order : List ℕ) (kernel : Kernel)
+    → IsKernelOf over s formats order kernel → (store : Store) → IsStoreOf s formats store → (count : ℕ)
+    → StopsOn over.arithmetic kernel store Workspace count → list_any is_unordered (result_levels s formats) ≡ false
+    → AreAtOneHead s order (head_variables s order) (told_by over.arithmetic store) count
+at_one_head over s formats order kernel is store of_s count stops sorted =
+    outcome_is over.arithmetic (length store.format) kernel stops.given (NeedsOneHead s order (told_by over.arithmetic store))
+    (TooLong Workspace count) (is.compiled.heads sorted store of_s stops.given stops.is_given) (λ none. none) stops.ends apart
+  where
+    apart : TooLong Workspace count ≡ NotFinished → ⊥
+    apart e = cc
+
+pub workspace_needed : (over : Values) (s : Statement) (formats : List (List FormatLevel)) (plan : Option Planned) (order : List ℕ)
+    (kernel : Kernel) (given : List (Option ℕ)) (entries : List Entries) (bounds : List (Vec Bound Global)) (count : ℕ)
+    → IsKernelOf over (stored_statement s plan) (stored_formats formats plan) order kernel
+    → NeedsStoredPairs over s formats plan kernel given entries bounds count
+    → NeedsStoredWorkspace over s formats plan order kernel given entries bounds count
+workspace_needed over s formats None order kernel given entries bounds count is needs = record {
+  pairs = needs;
+  head = at_one_head over s formats order kernel is needs.store needs.is_store.is_store count needs.stops;
+}
+workspace_needed over s formats (Some plan) order kernel given entries bounds count is needs = record {
+  pairs = needs;
+  head = at_one_head over plan.statement plan.formats order kernel is needs.store needs.is_store.is_store count needs.stops;
+}
+
+-- ---- no head needs so many where each fits
+same_ranges : (r : Result (List ℕ) RangeFault) (xs ys : List ℕ) → r ≡ Ok xs → r ≡ Ok ys → xs ≡ ys
+same_ranges (Ok zs) xs ys x y =
+    let first : zs ≡ xs = cc in
+    let second : zs ≡ ys = cc in sym first ∙ second
+same_ranges (Err fault) xs ys x y = absurd cc
+
+passes_none : (a : Arithmetic) (s : Statement) (formats : List (List FormatLevel)) (order ranges own : List ℕ) (entries : List Entries)
+    (store : Store) (count : ℕ) → ranges ≡ own → IsStoreFor a s formats own entries store → greatest_position_count < count
+    → HeadsFit a s formats order ranges entries → AreAtOneHead s order (head_variables s order) (told_by a store) count → ⊥
+passes_none a s formats order ranges own entries store count same for passes fit one =
+    let few = subst (λ rs. HeadsFit a s formats order rs entries) same fit store for one.coords in
+    let many = one.many in
+    omega (arith, few, many, passes)
+
+pub heads_fit : (over : Values) (s : Statement) (formats : List (List FormatLevel)) (plan : Option Planned) (order : List ℕ)
+    (kernel : Kernel) (given : List (Option ℕ)) (entries : List Entries) (bounds : List (Vec Bound Global)) (count : ℕ) (ranges : List ℕ)
+    → told_ranges s given bounds ≡ Ok ranges → NeedsStoredWorkspace over s formats plan order kernel given entries bounds count
+    → list_any is_unordered (result_levels (stored_statement s plan) (stored_formats formats plan)) ≡ false
+    → HeadsFit over.arithmetic (stored_statement s plan) (stored_formats formats plan) order ranges (stored_entries entries plan) → ⊥
+heads_fit over s formats None order kernel given entries bounds count ranges told needs sorted fit =
+    let pairs = needs.pairs in
+    passes_none over.arithmetic s formats order ranges pairs.ranges entries pairs.store count
+    (same_ranges _ ranges pairs.ranges told pairs.ranges_are) pairs.is_store pairs.passes fit (needs.head sorted)
+heads_fit over s formats (Some plan) order kernel given entries bounds count ranges told needs sorted fit =
+    let pairs = needs.pairs in
+    passes_none over.arithmetic plan.statement plan.formats order ranges pairs.ranges (drawn plan.origins entries) pairs.store count
+    (same_ranges _ ranges pairs.ranges told pairs.ranges_are) pairs.is_store pairs.passes fit (needs.head sorted)

@@ -44,7 +44,7 @@ use Rattle.taco_top.specs.Stored.{IsRunBy, stored_statement, stored_formats}
 use Rattle.taco_top.specs.declared.computing.Computed.{Computed}
 use Rattle.taco_top.specs.declared.ending.Done.{Done}
 use Rattle.taco_top.specs.Prepared.{IsPrepared, IsUncomputed, end_of, end_of_printing}
-use Rattle.taco_top.proofs.Called.{pairs_called}
+use Rattle.taco_top.proofs.Called.{pairs_called, workspace_needed}
 
 module _ (over : Values) where
   -- the words are refused, and no file was opened
@@ -123,7 +123,7 @@ module _ (over : Values) where
           entries = entries;
           bounds = bounds;
           operands = operands;
-          needs = needs;
+          needs = workspace_needed over r.statement r.formats plan order kernel r.given entries bounds count is_kernel needs;
         }
     stops_uncomputed (fault.Named t (named.Name why)) is = absurd is
     stops_uncomputed (fault.Named t (named.Binding why)) is = absurd is

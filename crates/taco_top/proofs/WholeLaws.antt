@@ -1,6 +1,7 @@
 -- Where all input is whole, a run ends with its result.
 use Rattle.std.specs.Prelude.{◌≡◌, ℕ, zero, suc, ◌-◌, ◌⊎◌, List, [], ◌∷◌, length, map, Option, Some, None, Result, Ok, Err}
-use Rattle.std.specs.Prelude.{true, Vec, String, string_bytes, slice_get, refl}
+use Rattle.std.specs.Prelude.{Bool, true, false, Vec, String, string_bytes, slice_get, refl}
+use Rattle.std.specs.List.{list_any}
 use Rattle.std.specs.Option.{option_map}
 use Rattle.std.proofs.Common.{◌∙◌, sym, ap, subst, inl, inr}
 use Rattle.std.proofs.lemmas.List.FromFn.{length-map-range_with_len}
@@ -29,12 +30,13 @@ use Rattle.operand_files.specs.declared.fault.OperandFault.TheVariants as operan
 use Rattle.operand_files.proofs.ToldLaws.{told_answer, told_bad_line, told_others}
 use Rattle.iteration_graph.specs.Edges.{statement_edges}
 use Rattle.iteration_graph.proofs.OrderLaws.{no_order}
-use Rattle.row_orders.specs.Takings.{calls_for_workspace}
+use Rattle.row_orders.specs.Heads.{result_levels}
+use Rattle.row_orders.specs.Takings.{calls_for_workspace, is_unordered}
 use Rattle.taco_compiler.specs.Compiled.{HasCycle, IsOrder}
 use Rattle.operand_packing.specs.Runnable.{told_ranges}
 use Rattle.mode_planner.specs.Planned.{HaveOrder}
 use Rattle.mode_planner.specs.declared.planned.Planned.{Planned}
-use Rattle.kernel_runs.specs.Runs.{LevelsFit, PairsFit, SizesFit}
+use Rattle.kernel_runs.specs.Runs.{LevelsFit, SizesFit}
 use Rattle.operand_packing.specs.declared.large_level.LargeLevel.{LargeLevel}
 use Rattle.kernel_runs.specs.declared.fault.RunFault.{RunFault}
 use Rattle.kernel_runs.specs.declared.fault.RunFault.TheVariants.{SizeLimit, Workspace}
@@ -49,16 +51,18 @@ use Rattle.refusals.specs.declared.fault.Fault.TheVariants as fault
 use Rattle.refusals.specs.Lines.{status_of}
 use Rattle.taco_top.specs.Values.{Values, values_of, values_of_line, values_in}
 use Rattle.taco_top.specs.Asked.{IsRefusedByWords, IsWant, needs_order}
+use Rattle.taco_top.proofs.Called.{heads_fit}
 use Rattle.taco_top.proofs.ExecLines.{no_execution, refuses_line}
 use Rattle.taco_top.proofs.OneRequest as request
 use Rattle.taco_top.specs.Run.{Request, AsksFor, operand_path, path_of}
-use Rattle.taco_top.specs.Stored.{IsRunBy, IsLargeStoredLevel, NeedsStoredPairs, stored_statement, stored_formats, stored_entries}
+use Rattle.taco_top.specs.Stored.{IsRunBy, IsLargeStoredLevel, NeedsStoredPairs, NeedsStoredWorkspace}
+use Rattle.taco_top.specs.Stored.{stored_statement, stored_formats, stored_entries}
 use Rattle.taco_top.specs.Prepared.{MayRefuseStored}
 use Rattle.taco_top.specs.Written.{means, asked_orders, asked_paths, HasOperands, HasResult, result_ranges, result_value, IsWritten}
 use Rattle.taco_top.specs.Refused.{StopsReading, HasCycleFault, HasRangeFault, HasLargeLevel}
 use Rattle.taco_top.specs.Refused.{HasManyPairs, Stops, IsUnwritten, FailsToWrite}
 use Rattle.taco_top.specs.Ends.{Ends, Ending, Written, Printed, Refused, Executed, Unexecuted, Cause, status_of_end}
-use Rattle.taco_top.specs.Whole.{IsWhole, modes_told, bound_told}
+use Rattle.taco_top.specs.Whole.{IsWhole, WorkspacesFit, modes_told, bound_told}
 
 -- ---- bounds that are lent say what they hold
 modes_same : (bounds : List (Vec Bound Global)) (tensor : ℕ) → modes_of bounds tensor ≡ modes_told (map (λ b. b.items) bounds) tensor
@@ -152,11 +156,11 @@ module _ (over : Values) (words : List (List ℕ)) (files : FolderState) (whole 
     pairs_fit : (plan : Option Planned) → IsRunBy whole.request plan → (order : List ℕ)
         → IsOrder (stored_statement whole.request.statement plan) (stored_formats whole.request.formats plan) order
         → calls_for_workspace (stored_statement whole.request.statement plan) (stored_formats whole.request.formats plan) order ≡ true
-        → PairsFit over.arithmetic (stored_statement whole.request.statement plan) (stored_formats whole.request.formats plan)
+        → WorkspacesFit over.arithmetic (stored_statement whole.request.statement plan) (stored_formats whole.request.formats plan) order
         whole.ranges (stored_entries entries plan)
     pairs_fit plan is_plan order is_order called =
-        subst (λ es. PairsFit over.arithmetic (stored_statement whole.request.statement plan)
-        (stored_formats whole.request.formats plan) whole.ranges
+        subst (λ es. WorkspacesFit over.arithmetic (stored_statement whole.request.statement plan)
+        (stored_formats whole.request.formats plan) order whole.ranges
         (stored_entries es plan)) (sym entries_are) (whole.pairs_fit plan is_plan order is_order called)
 
     no_size_fault : (plan : Option Planned) (kernel : Kernel) (why : RunFault)
@@ -218,16 +222,38 @@ module _ (over : Values) (words : List (List ℕ)) (files : FolderState) (whole 
 
     no_pairs_fault : (count : ℕ) → HasManyPairs over words files new count → ⊥
     no_pairs_fault count is =
-        let same = request_is is.request is.operands.accepted.asks in
-        let operands = operands_at new is.request is.entries is.bounds is.operands in
-        no_size_fault new is.entries is.bounds operands is.plan is.kernel (Workspace count)
-        (pairs_stored is.plan is.kernel is.entries is.bounds count
-        (subst (λ q. NeedsStoredPairs over q.statement q.formats is.plan is.kernel q.given is.entries is.bounds count) same is.needs))
-        (pairs_fit new is.entries is.bounds operands is.plan (subst (λ q. IsRunBy q is.plan) same is.is_plan) is.order
-        (subst (λ q. IsOrder (stored_statement q.statement is.plan) (stored_formats q.formats is.plan) is.order) same
-        is.is_kernel.is_order)
-        (subst (λ q. calls_for_workspace (stored_statement q.statement is.plan) (stored_formats q.formats is.plan) is.order ≡ true) same
-        is.called))
+        by (list_any is_unordered (result_levels (stored_statement whole.request.statement is.plan)
+        (stored_formats whole.request.formats is.plan))) refl
+      where
+        same : is.request ≡ whole.request
+        same = request_is is.request is.operands.accepted.asks
+
+        operands : HasOperands over words files new whole.request is.entries is.bounds
+        operands = operands_at new is.request is.entries is.bounds is.operands
+
+        needs : NeedsStoredWorkspace over whole.request.statement whole.request.formats is.plan is.order is.kernel whole.request.given
+            is.entries is.bounds count
+        needs =
+            subst (λ q. NeedsStoredWorkspace over q.statement q.formats is.plan is.order is.kernel q.given is.entries is.bounds count) same
+            is.needs
+
+        fit : WorkspacesFit over.arithmetic (stored_statement whole.request.statement is.plan)
+            (stored_formats whole.request.formats is.plan) is.order whole.ranges (stored_entries is.entries is.plan)
+        fit =
+            pairs_fit new is.entries is.bounds operands is.plan (subst (λ q. IsRunBy q is.plan) same is.is_plan) is.order
+            (subst (λ q. IsOrder (stored_statement q.statement is.plan) (stored_formats q.formats is.plan) is.order) same
+            is.is_kernel.is_order)
+            (subst (λ q. calls_for_workspace (stored_statement q.statement is.plan) (stored_formats q.formats is.plan) is.order ≡ true) same
+            is.called)
+
+        by : (b : Bool) → list_any is_unordered (result_levels (stored_statement whole.request.statement is.plan)
+            (stored_formats whole.request.formats is.plan)) ≡ b → ⊥
+        by true unordered =
+            no_size_fault new is.entries is.bounds operands is.plan is.kernel (Workspace count)
+            (pairs_stored is.plan is.kernel is.entries is.bounds count needs.pairs) (fit.pairs unordered)
+        by false sorted =
+            heads_fit over whole.request.statement whole.request.formats is.plan is.order is.kernel whole.request.given is.entries is.bounds
+            count whole.ranges (told_there new is.entries is.bounds operands) needs sorted (fit.heads sorted)
 
     -- a graph with a loop order has no cycle
     no_cycle_fault : (s : Statement) (cycle : List ℕ) → HasCycleFault words s cycle → ⊥

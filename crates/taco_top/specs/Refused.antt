@@ -26,7 +26,7 @@ use Rattle.mode_planner.specs.declared.planned.Planned.{Planned}
 use Rattle.taco_top.specs.Values.{Values}
 use Rattle.taco_top.specs.Asked.{IsRefusedByWords, needs_files, needs_order, writes_result}
 use Rattle.taco_top.specs.Run.{Request, AsksFor, path_of}
-use Rattle.taco_top.specs.Stored.{IsRunBy, stored_statement, stored_formats, IsLargeStoredLevel, NeedsStoredPairs}
+use Rattle.taco_top.specs.Stored.{IsRunBy, stored_statement, stored_formats, IsLargeStoredLevel, NeedsStoredWorkspace}
 use Rattle.taco_top.specs.Written.{means, IsAccepted, asked_orders, asked_paths, HasOperands, HasResult, result_ranges, result_value}
 use Rattle.taco_top.specs.Told.{IsComputed, IsKernelOf, IsTextOf, Tells}
 
@@ -76,7 +76,8 @@ pub record HasLargeLevel (over : Values) (words : List (List ℕ)) (old new : Fo
   pub operands : HasOperands over words old new request entries bounds
   pub is : IsLargeStoredLevel over request.statement request.formats plan kernel request.given entries bounds large
 
--- the statement that is run calls for a workspace, in the order of its loops, and this kernel's run is refused it: it needs too many pairs
+-- the statement that is run calls for a workspace, in the order of its loops, and this kernel's run is refused it: it needs too many pairs,
+-- at one head where each level of the result has an order
 pub record HasManyPairs (over : Values) (words : List (List ℕ)) (old new : FolderState) (count : ℕ) : Type 0 where
   pub request : Request
   pub plan : Option Planned
@@ -88,7 +89,7 @@ pub record HasManyPairs (over : Values) (words : List (List ℕ)) (old new : Fol
   pub entries : List Entries
   pub bounds : List (Vec Bound Global)
   pub operands : HasOperands over words old new request entries bounds
-  pub needs : NeedsStoredPairs over request.statement request.formats plan kernel request.given entries bounds count
+  pub needs : NeedsStoredWorkspace over request.statement request.formats plan order kernel request.given entries bounds count
 
 -- no file was opened, and the words are refused so
 pub record RefusesWords (words : List (List ℕ)) (old new : FolderState) (why : Fault) : Type 0 where

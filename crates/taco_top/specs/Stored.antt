@@ -1,12 +1,17 @@
 -- What is run of what words ask for: the statement as it is, or one that is planned in its place where the storage orders of its
 -- tensors have a cycle, with some of them stored in other orders of their modes.
-use Rattle.std.specs.Prelude.{ℕ, List, Option, None, Some, Vec}
+use Rattle.std.specs.Prelude.{◌≡◌, ℕ, false, List, Option, None, Some, Vec}
+use Rattle.std.specs.List.{list_any}
 use Rattle.std.specs.declared.alloc.Global.{Global}
 use Rattle.tensor_map.specs.Entries.{Entries}
 use Rattle.kernel_code.specs.declared.syntax.Kernel.{Kernel}
 use Rattle.format_spec.specs.declared.format.FormatLevel.{FormatLevel}
 use Rattle.index_notation.specs.declared.syntax.Statement.{Statement}
 use Rattle.expr_terms.specs.declared.bound.Bound.{Bound}
+use Rattle.kernel_correctness.specs.Stores.{Store, told_by}
+use Rattle.row_orders.specs.Heads.{result_levels}
+use Rattle.row_orders.specs.Takings.{is_unordered}
+use Rattle.head_pairs.specs.Heads.{AreAtOneHead, head_variables}
 use Rattle.mode_planner.specs.Planned.{Answers}
 use Rattle.mode_planner.specs.declared.planned.Planned.{Planned}
 use Rattle.operand_packing.specs.Drawn.{drawn}
@@ -51,3 +56,19 @@ NeedsStoredPairs over s formats None kernel given entries bounds count =
     NeedsPairs over.arithmetic s formats kernel given entries bounds count
 NeedsStoredPairs over s formats (Some plan) kernel given entries bounds count =
     NeedsPlannedPairs over.arithmetic s plan kernel given entries bounds count
+
+-- the store of the operands, as they are stored, on which it is
+abbrev pub needing_store : (over : Values) (s : Statement) (formats : List (List FormatLevel)) (plan : Option Planned) (kernel : Kernel)
+    (given : List (Option ℕ)) (entries : List Entries) (bounds : List (Vec Bound Global)) (count : ℕ)
+    → NeedsStoredPairs over s formats plan kernel given entries bounds count → Store
+needing_store over s formats None kernel given entries bounds count needs = needs.store
+needing_store over s formats (Some plan) kernel given entries bounds count needs = needs.store
+
+-- it needs so many pairs; at one head of the statement that is run, in the order of its loops, where each level of the result has an order
+pub record NeedsStoredWorkspace (over : Values) (s : Statement) (formats : List (List FormatLevel)) (plan : Option Planned)
+    (order : List ℕ) (kernel : Kernel) (given : List (Option ℕ)) (entries : List Entries) (bounds : List (Vec Bound Global)) (count : ℕ)
+    : Type 0 where
+  pub pairs : NeedsStoredPairs over s formats plan kernel given entries bounds count
+  pub head : list_any is_unordered (result_levels (stored_statement s plan) (stored_formats formats plan)) ≡ false
+      → AreAtOneHead (stored_statement s plan) order (head_variables (stored_statement s plan) order)
+      (told_by over.arithmetic (needing_store over s formats plan kernel given entries bounds count pairs)) count

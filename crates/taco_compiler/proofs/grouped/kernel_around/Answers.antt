@@ -10,6 +10,7 @@ use Rattle.appended_results.specs.Ends.{EndsFirst}
 use Rattle.appended_kernels.specs.Kernels.{IsForAppended}
 use Rattle.taco_compiler.proofs.AppendedKernels.{levels_few, places_from, sink_fits}
 use Rattle.taco_compiler.proofs.GroupedKernels.{bound_there, grouped_compiled}
+use Rattle.taco_compiler.proofs.Heads.{head_is}
 use Rattle.taco_compiler.proofs.grouped.kernel_around.Goals as goal
 
 pub group_rows-requires-clause-keys : goal.group_rows-requires-clause-keys
@@ -67,7 +68,7 @@ returns-clause-compiled g c =
       bound = bound_there a laws s formats order for_appended c.requires.grouped.called rows.loops rows.are;
       adds = rows.adds;
     })
-    rows.chain (sink.base + 4 * length sink.levels) end (record {
+    rows.chain (head_is s formats order grouped.first grouped.modes.now c.requires.tail) (sink.base + 4 * length sink.levels) end (record {
       semiring = c.in_ok-semiring.semiring;
       workspaces = c.args.workspaces;
       lists = emitted.lists;
