@@ -1,34 +1,36 @@
 -- The code of a hashed level that is the last, and of the values.
 use Rattle.std.specs.Prelude.{◌≡◌, ◌≢◌, ℕ, zero, suc, ◌+◌, ◌*◌, ◌≤◌, ◌<◌, nat_le, Bool, true, false, if◌then◌else◌, List, [], ◌∷◌, ◌++◌, length, drop}
 use Rattle.std.specs.Prelude.{replicate, slice_index, not, Some, refl}
-use Rattle.std.proofs.Common.{◌∙◌, sym, ap, subst, arith}
+use Rattle.std.proofs.Common.{◌∙◌, sym, ap, subst, arith, inl, inr}
 use Rattle.std.proofs.lemmas.Bool.Decides.{nat_tests}
 use Rattle.std.proofs.lemmas.List.{length-replicate}
 use Rattle.limits.specs.Limits.{greatest_position_count}
 use Rattle.kernel_code.specs.Arrays.{same_arr, may_have}
 use Rattle.kernel_code.specs.Does.{Does, Never}
-use Rattle.kernel_code.proofs.Does.{does_append, does_extend, does_set, does_weaker}
+use Rattle.kernel_code.proofs.Does.{does_append, does_extend, does_nothing, does_set, does_weaker}
 use Rattle.kernel_code.specs.Keeps.{Below, Leaves, NoVariable, no_turns}
 use Rattle.kernel_code.proofs.ArrayNames.{same_arr_is, same_arr_self}
 use Rattle.kernel_code.proofs.Keeps.{this_var, other_var, this_array, other_array}
-use Rattle.kernel_code.specs.Meaning.{Setting, State, value, set_array, set_var}
+use Rattle.kernel_code.specs.Meaning.{Setting, State, length_of, value, set_array, set_var}
 use Rattle.kernel_code.specs.Widths.{slot_width}
 use Rattle.kernel_code.specs.declared.syntax.Arr.{Arr}
 use Rattle.kernel_code.specs.declared.syntax.Arr.TheVariants.{Values, Key, Sums, ListPositions}
-use Rattle.kernel_code.specs.declared.syntax.KExpr.{KExpr, Num, Var, At, Width}
+use Rattle.kernel_code.specs.declared.syntax.KExpr.{KExpr, Num, Var, At, Len, Width}
 use Rattle.kernel_code.specs.declared.syntax.KStmt.{KStmt, Set, Extend}
 use Rattle.kernel_code.specs.declared.syntax.LoopKind.{LoopKind}
+use Rattle.kernel_code.specs.declared.syntax.LoopKind.TheVariants.{Drain}
 use Rattle.level_core.specs.declared.letter.Letter.{Letter}
 use Rattle.level_core.specs.Codes.{PrepareCode, InsertCode, HoldsPrepared}
-use Rattle.level_core.specs.Fragments.{IsOutside}
+use Rattle.level_core.specs.Fragments.{IsOutside, turns_of}
 use Rattle.level_core.specs.Kinds.{properties, capabilities, positions_for, MayPrepare}
 use Rattle.level_core.specs.Laws.{HoldsStart}
 use Rattle.level_core.specs.GuardedProducts.{guarded_product}
 use Rattle.level_core.proofs.KindLaws.{are_of_a_kind}
-use Rattle.level_rows.specs.Counting.{LeavesGreatest, FindsGreatest}
+use Rattle.level_rows.specs.Counting.{LeavesGreatest}
 use Rattle.level_rows.specs.Draining.{Stays}
-use Rattle.level_rows.specs.Placing.{insert_turns, probes_each, LeavesPlaced}
+use Rattle.level_rows.specs.Placing.{insert_turns, probes_each, times, LeavesPlaced}
 use Rattle.level_rows.specs.Rows.{Rows, begun_below, MayInsertRows}
+use Rattle.level_rows.specs.Stacks.{Column, last_place}
 use Rattle.level_rows.specs.Values.{StoresValues}
 use Rattle.level_rows.specs.Tables.{ShareBy}
 use Rattle.level_rows.proofs.InsertLoop.{Inserting, begins}
@@ -41,17 +43,18 @@ use Rattle.tensor_storage.specs.Levels.{meaning}
 use Rattle.tensor_storage.specs.Tables.{Table, agree}
 use Rattle.tensor_storage.proofs.Tables.{apart, agree_tells}
 use Rattle.result_assembly.specs.Drained.{IsCounted, HasWords, MayDrain, AreDrained, RefusesLevel, passes_at}
-use Rattle.result_assembly.specs.Filling.{fill_rows_code, without_values, LeavesFilled}
+use Rattle.result_assembly.specs.Filling.{fill_rows_code, without_values, counting_passes, FindsLast, LeavesFilled}
 use Rattle.result_assembly.specs.Tests.{begins_test}
 use Rattle.result_assembly.proofs.FillSteps.{LeavesRows, rows_filled}
 use Rattle.result_assembly.proofs.CountedCode.{rows, counts, total, few_most, total_told, counted, slots, drained_then}
 use Rattle.result_assembly.proofs.Holding.{level_beside}
 use Rattle.result_assembly.proofs.KindLaws.{counted_never, counted_unordered, width_held}
 use Rattle.result_assembly.proofs.Inserted.{start, needed, needed_is, refused_at, may_insert, after}
-use Rattle.result_assembly.proofs.Lists.{drop_rest}
+use Rattle.result_assembly.proofs.Lists.{as_many_columns, drop_rest}
+use Rattle.result_assembly.proofs.OneParent.{greatest_of_one}
 use Rattle.result_assembly.proofs.Steps.{few_words}
 use Rattle.result_assembly.proofs.Stepwise.{values_upto, upto_stored}
-use Rattle.result_assembly.proofs.Turns.{times_of, times_most, two_here, counted_then_placed}
+use Rattle.result_assembly.proofs.Turns.{times_of, times_most, two_here, counted_then_placed, once_counted, passes_then_placed}
 
 -- the last level is a chain by itself, where each coordinate stands once
 pub one_chain : (letter : Letter) → IsCounted letter → chain_length (letter ∷ []) ≡ 1
@@ -99,7 +102,56 @@ module _ (letters : List Letter) (letter : Letter) (slotted : IsCounted letter) 
       by true is = absurd (differs is)
       by false is = ap not is
 
-  module _ (t : State) (l : LeavesGreatest (base + 1) rows_now s t) where
+  -- below no level all rows have the one parent above all levels
+  one_parent : d ≡ 0 → (i : ℕ) → slice_index dr.positions i ≡ 0
+  one_parent none = by_columns dr.packed.columns none_above dr.packed.growing.place_is
+    where
+      none_above : length dr.packed.columns ≡ 0
+      none_above =
+          let deep = dr.packed.growing.depth in
+          let each = as_many_columns meaning table letters dr.levels dr.packed.columns 0 (λ i. 0) 1 dr.packed.built in
+          omega (arith, none, deep, each)
+
+      by_columns : (columns : List Column) → length columns ≡ 0 → last_place columns (λ i. 0) ≡ slice_index dr.positions
+          → (i : ℕ) → slice_index dr.positions i ≡ 0
+      by_columns [] empty is i = sym (ap (λ f. f i) is)
+      by_columns (column ∷ columns) empty is i = absurd (omega (arith, empty))
+
+  -- the greatest number is found within so many turns
+  abbrev Found : State → Type 0
+  Found t = LeavesGreatest (base + 1) rows_now s t
+      × ((k : LoopKind) → t.turns k ≤ s.turns k + turns_of Drain (times (counting_passes d) table.count) k)
+
+  all_counted : d ≡ 0 → Found (set_var s (base + 1 + 2) table.count)
+  all_counted none = (
+    record {
+      most = table.count;
+      greatest = greatest_of_one rows_now each_first (λ i less. one_parent none i);
+      answer = this_var s (base + 1 + 2) table.count;
+      leaves = record {
+        below = λ y less no. other_var s (base + 1 + 2) y table.count (λ e. absurd (omega (arith, e, less)));
+        arrays = λ a every. refl;
+        turns = λ k. omega arith;
+      };
+    },
+    λ k. omega arith,
+  )
+
+  found : (greatest : List KStmt) → FindsLast (base + 1) w g (suc d) (begins_test (base + 1) w n) greatest → (c : Setting)
+      → Does c greatest s Found Never
+  found greatest (inl told) c =
+      subst (λ code. Does c code s Found Never) (sym told.1)
+      (does_set c (base + 1 + 2) (Len (Sums w)) [] s table.count _ _
+      (ap length_of dr.rows.sums.held ∙ ap Some dr.rows.sums.many)
+      (does_nothing c (set_var s (base + 1 + 2) table.count) _ _ (all_counted (let first = told.0 in omega (arith, first)))))
+  found greatest (inr finds) c =
+      does_weaker c greatest s _ _ _ _
+      (finds.1 c rows_now s (counts letters [] letter slotted w g d n base count bounded left through nothing sizes table may s dr))
+      (λ t l. (l, λ k. once_counted d (let more = finds.0 in omega (arith, more)) (s.turns k) (t.turns k) table.count k (l.leaves.turns k)))
+      (λ turns a k never. absurd never)
+
+  module _ (t : State) (l : LeavesGreatest (base + 1) rows_now s t)
+      (few_counted : (k : LoopKind) → t.turns k ≤ s.turns k + turns_of Drain (times (counting_passes d) table.count) k) where
     abbrev width_all : ℕ
     width_all = total letters [] letter slotted w g d n base count bounded left through nothing sizes table may s dr t l
 
@@ -303,8 +355,8 @@ module _ (letters : List Letter) (letter : Letter) (slotted : IsCounted letter) 
                 ∙ l.leaves.below y (omega (arith, less)) no;
             arrays = λ a st. r.leaves.arrays a st ∙ other_array v (Values 0) a (replicate width_all nothing) st.1
                 ∙ kept.arrays a st.0.0 ∙ l.leaves.arrays a tt;
-            turns = λ k. counted_then_placed (s.turns k) (t.turns k) (u.turns k) (passes_at letters d) table.count
-                (slot_width l.most) k (two_here letters [] letter d table.count (counted_unordered letter slotted) left) (l.leaves.turns k) (turns_made k);
+            turns = λ k. passes_then_placed (s.turns k) (t.turns k) (u.turns k) (counting_passes d) table.count (slot_width l.most) k
+                (few_counted k) (turns_made k);
           };
         }
 
@@ -355,7 +407,7 @@ module _ (letters : List Letter) (letter : Letter) (slotted : IsCounted letter) 
         (λ v z. fills_all v z.0 z.1.0 z.1.1 insert code c)
 
   pub last_filled : (greatest prepare insert : List KStmt)
-      → FindsGreatest (base + 1) w g (suc d) (begins_test (base + 1) w n) greatest
+      → FindsLast (base + 1) w g (suc d) (begins_test (base + 1) w n) greatest
       → PrepareCode meaning letter 0 (suc d) (count ∷ Var (base + 1 + 2) ∷ []) (base + 1 + 6) prepare
       → InsertCode meaning letter 0 (suc d) (Var (base + 1 + 4) ∷ At (Key w d) (Var (base + 1)) ∷ []) (base + 1 + 6) insert
       → (c : Setting)
@@ -363,10 +415,8 @@ module _ (letters : List Letter) (letter : Letter) (slotted : IsCounted letter) 
       ∷ (prepare ++ Extend (Values 0) (Var base) (Num nothing) ∷ fill_rows_code (base + 1) w g insert)) s
       (LeavesFilled nothing letters sizes table w g d base s) (RefusesLevel letters sizes table d s)
   last_filled greatest prepare insert finds prepares code c =
-      does_append c greatest _ s (LeavesGreatest (base + 1) rows_now s) _ _
-      (does_weaker c greatest s _ _ _ _
-      (finds c rows_now s (counts letters [] letter slotted w g d n base count bounded left through nothing sizes table may s dr)) (λ t l. l)
-      (λ turns a k never. absurd never))
-      (λ t l. does_set c base (guarded_product count (Width (Var (base + 1 + 2)))) _ t (width_all t l) _ _
-      (total_told letters [] letter slotted w g d n base count bounded left through nothing sizes table may s dr t l)
-      (prepared t l prepare insert prepares code c))
+      does_append c greatest _ s Found _ _
+      (does_weaker c greatest s _ _ _ _ (found greatest finds c) (λ t f. f) (λ turns a k never. absurd never))
+      (λ t f. does_set c base (guarded_product count (Width (Var (base + 1 + 2)))) _ t (width_all t f.0 f.1) _ _
+      (total_told letters [] letter slotted w g d n base count bounded left through nothing sizes table may s dr t f.0)
+      (prepared t f.0 f.1 prepare insert prepares code c))

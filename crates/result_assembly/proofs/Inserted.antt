@@ -41,7 +41,7 @@ one_more_at_most : (b : Bool) (x n : ℕ) → x ≤ n → (if b then x + 1 else 
 one_more_at_most true x n h = omega (arith, h)
 one_more_at_most false x n h = omega (arith, h)
 
-below_few : (rows : Rows) (p n : ℕ) → begun_below rows p n ≤ n
+pub below_few : (rows : Rows) (p n : ℕ) → begun_below rows p n ≤ n
 below_few rows p zero = omega arith
 below_few rows p (suc n) =
     one_more_at_most (rows.first n && (rows.parent n == p)) (begun_below rows p n) n (below_few rows p n)

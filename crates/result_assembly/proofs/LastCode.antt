@@ -11,10 +11,9 @@ use Rattle.level_core.specs.declared.letter.Letter.{Letter}
 use Rattle.level_core.specs.Codes.{PrepareCode, InsertCode}
 use Rattle.level_core.specs.GuardedProducts.{guarded_product}
 use Rattle.level_rows.specs.declared.emitting.DrainSite.{DrainSite}
-use Rattle.level_rows.specs.Counting.{FindsGreatest}
 use Rattle.tensor_storage.specs.Levels.{meaning}
 use Rattle.result_assembly.specs.Drained.{IsCounted, RefusesLevel}
-use Rattle.result_assembly.specs.Filling.{fill_rows_code, FillsLast, LeavesFilled}
+use Rattle.result_assembly.specs.Filling.{fill_rows_code, FillsLast, FindsLast, LeavesFilled}
 use Rattle.result_assembly.specs.Tests.{begins_test}
 use Rattle.result_assembly.proofs.Codes.{rows_of}
 use Rattle.result_assembly.proofs.FillCode.{last_filled, one_chain}
@@ -32,7 +31,7 @@ pub filled_of : (kind : Letter) (slotted : IsCounted kind) (at site : DrainSite)
     (greatest prepare insert fill code : List KStmt) → Below at.base count → site ≡ rows_of at
     → test ≡ begins_test site.base site.workspace at.level → coord ≡ At (Key at.workspace (at.level - 1)) (Var site.base)
     → total ≡ Set at.base (guarded_product count (Width (Var (site.base + 2))))
-    → FindsGreatest site.base site.workspace site.list site.level test greatest
+    → FindsLast site.base site.workspace site.list site.level test greatest
     → PrepareCode meaning kind 0 at.level (count ∷ Var (site.base + 2) ∷ []) (site.base + 6) prepare
     → InsertCode meaning kind 0 at.level (Var (site.base + 4) ∷ coord ∷ []) (site.base + 6) insert
     → fill ≡ fill_rows_code site.base site.workspace site.list insert
@@ -41,7 +40,7 @@ pub filled_of : (kind : Letter) (slotted : IsCounted kind) (at site : DrainSite)
 filled_of kind slotted at site count test coord nothing total greatest prepare insert fill code bounded is =
     subst (λ (s : DrainSite). test ≡ begins_test s.base s.workspace at.level → coord ≡ At (Key at.workspace (at.level - 1)) (Var s.base)
     → total ≡ Set at.base (guarded_product count (Width (Var (s.base + 2))))
-    → FindsGreatest s.base s.workspace s.list s.level test greatest
+    → FindsLast s.base s.workspace s.list s.level test greatest
     → PrepareCode meaning kind 0 at.level (count ∷ Var (s.base + 2) ∷ []) (s.base + 6) prepare
     → InsertCode meaning kind 0 at.level (Var (s.base + 4) ∷ coord ∷ []) (s.base + 6) insert
     → fill ≡ fill_rows_code s.base s.workspace s.list insert
@@ -50,7 +49,7 @@ filled_of kind slotted at site count test coord nothing total greatest prepare i
   where
     here : test ≡ begins_test (at.base + 1) at.workspace at.level → coord ≡ At (Key at.workspace (at.level - 1)) (Var (at.base + 1))
         → total ≡ Set at.base (guarded_product count (Width (Var (at.base + 1 + 2))))
-        → FindsGreatest (at.base + 1) at.workspace at.list at.level test greatest
+        → FindsLast (at.base + 1) at.workspace at.list at.level test greatest
         → PrepareCode meaning kind 0 at.level (count ∷ Var (at.base + 1 + 2) ∷ []) (at.base + 1 + 6) prepare
         → InsertCode meaning kind 0 at.level (Var (at.base + 1 + 4) ∷ coord ∷ []) (at.base + 1 + 6) insert
         → fill ≡ fill_rows_code (at.base + 1) at.workspace at.list insert
@@ -59,9 +58,9 @@ filled_of kind slotted at site count test coord nothing total greatest prepare i
     here tests coords totals finds prepares inserts fills codes letters letter d number left counted c sizes table may s dr =
         let w = at.workspace in let g = at.list in let base = at.base in
         let left_here : drop d letters ≡ kind ∷ [] = subst (λ k. drop d letters ≡ k ∷ []) (one_counted letter kind counted slotted) left in
-        let finds_here : FindsGreatest (base + 1) w g (suc d) (begins_test (base + 1) w at.level) greatest =
-        subst (λ k. FindsGreatest (base + 1) w g k (begins_test (base + 1) w at.level) greatest) number
-        (subst (λ t. FindsGreatest (base + 1) w g at.level t greatest) tests finds) in
+        let finds_here : FindsLast (base + 1) w g (suc d) (begins_test (base + 1) w at.level) greatest =
+        subst (λ k. FindsLast (base + 1) w g k (begins_test (base + 1) w at.level) greatest) number
+        (subst (λ t. FindsLast (base + 1) w g at.level t greatest) tests finds) in
         let prepares_here : PrepareCode meaning kind 0 (suc d) (count ∷ Var (base + 1 + 2) ∷ []) (base + 1 + 6) prepare =
         subst (λ k. PrepareCode meaning kind 0 k (count ∷ Var (base + 1 + 2) ∷ []) (base + 1 + 6) prepare) number prepares in
         let inserts_here : InsertCode meaning kind 0 (suc d) (Var (base + 1 + 4) ∷ At (Key w d) (Var (base + 1)) ∷ []) (base + 1 + 6)

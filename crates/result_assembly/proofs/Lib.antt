@@ -14,5 +14,6 @@ pub mod ValueCode
 pub mod WholeResult
 pub mod Stepwise
 pub mod FillSteps
+pub mod OneParent
 pub mod FillCode
 pub mod LastCode

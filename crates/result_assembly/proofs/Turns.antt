@@ -11,6 +11,7 @@ use Rattle.level_core.specs.Fragments.{turns_of}
 use Rattle.level_core.specs.Kinds.{properties}
 use Rattle.level_rows.specs.Placing.{times, insert_turns}
 use Rattle.result_assembly.specs.Drained.{passes, passes_at, passes_of, most_passes, drain_turns, IsAboveLast}
+use Rattle.result_assembly.specs.Filling.{counting_passes}
 
 -- the passes of a level by its kind
 pub passes_here : (letters rest : List Letter) (letter : Letter) (d : ℕ) → drop d letters ≡ letter ∷ rest
@@ -99,6 +100,16 @@ times_add (suc p) q rows =
     let step : times (p + q) rows + rows ≡ times p rows + rows + times q rows = omega (arith, i) in
     ap (λ m. times m rows) same ∙ step
 
+-- rows that are gone over so often, and then placed
+pub passes_then_placed : (before between after each rows width : ℕ) (k : LoopKind) → between ≤ before + turns_of Drain (times each rows) k
+    → after ≤ between + insert_turns width rows k → after ≤ before + drain_turns (each + 1) rows (times_of width rows) k
+passes_then_placed before between after each rows width Merge h g = omega (arith, h, g)
+passes_then_placed before between after each rows width Skip h g = omega (arith, h, g)
+passes_then_placed before between after each rows width Gather h g = omega (arith, h, g)
+passes_then_placed before between after each rows width Drain h g =
+    let t = times_add each 1 rows in let once : times 1 rows ≡ rows = omega arith in omega (arith, h, g, t, once)
+passes_then_placed before between after each rows width Probe h g = omega (arith, h, g)
+
 -- the turns of levels and of one more
 pub more_turns : (before between after each also rows probes more : ℕ) (k : LoopKind) → between ≤ before + drain_turns each rows probes k
     → after ≤ between + drain_turns also rows more k → after ≤ before + drain_turns (each + also) rows (probes + more) k
@@ -142,13 +153,6 @@ few_passes letters k (suc d) less one = by_place (cases_lt k d) (few_passes lett
         let here : passes_at letters d ≤ 1 = subst (λ n. passes_at letters n ≤ 1) last one in
         let i = passes_at_most letters d in omega (arith, here, i)
 
--- two passes a level at most, and the values
-pub within_most : (letters : List Letter) (d : ℕ) → suc d ≡ length letters
-    → passes_of letters (length letters) ≤ most_passes (length letters)
-within_most letters d many =
-    let whole = passes_at_most letters (length letters) in
-    subst (λ n. passes_of letters (length letters) ≤ most_passes n) many (omega (arith, whole, many))
-
 pub values_within : (letters : List Letter) → IsAboveLast letters None
     → passes_of letters (length letters) + 1 ≤ most_passes (length letters)
 values_within letters once = by (length letters) refl
@@ -173,6 +177,29 @@ one_pass_more before after each rows probes Gather h = omega (arith, h)
 one_pass_more before after each rows probes Drain h =
     let t = times_add each 1 rows in let once : times 1 rows ≡ rows = omega arith in omega (arith, h, t, once)
 one_pass_more before after each rows probes Probe h = omega (arith, h)
+
+-- rows are gone over once at most to count them, and not at all below no level
+pub counting_few : (d : ℕ) → counting_passes d ≤ 1
+counting_few zero = omega arith
+counting_few (suc d) = omega arith
+
+-- they are gone over once below a level
+pub once_counted : (d : ℕ) → 0 < d → (before after rows : ℕ) (k : LoopKind) → after ≤ before + turns_of Drain rows k
+    → after ≤ before + turns_of Drain (times (counting_passes d) rows) k
+once_counted zero some before after rows k h = absurd (omega (arith, some))
+once_counted (suc d) some before after rows k h =
+    let once : times 1 rows ≡ rows = omega arith in subst (λ n. after ≤ before + turns_of Drain n k) (sym once) h
+
+-- so many passes for the levels above the last one, and those of the last
+pub last_within : (letters : List Letter) (d many : ℕ) → suc d ≡ many → passes_of letters d + (counting_passes d + 1) ≤ most_passes many
+last_within letters d many is =
+    let above = passes_at_most letters d in
+    let few = counting_few d in
+    subst (λ n. passes_of letters d + (counting_passes d + 1) ≤ most_passes n) is (omega (arith, above, few))
+
+-- the last level alone
+pub alone_once : (letters : List Letter) (d : ℕ) → d ≡ 0 → passes_of letters d + (counting_passes d + 1) ≤ 1
+alone_once letters d none = subst (λ n. passes_of letters n + (counting_passes n + 1) ≤ 1) (sym none) (omega arith)
 
 -- an ordered level is gone over once
 pub once_ordered : (letter : Letter) → (properties letter).ordered ≡ true → passes letter ≤ 1

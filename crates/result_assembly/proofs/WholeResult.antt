@@ -1,5 +1,6 @@
 -- Levels that are filled, and then the values, are a packed result.
-use Rattle.std.specs.Prelude.{◌≡◌, ℕ, suc, ◌+◌, ◌*◌, ◌≤◌, ◌<◌, ◌^◌, List, [], ◌∷◌, ◌++◌, length, map, drop, replicate, None, Some, refl}
+use Rattle.std.specs.Prelude.{◌≡◌, ℕ, suc, ◌+◌, ◌*◌, ◌≤◌, ◌<◌, ◌^◌, Bool, true, false, if◌then◌else◌, List, [], ◌∷◌, ◌++◌}
+use Rattle.std.specs.Prelude.{length, map, drop, replicate, None, Some, refl}
 use Rattle.std.proofs.Common.{◌∙◌, sym, ap, subst, arith}
 use Rattle.std.proofs.lemmas.List.{append-nil, length-map}
 use Rattle.limits.proofs.Limits.{positions_are_small, workspace_pairs_are_positions}
@@ -10,7 +11,9 @@ use Rattle.kernel_code.specs.Meaning.{Setting, State}
 use Rattle.kernel_code.specs.declared.syntax.Arr.TheVariants.{Values, Width}
 use Rattle.kernel_code.specs.declared.syntax.KExpr.{KExpr, Var}
 use Rattle.kernel_code.specs.declared.syntax.KStmt.{KStmt}
+use Rattle.kernel_code.specs.declared.syntax.LoopKind.{LoopKind}
 use Rattle.level_core.specs.declared.letter.Letter.{Letter}
+use Rattle.level_core.specs.Kinds.{properties}
 use Rattle.level_rows.specs.Tables.{Increase}
 use Rattle.format_spec.specs.declared.format.FormatLevel.{FormatLevel}
 use Rattle.format_spec.specs.Formats.{letters_of, IsFormat}
@@ -20,20 +23,22 @@ use Rattle.tensor_storage.specs.Stands.{IsPacked}
 use Rattle.tensor_storage.specs.Storages.{IsStorage, storage_of, in_level_order}
 use Rattle.tensor_storage.specs.Tables.{Table}
 use Rattle.tensor_storage.proofs.Standing.{pack_done, distinct_places}
-use Rattle.result_assembly.specs.Drained.{MayDrain, AreDrained, IsAboveLast, IsCounted, most_passes, passes_at, passes_of}
-use Rattle.result_assembly.specs.Filling.{without_values, LeavesFilled, FillsLast}
+use Rattle.tensor_storage.proofs.Tables.{apart}
+use Rattle.result_assembly.specs.Drained.{MayDrain, AreDrained, IsAboveLast, IsCounted, drain_turns, most_passes, passes, passes_at, passes_of}
+use Rattle.result_assembly.specs.Filling.{without_values, counting_passes, LeavesFilled, FillsLast}
 use Rattle.result_assembly.specs.Levels.{IsReady, LeavesLevels, RefusesLevels, DrainsFirst}
 use Rattle.result_assembly.specs.Stored.{values_code, LeavesValues, LeavesStored, DrainsResult}
 use Rattle.result_assembly.proofs.Holding.{held_along, level_beside}
+use Rattle.result_assembly.proofs.KindLaws.{counted_unordered}
 use Rattle.result_assembly.proofs.Lists.{drop_none, drop_rest, left_long}
-use Rattle.result_assembly.proofs.Turns.{within_most, values_within, fewer_passes, one_pass_more, more_turns, fewer_turns, probes_more}
+use Rattle.result_assembly.proofs.Turns.{alone_once, last_within, values_within, fewer_passes, one_pass_more, more_turns, fewer_turns, probes_more}
 use Rattle.result_assembly.proofs.AllLevels.{other_level}
 use Rattle.result_assembly.proofs.ValueCode.{values_stored}
 
 module _ (format : List FormatLevel) (w g base nothing : ℕ) (code : List KStmt) (is : IsFormat format)
     (first : DrainsFirst (letters_of format) (length format) w g base code)
     (once : passes_of (letters_of format) (length format) + 1 ≤ most_passes (length format))
-    (c : Setting) (ranges : List ℕ) (table : Table) (may : MayDrain (letters_of format) (in_level_order format ranges) table)
+    (last : IsAboveLast (letters_of format) None) (c : Setting) (ranges : List ℕ) (table : Table) (may : MayDrain (letters_of format) (in_level_order format ranges) table)
     (s : State) (ready : IsReady nothing (letters_of format) (in_level_order format ranges) table w g s) where
   abbrev values_here : List KStmt
   values_here = values_code (base + length format + 1) w g (Var (base + length format)) nothing
@@ -77,8 +82,21 @@ module _ (format : List FormatLevel) (w g base nothing : ℕ) (code : List KStmt
             (one_pass_more (s.turns k) (u.turns k) (passes_of (letters_of format) (length format)) table.count l.probes k
             (omega (arith, x, y))));
       };
+      once = λ letter alone counted. absurd (never_alone letter alone counted);
     }
       where
+        -- such a level is gone over twice
+        never_alone : (letter : Letter) → letters_of format ≡ letter ∷ [] → IsCounted letter → ⊥
+        never_alone letter alone counted =
+            let at_most : passes_at (letter ∷ []) 0 ≤ 1 =
+            subst (λ ls. passes_at ls 0 ≤ 1) alone (last 0 (sym (ap length alone))) in
+            let two : 2 ≤ passes letter = twice (properties letter).ordered (counted_unordered letter counted) in
+            omega (arith, at_most, two)
+          where
+            twice : (ordered : Bool) → ordered ≡ false → 2 ≤ (if ordered then 1 else 2)
+            twice true is = apart is
+            twice false is = omega arith
+
         none_left : drop (length format) (letters_of format) ≡ []
         none_left = ap (λ n. drop n (letters_of format)) (sym (length-map format (λ level. level.letter))) ∙ drop_none (letters_of format)
 
@@ -118,7 +136,7 @@ whole_drained format w g base nothing place count code values all is last first 
     valued ∙ ap (λ p. values_code p w g count nothing) placed
     ∙ ap (λ e. values_code (base + length format + 1) w g e nothing) counted in
     subst (DrainsResult format w g base nothing) (sym (all_is ∙ ap (λ v. code ++ v) values_is))
-    (λ c ranges table may s ready. whole format w g base nothing code is first once c ranges table may s ready)
+    (λ c ranges table may s ready. whole format w g base nothing code is first once last c ranges table may s ready)
 
 -- where the coordinates of the last level are counted its code stores the values too
 module _ (format : List FormatLevel) (w g base nothing d : ℕ) (code last : List KStmt) (is : IsFormat format)
@@ -147,12 +165,6 @@ module _ (format : List FormatLevel) (w g base nothing d : ℕ) (code last : Lis
   rises : Increase table.coords (length format) table.count
   rises = subst (λ n. Increase table.coords n table.count) many_letters may.order
 
-  few_enough : passes_of (letters_of format) (suc d) ≤ most_passes (length format)
-  few_enough =
-      let within = within_most (letters_of format) d (all_levels ∙ sym many_letters) in
-      subst (λ n. passes_of (letters_of format) n ≤ most_passes (length format)) (sym all_levels)
-      (subst (λ n. passes_of (letters_of format) n ≤ most_passes n) many_letters within)
-
   module _ (t u : State) (f : LeavesLevels nothing letters sizes table w g d base s t)
       (l : LeavesFilled nothing letters sizes table w g d (base + d + 1) t u) where
     packed_all : ArePacked meaning letters sizes table (length format) l.drained.levels l.drained.positions l.drained.parents
@@ -165,6 +177,12 @@ module _ (format : List FormatLevel) (w g base nothing d : ℕ) (code last : Lis
     done =
         pack_done nothing format ranges table l.drained.levels l.drained.positions l.drained.positions l.drained.parents
         (replicate l.drained.parents nothing) l.values l.values is rises packed_all refl refl l.stores refl
+
+    turns_of_both : (k : LoopKind) → u.turns k ≤ s.turns k
+        + drain_turns (passes_of letters d + (counting_passes d + 1)) table.count (f.probes + l.probes) k
+    turns_of_both k =
+        more_turns (s.turns k) (t.turns k) (u.turns k) (passes_of letters d) (counting_passes d + 1) table.count f.probes l.probes k
+        (f.leaves.turns k) (l.leaves.turns k)
 
     none_left : drop (suc d) (letters_of format) ≡ []
     none_left = sym (drop_rest (letters_of format) d letter [] left).1
@@ -191,11 +209,14 @@ module _ (format : List FormatLevel) (w g base nothing d : ℕ) (code last : Lis
         below = λ y less no. l.leaves.below y (omega (arith, less)) no ∙ f.leaves.below y less no;
         arrays = λ a st. l.leaves.arrays a ((st.0.0 (suc d), st.0.1), st.1) ∙ f.leaves.arrays a st.0;
         turns = λ k.
-            fewer_passes (s.turns k) (u.turns k) (passes_of letters (suc d)) (most_passes (length format)) table.count
-            (f.probes + l.probes) k few_enough
-            (more_turns (s.turns k) (t.turns k) (u.turns k) (passes_of letters d) (passes_at letters d) table.count f.probes l.probes k
-            (f.leaves.turns k) (l.leaves.turns k));
+            fewer_passes (s.turns k) (u.turns k) (passes_of letters d + (counting_passes d + 1)) (most_passes (length format)) table.count
+            (f.probes + l.probes) k (last_within letters d (length format) all_levels)
+            (turns_of_both k);
       };
+      once = λ letter alone counted k.
+          fewer_passes (s.turns k) (u.turns k) (passes_of letters d + (counting_passes d + 1)) 1 table.count (f.probes + l.probes) k
+          (alone_once letters d (let one = ap length alone in let all = all_levels in omega (arith, one, all, many_letters)))
+          (turns_of_both k);
     }
 
   filled_all : Does c (code ++ last) s (LeavesStored nothing format ranges table g base s)

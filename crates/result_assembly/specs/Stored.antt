@@ -1,5 +1,5 @@
 -- The values of the rows, stored at their positions; and a whole result: its levels and its values.
-use Rattle.std.specs.Prelude.{◌≡◌, ℕ, ◌*◌, ◌≤◌, false, List, [], ◌∷◌, length, map, replicate, slice_index, Some}
+use Rattle.std.specs.Prelude.{◌≡◌, ℕ, ◌+◌, ◌*◌, ◌≤◌, false, List, [], ◌∷◌, length, map, replicate, slice_index, Some}
 use Rattle.kernel_code.specs.Arrays.{same_arr}
 use Rattle.kernel_code.specs.Does.{Does}
 use Rattle.kernel_code.specs.Keeps.{Leaves, NoVariable}
@@ -8,7 +8,9 @@ use Rattle.kernel_code.specs.declared.syntax.Arr.{Arr}
 use Rattle.kernel_code.specs.declared.syntax.Arr.TheVariants.{Values, Sums, ListPositions}
 use Rattle.kernel_code.specs.declared.syntax.KExpr.{KExpr, Num, Var, At, Len, Bin}
 use Rattle.kernel_code.specs.declared.syntax.KStmt.{KStmt, Set, Put, Extend, While}
+use Rattle.kernel_code.specs.declared.syntax.LoopKind.{LoopKind}
 use Rattle.kernel_code.specs.declared.syntax.LoopKind.TheVariants.{Drain}
+use Rattle.level_core.specs.declared.letter.Letter.{Letter}
 use Rattle.kernel_code.specs.declared.syntax.Op.TheVariants.{Add, Less}
 use Rattle.level_core.specs.Fragments.{turns_of}
 use Rattle.level_rows.specs.Values.{StoresValues}
@@ -21,7 +23,7 @@ use Rattle.tensor_storage.specs.Storages.{IsStorage, storage_of, in_level_order}
 use Rattle.tensor_storage.specs.Tables.{Table}
 use Rattle.kernel_correctness.specs.Results.{summed}
 use Rattle.kernel_correctness.specs.Stores.{AreHeld}
-use Rattle.result_assembly.specs.Drained.{MayDrain, NotWider, drain_turns, most_passes}
+use Rattle.result_assembly.specs.Drained.{IsCounted, MayDrain, NotWider, drain_turns, most_passes}
 use Rattle.result_assembly.specs.Levels.{IsReady, IsBeside, RefusesLevels}
 
 -- variable `base` is the row
@@ -60,6 +62,9 @@ pub record LeavesStored (nothing : ℕ) (format : List FormatLevel) (ranges : Li
   pub few : (width : ℕ) → ((level : ℕ) → NotWider width level t.arrays) → probes ≤ length format * (width * table.count)
   pub leaves : Leaves NoVariable (λ a. IsBeside g a × IsNoValue a) base
       (drain_turns (most_passes (length format)) table.count probes) s t
+  -- for one level alone whose coordinates are counted the rows are gone over once
+  pub once : (letter : Letter) → letters_of format ≡ letter ∷ [] → IsCounted letter
+      → (k : LoopKind) → t.turns k ≤ s.turns k + drain_turns 1 table.count probes k
 
 -- what the code does that fills a whole result
 abbrev pub DrainsResult : List FormatLevel → ℕ → ℕ → ℕ → ℕ → List KStmt → Type 0

@@ -4,7 +4,8 @@ ghost use Rattle.std.specs.Prelude.{◌≡◌, ◌≤◌, ◌<◌, ◌+◌, ◌^
 ghost use Rattle.kernel_code.specs.Keeps.{Below};
 ghost use Rattle.tensor_storage.specs.Levels.{meaning};
 ghost use Rattle.result_assembly.specs.Drained.{IsCounted};
-ghost use Rattle.result_assembly.specs.Filling.{fill_row_code, fill_rows_code, FillsLast};
+ghost use Rattle.result_assembly.specs.Filling.{fill_row_code, fill_rows_code, FindsLast, FillsLast};
+ghost use Rattle.result_assembly.specs.Tests.{begins_test};
 
 use crate::levels::{block_positions, rows_site};
 use crate::tests_of_rows::begins_by_keys;
@@ -51,6 +52,24 @@ fn fill_rows(alloc: Global, at: DrainSite, insert: Items<KStmt>) -> Result<Items
     Ok(code)
 }
 
+/// Code that finds the greatest number of positions that the rows of the last level begin below one parent. Below the one parent above all
+/// levels each row begins one, so that their number is known without going over them. Refused for want of memory alone.
+fn greatest_of_last(alloc: Global, rows: DrainSite) -> Result<Items<KStmt>, AllocError>
+    requires room { rows.base ≤ 2 ^ 62 }
+    requires number { 0 < rows.level }
+    ensures { IfOk result (FindsLast rows.base rows.workspace rows.list rows.level
+        (begins_test rows.base rows.workspace rows.level)) }
+{
+    if rows.level == 1 {
+        let many = KExpr::Len(Arr::Sums(rows.workspace));
+        let code = one_statement(alloc, KStmt::Set(rows.base + 2, many))?;
+        return Ok(code);
+    }
+    let first = begins_by_keys(alloc, rows, rows.level)?;
+    let code = emit_greatest_below(alloc, rows, first)?;
+    Ok(code)
+}
+
 /// Code that fills the last level of a kernel's result, whose coordinates are counted and inserted, and its values, `zero` where no row
 /// is, from the rows of a workspace:
 /// `at.level` is its number, counted from 1, `parents` tells how many positions the level above has, and the number of its own
@@ -69,8 +88,7 @@ pub fn fill_last(
     ensures { IfOk result (FillsLast zero at.level at.workspace at.list at.base parents) }
 {
     let rows = rows_site(at);
-    let first = begins_by_keys(alloc, rows, at.level)?;
-    let mut code = emit_greatest_below(alloc, rows, first)?;
+    let mut code = greatest_of_last(alloc, rows)?;
     let total = block_positions(alloc, at.base, &parents, rows.base + 2)?;
     code.push(total)?;
     let key = Arr::Key(at.workspace, at.level - 1);

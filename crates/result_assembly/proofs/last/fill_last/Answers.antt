@@ -5,6 +5,7 @@ use Rattle.kernel_code.specs.declared.syntax.Arr.TheVariants.{Values}
 use Rattle.kernel_code.specs.declared.syntax.KExpr.{Num, Var}
 use Rattle.kernel_code.specs.declared.syntax.KStmt.{Extend}
 use Rattle.tensor_storage.specs.Levels.{meaning}
+use Rattle.result_assembly.specs.Tests.{begins_test}
 use Rattle.result_assembly.proofs.Codes.{below_more, key_below}
 use Rattle.result_assembly.proofs.LastCode.{filled_of}
 use Rattle.result_assembly.proofs.last.fill_last.Goals as goal
@@ -47,9 +48,9 @@ returns c =
     let insert = c.in_ok-insert.insert in
     let prepare = c.in_ok-prepare.prepare in
     let fill = c.in_ok-fill.fill in
-    filled_of (meaning.kind c.args.level.now) c.requires.counted at site c.args.parents c.in_ok-first.first c.in_ok-coord.coord
-    c.args.zero c.in_ok-total.total c.in_ok-code.code prepare insert fill c.append-2.new.self c.requires.parents
-    c.rows_site-rows.ensures c.in_ok-first.ensures c.in_ok-coord.ensures c.in_ok-total.ensures c.in_ok-code.ensures
+    filled_of (meaning.kind c.args.level.now) c.requires.counted at site c.args.parents
+    (begins_test site.base site.workspace site.level) c.in_ok-coord.coord c.args.zero c.in_ok-total.total c.in_ok-code.code prepare insert fill c.append-2.new.self c.requires.parents
+    c.rows_site-rows.ensures (ap (λ r. begins_test site.base site.workspace r.level) c.rows_site-rows.ensures) c.in_ok-coord.ensures c.in_ok-total.ensures c.in_ok-code.ensures
     c.in_ok-prepare.ensures c.in_ok-insert.ensures
     c.in_ok-fill.ensures
     (c.in_ok-append-2.ensures.ok ∙ ap (λ k. k ++ fill)
