@@ -1,9 +1,11 @@
 // What is known at a place of code: pairs of expressions that have one value there.
-ghost use Rattle.std.specs.Prelude.{◌≡◌, ◌≢◌, ◌∷◌, ◌++◌, [], IsTrue, IfOk, IfSome, OnOk};
+ghost use Rattle.std.specs.Prelude.{◌≡◌, ◌≢◌, ◌∷◌, ◌++◌, [], false, IsTrue, IfOk, IfSome, OnOk};
 ghost use Rattle.kernel_code.specs.Keeps.{Mentions};
+ghost use Rattle.kernel_flow.specs.Apart.{AreApart, is_in};
 ghost use Rattle.kernel_flow.specs.Facts.{Gives, IsPlaceOf, Survives};
 ghost use Rattle.kernel_flow.specs.Steady.{IsReadOnly};
 
+use crate::apart::is_apart;
 use crate::exprs::{bits_of, is_clear, is_steady};
 use crate::guesses::{Changes, is_likely};
 use crate::marks::mark_of;
@@ -103,6 +105,14 @@ impl Shared {
         is_steady(&self.get().left, x) && is_steady(&self.get().right, x)
     }
 
+    /// Whether it mentions none of some variables and no array that may be written.
+    fn is_apart(&self, some: &[bool]) -> bool
+        ensures left { IsTrue result → Mentions (λ y. is_in some.now y ≡ false) IsReadOnly self.now.left }
+        ensures right { IsTrue result → Mentions (λ y. is_in some.now y ≡ false) IsReadOnly self.now.right }
+    {
+        is_apart(&self.get().left, some) && is_apart(&self.get().right, some)
+    }
+
     /// Whether both are one fact.
     fn is_same(&self, other: &Shared) -> bool
         ensures left { IsTrue result → self.now.left ≡ other.now.left }
@@ -196,6 +206,45 @@ pub(crate) fn common(
         }
     }
     Ok(both)
+}
+
+/// The facts that mention none of some variables. Refused only for want of memory.
+pub(crate) fn those_apart(
+    alloc: Global,
+    facts: Items<Shared>,
+    some: &[bool],
+) -> Result<Items<Shared>, AllocError>
+    ensures gives { IfOk result (λ r. Gives facts r) }
+    ensures apart { IfOk result (λ r. AreApart some.now r) }
+{
+    let mut kept = Items::new(alloc);
+    for fact in facts.into_vec() {
+        if fact.is_apart(some) {
+            kept.push(fact)?;
+        } else {
+            drop(fact);
+        }
+    }
+    Ok(kept)
+}
+
+/// The facts that mention some of these variables. Refused only for want of memory.
+pub(crate) fn those_beside(
+    alloc: Global,
+    facts: Items<Shared>,
+    some: &[bool],
+) -> Result<Items<Shared>, AllocError>
+    ensures { IfOk result (λ r. Gives facts r) }
+{
+    let mut others = Items::new(alloc);
+    for fact in facts.into_vec() {
+        if !fact.is_apart(some) {
+            others.push(fact)?;
+        } else {
+            drop(fact);
+        }
+    }
+    Ok(others)
 }
 
 /// The facts that the turns of a loop may keep. Refused only for want of memory.

@@ -3,10 +3,13 @@ ghost use Rattle.std.specs.Prelude.{◌≡◌, [], ◌∷◌, ◌++◌, IfOk, On
 ghost use Rattle.kernel_flow.specs.Passing.{Passes, PassesTurn};
 ghost use Rattle.kernel_flow.specs.Facts.{Becomes, Gives, WhereNot, WhereZero};
 
+use crate::apart::sets_only;
 use crate::choices::{behind_choice, with_told};
 use crate::exprs::number;
-use crate::facts::{Shared, all_among, common, copy_facts, likely, without};
-use crate::guesses::changes_of;
+use crate::facts::{
+    Shared, all_among, common, copy_facts, likely, those_apart, those_beside, without,
+};
+use crate::guesses::{Changes, changes_of};
 use crate::learning::{after_set, where_not, where_zero};
 use crate::policy::{Policy, may_copy};
 use crate::rewriting::rewrite;
@@ -263,8 +266,56 @@ fn finished(
     Ok(Passed { code, facts })
 }
 
-/// A loop: of what is known before it, that is kept which its turns keep. It is passed once for each guess, and most often the first
-/// is right; after the third it is passed with nothing known.
+/// A loop of which this comes, behind which is also known what was known before it and mentions no variable that it sets.
+fn with_apart(
+    alloc: Global,
+    kind: LoopKind,
+    test: &KExpr,
+    body: &[KStmt],
+    facts: Items<Shared>,
+    passed: Passed,
+    set: &[bool],
+) -> Result<Passed, AllocError>
+    requires { Passes facts (KStmt.While kind test.now body.now ∷ []) passed.code passed.facts }
+    ensures { IfOk result (λ p. Passes facts (KStmt.While kind test.now body.now ∷ []) p.code p.facts) }
+{
+    if !sets_only(body, set) {
+        return Ok(passed);
+    }
+    let Passed { code, facts: more } = passed;
+    let mut all = those_apart(alloc, facts, set)?;
+    let others = those_beside(alloc, more, set)?;
+    all.append(others)?;
+    Ok(Passed { code, facts: all })
+}
+
+/// A loop by those of these facts that its turns keep and that may serve in them. It is passed once for each guess, and most often the
+/// first is right; after the third it is passed with nothing known.
+#[cycle(flow)]
+fn pass_kept(
+    alloc: Global,
+    body: &[KStmt],
+    kind: LoopKind,
+    test: &KExpr,
+    facts: &[Shared],
+    changes: &Changes,
+    policy: Policy<'_>,
+) -> Result<Passed, AllocError>
+    ensures { IfOk result (λ p. Passes facts.now (KStmt.While kind test.now body.now ∷ []) p.code p.facts) }
+{
+    let mut kept = likely(alloc, facts, changes)?;
+    for _round in 0..2 {
+        let turned = pass_turn(alloc, body, test, kept.as_slice(), policy)?;
+        if all_among(kept.as_slice(), turned.facts.as_slice()) {
+            return finished(alloc, kind, test, body, kept, turned);
+        }
+        kept = common(alloc, kept, turned.facts.as_slice())?;
+    }
+    let turned = pass_turn(alloc, body, test, &[], policy)?;
+    finished(alloc, kind, test, body, Items::new(alloc), turned)
+}
+
+/// A loop by what is known before it.
 #[cycle(flow)]
 fn pass_loop(
     alloc: Global,
@@ -276,17 +327,9 @@ fn pass_loop(
 ) -> Result<Passed, AllocError>
     ensures { IfOk result (λ p. Passes facts (KStmt.While kind test.now body.now ∷ []) p.code p.facts) }
 {
-    let changes = changes_of(alloc, body)?;
-    let mut kept = likely(alloc, facts.as_slice(), &changes)?;
-    for _round in 0..2 {
-        let turned = pass_turn(alloc, body, test, kept.as_slice(), policy)?;
-        if all_among(kept.as_slice(), turned.facts.as_slice()) {
-            return finished(alloc, kind, test, body, kept, turned);
-        }
-        kept = common(alloc, kept, turned.facts.as_slice())?;
-    }
-    let turned = pass_turn(alloc, body, test, &[], policy)?;
-    finished(alloc, kind, test, body, Items::new(alloc), turned)
+    let changes = changes_of(alloc, test, body, facts.as_slice())?;
+    let passed = pass_kept(alloc, body, kind, test, facts.as_slice(), &changes, policy)?;
+    with_apart(alloc, kind, test, body, facts, passed, changes.set())
 }
 
 /// A statement by what is known before it.

@@ -1,5 +1,5 @@
 // Which facts the turns of a loop may keep: a guess by the text alone. No contract tells it, since what comes of it is checked.
-use crate::facts::Fact;
+use crate::facts::{Fact, Shared};
 use kernel_code::{KExpr, KStmt, Op};
 use std::alloc::{AllocError, Global};
 use trees::Items;
@@ -47,12 +47,21 @@ impl Variables {
     }
 }
 
-/// What a loop's body does with variables: those that it sets, those that it sets to what may be no word, and the last one set.
+/// What a loop's body does with variables: those that it sets, those that it sets to what may be no word, the last one set, and those that
+/// it may read once it is written by what is known.
 #[derive(Drop)]
 pub(crate) struct Changes {
     set: Variables,
     loaded: Variables,
     last: Option<u64>,
+    read: Variables,
+}
+
+impl Changes {
+    /// Those that it sets, a test for each.
+    pub(crate) fn set(&self) -> &[bool] {
+        self.set.places.as_slice()
+    }
 }
 
 fn is_among(variables: &[u64], x: u64) -> bool {
@@ -73,6 +82,25 @@ fn is_counted(e: &KExpr) -> bool {
     }
 }
 
+/// Adds the variables that an expression mentions.
+fn add_reads(e: &KExpr, read: &mut Variables) -> Result<(), AllocError> {
+    match e {
+        KExpr::Num(_) => Ok(()),
+        KExpr::Var(x) => read.add(*x),
+        KExpr::At(_, i) => add_reads(i.get(), read),
+        KExpr::Len(_) => Ok(()),
+        KExpr::Bin(_, a, b) => {
+            add_reads(a.get(), read)?;
+            add_reads(b.get(), read)
+        }
+        KExpr::Min(a, b) => {
+            add_reads(a.get(), read)?;
+            add_reads(b.get(), read)
+        }
+        KExpr::Width(e) => add_reads(e.get(), read),
+    }
+}
+
 #[cycle(changes)]
 fn add_change(s: &KStmt, changes: &mut Changes) -> Result<(), AllocError> {
     match s {
@@ -81,18 +109,29 @@ fn add_change(s: &KStmt, changes: &mut Changes) -> Result<(), AllocError> {
             if !is_counted(e) {
                 changes.loaded.add(*x)?;
             }
-            Ok(())
+            add_reads(e, &mut changes.read)
         }
-        KStmt::Combine(x, _, _, _) => {
+        KStmt::Combine(x, _, e, f) => {
             changes.set.add(*x)?;
-            changes.loaded.add(*x)
+            changes.loaded.add(*x)?;
+            add_reads(e, &mut changes.read)?;
+            add_reads(f, &mut changes.read)
         }
-        KStmt::If(_, first, second) => {
+        KStmt::Put(_, i, e) | KStmt::AddTo(_, i, e) | KStmt::Extend(_, i, e) => {
+            add_reads(i, &mut changes.read)?;
+            add_reads(e, &mut changes.read)
+        }
+        KStmt::Push(_, e) | KStmt::Cut(_, e) => add_reads(e, &mut changes.read),
+        KStmt::Sort(_) | KStmt::SortSum(_) => Ok(()),
+        KStmt::If(test, first, second) => {
+            add_reads(test, &mut changes.read)?;
             add_changes(first.as_slice(), changes)?;
             add_changes(second.as_slice(), changes)
         }
-        KStmt::While(_, _, body) => add_changes(body.as_slice(), changes),
-        _ => Ok(()),
+        KStmt::While(_, test, body) => {
+            add_reads(test, &mut changes.read)?;
+            add_changes(body.as_slice(), changes)
+        }
     }
 }
 
@@ -104,18 +143,72 @@ fn add_changes(code: &[KStmt], changes: &mut Changes) -> Result<(), AllocError> 
     Ok(())
 }
 
-/// What a loop's body does with variables. Refused only for want of memory.
-pub(crate) fn changes_of(alloc: Global, body: &[KStmt]) -> Result<Changes, AllocError> {
+/// Whether a fact may serve where some variables are read: it is told of them, or says under a test of them what one of them equals.
+fn may_serve(fact: &Fact, read: &Variables) -> bool {
+    if let KExpr::Bin(Op::And, test, side) = &fact.left
+        && let KExpr::Bin(Op::Equal, a, _) = side.get()
+    {
+        return mentions_only(test.get(), read) && mentions_only(a.get(), read);
+    }
+    mentions_only(&fact.left, read)
+}
+
+/// Adds what facts write for what is read, and tells whether that is more.
+fn add_written(facts: &[Shared], read: &mut Variables) -> Result<bool, AllocError> {
+    let mut more = false;
+    for shared in facts {
+        let fact = shared.get();
+        if may_serve(fact, read)
+            && !(mentions_only(&fact.left, read) && mentions_only(&fact.right, read))
+        {
+            add_reads(&fact.left, read)?;
+            add_reads(&fact.right, read)?;
+            more = true;
+        }
+    }
+    Ok(more)
+}
+
+/// The greatest number of facts of which one writes what the next one is told of.
+const LONGEST_CHAIN: usize = 16;
+
+/// What a loop does with variables where these facts are known before it. Refused only for want of memory.
+pub(crate) fn changes_of(
+    alloc: Global,
+    test: &KExpr,
+    body: &[KStmt],
+    facts: &[Shared],
+) -> Result<Changes, AllocError> {
     let mut changes = Changes {
         set: Variables::new(alloc),
         loaded: Variables::new(alloc),
         last: None,
+        read: Variables::new(alloc),
     };
+    add_reads(test, &mut changes.read)?;
     add_changes(body, &mut changes)?;
     if let Some(KStmt::Set(x, _)) = body.last() {
         changes.last = Some(*x);
     }
+    for _step in 0..LONGEST_CHAIN {
+        if !add_written(facts, &mut changes.read)? {
+            return Ok(changes);
+        }
+    }
     Ok(changes)
+}
+
+/// Whether an expression mentions no other variables than some.
+fn mentions_only(e: &KExpr, some: &Variables) -> bool {
+    match e {
+        KExpr::Num(_) => true,
+        KExpr::Var(x) => some.has(*x),
+        KExpr::At(_, i) => mentions_only(i.get(), some),
+        KExpr::Len(_) => true,
+        KExpr::Bin(_, a, b) => mentions_only(a.get(), some) && mentions_only(b.get(), some),
+        KExpr::Min(a, b) => mentions_only(a.get(), some) && mentions_only(b.get(), some),
+        KExpr::Width(e) => mentions_only(e.get(), some),
+    }
 }
 
 fn mentions_set(e: &KExpr, set: &Variables) -> bool {
@@ -173,10 +266,11 @@ fn is_of_words(fact: &Fact, changes: &Changes) -> bool {
     }
 }
 
-/// Whether the turns of a loop may keep a fact: it mentions nothing that they set, or says what they seem to leave.
+/// Whether the turns of a loop may keep a fact, and it may serve in them: it mentions nothing that they set, and may be told of what they
+/// read, or says what they seem to leave.
 pub(crate) fn is_likely(fact: &Fact, changes: &Changes) -> bool {
     if !mentions_set(&fact.left, &changes.set) && !mentions_set(&fact.right, &changes.set) {
-        return true;
+        return may_serve(fact, &changes.read);
     }
     is_at_the_end(fact) || is_said_last(fact, changes) || is_of_words(fact, changes)
 }

@@ -2,6 +2,7 @@
 //! `specs/Facts.antt` says what is known at a place, `specs/Passing.antt` when code passes for other code where that is known.
 #![tactic(auto)]
 
+mod apart;
 mod choices;
 mod exprs;
 mod facts;
