@@ -84,9 +84,11 @@ module _ (a : Arithmetic) (s : Statement) (store : Store) (most : LoopKind → �
   )
   done_told (GotStuck statement) h = absurd h
   done_told (TooLong place count) h =
-      let r = h.1 in
-      (subst (λ p. IsRightOutcome a s (told_by a store) store (TooLong p count)) r.2 r.1.right, tt,
-      subst (λ p. Allowed store p count) r.2 r.1.allowed)
+      let r = h.1 in (
+        subst (λ p. IsRightOutcome a s (told_by a store) store (TooLong p count)) r.2 r.1.right,
+        tt,
+        subst (λ p. Allowed store p count) r.2 r.1.allowed,
+      )
   done_told NotFinished h = absurd h
 
 module _ (a : Arithmetic) (laws : Laws a) (s : Statement) (formats : List (List FormatLevel)) (c : Concrete)
