@@ -1,6 +1,6 @@
 -- Kernels are right whose code adds the rows of a statement's loops to a workspace of one key, brings the sums together in its list, and
 -- fills the result from there.
-use Rattle.std.specs.Prelude.{◌≡◌, ◌⊎◌, ℕ, ◌+◌, ◌*◌, ◌≤◌, ◌<◌, Bool, false, if◌then◌else◌, List, [], ◌∷◌, ◌++◌, length, replicate, Some}
+use Rattle.std.specs.Prelude.{◌≡◌, ℕ, ◌+◌, ◌*◌, ◌≤◌, ◌<◌, Bool, false, if◌then◌else◌, List, [], ◌∷◌, ◌++◌, length, replicate, Some}
 use Rattle.std.specs.Prelude.{slice_get, slice_index, refl}
 use Rattle.std.proofs.Common.{◌∙◌, sym, ap, subst, arith, inl, inr}
 use Rattle.std.proofs.lemmas.List.{length-map}
@@ -23,7 +23,7 @@ use Rattle.level_core.specs.Fragments.{IsOf, RefusedWithin, turns_of}
 use Rattle.level_core.specs.Meaning.{Arrays}
 use Rattle.level_cursors.specs.Children.{ChildLeft}
 use Rattle.format_spec.specs.declared.format.FormatLevel.{FormatLevel}
-use Rattle.format_spec.specs.Formats.{letters_of, modes_of}
+use Rattle.format_spec.specs.Formats.{letters_of}
 use Rattle.index_notation.specs.declared.syntax.Statement.{Statement}
 use Rattle.iteration_graph.specs.Edges.{format_of}
 use Rattle.expr_terms.specs.ValueLaws.{HasWords}
@@ -49,7 +49,7 @@ use Rattle.kernel_correctness.specs.Stores.{Store, IsGiven, IsStoreOf, StartsBel
 use Rattle.kernel_correctness.proofs.CodeEnds.{ends_as_code_does}
 use Rattle.kernel_correctness.proofs.Starts.{starts_on_store}
 use Rattle.kernel_emit.proofs.Kept.{ranges_kept, ready_kept}
-use Rattle.operand_arrays.specs.Operands.{stored_in, HasRanges, IsOfOperands}
+use Rattle.operand_arrays.specs.Operands.{stored_in, IsOfOperands}
 use Rattle.dense_results.specs.Kernels.{AreAtBase}
 use Rattle.dense_results.specs.Operands.{IsReadStore, operands_in}
 use Rattle.result_assembly.specs.Stored.{DrainsResult, LeavesStored}
@@ -62,7 +62,7 @@ use Rattle.result_targets.proofs.Scratch.{list_apart, lists_kept, lists_start, o
 use Rattle.sparse_results.specs.Results.{AreRowsOfResult}
 use Rattle.sparse_results.specs.Tables.{table_of}
 use Rattle.sparse_results.proofs.Growths.{workspaces_may_pass}
-use Rattle.appended_kernels.specs.Kernels.{IsLevel, RefusesOnly}
+use Rattle.appended_kernels.specs.Kernels.{IsLevel}
 use Rattle.appended_kernels.proofs.Direct.{of_level}
 use Rattle.sparse_kernels.specs.Kernels as sparse
 use Rattle.sparse_kernels.specs.Turns.{MakesTurns}
@@ -70,7 +70,7 @@ use Rattle.sparse_kernels.proofs.Ends.{IsDone, IsRightRefusal, done_told}
 use Rattle.sparse_kernels.proofs.Filled.{IsFilled, not_scratch}
 use Rattle.sparse_kernels.proofs.FromSums.{from_sums, left_long}
 use Rattle.sparse_kernels.proofs.Starts.{at_top, levels_beside, list_starts_empty, starts_empty, values_start}
-use Rattle.touched_workspaces.specs.Sinks.{HasRange, HoldsTouched, IsOther, PassesList, touched_sink}
+use Rattle.touched_workspaces.specs.Sinks.{HasRange, HoldsTouched, IsOther, touched_sink}
 use Rattle.touched_workspaces.specs.Sizes.{greatest_marked_range}
 use Rattle.touched_workspaces.specs.Starts.{BeginsTouched, HasNoRows}
 use Rattle.touched_workspaces.specs.declared.sink.TouchedSink.{TouchedSink}

@@ -1,6 +1,6 @@
 -- When a kernel is right whose result has one level alone, into which coordinates are inserted: its loops add rows to a workspace of that
 -- one key, whose list gets their sums, and the result is filled from the list.
-use Rattle.std.specs.Prelude.{◌≡◌, ℕ, ◌+◌, ◌≤◌, ◌<◌, List, [], ◌∷◌, ◌++◌, length, Some, slice_get, slice_index}
+use Rattle.std.specs.Prelude.{◌≡◌, ℕ, ◌≤◌, ◌<◌, List, [], ◌∷◌, ◌++◌, length, Some, slice_get, slice_index}
 use Rattle.numbers.specs.Arithmetic.{Arithmetic, Laws}
 use Rattle.kernel_code.specs.declared.syntax.Arr.{Arr}
 use Rattle.kernel_code.specs.declared.syntax.Arr.TheVariants.{Sums, ListPositions}
