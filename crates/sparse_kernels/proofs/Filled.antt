@@ -44,7 +44,7 @@ pub record IsFilled (nothing : ℕ) (letters : List Letter) (sizes : List ℕ) (
   pub list : t.arrays (ListPositions g) ≡ Some []
   pub turns : (k : LoopKind) → t.turns k ≤ most k
 
-not_scratch : (tensor level : ℕ) (x : Arr) → IsOf tensor level x → is_scratch x ≡ false
+pub not_scratch : (tensor level : ℕ) (x : Arr) → IsOf tensor level x → is_scratch x ≡ false
 not_scratch tensor level Range of = refl
 not_scratch tensor level (Values n) of = refl
 not_scratch tensor level (Dimension n k) of = refl

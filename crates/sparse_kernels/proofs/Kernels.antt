@@ -12,12 +12,12 @@ use Rattle.kernel_code.specs.declared.syntax.Kernel.{Kernel}
 use Rattle.kernel_code.specs.declared.syntax.KExpr.{Num, Len}
 use Rattle.kernel_code.specs.declared.syntax.KStmt.{KStmt, Extend, SortSum}
 use Rattle.kernel_code.specs.declared.syntax.LoopKind.{LoopKind}
-use Rattle.kernel_code.specs.declared.syntax.LoopKind.TheVariants.{Merge, Skip, Gather, Drain, Probe}
+use Rattle.kernel_code.specs.declared.syntax.LoopKind.TheVariants.{Drain}
 use Rattle.kernel_code.specs.Does.{Does, Never}
 use Rattle.kernel_code.specs.Kernels.{start_state}
 use Rattle.kernel_code.specs.Keeps.{Leaves, NoVariable, EveryArray, no_turns}
-use Rattle.kernel_code.specs.Meaning.{Setting, State, length_of, set_array}
-use Rattle.kernel_code.proofs.Does.{does_append, does_extend, does_then, does_weaker}
+use Rattle.kernel_code.specs.Meaning.{Setting, State, set_array}
+use Rattle.kernel_code.proofs.Does.{does_append, does_then, does_weaker}
 use Rattle.level_core.specs.declared.letter.Letter.TheVariants.{Dense}
 use Rattle.level_core.specs.Entries.{one}
 use Rattle.level_core.specs.Fragments.{RefusedWithin}
@@ -51,26 +51,24 @@ use Rattle.operand_arrays.specs.Operands.{stored_in}
 use Rattle.dense_results.specs.Kernels.{AreAtBase}
 use Rattle.dense_results.specs.Operands.{IsReadStore, operands_in}
 use Rattle.dense_results.specs.Results.{left_ranges}
-use Rattle.result_assembly.specs.Drained.{drain_turns, most_passes}
-use Rattle.result_assembly.specs.Levels.{RefusesLevels}
+use Rattle.result_assembly.specs.Drained.{most_passes}
 use Rattle.result_assembly.specs.Stored.{DrainsResult, LeavesStored}
 use Rattle.sparse_results.specs.Keys.{HasOrderedResult}
 use Rattle.sparse_results.specs.Results.{AreRowsOfResult}
 use Rattle.sparse_results.specs.Sorting.{LeavesSums}
 use Rattle.sparse_results.specs.Tables.{IsRow, table_of}
-use Rattle.sparse_results.proofs.Growths.{levels_may_pass, workspaces_may_pass}
+use Rattle.sparse_results.proofs.Growths.{workspaces_may_pass}
 use Rattle.sparse_results.proofs.Keys.{level_keys}
 use Rattle.sparse_results.proofs.Loops.{loops_add_rows, loops_sum_to_result}
 use Rattle.sparse_results.proofs.Sorting.{sorting_sums}
-use Rattle.sparse_results.proofs.Stored.{standing_is_result}
 use Rattle.result_targets.specs.Beside.{beside_lists}
 use Rattle.result_targets.specs.Sinks.{Sink}
 use Rattle.result_targets.proofs.Scratch.{list_apart, lists_kept, lists_start}
 use Rattle.sparse_kernels.specs.Kernels.{IsForSparse, PushesFromTop, SparseKernelsAreRight, sorting_code}
-use Rattle.sparse_kernels.specs.Turns.{AreTurns, MakesTurns}
+use Rattle.sparse_kernels.specs.Turns.{MakesTurns}
 use Rattle.sparse_kernels.proofs.Ends.{IsDone, IsRightRefusal, done_told}
-use Rattle.sparse_kernels.proofs.Filled.{IsFilled, still_filled, still_pushed, ready, may_drain}
-use Rattle.sparse_kernels.proofs.Points.{has_points}
+use Rattle.sparse_kernels.proofs.FromSums.{from_sums, left_long}
+use Rattle.sparse_kernels.proofs.Filled.{IsFilled, still_filled, still_pushed}
 use Rattle.sparse_kernels.proofs.Starts.{at_top, starts_empty, list_starts_empty, values_start}
 use Rattle.sparse_kernels.proofs.Turns.{passes_are, times_is}
 
@@ -103,7 +101,7 @@ module _ (a : Arithmetic) (laws : Laws a) (s : Statement) (formats : List (List 
   are_rows = loops_sum_to_result a laws s formats ordered store read_store c in_order loops adds words
 
   left_many : length s.left.vars ≡ length store.format
-  left_many = sym f.left.order ∙ ap (λ t. length (format_of formats t)) f.named.result ∙ ap length (sym is.format_is)
+  left_many = left_long s formats f store is
 
   -- a format without levels would be dense throughout
   some_level : 0 < length store.format
@@ -158,73 +156,31 @@ module _ (a : Arithmetic) (laws : Laws a) (s : Statement) (formats : List (List 
     HasTop t = Leaves NoVariable EveryArray base no_turns begin t × ChildLeft base (Some (one 0)) t
 
     -- ---- the levels and values are filled
-    module _ (t : State) (filled : Holds sums most t) where
-      abbrev zeroed : State
-      zeroed = set_array t (ListPositions g) (replicate (length (values sums)) 0)
-
-      turns_made : (u : State) → LeavesStored a.zero store.format store.ranges (table_of sums) g low zeroed u
-          → AreTurns s (told_by a store) (letters_of store.format) most u.turns u.arrays
-      turns_made u l = record {
-        points = length sums;
-        have = has_points a s store sums are_rows is.format left_many;
-        merges = by_none Merge refl;
-        skips = by_none Skip refl;
-        gathers = by_none Gather refl;
-        drains =
-            (let made = filled.turns Drain in
-            let more = drained in
+    from_sums_here : (t : State) → Holds sums most t
+        → Does setting (Extend (ListPositions g) (Len (Sums k.number)) (Num 0) ∷ drain) t IsEnd MayBe
+    from_sums_here t filled =
+        does_weaker setting (Extend (ListPositions g) (Len (Sums k.number)) (Num 0) ∷ drain) t IsEnd IsEnd _ MayBe
+        (from_sums a s formats store is sums are_rows left_many k.number k.keys g low k_keys drain drains setting most most t filled
+        (λ j other. omega arith) drained)
+        (λ u done. done) (λ turns b count r. r.0)
+      where
+        drained : (u : State)
+            → LeavesStored a.zero store.format store.ranges (table_of sums) g low
+            (set_array t (ListPositions g) (replicate (length (values sums)) 0)) u
+            → u.turns Drain ≤ most Drain + 2 * length (letters_of store.format) * length sums
+        drained u l =
+            let before = filled.turns Drain in
+            let more = twice u l in
             let same = times_is (most_passes (length store.format)) (length sums) in
             let each : most_passes (length store.format) * length sums ≡ 2 * length (letters_of store.format) * length sums =
             ap (λ n. n * length sums) (passes_are (length store.format) some_level ∙ ap (λ n. 2 * n) (sym letters_many)) in
-            omega (arith, made, more, same, each));
-        probes = λ width narrow.
-            (let made = filled.turns Probe in
-            let more = l.leaves.turns Probe in
-            let few = subst (λ n. l.probes ≤ n * (width * length sums)) (sym letters_many) (l.few width narrow) in
-            omega (arith, made, more, few));
-      }
-        where
-          by_none : (j : LoopKind) → drain_turns (most_passes (length store.format)) (length sums) l.probes j ≡ 0 → u.turns j ≤ most j
-          by_none j none = let made = filled.turns j in let more = l.leaves.turns j in omega (arith, made, more, none)
-
-          drained : u.turns Drain ≤ t.turns Drain + times (most_passes (length store.format)) (length sums)
-          drained = let more = l.leaves.turns Drain in omega (arith, more)
-
-      ended : (u : State) → LeavesStored a.zero store.format store.ranges (table_of sums) g low zeroed u → IsEnd u
-      ended u l = (
-        standing_is_result a s store sums are_rows u.arrays (record {
-          levels = l.levels;
-          words = l.values;
-          is_left = record { held = l.held; values_held = l.values_held };
-          letters = l.letters;
-          packed = l.packed;
-        }),
-        turns_made u l,
-      )
-
-      refused : (turns : LoopKind → ℕ) (b : Arr) (count : ℕ)
-          → RefusesLevels (letters_of store.format) (in_level_order store.format store.ranges) (table_of sums) (length store.format)
-          zeroed turns b count → MayBe turns b count
-      refused turns b count r =
-          let p = r.3.1 in
-          levels_may_pass a s store sums are_rows r.0 b count
-          (record { inside = r.1; array = p.array; above = p.above; within = p.within })
-
-      from_zeroed : Does setting drain zeroed IsEnd MayBe
-      from_zeroed =
-          does_weaker setting drain zeroed (LeavesStored a.zero store.format store.ranges (table_of sums) g low zeroed) IsEnd
-          (RefusesLevels (letters_of store.format) (in_level_order store.format store.ranges) (table_of sums) (length store.format)
-          zeroed) MayBe
-          (subst (λ format. DrainsResult format k.number g low a.zero drain) (sym is.format_is) drains setting store.ranges
-          (table_of sums) (may_drain a s formats store is sums are_rows filled.holds.few) zeroed
-          (ready a.zero (letters_of store.format) (in_level_order store.format store.ranges) k.number k.keys g sums most t filled
-          (k_keys ∙ left_many ∙ sym letters_many)))
-          ended refused
-
-      from_sums : Does setting (Extend (ListPositions g) (Len (Sums k.number)) (Num 0) ∷ drain) t IsEnd MayBe
-      from_sums =
-          does_extend setting (ListPositions g) (Len (Sums k.number)) (Num 0) drain t (length (values sums)) 0 [] IsEnd MayBe
-          (ap length_of filled.holds.sums) refl refl filled.list (λ room. from_zeroed) (λ no. absurd (cc no))
+            omega (arith, before, more, same, each)
+          where
+            twice : (u : State)
+                → LeavesStored a.zero store.format store.ranges (table_of sums) g low
+                (set_array t (ListPositions g) (replicate (length (values sums)) 0)) u
+                → u.turns Drain ≤ t.turns Drain + times (most_passes (length store.format)) (length sums)
+            twice u l = let made = l.leaves.turns Drain in omega (arith, made)
 
     -- ---- the rows are sorted and summed
     from_loops : (t : State) → Holds rows most t → Does setting (sorting_code k.number g ++ drain) t IsEnd MayBe
@@ -234,7 +190,7 @@ module _ (a : Arithmetic) (laws : Laws a) (s : Statement) (formats : List (List 
         (does_weaker setting (SortSum k.number ∷ []) t (LeavesSums k.number k.keys sums t) (Holds sums most) Never MayBe
         (sorting_sums setting k.number k.keys space rows
         (subst (λ n. Each (λ (row : Entry). length row.coords ≡ n) rows) (keys_many ∙ sym k_keys) each_long) t filled.holds)
-        sorted (λ turns b count no. absurd no)) from_sums
+        sorted (λ turns b count no. absurd no)) from_sums_here
       where
         sorted : (u : State) → LeavesSums k.number k.keys sums t u → Holds sums most u
         sorted u l =

@@ -1,5 +1,6 @@
 pub mod Ends
 pub mod Filled
+pub mod FromSums
 pub mod Kernels
 pub mod Points
 pub mod Starts

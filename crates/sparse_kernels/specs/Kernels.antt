@@ -9,7 +9,6 @@ use Rattle.kernel_code.specs.declared.syntax.KExpr.{Num, Len}
 use Rattle.kernel_code.specs.declared.syntax.KStmt.{KStmt, Extend, SortSum}
 use Rattle.kernel_code.specs.declared.syntax.LoopKind.{LoopKind}
 use Rattle.kernel_code.specs.Meaning.{Setting, State}
-use Rattle.level_core.specs.Entries.{one}
 use Rattle.level_core.specs.Meaning.{Arrays}
 use Rattle.format_spec.specs.declared.format.FormatLevel.{FormatLevel}
 use Rattle.format_spec.specs.Formats.{IsFormat, letters_of}

@@ -1,12 +1,10 @@
 -- The loop that takes all rows of a workspace of one key.
 use Rattle.std.specs.Prelude.{◌≡◌, ℕ, suc, ◌+◌, ◌≤◌, ◌<◌, ◌^◌, true, false, if◌then◌else◌, List, [], ◌∷◌, ◌++◌, length}
-use Rattle.std.specs.Prelude.{Option, Some, slice_get, refl}
+use Rattle.std.specs.Prelude.{Option, Some, refl}
 use Rattle.std.proofs.Common.{◌∙◌, sym, ap, subst, arith}
 use Rattle.std.proofs.lemmas.List.{append_assoc, append-nil, length-append}
 use Rattle.limits.proofs.Limits.{workspace_pairs_are_small}
 use Rattle.numbers.specs.Arithmetic.{Laws}
-use Rattle.kernel_code.specs.declared.syntax.Arr.{Arr}
-use Rattle.kernel_code.specs.declared.syntax.Arr.TheVariants.{Range}
 use Rattle.kernel_code.specs.declared.syntax.LoopKind.{LoopKind}
 use Rattle.kernel_code.specs.declared.syntax.LoopKind.TheVariants.{Drain}
 use Rattle.kernel_code.specs.declared.syntax.Op.TheVariants.{Add}
@@ -15,7 +13,7 @@ use Rattle.kernel_code.specs.declared.syntax.KStmt.{KStmt, Set, SortSum, While}
 use Rattle.kernel_code.specs.Does.{Does, Never, Turn, Ends, Goes}
 use Rattle.kernel_code.specs.Keeps.{Leaves, NoVariable, no_turns}
 use Rattle.kernel_code.specs.Meaning.{Setting, State, value, one_turn, same_kind, set_var}
-use Rattle.kernel_code.proofs.Does.{does_append, does_nothing, does_set, does_then, does_while, does_weaker}
+use Rattle.kernel_code.proofs.Does.{does_append, does_nothing, does_set, does_then, does_while}
 use Rattle.kernel_code.proofs.Keeps.{this_var, other_var}
 use Rattle.kernel_code.proofs.Words.{sum_is}
 use Rattle.level_core.specs.Fragments.{turns_of}
@@ -35,7 +33,8 @@ one_more_turn : (s0 s : State) (n : ℕ) (j : LoopKind) → s.turns j ≤ s0.tur
 one_more_turn s0 s n j h =
     elim (same_kind Drain j) as (λ b. s.turns j ≤ s0.turns j + (if b then n else 0)
     → (if b then s.turns j + 1 else s.turns j) ≤ s0.turns j + (if b then n + 1 else 0)) [
-      true ↦ λ g. omega (arith, g) | false ↦ λ g. g
+      | true ↦ λ g. omega (arith, g)
+      | false ↦ λ g. g
     ] h
 
 one_more : (taken : List Entry) (row : Entry) → length (taken ++ row ∷ []) ≡ length taken + 1
