@@ -37,7 +37,7 @@ use Rattle.dense_results.specs.Kernels.{AreAtBase}
 use Rattle.dense_results.specs.Operands.{IsReadStore, ArrayStands, operands_in}
 use Rattle.result_assembly.specs.Drained.{IsCounted}
 use Rattle.result_assembly.specs.Stored.{DrainsResult}
-use Rattle.appended_kernels.specs.Kernels.{IsLevel, RefusesOnly}
+use Rattle.appended_kernels.specs.Kernels.{OnlyLevels, RefusesOnly}
 use Rattle.sparse_kernels.specs.Kernels.{IsForSparse}
 use Rattle.sparse_kernels.specs.Turns.{MakesTurns}
 use Rattle.touched_workspaces.specs.Sinks.{touched_sink}
@@ -93,7 +93,7 @@ pub record AddsFromTop (a : Arithmetic) (k : TouchedSink) (s : Statement) (forma
 
 -- where the range is one of marks, a level alone is refused a growth
 abbrev pub RefusesLevels : TouchedSink → Store → KernelOutcome → Type 0
-RefusesLevels k store outcome = slice_index store.ranges k.variable ≤ greatest_marked_range → RefusesOnly IsLevel outcome
+RefusesLevels k store outcome = slice_index store.ranges k.variable ≤ greatest_marked_range → RefusesOnly (OnlyLevels store) outcome
 
 -- On every store a kernel of such code is right. A run that finishes makes no more turns than the loops' code and the rows tell: for each
 -- point of the support two drain turns at most, as its sum is joined and as it is stored. The workspace is refused no growth where the range
