@@ -228,5 +228,5 @@ module _ (a : Arithmetic) (laws : Laws a) (s : Statement) (formats : List (List 
       bare = λ free. absurd (clash (calls_for_workspace s formats order) called free);
       direct = λ free. absurd (clash (calls_for_workspace s formats order) called free);
       keyed = λ some. declared ∙ sized
-          ∙ sym (ap (λ b. if b then (length s.left.vars ∷ []) else tail_workspaces (length (tail_of s order))) f.sorted);
+          ∙ sym (ap (λ b. if b then tail_workspaces (length s.left.vars) else tail_workspaces (length (tail_of s order))) f.sorted);
     }

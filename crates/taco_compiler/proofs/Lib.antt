@@ -9,3 +9,4 @@ pub mod Simplified
 pub mod SparseKernels
 pub mod Tails
 pub mod Targets
+pub mod TouchedKernels
