@@ -244,5 +244,5 @@ module _ (a : Arithmetic) (laws : Laws a) (s : Statement) (formats : List (List 
       heads = λ sorted store is arrays given. ends_weaker a (length store.format) kernel arrays (IsTold store is arrays given)
           (NeedsOneHead s order (told_by a store)) (one_head store is arrays given) (told store is arrays given);
       keyed = λ some. declared ∙ sized
-          ∙ sym (ap (λ b. if b then (length s.left.vars ∷ []) else tail_workspaces (length (tail_of s order))) f.sorted);
+          ∙ sym (ap (λ b. if b then tail_workspaces (length s.left.vars) else tail_workspaces (length (tail_of s order))) f.sorted);
     }

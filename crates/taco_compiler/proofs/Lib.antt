@@ -10,3 +10,4 @@ pub mod Simplified
 pub mod SparseKernels
 pub mod Tails
 pub mod Targets
+pub mod TouchedKernels

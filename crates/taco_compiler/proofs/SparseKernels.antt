@@ -50,7 +50,7 @@ use Rattle.kernel_emit.specs.declared.emitting.Emitted.{Emitted}
 use Rattle.kernel_emit.proofs.ListLaws.{operand_apart}
 use Rattle.row_orders.specs.Heads.{result_levels}
 use Rattle.row_orders.specs.Takings.{calls_for_workspace, is_unordered}
-use Rattle.row_orders.proofs.Lists.{clash}
+use Rattle.row_orders.proofs.Lists.{apart_test, clash}
 use Rattle.sparse_results.specs.Keys.{HasOrderedResult}
 use Rattle.sparse_results.specs.Tables.{IsRow}
 use Rattle.sparse_results.proofs.Loops.{loops_add_rows}
@@ -75,7 +75,7 @@ drop_none : (x none y : ℕ) → none ≡ 0 → x ≤ none + y → x ≤ y
 drop_none x none y is h = omega (arith, is, h)
 
 -- searches in the accesses, and in the levels of the result
-searches_add : (made loops width each many levels points : ℕ) → many ≡ levels → loops ≤ width * each
+pub searches_add : (made loops width each many levels points : ℕ) → many ≡ levels → loops ≤ width * each
     → made ≤ loops + many * (width * points) → made ≤ width * (each + levels * points)
 searches_add made loops width each many levels points is few all =
     let sum = mul-add width each (levels * points) in
@@ -83,7 +83,7 @@ searches_add made loops width each many levels points is few all =
     omega (arith, few, all, sum, turned)
 
 -- turns of rows that are gone over so often
-few_drains : (s : Statement) (formats : List (List FormatLevel)) (order : List ℕ) (store : Store) (a : Arithmetic)
+pub few_drains : (s : Statement) (formats : List (List FormatLevel)) (order : List ℕ) (store : Store) (a : Arithmetic)
     (most turns : LoopKind → ℕ) → calls_for_workspace s formats order ≡ true → list_any is_unordered (result_levels s formats) ≡ true
     → most Drain ≡ 0
     → (arrays : Arrays) → AreTurns s (told_by a store) (letters_of store.format) most turns arrays
@@ -101,7 +101,7 @@ few_drains s formats order store a most turns called unordered none arrays t = r
 
 module _ (a : Arithmetic) (laws : Laws a) (s : Statement) (formats : List (List FormatLevel)) (f : IsForSparse s formats) (order : List ℕ)
     (called : calls_for_workspace s formats order ≡ true) (unordered : list_any is_unordered (result_levels s formats) ≡ true)
-    (loops : LoopCode) (l : AreLoopsOf s formats order loops) where
+    (several : length s.left.vars ≡ 1 → ⊥) (loops : LoopCode) (l : AreLoopsOf s formats order loops) where
   abbrev c : Concrete
   c = l.concrete
 
@@ -254,5 +254,6 @@ module _ (a : Arithmetic) (laws : Laws a) (s : Statement) (formats : List (List 
       direct = λ free. absurd (clash (calls_for_workspace s formats order) called free);
       heads = λ sorted. absurd (clash (list_any is_unordered (result_levels s formats)) unordered sorted);
       keyed = λ some. spaces
-          ∙ sym (ap (λ b. if b then (length s.left.vars ∷ []) else tail_workspaces (length (tail_of s order))) unordered);
+          ∙ sym (ap (λ b. if b then tail_workspaces (length s.left.vars) else tail_workspaces (length (tail_of s order))) unordered
+          ∙ ap (λ b. if b then (1 ∷ 1 ∷ []) else (length s.left.vars ∷ [])) (apart_test (length s.left.vars) 1 several));
     }

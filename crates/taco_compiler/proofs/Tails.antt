@@ -100,7 +100,7 @@ one_alone (m ∷ []) h = refl
 one_alone (m ∷ k ∷ ms) h = absurd (omega (arith, h))
 
 -- where numbers one after another are below a bound, so is each place
-place_below : (from count n k : ℕ) → Each (λ v. v < n) (numbers_from from count) → k < count → from + k < n
+pub place_below : (from count n k : ℕ) → Each (λ v. v < n) (numbers_from from count) → k < count → from + k < n
 place_below from zero n k each h = absurd (omega (arith, h))
 place_below from (suc count) n zero each h = let b = each.0 in omega (arith, b)
 place_below from (suc count) n (suc k) each h =

@@ -21,7 +21,7 @@ tail_of s order = from_sum s order (left_in_order s order)
 abbrev pub tail_workspaces : ℕ → List ℕ
 tail_workspaces n = if nat_eq n 1 then (1 ∷ 1 ∷ []) else (n ∷ [])
 
--- all rows go through one workspace where some level of the result has no order, else those of the tail alone
+-- all rows go through a workspace where some level of the result has no order, else those of the tail alone
 abbrev pub called_workspaces : Statement → List (List FormatLevel) → List ℕ → List ℕ
 called_workspaces s formats order =
-    if list_any is_unordered (result_levels s formats) then (length s.left.vars ∷ []) else tail_workspaces (length (tail_of s order))
+    if list_any is_unordered (result_levels s formats) then tail_workspaces (length s.left.vars) else tail_workspaces (length (tail_of s order))

@@ -117,7 +117,7 @@ fn kernel_around<S: Semiring, W: DrainedWorkspace>(
 }
 
 /// Two workspaces of one key each.
-fn two_workspaces(alloc: Global) -> Result<Items<u64>, AllocError>
+pub(crate) fn two_workspaces(alloc: Global) -> Result<Items<u64>, AllocError>
     ensures { IfOk result (λ workspaces. workspaces ≡ 1 ∷ 1 ∷ []) }
 {
     let mut workspaces = Items::new(alloc);

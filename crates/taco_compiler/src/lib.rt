@@ -11,6 +11,7 @@ mod grouped;
 mod lowered;
 mod sparse;
 mod starts;
+mod touched;
 
 pub use compiled::{CompileFault, Compiled};
 pub use compiling::compile;
