@@ -236,6 +236,7 @@ module _ (a : Arithmetic) (laws : Laws a) (s : Statement) (formats : List (List 
           (ProbesFew s formats order store (told_by a store)) (few_probes store is arrays given) (told store is arrays given);
       bare = λ free. absurd (clash (calls_for_workspace s formats order) called free);
       direct = λ free. absurd (clash (calls_for_workspace s formats order) called free);
+      heads = λ sorted. absurd (clash (list_any is_unordered (result_levels s formats)) unordered sorted);
       keyed = λ some. spaces
           ∙ sym (ap (λ b. if b then tail_workspaces (length s.left.vars) else tail_workspaces (length (tail_of s order))) unordered
           ∙ ap tail_workspaces one_left);
