@@ -1,6 +1,6 @@
 -- A kernel whose code pushes the rows of a statement's loops into a workspace, and fills the result from them, is compiled where the
--- statement calls for one and some level of its result has no order: it is right and sound, its loops turn no more often than the statement costs, and its rows are gone over no more
--- often than twice a level.
+-- statement calls for one and some level of its result has no order: it is right and sound, its loops turn no more often than the statement
+-- costs, and its rows are gone over no more often than twice a level.
 use Rattle.std.specs.Prelude.{◌≡◌, ℕ, ◌+◌, ◌*◌, ◌≤◌, ◌<◌, List, [], ◌∷◌, ◌++◌, length, Some, slice_get}
 use Rattle.std.specs.Prelude.{slice_index, true, if◌then◌else◌}
 use Rattle.std.specs.List.{list_any}

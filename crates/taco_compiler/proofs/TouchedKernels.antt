@@ -1,7 +1,7 @@
 -- A kernel whose code adds the rows of a statement's loops to a workspace of its result's one variable, and fills the result from the sums, is
 -- compiled where the result's level has no order: it is right and sound, its loops turn no more often than the statement costs, and there are
 -- two drain turns for each point at most.
-use Rattle.std.specs.Prelude.{◌≡◌, ℕ, ◌+◌, ◌*◌, ◌≤◌, ◌<◌, List, [], ◌∷◌, ◌++◌, length, Some, slice_get}
+use Rattle.std.specs.Prelude.{◌≡◌, ℕ, ◌*◌, ◌≤◌, ◌<◌, List, [], ◌∷◌, ◌++◌, length}
 use Rattle.std.specs.Prelude.{Bool, refl, slice_index, true, if◌then◌else◌}
 use Rattle.std.specs.List.{list_any}
 use Rattle.std.proofs.Common.{◌∙◌, sym, ap, subst, arith}
@@ -9,11 +9,9 @@ use Rattle.std.proofs.lemmas.List.{length-map}
 use Rattle.numbers.specs.Arithmetic.{Arithmetic, Laws}
 use Rattle.kernel_code.specs.declared.syntax.Kernel.{Kernel}
 use Rattle.kernel_code.specs.declared.syntax.KStmt.{KStmt}
-use Rattle.kernel_code.specs.declared.syntax.LoopKind.{LoopKind}
-use Rattle.kernel_code.specs.declared.syntax.LoopKind.TheVariants.{Drain, Probe}
+use Rattle.kernel_code.specs.declared.syntax.LoopKind.TheVariants.{Probe}
 use Rattle.kernel_code.specs.Kernels.{KernelOutcome, Finished, GotStuck, TooLong, NotFinished}
 use Rattle.level_core.specs.Meaning.{Arrays}
-use Rattle.tensor_map.specs.Entries.{Entry}
 use Rattle.format_spec.specs.declared.format.FormatLevel.{FormatLevel}
 use Rattle.format_spec.specs.Formats.{letters_of}
 use Rattle.index_notation.specs.declared.syntax.Statement.{Statement}
@@ -24,10 +22,8 @@ use Rattle.concrete_notation.specs.Nests.{left_in_order}
 use Rattle.loop_code.specs.declared.loops.LoopCode.{LoopCode}
 use Rattle.loop_code.specs.Loops.{start}
 use Rattle.lowering.specs.Lowered.{IsInOrder}
-use Rattle.lowering.specs.Right.{rows_to}
 use Rattle.term_code.specs.declared.places.Places.{Places}
 use Rattle.term_code.specs.Places.{StartsAt}
-use Rattle.operand_arrays.specs.Operands.{stored_in}
 use Rattle.operand_arrays.specs.Terms.{TargetIsBound}
 use Rattle.kernel_correctness.specs.Kernels.{Ends, IsRightKernel, IsRightOutcome}
 use Rattle.kernel_correctness.proofs.Sound.{right_is_sound}
@@ -36,24 +32,21 @@ use Rattle.lowering.specs.Stored.{stored_of}
 use Rattle.statement_costs.specs.Costs.{statement_cost}
 use Rattle.dense_results.specs.Kernels.{AreAtBase}
 use Rattle.dense_results.specs.Operands.{IsReadStore, operands_in}
-use Rattle.dense_results.specs.Results.{left_ranges}
 use Rattle.dense_results.proofs.Loops.{lowered_loops_go_through}
-use Rattle.result_targets.specs.Beside.{LeavesLists}
-use Rattle.result_targets.specs.Sinks.{TakesAll}
 use Rattle.kernel_emit.specs.Emitted.{AddsLoops}
 use Rattle.kernel_emit.specs.declared.emitting.Emitted.{Emitted}
 use Rattle.kernel_emit.proofs.ListLaws.{operand_apart}
 use Rattle.row_orders.specs.Heads.{result_levels}
 use Rattle.row_orders.specs.Takings.{calls_for_workspace, is_unordered}
-use Rattle.row_orders.proofs.Lists.{apart_test, clash}
+use Rattle.row_orders.proofs.Lists.{clash}
 use Rattle.sparse_results.specs.Keys.{HasOrderedResult}
-use Rattle.sparse_kernels.specs.Turns.{AreTurns, MakesTurns}
+use Rattle.sparse_kernels.specs.Turns.{MakesTurns}
 use Rattle.sparse_kernels.proofs.Ends.{ends_weaker}
-use Rattle.taco_compiler.specs.Compiled.{AreFewDrains, AreFewTurns, DrainsFew, IsCompiled, ProbesFew}
+use Rattle.taco_compiler.specs.Compiled.{AreFewTurns, DrainsFew, IsCompiled, ProbesFew}
 use Rattle.taco_compiler.specs.Loops.{AreLoopsOf, MayBeLowered}
 use Rattle.taco_compiler.specs.Tails.{tail_of, tail_workspaces}
 use Rattle.taco_compiler.proofs.LoopTurns.{in_order_of, within_cost, within_searches}
-use Rattle.taco_compiler.proofs.Targets.{keys_bound, keys_many}
+use Rattle.taco_compiler.proofs.Targets.{keys_bound}
 use Rattle.std.specs.Prelude.{All, false, not, slice_index_or}
 use Rattle.kernel_code.specs.declared.syntax.Arr.TheVariants.{Sums, ListPositions}
 use Rattle.kernel_code.specs.declared.syntax.KExpr.{Num, Len}
@@ -63,7 +56,6 @@ use Rattle.level_core.specs.declared.letter.Letter.{Letter}
 use Rattle.level_core.proofs.KindLaws.{appended_ordered, inserted_else, unordered_stored}
 use Rattle.format_spec.specs.Formats.{modes_of}
 use Rattle.result_assembly.specs.Drained.{IsCounted}
-use Rattle.sparse_kernels.specs.Kernels.{IsForSparse}
 use Rattle.term_code.specs.Places.{AreBelow}
 use Rattle.touched_workspaces.specs.DrainedLaws.{touched_draining_laws}
 use Rattle.touched_workspaces.specs.Sinks.{HoldsTouched, touched_sink}

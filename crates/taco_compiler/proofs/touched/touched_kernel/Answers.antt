@@ -1,4 +1,4 @@
-use Rattle.std.specs.Prelude.{◌≡◌, ◌++◌, length, refl, slice_get, slice_index_or}
+use Rattle.std.specs.Prelude.{◌++◌, length, refl, slice_get, slice_index_or}
 use Rattle.std.proofs.Common.{◌∙◌, sym, ap, subst, arith}
 use Rattle.std.proofs.lemmas.List.{length-map}
 use Rattle.format_spec.specs.declared.format.FormatLevel.{FormatLevel}
