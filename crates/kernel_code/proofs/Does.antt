@@ -1,15 +1,16 @@
 -- Lemmas about what specs/Does.antt defines.
 use Rattle.std.specs.Prelude.{◌≡◌, ℕ, zero, suc, ◌+◌, ◌≤◌, ◌<◌, Bool, true, false, nat_lt, if◌then◌else◌, List, [], ◌∷◌, ◌++◌, length}
-use Rattle.std.specs.Prelude.{take, replicate, Some, slice_get, slice_index, slice_set, refl}
+use Rattle.std.specs.Prelude.{take, replicate, Option, Some, slice_get, slice_index, slice_set, refl}
 use Rattle.std.proofs.Common.{◌∙◌, sym, ap, arith}
 use Rattle.std.proofs.lemmas.Bool.Decides.{nat_tests}
 use Rattle.kernel_code.specs.declared.syntax.Arr.{Arr}
-use Rattle.kernel_code.specs.declared.syntax.Arr.TheVariants.{Sums, ListCoordinates, ListPositions}
+use Rattle.kernel_code.specs.declared.syntax.Arr.TheVariants.{Range, Values, Dimension, Ends, Coordinates, Width, Key, Sums}
+use Rattle.kernel_code.specs.declared.syntax.Arr.TheVariants.{ListCoordinates, ListPositions}
 use Rattle.kernel_code.specs.declared.syntax.LoopKind.{LoopKind}
 use Rattle.kernel_code.specs.declared.syntax.ValueOp.{ValueOp}
 use Rattle.kernel_code.specs.declared.syntax.KExpr.{KExpr}
 use Rattle.kernel_code.specs.declared.syntax.KStmt.{KStmt, Set, Combine, Put, AddTo, Push, Extend, Cut, Sort, SortSum, If, While}
-use Rattle.kernel_code.specs.Arrays.{may_write, may_have, told_count, sum_in}
+use Rattle.kernel_code.specs.Arrays.{may_write, is_scratch, may_cut, may_have, told_count, sum_in}
 use Rattle.kernel_code.specs.Meaning.{Setting, State, Outcome, Ended, Stuck, Over, More, value, apply_each, combined, then_run, if_written}
 use Rattle.kernel_code.specs.Meaning.{with_array, set_var, set_array, one_turn, changed, grown, choice, run, run_list, run_turns}
 use Rattle.kernel_code.specs.Meaning.{sort_outcome, sort_sum_outcome, set_outcome, put_outcome, add_outcome, push_outcome, extend_outcome}
@@ -107,9 +108,27 @@ does_over c k rest s t a count P R h r = record {
   kept = r;
 }
 
+if_written_is : (s : State) (b : Bool) (ys : Option (List ℕ)) (xs : List ℕ) (next : List ℕ → Outcome) → b ≡ true → ys ≡ Some xs
+    → if_written s b ys next ≡ next xs
+if_written_is s b ys xs next w h = ap (λ b. if_written s b ys next) w ∙ ap (λ ys. if_written s true ys next) h
+
+-- arrays of workspaces and scratch lists may be cut always
+scratch_may_be_cut : (cuts : Bool) (a : Arr) → is_scratch a ≡ true → may_cut cuts a ≡ true
+scratch_may_be_cut false a is = is
+scratch_may_be_cut true (Key n k) is = refl
+scratch_may_be_cut true (Sums n) is = refl
+scratch_may_be_cut true (ListCoordinates n) is = refl
+scratch_may_be_cut true (ListPositions n) is = refl
+scratch_may_be_cut true Range is = cc is
+scratch_may_be_cut true (Values n) is = cc is
+scratch_may_be_cut true (Dimension n k) is = cc is
+scratch_may_be_cut true (Ends n k) is = cc is
+scratch_may_be_cut true (Coordinates n k) is = cc is
+scratch_may_be_cut true (Width n k) is = cc is
+
 pub with_array_is : (s : State) (a : Arr) (xs : List ℕ) (next : List ℕ → Outcome) → may_write a ≡ true → s.arrays a ≡ Some xs
     → with_array s a next ≡ next xs
-with_array_is s a xs next w h = ap (λ b. if_written s b (s.arrays a) next) w ∙ ap (λ ys. if_written s true ys next) h
+with_array_is s a xs next w h = if_written_is s (may_write a) (s.arrays a) xs next w h
 
 pub changed_is : (s : State) (a : Arr) (i : ℕ) (f : ℕ → ℕ) (xs : List ℕ) → i < length xs
     → changed s a i f xs ≡ Ended (set_array s a (slice_set xs i (f (slice_index xs i))))
@@ -183,11 +202,12 @@ does_extend c a n e rest s k v xs P R hn he w ha go over =
     ∙ with_array_is s a xs (λ xs. grown s a (length xs + k) xs (replicate k v)) w ha) go over
 
 pub does_cut : (c : Setting) (a : Arr) (e : KExpr) (rest : List KStmt) (s : State) (n : ℕ) (xs : List ℕ) (P : State
-    → Type 0) (R : Refusal) → value e s ≡ Some n → may_write a ≡ true → s.arrays a ≡ Some xs → Does c rest (set_array s a (take n xs)) P R
+    → Type 0) (R : Refusal) → value e s ≡ Some n → is_scratch a ≡ true → s.arrays a ≡ Some xs → Does c rest (set_array s a (take n xs)) P R
     → Does c (Cut a e ∷ rest) s P R
 does_cut c a e rest s n xs P R he w ha d =
-    does_ended c (Cut a e) rest s (set_array s a (take n xs)) P R (λ m. ap (cut_outcome s a) he
-    ∙ with_array_is s a xs (λ xs. Ended (set_array s a (take n xs))) w ha) d
+    does_ended c (Cut a e) rest s (set_array s a (take n xs)) P R (λ m. ap (cut_outcome c.cuts_results s a) he
+    ∙ if_written_is s (may_cut c.cuts_results a) (s.arrays a) xs (λ xs. Ended (set_array s a (take n xs)))
+    (scratch_may_be_cut c.cuts_results a w) ha) d
 
 -- a sort that ends: the equation computes from the lists that the arrays hold
 pub does_sort : (c : Setting) (g : ℕ) (rest : List KStmt) (s s' : State) (P : State → Type 0) (R : Refusal)

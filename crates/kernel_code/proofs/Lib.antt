@@ -1,3 +1,4 @@
+pub mod Appended
 pub mod ArrayNames
 pub mod Behind
 pub mod Capped

@@ -6,7 +6,7 @@ use Rattle.kernel_code.specs.declared.syntax.KStmt.{KStmt, Set, Combine, Put, Ad
 use Rattle.kernel_code.specs.declared.syntax.KStmt.{Row_of-KStmt, end_of-KStmt, more_of-KStmt}
 use Rattle.kernel_code.specs.Meaning.{Setting, State, Outcome, Ended, Stuck, Over, More, value, one_turn, then_run, choice, run_turns, run}
 use Rattle.kernel_code.specs.Meaning.{run_row, run_list, behind, statements_in, statements_in_row}
-use Rattle.kernel_code.specs.Kernels.{all_turns, within, start_state, told, NotFinished}
+use Rattle.kernel_code.specs.Kernels.{all_turns, within, start_state, setting_of, told, NotFinished}
 use Rattle.kernel_code.specs.More.{Settled, GoesOn}
 use Rattle.lists.proofs.Tests.{test_within, within_tested}
 
@@ -118,7 +118,7 @@ finished_settled order (Over t a count) h = tt
 finished_settled order More h = h refl
 
 pub goes_on : GoesOn
-goes_on arithmetic order k given n m l h =
-    let c : Setting = record { arithmetic = arithmetic; workspaces = k.workspaces } in
+goes_on cuts arithmetic order k given n m l h =
+    let c : Setting = setting_of cuts arithmetic k in
     ap (told order) (told_within_more c n m k.body (start_state k given) l
     (finished_settled order (within n (run_list c n k.body (start_state k given))) h))

@@ -10,7 +10,7 @@ use Rattle.kernel_code.specs.declared.syntax.LoopKind.{LoopKind}
 use Rattle.kernel_code.specs.declared.syntax.LoopKind.TheVariants.{Merge, Skip, Gather, Drain, Probe}
 use Rattle.kernel_code.specs.declared.syntax.KStmt.{KStmt, Set, Combine, Put, AddTo, Push, Extend, Cut, Sort, SortSum, If', While'}
 use Rattle.kernel_code.specs.declared.syntax.KStmt.{Row_of-KStmt, end_of-KStmt, more_of-KStmt}
-use Rattle.kernel_code.specs.Arrays.{may_write, may_have, sum_in}
+use Rattle.kernel_code.specs.Arrays.{may_write, may_cut, may_have, sum_in}
 use Rattle.kernel_code.specs.Rows.{Row}
 use Rattle.kernel_code.specs.Meaning.{Setting, State, Outcome, Ended, Stuck, Over, More, value, apply_each, combined, one_turn, then_run}
 use Rattle.kernel_code.specs.Meaning.{with_value, if_written, with_array, changed, grown, sort_outcome, sort_sum_outcome, summed}
@@ -147,7 +147,9 @@ mutual
   at_least_run c n (Extend a count e) st =
       at_least_value st (value count st) _
       (λ m. at_least_value st (value e st) _ (λ v. at_least_array st a _ (λ xs. at_least_grown st a _ xs _)))
-  at_least_run c n (Cut a e) st = at_least_value st (value e st) _ (λ m. at_least_array st a _ (λ xs. le_self (all_turns st.turns)))
+  at_least_run c n (Cut a e) st =
+      at_least_value st (value e st) _
+      (λ m. at_least_written st (may_cut c.cuts_results a) (st.arrays a) _ (λ xs. le_self (all_turns st.turns)))
   at_least_run c n (Sort g) st = at_least_sort st g (st.arrays (ListCoordinates g)) (st.arrays (ListPositions g))
   at_least_run c n (SortSum w) st = at_least_sort_sum c.arithmetic st w (slice_get c.workspaces w) (st.arrays (Sums w))
   at_least_run c n (If' e p first q second) st =

@@ -34,6 +34,24 @@ may_write (Sums n) = true
 may_write (ListCoordinates n) = true
 may_write (ListPositions n) = true
 
+-- whether an array belongs to a workspace or a scratch list
+abbrev pub is_scratch : Arr → Bool
+is_scratch (Key w key) = true
+is_scratch (Sums w) = true
+is_scratch (ListCoordinates g) = true
+is_scratch (ListPositions g) = true
+is_scratch Range = false
+is_scratch (Values n) = false
+is_scratch (Dimension n l) = false
+is_scratch (Ends n l) = false
+is_scratch (Coordinates n l) = false
+is_scratch (Width n l) = false
+
+-- whether an array may be cut, where those of the result may be or may not: those of workspaces and scratch lists always
+abbrev pub may_cut : Bool → Arr → Bool
+may_cut true a = may_write a
+may_cut false a = is_scratch a
+
 -- the greatest length of an array that may be written, if there is one: a level has so many positions, and one segment end more
 abbrev pub greatest_length : Arr → Option ℕ
 greatest_length (Values n) = Some greatest_position_count

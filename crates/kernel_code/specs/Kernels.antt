@@ -1,5 +1,5 @@
 -- What a kernel does: where its run starts, and how it ends within so many turns in all.
-use Rattle.std.specs.Prelude.{ℕ, ◌+◌, Bool, nat_lt, nat_le, if◌then◌else◌, List, [], length, Option, Some, None, slice_index}
+use Rattle.std.specs.Prelude.{ℕ, ◌+◌, Bool, true, nat_lt, nat_le, if◌then◌else◌, List, [], length, Option, Some, None, slice_index}
 use Rattle.numbers.specs.Arithmetic.{Arithmetic}
 use Rattle.kernel_code.specs.declared.syntax.Arr.{Arr}
 use Rattle.kernel_code.specs.declared.syntax.Arr.TheVariants.{Range, Values, Dimension, Ends, Coordinates, Width, Key, Sums}
@@ -9,7 +9,7 @@ use Rattle.kernel_code.specs.declared.syntax.LoopKind.TheVariants.{Merge, Skip, 
 use Rattle.kernel_code.specs.declared.syntax.Place.{Place}
 use Rattle.kernel_code.specs.declared.syntax.Place.TheVariants.{Level, Workspace}
 use Rattle.kernel_code.specs.declared.syntax.Kernel.{Kernel}
-use Rattle.kernel_code.specs.Meaning.{State, Outcome, Ended, Stuck, Over, More, run_list}
+use Rattle.kernel_code.specs.Meaning.{Setting, State, Outcome, Ended, Stuck, Over, More, run_list}
 
 -- all turns, of whatever kind
 abbrev pub all_turns : (LoopKind → ℕ) → ℕ
@@ -68,7 +68,14 @@ told order (Stuck t statement) = GotStuck statement
 told order (Over t a count) = TooLong (place_of order a) count
 told order More = NotFinished
 
--- a kernel whose result has this order, on these arrays, for at most n turns in all
+-- the setting of a kernel, where arrays of the result may be cut or not
+abbrev pub setting_of : Bool → Arithmetic → Kernel → Setting
+setting_of cuts arithmetic k = record { arithmetic = arithmetic; workspaces = k.workspaces; cuts_results = cuts }
+
+-- a kernel whose result has this order, on these arrays, for at most n turns in all, where arrays of the result may be cut or not
+abbrev pub go_by : Bool → Arithmetic → ℕ → Kernel → (Arr → Option (List ℕ)) → ℕ → KernelOutcome
+go_by cuts arithmetic order k given n = told order (within n (run_list (setting_of cuts arithmetic k) n k.body (start_state k given)))
+
+-- by the rules of the language, where they may be
 abbrev pub go : Arithmetic → ℕ → Kernel → (Arr → Option (List ℕ)) → ℕ → KernelOutcome
-go arithmetic order k given n =
-    told order (within n (run_list (record { arithmetic = arithmetic; workspaces = k.workspaces }) n k.body (start_state k given)))
+go = go_by true

@@ -1,13 +1,12 @@
 -- The laws of the kernel language that the crates above use, as the clauses of functions.
-use Rattle.std.specs.Prelude.{◌≡◌, ℕ, ◌+◌, ◌<◌, Bool, true, false, List, [], ◌++◌, Option, None}
+use Rattle.std.specs.Prelude.{◌≡◌, ℕ, ◌+◌, ◌≤◌, ◌<◌, true, false, List, [], ◌++◌, length, Option, Some, None}
 use Rattle.kernel_code.specs.declared.syntax.Arr.{Arr}
-use Rattle.kernel_code.specs.declared.syntax.Arr.TheVariants.{Range, Values, Dimension, Ends, Coordinates, Width, Key, Sums}
-use Rattle.kernel_code.specs.declared.syntax.Arr.TheVariants.{ListCoordinates, ListPositions}
 use Rattle.kernel_code.specs.declared.syntax.Kernel.{Kernel}
 use Rattle.kernel_code.specs.declared.syntax.LoopKind.{LoopKind}
 use Rattle.kernel_code.specs.declared.syntax.KExpr.{KExpr}
 use Rattle.kernel_code.specs.declared.syntax.KStmt.{KStmt, If, While}
-use Rattle.kernel_code.specs.Meaning.{Setting, State, value, choice, then_run, behind, run, run_list, run_turns, statements_in_list}
+use Rattle.kernel_code.specs.Arrays.{is_scratch}
+use Rattle.kernel_code.specs.Meaning.{Setting, State, Ended, value, choice, then_run, behind, run, run_list, run_turns, statements_in_list}
 use Rattle.kernel_code.specs.Kernels.{all_turns, start_arrays}
 use Rattle.kernel_code.specs.Turns.{AtLeast}
 use Rattle.kernel_code.specs.Keeps.{Below}
@@ -37,20 +36,14 @@ LoopsByTurns = (c : Setting) (n : ℕ) (k : LoopKind) (e : KExpr) (body : List K
 abbrev pub TurnsNeverFall : Type 0
 TurnsNeverFall = (c : Setting) (n : ℕ) (code : List KStmt) (s : State) → AtLeast (all_turns s.turns) (run_list c n code s)
 
--- whether an array belongs to a workspace or a scratch list
-abbrev pub is_scratch : Arr → Bool
-is_scratch (Key w key) = true
-is_scratch (Sums w) = true
-is_scratch (ListCoordinates g) = true
-is_scratch (ListPositions g) = true
-is_scratch Range = false
-is_scratch (Values n) = false
-is_scratch (Dimension n l) = false
-is_scratch (Ends n l) = false
-is_scratch (Coordinates n l) = false
-is_scratch (Width n l) = false
-
 -- a kernel without workspaces and scratch lists starts on the arrays that it is given, if these have none
 abbrev pub StartsAsGiven : Type 0
 StartsAsGiven = (k : Kernel) (given : Arr → Option (List ℕ)) → k.workspaces ≡ [] → k.lists ≡ 0
     → ((a : Arr) → is_scratch a ≡ true → given a ≡ None) → (a : Arr) → start_arrays k given a ≡ given a
+
+-- where arrays of the result may not be cut, what stands in them is never taken back: none gets shorter, so that each word that is
+-- appended to one is there at the end
+abbrev pub NothingIsTakenBack : Type 0
+NothingIsTakenBack = (c : Setting) → c.cuts_results ≡ false → (n : ℕ) (code : List KStmt) (s s' : State) → run_list c n code s ≡ Ended s'
+    → (a : Arr) → is_scratch a ≡ false → (xs : List ℕ) → s.arrays a ≡ Some xs
+    → (ys : List ℕ) × (s'.arrays a ≡ Some ys) × (length xs ≤ length ys)

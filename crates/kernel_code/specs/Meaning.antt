@@ -17,13 +17,15 @@ use Rattle.kernel_code.specs.declared.syntax.KExpr.{KExpr, Num, Var, At', Len, B
 use Rattle.kernel_code.specs.declared.syntax.KExpr.{more_of-KExpr}
 use Rattle.kernel_code.specs.declared.syntax.KStmt.{KStmt, Set, Combine, Put, AddTo, Push, Extend, Cut, Sort, SortSum, If', While'}
 use Rattle.kernel_code.specs.declared.syntax.KStmt.{Row_of-KStmt, end_of-KStmt, more_of-KStmt}
-use Rattle.kernel_code.specs.Arrays.{same_arr, may_write, may_have, told_count, sum_in, word_count}
+use Rattle.kernel_code.specs.Arrays.{same_arr, may_write, may_cut, may_have, told_count, sum_in, word_count}
 use Rattle.kernel_code.specs.Rows.{sorted_rows, list_rows, Row, summed_rows, rows_from, column_of}
 
--- how values are added, and the number of keys of each workspace
+-- how values are added, the number of keys of each workspace, and whether arrays of the result may be cut: by the rules of the language
+-- they may
 pub record Setting : Type 0 where
   pub arithmetic : Arithmetic
   pub workspaces : List ℕ
+  pub cuts_results : Bool
 
 -- the variables that have a value, the arrays that exist, and the turns made so far
 pub record State : Type 0 where
@@ -184,8 +186,10 @@ push_outcome s a v = with_value s v (λ v. with_array s a (λ xs. grown s a (len
 abbrev pub extend_outcome : State → Arr → Option ℕ → Option ℕ → Outcome
 extend_outcome s a n v = with_value s n (λ n. with_value s v (λ v. with_array s a (λ xs. grown s a (length xs + n) xs (replicate n v))))
 
-abbrev pub cut_outcome : State → Arr → Option ℕ → Outcome
-cut_outcome s a n = with_value s n (λ n. with_array s a (λ xs. Ended (set_array s a (take n xs))))
+-- the first words of an array that may be cut
+abbrev pub cut_outcome : Bool → State → Arr → Option ℕ → Outcome
+cut_outcome cuts s a n =
+    with_value s n (λ n. if_written s (may_cut cuts a) (s.arrays a) (λ xs. Ended (set_array s a (take n xs))))
 
 -- the rows of scratch list g, in two arrays that are equally long
 abbrev pub sort_outcome : State → ℕ → Option (List ℕ) → Option (List ℕ) → Outcome
@@ -260,7 +264,7 @@ abbrev mutual
   run c n (AddTo a i e) s = add_outcome c.arithmetic s a (value i s) (value e s)
   run c n (Push a e) s = push_outcome s a (value e s)
   run c n (Extend a count e) s = extend_outcome s a (value count s) (value e s)
-  run c n (Cut a e) s = cut_outcome s a (value e s)
+  run c n (Cut a e) s = cut_outcome c.cuts_results s a (value e s)
   run c n (Sort g) s = sort_outcome s g (s.arrays (ListCoordinates g)) (s.arrays (ListPositions g))
   run c n (SortSum w) s = sort_sum_outcome c.arithmetic s w (slice_get c.workspaces w) (s.arrays (Sums w))
   run c n (If' e p first q second) s =

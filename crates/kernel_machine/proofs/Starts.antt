@@ -10,7 +10,7 @@ use Rattle.kernel_code.specs.declared.syntax.Arr.TheVariants.{ListCoordinates, L
 use Rattle.kernel_code.specs.declared.syntax.Kernel.{Kernel}
 use Rattle.kernel_code.specs.declared.syntax.LoopKind.{LoopKind}
 use Rattle.kernel_code.specs.Arrays.{same_arr, may_write}
-use Rattle.kernel_code.specs.Laws.{is_scratch}
+use Rattle.kernel_code.specs.Arrays.{is_scratch}
 use Rattle.kernel_code.specs.Meaning.{State, set_array}
 use Rattle.level_core.specs.declared.letter.Letter.{Letter}
 use Rattle.level_core.specs.Meaning.{Arrays}

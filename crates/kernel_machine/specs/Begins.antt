@@ -8,7 +8,7 @@ use Rattle.kernel_code.specs.declared.syntax.Place.TheVariants.{Level, Workspace
 use Rattle.kernel_code.specs.declared.syntax.Arr.{Arr}
 use Rattle.kernel_code.specs.declared.syntax.Arr.TheVariants.{Values}
 use Rattle.kernel_code.specs.Kernels.{start_state}
-use Rattle.kernel_code.specs.Laws.{is_scratch}
+use Rattle.kernel_code.specs.Arrays.{is_scratch}
 use Rattle.level_core.specs.declared.letter.Letter.{Letter}
 use Rattle.level_core.specs.declared.arrays.LevelArray.{LevelArray}
 use Rattle.level_core.specs.declared.arrays.LevelArray.TheVariants.{Dimension as OfSize, Ends as OfEnds}

@@ -9,7 +9,7 @@ use Rattle.kernel_code.specs.declared.syntax.Arr.TheVariants.{ListCoordinates, L
 use Rattle.kernel_code.specs.declared.syntax.Kernel.{Kernel}
 use Rattle.kernel_code.specs.Arrays.{same_arr}
 use Rattle.kernel_code.specs.Kernels.{empty_if, start_arrays}
-use Rattle.kernel_code.specs.Laws.{is_scratch}
+use Rattle.kernel_code.specs.Arrays.{is_scratch}
 use Rattle.kernel_code.specs.Meaning.{State, set_array}
 use Rattle.kernel_code.proofs.ArrayNames.{same_arr_is}
 use Rattle.machine_starts.specs.Begun.{with_keys, with_workspaces, with_lists}
