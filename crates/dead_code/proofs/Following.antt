@@ -9,7 +9,7 @@ use Rattle.kernel_code.specs.declared.syntax.LoopKind.{LoopKind}
 use Rattle.kernel_code.specs.declared.syntax.ValueOp.{ValueOp}
 use Rattle.kernel_code.specs.declared.syntax.KExpr.{KExpr}
 use Rattle.kernel_code.specs.declared.syntax.KStmt.{KStmt, Set, Combine, Put, AddTo, Push, Extend, Cut, Sort, SortSum, If, While}
-use Rattle.kernel_code.specs.Arrays.{may_write, may_have, told_count, sum_in}
+use Rattle.kernel_code.specs.Arrays.{may_write, may_cut, may_have, told_count, sum_in}
 use Rattle.kernel_code.specs.Rows.{Row, rows_from, summed_rows, sorted_rows, list_rows, column_of}
 use Rattle.kernel_code.specs.Meaning.{Setting, State, Outcome, Ended, Stuck, Over, More, value, apply_each, combined, one_turn, then_run}
 use Rattle.kernel_code.specs.Meaning.{behind, statements_in, choice, run_turns, run, add_outcome, push_outcome}
@@ -219,9 +219,9 @@ module _ (A : Tie) (a : Arr) where
   pub cut_alike : (e f : KExpr) (c : Setting) (n : ℕ) (s : State) (w : Vars) → value f (with_vars s w) ≡ value e s → A s.vars w
       → EndsAlike A (run c n (Cut a e) s) (run c n (Cut a f) (with_vars s w))
   cut_alike e f c n s w item h =
-      with_alike A s w (value e s) (value f (with_vars s w)) (λ v. cut_outcome s a (Some v)) (λ v. cut_outcome (with_vars s w) a (Some v))
-      item
-      (λ v. written_alike A s w (may_write a) (s.arrays a) (λ xs. Ended (set_array s a (take v xs)))
+      with_alike A s w (value e s) (value f (with_vars s w)) (λ v. cut_outcome c.cuts_results s a (Some v))
+      (λ v. cut_outcome c.cuts_results (with_vars s w) a (Some v)) item
+      (λ v. written_alike A s w (may_cut c.cuts_results a) (s.arrays a) (λ xs. Ended (set_array s a (take v xs)))
       (λ xs. Ended (set_array (with_vars s w) a (take v xs))) (λ ys. record { vars = w; is = refl; tied = h }))
 
   pub follows_put : (i e j f : KExpr) → ReadsAs A i j → ReadsAs A e f → Follows A (Put a i e ∷ []) (Put a j f ∷ []) A

@@ -4,9 +4,10 @@ use Rattle.std.proofs.Common.{◌∙◌, ap}
 use Rattle.kernel_code.specs.declared.syntax.Arr.{Arr}
 use Rattle.kernel_code.specs.declared.syntax.Kernel.{Kernel}
 use Rattle.kernel_code.specs.declared.syntax.KStmt.{KStmt}
-use Rattle.kernel_code.specs.Kernels.{start_state, told, within, all_turns}
+use Rattle.kernel_code.specs.Kernels.{setting_of, start_state, told, within, all_turns}
 use Rattle.kernel_code.specs.Meaning.{Setting, State, Outcome, Ended, Stuck, Over, More, run_list}
-use Rattle.simplifier.specs.Refines.{AnyState, IsGood, RefinesKernel}
+use Rattle.kernel_code.specs.More.{IsGood}
+use Rattle.simplifier.specs.Refines.{AnyState, RefinesKernel}
 use Rattle.simplifier.proofs.Refining.{good_run}
 use Rattle.simplifier.specs.Same.{unnumbered}
 use Rattle.dead_code.specs.Follows.{Vars, Tie, with_vars, EndsAlike, Follows}
@@ -49,9 +50,9 @@ kernel_follows A B k body starts f = record {
   semiring = refl;
   workspaces = refl;
   lists = refl;
-  runs = λ arithmetic order given words never n.
-      let c : Setting = record { arithmetic = arithmetic; workspaces = k.workspaces } in
+  runs = λ cuts arithmetic order given words never n.
+      let c : Setting = setting_of cuts arithmetic k in
       let s = start_state k given in
-      told_alike B order n (run_list c n k.body s) (run_list c n body s) (good_run arithmetic order k given never n)
+      told_alike B order n (run_list c n k.body s) (run_list c n body s) (good_run cuts arithmetic order k given never n)
       (f.at c n s s.vars starts);
 }

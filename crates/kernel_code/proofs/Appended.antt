@@ -1,4 +1,4 @@
--- Where arrays of the result may not be cut, none of them gets shorter.
+-- Where arrays of the result may not be cut, none of them gets shorter; and what isn't stuck there does the same where they may.
 use Rattle.std.specs.Prelude.{◌≡◌, ℕ, zero, suc, ◌+◌, ◌≤◌, Bool, true, false, nat_lt, if◌then◌else◌, List, [], ◌∷◌, ◌++◌, length, map}
 use Rattle.std.specs.Prelude.{take, replicate, Option, Some, None, slice_get, slice_index, slice_set, ◌==◌, refl}
 use Rattle.std.proofs.Common.{◌∙◌, sym, ap, subst, arith, length-append}
@@ -11,11 +11,14 @@ use Rattle.numbers.specs.Arithmetic.{Arithmetic}
 use Rattle.kernel_code.specs.Arrays.{same_arr, is_scratch, may_write, may_cut, may_have, sum_in}
 use Rattle.kernel_code.specs.Rows.{Row, list_rows, sorted_rows, rows_from, summed_rows}
 use Rattle.kernel_code.specs.Meaning.{Setting, State, Outcome, Ended, Stuck, Over, More, value, apply_each, combined, set_array, one_turn}
-use Rattle.kernel_code.specs.Meaning.{then_run, with_value, if_written, changed, grown, sort_outcome, sort_sum_outcome, summed}
+use Rattle.kernel_code.specs.Meaning.{then_run, with_value, if_written, changed, grown, cut_outcome, sort_outcome, sort_sum_outcome}
+use Rattle.kernel_code.specs.Meaning.{summed}
 use Rattle.kernel_code.specs.Meaning.{key_columns, set_columns, choice, run_turns, run, run_row, run_list, behind}
 use Rattle.kernel_code.specs.Meaning.{statements_in, statements_in_row}
 use Rattle.kernel_code.specs.Laws.{NothingIsTakenBack}
+use Rattle.kernel_code.specs.More.{IsGood, appending, AppendsAlike}
 use Rattle.kernel_code.proofs.ArrayNames.{same_arr_is}
+use Rattle.kernel_code.proofs.Does.{scratch_may_be_cut}
 
 -- an array has this many words at least
 abbrev IsLonger : Arr → ℕ → State → Type 0
@@ -204,3 +207,86 @@ module _ (a : Arr) (apart : is_scratch a ≡ false) (many : ℕ) (c : Setting) (
 pub nothing_is_taken_back : NothingIsTakenBack
 nothing_is_taken_back c kept n code s s' ends a apart xs there =
     subst (EndsLonger a (length xs)) ends (list_longer a apart (length xs) c kept n code s (xs, there, omega arith))
+
+cut_alike : (cuts : Bool) (s : State) (b : Arr) (v : Option ℕ) → IsGood (cut_outcome false s b v)
+    → cut_outcome cuts s b v ≡ cut_outcome false s b v
+cut_alike cuts s b None good = refl
+cut_alike cuts s b (Some m) good = from (is_scratch b) refl good
+  where
+    next : List ℕ → Outcome
+    next = λ ys. Ended (set_array s b (take m ys))
+
+    from : (may : Bool) → is_scratch b ≡ may → IsGood (if_written s may (s.arrays b) next)
+        → if_written s (may_cut cuts b) (s.arrays b) next ≡ if_written s (is_scratch b) (s.arrays b) next
+    from true is good = ap (λ may. if_written s may (s.arrays b) next) (scratch_may_be_cut cuts b is ∙ sym is)
+    from false is good = absurd good
+
+then_alike : (o p : Outcome) (next next' : State → Outcome) → (IsGood o → p ≡ o) → ((s : State) → IsGood (next s) → next' s ≡ next s)
+    → IsGood (then_run o next) → then_run p next' ≡ then_run o next
+then_alike (Ended s) p next next' h g good = ap (λ o. then_run o next') (h tt) ∙ g s good
+then_alike (Stuck t statement) p next next' h g good = absurd good
+then_alike (Over t a count) p next next' h g good = ap (λ o. then_run o next') (h tt)
+then_alike More p next next' h g good = ap (λ o. then_run o next') (h tt)
+
+behind_alike : (k : ℕ) (o p : Outcome) → (IsGood o → p ≡ o) → IsGood (behind k o) → behind k p ≡ behind k o
+behind_alike k (Ended s) p h good = ap (behind k) (h tt)
+behind_alike k (Stuck t statement) p h good = absurd good
+behind_alike k (Over t a count) p h good = ap (behind k) (h tt)
+behind_alike k More p h good = ap (behind k) (h tt)
+
+choice_alike : (s : State) (v : Option ℕ) (f f' g g' : Outcome) → (IsGood f → f' ≡ f) → (IsGood g → g' ≡ g) → IsGood (choice s v f g)
+    → choice s v f' g' ≡ choice s v f g
+choice_alike s None f f' g g' a b good = refl
+choice_alike s (Some zero) f f' g g' a b good = b good
+choice_alike s (Some (suc v)) f f' g g' a b good = a good
+
+turns_alike : (n : ℕ) (k : LoopKind) (test : State → Option ℕ) (body body' : State → Outcome)
+    → ((s : State) → IsGood (body s) → body' s ≡ body s) → (s : State) → IsGood (run_turns n k test body s)
+    → run_turns n k test body' s ≡ run_turns n k test body s
+turns_alike zero k test body body' h s good = refl
+turns_alike (suc n) k test body body' h s good =
+    choice_alike s (test s) (then_run (body (one_turn s k)) (run_turns n k test body))
+    (then_run (body' (one_turn s k)) (run_turns n k test body')) (Ended s) (Ended s)
+    (then_alike (body (one_turn s k)) (body' (one_turn s k)) (run_turns n k test body) (run_turns n k test body') (h (one_turn s k))
+    (turns_alike n k test body body' h)) (λ e. refl) good
+
+module _ (c : Setting) (n : ℕ) where
+  abbrev d : Setting
+  d = appending c
+
+  mutual
+    run_alike : (s : KStmt) (st : State) → IsGood (run d n s st) → run c n s st ≡ run d n s st
+    run_alike (Set x e) st good = refl
+    run_alike (Combine x o e f) st good = refl
+    run_alike (Put b i e) st good = refl
+    run_alike (AddTo b i e) st good = refl
+    run_alike (Push b e) st good = refl
+    run_alike (Extend b count e) st good = refl
+    run_alike (Cut b e) st good = cut_alike c.cuts_results st b (value e st) good
+    run_alike (Sort g) st good = refl
+    run_alike (SortSum w) st good = refl
+    run_alike (If' e p first q second) st good =
+        let k = 1 + statements_in_row first in
+        choice_alike st (value e st) (behind 1 (run_row d n first st)) (behind 1 (run_row c n first st)) (behind k (run_row d n second st))
+        (behind k (run_row c n second st)) (behind_alike 1 (run_row d n first st) (run_row c n first st) (row_alike first st))
+        (behind_alike k (run_row d n second st) (run_row c n second st) (row_alike second st)) good
+    run_alike (While' k e p body) st good =
+        turns_alike n k (value e) (λ s'. behind 1 (run_row d n body s')) (λ s'. behind 1 (run_row c n body s'))
+        (λ s'. behind_alike 1 (run_row d n body s') (run_row c n body s') (row_alike body s')) st good
+
+    row_alike : {m : _} (row : Row_of-KStmt m) (st : State) → IsGood (run_row d n row st) → run_row c n row st ≡ run_row d n row st
+    row_alike end_of-KStmt st good = refl
+    row_alike (more_of-KStmt s rest) st good =
+        let k = statements_in s in
+        then_alike (run d n s st) (run c n s st) (λ st'. behind k (run_row d n rest st')) (λ st'. behind k (run_row c n rest st'))
+        (run_alike s st) (λ st'. behind_alike k (run_row d n rest st') (run_row c n rest st') (row_alike rest st')) good
+
+  list_alike : (code : List KStmt) (st : State) → IsGood (run_list d n code st) → run_list c n code st ≡ run_list d n code st
+  list_alike [] st good = refl
+  list_alike (s ∷ rest) st good =
+      let k = statements_in s in
+      then_alike (run d n s st) (run c n s st) (λ st'. behind k (run_list d n rest st')) (λ st'. behind k (run_list c n rest st'))
+      (run_alike s st) (λ st'. behind_alike k (run_list d n rest st') (run_list c n rest st') (list_alike rest st')) good
+
+pub appends_alike : AppendsAlike
+appends_alike c n code s good = list_alike c n code s good

@@ -113,7 +113,7 @@ if_written_is : (s : State) (b : Bool) (ys : Option (List ℕ)) (xs : List ℕ) 
 if_written_is s b ys xs next w h = ap (λ b. if_written s b ys next) w ∙ ap (λ ys. if_written s true ys next) h
 
 -- arrays of workspaces and scratch lists may be cut always
-scratch_may_be_cut : (cuts : Bool) (a : Arr) → is_scratch a ≡ true → may_cut cuts a ≡ true
+pub scratch_may_be_cut : (cuts : Bool) (a : Arr) → is_scratch a ≡ true → may_cut cuts a ≡ true
 scratch_may_be_cut false a is = is
 scratch_may_be_cut true (Key n k) is = refl
 scratch_may_be_cut true (Sums n) is = refl
@@ -125,6 +125,11 @@ scratch_may_be_cut true (Dimension n k) is = cc is
 scratch_may_be_cut true (Ends n k) is = cc is
 scratch_may_be_cut true (Coordinates n k) is = cc is
 scratch_may_be_cut true (Width n k) is = cc is
+
+-- what may be cut may be written
+pub cut_is_written : (cuts : Bool) (a : Arr) → may_cut cuts a ≡ true → may_write a ≡ true
+cut_is_written true a h = h
+cut_is_written false a h = scratch_may_be_cut true a h
 
 pub with_array_is : (s : State) (a : Arr) (xs : List ℕ) (next : List ℕ → Outcome) → may_write a ≡ true → s.arrays a ≡ Some xs
     → with_array s a next ≡ next xs

@@ -14,17 +14,19 @@ use Rattle.kernel_code.specs.declared.syntax.KExpr.{KExpr, Num, Var, At', Len, B
 use Rattle.kernel_code.specs.declared.syntax.KExpr.{Row_of-KExpr, end_of-KExpr, more_of-KExpr}
 use Rattle.kernel_code.specs.Keeps.{Mentions, Mentions_in}
 use Rattle.kernel_code.specs.declared.syntax.KStmt.{KStmt, Set, Combine, Put, AddTo, Push, Extend, Cut, Sort, SortSum, If, While}
-use Rattle.kernel_code.specs.Arrays.{same_arr, may_write, may_have, told_count}
+use Rattle.kernel_code.specs.Arrays.{same_arr, may_write, may_cut, may_have, told_count}
 use Rattle.kernel_code.specs.Rows.{Row}
 use Rattle.kernel_code.specs.Meaning.{Setting, State, Outcome, Ended, Stuck, Over, More, value, apply_each, combined, one_turn, then_run}
 use Rattle.kernel_code.specs.Meaning.{behind, statements_in, choice, run_turns, run, add_outcome, push_outcome, extend_outcome}
 use Rattle.kernel_code.specs.Meaning.{cut_outcome, sort_outcome, sort_sum_outcome, summed, set_columns, key_columns, with_value, with_array}
 use Rattle.kernel_code.specs.Meaning.{if_written, changed, set_var, set_array}
 use Rattle.kernel_code.proofs.ArrayNames.{same_arr_is}
+use Rattle.kernel_code.proofs.Does.{cut_is_written}
 use Rattle.kernel_code.proofs.Keeps.{other_array, other_var, value_kept}
 use Rattle.kernel_flow.specs.declared.facts.Fact.{Fact}
 use Rattle.kernel_flow.specs.Facts.{AllHold, Known, Gives, Survives, Becomes, Learns, WhereZero, WhereNot}
-use Rattle.simplifier.specs.Refines.{IsGood, Refines, plain}
+use Rattle.kernel_code.specs.More.{IsGood}
+use Rattle.simplifier.specs.Refines.{Refines, plain}
 use Rattle.kernel_flow.specs.Passing.{KnownAfter, Passes, PassesTurn}
 use Rattle.kernel_flow.specs.Steady.{HasWords}
 use Rattle.kernel_flow.proofs.ExprLemmas.{each_settle}
@@ -275,11 +277,12 @@ pub pass_cut : (F : List Fact) (a : Arr) (e d : KExpr) (new : List KStmt) → Be
     → Passes F (Cut a e ∷ []) new F
 pass_cut F a e d new b is = passes_alike F F (Cut a e) (Cut a d) new is (record {
   same = λ c n s k good.
-      with_as s (value e s) (value d s) (λ v. cut_outcome s a (Some v)) (λ v. cut_outcome s a (Some v)) (λ v h. b.at s v k h) good
-      (λ v g. refl);
+      with_as s (value e s) (value d s) (λ v. cut_outcome c.cuts_results s a (Some v)) (λ v. cut_outcome c.cuts_results s a (Some v))
+      (λ v h. b.at s v k h) good (λ v g. refl);
   known = λ c n s k.
-      with_known F s (value e s) (λ v. cut_outcome s a (Some v))
-      (λ v h. array_known F s (may_write a) (s.arrays a) _ (λ w ys. written_known F s a _ w k));
+      with_known F s (value e s) (λ v. cut_outcome c.cuts_results s a (Some v))
+      (λ v h. array_known F s (may_cut c.cuts_results a) (s.arrays a) _
+      (λ w ys. written_known F s a _ (cut_is_written c.cuts_results a w) k));
 })
 
 sorted_known : (F : List Fact) (s : State) (g : ℕ) (cs ps : Option (List ℕ)) → Known F s → KnownAfter F (sort_outcome s g cs ps)

@@ -3,7 +3,8 @@ use Rattle.std.specs.Prelude.{◌≡◌, ℕ, suc, List, Some}
 use Rattle.kernel_code.specs.declared.syntax.KExpr.{KExpr}
 use Rattle.kernel_code.specs.declared.syntax.KStmt.{KStmt}
 use Rattle.kernel_code.specs.Meaning.{Setting, State, Outcome, Ended, Stuck, Over, More, value}
-use Rattle.simplifier.specs.Refines.{IsGood, plain}
+use Rattle.kernel_code.specs.More.{IsGood}
+use Rattle.simplifier.specs.Refines.{plain}
 use Rattle.kernel_flow.specs.declared.facts.Fact.{Fact}
 use Rattle.kernel_flow.specs.Facts.{Known, Becomes}
 

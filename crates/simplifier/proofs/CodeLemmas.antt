@@ -85,7 +85,7 @@ module _ (over : Arithmetic) where
   }
 
   pub same_cut : (a : Arr) (e f : KExpr) → SameValue e f → SameStep over (Cut a e) (Cut a f)
-  same_cut a e f h = record { from = λ c q n st. ap (λ v. unnumbered (cut_outcome st a v)) (h.at st) }
+  same_cut a e f h = record { from = λ c q n st. ap (λ v. unnumbered (cut_outcome c.cuts_results st a v)) (h.at st) }
 
   turns_same : (n : ℕ) (k : LoopKind) (test test' : State → Option ℕ) (body body' : State → Outcome) → ((s : State) → test s ≡ test' s)
       → ((s : State) → body s ≡ body' s) → (s : State) → run_turns n k test body s ≡ run_turns n k test' body' s

@@ -1,29 +1,29 @@
 -- Lemmas about whole kernels, of which one does what the other does wherever that isn't stuck.
-use Rattle.std.specs.Prelude.{◌≡◌, ℕ, ◌+◌, ◌≤◌, if◌then◌else◌, List, Option, refl}
+use Rattle.std.specs.Prelude.{◌≡◌, ℕ, ◌+◌, ◌≤◌, Bool, if◌then◌else◌, List, Option, refl}
 use Rattle.std.proofs.Common.{◌∙◌, ap, sym, subst, arith}
 use Rattle.numbers.specs.Arithmetic.{Arithmetic}
 use Rattle.lists.proofs.Tests.{test_within}
 use Rattle.kernel_code.specs.declared.syntax.Arr.{Arr}
 use Rattle.kernel_code.specs.declared.syntax.Kernel.{Kernel}
 use Rattle.kernel_code.specs.declared.syntax.KStmt.{KStmt}
-use Rattle.kernel_code.specs.Kernels.{GotStuck, start_state, told, within, all_turns}
+use Rattle.kernel_code.specs.Kernels.{GotStuck, setting_of, start_state, told, within, all_turns}
 use Rattle.kernel_code.specs.Meaning.{Setting, State, Outcome, Ended, Stuck, Over, More, run_list}
-use Rattle.kernel_code.specs.More.{Settled}
+use Rattle.kernel_code.specs.More.{IsGood, Settled}
 use Rattle.kernel_code.proofs.More.{list_more}
 use Rattle.simplifier.specs.Same.{unnumbered}
-use Rattle.simplifier.specs.Refines.{IsGood, IsNeverStuck, Refines, RefinesKernel}
+use Rattle.simplifier.specs.Refines.{IsNeverStuck, Refines, RefinesKernel}
 
 -- a run that is stuck is told so within as many turns as it made
 stuck_told : (order n : ℕ) (t : _) (statement : ℕ) → all_turns t ≤ n → told order (within n (Stuck t statement)) ≡ GotStuck statement
 stuck_told order n t statement l = ap (λ b. told order (if b then Stuck t statement else More)) (test_within (all_turns t) n l)
 
 -- a run of a kernel that is never stuck isn't
-pub good_run : (arithmetic : Arithmetic) (order : ℕ) (k : Kernel) (given : Arr → Option (List ℕ)) → IsNeverStuck arithmetic order k given
-    → (n : ℕ) → IsGood (run_list (record { arithmetic = arithmetic; workspaces = k.workspaces }) n k.body (start_state k given))
-good_run arithmetic order k given never n = from (run_list c n k.body (start_state k given)) refl
+pub good_run : (cuts : Bool) (arithmetic : Arithmetic) (order : ℕ) (k : Kernel) (given : Arr → Option (List ℕ))
+    → IsNeverStuck cuts arithmetic order k given → (n : ℕ) → IsGood (run_list (setting_of cuts arithmetic k) n k.body (start_state k given))
+good_run cuts arithmetic order k given never n = from (run_list c n k.body (start_state k given)) refl
   where
     c : Setting
-    c = record { arithmetic = arithmetic; workspaces = k.workspaces }
+    c = setting_of cuts arithmetic k
 
     from : (o : Outcome) → run_list c n k.body (start_state k given) ≡ o → IsGood o
     from (Ended s) is = tt
@@ -66,9 +66,9 @@ kernel_refines starts k body r = record {
   semiring = refl;
   workspaces = refl;
   lists = refl;
-  runs = λ arithmetic order given words never n.
-      let c : Setting = record { arithmetic = arithmetic; workspaces = k.workspaces } in
-      let good = good_run arithmetic order k given never n in
+  runs = λ cuts arithmetic order given words never n.
+      let c : Setting = setting_of cuts arithmetic k in
+      let good = good_run cuts arithmetic order k given never n in
       ap (λ o. told order (within n o))
       (same_good (run_list c n body (start_state k given)) (run_list c n k.body (start_state k given)) good
       (r.same c n (start_state k given) words (plainly_good (run_list c n k.body (start_state k given)) good)));

@@ -9,7 +9,8 @@ use Rattle.kernel_code.specs.declared.syntax.KExpr.{KExpr}
 use Rattle.kernel_code.specs.declared.syntax.KStmt.{KStmt, If, While}
 use Rattle.kernel_code.specs.Meaning.{Setting, State, Outcome, Ended, Stuck, Over, More, value, one_turn, then_run, behind, choice, run_turns, run}
 use Rattle.kernel_code.specs.Meaning.{run_list, statements_in_list}
-use Rattle.kernel_code.specs.Kernels.{KernelOutcome, Finished, GotStuck, TooLong, NotFinished, all_turns, within, told, start_state}
+use Rattle.kernel_code.specs.Kernels.{KernelOutcome, Finished, GotStuck, TooLong, NotFinished, all_turns, within, told}
+use Rattle.kernel_code.specs.Kernels.{setting_of, start_state}
 use Rattle.kernel_code.proofs.Behind.{then_same}
 use Rattle.kernel_code.proofs.Does.{run_append}
 use Rattle.kernel_code.proofs.Equations.{run_if, run_while}
@@ -94,13 +95,13 @@ same_kernel a j k semiring ws ls h = record {
   semiring = semiring;
   workspaces = ws;
   lists = ls;
-  runs = λ order given n.
+  runs = λ cuts order given n.
       let run_on : List ℕ → ℕ → List KStmt → Outcome = λ w l code.
-      run_list (record { arithmetic = a; workspaces = w }) n code
+      run_list (record { arithmetic = a; workspaces = w; cuts_results = cuts }) n code
       (start_state (record { semiring = Ring; workspaces = w; lists = l; body = [] }) given) in
       let tell : Outcome → KernelOutcome = λ o. told order (within n (unnumbered o)) in
       told_plain order n (run_on j.workspaces j.lists j.body)
-      ∙ ap (λ o. told order (within n o)) (h.from (record { arithmetic = a; workspaces = j.workspaces }) refl n (start_state j given))
+      ∙ ap (λ o. told order (within n o)) (h.from (setting_of cuts a j) refl n (start_state j given))
       ∙ ap (λ w. tell (run_on w j.lists k.body)) ws
       ∙ ap (λ l. tell (run_on k.workspaces l k.body)) ls
       ∙ sym (told_plain order n (run_on k.workspaces k.lists k.body));

@@ -1,19 +1,13 @@
 -- When a kernel does what another does, wherever that isn't stuck: what each pass keeps that may take what is stuck for something else.
-use Rattle.std.specs.Prelude.{◌≡◌, ℕ, List, Option}
+use Rattle.std.specs.Prelude.{◌≡◌, ℕ, Bool, List, Option}
 use Rattle.numbers.specs.Arithmetic.{Arithmetic}
 use Rattle.kernel_code.specs.declared.syntax.Arr.{Arr}
 use Rattle.kernel_code.specs.declared.syntax.Kernel.{Kernel}
 use Rattle.kernel_code.specs.declared.syntax.KStmt.{KStmt}
-use Rattle.kernel_code.specs.Kernels.{GotStuck, go, start_state}
-use Rattle.kernel_code.specs.Meaning.{Setting, State, Outcome, Ended, Stuck, Over, More, run_list}
+use Rattle.kernel_code.specs.Kernels.{GotStuck, go_by, start_state}
+use Rattle.kernel_code.specs.Meaning.{Setting, State, Outcome, run_list}
+use Rattle.kernel_code.specs.More.{IsGood}
 use Rattle.simplifier.specs.Same.{unnumbered}
-
--- a run that isn't stuck
-abbrev pub IsGood : Outcome → Type 0
-IsGood (Ended s) = Unit {0}
-IsGood (Stuck t statement) = ⊥
-IsGood (Over t a count) = Unit {0}
-IsGood More = Unit {0}
 
 -- how a run of code ends, but for the number of the statement that can't go on
 abbrev pub plain : Setting → ℕ → List KStmt → State → Outcome
@@ -24,19 +18,21 @@ plain c n code s = unnumbered (run_list c n code s)
 pub record Refines (starts : State → Type 0) (new old : List KStmt) : Type 0 where
   pub same : (c : Setting) (n : ℕ) (s : State) → starts s → IsGood (plain c n old s) → plain c n new s ≡ plain c n old s
 
--- on these arrays a kernel isn't stuck, however many turns it may make
-abbrev pub IsNeverStuck : Arithmetic → ℕ → Kernel → (Arr → Option (List ℕ)) → Type 0
-IsNeverStuck arithmetic order k given = (n statement : ℕ) → go arithmetic order k given n ≡ GotStuck statement → ⊥
+-- on these arrays a kernel isn't stuck, however many turns it may make, where arrays of the result may be cut or not
+abbrev pub IsNeverStuck : Bool → Arithmetic → ℕ → Kernel → (Arr → Option (List ℕ)) → Type 0
+IsNeverStuck cuts arithmetic order k given = (n statement : ℕ) → go_by cuts arithmetic order k given n ≡ GotStuck statement → ⊥
 
 -- Two kernels have the same semiring, workspaces and scratch lists; and however values are added, on all arrays on which the old one
 -- starts in such a state and isn't stuck, within the same number of turns in all both end alike: they finish with the same arrays and as
--- many turns of each kind, are refused a growth at the same place with the same count, or don't finish.
+-- many turns of each kind, are refused a growth at the same place with the same count, or don't finish. So they do where arrays of the
+-- result may not be cut.
 pub record RefinesKernel (starts : State → Type 0) (new old : Kernel) : Type 0 where
   pub semiring : new.semiring ≡ old.semiring
   pub workspaces : new.workspaces ≡ old.workspaces
   pub lists : new.lists ≡ old.lists
-  pub runs : (arithmetic : Arithmetic) (order : ℕ) (given : Arr → Option (List ℕ)) → starts (start_state old given)
-      → IsNeverStuck arithmetic order old given → (n : ℕ) → go arithmetic order new given n ≡ go arithmetic order old given n
+  pub runs : (cuts : Bool) (arithmetic : Arithmetic) (order : ℕ) (given : Arr → Option (List ℕ)) → starts (start_state old given)
+      → IsNeverStuck cuts arithmetic order old given → (n : ℕ)
+      → go_by cuts arithmetic order new given n ≡ go_by cuts arithmetic order old given n
 
 -- every state
 abbrev pub AnyState : State → Type 0

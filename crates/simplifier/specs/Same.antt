@@ -1,11 +1,11 @@
 -- When code does the same as other code.
-use Rattle.std.specs.Prelude.{◌≡◌, ℕ, List, Option}
+use Rattle.std.specs.Prelude.{◌≡◌, ℕ, Bool, List, Option}
 use Rattle.numbers.specs.Arithmetic.{Arithmetic}
 use Rattle.kernel_code.specs.declared.syntax.Arr.{Arr}
 use Rattle.kernel_code.specs.declared.syntax.KExpr.{KExpr}
 use Rattle.kernel_code.specs.declared.syntax.KStmt.{KStmt}
 use Rattle.kernel_code.specs.declared.syntax.Kernel.{Kernel}
-use Rattle.kernel_code.specs.Kernels.{KernelOutcome, Finished, GotStuck, TooLong, NotFinished, go}
+use Rattle.kernel_code.specs.Kernels.{KernelOutcome, Finished, GotStuck, TooLong, NotFinished, go_by}
 use Rattle.kernel_code.specs.Meaning.{Setting, State, Outcome, Ended, Stuck, Over, More, value, run_list}
 
 -- two expressions have the same value in every state, and are stuck in the same states
@@ -35,10 +35,11 @@ pub record SameRuns (arithmetic : Arithmetic) (a b : List KStmt) : Type 0 where
 
 -- Two kernels have the same semiring, workspaces and scratch lists, and over an arithmetic of values, on the same arrays, within the
 -- same number of turns in all, their runs end alike: they finish with the same arrays and as many turns of each kind, are stuck, at
--- whichever statement, are refused a growth at the same place with the same count, or don't finish.
+-- whichever statement, are refused a growth at the same place with the same count, or don't finish. So they do where arrays of the result
+-- may not be cut.
 pub record SameKernel (arithmetic : Arithmetic) (j k : Kernel) : Type 0 where
   pub semiring : j.semiring ≡ k.semiring
   pub workspaces : j.workspaces ≡ k.workspaces
   pub lists : j.lists ≡ k.lists
-  pub runs : (order : ℕ) (given : Arr → Option (List ℕ)) (n : ℕ)
-      → unnumbered_end (go arithmetic order j given n) ≡ unnumbered_end (go arithmetic order k given n)
+  pub runs : (cuts : Bool) (order : ℕ) (given : Arr → Option (List ℕ)) (n : ℕ)
+      → unnumbered_end (go_by cuts arithmetic order j given n) ≡ unnumbered_end (go_by cuts arithmetic order k given n)

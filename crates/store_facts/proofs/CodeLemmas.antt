@@ -11,7 +11,8 @@ use Rattle.kernel_code.specs.declared.syntax.KStmt.{KStmt, Set, Combine, Put, Ad
 use Rattle.kernel_code.specs.Meaning.{Setting, State, Outcome, Ended, Stuck, Over, More, value, apply_each, combined, one_turn, then_run}
 use Rattle.kernel_code.specs.Meaning.{behind, statements_in, choice, run_turns, run, add_outcome, push_outcome, extend_outcome, cut_outcome}
 use Rattle.kernel_code.specs.Meaning.{with_value, with_array, changed, set_var}
-use Rattle.simplifier.specs.Refines.{IsGood, Refines, plain}
+use Rattle.kernel_code.specs.More.{IsGood}
+use Rattle.simplifier.specs.Refines.{Refines, plain}
 use Rattle.simplifier.specs.Same.{unnumbered}
 use Rattle.simplifier.proofs.Unnumbered.{plain_append, plain_if, plain_while}
 use Rattle.store_facts.specs.declared.facts.StoreFact.{StoreFact}
@@ -174,8 +175,8 @@ refines_extend F k a i e j d is b p = from_step F (Extend a j d) k (Extend a i e
 pub refines_cut : (F : List StoreFact) (k : KStmt) (a : Arr) (e d : KExpr) → k ≡ Cut a e → Becomes F e d
     → Refines (KeepsFacts F) (Cut a d ∷ []) (k ∷ [])
 refines_cut F k a e d is b = from_step F (Cut a d) k (Cut a e) is (refines_alike F (Cut a e) (Cut a d) (λ c n s k good.
-    with_as s (value e s) (value d s) (λ v. cut_outcome s a (Some v)) (λ v. cut_outcome s a (Some v)) (λ v h. b.at s v k h) good
-    (λ v g. refl)))
+    with_as s (value e s) (value d s) (λ v. cut_outcome c.cuts_results s a (Some v)) (λ v. cut_outcome c.cuts_results s a (Some v))
+    (λ v h. b.at s v k h) good (λ v g. refl)))
 
 -- choices
 choice_as : (s : State) (p q : Option ℕ) (first second one other : Outcome) → ((v : ℕ) → p ≡ Some v → q ≡ Some v)

@@ -8,13 +8,14 @@ use Rattle.kernel_code.specs.declared.syntax.Arr.TheVariants.{Key, Sums, ListCoo
 use Rattle.kernel_code.specs.declared.syntax.LoopKind.{LoopKind}
 use Rattle.kernel_code.specs.declared.syntax.KStmt.{KStmt, Set, Combine, Put, AddTo, Push, Extend, Cut, Sort, SortSum, If', While'}
 use Rattle.kernel_code.specs.declared.syntax.KStmt.{Row_of-KStmt, end_of-KStmt, more_of-KStmt}
-use Rattle.kernel_code.specs.Arrays.{same_arr, may_write, may_have, told_count}
+use Rattle.kernel_code.specs.Arrays.{same_arr, may_write, may_cut, may_have, told_count}
 use Rattle.kernel_code.specs.Rows.{Row}
 use Rattle.kernel_code.specs.Meaning.{Setting, State, Outcome, Ended, Stuck, Over, More, value, apply_each, combined, one_turn, then_run}
 use Rattle.kernel_code.specs.Meaning.{behind, statements_in, statements_in_row, choice, run_turns, run, run_row, run_list, add_outcome}
 use Rattle.kernel_code.specs.Meaning.{push_outcome, extend_outcome, cut_outcome, sort_outcome, sort_sum_outcome, summed, set_columns}
 use Rattle.kernel_code.specs.Meaning.{key_columns, with_value, with_array, if_written, changed, set_var, set_array}
 use Rattle.kernel_code.proofs.ArrayNames.{same_arr_is}
+use Rattle.kernel_code.proofs.Does.{cut_is_written}
 use Rattle.kernel_code.proofs.Keeps.{other_array}
 use Rattle.simplifier.specs.Refines.{plain}
 use Rattle.simplifier.specs.Same.{unnumbered}
@@ -142,8 +143,9 @@ mutual
       (λ w ys. grown_kept F (may_have a (length ys + m)) _ s.turns a (told_count a (length ys + m))
       (written_kept F s a (ys ++ replicate m v) w h))))
   run_kept F c n (Cut a e) s h =
-      with_kept F s (value e s) (λ v. cut_outcome s a (Some v))
-      (λ v. array_kept F s (may_write a) (s.arrays a) _ (λ w ys. written_kept F s a _ w h))
+      with_kept F s (value e s) (λ v. cut_outcome c.cuts_results s a (Some v))
+      (λ v. array_kept F s (may_cut c.cuts_results a) (s.arrays a) _
+      (λ w ys. written_kept F s a _ (cut_is_written c.cuts_results a w) h))
   run_kept F c n (Sort g) s h = sorted_kept F s g (s.arrays (ListCoordinates g)) (s.arrays (ListPositions g)) h
   run_kept F c n (SortSum w) s h = sort_sum_kept F c.arithmetic s w (slice_get c.workspaces w) (s.arrays (Sums w)) h
   run_kept F c n (If' e p first q second) s h =

@@ -17,7 +17,8 @@ use Rattle.kernel_code.proofs.Behind.{then_same}
 use Rattle.kernel_code.proofs.Equations.{value_at, value_bin}
 use Rattle.kernel_code.proofs.Keeps.{this_var, value_kept}
 use Rattle.kernel_code.proofs.Words.{less_yes}
-use Rattle.simplifier.specs.Refines.{IsGood, Refines, plain}
+use Rattle.kernel_code.specs.More.{IsGood}
+use Rattle.simplifier.specs.Refines.{Refines, plain}
 use Rattle.simplifier.specs.Same.{unnumbered}
 use Rattle.simplifier.proofs.Unnumbered.{plain_append, plain_if, plain_while}
 use Rattle.store_facts.specs.declared.facts.StoreFact.{StoreFact}
