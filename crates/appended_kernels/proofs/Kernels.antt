@@ -1,5 +1,5 @@
 -- Kernels are right whose code appends rows to the result that have the sums of the loops' rows, and then ends its levels.
-use Rattle.std.specs.Prelude.{◌≡◌, ℕ, ◌+◌, ◌≤◌, ◌<◌, List, [], ◌++◌, length, Some, slice_get, refl}
+use Rattle.std.specs.Prelude.{◌≡◌, ℕ, ◌+◌, ◌≤◌, ◌<◌, false, List, [], ◌++◌, length, Some, slice_get, refl}
 use Rattle.std.proofs.Common.{◌∙◌, sym, ap, subst, arith}
 use Rattle.std.proofs.lemmas.List.{length-map}
 use Rattle.numbers.specs.Arithmetic.{Arithmetic, Laws}
@@ -9,7 +9,7 @@ use Rattle.kernel_code.specs.declared.syntax.KStmt.{KStmt}
 use Rattle.kernel_code.specs.declared.syntax.LoopKind.{LoopKind}
 use Rattle.kernel_code.specs.declared.syntax.Place.{Place}
 use Rattle.kernel_code.specs.Does.{Does, Never}
-use Rattle.kernel_code.specs.Kernels.{KernelOutcome, Finished, GotStuck, TooLong, NotFinished, start_state}
+use Rattle.kernel_code.specs.Kernels.{KernelOutcome, Finished, GotStuck, TooLong, NotFinished, setting_of, start_state}
 use Rattle.kernel_code.specs.Keeps.{Leaves, NoVariable, EveryArray, no_turns}
 use Rattle.kernel_code.specs.Meaning.{Setting, State}
 use Rattle.kernel_code.proofs.Does.{does_append, does_weaker}
@@ -130,7 +130,7 @@ module _ (a : Arithmetic) (laws : Laws a) (s : Statement) (formats : List (List 
       (ends_code : EndsFirst (letters_in k) k.base free (length k.levels) end) (kernel : Kernel) (few : past ≤ kernel.lists)
       (declared : kernel.workspaces ≡ spaces) (arrays : Arrays) (given : IsGiven a.zero store arrays) where
     abbrev setting : Setting
-    setting = record { arithmetic = a; workspaces = kernel.workspaces }
+    setting = setting_of false a kernel
 
     abbrev first : State
     first = start_state kernel arrays
@@ -270,7 +270,7 @@ module _ (a : Arithmetic) (laws : Laws a) (s : Statement) (formats : List (List 
     ends body =
         let e = ends_as_code_does a (length store.format) kernel arrays IsEnd MayEnd
         (subst (λ (b : List KStmt). Does setting b first IsEnd MayEnd) (sym body) whole) in
-        record { turns = e.turns; outcome = e.outcome; is = e.is; so = done_told a s store most Allowed e.outcome e.so }
+        record { turns = e.turns; outcome = e.outcome; is = e.is; appends = e.appends; so = done_told a s store most Allowed e.outcome e.so }
 
 pub appended_kernels_are_right : AppendedKernelsAreRight
 appended_kernels_are_right a laws s formats c in_order f loops l k fits base places at from apart top begin code end tops begins list past

@@ -11,7 +11,7 @@ use Rattle.kernel_code.specs.declared.syntax.KStmt.{KStmt}
 use Rattle.kernel_code.specs.declared.syntax.LoopKind.{LoopKind}
 use Rattle.kernel_code.specs.Arrays.{same_arr}
 use Rattle.kernel_code.specs.Does.{Does, Refusal, Never}
-use Rattle.kernel_code.specs.Kernels.{KernelOutcome, Finished, GotStuck, TooLong, NotFinished, start_state}
+use Rattle.kernel_code.specs.Kernels.{KernelOutcome, Finished, GotStuck, TooLong, NotFinished, setting_of, start_state}
 use Rattle.kernel_code.specs.Keeps.{Leaves, NoVariable, EveryArray, no_turns}
 use Rattle.kernel_code.specs.Meaning.{Setting, State}
 use Rattle.kernel_code.proofs.Does.{does_append, does_weaker}
@@ -146,7 +146,7 @@ module _ (a : Arithmetic) (laws : Laws a) (s : Statement) (formats : List (List 
       (adds_code : AddsFromTop a k s formats places loops list past code) (kernel : Kernel) (few : past ≤ kernel.lists) (arrays : Arrays)
       (given : IsGiven a.zero store arrays) where
     abbrev setting : Setting
-    setting = record { arithmetic = a; workspaces = kernel.workspaces }
+    setting = setting_of false a kernel
 
     abbrev begin : State
     begin = start_state kernel arrays
@@ -187,6 +187,7 @@ module _ (a : Arithmetic) (laws : Laws a) (s : Statement) (formats : List (List 
           turns = e.turns;
           outcome = e.outcome;
           is = e.is;
+          appends = e.appends;
           so = right_told a s store (length store.format) HoldsRows Never (λ t h. leaves t.arrays h) (λ t b count no. no) e.outcome e.so;
         }
 

@@ -1,10 +1,12 @@
 -- A kernel whose code ends so, or is refused a growth, from its start ends so within some number of turns.
-use Rattle.std.specs.Prelude.{◌≡◌, ℕ, ◌+◌, ◌≤◌, nat_le, true, if◌then◌else◌, refl}
-use Rattle.std.proofs.Common.{◌∙◌, ap, arith}
+use Rattle.std.specs.Prelude.{◌≡◌, ℕ, ◌+◌, ◌≤◌, nat_le, true, false, if◌then◌else◌, refl}
+use Rattle.std.proofs.Common.{◌∙◌, ap, sym, subst, arith}
 use Rattle.std.proofs.lemmas.Bool.Decides.{nat_tests}
 use Rattle.kernel_code.specs.Does.{Refusal, OnOutcome}
-use Rattle.kernel_code.specs.Kernels.{all_turns, within, told}
-use Rattle.kernel_code.specs.Meaning.{State, Outcome, Ended, Stuck, Over, More}
+use Rattle.kernel_code.specs.Kernels.{all_turns, within, told, setting_of, start_state}
+use Rattle.kernel_code.specs.Meaning.{State, Outcome, Ended, Stuck, Over, More, run_list}
+use Rattle.kernel_code.specs.More.{IsGood}
+use Rattle.kernel_code.proofs.Appended.{appends_alike}
 use Rattle.kernel_correctness.specs.CodeEnds.{ToldOf, EndsAsCodeDoes}
 
 abbrev turns_of : Outcome → ℕ
@@ -28,12 +30,23 @@ told_of order P R (Stuck t statement) h = absurd h
 told_of order P R (Over t a count) h = (t, (a, h, refl))
 told_of order P R More h = absurd h
 
+good : (P : State → Type 0) (R : Refusal) (o : Outcome) → OnOutcome P R o → IsGood o
+good P R (Ended s) h = tt
+good P R (Stuck t statement) h = h
+good P R (Over t a count) h = tt
+good P R More h = tt
+
 pub ends_as_code_does : EndsAsCodeDoes
 ends_as_code_does a order kernel arrays P R d =
     let n : ℕ = d.enough + turns_of d.outcome in
+    let start = start_state kernel arrays in
+    let ended : run_list (setting_of false a kernel) n kernel.body start ≡ d.outcome = d.reached n (omega arith) in
+    let whole = ap (told order) (within_all n d.outcome (omega arith)) in
     record {
       turns = n;
       outcome = told order d.outcome;
-      is = ap (λ o. told order (within n o)) (d.reached n (omega arith)) ∙ ap (told order) (within_all n d.outcome (omega arith));
+      is = ap (λ o. told order (within n o)) (appends_alike (setting_of true a kernel) n kernel.body start
+          (subst IsGood (sym ended) (good P R d.outcome d.kept)) ∙ ended) ∙ whole;
+      appends = ap (λ o. told order (within n o)) ended ∙ whole;
       so = told_of order P R d.outcome d.kept;
     }

@@ -1,10 +1,10 @@
 -- When a kernel is right for a statement and formats, and when it is sound: by what it leaves, whatever its code.
-use Rattle.std.specs.Prelude.{◌≡◌, ℕ, ◌≤◌, ◌<◌, List, length}
+use Rattle.std.specs.Prelude.{◌≡◌, ℕ, ◌≤◌, ◌<◌, false, List, length}
 use Rattle.limits.specs.Limits.{greatest_position_count}
 use Rattle.numbers.specs.Arithmetic.{Arithmetic}
 use Rattle.kernel_code.specs.declared.syntax.Kernel.{Kernel}
 use Rattle.kernel_code.specs.declared.syntax.Place.TheVariants.{Level, Workspace}
-use Rattle.kernel_code.specs.Kernels.{KernelOutcome, Finished, GotStuck, TooLong, NotFinished, go}
+use Rattle.kernel_code.specs.Kernels.{KernelOutcome, Finished, GotStuck, TooLong, NotFinished, go, go_by}
 use Rattle.level_core.specs.Meaning.{Arrays}
 use Rattle.format_spec.specs.declared.format.FormatLevel.{FormatLevel}
 use Rattle.index_notation.specs.Statement.{numbers_from}
@@ -30,11 +30,13 @@ IsRightOutcome a s inputs store (TooLong Workspace count) =
     (greatest_position_count < count) × (count ≤ pairs s (standing_order s) inputs) × (AreAllDense store.format → ⊥)
 IsRightOutcome a s inputs store NotFinished = ⊥
 
--- within some number of turns the outcome is such
+-- within some number of turns the outcome is such; and it is the same where arrays of the result may not be cut, so that the kernel takes
+-- back nothing: each word that it appends to such an array is there at the end
 pub record Ends (a : Arithmetic) (order : ℕ) (kernel : Kernel) (arrays : Arrays) (P : KernelOutcome → Type 0) : Type 0 where
   pub turns : ℕ
   pub outcome : KernelOutcome
   pub is : go a order kernel arrays turns ≡ outcome
+  pub appends : go_by false a order kernel arrays turns ≡ outcome
   pub so : P outcome
 
 -- the kernel is right for the statement and formats: on every store, whatever the ranges and the operands

@@ -8,11 +8,11 @@ use Rattle.kernel_code.specs.declared.syntax.LoopKind.{LoopKind}
 use Rattle.kernel_code.specs.declared.syntax.Place.{Place}
 use Rattle.kernel_code.specs.declared.syntax.KStmt.{KStmt, Set, Combine, Put, AddTo, Push, Extend, Cut, Sort, SortSum, If', While'}
 use Rattle.kernel_code.specs.declared.syntax.KStmt.{Row_of-KStmt, end_of-KStmt, more_of-KStmt}
-use Rattle.kernel_code.specs.Arrays.{may_write, sum_in}
+use Rattle.kernel_code.specs.Arrays.{may_write, may_cut, sum_in}
 use Rattle.kernel_code.specs.Meaning.{Setting, State, Outcome, Ended, Stuck, Over, More, value, apply_each, combined, one_turn, then_run}
 use Rattle.kernel_code.specs.Meaning.{with_value, if_written, with_array, changed, choice, run_turns, run, run_row, run_list, behind}
 use Rattle.kernel_code.specs.Meaning.{statements_in, statements_in_row}
-use Rattle.kernel_code.specs.Kernels.{TooLong, all_turns, within, told, go, start_state}
+use Rattle.kernel_code.specs.Kernels.{TooLong, all_turns, within, told, go, setting_of, start_state}
 use Rattle.kernel_interpreter.specs.Memory.{IsInPlace, Throughout, Throughout_row, Through}
 
 -- no growth was refused
@@ -78,7 +78,8 @@ mutual
       (λ i. grants_value st (value e st) _ (λ v. grants_array st a _ (grants_changed st a i (λ old. sum_in c.arithmetic a old v))))
   grants_run c n (Push a e) h st = absurd h
   grants_run c n (Extend a count e) h st = absurd h
-  grants_run c n (Cut a e) h st = grants_value st (value e st) _ (λ m. grants_array st a _ (λ xs. tt))
+  grants_run c n (Cut a e) h st =
+      grants_value st (value e st) _ (λ m. grants_written st (may_cut c.cuts_results a) (st.arrays a) _ (λ xs. tt))
   grants_run c n (Sort g) h st = absurd h
   grants_run c n (SortSum w) h st = absurd h
   grants_run c n (If' e p first q second) h st =
@@ -119,5 +120,5 @@ pub never_too_long : (a : Arithmetic) (order : ℕ) (kernel : Kernel) (given : A
     → Through IsInPlace kernel.body → go a order kernel given n ≡ TooLong place count → ⊥
 never_too_long a order kernel given n place count h e =
     told_granted order n
-    (run_list (record { arithmetic = a; workspaces = kernel.workspaces }) n kernel.body (start_state kernel given)) place count
-    (grants_list (record { arithmetic = a; workspaces = kernel.workspaces }) n kernel.body h (start_state kernel given)) e
+    (run_list (setting_of true a kernel) n kernel.body (start_state kernel given)) place count
+    (grants_list (setting_of true a kernel) n kernel.body h (start_state kernel given)) e

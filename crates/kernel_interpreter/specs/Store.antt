@@ -96,6 +96,6 @@ IsWritable m a i = IsPlaceOf m a i × (may_write a ≡ true)
 abbrev pub made : Machine → ℕ
 made m = all_turns (count_of m.turns.counts)
 
--- how values are added, and the number of keys of each workspace
+-- how values are added, and the number of keys of each workspace; arrays of the result may be cut
 abbrev pub setting : Arithmetic → List ℕ → Setting
-setting arithmetic workspaces = record { arithmetic = arithmetic; workspaces = workspaces }
+setting arithmetic workspaces = record { arithmetic = arithmetic; workspaces = workspaces; cuts_results = true }

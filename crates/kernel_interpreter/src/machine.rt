@@ -540,7 +540,7 @@ impl<'a> Machine<'a> {
 
     #[inline(never)]
     pub(crate) fn cut(&mut self, a: Arr, n: Option<u64>) -> Step
-        ensures is { outcome_at result self.new ≡ cut_outcome (state_of self.old) a n }
+        ensures is { outcome_at result self.new ≡ cut_outcome true (state_of self.old) a n }
         ensures turns { self.new.turns ≡ self.old.turns }
         ensures variables { self.new.variables ≡ self.old.variables }
         ensures told { IsTold result }

@@ -1,5 +1,5 @@
 -- How the meaning of a kernel ends where the machine's run does.
-use Rattle.std.specs.Prelude.{◌≡◌, ◌⊎◌, ℕ, ◌≤◌, List}
+use Rattle.std.specs.Prelude.{◌≡◌, ◌⊎◌, ℕ, ◌≤◌, true, List}
 use Rattle.std.proofs.Common.{◌∙◌, sym, ap, subst, arith, inl, inr}
 use Rattle.numbers.specs.Arithmetic.{Arithmetic}
 use Rattle.kernel_code.specs.declared.syntax.Kernel.{Kernel}
@@ -71,10 +71,10 @@ sound_at a order kernel store given o e f told = by (one_first e.turns most_turn
   where
     by : (e.turns ≤ most_turns) ⊎ (most_turns ≤ e.turns) → IsSoundOutcome a.zero store o
     by (inl l) = subst (IsSoundOutcome a.zero store)
-        (sym e.is ∙ sym (goes_on a order kernel given e.turns most_turns l
+        (sym e.is ∙ sym (goes_on true a order kernel given e.turns most_turns l
         (λ n. not_unfinished a.zero store e.outcome e.so (sym e.is ∙ n))) ∙ f) e.so
     by (inr l) = subst (IsSoundOutcome a.zero store)
-        (sym e.is ∙ goes_on a order kernel given most_turns e.turns l (λ n. told (sym f ∙ n)) ∙ f) e.so
+        (sym e.is ∙ goes_on true a order kernel given most_turns e.turns l (λ n. told (sym f ∙ n)) ∙ f) e.so
 
 -- a sound kernel that finishes leaves a storage
 pub sound_leaves : (a : Arithmetic) (order : ℕ) (kernel : Kernel) (store : Store) (given arrays : Arrays) (turns : LoopKind → ℕ)

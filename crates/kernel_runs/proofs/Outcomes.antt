@@ -1,5 +1,5 @@
 -- What is known of how a kernel ends within some number of turns holds of how it ends within the most.
-use Rattle.std.specs.Prelude.{◌≡◌, ◌⊎◌, ℕ, ◌≤◌}
+use Rattle.std.specs.Prelude.{◌≡◌, ◌⊎◌, ℕ, ◌≤◌, true}
 use Rattle.std.proofs.Common.{◌∙◌, sym, subst, arith, inl, inr}
 use Rattle.numbers.specs.Arithmetic.{Arithmetic}
 use Rattle.kernel_code.specs.declared.syntax.Kernel.{Kernel}
@@ -18,5 +18,5 @@ outcome_is a order kernel given P o e none is finished = by (one_first e.turns m
   where
     by : (e.turns ≤ most_turns) ⊎ (most_turns ≤ e.turns) → P o
     by (inl l) = subst P
-        (sym e.is ∙ sym (goes_on a order kernel given e.turns most_turns l (λ n. none (subst P (sym e.is ∙ n) e.so))) ∙ is) e.so
-    by (inr l) = subst P (sym e.is ∙ goes_on a order kernel given most_turns e.turns l (λ n. finished (sym is ∙ n)) ∙ is) e.so
+        (sym e.is ∙ sym (goes_on true a order kernel given e.turns most_turns l (λ n. none (subst P (sym e.is ∙ n) e.so))) ∙ is) e.so
+    by (inr l) = subst P (sym e.is ∙ goes_on true a order kernel given most_turns e.turns l (λ n. finished (sym is ∙ n)) ∙ is) e.so

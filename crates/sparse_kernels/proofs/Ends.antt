@@ -20,7 +20,7 @@ use Rattle.sparse_kernels.specs.Turns.{AreTurns, MakesTurns}
 pub ends_weaker : (a : Arithmetic) (order : ℕ) (kernel : Kernel) (arrays : Arrays) (P Q : KernelOutcome → Type 0)
     → ((o : KernelOutcome) → P o → Q o) → Ends a order kernel arrays P → Ends a order kernel arrays Q
 ends_weaker a order kernel arrays P Q weaker e =
-    record { turns = e.turns; outcome = e.outcome; is = e.is; so = weaker e.outcome e.so }
+    record { turns = e.turns; outcome = e.outcome; is = e.is; appends = e.appends; so = weaker e.outcome e.so }
 
 module _ (a : Arithmetic) (s : Statement) (store : Store) (letters : List Letter) (most : LoopKind → ℕ) where
   -- the state leaves the result, and few turns were made

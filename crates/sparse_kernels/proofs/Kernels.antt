@@ -1,5 +1,5 @@
 -- Kernels are right whose code pushes the rows of a statement's loops into a workspace and fills the result from their sums.
-use Rattle.std.specs.Prelude.{◌≡◌, ℕ, ◌+◌, ◌*◌, ◌≤◌, ◌<◌, List, [], ◌∷◌, ◌++◌, length, replicate, Some}
+use Rattle.std.specs.Prelude.{◌≡◌, ℕ, ◌+◌, ◌*◌, ◌≤◌, ◌<◌, false, List, [], ◌∷◌, ◌++◌, length, replicate, Some}
 use Rattle.std.specs.Prelude.{slice_get, slice_index, refl}
 use Rattle.std.proofs.Common.{◌∙◌, sym, ap, subst, arith}
 use Rattle.std.proofs.lemmas.List.{length-map}
@@ -14,7 +14,7 @@ use Rattle.kernel_code.specs.declared.syntax.KStmt.{KStmt, Extend, SortSum}
 use Rattle.kernel_code.specs.declared.syntax.LoopKind.{LoopKind}
 use Rattle.kernel_code.specs.declared.syntax.LoopKind.TheVariants.{Drain}
 use Rattle.kernel_code.specs.Does.{Does, Never}
-use Rattle.kernel_code.specs.Kernels.{start_state}
+use Rattle.kernel_code.specs.Kernels.{setting_of, start_state}
 use Rattle.kernel_code.specs.Keeps.{Leaves, NoVariable, EveryArray, no_turns}
 use Rattle.kernel_code.specs.Meaning.{Setting, State, set_array}
 use Rattle.kernel_code.proofs.Does.{does_append, does_then, does_weaker}
@@ -131,7 +131,7 @@ module _ (a : Arithmetic) (laws : Laws a) (s : Statement) (formats : List (List 
       (space : slice_get kernel.workspaces k.number ≡ Some k.keys) (list : g < kernel.lists) (few : past ≤ kernel.lists) (arrays : Arrays)
       (given : IsGiven a.zero store arrays) where
     abbrev setting : Setting
-    setting = record { arithmetic = a; workspaces = kernel.workspaces }
+    setting = setting_of false a kernel
 
     abbrev begin : State
     begin = start_state kernel arrays
@@ -254,6 +254,7 @@ module _ (a : Arithmetic) (laws : Laws a) (s : Statement) (formats : List (List 
           turns = e.turns;
           outcome = e.outcome;
           is = e.is;
+          appends = e.appends;
           so = done_told a s store (letters_of store.format) most e.outcome e.so;
         }
 

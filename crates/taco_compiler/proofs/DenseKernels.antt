@@ -11,7 +11,7 @@ use Rattle.kernel_code.specs.declared.syntax.LoopKind.{LoopKind}
 use Rattle.kernel_code.specs.declared.syntax.LoopKind.TheVariants.{Merge, Skip, Gather, Drain, Probe}
 use Rattle.kernel_code.specs.Does.{Does, Never}
 use Rattle.kernel_code.specs.Keeps.{Leaves, NoVariable, EveryArray, no_turns}
-use Rattle.kernel_code.specs.Kernels.{KernelOutcome, Finished, GotStuck, TooLong, NotFinished, start_state}
+use Rattle.kernel_code.specs.Kernels.{KernelOutcome, Finished, GotStuck, TooLong, NotFinished, setting_of, start_state}
 use Rattle.kernel_code.specs.Meaning.{Setting, State}
 use Rattle.kernel_code.proofs.Does.{does_append, does_weaker}
 use Rattle.level_core.specs.Entries.{one}
@@ -134,7 +134,7 @@ module _ (a : Arithmetic) (laws : Laws a) (s : Statement) (formats : List (List 
       dense_store = record { named = f.named; left = f.left; dense = subst AreAllDense (sym is.format_is) f.dense; is = is }
 
       abbrev setting : Setting
-      setting = record { arithmetic = a; workspaces = kernel.workspaces }
+      setting = setting_of false a kernel
 
       abbrev begin : State
       begin = start_state kernel arrays

@@ -13,7 +13,7 @@ use Rattle.kernel_code.specs.declared.syntax.KStmt.{KStmt, Extend}
 use Rattle.kernel_code.specs.declared.syntax.LoopKind.{LoopKind}
 use Rattle.kernel_code.specs.declared.syntax.LoopKind.TheVariants.{Drain}
 use Rattle.kernel_code.specs.Does.{Does, Never}
-use Rattle.kernel_code.specs.Kernels.{KernelOutcome, Finished, GotStuck, TooLong, NotFinished, place_of, start_state}
+use Rattle.kernel_code.specs.Kernels.{KernelOutcome, Finished, GotStuck, TooLong, NotFinished, place_of, setting_of, start_state}
 use Rattle.kernel_code.specs.Keeps.{Leaves, NoVariable, EveryArray, no_turns}
 use Rattle.kernel_code.specs.Meaning.{Setting, State, same_kind, set_array}
 use Rattle.kernel_code.proofs.Does.{does_append, does_weaker}
@@ -149,7 +149,7 @@ module _ (a : Arithmetic) (laws : Laws a) (s : Statement) (formats : List (List 
       omega (arith, levels, letters, left_many)
 
   abbrev setting : Setting
-  setting = record { arithmetic = a; workspaces = kernel.workspaces }
+  setting = setting_of false a kernel
 
   abbrev origin : State
   origin = start_state kernel arrays
@@ -369,7 +369,7 @@ module _ (a : Arithmetic) (laws : Laws a) (s : Statement) (formats : List (List 
   ends body =
       let e = ends_as_code_does a (length store.format) kernel arrays IsEnd MayBe
       (subst (λ (b : List KStmt). Does setting b origin IsEnd MayBe) (sym body) whole) in
-      record { turns = e.turns; outcome = e.outcome; is = e.is; so = told e.outcome e.so }
+      record { turns = e.turns; outcome = e.outcome; is = e.is; appends = e.appends; so = told e.outcome e.so }
 
 pub touched_kernels_are_right : TouchedKernelsAreRight
 touched_kernels_are_right a laws s formats f c in_order loops row_code words k base places at_base top begin code summed drain tops begins

@@ -107,7 +107,7 @@ run_statement-returns-in-Cut-clause-is g t c = λ h.
     let st = state_of c.args.machine.now in
     told c.args.limit c.args.machine.now c.cut.new.self c.cut.result _ (setting g.S.Semiring.arithmetic c.args.workspaces.now)
     (Cut s.a (erase_value s.v)) (erase c.args.s.now) c.requires.few c.cut.ensures.turns (ap erase s.is) c.cut.ensures.is
-    (ap (cut_outcome st s.a) c.operand_at-n-in-Cut.ensures)
+    (ap (cut_outcome true st s.a) c.operand_at-n-in-Cut.ensures)
 
 pub run_statement-run_body-step-requires : goal.run_statement-run_body-step-requires
 run_statement-run_body-step-requires g t c κs within =
