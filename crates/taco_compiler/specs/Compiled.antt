@@ -154,7 +154,8 @@ KeepsHeads a s formats order kernel =
 
 -- the kernel is right and sound, its loops turn within the cost, the rows of its workspace are gone over no more often than that, and
 -- coordinates are sought within the widths of levels without order. It has no workspace where the statement calls for none, and is refused
--- none there; else it has those that are called for, and where each level of the result has an order it needs the pairs of one head at most
+-- none there; else it has those that are called for, and where each level of the result has an order it needs the pairs of one head at most.
+-- Whatever is said of a run here, the run takes back nothing that it appended to the result (`Ends`)
 pub record IsCompiled (a : Arithmetic) (s : Statement) (formats : List (List FormatLevel)) (order : List ℕ) (kernel : Kernel)
     : Type 0 where
   pub right : IsRightKernel a s formats kernel
