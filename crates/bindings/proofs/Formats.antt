@@ -8,7 +8,7 @@ use Rattle.lists.proofs.Tests.{same_number, number_same}
 use Rattle.format_spec.specs.declared.format.FormatLevel.{FormatLevel}
 use Rattle.index_notation.specs.declared.syntax.Access.{Access}
 use Rattle.index_notation.specs.declared.syntax.Statement.{Statement}
-use Rattle.index_notation.specs.Statement.{IsAccess, IsNumbered}
+use Rattle.index_notation.specs.Statement.{IsAccess, IsNumberedWithSums}
 use Rattle.bindings.specs.Bindings.{order_in, order_of}
 use Rattle.bindings.specs.Bindings.{first_in, format_in}
 use Rattle.bindings.specs.Outcome.{AnswersFormat, FormatIs, first_named}
@@ -32,7 +32,7 @@ orders_small tensors vars (access ∷ accesses) each tensor =
     by_tensor true later = each.0.order
     by_tensor false later = later
 
-pub order_small : (s : Statement) → IsNumbered s → (tensor : ℕ) → order_of s tensor ≤ greatest_order
+pub order_small : (s : Statement) → IsNumberedWithSums s → (tensor : ℕ) → order_of s tensor ≤ greatest_order
 order_small s is tensor = orders_small (length s.tensors) (length s.vars) (s.left ∷ s.accesses) (is.left, is.right) tensor
 
 -- the formats of the first so many tensors

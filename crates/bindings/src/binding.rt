@@ -4,7 +4,7 @@ ghost use Rattle.std.specs.Prelude.{Ok, Err, map, length, take, All, IfOk, Match
 ghost use Rattle.std.specs.Prelude.{MatchOption, IsTrue};
 ghost use Rattle.std.specs.Prelude.{true, OnOk, ◌++◌, ◌∷◌, [], option_map};
 ghost use Rattle.limits.specs.Limits.{greatest_order};
-ghost use Rattle.index_notation.specs.Statement.{IsNumbered};
+ghost use Rattle.index_notation.specs.Statement.{IsNumberedWithSums};
 ghost use Rattle.bindings.specs.Bindings.{AreSound, IsFirstFault};
 ghost use Rattle.bindings.specs.Outcome.{AnswersFormat, AreFormats, HaveFiles, IsWithoutFile};
 ghost use Rattle.bindings.specs.Outcome.{IsFileRefused, IsWordRefused, IsFormatRefused};
@@ -117,7 +117,7 @@ fn formats_of(
     statement: &Statement,
     bound: &Bound<'_>,
 ) -> Result<Vec<Format>, BindingFault>
-    requires numbered { IsNumbered statement.now }
+    requires numbered { IsNumberedWithSums statement.now }
     requires places { HasPlaces statement.now bound.now }
     ensures { (words : List (List ℕ)) → IsBound statement.now words bound.now
         → MatchResult result (λ formats. AreFormats statement.now words formats.items)
@@ -143,7 +143,7 @@ pub fn bind<'a>(
     words: &[&'a str],
     need_files: bool,
 ) -> Result<Bindings<'a>, BindingFault>
-    requires { IsNumbered statement.now }
+    requires { IsNumberedWithSums statement.now }
     ensures { MatchResult result
         (λ b. Binds statement.now (map (λ word. word.now) words.now) need_files b.formats.items
         (map file_in b.files.entries) b.ranges.items)

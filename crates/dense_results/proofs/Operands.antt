@@ -14,7 +14,7 @@ use Rattle.level_cursors.specs.Cursors.{no_coordinate}
 use Rattle.kernel_code.specs.declared.syntax.Arr.TheVariants.{Values}
 use Rattle.format_spec.specs.declared.format.FormatLevel.{FormatLevel}
 use Rattle.format_spec.specs.Formats.{letters_of}
-use Rattle.index_notation.specs.Statement.{IsAccess}
+use Rattle.index_notation.specs.Statement.{IsRead}
 use Rattle.index_notation.specs.declared.syntax.Access.{Access}
 use Rattle.index_notation.specs.declared.syntax.Statement.{Statement}
 use Rattle.iteration_graph.specs.Edges.{format_of, HasFormat}
@@ -95,7 +95,7 @@ module _ (s : Statement) (formats : List (List FormatLevel)) (store : Store) (r 
 
       small : access.tensor < suc (length store.operands)
       small =
-          let below = (each_get (IsAccess (length s.tensors) (length s.vars)) s.accesses k access r.numbered.right is).tensor in
+          let below = (each_get (IsRead (length s.tensors) (length s.vars)) s.accesses k access r.numbered.right is).tensor in
           let many = r.is.operands in
           omega (arith, below, many)
 

@@ -1,6 +1,6 @@
 -- What stands in an expanded statement.
-use Rattle.std.specs.Prelude.{◌≡◌, ◌≢◌, ℕ, suc, ◌+◌, ◌<◌, ◌≤◌, Bool, true, false, if◌then◌else◌, List, [], ◌∷◌, length, map, take, refl}
-use Rattle.std.proofs.Common.{◌∙◌, sym, ap, subst, arith}
+use Rattle.std.specs.Prelude.{◌≡◌, ◌≢◌, ℕ, suc, ◌+◌, ◌<◌, Bool, true, false, if◌then◌else◌, List, [], ◌∷◌, length, map, refl}
+use Rattle.std.proofs.Common.{sym, ap, subst, arith}
 use Rattle.std.proofs.lemmas.List.{length-map}
 use denote.Hole.Carrier.{hidden}
 use Rattle.lists.specs.Each.{Each}
@@ -11,11 +11,12 @@ use Rattle.index_notation.specs.declared.syntax.Access.{Access}
 use Rattle.index_notation.specs.declared.syntax.Expr.{Expr, Num, Access as AccessOf, Binary, Neg, Binary', Neg', Row_of-Expr, end_of-Expr}
 use Rattle.index_notation.specs.declared.syntax.Expr.{more_of-Expr}
 use Rattle.index_notation.specs.declared.syntax.Expr.TheBlock.{hidden-the_row-Expr-0}
+use Rattle.index_notation.specs.declared.syntax.NestedSum.{NestedSum}
 use Rattle.index_notation.specs.declared.syntax.Statement.{Statement}
-use Rattle.index_notation.specs.Statement.{IsAccess, AccessesUnder, AccessesUnder_in, IsNumbered, IsDistinct, HaveOneOrder, HaveOrders}
-use Rattle.index_notation.specs.Statement.{IsWellNamed}
+use Rattle.index_notation.specs.Statement.{IsAccess, AccessesUnder, AccessesUnder_in, AreSums, IsNumberedWithSums}
+use Rattle.index_notation.specs.Statement.{IsDistinct, HaveOneOrder, HaveOrders, IsWellNamed}
 use Rattle.index_notation.proofs.StatementLaws.{accesses_under_binary, accesses_under_neg}
-use Rattle.expr_terms.specs.Expanded.{moved_access, moved, moved_in, names_with_old, old_access, with_old, expanded}
+use Rattle.expr_terms.specs.Expanded.{moved_access, moved, moved_in, moved_sum, names_with_old, old_access, with_old, expanded}
 
 -- an expression that is made of its parts
 pub moved_binary : (o : Operator) (e f : Expr) → moved (Binary o e f) ≡ Binary o (moved e) (moved f)
@@ -63,12 +64,23 @@ moved_numbered n m vars (access ∷ accesses) more h = (
   moved_numbered n m vars accesses more h.1,
 )
 
-pub with_old_numbered : (s : Statement) → IsNumbered s → IsNumbered (with_old s)
+moved_sums : (vars n m : ℕ) (sums : List NestedSum) → m ≡ n + 1 → AreSums vars n sums → AreSums vars m (map moved_sum sums)
+moved_sums vars n m [] more h = tt
+moved_sums vars n m (sum ∷ sums) more h = (
+  h.0,
+  (let e : suc n ≡ m = omega (arith, more) in subst (λ k. AccessesUnder k (moved sum.inside)) e (moved_under n sum.inside h.1)),
+  moved_sums vars (n + 1) (m + 1) sums (omega (arith, more)) h.2,
+)
+
+pub with_old_numbered : (s : Statement) → IsNumberedWithSums s → IsNumberedWithSums (with_old s)
 with_old_numbered s h =
     let below = h.left.tensor in
     let some : 0 < length s.tensors = omega (arith, below) in
     let more = names_more s.tensors some in
     let long : length (map moved_access s.accesses) ≡ length s.accesses = length-map s.accesses moved_access in
+    let long_sums : length (map moved_sum s.sums) ≡ length s.sums = length-map s.sums moved_sum in
+    let all : suc (length (map moved_access s.accesses)) + length (map moved_sum s.sums) ≡ suc (length s.accesses + length s.sums) =
+    omega (arith, long, long_sums) in
     record {
       left = record {
         tensor = omega (arith, below, more);
@@ -79,10 +91,13 @@ with_old_numbered s h =
         record { tensor = omega (arith, some, more); vars_stand = h.left.vars_stand; order = h.left.order },
         moved_numbered (length s.tensors) (length (names_with_old s.tensors)) (length s.vars) s.accesses more h.right,
       );
-      expr = rw (accesses_under_binary (suc (length (map moved_access s.accesses))) op.Add (AccessOf 0) (moved s.expr)) (
-        omega arith,
-        subst (λ n. AccessesUnder (suc n) (moved s.expr)) (sym long) (moved_under (length s.accesses) s.expr h.expr),
-      );
+      sums = moved_sums (length s.vars) (length s.accesses) (suc (length (map moved_access s.accesses))) s.sums
+          (omega (arith, long)) h.sums;
+      expr = rw (accesses_under_binary (suc (length (map moved_access s.accesses)) + length (map moved_sum s.sums)) op.Add (AccessOf 0)
+          (moved s.expr)) (
+            omega arith,
+            subst (λ n. AccessesUnder n (moved s.expr)) (sym all) (moved_under (length s.accesses + length s.sums) s.expr h.expr),
+          );
       variables = h.variables;
     }
 
@@ -141,8 +156,12 @@ by_mark P s plain old = by s.accumulate
     by false = plain
 
 -- an expanded statement is well formed where the written one is
-pub expanded_numbered : (s : Statement) → IsNumbered s → IsNumbered (expanded s)
-expanded_numbered s h = by_mark IsNumbered s h (with_old_numbered s h)
+pub expanded_numbered : (s : Statement) → IsNumberedWithSums s → IsNumberedWithSums (expanded s)
+expanded_numbered s h = by_mark IsNumberedWithSums s h (with_old_numbered s h)
 
 pub expanded_named : (s : Statement) → IsWellNamed s → IsWellNamed (expanded s)
 expanded_named s h = by_mark IsWellNamed s h (with_old_named s h)
+
+-- and has no nested sums where that has none
+pub expanded_plain : (s : Statement) → s.sums ≡ [] → (expanded s).sums ≡ []
+expanded_plain s none = by_mark (λ t. t.sums ≡ []) s none (ap (map moved_sum) none)

@@ -1,15 +1,14 @@
 -- The terms of an expanded statement: the old tensor, and then those that are written.
 use Rattle.std.specs.Prelude.{◌≡◌, ℕ, zero, suc, ◌+◌, Bool, true, false, cond, not, ◌||◌, ◌&&◌, List, [], ◌∷◌, ◌++◌, map, filter, length}
-use Rattle.std.specs.Prelude.{Option, Some, None}
 use Rattle.std.specs.Prelude.{slice_get, refl}
-use Rattle.std.proofs.Common.{◌∙◌, sym, ap, subst, arith}
+use Rattle.std.proofs.Common.{◌∙◌, sym, ap, arith}
 use Rattle.std.proofs.lemmas.List.{map-append}
 use Rattle.numbers.specs.Arithmetic.{Arithmetic}
 use Rattle.numbers.specs.Sums.{total_of}
 use Rattle.index_notation.specs.declared.operator.Operator.{Operator}
 use Rattle.index_notation.specs.declared.operator.Operator.TheVariants as op
 use Rattle.index_notation.specs.declared.syntax.Access.{Access}
-use Rattle.index_notation.specs.declared.syntax.Expr.{Expr, Num, Access as AccessOf, Binary, Neg, Binary', Neg', Row_of-Expr, end_of-Expr}
+use Rattle.index_notation.specs.declared.syntax.Expr.{Expr, Num, Access as AccessOf, Binary', Neg', Row_of-Expr, end_of-Expr}
 use Rattle.index_notation.specs.declared.syntax.Expr.{more_of-Expr}
 use Rattle.index_notation.specs.declared.syntax.Statement.{Statement}
 use Rattle.index_notation.specs.Statement.{numbers_from}
@@ -17,9 +16,8 @@ use Rattle.expr_terms.specs.Points.{point_of, coords_at, sum_over}
 use Rattle.expr_terms.specs.Value.{applied, value_of, value_of_in, access_value_or_zero, minus}
 use Rattle.expr_terms.specs.Terms.{Term, terms, terms_in, terms_of_sides, plain_term, negated_term, contains, is_at_access, stands_in}
 use Rattle.expr_terms.specs.Terms.{stands_inside, is_own, own_in, own_variables, term_value, term_sum, statement_value}
-use Rattle.expr_terms.specs.Expanded.{moved_access, moved, moved_in, moved_term, old_access, accesses_with_old, with_old}
-use Rattle.expr_terms.proofs.Equations.{value_of_binary, value_of_neg, terms_binary, terms_neg, stands_in_binary, stands_in_neg}
-use Rattle.expr_terms.proofs.ExpandLaws.{moved_binary}
+use Rattle.expr_terms.specs.Expanded.{moved_access, moved, moved_in, moved_term, accesses_with_old, with_old}
+use Rattle.expr_terms.proofs.Equations.{terms_binary}
 use Rattle.expr_terms.proofs.PointLaws.{sum_over_same}
 
 -- ---- terms

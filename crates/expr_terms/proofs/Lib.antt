@@ -8,6 +8,8 @@ pub mod Made
 pub mod Meanings
 pub mod NameLaws
 pub mod NameOnce
+pub mod NestedLaws
+pub mod NestedValues
 pub mod OneGroup
 pub mod PointLaws
 pub mod PushedTerms

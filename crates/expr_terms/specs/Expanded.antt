@@ -4,8 +4,9 @@ use Rattle.std.specs.Prelude.{ℕ, ◌+◌, false, if◌then◌else◌, List, �
 use Rattle.index_notation.specs.declared.operator.Operator.TheVariants as op
 use Rattle.index_notation.specs.declared.syntax.Name.{Name}
 use Rattle.index_notation.specs.declared.syntax.Access.{Access}
-use Rattle.index_notation.specs.declared.syntax.Expr.{Expr, Num, Access as AccessOf, Binary, Neg, Binary', Neg', Row_of-Expr, end_of-Expr}
+use Rattle.index_notation.specs.declared.syntax.Expr.{Expr, Num, Access as AccessOf, Binary, Binary', Neg', Row_of-Expr, end_of-Expr}
 use Rattle.index_notation.specs.declared.syntax.Expr.{more_of-Expr}
+use Rattle.index_notation.specs.declared.syntax.NestedSum.{NestedSum}
 use Rattle.index_notation.specs.declared.syntax.Statement.{Statement}
 use Rattle.expr_terms.specs.declared.term.Term.{Term}
 
@@ -25,6 +26,9 @@ abbrev mutual
   pub moved_in : {m : _} → Row_of-Expr m → Row_of-Expr m
   moved_in end_of-Expr = end_of-Expr
   moved_in (more_of-Expr e rest) = more_of-Expr (moved e) (moved_in rest)
+
+abbrev pub moved_sum : NestedSum → NestedSum
+moved_sum sum = record { var = sum.var; inside = moved sum.inside }
 
 abbrev pub moved_term : Term → Term
 moved_term term = record { negated = term.negated; expr = moved term.expr }
@@ -50,6 +54,7 @@ with_old s = record {
   left = s.left;
   accumulate = false;
   accesses = accesses_with_old s.left.vars s.accesses;
+  sums = map moved_sum s.sums;
   expr = expr_with_old s.expr;
 }
 

@@ -3,6 +3,7 @@ pub mod GroupLaws
 pub mod Groups
 pub mod Minus
 pub mod Names
+pub mod Nested
 pub mod Operands
 pub mod PointLaws
 pub mod Points

@@ -1,11 +1,12 @@
 //! The statement that one with `+=` stands for.
-ghost use Rattle.std.specs.Prelude.{◌≡◌, ◌<◌, IfOk, map};
+ghost use Rattle.std.specs.Prelude.{◌≡◌, ◌<◌, ◌+◌, ◌^◌, ◌++◌, IfOk, OnOk, length, map};
 ghost use Rattle.lists.specs.Each.{Each};
-ghost use Rattle.index_notation.specs.Statement.{AccessesUnder, IsNumbered};
-ghost use Rattle.expr_terms.specs.Expanded.{moved as moved_behind, moved_access as moved_access_behind, names_with_old, accesses_with_old};
+ghost use Rattle.index_notation.specs.Statement.{AccessesUnder, AreSums, IsNumberedWithSums};
+ghost use Rattle.expr_terms.specs.Expanded.{moved as moved_behind, moved_access as moved_access_behind};
+ghost use Rattle.expr_terms.specs.Expanded.{moved_sum as moved_sum_behind, names_with_old, accesses_with_old};
 ghost use Rattle.expr_terms.specs.Expanded.{expr_with_old, expanded};
 
-use index_notation::{Access, Expr, Name, Operator, Statement, binary, copy_name};
+use index_notation::{Access, Expr, Name, NestedSum, Operator, Statement, binary, copy_name};
 use std::alloc::{AllocError, Global};
 use trees::{Boxed, Items};
 
@@ -74,6 +75,29 @@ fn moved(alloc: Global, expr: &Expr, accesses: usize) -> Result<Expr, AllocError
     }
 }
 
+/// Puts nested sums, of which the first has this number, over accesses behind one more at the end of a list.
+fn push_sums(
+    alloc: Global,
+    sums: &[NestedSum],
+    vars: usize,
+    number: usize,
+    all: &mut Items<NestedSum>,
+) -> Result<(), AllocError>
+    requires sums { AreSums vars number sums.now }
+    requires fits { number + length sums.now < 2 ^ 64 }
+    ensures { OnOk result (all.new ≡ all.old ++ map moved_sum_behind sums.now) }
+{
+    let Some((first, others)) = sums.split_first() else {
+        return Ok(());
+    };
+    let inside = moved(alloc, &first.inside, number)?;
+    all.push(NestedSum {
+        var: first.var,
+        inside,
+    })?;
+    push_sums(alloc, others, vars, number + 1, all)
+}
+
 /// The access of the old tensor, and an expression added to it.
 fn old_term(alloc: Global, expr: &Expr, accesses: usize) -> Result<Expr, AllocError>
     requires { AccessesUnder accesses expr.now }
@@ -87,9 +111,9 @@ fn old_term(alloc: Global, expr: &Expr, accesses: usize) -> Result<Expr, AllocEr
 /// written; the old tensor is tensor 1, of the result's name. With `=` it is the statement itself. Refused only for want of memory.
 #[tactic(auto, using(crate::proofs::ExpandLaws::with_old_numbered))]
 pub fn expand(alloc: Global, statement: Statement) -> Result<Statement, AllocError>
-    requires { IsNumbered statement }
+    requires { IsNumberedWithSums statement }
     ensures whole { IfOk result (λ whole. whole ≡ expanded statement) }
-    ensures numbered { IfOk result IsNumbered }
+    ensures numbered { IfOk result IsNumberedWithSums }
 {
     if !statement.accumulate {
         return Ok(statement);
@@ -99,16 +123,25 @@ pub fn expand(alloc: Global, statement: Statement) -> Result<Statement, AllocErr
         vars,
         left,
         accesses,
+        sums,
         expr,
         ..
     } = statement;
     let names = old_name(alloc, tensors.as_slice())?;
-    let expr = old_term(alloc, &expr, accesses.len())?;
+    let expr = old_term(alloc, &expr, accesses.len() + sums.len())?;
+    let mut moved_sums = Items::new(alloc);
+    push_sums(
+        alloc,
+        sums.as_slice(),
+        vars.len(),
+        accesses.len(),
+        &mut moved_sums,
+    )?;
     let accesses = old_access(
         alloc,
         left.vars.as_slice(),
         accesses.as_slice(),
         tensors.len(),
     )?;
-    Ok(Statement::new(names, vars, left, false, accesses, expr))
+    Ok(Statement::new(names, vars, left, false, accesses, moved_sums, expr))
 }

@@ -5,7 +5,8 @@ use Rattle.std.proofs.Common.{arith, lit<, lit≤}
 use Rattle.limits.specs.Limits.{greatest_order, greatest_variables}
 use Rattle.lists.specs.Each.{Each}
 use Rattle.expr_terms.specs.Minus.{HasMeaning}
-use Rattle.index_notation.specs.Statement.{IsAccess, IsNumbered, IsWellNamed, IsDistinct}
+use Rattle.expr_terms.proofs.NestedLaws.{plain_numbered}
+use Rattle.index_notation.specs.Statement.{IsAccess, IsNumbered, IsNumberedWithSums, IsWellNamed, IsDistinct}
 use Rattle.index_notation.specs.declared.syntax.Expr.TheBlock.{hidden-the_row-Expr-0}
 use Rattle.iteration_graph.specs.Edges.{HasFormat}
 use Rattle.generated_runs.specs.Workloads.{matrix_at, workload_statement, workload_formats}
@@ -14,14 +15,19 @@ is_access : (tensor : ℕ) → tensor < 4 → IsAccess 4 2 (matrix_at tensor)
 unfolding greatest_order
 is_access tensor h = record { tensor = h; vars_stand = (lit< tt, (lit< tt, tt)); order = lit≤ tt }
 
-pub numbered : IsNumbered workload_statement
+pub written_numbered : IsNumberedWithSums workload_statement
 unfolding workload_statement greatest_variables hidden-the_row-Expr-0 hidden
-numbered = record {
+written_numbered = record {
   left = is_access 0 (lit< tt);
   right = (is_access 1 (lit< tt), (is_access 2 (lit< tt), (is_access 3 (lit< tt), tt)));
+  sums = tt;
   expr = ((lit< tt, lit< tt), lit< tt);
   variables = lit≤ tt;
 }
+
+pub numbered : IsNumbered workload_statement
+unfolding workload_statement
+numbered = plain_numbered workload_statement written_numbered refl
 
 -- rows and columns are two variables, and an operand isn't the result
 rows_and_columns : (tensor : ℕ) → IsDistinct (matrix_at tensor).vars

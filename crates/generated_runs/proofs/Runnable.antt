@@ -9,7 +9,7 @@ use Rattle.operand_packing.specs.Operands.{AreRanges, IsRead}
 use Rattle.operand_packing.specs.Runnable.{IsRunnable, told_ranges}
 use Rattle.generated_runs.specs.Matrices.{AreMatrices}
 use Rattle.generated_runs.specs.Workloads.{matrix_at, workload_statement, workload_formats}
-use Rattle.generated_runs.proofs.Facts.{numbered, named, left_format, right_formats}
+use Rattle.generated_runs.proofs.Facts.{written_numbered, named, left_format, right_formats}
 
 not_below : (n : ℕ) → nat_lt n 0 ≡ false
 not_below n = by (nat_lt n 0) refl
@@ -50,7 +50,7 @@ runnable n (first ∷ second ∷ []) small are = absurd are
 runnable n (first ∷ second ∷ third ∷ x ∷ xs) small are = absurd are
 runnable n (first ∷ second ∷ third ∷ []) small are = record {
   operands_are = record {
-    numbered = numbered;
+    numbered = written_numbered;
     named = named;
     many = refl;
     formats_many = refl;

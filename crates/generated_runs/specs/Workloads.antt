@@ -35,6 +35,7 @@ workload_statement = record {
   left = matrix_at 0;
   accumulate = false;
   accesses = matrix_at 1 ∷ matrix_at 2 ∷ matrix_at 3 ∷ [];
+  sums = [];
   expr = Binary op.Add (Binary op.Mul (AccessOf 0) (AccessOf 1)) (AccessOf 2);
 }
 

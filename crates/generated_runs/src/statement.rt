@@ -57,8 +57,9 @@ pub(crate) fn workload_statement(alloc: Global) -> Result<Statement, AllocError>
     let vars = letter_names(alloc, b"ij")?;
     let left = matrix_at(alloc, 0)?;
     let accesses = operands_at(alloc)?;
+    let sums = Items::new(alloc);
     let expr = right_side(alloc)?;
-    Ok(Statement::new(tensors, vars, left, false, accesses, expr))
+    Ok(Statement::new(tensors, vars, left, false, accesses, sums, expr))
 }
 
 /// The format `ds`.

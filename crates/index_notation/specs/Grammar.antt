@@ -31,6 +31,10 @@ mutual
     Added : Sum → Product → Sum
     Taken : Sum → Product → Sum
 
+-- the name that nested sums have in a list of tensors' names; no text has such sums
+abbrev pub sum_name : Name
+sum_name = record { bytes = 115 ∷ 117 ∷ 109 ∷ [] }
+
 -- an access, and whether the right side is added to its old tensor
 pub record LeftSide : Type 0 where
   pub access : WrittenAccess

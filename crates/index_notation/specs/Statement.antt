@@ -1,9 +1,10 @@
--- When a statement is well formed: two facts, each of which the calls that take a statement name.
+-- When a statement is well formed: facts of which the calls that take a statement name some.
 use Rattle.std.specs.Prelude.{◌≡◌, ◌≢◌, ℕ, zero, suc, ◌+◌, ◌<◌, ◌≤◌, List, [], ◌∷◌, length}
 use Rattle.limits.specs.Limits.{greatest_order, greatest_variables}
 use Rattle.index_notation.specs.declared.syntax.Access.{Access}
 use Rattle.index_notation.specs.declared.syntax.Expr.{Expr, Num, Access as AccessOf, Binary', Neg', Row_of-Expr, end_of-Expr}
 use Rattle.index_notation.specs.declared.syntax.Expr.{more_of-Expr}
+use Rattle.index_notation.specs.declared.syntax.NestedSum.{NestedSum}
 use Rattle.index_notation.specs.declared.syntax.Statement.{Statement}
 use Rattle.lists.specs.Each.{Each}
 
@@ -23,6 +24,11 @@ pub record IsAccess (tensors vars : ℕ) (a : Access) : Type 0 where
   pub vars_stand : Each (λ v. v < vars) a.vars
   pub order : length a.vars ≤ greatest_order
 
+-- the same but for the limit: an access of an expression, which may also be to a tensor that no file has
+pub record IsRead (tensors vars : ℕ) (a : Access) : Type 0 where
+  pub tensor : a.tensor < tensors
+  pub vars_stand : Each (λ v. v < vars) a.vars
+
 abbrev mutual
   -- the accesses of an expression are among so many
   pub AccessesUnder : ℕ → Expr → Type 0
@@ -36,10 +42,23 @@ abbrev mutual
   AccessesUnder_in n end_of-Expr = Unit {0}
   AccessesUnder_in n (more_of-Expr e rest) = AccessesUnder n e
 
--- each number of a tensor, a variable and an access stands in its list, within the limits
-pub record IsNumbered (s : Statement) : Type 0 where
+-- sums, of which the first has this number, go over some of so many variables, and inside each stand accesses and earlier sums
+abbrev pub AreSums : ℕ → ℕ → List NestedSum → Type 0
+AreSums vars n [] = Unit {0}
+AreSums vars n (sum ∷ sums) = (sum.var < vars) × AccessesUnder n sum.inside × AreSums vars (n + 1) sums
+
+-- each number of a tensor, a variable, an access and a nested sum stands in its list, within the limits
+pub record IsNumberedWithSums (s : Statement) : Type 0 where
   pub left : IsAccess (length s.tensors) (length s.vars) s.left
   pub right : Each (IsAccess (length s.tensors) (length s.vars)) s.accesses
+  pub sums : AreSums (length s.vars) (length s.accesses) s.sums
+  pub expr : AccessesUnder (length s.accesses + length s.sums) s.expr
+  pub variables : length s.vars ≤ greatest_variables
+
+-- the same where no nested sum stands in the expression: each number of a tensor, a variable and an access stands in its list
+pub record IsNumbered (s : Statement) : Type 0 where
+  pub left : IsAccess (length s.tensors) (length s.vars) s.left
+  pub right : Each (IsRead (length s.tensors) (length s.vars)) s.accesses
   pub expr : AccessesUnder (length s.accesses) s.expr
   pub variables : length s.vars ≤ greatest_variables
 

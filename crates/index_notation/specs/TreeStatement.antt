@@ -66,7 +66,7 @@ abbrev pub accesses_of_tree : Tree → List WrittenAccess
 accesses_of_tree tree = tree.left.access ∷ accesses_of_sum tree.right
 
 -- the statement of a left access, whether the right side is added to its old tensor, the accesses of the right side and an
--- expression over them
+-- expression over them; the notation has no nested sums
 abbrev pub numbered_statement : WrittenAccess → Bool → List WrittenAccess → Expr → Statement
 numbered_statement left accumulate right expr =
     let tensors = distinct (map name_of (left ∷ right)) in
@@ -77,6 +77,7 @@ numbered_statement left accumulate right expr =
       left = numbered tensors vars left;
       accumulate = accumulate;
       accesses = map (numbered tensors vars) right;
+      sums = [];
       expr = expr;
     }
 

@@ -1,9 +1,10 @@
 //! Whether a statement is well formed.
 ghost use Rattle.std.specs.Prelude.{◌≡◌, ◌≢◌, ◌+◌, ◌<◌, ◌^◌, IsTrue, length};
-ghost use Rattle.index_notation.specs.Statement.{IsAccess, AccessesUnder, IsDistinct, HaveOneOrder, HaveOrders, numbers_from};
+ghost use Rattle.index_notation.specs.Statement.{IsAccess, IsRead, AccessesUnder, AreSums, IsDistinct, HaveOneOrder, HaveOrders};
+ghost use Rattle.index_notation.specs.Statement.{numbers_from};
 ghost use Rattle.lists.specs.Each.{Each};
 
-use crate::syntax::{Access, Expr, Statement};
+use crate::syntax::{Access, Expr, NestedSum, Statement};
 use limits::{greatest_order_of_tensor, greatest_variables_of_statement};
 
 /// Whether each number is below the bound.
@@ -15,6 +16,25 @@ fn are_below(numbers: &[usize], bound: usize) -> bool
         return true;
     };
     *first < bound && are_below(others, bound)
+}
+
+/// Whether this is an access to one of so many tensors by some of so many variables, however many it has.
+fn is_read(access: &Access, tensors: usize, vars: usize) -> bool
+    ensures told { IsTrue result → IsRead tensors vars access.now }
+    ensures found { IsRead tensors vars access.now → IsTrue result }
+{
+    access.tensor < tensors && are_below(access.vars.as_slice(), vars)
+}
+
+/// Whether each access is one, however many variables it has.
+fn are_read(accesses: &[Access], tensors: usize, vars: usize) -> bool
+    ensures told { IsTrue result → Each (IsRead tensors vars) accesses.now }
+    ensures found { Each (IsRead tensors vars) accesses.now → IsTrue result }
+{
+    let Some((first, others)) = accesses.split_first() else {
+        return true;
+    };
+    is_read(first, tensors, vars) && are_read(others, tensors, vars)
 }
 
 /// Whether this is an access to one of so many tensors by some of so many variables.
@@ -51,6 +71,19 @@ fn is_under(expr: &Expr, count: usize) -> bool
         }
         Expr::Neg(inner) => is_under(inner.get(), count),
     }
+}
+
+/// Whether sums, of which the first has this number, go over some of so many variables, and inside each stand accesses and
+/// earlier sums.
+fn are_sums(sums: &[NestedSum], vars: usize, number: usize) -> bool
+    requires { number + length sums.now < 2 ^ 64 }
+    ensures told { IsTrue result → AreSums vars number sums.now }
+    ensures found { AreSums vars number sums.now → IsTrue result }
+{
+    let Some((first, others)) = sums.split_first() else {
+        return true;
+    };
+    first.var < vars && is_under(&first.inside, number) && are_sums(others, vars, number + 1)
 }
 
 /// Whether no access is to the result.
@@ -133,16 +166,31 @@ fn go_up_from(next: u64, numbers: &[usize]) -> bool
 }
 
 impl Statement {
-    ghost use Rattle.index_notation.specs.Statement.{IsNumbered, IsWellNamed};
+    ghost use Rattle.index_notation.specs.Statement.{IsNumbered, IsNumberedWithSums, IsWellNamed};
 
-    /// Whether each number of a tensor, a variable and an access stands in its list, and neither an access nor the
-    /// statement has more variables than may be.
+    /// Whether each number of a tensor, a variable, an access and a nested sum stands in its list, and neither an access nor
+    /// the statement has more variables than may be.
+    pub fn is_numbered_with_sums(&self) -> bool
+        ensures told { IsTrue result → IsNumberedWithSums self.now }
+        ensures found { IsNumberedWithSums self.now → IsTrue result }
+    {
+        let (tensors, vars) = (self.tensors.len(), self.vars.len());
+        let count = self.accesses.len();
+        is_access(&self.left, tensors, vars)
+            && are_accesses(self.accesses.as_slice(), tensors, vars)
+            && are_sums(self.sums.as_slice(), vars, count)
+            && is_under(&self.expr, count + self.sums.len())
+            && vars as u64 <= greatest_variables_of_statement()
+    }
+
+    /// The same where no nested sum stands in the expression: whether each number of a tensor, a variable and an access stands
+    /// in its list, and neither the left access nor the statement has more variables than may be.
     pub fn is_numbered(&self) -> bool
         ensures told { IsTrue result → IsNumbered self.now }
         ensures found { IsNumbered self.now → IsTrue result }
     {
         is_access(&self.left, self.tensors.len(), self.vars.len())
-            && are_accesses(
+            && are_read(
                 self.accesses.as_slice(),
                 self.tensors.len(),
                 self.vars.len(),

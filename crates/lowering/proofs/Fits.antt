@@ -11,7 +11,7 @@ use Rattle.level_core.specs.declared.letter.Letter.TheVariants.{Dense}
 use Rattle.level_core.specs.Kinds.{properties}
 use Rattle.format_spec.specs.declared.format.FormatLevel.{FormatLevel}
 use Rattle.format_spec.specs.Formats.{letters_of, modes_of, IsFormat}
-use Rattle.index_notation.specs.Statement.{IsDistinct, IsNumbered, IsAccess, AccessesUnder, AccessesUnder_in, numbers_from}
+use Rattle.index_notation.specs.Statement.{IsDistinct, IsNumbered, IsRead, AccessesUnder, AccessesUnder_in, numbers_from}
 use Rattle.index_notation.specs.declared.syntax.Access.{Access}
 use Rattle.index_notation.specs.declared.syntax.Expr.{Expr, Num, Access as AccessOf, Binary', Neg', Row_of-Expr, end_of-Expr, more_of-Expr}
 use Rattle.index_notation.specs.declared.syntax.Statement.{Statement}
@@ -235,7 +235,7 @@ module _ (s : Statement) (formats : List (List FormatLevel)) (numbered : IsNumbe
       variable_below : (w : ℕ) → contains access.vars w ≡ true → w < length s.vars
       variable_below w h =
           each_contained (λ v. v < length s.vars) access.vars
-          (of_number (IsAccess (length s.tensors) (length s.vars)) s.accesses k access numbered.right is).vars_stand w h
+          (of_number (IsRead (length s.tensors) (length s.vars)) s.accesses k access numbered.right is).vars_stand w h
 
       variable_around : (w : ℕ) → contains access.vars w ≡ true → around w ≡ true
       variable_around w h = by (contains s.left.vars w) refl

@@ -1,12 +1,14 @@
 -- A planned statement is as calls ask for one, and has no cycle.
-use Rattle.std.specs.Prelude.{◌≡◌, ◌≢◌, ℕ, zero, suc, ◌<◌, List, [], ◌∷◌, length, Some, slice_get, refl}
+use Rattle.std.specs.Prelude.{◌≡◌, ◌≢◌, ℕ, zero, suc, ◌+◌, ◌<◌, List, [], ◌∷◌, length, Some, slice_get, refl}
 use Rattle.std.proofs.Common.{◌∙◌, sym, ap, subst, arith}
 use Rattle.std.proofs.lemmas.Option.{slice_get_within}
 use Rattle.format_spec.specs.declared.format.FormatLevel.{FormatLevel}
 use Rattle.format_spec.specs.Formats.{IsFormat}
-use Rattle.index_notation.specs.Statement.{AccessesUnder, HaveOneOrder, HaveOrders, IsAccess, IsDistinct, IsNumbered, IsWellNamed}
+use Rattle.index_notation.specs.Statement.{AccessesUnder, AreSums, HaveOneOrder, HaveOrders, IsAccess, IsDistinct}
+use Rattle.index_notation.specs.Statement.{IsNumberedWithSums, IsWellNamed}
 use Rattle.index_notation.specs.Statement.{numbers_from}
 use Rattle.index_notation.specs.declared.syntax.Access.{Access}
+use Rattle.index_notation.specs.declared.syntax.NestedSum.{NestedSum}
 use Rattle.index_notation.specs.declared.syntax.Statement.{Statement}
 use Rattle.iteration_graph.specs.Edges.{AreFormed, HasFormat, access_edges, edges_of, format_of}
 use Rattle.lists.specs.Each.{Each}
@@ -59,11 +61,14 @@ module _ (s : Statement) (formats : List (List FormatLevel)) (plan : Planned) (p
       let found = some_at s.accesses place (omega (arith, inside, many)) in
       record { old = found.0; at = found.1; planned = p.accesses place found.0 access found.1 there }
 
-  module _ (numbered : IsNumbered s) (named : IsWellNamed s) (left : HasFormat formats s.left)
+  module _ (numbered : IsNumberedWithSums s) (named : IsWellNamed s) (left : HasFormat formats s.left)
       (right : Each (HasFormat formats) s.accesses) where
     -- ---- the accesses
     vars_below : length plan.statement.vars ≡ length s.vars
     vars_below = ap (λ vars. length vars) p.vars
+
+    all_many : length plan.statement.accesses + length plan.statement.sums ≡ length s.accesses + length s.sums
+    all_many = ap (λ n. n + length plan.statement.sums) p.many ∙ ap (λ (sums : List NestedSum). length s.accesses + length sums) p.sums
 
     access_is : (place : ℕ) (access : Access) → slice_get plan.statement.accesses place ≡ Some access
         → IsAccess (length plan.statement.tensors) (length plan.statement.vars) access
@@ -118,12 +123,15 @@ module _ (s : Statement) (formats : List (List FormatLevel)) (plan : Planned) (p
     pub all_formats : Each (HasFormat plan.formats) plan.statement.accesses
     all_formats = each_from (HasFormat plan.formats) plan.statement.accesses right_formats
 
-    pub is_numbered : IsNumbered plan.statement
+    pub is_numbered : IsNumberedWithSums plan.statement
     is_numbered = record {
       left = left_is;
       right = each_from (IsAccess (length plan.statement.tensors) (length plan.statement.vars)) plan.statement.accesses access_is;
-      expr = subst (λ n. AccessesUnder n plan.statement.expr) (sym p.many)
-          (subst (AccessesUnder (length s.accesses)) (sym p.expr) numbered.expr);
+      sums = subst (λ sums. AreSums (length plan.statement.vars) (length plan.statement.accesses) sums) (sym p.sums)
+          (subst (λ n. AreSums (length plan.statement.vars) n s.sums) (sym p.many)
+          (subst (λ n. AreSums n (length s.accesses) s.sums) (sym vars_below) numbered.sums));
+      expr = subst (λ n. AccessesUnder n plan.statement.expr) (sym all_many)
+          (subst (AccessesUnder (length s.accesses + length s.sums)) (sym p.expr) numbered.expr);
       variables = let some = numbered.variables in let same = vars_below in omega (arith, some, same);
     }
 

@@ -131,12 +131,14 @@ numbered_next accesses more many is next = record {
 -- ---- the plan of no access
 pub begun : (s : Statement) (formats : List (List FormatLevel)) (plan : Planned) (name : Name) (format : List FormatLevel)
     → plan.statement.vars ≡ s.vars → plan.statement.left ≡ s.left → plan.statement.accumulate ≡ s.accumulate
-    → plan.statement.expr ≡ s.expr → plan.statement.accesses ≡ [] → plan.statement.tensors ≡ name ∷ [] → slice_get s.tensors 0 ≡ Some name
+    → plan.statement.sums ≡ s.sums → plan.statement.expr ≡ s.expr → plan.statement.accesses ≡ [] → plan.statement.tensors ≡ name ∷ []
+    → slice_get s.tensors 0 ≡ Some name
     → plan.formats ≡ format ∷ [] → format ≡ stored_by_plan s formats s.left → plan.origins ≡ [] → IsPlannedOf s formats [] plan
-begun s formats plan name format vars left accumulate expr accesses tensors named stored by_plan origins = record {
+begun s formats plan name format vars left accumulate sums expr accesses tensors named stored by_plan origins = record {
   vars = vars;
   left = left;
   accumulate = accumulate;
+  sums = sums;
   expr = expr;
   many = ap length accesses;
   accesses = λ place old access here there. absurd (nothing place old here);
@@ -208,6 +210,7 @@ module _ (s : Statement) (formats : List (List FormatLevel)) (given : List Acces
         vars = p.vars;
         left = p.left;
         accumulate = p.accumulate;
+        sums = p.sums;
         expr = p.expr;
         many = many_more tensor;
         accesses = planned_more next tensor refl (λ before access is. record { vars = is.vars; stored = is.stored }) stored;
@@ -303,6 +306,7 @@ module _ (s : Statement) (formats : List (List FormatLevel)) (given : List Acces
           vars = p.vars;
           left = p.left;
           accumulate = p.accumulate;
+          sums = p.sums;
           expr = p.expr;
           many = many_more (length plan.formats);
           accesses = planned_more after (length plan.formats) refl

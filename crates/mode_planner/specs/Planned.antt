@@ -6,7 +6,7 @@ use Rattle.std.specs.List.{list_any}
 use Rattle.level_core.specs.declared.letter.Letter.{Letter}
 use Rattle.format_spec.specs.declared.format.FormatLevel.{FormatLevel}
 use Rattle.format_spec.specs.Formats.{letters_of}
-use Rattle.index_notation.specs.Statement.{IsNumbered, IsWellNamed}
+use Rattle.index_notation.specs.Statement.{IsNumberedWithSums, IsWellNamed}
 use Rattle.index_notation.specs.declared.syntax.Access.{Access}
 use Rattle.index_notation.specs.declared.syntax.Statement.{Statement}
 use Rattle.iteration_graph.specs.Edges.{AreFormed, HasFormat, access_edges, format_of, statement_edges}
@@ -66,6 +66,7 @@ pub record IsPlannedOf (s : Statement) (formats : List (List FormatLevel)) (give
   pub vars : plan.statement.vars ≡ s.vars
   pub left : plan.statement.left ≡ s.left
   pub accumulate : plan.statement.accumulate ≡ s.accumulate
+  pub sums : plan.statement.sums ≡ s.sums
   pub expr : plan.statement.expr ≡ s.expr
   pub many : length plan.statement.accesses ≡ length given
   pub accesses : (place : ℕ) (old access : Access) → slice_get given place ≡ Some old
@@ -101,7 +102,7 @@ Answers s formats (Some plan) = IsMended s formats plan
 
 -- a planned statement is as calls ask for one that they are handed, and has no cycle
 pub record CanBeCompiled (s : Statement) (formats : List (List FormatLevel)) : Type 0 where
-  pub numbered : IsNumbered s
+  pub numbered : IsNumberedWithSums s
   pub named : IsWellNamed s
   pub left_format : HasFormat formats s.left
   pub right_formats : Each (HasFormat formats) s.accesses

@@ -1,14 +1,16 @@
 //! The statement that is run where storage orders have a cycle.
 ghost use Rattle.std.specs.Prelude.{◌≡◌, ℕ, ◌+◌, List, [], ◌∷◌, ◌++◌, length, IfOk, IfSome, MatchOption, OnOk};
 ghost use Rattle.lists.specs.Each.{Each};
-ghost use Rattle.index_notation.specs.Statement.{IsAccess, IsDistinct, IsNumbered, IsWellNamed};
+ghost use Rattle.index_notation.specs.Statement.{IsAccess, IsDistinct, IsNumberedWithSums, IsWellNamed};
 ghost use Rattle.index_notation.specs.declared.syntax.Access.{Access as AnAccess};
 ghost use Rattle.iteration_graph.specs.Edges.{HasFormat};
 ghost use Rattle.mode_planner.specs.Planned.{Answers, AreOrigins, CanBeCompiled, IsPlanned, IsPlannedOf, IsStoredAs};
 
 use crate::formats::{is_same, planned_format};
 use format_spec::Format;
-use index_notation::{Access, Name, Statement, copy_access, copy_expr, copy_name};
+use index_notation::{
+    Access, Name, NestedSum, Statement, copy_access, copy_expr, copy_name, copy_sum,
+};
 use iteration_graph::{OrderFault, edges, order};
 use std::alloc::{AllocError, Global};
 use trees::Items;
@@ -35,6 +37,17 @@ fn copy_names(alloc: Global, names: &[Name]) -> Result<Items<Name>, AllocError>
     Ok(copies)
 }
 
+/// Equal nested sums.
+fn copy_sums(alloc: Global, sums: &[NestedSum]) -> Result<Items<NestedSum>, AllocError>
+    ensures { IfOk result (λ copies. copies ≡ sums.now) }
+{
+    let mut copies = Items::new(alloc);
+    for sum in sums {
+        copies.push(copy_sum(alloc, sum)?)?;
+    }
+    Ok(copies)
+}
+
 /// The plan of no access of the right side.
 fn begin(alloc: Global, statement: &Statement, formats: &[Format]) -> Result<Planned, AllocError>
     requires numbered { IsAccess (length statement.now.tensors) (length statement.now.vars) statement.now.left }
@@ -57,6 +70,7 @@ fn begin(alloc: Global, statement: &Statement, formats: &[Format]) -> Result<Pla
     tensors.push(name)?;
     let vars = copy_names(alloc, statement.vars.as_slice())?;
     let left = copy_access(alloc, left)?;
+    let sums = copy_sums(alloc, statement.sums.as_slice())?;
     let expr = copy_expr(alloc, &statement.expr)?;
     Ok(Planned {
         statement: Statement::new(
@@ -65,6 +79,7 @@ fn begin(alloc: Global, statement: &Statement, formats: &[Format]) -> Result<Pla
             left,
             statement.accumulate,
             Items::new(alloc),
+            sums,
             expr,
         ),
         formats: planned_formats,
@@ -164,7 +179,7 @@ fn plan_accesses(
     statement: &Statement,
     formats: &[Format],
 ) -> Result<Planned, AllocError>
-    requires numbered { IsNumbered statement.now }
+    requires numbered { IsNumberedWithSums statement.now }
     requires named { IsWellNamed statement.now }
     requires left { HasFormat formats.now statement.now.left }
     requires right { Each (HasFormat formats.now) statement.now.accesses }
@@ -185,7 +200,7 @@ pub fn plan_statement(
     statement: &Statement,
     formats: &[Format],
 ) -> Result<Option<Planned>, AllocError>
-    requires numbered { IsNumbered statement.now }
+    requires numbered { IsNumberedWithSums statement.now }
     requires named { IsWellNamed statement.now }
     requires left { HasFormat formats.now statement.now.left }
     requires right { Each (HasFormat formats.now) statement.now.accesses }

@@ -22,7 +22,7 @@ use Rattle.index_notation.specs.Grammar.{more_variables, in_brackets, access_of,
 use Rattle.index_notation.specs.Grammar.{symbols}
 use Rattle.index_notation.specs.Faults.{variable_at, variables_in, above, limit_passed, past_limit, HaveNoFault}
 use Rattle.index_notation.specs.Numbering.{distinct, name_of, variables_of, numbered}
-use Rattle.index_notation.specs.Statement.{AccessesUnder, IsNumbered}
+use Rattle.index_notation.specs.Statement.{AccessesUnder, IsNumberedWithSums}
 use Rattle.index_notation.specs.TreeStatement.{accesses_of_factor, accesses_of_product, accesses_of_sum, accesses_of_tree}
 use Rattle.index_notation.specs.TreeStatement.{reads_in_factor, reads_in_product, reads_in_sum, factor_expr, product_expr, sum_expr}
 use Rattle.index_notation.specs.TreeStatement.{statement_of_tree}
@@ -258,7 +258,7 @@ mutual
       rw (accesses_under_binary m op.Sub (sum_expr n s) (product_expr (n + reads_in_sum s) p))
       (sum_under m n s (omega (arith, h)), product_under m (n + reads_in_sum s) p (omega (arith, h)))
 
-pub tree_is_numbered : (w : Tree) → HaveNoFault [] (symbols (sentence_of w)) → IsNumbered (statement_of_tree w)
+pub tree_is_numbered : (w : Tree) → HaveNoFault [] (symbols (sentence_of w)) → IsNumberedWithSums (statement_of_tree w)
 tree_is_numbered w h =
     let within = sentence_within w h in
     let all = accesses_of_tree w in
@@ -274,12 +274,18 @@ tree_is_numbered w h =
     record {
       left = stand.0;
       right = stand.1;
-      expr = sum_under (length (map (numbered tensors vars) (accesses_of_sum w.right))) 0 w.right (omega (arith, count, reads));
+      sums = tt;
+      expr = sum_under (length (map (numbered tensors vars) (accesses_of_sum w.right)) + 0) 0 w.right (omega (arith, count, reads));
       variables = subst (λ (names : List Name). length (distinct names) ≤ greatest_variables) (sentence_written w)
           (few_variables [] (sentence_of w) within none);
     }
 
 -- the statement of a text has numbers that stand in its lists
-pub notation_is_numbered : (text : List ℕ) (s : Statement) → IsNotationOf text s → IsNumbered s
+pub notation_is_numbered : (text : List ℕ) (s : Statement) → IsNotationOf text s → IsNumberedWithSums s
 notation_is_numbered text s h =
-    subst IsNumbered (sym h.is) (tree_is_numbered h.tree (subst (λ (ts : List Symbol). HaveNoFault [] ts) h.is_tree.is h.is_tree.within))
+    subst IsNumberedWithSums (sym h.is)
+    (tree_is_numbered h.tree (subst (λ (ts : List Symbol). HaveNoFault [] ts) h.is_tree.is h.is_tree.within))
+
+-- and no nested sums
+pub notation_is_plain : (text : List ℕ) (s : Statement) → IsNotationOf text s → s.sums ≡ []
+notation_is_plain text s h = ap (λ t. t.sums) h.is

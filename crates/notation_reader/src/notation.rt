@@ -1,6 +1,6 @@
 // The statement of a text, or its fault.
-ghost use Rattle.std.specs.Prelude.{◌≡◌, IfOk, IfErr};
-ghost use Rattle.index_notation.specs.Statement.{IsNumbered};
+ghost use Rattle.std.specs.Prelude.{◌≡◌, [], IfOk, IfErr};
+ghost use Rattle.index_notation.specs.Statement.{IsNumberedWithSums};
 ghost use Rattle.index_notation.specs.Notation.{IsNotationOf, MayRefuseText, at_byte as fault_at_byte};
 
 use crate::assigning::accumulates;
@@ -24,13 +24,14 @@ fn at_byte(at: usize, fault: SymbolFault) -> NotationFault
 
 /// The statement of a text: `left = right` or `left += right`, where the right side is made of accesses and numbers by `+`, `-`, `*`,
 /// brackets and prefix minuses, which group to the left and bind as usual. Names and numbers are taken as long as
-/// possible, and spaces and tabs may stand between them.
+/// possible, and spaces and tabs may stand between them. A text has no nested sums.
 ///
 /// Refused with `TextLength` where the text has more than 4,096 bytes, with the fault of its first faulty symbol where
 /// it has one, and with `Memory` for want of memory alone.
 pub fn parse(alloc: Global, text: &str) -> Result<Statement, NotationFault>
     ensures statement { IfOk result (IsNotationOf text.now) }
-    ensures numbered { IfOk result IsNumbered }
+    ensures numbered { IfOk result IsNumberedWithSums }
+    ensures plain { IfOk result (λ s. s.sums ≡ []) }
     ensures fault { IfErr result (MayRefuseText text.now) }
 {
     let bytes = text.as_bytes();

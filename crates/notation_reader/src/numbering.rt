@@ -66,7 +66,8 @@ fn number_accesses(
     Ok(found)
 }
 
-/// The statement of accesses, the left one first, and the right side's expression, which may be added to the old tensor.
+/// The statement of accesses, the left one first, and the right side's expression, which may be added to the old tensor. No nested
+/// sum stands in it.
 pub fn number_statement(
     alloc: Global,
     accesses: &[WrittenAccess],
@@ -84,5 +85,6 @@ pub fn number_statement(
     };
     let left = number_access(alloc, tensors.as_slice(), vars.as_slice(), left)?;
     let accesses = number_accesses(alloc, tensors.as_slice(), vars.as_slice(), right)?;
-    Ok(Statement::new(tensors, vars, left, accumulate, accesses, expr))
+    let sums = Items::new(alloc);
+    Ok(Statement::new(tensors, vars, left, accumulate, accesses, sums, expr))
 }

@@ -10,7 +10,7 @@ use Rattle.format_spec.specs.declared.format.FormatLevel.{FormatLevel}
 use Rattle.index_notation.specs.declared.syntax.Access.{Access}
 use Rattle.index_notation.specs.declared.syntax.Statement.{Statement}
 use Rattle.index_notation.specs.Numbering.{place_of}
-use Rattle.index_notation.specs.Statement.{IsAccess, IsNumbered}
+use Rattle.index_notation.specs.Statement.{IsAccess, IsNumberedWithSums}
 use Rattle.bindings.specs.Words.{Said, SaysFormat, SaysFile, SaysRange, said_of, is_mtx}
 use Rattle.bindings.specs.Bindings.{first_in, path_in, number_in, names_for, is_bound, is_no_matrix, fault_of, order_in, order_of}
 use Rattle.bindings.specs.Outcome.{Binds, first_named}
@@ -98,7 +98,7 @@ KeepOrders s = (tensor : ℕ) → tensor < length s.tensors → order_of s (firs
 
 -- the paths that words bind to tensor 1 and on
 pub files_readable : (s : Statement) (words : List (List ℕ)) (need : Bool) (formats : List (List FormatLevel))
-    (files : List (ℕ × List ℕ)) (given : List (Option ℕ)) → Binds s words need formats files given → IsNumbered s → KeepOrders s
+    (files : List (ℕ × List ℕ)) (given : List (Option ℕ)) → Binds s words need formats files given → IsNumberedWithSums s → KeepOrders s
     → (paths : List (List ℕ)) → length paths ≡ length s.tensors - 1
     → ((n : ℕ) (path : List ℕ) → slice_get paths n ≡ Some path
     → first_in (path_in s (first_named s.tensors (n + 1))) words ≡ Some path)

@@ -12,7 +12,7 @@ use Rattle.format_spec.specs.Words.{HasOrder}
 use Rattle.format_spec.proofs.Counting.{standing_is_order}
 use Rattle.index_notation.specs.declared.syntax.Access.{Access}
 use Rattle.index_notation.specs.declared.syntax.Statement.{Statement}
-use Rattle.index_notation.specs.Statement.{IsAccess, IsNumbered, IsWellNamed, HaveOneOrder, HaveOrders}
+use Rattle.index_notation.specs.Statement.{IsAccess, IsNumberedWithSums, IsWellNamed, HaveOneOrder, HaveOrders}
 use Rattle.iteration_graph.specs.Edges as edges
 use Rattle.iteration_graph.specs.Edges.{format_of}
 use Rattle.bindings.specs.Words.{FormatText}
@@ -54,7 +54,7 @@ format_long s words formats are tensor h =
     sym (length-map (format_of formats tensor) (λ (level : FormatLevel). level.mode)) ∙ order.count
 
 pub formats_fit : (s : Statement) (words : List (List ℕ)) (need : Bool) (formats : List (List FormatLevel))
-    (files : List (ℕ × List ℕ)) (given : List (Option ℕ)) → Binds s words need formats files given → IsNumbered s → IsWellNamed s
+    (files : List (ℕ × List ℕ)) (given : List (Option ℕ)) → Binds s words need formats files given → IsNumberedWithSums s → IsWellNamed s
     → edges.HasFormat formats s.left × Each (edges.HasFormat formats) s.accesses
 formats_fit s words need formats files given binds numbered named = (
   fit 0 s.left refl numbered.left,

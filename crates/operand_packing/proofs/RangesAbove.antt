@@ -11,7 +11,7 @@ use Rattle.lists.specs.Each.{Each}
 use Rattle.lists.proofs.Each.{each_get, each_from, each_append}
 use Rattle.std.proofs.lemmas.List.{get_or_default}
 use Rattle.tensor_map.specs.Entries.{Entries}
-use Rattle.index_notation.specs.Statement.{IsAccess, IsNumbered, numbers_from}
+use Rattle.index_notation.specs.Statement.{IsAccess, IsNumberedWithSums, numbers_from}
 use Rattle.index_notation.specs.declared.syntax.Access.{Access}
 use Rattle.index_notation.specs.declared.syntax.Statement.{Statement}
 use Rattle.expr_terms.specs.Operands.{entries_of}
@@ -220,7 +220,7 @@ pub ranges_long : (s : Statement) (given : ℕ → Option ℕ) (bounds : ℕ →
 ranges_long s given bounds ranges found = (found_each (range_of s given bounds) 0 (length s.vars) ranges found).0
 
 -- coordinates that keep to the bounds are below the ranges that are found
-pub bounded_below : (s : Statement) → IsNumbered s
+pub bounded_below : (s : Statement) → IsNumberedWithSums s
     → (operands : List Entries) (given : ℕ → Option ℕ) (bounds : ℕ → ℕ → Bound) (ranges : List ℕ)
     → ranges_of s given bounds ≡ Ok ranges → AreBounded s operands bounds → AreBelowRanges s operands (slice_index ranges)
 bounded_below s numbered operands given bounds ranges found are =

@@ -17,7 +17,7 @@ use Rattle.tensor_map.specs.Entries.{Entries}
 use Rattle.format_spec.specs.declared.format.FormatLevel.{FormatLevel}
 use Rattle.index_notation.specs.declared.syntax.Access.{Access}
 use Rattle.index_notation.specs.declared.syntax.Statement.{Statement}
-use Rattle.index_notation.specs.Statement.{IsAccess, IsNumbered, IsWellNamed}
+use Rattle.index_notation.specs.Statement.{IsAccess, IsNumberedWithSums, IsWellNamed}
 use Rattle.expr_terms.specs.Operands.{entries_of, list_or_none}
 use Rattle.expr_terms.specs.Told.{given_at, bound_at, bound_or_none, modes_of, modes_or_none}
 use Rattle.expr_terms.specs.declared.bound.Bound.{Bound}
@@ -153,7 +153,7 @@ module _ (a : Arithmetic) (has_minus signed : Bool) (s : Statement) (old new : F
           subst (λ (bs : List Bound). limit_of (bound_in bs mode) ≤ greatest_position_count) there.2
           ((kept_at n there.0 there.1).small mode)
 
-  module _ (numbered : IsNumbered s) (named : IsWellNamed s) where
+  module _ (numbered : IsNumberedWithSums s) (named : IsWellNamed s) where
     -- each access reads an operand that keeps to its order
     read_by : (j : ℕ) (access : Access) → slice_get s.accesses j ≡ Some access → IsReadBy entries bounds access
     read_by j access is = by access.tensor refl
@@ -194,7 +194,7 @@ module _ (a : Arithmetic) (has_minus signed : Bool) (s : Statement) (old new : F
         there.kept.bounded))
 
 -- a statement each of whose tensors but the result is read, over the operands that were read for it
-pub read_is_runnable : (a : Arithmetic) (has_minus signed : Bool) (s : Statement) → IsNumbered s → IsWellNamed s → EachIsRead s
+pub read_is_runnable : (a : Arithmetic) (has_minus signed : Bool) (s : Statement) → IsNumberedWithSums s → IsWellNamed s → EachIsRead s
     → (words : List (List ℕ)) (need : Bool) (formats : List (List FormatLevel))
     (files : List (ℕ × List ℕ)) (given : List (Option ℕ)) → Binds s words need formats files given
     → (old new : FolderState) (paths : List (List ℕ)) (count : ℕ) (entries : List Entries) (bounds : List (Vec Bound Global))

@@ -4,7 +4,7 @@ use Rattle.std.specs.Prelude.{length, Some, All, option_to_list, slice_get, slic
 use Rattle.std.proofs.Common.{ap, subst, sym, ◌∙◌, arith}
 use Rattle.std.proofs.lemmas.Bool.{eq-eqb}
 use Rattle.tensor_map.specs.Entries.{Entries}
-use Rattle.index_notation.specs.Statement.{IsAccess, IsNumbered, IsWellNamed, numbers_from}
+use Rattle.index_notation.specs.Statement.{IsAccess, IsNumberedWithSums, IsWellNamed, numbers_from}
 use Rattle.lists.specs.Each.{Each}
 use Rattle.index_notation.specs.declared.syntax.Access.{Access}
 use Rattle.index_notation.specs.declared.syntax.Statement.{Statement}
@@ -195,7 +195,7 @@ ranges_same f g tensors count same tensor mode (access ∷ accesses) each =
     λ i. if nat_eq access.tensor tensor then (there i ++ rest i) else rest i
 
 -- only the ranges of the statement's variables count
-pub mode_size_same : (s : Statement) → IsNumbered s → (f g : ℕ → ℕ) → ((v : ℕ) → v < length s.vars → f v ≡ g v) → (tensor mode : ℕ)
+pub mode_size_same : (s : Statement) → IsNumberedWithSums s → (f g : ℕ → ℕ) → ((v : ℕ) → v < length s.vars → f v ≡ g v) → (tensor mode : ℕ)
     → mode_size s f tensor mode ≡ mode_size s g tensor mode
 mode_size_same s numbered f g same tensor mode =
     ap greatest_of (ranges_same f g (length s.tensors) (length s.vars) same tensor mode (s.left
@@ -205,7 +205,7 @@ sizes_same_from : (f g : ℕ → ℕ) → ((mode : ℕ) → f mode ≡ g mode) �
 sizes_same_from f g same [] = refl
 sizes_same_from f g same (m ∷ ms) = λ i. same m i ∷ sizes_same_from f g same ms i
 
-pub mode_sizes_same : (s : Statement) → IsNumbered s → (f g : ℕ → ℕ) → ((v : ℕ) → v < length s.vars → f v ≡ g v) → (tensor order : ℕ)
-    → mode_sizes s f tensor order ≡ mode_sizes s g tensor order
+pub mode_sizes_same : (s : Statement) → IsNumberedWithSums s → (f g : ℕ → ℕ) → ((v : ℕ) → v < length s.vars → f v ≡ g v)
+    → (tensor order : ℕ) → mode_sizes s f tensor order ≡ mode_sizes s g tensor order
 mode_sizes_same s numbered f g same tensor order =
     sizes_same_from (mode_size s f tensor) (mode_size s g tensor) (mode_size_same s numbered f g same tensor) (numbers_from 0 order)

@@ -4,7 +4,7 @@ use Rattle.std.specs.Prelude.{None, Some, length, map, All, slice_get, slice_ind
 use Rattle.limits.specs.Limits.{greatest_position_count}
 use Rattle.tensor_map.specs.Entries.{Entries}
 use Rattle.lists.specs.Each.{Each}
-use Rattle.index_notation.specs.Statement.{IsNumbered, IsWellNamed, numbers_from}
+use Rattle.index_notation.specs.Statement.{IsNumberedWithSums, IsWellNamed, numbers_from}
 use Rattle.index_notation.specs.declared.syntax.Access.{Access}
 use Rattle.index_notation.specs.declared.syntax.Statement.{Statement}
 use Rattle.iteration_graph.specs.Edges.{HasFormat}
@@ -42,7 +42,7 @@ pub record IsRead (accesses : List Access) (tensor : ℕ) : Type 0 where
 
 -- each tensor of a statement has a format of its order, and there is an operand for each but the result, which some access reads
 pub record AreOperands (s : Statement) (formats : List (List FormatLevel)) (operands : List Entries) : Type 0 where
-  pub numbered : IsNumbered s
+  pub numbered : IsNumberedWithSums s
   pub named : IsWellNamed s
   pub many : length operands + 1 ≡ length s.tensors
   pub formats_many : length formats ≡ length s.tensors

@@ -51,9 +51,10 @@ pub(crate) fn tell_numbered(answer: &mut Answer, text: &str) -> Option<()> {
     }
     let tensors = names_of(answer, *tensors);
     let vars = names_of(answer, *vars);
-    let statement = Statement::new(tensors, vars, left, false, accesses, expr);
+    let sums = Items::new(answer.alloc());
+    let statement = Statement::new(tensors, vars, left, false, accesses, sums, expr);
     answer.tell("numbered ");
-    answer.show(&statement.is_numbered());
+    answer.show(&statement.is_numbered_with_sums());
     answer.tell(", well named ");
     answer.show(&statement.is_well_named());
     Some(())

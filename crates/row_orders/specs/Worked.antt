@@ -35,6 +35,7 @@ vector_sum = record {
   left = access 0 (0 ∷ []);
   accumulate = false;
   accesses = access 1 (0 ∷ []) ∷ access 2 (0 ∷ []) ∷ [];
+  sums = [];
   expr = Binary op.Add (AccessOf 0) (AccessOf 1);
 }
 
@@ -46,6 +47,7 @@ matrix_times_vector = record {
   left = access 0 (0 ∷ []);
   accumulate = false;
   accesses = access 1 (0 ∷ 1 ∷ []) ∷ access 2 (1 ∷ []) ∷ [];
+  sums = [];
   expr = Binary op.Mul (AccessOf 0) (AccessOf 1);
 }
 
@@ -57,6 +59,7 @@ matrix_product second = record {
   left = access 0 (0 ∷ 1 ∷ []);
   accumulate = false;
   accesses = access 1 (0 ∷ 2 ∷ []) ∷ access 2 second ∷ [];
+  sums = [];
   expr = Binary op.Mul (AccessOf 0) (AccessOf 1);
 }
 
@@ -68,5 +71,6 @@ vector_and_columns = record {
   left = access 0 (0 ∷ []);
   accumulate = false;
   accesses = access 1 (0 ∷ []) ∷ access 2 (1 ∷ 0 ∷ []) ∷ [];
+  sums = [];
   expr = Binary op.Add (AccessOf 0) (AccessOf 1);
 }

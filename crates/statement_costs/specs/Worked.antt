@@ -33,6 +33,7 @@ product = record {
   left = access 0 (0 ∷ []);
   accumulate = false;
   accesses = access 1 (0 ∷ 1 ∷ []) ∷ access 2 (1 ∷ []) ∷ [];
+  sums = [];
   expr = Binary op.Mul (AccessOf 0) (AccessOf 1);
 }
 
@@ -76,6 +77,7 @@ sum = record {
   left = access 0 (0 ∷ []);
   accumulate = false;
   accesses = access 1 (0 ∷ []) ∷ access 2 (0 ∷ []) ∷ [];
+  sums = [];
   expr = Binary op.Add (AccessOf 0) (AccessOf 1);
 }
 

@@ -1,19 +1,20 @@
 -- What words ask for can be compiled: the statement is well named, and each tensor has a format of its order.
-use Rattle.std.specs.Prelude.{◌≡◌, ℕ, Bool, true, false, ◌||◌, if◌then◌else◌, List, length, refl}
+use Rattle.std.specs.Prelude.{◌≡◌, ℕ, Bool, true, false, ◌||◌, if◌then◌else◌, List, [], length, refl}
 use Rattle.std.proofs.Common.{◌∙◌, sym, ap₂, subst}
 use Rattle.lists.specs.Each.{Each}
 use Rattle.format_spec.specs.declared.format.FormatLevel.{FormatLevel}
 use Rattle.index_notation.specs.declared.syntax.Expr.{Expr, Num, Access as AccessOf, Binary', Neg', Row_of-Expr, end_of-Expr, more_of-Expr}
 use Rattle.index_notation.specs.declared.syntax.Statement.{Statement}
 use Rattle.index_notation.specs.Operators.{is_minus}
-use Rattle.index_notation.specs.Statement.{IsNumbered, IsWellNamed}
+use Rattle.index_notation.specs.Statement.{IsNumberedWithSums, IsWellNamed}
 use Rattle.iteration_graph.specs.Edges.{HasFormat}
 use Rattle.expr_terms.specs.Expanded.{moved, moved_in, with_old}
 use Rattle.expr_terms.specs.Minus.{HasMeaning, has_minus, has_minus_in}
-use Rattle.expr_terms.proofs.ExpandLaws.{expanded_named}
+use Rattle.expr_terms.proofs.ExpandLaws.{expanded_named, expanded_plain}
 use Rattle.expr_terms.proofs.Meanings.{has_minus_binary}
 use Rattle.index_notation.specs.declared.operator.Operator.TheVariants as op
 use Rattle.expr_terms.proofs.WellNamed.{notation_well_named}
+use Rattle.notation_reader.proofs.TreeNumbers.{notation_is_plain}
 use Rattle.operand_packing.proofs.FormatsBound.{formats_fit}
 use Rattle.taco_top.specs.Values.{values_of}
 use Rattle.taco_top.specs.Asked.{needs_files}
@@ -47,8 +48,13 @@ module _ (words : List (List ℕ)) (r : Request) (asks : AsksFor words r) where
   well_named = subst IsWellNamed (sym asks.names.stands_for)
       (expanded_named asks.names.written (notation_well_named asks.names.text asks.names.written asks.names.notation asks.names.names))
 
+  -- no text has nested sums
+  pub is_plain : r.statement.sums ≡ []
+  is_plain = subst (λ s. s.sums ≡ []) (sym asks.names.stands_for)
+      (expanded_plain asks.names.written (notation_is_plain asks.names.text asks.names.written asks.names.notation))
+
   -- the formats that were handed in are those of the request
-  module _ (numbered : IsNumbered r.statement) (formats : List (List FormatLevel)) (formats_are : formats ≡ r.formats) where
+  module _ (numbered : IsNumberedWithSums r.statement) (formats : List (List FormatLevel)) (formats_are : formats ≡ r.formats) where
     fit : HasFormat r.formats r.statement.left × Each (HasFormat r.formats) r.statement.accesses
     fit = formats_fit r.statement asks.rest (needs_files r.task) r.formats r.files r.given asks.binds numbered well_named
 

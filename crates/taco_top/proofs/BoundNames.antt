@@ -2,7 +2,7 @@
 use Rattle.std.specs.Prelude.{◌≡◌, ℕ, true, List, map, Result, Ok, Err, IsErrAnd, MatchResult}
 use Rattle.std.proofs.Common.{sym, subst}
 use Rattle.index_notation.specs.Notation.{IsNotationOf}
-use Rattle.index_notation.specs.Statement.{IsNumbered}
+use Rattle.index_notation.specs.Statement.{IsNumberedWithSums}
 use Rattle.index_notation.specs.declared.syntax.Statement.{Statement}
 use Rattle.command_line.specs.declared.Over.{Over}
 use Rattle.command_line.specs.declared.Task.{Task}
@@ -19,14 +19,14 @@ use Rattle.taco_top.specs.declared.asked.Execution.{Execution}
 use Rattle.taco_top.specs.declared.asked.Asked.{Asked}
 
 module _ (words : List (List ℕ)) (task : Task) (over : Over) (s : Statement) (rest : List (List ℕ)) (names : Names words task over s rest)
-    (numbered : IsNumbered s) where
+    (numbered : IsNumberedWithSums s) where
   abbrev IsBound : Asked → Type 0
   IsBound asked = (asked.task ≡ task) × (asked.over ≡ over) × (asked.statement ≡ s)
       × Binds s rest (needs_files task) asked.bindings.formats.items (map file_in asked.bindings.files.entries) asked.bindings.ranges.items
 
   abbrev IsFor : Asked → Type 0
   IsFor asked = Asks words asked.task asked.over asked.statement asked.bindings.formats.items
-      (map file_in asked.bindings.files.entries) asked.bindings.ranges.items × IsNumbered asked.statement
+      (map file_in asked.bindings.files.entries) asked.bindings.ranges.items × IsNumberedWithSums asked.statement
 
   bound : (asked : Asked) → IsBound asked → IsFor asked
   bound asked (task_is, over_is, statement_is, binds) = (
@@ -36,7 +36,7 @@ module _ (words : List (List ℕ)) (task : Task) (over : Over) (s : Statement) (
         asked.bindings.ranges.items) (sym over_is)
         (subst (λ u. Asks words task over u asked.bindings.formats.items (map file_in asked.bindings.files.entries)
         asked.bindings.ranges.items) (sym statement_is) (record { rest = rest; names = names; binds = binds }))),
-    subst IsNumbered (sym statement_is) numbered,
+    subst IsNumberedWithSums (sym statement_is) numbered,
   )
 
   unbound : (why : Fault) → IsBindingRefused s rest (needs_files task) why → IsRefusedByWords words why
@@ -94,13 +94,13 @@ minus_refused P words task over text rest s (Err other) why line notation names 
 -- ---- the same of a kernel that is given
 
 module _ (words : List (List ℕ)) (path : List ℕ) (budget : ℕ) (s : Statement) (rest : List (List ℕ))
-    (exec_names : ExecNames words path budget s rest) (numbered : IsNumbered s) where
+    (exec_names : ExecNames words path budget s rest) (numbered : IsNumberedWithSums s) where
   abbrev IsExecBound : Execution → Type 0
   IsExecBound e = (e.path.now ≡ path) × (e.budget ≡ budget) × (e.statement ≡ s)
       × Binds s rest true e.bindings.formats.items (map file_in e.bindings.files.entries) e.bindings.ranges.items
 
   abbrev IsExecFor : Execution → Type 0
-  IsExecFor e = AsksExec words (exec_request e) × IsNumbered e.statement
+  IsExecFor e = AsksExec words (exec_request e) × IsNumberedWithSums e.statement
 
   -- with the path, the turns and the statement that are kept
   abbrev kept_request : List ℕ → ℕ → Statement → Execution → ExecRequest
@@ -119,7 +119,7 @@ module _ (words : List (List ℕ)) (path : List ℕ) (budget : ℕ) (s : Stateme
         (subst (λ n. AsksExec words (kept_request path n e.statement e)) (sym budget_is)
         (subst (λ u. AsksExec words (kept_request path budget u e)) (sym statement_is)
         (record { rest = rest; names = exec_names; binds = binds }))),
-    subst IsNumbered (sym statement_is) numbered,
+    subst IsNumberedWithSums (sym statement_is) numbered,
   )
 
   exec_unbound : (why : Fault) → IsBindingRefused s rest true why → IsExecRefused words why

@@ -10,7 +10,7 @@ use Rattle.outside.specs.Sink.{SinkState}
 use Rattle.tensor_map.specs.Coords.{IsShape}
 use Rattle.tensor_map.specs.Entries.{AreEntries, Entries, value_at}
 use Rattle.format_spec.specs.declared.format.FormatLevel.{FormatLevel}
-use Rattle.index_notation.specs.Statement.{IsNumbered, IsWellNamed}
+use Rattle.index_notation.specs.Statement.{IsNumberedWithSums, IsWellNamed}
 use Rattle.expr_terms.specs.declared.bound.Bound.{Bound}
 use Rattle.expr_terms.proofs.ExpandLaws.{expanded_named}
 use Rattle.expr_terms.proofs.WellNamed.{notation_well_named}
@@ -61,14 +61,14 @@ module _ (words : List (List ℕ)) (r : ExecRequest) (asks : AsksExec words r) w
   well_named : IsWellNamed r.statement
   well_named = subst IsWellNamed (sym names.stands_for) (expanded_named names.written written)
 
-  readable_paths : IsNumbered r.statement → AreReadable (exec_orders r) (exec_paths r)
+  readable_paths : IsNumberedWithSums r.statement → AreReadable (exec_orders r) (exec_paths r)
   readable_paths numbered =
       paths_readable r.statement asks.rest true refl r.formats r.files r.given asks.binds numbered
       (text_keeps_orders names.text names.written r.statement names.notation written.result names.stands_for)
 
   -- as they were handed in
   module _ (orders : List ℕ) (paths : List (List ℕ)) (orders_are : orders ≡ exec_orders r) (paths_are : paths ≡ exec_paths r) where
-    pub exec_readable : IsNumbered r.statement → AreReadable orders paths
+    pub exec_readable : IsNumberedWithSums r.statement → AreReadable orders paths
     exec_readable numbered =
         subst (λ os. AreReadable os paths) (sym orders_are)
         (subst (λ ps. AreReadable (exec_orders r) ps) (sym paths_are) (readable_paths numbered))
@@ -76,7 +76,7 @@ module _ (words : List (List ℕ)) (r : ExecRequest) (asks : AsksExec words r) w
   -- the kernel's run can begin on the operands that were read
   pub exec_runnable : (over : Values) (old new : FolderState) (entries : List Entries) (bounds : List (Vec Bound Global))
       → HaveRead (means over) old new (exec_orders r) (exec_paths r) (length (exec_paths r)) entries (map (λ b. b.items) bounds)
-      → IsNumbered r.statement → IsRunnable r.statement r.formats r.given entries bounds
+      → IsNumberedWithSums r.statement → IsRunnable r.statement r.formats r.given entries bounds
   exec_runnable over old new entries bounds read numbered =
       read_is_runnable over.arithmetic over.has_minus over.is_signed r.statement numbered well_named
       (text_read names.text names.written r.statement names.notation names.stands_for) asks.rest true r.formats r.files r.given asks.binds
@@ -244,7 +244,7 @@ module _ (words : List (List ℕ)) (old new : FolderState) (r : ExecRequest) (ke
     as_run P h = subst (λ v. P v r.formats r.given) (sym over_is)
         (subst (λ fs. P over fs r.given) formats_are (subst (P over formats) given_are h))
 
-    pub handed_runnable : IsNumbered r.statement → IsRunnable r.statement formats given_ranges entries bounds
+    pub handed_runnable : IsNumberedWithSums r.statement → IsRunnable r.statement formats given_ranges entries bounds
     handed_runnable numbered =
         subst (λ fs. IsRunnable r.statement fs given_ranges entries bounds) (sym formats_are)
         (subst (λ gs. IsRunnable r.statement r.formats gs entries bounds) (sym given_are)
@@ -255,7 +255,7 @@ module _ (words : List (List ℕ)) (old new : FolderState) (r : ExecRequest) (ke
     no_run why is =
         stops_at_run why (as_run (λ v fs gs. MayRefuseGiven v.arithmetic r.statement fs kernel gs entries bounds r.budget why) is)
 
-    pub runs_ready : (kept : Ready) → path_to kept.file ≡ path_of r.files 0 → IsNumbered r.statement
+    pub runs_ready : (kept : Ready) → path_to kept.file ≡ path_of r.files 0 → IsNumberedWithSums r.statement
         → IsGivenRun over.arithmetic r.statement formats kernel given_ranges entries bounds r.budget kept.result.shape kept.result.entries
         kept.result.tensor kept.result.turns
         → AreEntries kept.result.entries → IsReady over words old new kept

@@ -1,9 +1,11 @@
 -- A statement is compiled as it is stored: in its loop order, or by the plan that mends its storage orders.
-use Rattle.std.specs.Prelude.{◌≡◌, ℕ, Bool, ◌⊎◌, List, length, Option, None, Some, IfSome, Ok, true, refl}
-use Rattle.std.proofs.Common.{sym, subst, inl, inr}
+use Rattle.std.specs.Prelude.{◌≡◌, ℕ, Bool, ◌⊎◌, List, [], length, Option, None, Some, IfSome, Ok, true, refl}
+use Rattle.std.proofs.Common.{◌∙◌, sym, subst, inl, inr}
 use Rattle.kernel_code.specs.Semirings.{semiring_of}
 use Rattle.expr_terms.specs.Minus.{HasMeaning}
+use Rattle.expr_terms.proofs.NestedLaws.{plain_numbered}
 use Rattle.format_spec.specs.declared.format.FormatLevel.{FormatLevel}
+use Rattle.index_notation.specs.Statement.{IsNumbered, IsNumberedWithSums}
 use Rattle.index_notation.specs.declared.syntax.Statement.{Statement}
 use Rattle.iteration_graph.specs.Edges.{statement_edges}
 use Rattle.iteration_graph.proofs.OrderLaws.{no_order}
@@ -89,6 +91,21 @@ module _ (r : Request) (formats : List (List FormatLevel)) (formats_are : format
       by : (needs_order r.task ≡ true) ⊎ (r.task ≡ task.Auto) → HasMeaning b (stored_statement r.statement plan).expr
       by (inl needed) = subst (λ p. HasMeaning b (stored_statement r.statement p).expr) (sym (unplanned needed)) meant
       by (inr mends) = of_plan plan (planned mends)
+
+  -- no nested sum stands in what is stored, where none stands in what is asked for
+  pub stored_numbered : needs_kernel r.task ≡ true → IsNumberedWithSums r.statement → r.statement.sums ≡ []
+      → IfSome plan (λ planned. CanBeCompiled planned.statement planned.formats) → IsNumbered (stored_statement r.statement plan)
+  stored_numbered needs numbered plain compiled = by (of_task r.task needs)
+    where
+      of_plan : (p : Option Planned) → PlanAnswers r.statement formats p
+          → IfSome p (λ planned. CanBeCompiled planned.statement planned.formats) → IsNumbered (stored_statement r.statement p)
+      of_plan None answers able = plain_numbered r.statement numbered plain
+      of_plan (Some planned) answers able = plain_numbered planned.statement able.numbered (answers.planned.sums ∙ plain)
+
+      by : (needs_order r.task ≡ true) ⊎ (r.task ≡ task.Auto) → IsNumbered (stored_statement r.statement plan)
+      by (inl needed) = subst (λ p. IsNumbered (stored_statement r.statement p)) (sym (unplanned needed))
+          (plain_numbered r.statement numbered plain)
+      by (inr mends) = of_plan plan (planned mends) compiled
 
   -- a cycle is told only where an order is needed
   pub cyclic : IfSome plan (λ planned. CanBeCompiled planned.statement planned.formats) → (cycle : List ℕ)

@@ -8,7 +8,7 @@ use Rattle.std.proofs.lemmas.List.FromFn.{length-map-range_with_len}
 use Rattle.format_spec.specs.declared.format.FormatLevel.{FormatLevel}
 use Rattle.index_notation.specs.declared.syntax.Statement.{Statement}
 use Rattle.index_notation.specs.Numbering.{place_of}
-use Rattle.index_notation.specs.Statement.{IsNumbered}
+use Rattle.index_notation.specs.Statement.{IsNumberedWithSums}
 use Rattle.bindings.specs.Words.{Said, SaysFormat, SaysFile, SaysRange, said_of}
 use Rattle.mtx_io.specs.Progress.{IsMatrixOrder}
 use Rattle.bindings.specs.Bindings.{first_in, path_in, order_in, order_of, or_later}
@@ -73,7 +73,7 @@ paths_long s files = length-map-range_with_len (operand_path s files) 1 (length 
 
 -- the paths that words bind may be read at the orders of their accesses
 pub paths_readable : (s : Statement) (words : List (List ℕ)) (need : Bool) → need ≡ true → (formats : List (List FormatLevel))
-    (files : List (ℕ × List ℕ)) (given : List (Option ℕ)) → Binds s words need formats files given → IsNumbered s → KeepOrders s
+    (files : List (ℕ × List ℕ)) (given : List (Option ℕ)) → Binds s words need formats files given → IsNumberedWithSums s → KeepOrders s
     → AreReadable (operand_orders s) (paths_of s files)
 paths_readable s words need needed formats files given binds numbered keep =
     files_readable s words need formats files given binds numbered keep (paths_of s files) (paths_long s files) (λ n path is.

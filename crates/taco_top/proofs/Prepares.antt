@@ -9,7 +9,7 @@ use Rattle.outside.specs.Folder.{FolderState}
 use Rattle.tensor_map.specs.Coords.{IsShape}
 use Rattle.tensor_map.specs.Entries.{AreEntries, Entries}
 use Rattle.index_notation.specs.declared.syntax.Statement.{Statement}
-use Rattle.index_notation.specs.Statement.{IsNumbered}
+use Rattle.index_notation.specs.Statement.{IsNumberedWithSums}
 use Rattle.expr_terms.specs.declared.bound.Bound.{Bound}
 use Rattle.bindings.specs.Tables.{path_to}
 use Rattle.mtx_io.specs.Progress.{IsMatrixOrder}
@@ -90,7 +90,7 @@ module _ (over : Values) where
       → IsKernelOf over (stored_statement r.statement plan) (stored_formats r.formats plan) kept.compiled.order kept.compiled.kernel
       → IsStoredRun over r.statement r.formats plan kept.compiled.kernel r.given entries bounds kept.result.shape kept.result.entries
       kept.result.tensor kept.result.turns
-      → AreEntries kept.result.entries → IsNumbered r.statement → IsPrepared over words r.task old new kept
+      → AreEntries kept.result.entries → IsNumberedWithSums r.statement → IsPrepared over words r.task old new kept
   prepared words old new r kept entries bounds plan is_plan path_is statement_is formats_are operands is_kernel is_run are numbered =
       let run = ran r plan kept.compiled.kernel entries bounds kept.result.shape kept.result.entries kept.result.tensor kept.result.turns
       is_run in

@@ -5,7 +5,7 @@ use Rattle.std.specs.declared.alloc.Global.{Global}
 use Rattle.outside.specs.Folder.{FolderState}
 use Rattle.tensor_map.specs.Entries.{Entries}
 use Rattle.format_spec.specs.declared.format.FormatLevel.{FormatLevel}
-use Rattle.index_notation.specs.Statement.{IsNumbered, IsWellNamed}
+use Rattle.index_notation.specs.Statement.{IsNumberedWithSums, IsWellNamed}
 use Rattle.expr_terms.specs.declared.bound.Bound.{Bound}
 use Rattle.expr_terms.proofs.WellNamed.{notation_well_named}
 use Rattle.operand_files.specs.Decoded.{AreReadable}
@@ -37,8 +37,8 @@ fault_of (operand.FileBytes path) = fault.FileBytes path
 fault_of (operand.BadFile path line kind) = fault.BadFile path line kind
 fault_of operand.Memory = fault.Memory
 
-pub request_readable : (words : List (List ℕ)) (r : Request) → needs_files r.task ≡ true → IsAccepted words r → IsNumbered r.statement
-    → AreReadable (asked_orders r) (asked_paths r)
+pub request_readable : (words : List (List ℕ)) (r : Request) → needs_files r.task ≡ true → IsAccepted words r
+    → IsNumberedWithSums r.statement → AreReadable (asked_orders r) (asked_paths r)
 request_readable words r reads accepted numbered =
     paths_readable r.statement accepted.asks.rest (needs_files r.task) reads r.formats r.files r.given accepted.asks.binds numbered
     (text_keeps_orders names.text names.written r.statement names.notation written.result names.stands_for)
@@ -53,7 +53,7 @@ module _ (over : Values) where
   -- the orders and paths that were handed in are those of the request
   module _ (words : List (List ℕ)) (old new : FolderState) (r : Request) (orders : List ℕ) (paths : List (List ℕ))
       (orders_are : orders ≡ asked_orders r) (paths_are : paths ≡ asked_paths r) (reads : needs_files r.task ≡ true) where
-    pub readable : IsAccepted words r → IsNumbered r.statement → AreReadable orders paths
+    pub readable : IsAccepted words r → IsNumberedWithSums r.statement → AreReadable orders paths
     readable accepted numbered =
         subst (λ os. AreReadable os paths) (sym orders_are)
         (subst (λ ps. AreReadable (asked_orders r) ps) (sym paths_are) (request_readable words r reads accepted numbered))
@@ -106,7 +106,7 @@ module _ (over : Values) where
 
   -- a statement can be computed over the operands that were read for it
   request_runnable : (words : List (List ℕ)) (old new : FolderState) (r : Request) (entries : List Entries)
-      (bounds : List (Vec Bound Global)) → HasOperands over words old new r entries bounds → IsNumbered r.statement
+      (bounds : List (Vec Bound Global)) → HasOperands over words old new r entries bounds → IsNumberedWithSums r.statement
       → IsRunnable r.statement r.formats r.given entries bounds
   request_runnable words old new r entries bounds operands numbered =
       let names = operands.accepted.asks.names in
@@ -127,7 +127,7 @@ module _ (over : Values) where
     as_asked P h = subst (P r.formats) given_are (subst (λ fs. P fs given) formats_are h)
 
     pub runnable : (words : List (List ℕ)) (old new : FolderState) → HasOperands over words old new r entries bounds
-        → IsNumbered r.statement
+        → IsNumberedWithSums r.statement
         → IsRunnable r.statement formats given entries bounds
     runnable words old new operands numbered =
         as_handed (λ fs gs. IsRunnable r.statement fs gs entries bounds)

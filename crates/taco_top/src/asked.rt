@@ -1,6 +1,6 @@
 ghost use Rattle.std.specs.Prelude.{◌≡◌, ℕ, Bool, true, List, Some, None, map, string_bytes, IfOk, IfErr, OnOk, MatchResult, IsTrue};
 ghost use Rattle.index_notation.specs.Notation.{IsNotationOf};
-ghost use Rattle.index_notation.specs.Statement.{IsNumbered};
+ghost use Rattle.index_notation.specs.Statement.{IsNumberedWithSums};
 ghost use Rattle.command_line.specs.CommandLine.{command_line_of};
 ghost use Rattle.command_line.specs.Told.{told};
 ghost use Rattle.bindings.specs.Tables.{file_in};
@@ -78,7 +78,7 @@ fn reads_files(task: Task) -> bool
 
 /// The statement of a text, as the program's faults tell what it isn't.
 fn read_statement<'a>(alloc: Global, text: &str) -> Result<Statement, Fault<'a>>
-    ensures statement { IfOk result (λ s. IsNotationOf text.now s × IsNumbered s) }
+    ensures statement { IfOk result (λ s. IsNotationOf text.now s × IsNumberedWithSums s) }
     ensures refused { IfErr result (IsTextRefused text.now) }
 {
     match parse(alloc, text) {
@@ -131,7 +131,7 @@ fn bind_names<'a>(
     statement: Statement,
     words: &[&'a str],
 ) -> Result<Asked<'a>, Fault<'a>>
-    requires { IsNumbered statement }
+    requires { IsNumberedWithSums statement }
     ensures { MatchResult result
         (λ asked. (asked.task ≡ task) × (asked.over ≡ over) × (asked.statement ≡ statement)
         × Binds statement (texts_in words.now) (needs_files task)
@@ -167,7 +167,8 @@ fn ask_statement<'a>(
 ) -> Result<Asked<'a>, Fault<'a>>
     ensures { (all : List (List ℕ)) → AsksOf all task over text.now (texts_in words.now)
         → MatchResult result (λ asked. Asks all asked.task asked.over asked.statement asked.bindings.formats.items
-        (map file_in asked.bindings.files.entries) asked.bindings.ranges.items × IsNumbered asked.statement) (IsRefusedByWords all) }
+        (map file_in asked.bindings.files.entries) asked.bindings.ranges.items × IsNumberedWithSums asked.statement)
+        (IsRefusedByWords all) }
 {
     let statement = read_statement(alloc, text)?;
     match check_names(&statement) {
@@ -187,7 +188,7 @@ fn bind_execution<'a>(
     statement: Statement,
     words: &[&'a str],
 ) -> Result<Execution<'a>, Fault<'a>>
-    requires { IsNumbered statement }
+    requires { IsNumberedWithSums statement }
     ensures { MatchResult result
         (λ e. (e.path.now ≡ path.entry.now) × (e.budget ≡ budget) × (e.statement ≡ statement)
         × Binds statement (texts_in words.now) true
@@ -215,7 +216,7 @@ fn ask_execution<'a>(
     words: &[&'a str],
 ) -> Result<Execution<'a>, Fault<'a>>
     ensures { (all : List (List ℕ)) → AsksExecOf all path.entry.now budget text.now (texts_in words.now)
-        → MatchResult result (λ e. AsksExec all (exec_request e) × IsNumbered e.statement) (IsExecRefused all) }
+        → MatchResult result (λ e. AsksExec all (exec_request e) × IsNumberedWithSums e.statement) (IsExecRefused all) }
 {
     let statement = read_statement(alloc, text)?;
     match check_names(&statement) {

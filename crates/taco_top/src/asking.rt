@@ -4,7 +4,7 @@ ghost use Rattle.lists.specs.Each.{Each};
 ghost use Rattle.kernel_code.specs.Semirings.{semiring_of};
 ghost use Rattle.expr_terms.specs.Minus.{HasMeaning};
 ghost use Rattle.taco_top.specs.Values.{semiring, values_of};
-ghost use Rattle.index_notation.specs.Statement.{IsNumbered, IsWellNamed};
+ghost use Rattle.index_notation.specs.Statement.{IsNumbered, IsNumberedWithSums, IsWellNamed};
 ghost use Rattle.iteration_graph.specs.Edges.{HasFormat};
 ghost use Rattle.mode_planner.specs.Planned.{Answers as PlanAnswers, CanBeCompiled};
 ghost use Rattle.outside.specs.Folder.{FolderState};
@@ -42,7 +42,7 @@ fn mended(
     statement: &Statement,
     formats: &[Format],
 ) -> Result<Option<Planned>, AllocError>
-    requires numbered { IsNumbered statement.now }
+    requires numbered { IsNumberedWithSums statement.now }
     requires named { IsWellNamed statement.now }
     requires left { HasFormat formats.now statement.now.left }
     requires right { Each (HasFormat formats.now) statement.now.accesses }
@@ -63,7 +63,7 @@ fn compile_stored<S: Semiring>(
     formats: &[Format],
     plan: &Option<Planned>,
 ) -> Result<Compiled, CompileFault>
-    requires numbered { IsNumbered statement.now }
+    requires numbered { IsNumbered (stored_statement statement.now plan.now) }
     requires named { IsWellNamed statement.now }
     requires left { HasFormat formats.now statement.now.left }
     requires right { Each (HasFormat formats.now) statement.now.accesses }
@@ -85,7 +85,7 @@ pub(crate) fn accept<'a, S: Semiring>(
 ) -> Result<Accepted<'a>, Fault<'a>>
     requires asked { (words : List (List ℕ)) × AsksFor words (request_of asked) }
     requires over { values_of asked.over ≡ semiring S.arithmetic S.has_minus S.is_ring S.is_signed S.name }
-    requires numbered { IsNumbered asked.statement }
+    requires numbered { IsNumberedWithSums asked.statement }
     requires needs { needs_kernel asked.task ≡ true }
     ensures accepted { IfOk result (λ accepted. (words : List (List ℕ)) → AsksFor words (request_of asked.entry)
         → IsAccepted words (request_of accepted.asked)) }
@@ -95,7 +95,7 @@ pub(crate) fn accept<'a, S: Semiring>(
         (stored_statement accepted.asked.statement accepted.plan)
         (stored_formats accepted.asked.bindings.formats.items accepted.plan) accepted.compiled.order accepted.compiled.kernel) }
     ensures task { IfOk result (λ accepted. accepted.asked.task ≡ asked.entry.task) }
-    ensures numbered { IfOk result (λ accepted. IsNumbered accepted.asked.statement) }
+    ensures numbered { IfOk result (λ accepted. IsNumberedWithSums accepted.asked.statement) }
     ensures refused { IfErr result (λ fault. (words : List (List ℕ)) → AsksFor words (request_of asked.entry) → (files : FolderState)
         → Stops (semiring S.arithmetic S.has_minus S.is_ring S.is_signed S.name) words files files fault) }
 {

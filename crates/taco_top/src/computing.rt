@@ -8,7 +8,7 @@ ghost use Rattle.operand_packing.specs.Runnable.{IsRunnable};
 ghost use Rattle.tensor_map.specs.Entries.{AreEntries, Entries};
 ghost use Rattle.kernel_code.specs.declared.syntax.Kernel.{Kernel as AKernel};
 ghost use Rattle.format_spec.specs.declared.format.FormatLevel.{FormatLevel};
-ghost use Rattle.index_notation.specs.Statement.{IsNumbered};
+ghost use Rattle.index_notation.specs.Statement.{IsNumberedWithSums};
 ghost use Rattle.expr_terms.specs.declared.bound.Bound.{Bound};
 ghost use Rattle.operand_files.specs.Reads.{OnlyReads};
 ghost use Rattle.taco_top.specs.Asked.{needs_files};
@@ -113,7 +113,7 @@ pub(crate) fn compute<'a, S: Semiring, F: Folder>(
     requires kernel { IsKernelOf (semiring S.arithmetic S.has_minus S.is_ring S.is_signed S.name)
         (stored_statement accepted.asked.statement accepted.plan)
         (stored_formats accepted.asked.bindings.formats.items accepted.plan) accepted.compiled.order accepted.compiled.kernel }
-    requires numbered { IsNumbered accepted.asked.statement }
+    requires numbered { IsNumberedWithSums accepted.asked.statement }
     requires reads { needs_files accepted.asked.task ≡ true }
     ensures only_reads { OnlyReads (F.state files.old) (F.state files.new) }
     ensures computed { IfOk result (λ computed. (words : List (List ℕ)) → IsAccepted words (request_of accepted.entry.asked)

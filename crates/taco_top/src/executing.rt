@@ -1,6 +1,6 @@
 //! The run of a kernel that is given in a file.
 ghost use Rattle.std.specs.Prelude.{◌≡◌, ℕ, List, IfErr, IfOk};
-ghost use Rattle.index_notation.specs.Statement.{IsNumbered};
+ghost use Rattle.index_notation.specs.Statement.{IsNumberedWithSums};
 ghost use Rattle.outside.specs.Folder.{FolderState};
 ghost use Rattle.operand_files.specs.Reads.{OnlyReads};
 ghost use Rattle.taco_top.specs.Exec.{AsksExec, exec_request};
@@ -89,7 +89,7 @@ fn read_inputs<'a, S: Semiring, F: Folder>(
     files: &mut F,
 ) -> Result<Operands, Fault<'a>>
     requires asked { (words : List (List ℕ)) × AsksExec words (exec_request execution.now) }
-    requires numbered { IsNumbered execution.now.statement }
+    requires numbered { IsNumberedWithSums execution.now.statement }
     requires over { kernel_values kernel.now ≡ semiring S.arithmetic S.has_minus S.is_ring S.is_signed S.name }
     ensures only_reads { OnlyReads (F.state files.old) (F.state files.new) }
     ensures read { IfOk result (λ operands. (words : List (List ℕ)) (before : FolderState) → AsksExec words (exec_request execution.now)
@@ -140,7 +140,7 @@ fn run_kernel<'a, S: Semiring, F: Folder>(
     files: &mut F,
 ) -> Result<Ready<'a>, Fault<'a>>
     requires asked { (words : List (List ℕ)) × AsksExec words (exec_request execution) }
-    requires numbered { IsNumbered execution.statement }
+    requires numbered { IsNumberedWithSums execution.statement }
     requires over { kernel_values kernel.now ≡ semiring S.arithmetic S.has_minus S.is_ring S.is_signed S.name }
     requires read { (before : FolderState) × HasKernel execution.path.now before (F.state files.old) kernel.now }
     ensures only_reads { OnlyReads (F.state files.old) (F.state files.new) }
@@ -211,7 +211,7 @@ fn execute_over<'a, S: Semiring, F: Folder, O: Sink>(
     out: &mut O,
 ) -> Result<Done, Fault<'a>>
     requires asked { (words : List (List ℕ)) × AsksExec words (exec_request execution) }
-    requires numbered { IsNumbered execution.statement }
+    requires numbered { IsNumberedWithSums execution.statement }
     requires over { kernel_values kernel.now ≡ semiring S.arithmetic S.has_minus S.is_ring S.is_signed S.name }
     requires read { (before : FolderState) × HasKernel execution.path.now before (F.state files.old) kernel.now }
     ensures { (words : List (List ℕ)) (before : FolderState) → AsksExec words (exec_request execution.entry)
@@ -232,7 +232,7 @@ pub(crate) fn execute<'a, F: Folder, O: Sink>(
     out: &mut O,
 ) -> Result<Done, Fault<'a>>
     requires asked { (words : List (List ℕ)) × AsksExec words (exec_request execution) }
-    requires numbered { IsNumbered execution.statement }
+    requires numbered { IsNumberedWithSums execution.statement }
     ensures { (words : List (List ℕ)) → AsksExec words (exec_request execution.entry)
         → EndsExec words (F.state files.old) (F.state files.new) (O.state out.old) (O.state out.new) result }
 {

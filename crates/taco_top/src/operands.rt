@@ -1,6 +1,6 @@
 //! The operands of what the words ask for, from their files.
 ghost use Rattle.std.specs.Prelude.{◌≡◌, ℕ, List, map, true, IfOk, IfErr};
-ghost use Rattle.index_notation.specs.Statement.{IsNumbered};
+ghost use Rattle.index_notation.specs.Statement.{IsNumberedWithSums};
 ghost use Rattle.bindings.specs.Tables.{file_in, path_to, paths_in};
 ghost use Rattle.operand_files.specs.Reads.{OnlyReads};
 ghost use Rattle.taco_top.specs.Asked.{needs_files};
@@ -74,7 +74,7 @@ pub(crate) fn operands_of<'a, S: Semiring, F: Folder>(
     files: &mut F,
 ) -> Result<Operands, Fault<'a>>
     requires accepted { (words : List (List ℕ)) × IsAccepted words (request_of asked.now) }
-    requires numbered { IsNumbered asked.now.statement }
+    requires numbered { IsNumberedWithSums asked.now.statement }
     requires reads { needs_files asked.now.task ≡ true }
     ensures only_reads { OnlyReads (F.state files.old) (F.state files.new) }
     ensures read { IfOk result (λ operands. (words : List (List ℕ)) → IsAccepted words (request_of asked.now)

@@ -1,7 +1,7 @@
 //! The texts of the commands that write no file.
 ghost use Rattle.std.specs.Prelude.{◌≡◌, ◌≤◌, ℕ, List, Some};
 ghost use Rattle.limits.specs.Limits.{greatest_workload};
-ghost use Rattle.index_notation.specs.Statement.{IsNumbered};
+ghost use Rattle.index_notation.specs.Statement.{IsNumberedWithSums};
 ghost use Rattle.outside.specs.Folder.{FolderState};
 ghost use Rattle.command_line.specs.CommandLine.{Workload as WorkloadLine, command_line_of};
 ghost use Rattle.command_line.specs.declared.Task.TheVariants as task;
@@ -80,7 +80,7 @@ pub(crate) fn tell_plan<'a, O: Sink>(
     asked: &Asked<'a>,
 ) -> Result<Done, Fault<'a>>
     requires asked { (words : List (List ℕ)) × AsksFor words (request_of asked.now) }
-    requires numbered { IsNumbered asked.now.statement }
+    requires numbered { IsNumberedWithSums asked.now.statement }
     requires task { asked.now.task ≡ task.Plan }
     ensures { (over : Values) (words : List (List ℕ)) (files : FolderState) → AsksFor words (request_of asked.now)
         → Cause over words files files (O.state out.old) (O.state out.new) (end_of result) }

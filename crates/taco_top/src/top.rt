@@ -1,7 +1,7 @@
 //! The top call.
 ghost use Rattle.std.specs.Prelude.{◌≡◌, ◌⊎◌, ℕ, List, map, string_bytes, true};
 ghost use Rattle.command_line.specs.declared.Task.TheVariants as task;
-ghost use Rattle.index_notation.specs.Statement.{IsNumbered};
+ghost use Rattle.index_notation.specs.Statement.{IsNumberedWithSums};
 ghost use Rattle.outside.specs.Folder.{FolderState};
 ghost use Rattle.refusals.specs.Lines.{status_of, line_of};
 ghost use Rattle.taco_top.specs.Asked.{writes_result};
@@ -35,7 +35,7 @@ fn run<'a, S: Semiring, F: Folder, O: Sink>(
 ) -> Result<Done, Fault<'a>>
     requires asked { (words : List (List ℕ)) × AsksFor words (request_of asked) }
     requires over { values_of asked.over ≡ semiring S.arithmetic S.has_minus S.is_ring S.is_signed S.name }
-    requires numbered { IsNumbered asked.statement }
+    requires numbered { IsNumberedWithSums asked.statement }
     requires task { writes_result asked.task ≡ true }
     ensures { (words : List (List ℕ)) → AsksFor words (request_of asked.entry)
         → Cause (semiring S.arithmetic S.has_minus S.is_ring S.is_signed S.name) words (F.state files.old) (F.state files.new)
@@ -59,7 +59,7 @@ fn kernel<'a, S: Semiring, O: Sink>(
 ) -> Result<Done, Fault<'a>>
     requires asked { (words : List (List ℕ)) × AsksFor words (request_of asked) }
     requires over { values_of asked.over ≡ semiring S.arithmetic S.has_minus S.is_ring S.is_signed S.name }
-    requires numbered { IsNumbered asked.statement }
+    requires numbered { IsNumberedWithSums asked.statement }
     requires task { asked.task ≡ task.Kernel }
     ensures { (words : List (List ℕ)) (files : FolderState) → AsksFor words (request_of asked.entry)
         → Cause (semiring S.arithmetic S.has_minus S.is_ring S.is_signed S.name) words files files (O.state out.old) (O.state out.new)
@@ -80,7 +80,7 @@ fn report<'a, S: Semiring, F: Folder, O: Sink>(
 ) -> Result<Done, Fault<'a>>
     requires asked { (words : List (List ℕ)) × AsksFor words (request_of asked) }
     requires over { values_of asked.over ≡ semiring S.arithmetic S.has_minus S.is_ring S.is_signed S.name }
-    requires numbered { IsNumbered asked.statement }
+    requires numbered { IsNumberedWithSums asked.statement }
     requires task { asked.task ≡ task.Report }
     ensures { (words : List (List ℕ)) → AsksFor words (request_of asked.entry)
         → Cause (semiring S.arithmetic S.has_minus S.is_ring S.is_signed S.name) words (F.state files.old) (F.state files.new)
@@ -105,7 +105,7 @@ fn answer_over<'a, S: Semiring, F: Folder, O: Sink>(
 ) -> Result<Done, Fault<'a>>
     requires asked { (words : List (List ℕ)) × AsksFor words (request_of asked) }
     requires over { values_of asked.over ≡ semiring S.arithmetic S.has_minus S.is_ring S.is_signed S.name }
-    requires numbered { IsNumbered asked.statement }
+    requires numbered { IsNumberedWithSums asked.statement }
     ensures { (words : List (List ℕ)) → AsksFor words (request_of asked.entry)
         → Cause (semiring S.arithmetic S.has_minus S.is_ring S.is_signed S.name) words (F.state files.old) (F.state files.new)
         (O.state out.old) (O.state out.new) (end_of result) }
@@ -126,7 +126,7 @@ fn answer_statement<'a, F: Folder, O: Sink>(
     out: &mut O,
 ) -> Result<Done, Fault<'a>>
     requires asked { (words : List (List ℕ)) × AsksFor words (request_of asked) }
-    requires numbered { IsNumbered asked.statement }
+    requires numbered { IsNumberedWithSums asked.statement }
     ensures { (words : List (List ℕ)) → AsksFor words (request_of asked.entry)
         → Cause (values_of asked.entry.over) words (F.state files.old) (F.state files.new) (O.state out.old) (O.state out.new)
         (end_of result) }

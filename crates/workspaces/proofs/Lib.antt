@@ -1,3 +1,4 @@
 pub mod Absent
+pub mod NestedZeros
 pub mod Present
 pub mod SumsOfPairs

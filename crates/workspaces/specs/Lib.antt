@@ -1,3 +1,4 @@
+pub mod Nested
 pub mod Presence
 pub mod PresenceLaws
 pub mod Workspaces

@@ -19,6 +19,7 @@ returns c =
     (ap (λ (t : Statement). t.vars) c.new-2.ensures ∙ c.in_ok-vars.ensures ∙ c.as_slice-3.ensures)
     (ap (λ (t : Statement). t.left) c.new-2.ensures ∙ c.in_ok-left.ensures)
     (ap (λ (t : Statement). t.accumulate) c.new-2.ensures)
+    (ap (λ (t : Statement). t.sums) c.new-2.ensures ∙ c.in_ok-sums.ensures ∙ c.as_slice-4.ensures)
     (ap (λ (t : Statement). t.expr) c.new-2.ensures ∙ c.in_ok-expr.ensures)
     (ap (λ (t : Statement). t.accesses) c.new-2.ensures ∙ c.new.ensures)
     (ap (λ (t : Statement). t.tensors) c.new-2.ensures ∙ c.in_ok-push-2.ensures.ok

@@ -1,4 +1,4 @@
-use Rattle.index_notation.specs.Statement.{IsNumbered}
+use Rattle.index_notation.specs.Statement.{IsNumberedWithSums}
 use Rattle.taco_top.specs.Asked.{texts_in}
 use Rattle.taco_top.specs.Exec.{ExecNames}
 use Rattle.taco_top.proofs.BoundNames.{executed_for}
@@ -15,6 +15,6 @@ returns-in_ok-expand-in-Ok c = λ all line.
       names = c.in-Ok.ensures;
       stands_for = c.in_ok-expand-in-Ok.ensures.whole;
     } in
-    let numbered : IsNumbered c.in_ok-expand-in-Ok.field-0 = c.in_ok-expand-in-Ok.ensures.numbered in
+    let numbered : IsNumberedWithSums c.in_ok-expand-in-Ok.field-0 = c.in_ok-expand-in-Ok.ensures.numbered in
     executed_for all c.args.path.now c.args.budget c.in_ok-expand-in-Ok.field-0 (texts_in c.args.words.now) names numbered
     c.bind_execution.result c.bind_execution.ensures

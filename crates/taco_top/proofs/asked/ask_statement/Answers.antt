@@ -1,4 +1,4 @@
-use Rattle.index_notation.specs.Statement.{IsNumbered}
+use Rattle.index_notation.specs.Statement.{IsNumberedWithSums}
 use Rattle.taco_top.specs.Asked.{Names, texts_in}
 use Rattle.taco_top.proofs.BoundNames.{asked_for, minus_refused}
 use Rattle.taco_top.proofs.asked.ask_statement.Goals as goal
@@ -15,7 +15,7 @@ returns-in_ok-expand-in-Ok c = λ all line.
       meant = c.in_ok-check_minus-in-Ok.ensures.meant;
       stands_for = c.in_ok-expand-in-Ok.ensures.whole;
     } in
-    let numbered : IsNumbered c.in_ok-expand-in-Ok.field-0 = c.in_ok-expand-in-Ok.ensures.numbered in
+    let numbered : IsNumberedWithSums c.in_ok-expand-in-Ok.field-0 = c.in_ok-expand-in-Ok.ensures.numbered in
     asked_for all c.args.task c.args.over c.in_ok-expand-in-Ok.field-0 (texts_in c.args.words.now) names numbered c.bind_names.result
     c.bind_names.ensures
 

@@ -6,8 +6,8 @@ use Rattle.taco_compiler.specs.declared.compiled.CompileFault.TheVariants as com
 use Rattle.taco_top.specs.Values.{Values, semiring}
 use Rattle.taco_top.specs.Run.{request_of}
 use Rattle.taco_top.specs.Stored.{stored_statement, stored_formats}
-use Rattle.taco_top.proofs.Accepted.{asked_meant, well_named, left_has_format, right_have_formats}
-use Rattle.taco_top.proofs.Mended.{ordered, run_by, kernel_is, stored_meant, cyclic}
+use Rattle.taco_top.proofs.Accepted.{asked_meant, is_plain, well_named, left_has_format, right_have_formats}
+use Rattle.taco_top.proofs.Mended.{ordered, run_by, kernel_is, stored_meant, stored_numbered, cyclic}
 use Rattle.taco_top.proofs.asking.accept.Goals as goal
 
 pub mended-requires-clause-named : goal.mended-requires-clause-named
@@ -22,6 +22,12 @@ pub mended-requires-clause-right : goal.mended-requires-clause-right
 mended-requires-clause-right g c =
     right_have_formats c.requires.asked.0 (request_of c.args.asked) c.requires.asked.1 c.requires.numbered c.as_slice-formats.result.now
     c.as_slice-formats.ensures.value
+
+pub compile_stored-requires-clause-numbered : goal.compile_stored-requires-clause-numbered
+compile_stored-requires-clause-numbered g c =
+    stored_numbered (request_of c.args.asked) c.as_slice-formats.result.now c.as_slice-formats.ensures.value c.in_ok-plan.plan
+    c.in_ok-plan.ensures.unplanned c.in_ok-plan.ensures.planned c.requires.needs c.requires.numbered
+    (is_plain c.requires.asked.0 (request_of c.args.asked) c.requires.asked.1) c.in_ok-plan.ensures.compiled
 
 pub compile_stored-requires-clause-named : goal.compile_stored-requires-clause-named
 compile_stored-requires-clause-named g c = well_named c.requires.asked.0 (request_of c.args.asked) c.requires.asked.1
