@@ -60,14 +60,16 @@ use Rattle.appended_kernels.proofs.Direct.{of_level}
 use Rattle.appended_kernels.proofs.Names.{each_at, listed_row}
 use Rattle.appended_kernels.proofs.Rows.{read_store, are_rows, each_row, names_rows}
 use Rattle.appended_kernels.proofs.Values.{below_from}
-use Rattle.head_pairs.specs.Heads.{AreAtOneHead, pairs_at}
+use Rattle.head_pairs.specs.Heads.{pairs_at}
 use Rattle.head_pairs.proofs.Counted.{groups_are_few}
 use Rattle.summed_groups.specs.Groups.{with_front, with_fronts}
 use Rattle.drained_workspaces.specs.Draining.{Draining}
 use Rattle.grouped_loops.specs.Emitted.{IsRow, IsTaken}
 use Rattle.grouped_loops.specs.declared.grouped.Grouped.{Grouped}
 use Rattle.grouped_loops.specs.Grouped.{HoldsSums, RefusesGroup, RefusesSums, grouped_sink, ranges_of}
-use Rattle.grouped_kernels.specs.Kernels.{AppendByGroups, AtOneHead, GroupsFromTop}
+use Rattle.touched_workspaces.specs.Sizes.{greatest_marked_range}
+use Rattle.grouped_kernels.specs.Kernels.{AppendByGroups, AtOneHead, GroupsFromTop, RefusesBehind}
+use Rattle.grouped_kernels.proofs.Modes.{keys_are_modes}
 use Rattle.grouped_kernels.proofs.Sums.{sums_again, sums_rows}
 use Rattle.grouped_kernels.proofs.Takes.{takes_behind}
 
@@ -122,21 +124,18 @@ module _ (a : Arithmetic) (laws : Laws a) (s : Statement) (formats : List (List 
   abbrev keys : List ℕ
   keys = left_in_order s in_order.order
 
-  -- the variables of the head, and what may be refused
-  abbrev vars : List ℕ
-  vars = take g.first keys
-
+  -- what may be refused
   abbrev Allowed : Store → Place → ℕ → Type 0
-  Allowed = AtOneHead a s in_order.order vars
+  Allowed = AtOneHead a s in_order.order g.first
 
   level_allowed : (store : Store) (place : Place) (count : ℕ) → IsLevel place → Allowed store place count
   level_allowed store (Level level) count h = tt
   level_allowed store Workspace count h = absurd h
 
-  head_allowed : (store : Store) (place : Place) (count : ℕ) → AreAtOneHead s in_order.order vars (told_by a store) count
+  behind_allowed : (store : Store) (place : Place) (count : ℕ) → RefusesBehind a s in_order.order g.first store count
       → Allowed store place count
-  head_allowed store (Level level) count h = tt
-  head_allowed store Workspace count h = h
+  behind_allowed store (Level level) count h = tt
+  behind_allowed store Workspace count h = h
 
   abbrev both : Sink (Grouped W AppendedSink)
   both = grouped_sink within appended_sink
@@ -284,15 +283,26 @@ module _ (a : Arithmetic) (laws : Laws a) (s : Statement) (formats : List (List 
                       let group = length-map r.group (with_front r.front) in
                       omega (arith, most_of, whole, parts, later, group);
                 });
-            allowed = head_allowed store (place_of (length store.format) b) count (record {
-              coords = r.front;
-              many =
-                  let most_of = p.1.within in
-                  let held = (told s formats store (read_store a laws s formats c in_order f loops l store is) a laws).held in
-                  let few = groups_are_few s formats c in_order loops l.rows a laws (told_by a store) (stored_in (operands_in s store)) held
-                  keys r.front r.before r.group r.rest r.is in
-                  let same = ap (λ n. pairs_at s in_order.order (take n keys) r.front (told_by a store)) r.long in
-                  omega (arith, most_of, few, same);
+            allowed = behind_allowed store (place_of (length store.format) b) count (record {
+              few = record {
+                coords = r.front;
+                many =
+                    let most_of = p.1.within in
+                    let held = (told s formats store (read_store a laws s formats c in_order f loops l store is) a laws).held in
+                    let few = groups_are_few s formats c in_order loops l.rows a laws (told_by a store) (stored_in (operands_in s store)) held
+                    keys r.front r.before r.group r.rest r.is in
+                    let same = ap (λ n. pairs_at s in_order.order (take n keys) r.front (told_by a store)) r.long in
+                    omega (arith, most_of, few, same);
+              };
+              large = λ v alone.
+                  let modes : g.modes.now ≡ v ∷ [] =
+                  from.modes ∙ sym (ap (drop g.first) (keys_are_modes s formats f.ordered in_order.order in_order.is_order)) ∙ alone in
+                  let left : length (drop g.first keys) ≡ 1 = ap length alone in
+                  let dropped = long_dropped g.first keys in
+                  let all = from.keys in
+                  subst (λ (ms : List ℕ). greatest_marked_range < slice_index (ranges_of ms store.ranges) 0) modes
+                  (from.workspace.large (omega (arith, left, dropped, all)) (ranges_of g.modes.now store.ranges) r.group b count
+                  r.refused);
             });
           }
 

@@ -49,15 +49,17 @@ touched_workspace w = record {
   laws = touched_draining_laws;
   takes = λ ranges one. touched_takes w ranges one;
   passes = λ ranges rows b count r. (w.list, r.passes);
+  large = λ one ranges rows b count r. r.large;
   operands = λ b of is. no_touched w b of is;
   beside = λ k. appended_beside_touched k w;
 }
 
-pub pair_workspace : (w : PairSink) → IsWorkspace pair_sink pair_draining w
-pair_workspace w = record {
+pub pair_workspace : (w : PairSink) → (w.keys ≡ 1 → ⊥) → IsWorkspace pair_sink pair_draining w
+pair_workspace w several = record {
   laws = pair_draining_laws;
   takes = λ ranges long. pairs_take w ranges long;
   passes = λ ranges rows b count r. (w.number, r);
+  large = λ one ranges rows b count r. absurd (several one);
   operands = λ b of is. no_operand w.number b of is;
   beside = λ k. appended_beside_pairs k w;
 }

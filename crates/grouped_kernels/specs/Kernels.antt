@@ -1,5 +1,5 @@
 -- What the code of a kernel has to do that appends rows to its result out of a workspace inside its outer loops.
-use Rattle.std.specs.Prelude.{◌≡◌, ℕ, ◌+◌, ◌≤◌, List, [], ◌++◌, length, drop, take}
+use Rattle.std.specs.Prelude.{◌≡◌, ℕ, ◌+◌, ◌≤◌, ◌<◌, List, [], ◌∷◌, ◌++◌, length, drop, take, slice_index}
 use Rattle.numbers.specs.Arithmetic.{Arithmetic, Laws}
 use Rattle.kernel_code.specs.declared.syntax.KStmt.{KStmt}
 use Rattle.kernel_code.specs.declared.syntax.Place.{Place}
@@ -24,12 +24,19 @@ use Rattle.appended_kernels.specs.Kernels.{AppendsFromTop, AreAppendedLoops, IsF
 use Rattle.drained_workspaces.specs.Draining.{Draining}
 use Rattle.grouped_loops.specs.Emitted.{AddsGroups}
 use Rattle.grouped_loops.specs.declared.grouped.Grouped.{Grouped}
+use Rattle.touched_workspaces.specs.Sizes.{greatest_marked_range}
 use Rattle.grouped_kernels.specs.Workspaces.{BeginsEmpty, IsWorkspace}
 
--- any level may be refused a growth, and a workspace one to no more pairs than there are at one head of these variables
-abbrev pub AtOneHead : Arithmetic → Statement → List ℕ → List ℕ → Store → Place → ℕ → Type 0
-AtOneHead a s order vars store (Level level) count = Unit {0}
-AtOneHead a s order vars store Workspace count = AreAtOneHead s order vars (told_by a store) count
+-- A workspace of the left variables behind the first ones in loop order is refused a growth to no more pairs than there are at one head of
+-- those. Where it has one key alone, that variable's range is too large for marks.
+pub record RefusesBehind (a : Arithmetic) (s : Statement) (order : List ℕ) (first : ℕ) (store : Store) (count : ℕ) : Type 0 where
+  pub few : AreAtOneHead s order (take first (left_in_order s order)) (told_by a store) count
+  pub large : (v : ℕ) → drop first (left_in_order s order) ≡ v ∷ [] → greatest_marked_range < slice_index store.ranges v
+
+-- any level may be refused a growth, and such a workspace
+abbrev pub AtOneHead : Arithmetic → Statement → List ℕ → ℕ → Store → Place → ℕ → Type 0
+AtOneHead a s order first store (Level level) count = Unit {0}
+AtOneHead a s order first store Workspace count = RefusesBehind a s order first store count
 
 -- from the top the code of loops adds their rows by groups, out of a workspace of the result's modes behind the first ones that the code
 -- before them leaves empty
@@ -55,4 +62,4 @@ AppendByGroups = (a : Arithmetic) → Laws a → (s : Statement) (formats : List
     → (places : Places) (free past : ℕ) (spaces : List ℕ) (begin emitted : List KStmt)
     → GroupsFromTop a within drains g s formats in_order.order places loops free past spaces begin emitted
     → AppendsFromTop a g.outer.now s formats places (left_in_order s in_order.order) loops 0 past spaces
-    (AtOneHead a s in_order.order (take g.first (left_in_order s in_order.order))) (begin ++ emitted)
+    (AtOneHead a s in_order.order g.first) (begin ++ emitted)

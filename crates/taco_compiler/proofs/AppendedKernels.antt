@@ -269,6 +269,7 @@ module _ (a : Arithmetic) (laws : Laws a) (s : Statement) (formats : List (List 
           (ProbesFew s formats order store (told_by a store)) (few_probes store is arrays given) (told store is arrays given);
       bare = λ none. spaces;
       keyed = λ called. absurd (clash (calls_for_workspace s formats order) called direct);
+      marked = λ called. absurd (clash (calls_for_workspace s formats order) called direct);
       direct = λ none store is arrays given. ends_weaker a (length store.format) kernel arrays (IsTold store is arrays given) IsUnrefused
           (unrefused store is arrays given) (told store is arrays given);
       heads = λ sorted store is arrays given. ends_weaker a (length store.format) kernel arrays (IsTold store is arrays given)

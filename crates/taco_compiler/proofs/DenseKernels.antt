@@ -241,6 +241,7 @@ module _ (a : Arithmetic) (laws : Laws a) (s : Statement) (formats : List (List 
           (ProbesFew s formats order store (told_by a store)) (few_probes store is arrays given) (ends_with_turns store is arrays given);
       bare = λ none. spaces;
       keyed = λ called. absurd (clash (calls_for_workspace s formats order) called free_of);
+      marked = λ called. absurd (clash (calls_for_workspace s formats order) called free_of);
       direct = λ none store is arrays given. ends_unrefused store is arrays given;
       heads = λ sorted store is arrays given. ends_weaker a (length store.format) kernel arrays IsUnrefused
           (NeedsOneHead s order (told_by a store)) (needs_no_head s order (told_by a store)) (ends_unrefused store is arrays given);

@@ -1,6 +1,6 @@
 -- A kernel whose code appends rows to its result out of a workspace inside its outer loops is compiled where the statement calls for one: it
 -- is right and sound, its loops turn no more often than the statement costs, and it drains no more rows than the support has points.
-use Rattle.std.specs.Prelude.{◌≡◌, ℕ, ◌+◌, ◌*◌, ◌≤◌, true, if◌then◌else◌, List, [], ◌++◌, length, take, drop, slice_index, refl}
+use Rattle.std.specs.Prelude.{◌≡◌, ℕ, ◌+◌, ◌*◌, ◌≤◌, true, if◌then◌else◌, List, [], ◌∷◌, ◌++◌, length, take, drop, slice_index, refl}
 use Rattle.std.proofs.Common.{◌∙◌, sym, ap, subst, arith}
 use Rattle.std.proofs.lemmas.List.{length-map, take-append-drop}
 use Rattle.std.proofs.lemmas.Nat.{mul-le}
@@ -62,9 +62,9 @@ use Rattle.grouped_loops.specs.declared.grouped.Grouped.{Grouped}
 use Rattle.grouped_kernels.proofs.Counts.{sums_few}
 use Rattle.grouped_kernels.specs.Kernels.{AtOneHead, GroupsFromTop}
 use Rattle.grouped_kernels.proofs.Groups.{appends_by_groups}
-use Rattle.taco_compiler.specs.Compiled.{AreFewTurns, DrainsFew, IsCompiled, NeedsOneHead, ProbesFew}
+use Rattle.taco_compiler.specs.Compiled.{AreFewTurns, DrainsFew, IsCompiled, NeedsLargeKey, NeedsOneHead, ProbesFew}
 use Rattle.taco_compiler.specs.Loops.{AreLoopsOf}
-use Rattle.taco_compiler.specs.Tails.{tail_of, tail_workspaces}
+use Rattle.taco_compiler.specs.Tails.{tail_of, tail_workspaces, workspace_keys}
 use Rattle.taco_compiler.proofs.LoopTurns.{in_order_of, within_cost, within_searches}
 use Rattle.taco_compiler.proofs.Targets.{keys_bound}
 
@@ -104,7 +104,8 @@ module _ (a : Arithmetic) (laws : Laws a) (s : Statement) (formats : List (List 
       (top begin ready emitted end : List KStmt) (tops : StartsAt (behind g.outer.now) top)
       (begins : BeginsFirst (letters_in g.outer.now) (length g.outer.now.levels) g.outer.now.base (length g.outer.now.levels) begin)
       (free past : ℕ) (spaces : List ℕ) (groups : GroupsFromTop a within drains g s formats order places loops free past spaces ready emitted)
-      (chain : IsChain (take g.first keys) loops) (head : take g.first keys ≡ head_variables s order) (ended : ℕ)
+      (chain : IsChain (take g.first keys) loops) (head : take g.first keys ≡ head_variables s order)
+      (rest : drop g.first keys ≡ tail_of s order) (ended : ℕ)
       (ending : EndsFirst (letters_in g.outer.now) g.outer.now.base ended (length g.outer.now.levels) end) (kernel : Kernel)
       (declared : kernel.workspaces ≡ spaces) (sized : spaces ≡ tail_workspaces (length (tail_of s order))) (lists : past ≤ kernel.lists)
       (body : kernel.body ≡ ((top ++ begin) ++ (ready ++ emitted)) ++ end) where
@@ -112,7 +113,7 @@ module _ (a : Arithmetic) (laws : Laws a) (s : Statement) (formats : List (List 
     k = g.outer.now
 
     abbrev Allowed : Store → Place → ℕ → Type 0
-    Allowed = AtOneHead a s order (take g.first keys)
+    Allowed = AtOneHead a s order g.first
 
     abbrev appends : AppendsFromTop a k s formats places keys loops 0 past spaces Allowed (ready ++ emitted)
     appends = appends_by_groups a laws s formats c in_order f loops own_loops within drains g own places free past spaces ready emitted groups
@@ -221,8 +222,18 @@ module _ (a : Arithmetic) (laws : Laws a) (s : Statement) (formats : List (List 
       one_head (Finished left turns) h = tt
       one_head (GotStuck statement) h = absurd h.1
       one_head (TooLong (Level level) count) h = tt
-      one_head (TooLong Workspace count) h = subst (λ vars. AreAtOneHead s order vars (told_by a store) count) head h.2
+      one_head (TooLong Workspace count) h = subst (λ vars. AreAtOneHead s order vars (told_by a store) count) head h.2.few
       one_head NotFinished h = absurd h.1
+
+      tail_keys : workspace_keys s formats order ≡ drop g.first keys
+      tail_keys = ap (λ b. if b then keys else tail_of s order) f.sorted ∙ sym rest
+
+      large_key : (o : KernelOutcome) → IsTold o → NeedsLargeKey s formats order store o
+      large_key (Finished left turns) h = tt
+      large_key (GotStuck statement) h = absurd h.1
+      large_key (TooLong (Level level) count) h = tt
+      large_key (TooLong Workspace count) h = λ v alone. h.2.large v (sym tail_keys ∙ alone)
+      large_key NotFinished h = absurd h.1
 
     right_kernel : IsRightKernel a s formats kernel
     right_kernel store is arrays given =
@@ -245,4 +256,6 @@ module _ (a : Arithmetic) (laws : Laws a) (s : Statement) (formats : List (List 
           (NeedsOneHead s order (told_by a store)) (one_head store is arrays given) (told store is arrays given);
       keyed = λ some. declared ∙ sized
           ∙ sym (ap (λ b. if b then tail_workspaces (length s.left.vars) else tail_workspaces (length (tail_of s order))) f.sorted);
+      marked = λ some store is arrays given. ends_weaker a (length store.format) kernel arrays (IsTold store is arrays given)
+          (NeedsLargeKey s formats order store) (large_key store is arrays given) (told store is arrays given);
     }

@@ -14,6 +14,7 @@ use Rattle.kernel_code.specs.declared.syntax.Kernel.{Kernel}
 use Rattle.kernel_code.specs.declared.syntax.KStmt.{KStmt}
 use Rattle.kernel_code.specs.declared.syntax.LoopKind.{LoopKind}
 use Rattle.kernel_code.specs.declared.syntax.LoopKind.TheVariants.{Drain, Probe}
+use Rattle.kernel_code.specs.declared.syntax.Place.TheVariants.{Level, Workspace}
 use Rattle.kernel_code.specs.Kernels.{KernelOutcome, Finished, GotStuck, TooLong, NotFinished}
 use Rattle.level_core.specs.Meaning.{Arrays}
 use Rattle.tensor_map.specs.Entries.{Entry}
@@ -58,10 +59,10 @@ use Rattle.sparse_kernels.specs.Kernels.{IsForSparse, PushesFromTop, sorting_cod
 use Rattle.sparse_kernels.specs.Turns.{AreTurns, MakesTurns}
 use Rattle.sparse_kernels.proofs.Ends.{ends_weaker}
 use Rattle.sparse_kernels.proofs.Kernels.{sparse_kernels_are_right}
-use Rattle.taco_compiler.specs.Compiled.{AreFewDrains, AreFewTurns, DrainsFew, IsCompiled, ProbesFew}
+use Rattle.taco_compiler.specs.Compiled.{AreFewDrains, AreFewTurns, DrainsFew, IsCompiled, NeedsLargeKey, ProbesFew}
 use Rattle.taco_compiler.specs.Filling.{FillsFromRows}
 use Rattle.taco_compiler.specs.Loops.{AreLoopsOf}
-use Rattle.taco_compiler.specs.Tails.{tail_of, tail_workspaces}
+use Rattle.taco_compiler.specs.Tails.{tail_of, tail_workspaces, workspace_keys}
 use Rattle.taco_compiler.proofs.LoopTurns.{in_order_of, within_cost, within_searches}
 use Rattle.taco_compiler.proofs.Targets.{keys_bound, keys_many}
 
@@ -235,6 +236,17 @@ module _ (a : Arithmetic) (laws : Laws a) (s : Statement) (formats : List (List 
       few_probes (TooLong place count) h = tt
       few_probes NotFinished h = absurd h.1
 
+      -- there is no one key alone
+      large_key : (o : KernelOutcome) → IsTold o → NeedsLargeKey s formats order store o
+      large_key (Finished left turns) h = tt
+      large_key (GotStuck statement) h = absurd h.1
+      large_key (TooLong (Level level) count) h = tt
+      large_key (TooLong Workspace count) h = λ v alone.
+          let all : workspace_keys s formats order ≡ keys = ap (λ b. if b then keys else tail_of s order) unordered in
+          let one : length keys ≡ 1 = ap length (sym all ∙ alone) in
+          absurd (several (sym many ∙ one))
+      large_key NotFinished h = absurd h.1
+
     right_kernel : IsRightKernel a s formats kernel
     right_kernel store is arrays given =
         ends_weaker a (length store.format) kernel arrays (IsTold store is arrays given) (IsRightOutcome a s (told_by a store) store)
@@ -256,4 +268,6 @@ module _ (a : Arithmetic) (laws : Laws a) (s : Statement) (formats : List (List 
       keyed = λ some. spaces
           ∙ sym (ap (λ b. if b then tail_workspaces (length s.left.vars) else tail_workspaces (length (tail_of s order))) unordered
           ∙ ap (λ b. if b then (1 ∷ 1 ∷ []) else (length s.left.vars ∷ [])) (apart_test (length s.left.vars) 1 several));
+      marked = λ some store is arrays given. ends_weaker a (length store.format) kernel arrays (IsTold store is arrays given)
+          (NeedsLargeKey s formats order store) (large_key store is arrays given) (told store is arrays given);
     }

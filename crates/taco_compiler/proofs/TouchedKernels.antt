@@ -10,6 +10,7 @@ use Rattle.numbers.specs.Arithmetic.{Arithmetic, Laws}
 use Rattle.kernel_code.specs.declared.syntax.Kernel.{Kernel}
 use Rattle.kernel_code.specs.declared.syntax.KStmt.{KStmt}
 use Rattle.kernel_code.specs.declared.syntax.LoopKind.TheVariants.{Probe}
+use Rattle.kernel_code.specs.declared.syntax.Place.TheVariants.{Level, Workspace}
 use Rattle.kernel_code.specs.Kernels.{KernelOutcome, Finished, GotStuck, TooLong, NotFinished}
 use Rattle.level_core.specs.Meaning.{Arrays}
 use Rattle.format_spec.specs.declared.format.FormatLevel.{FormatLevel}
@@ -42,9 +43,9 @@ use Rattle.row_orders.proofs.Lists.{clash}
 use Rattle.sparse_results.specs.Keys.{HasOrderedResult}
 use Rattle.sparse_kernels.specs.Turns.{MakesTurns}
 use Rattle.sparse_kernels.proofs.Ends.{ends_weaker}
-use Rattle.taco_compiler.specs.Compiled.{AreFewTurns, DrainsFew, IsCompiled, ProbesFew}
+use Rattle.taco_compiler.specs.Compiled.{AreFewTurns, DrainsFew, IsCompiled, NeedsLargeKey, ProbesFew}
 use Rattle.taco_compiler.specs.Loops.{AreLoopsOf, MayBeLowered}
-use Rattle.taco_compiler.specs.Tails.{tail_of, tail_workspaces}
+use Rattle.taco_compiler.specs.Tails.{tail_of, tail_workspaces, workspace_keys}
 use Rattle.taco_compiler.proofs.LoopTurns.{in_order_of, within_cost, within_searches}
 use Rattle.taco_compiler.proofs.Targets.{keys_bound}
 use Rattle.std.specs.Prelude.{All, false, not, slice_index_or}
@@ -59,10 +60,12 @@ use Rattle.result_assembly.specs.Drained.{IsCounted}
 use Rattle.term_code.specs.Places.{AreBelow}
 use Rattle.touched_workspaces.specs.DrainedLaws.{touched_draining_laws}
 use Rattle.touched_workspaces.specs.Sinks.{HoldsTouched, touched_sink}
+use Rattle.touched_workspaces.specs.Sizes.{greatest_marked_range}
 use Rattle.touched_workspaces.specs.Starts.{BeginsTouched}
 use Rattle.touched_workspaces.specs.declared.sink.TouchedSink.{TouchedSink}
 use Rattle.touched_kernels.specs.Kernels.{AddsFromTop, IsForTouched, IsSinkOf, RefusesLevels, ranges_on}
 use Rattle.touched_kernels.proofs.Kernels.{touched_kernels_are_right}
+use Rattle.grouped_kernels.proofs.Modes.{keys_are_modes}
 use Rattle.taco_compiler.specs.Marking.{FillsFromSums}
 use Rattle.taco_compiler.proofs.SparseKernels.{few_drains, searches_add}
 use Rattle.concrete_notation.specs.Workspaces.{AreAllDense}
@@ -93,6 +96,9 @@ module _ (s : Statement) (formats : List (List FormatLevel)) where
         inserted = inserted_else level.letter (unappended (capabilities level.letter).append refl);
         stored = unordered_stored level.letter (unordered (properties level.letter).ordered refl some);
       }
+
+above : (size most : ℕ) → (size ≤ most → ⊥) → most < size
+above size most not_within = grind (arith, not_within)
 
 module _ (a : Arithmetic) (laws : Laws a) (s : Statement) (formats : List (List FormatLevel)) (f : IsForTouched s formats) (order : List ℕ)
     (called : calls_for_workspace s formats order ≡ true) (unordered : list_any is_unordered (result_levels s formats) ≡ true)
@@ -211,6 +217,22 @@ module _ (a : Arithmetic) (laws : Laws a) (s : Statement) (formats : List (List 
       few_probes (TooLong place count) h = tt
       few_probes NotFinished h = absurd h.1
 
+      -- the one key is the result's one variable
+      one_key : (v : ℕ) → workspace_keys s formats order ≡ v ∷ [] → k.variable ≡ v
+      one_key v alone =
+          let all : workspace_keys s formats order ≡ keys = ap (λ b. if b then keys else tail_of s order) unordered in
+          let modes = keys_are_modes s formats ordered order l.is_order in
+          ap (λ (vs : List ℕ). slice_index vs 0) (sym sink_is.modes ∙ sym modes ∙ sym all ∙ alone)
+
+      large_key : (o : KernelOutcome) → IsTold o → NeedsLargeKey s formats order store o
+      large_key (Finished left turns) h = tt
+      large_key (GotStuck statement) h = absurd h.1
+      large_key (TooLong (Level level) count) h = tt
+      large_key (TooLong Workspace count) h = λ v alone.
+          subst (λ u. greatest_marked_range < slice_index store.ranges u) (one_key v alone)
+          (above (slice_index store.ranges k.variable) greatest_marked_range h.2)
+      large_key NotFinished h = absurd h.1
+
     right_kernel : IsRightKernel a s formats kernel
     right_kernel store is arrays given =
         ends_weaker a (length store.format) kernel arrays (IsTold store is arrays given) (IsRightOutcome a s (told_by a store) store)
@@ -232,6 +254,8 @@ module _ (a : Arithmetic) (laws : Laws a) (s : Statement) (formats : List (List 
       keyed = λ some. spaces
           ∙ sym (ap (λ b. if b then tail_workspaces (length s.left.vars) else tail_workspaces (length (tail_of s order))) unordered
           ∙ ap tail_workspaces one_left);
+      marked = λ some store is arrays given. ends_weaker a (length store.format) kernel arrays (IsTold store is arrays given)
+          (NeedsLargeKey s formats order store) (large_key store is arrays given) (told store is arrays given);
     }
 
 -- the one mode of such a result is a variable of the statement

@@ -29,7 +29,7 @@ use Rattle.kernel_emit.specs.Emitted.{AreWidths}
 use Rattle.taco_compiler.specs.declared.compiled.CompileFault.{CompileFault}
 use Rattle.taco_compiler.specs.declared.compiled.CompileFault.TheVariants.{Cycle, Memory}
 use Rattle.taco_compiler.specs.declared.compiled.Compiled.{Compiled}
-use Rattle.taco_compiler.specs.Tails.{called_workspaces}
+use Rattle.taco_compiler.specs.Tails.{HasLargeKey, called_workspaces}
 
 -- the variables in the one loop order that the iteration graph has
 abbrev pub IsOrder : Statement → List (List FormatLevel) → List ℕ → Type 0
@@ -152,9 +152,25 @@ KeepsHeads a s formats order kernel =
     (store : Store) → IsStoreOf s formats store → (arrays : Arrays) → IsGiven a.zero store arrays
     → Ends a (length store.format) kernel arrays (NeedsOneHead s order (told_by a store))
 
+-- a run is neither stuck nor unfinished, and a workspace whose key is one variable alone is refused a growth only where that one's range is
+-- too large for marks
+abbrev pub NeedsLargeKey : Statement → List (List FormatLevel) → List ℕ → Store → KernelOutcome → Type 0
+NeedsLargeKey s formats order store (Finished arrays turns) = Unit {0}
+NeedsLargeKey s formats order store (GotStuck statement) = ⊥
+NeedsLargeKey s formats order store (TooLong (Level level) count) = Unit {0}
+NeedsLargeKey s formats order store (TooLong Workspace count) = HasLargeKey s formats order store.ranges
+NeedsLargeKey s formats order store NotFinished = ⊥
+
+-- so it is on every store
+abbrev pub KeepsMarks : Arithmetic → Statement → List (List FormatLevel) → List ℕ → Kernel → Type 0
+KeepsMarks a s formats order kernel =
+    (store : Store) → IsStoreOf s formats store → (arrays : Arrays) → IsGiven a.zero store arrays
+    → Ends a (length store.format) kernel arrays (NeedsLargeKey s formats order store)
+
 -- the kernel is right and sound, its loops turn within the cost, the rows of its workspace are gone over no more often than that, and
 -- coordinates are sought within the widths of levels without order. It has no workspace where the statement calls for none, and is refused
--- none there; else it has those that are called for, and where each level of the result has an order it needs the pairs of one head at most.
+-- none there; else it has those that are called for. Where each level of the result has an order it needs the pairs of one head at most, and
+-- where the workspaces' key is one variable alone, one is refused a growth only if that variable's range is too large for marks.
 -- Whatever is said of a run here, the run takes back nothing that it appended to the result (`Ends`)
 pub record IsCompiled (a : Arithmetic) (s : Statement) (formats : List (List FormatLevel)) (order : List ℕ) (kernel : Kernel)
     : Type 0 where
@@ -167,6 +183,7 @@ pub record IsCompiled (a : Arithmetic) (s : Statement) (formats : List (List For
   pub direct : calls_for_workspace s formats order ≡ false → NeedsNone a s formats kernel
   pub heads : list_any is_unordered (result_levels s formats) ≡ false → KeepsHeads a s formats order kernel
   pub keyed : calls_for_workspace s formats order ≡ true → kernel.workspaces ≡ called_workspaces s formats order
+  pub marked : calls_for_workspace s formats order ≡ true → KeepsMarks a s formats order kernel
 
 -- such a kernel in the loop order, in whose code numbers settle nothing and which over the ring adds and multiplies words alone; or the
 -- cycle, where there is one; or want of memory

@@ -1,11 +1,12 @@
 -- The tail of a result, and the workspaces that a statement gets which calls for one.
-use Rattle.std.specs.Prelude.{ℕ, nat_eq, if◌then◌else◌, List, [], ◌∷◌, length}
+use Rattle.std.specs.Prelude.{◌≡◌, ℕ, ◌<◌, nat_eq, if◌then◌else◌, List, [], ◌∷◌, length, slice_index}
 use Rattle.std.specs.List.{list_any}
 use Rattle.format_spec.specs.declared.format.FormatLevel.{FormatLevel}
 use Rattle.index_notation.specs.declared.syntax.Statement.{Statement}
 use Rattle.concrete_notation.specs.Nests.{left_in_order}
 use Rattle.row_orders.specs.Heads.{result_levels}
 use Rattle.row_orders.specs.Takings.{is_inside_sum, is_unordered}
+use Rattle.touched_workspaces.specs.Sizes.{greatest_marked_range}
 
 -- of some variables, those from the first one on that has a summed one before it in a loop order
 abbrev pub from_sum : Statement → List ℕ → List ℕ → List ℕ
@@ -25,3 +26,11 @@ tail_workspaces n = if nat_eq n 1 then (1 ∷ 1 ∷ []) else (n ∷ [])
 abbrev pub called_workspaces : Statement → List (List FormatLevel) → List ℕ → List ℕ
 called_workspaces s formats order =
     if list_any is_unordered (result_levels s formats) then tail_workspaces (length s.left.vars) else tail_workspaces (length (tail_of s order))
+
+-- the variables that are the keys of the workspaces that are called for: all left ones, or those of the tail
+abbrev pub workspace_keys : Statement → List (List FormatLevel) → List ℕ → List ℕ
+workspace_keys s formats order = if list_any is_unordered (result_levels s formats) then left_in_order s order else tail_of s order
+
+-- where one variable alone is the key, its range is too large for marks
+abbrev pub HasLargeKey : Statement → List (List FormatLevel) → List ℕ → List ℕ → Type 0
+HasLargeKey s formats order ranges = (v : ℕ) → workspace_keys s formats order ≡ v ∷ [] → greatest_marked_range < slice_index ranges v

@@ -1,5 +1,5 @@
--- A kernel of a statement is refused a workspace only where the statement calls for one, and where each level of the result has an order
--- only where one head needs so many pairs.
+-- A kernel of a statement is refused a workspace only where the statement calls for one, where each level of the result has an order only
+-- where one head needs so many pairs, and where one variable alone is the key only where that one's range is too large for marks.
 use Rattle.std.specs.Prelude.{◌≡◌, ℕ, ◌<◌, Bool, true, false, List, length, Option, None, Some, Result, Ok, Err, Vec, refl}
 use Rattle.std.specs.List.{list_any}
 use Rattle.std.proofs.Common.{◌∙◌, sym, subst, arith}
@@ -21,7 +21,8 @@ use Rattle.row_orders.specs.Takings.{calls_for_workspace, is_unordered}
 use Rattle.head_pairs.specs.Heads.{AreAtOneHead, head_variables}
 use Rattle.operand_packing.specs.Drawn.{drawn}
 use Rattle.operand_packing.specs.Runnable.{told_ranges}
-use Rattle.taco_compiler.specs.Compiled.{IsUnrefused, NeedsOneHead}
+use Rattle.taco_compiler.specs.Compiled.{IsUnrefused, NeedsLargeKey, NeedsOneHead}
+use Rattle.taco_compiler.specs.Tails.{HasLargeKey}
 use Rattle.kernel_runs.specs.Runs.{IsStoreFor}
 use Rattle.kernel_runs.specs.Steps.{StopsOn}
 use Rattle.kernel_runs.proofs.Outcomes.{outcome_is}
@@ -30,20 +31,20 @@ use Rattle.taco_top.specs.Told.{IsKernelOf}
 use Rattle.taco_top.specs.Stored.{NeedsStoredPairs, NeedsStoredWorkspace, stored_entries, stored_formats, stored_statement}
 use Rattle.taco_top.specs.Whole.{HeadsFit}
 
+apart : (count : ℕ) → TooLong Workspace count ≡ NotFinished → ⊥
+apart count e = cc
+
 -- where none is called for, the same run ends in no such way
 called_for : (over : Values) (s : Statement) (formats : List (List FormatLevel)) (order : List ℕ) (kernel : Kernel)
     → IsKernelOf over s formats order kernel → (store : Store) → IsStoreOf s formats store → (count : ℕ)
     → StopsOn over.arithmetic kernel store Workspace count → calls_for_workspace s formats order ≡ true
 called_for over s formats order kernel is store of_s count stops = by (calls_for_workspace s formats order) refl
   where
-    apart : TooLong Workspace count ≡ NotFinished → ⊥
-    apart e = cc
-
     by : (b : Bool) → calls_for_workspace s formats order ≡ b → calls_for_workspace s formats order ≡ true
     by true t = t
     by false t =
         absurd (outcome_is over.arithmetic (length store.format) kernel stops.given IsUnrefused (TooLong Workspace count)
-        (is.compiled.direct t store of_s stops.given stops.is_given) (λ none. none) stops.ends apart)
+        (is.compiled.direct t store of_s stops.given stops.is_given) (λ none. none) stops.ends (apart count))
 
 -- so it is of the statement as it is stored
 pub pairs_called : (over : Values) (s : Statement) (formats : List (List FormatLevel)) (plan : Option Planned) (order : List ℕ)
@@ -63,10 +64,17 @@ at_one_head : (over : Values) (s : Statement) (formats : List (List FormatLevel)
     → AreAtOneHead s order (head_variables s order) (told_by over.arithmetic store) count
 at_one_head over s formats order kernel is store of_s count stops sorted =
     outcome_is over.arithmetic (length store.format) kernel stops.given (NeedsOneHead s order (told_by over.arithmetic store))
-    (TooLong Workspace count) (is.compiled.heads sorted store of_s stops.given stops.is_given) (λ none. none) stops.ends apart
-  where
-    apart : TooLong Workspace count ≡ NotFinished → ⊥
-    apart e = cc
+    (TooLong Workspace count) (is.compiled.heads sorted store of_s stops.given stops.is_given) (λ none. none) stops.ends
+    (apart count)
+
+-- where one variable alone is the key, its range is too large for marks
+large_key : (over : Values) (s : Statement) (formats : List (List FormatLevel)) (order : List ℕ) (kernel : Kernel)
+    → IsKernelOf over s formats order kernel → (store : Store) → IsStoreOf s formats store → (count : ℕ)
+    → StopsOn over.arithmetic kernel store Workspace count → HasLargeKey s formats order store.ranges
+large_key over s formats order kernel is store of_s count stops =
+    outcome_is over.arithmetic (length store.format) kernel stops.given (NeedsLargeKey s formats order store) (TooLong Workspace count)
+    (is.compiled.marked (called_for over s formats order kernel is store of_s count stops) store of_s stops.given stops.is_given)
+    (λ none. none) stops.ends (apart count)
 
 pub workspace_needed : (over : Values) (s : Statement) (formats : List (List FormatLevel)) (plan : Option Planned) (order : List ℕ)
     (kernel : Kernel) (given : List (Option ℕ)) (entries : List Entries) (bounds : List (Vec Bound Global)) (count : ℕ)
@@ -76,10 +84,12 @@ pub workspace_needed : (over : Values) (s : Statement) (formats : List (List For
 workspace_needed over s formats None order kernel given entries bounds count is needs = record {
   pairs = needs;
   head = at_one_head over s formats order kernel is needs.store needs.is_store.is_store count needs.stops;
+  large = large_key over s formats order kernel is needs.store needs.is_store.is_store count needs.stops;
 }
 workspace_needed over s formats (Some plan) order kernel given entries bounds count is needs = record {
   pairs = needs;
   head = at_one_head over plan.statement plan.formats order kernel is needs.store needs.is_store.is_store count needs.stops;
+  large = large_key over plan.statement plan.formats order kernel is needs.store needs.is_store.is_store count needs.stops;
 }
 
 -- ---- no head needs so many where each fits
@@ -110,3 +120,17 @@ heads_fit over s formats (Some plan) order kernel given entries bounds count ran
     let pairs = needs.pairs in
     passes_none over.arithmetic plan.statement plan.formats order ranges pairs.ranges (drawn plan.origins entries) pairs.store count
     (same_ranges _ ranges pairs.ranges told pairs.ranges_are) pairs.is_store pairs.passes fit (needs.head sorted)
+
+-- ---- the ranges of a store are those of the statement
+pub large_by_ranges : (over : Values) (s : Statement) (formats : List (List FormatLevel)) (plan : Option Planned) (order : List ℕ)
+    (kernel : Kernel) (given : List (Option ℕ)) (entries : List Entries) (bounds : List (Vec Bound Global)) (count : ℕ) (ranges : List ℕ)
+    → told_ranges s given bounds ≡ Ok ranges → NeedsStoredWorkspace over s formats plan order kernel given entries bounds count
+    → HasLargeKey (stored_statement s plan) (stored_formats formats plan) order ranges
+large_by_ranges over s formats None order kernel given entries bounds count ranges told needs =
+    let pairs = needs.pairs in
+    subst (HasLargeKey s formats order)
+    (pairs.is_store.ranges_are ∙ same_ranges _ pairs.ranges ranges pairs.ranges_are told) needs.large
+large_by_ranges over s formats (Some plan) order kernel given entries bounds count ranges told needs =
+    let pairs = needs.pairs in
+    subst (HasLargeKey plan.statement plan.formats order)
+    (pairs.is_store.ranges_are ∙ same_ranges _ pairs.ranges ranges pairs.ranges_are told) needs.large

@@ -51,7 +51,8 @@ use Rattle.refusals.specs.declared.fault.Fault.TheVariants as fault
 use Rattle.refusals.specs.Lines.{status_of}
 use Rattle.taco_top.specs.Values.{Values, values_of, values_of_line, values_in}
 use Rattle.taco_top.specs.Asked.{IsRefusedByWords, IsWant, needs_order}
-use Rattle.taco_top.proofs.Called.{heads_fit}
+use Rattle.taco_compiler.specs.Tails.{HasLargeKey}
+use Rattle.taco_top.proofs.Called.{heads_fit, large_by_ranges}
 use Rattle.taco_top.proofs.ExecLines.{no_execution, refuses_line}
 use Rattle.taco_top.proofs.OneRequest as request
 use Rattle.taco_top.specs.Run.{Request, AsksFor, operand_path, path_of}
@@ -156,12 +157,13 @@ module _ (over : Values) (words : List (List ℕ)) (files : FolderState) (whole 
     pairs_fit : (plan : Option Planned) → IsRunBy whole.request plan → (order : List ℕ)
         → IsOrder (stored_statement whole.request.statement plan) (stored_formats whole.request.formats plan) order
         → calls_for_workspace (stored_statement whole.request.statement plan) (stored_formats whole.request.formats plan) order ≡ true
+        → HasLargeKey (stored_statement whole.request.statement plan) (stored_formats whole.request.formats plan) order whole.ranges
         → WorkspacesFit over.arithmetic (stored_statement whole.request.statement plan) (stored_formats whole.request.formats plan) order
         whole.ranges (stored_entries entries plan)
-    pairs_fit plan is_plan order is_order called =
+    pairs_fit plan is_plan order is_order called large =
         subst (λ es. WorkspacesFit over.arithmetic (stored_statement whole.request.statement plan)
         (stored_formats whole.request.formats plan) order whole.ranges
-        (stored_entries es plan)) (sym entries_are) (whole.pairs_fit plan is_plan order is_order called)
+        (stored_entries es plan)) (sym entries_are) (whole.pairs_fit plan is_plan order is_order called large)
 
     no_size_fault : (plan : Option Planned) (kernel : Kernel) (why : RunFault)
         → MayRefuseStored over whole.request.statement whole.request.formats plan kernel whole.request.given entries bounds why
@@ -245,6 +247,8 @@ module _ (over : Values) (words : List (List ℕ)) (files : FolderState) (whole 
             is.is_kernel.is_order)
             (subst (λ q. calls_for_workspace (stored_statement q.statement is.plan) (stored_formats q.formats is.plan) is.order ≡ true) same
             is.called)
+            (large_by_ranges over whole.request.statement whole.request.formats is.plan is.order is.kernel whole.request.given is.entries
+            is.bounds count whole.ranges (told_there new is.entries is.bounds operands) needs)
 
         by : (b : Bool) → list_any is_unordered (result_levels (stored_statement whole.request.statement is.plan)
             (stored_formats whole.request.formats is.plan)) ≡ b → ⊥

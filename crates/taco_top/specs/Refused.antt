@@ -77,7 +77,7 @@ pub record HasLargeLevel (over : Values) (words : List (List ℕ)) (old new : Fo
   pub is : IsLargeStoredLevel over request.statement request.formats plan kernel request.given entries bounds large
 
 -- the statement that is run calls for a workspace, in the order of its loops, and this kernel's run is refused it: it needs too many pairs,
--- at one head where each level of the result has an order
+-- at one head where each level of the result has an order. Where its key is one variable alone, that one's range is too large for marks
 pub record HasManyPairs (over : Values) (words : List (List ℕ)) (old new : FolderState) (count : ℕ) : Type 0 where
   pub request : Request
   pub plan : Option Planned

@@ -18,6 +18,7 @@ use Rattle.operand_packing.specs.Drawn.{drawn}
 use Rattle.operand_packing.specs.declared.large_level.LargeLevel.{LargeLevel}
 use Rattle.kernel_runs.specs.Planned.{IsLargePlannedLevel, NeedsPlannedPairs}
 use Rattle.kernel_runs.specs.Runs.{IsLargeLevel, NeedsPairs}
+use Rattle.taco_compiler.specs.Tails.{HasLargeKey}
 use Rattle.taco_top.specs.Values.{Values}
 use Rattle.taco_top.specs.Run.{Request}
 
@@ -64,7 +65,8 @@ abbrev pub needing_store : (over : Values) (s : Statement) (formats : List (List
 needing_store over s formats None kernel given entries bounds count needs = needs.store
 needing_store over s formats (Some plan) kernel given entries bounds count needs = needs.store
 
--- it needs so many pairs; at one head of the statement that is run, in the order of its loops, where each level of the result has an order
+-- it needs so many pairs; at one head of the statement that is run, in the order of its loops, where each level of the result has an order.
+-- Where its key is one variable alone, that one's range is too large for marks
 pub record NeedsStoredWorkspace (over : Values) (s : Statement) (formats : List (List FormatLevel)) (plan : Option Planned)
     (order : List ℕ) (kernel : Kernel) (given : List (Option ℕ)) (entries : List Entries) (bounds : List (Vec Bound Global)) (count : ℕ)
     : Type 0 where
@@ -72,3 +74,5 @@ pub record NeedsStoredWorkspace (over : Values) (s : Statement) (formats : List 
   pub head : list_any is_unordered (result_levels (stored_statement s plan) (stored_formats formats plan)) ≡ false
       → AreAtOneHead (stored_statement s plan) order (head_variables (stored_statement s plan) order)
       (told_by over.arithmetic (needing_store over s formats plan kernel given entries bounds count pairs)) count
+  pub large : HasLargeKey (stored_statement s plan) (stored_formats formats plan) order
+      (needing_store over s formats plan kernel given entries bounds count pairs).ranges

@@ -19,6 +19,7 @@ use Rattle.row_orders.specs.Takings.{calls_for_workspace, is_unordered}
 use Rattle.head_pairs.specs.Heads.{head_variables, pairs_at}
 use Rattle.kernel_correctness.specs.Stores.{Store, told_by}
 use Rattle.taco_compiler.specs.Compiled.{IsOrder}
+use Rattle.taco_compiler.specs.Tails.{HasLargeKey}
 use Rattle.kernel_runs.specs.Runs.{IsStoreFor, LevelsFit, PairsFit}
 use Rattle.taco_top.specs.Values.{Values}
 use Rattle.taco_top.specs.Asked.{needs_files}
@@ -52,7 +53,8 @@ pub record WorkspacesFit (a : Arithmetic) (s : Statement) (formats : List (List 
 
 -- the words of `run`, `auto` or `report` pass, with a loop order where the task needs one; every operand's file is there and stands for
 -- entries; the ranges agree; no level of an operand or of the result has more positions than may be, as they are stored; and where the
--- statement that is run calls for a workspace, it needs no more pairs
+-- statement that is run calls for a workspace, it needs no more pairs, unless its key is one variable alone whose range isn't too large for
+-- marks
 pub record IsWhole (over : Values) (words : List (List ℕ)) (holds : List ℕ → Told) : Type 0 where
   pub request : Request
   pub operands : List Operand
@@ -68,5 +70,6 @@ pub record IsWhole (over : Values) (words : List (List ℕ)) (holds : List ℕ �
   pub pairs_fit : (plan : Option Planned) → IsRunBy request plan → (order : List ℕ)
       → IsOrder (stored_statement request.statement plan) (stored_formats request.formats plan) order
       → calls_for_workspace (stored_statement request.statement plan) (stored_formats request.formats plan) order ≡ true
+      → HasLargeKey (stored_statement request.statement plan) (stored_formats request.formats plan) order ranges
       → WorkspacesFit over.arithmetic (stored_statement request.statement plan) (stored_formats request.formats plan) order ranges
       (stored_entries (map (λ operand. operand.entries) operands) plan)

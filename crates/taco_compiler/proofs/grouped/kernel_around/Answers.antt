@@ -68,7 +68,8 @@ returns-clause-compiled g c =
       bound = bound_there a laws s formats order for_appended c.requires.grouped.called rows.loops rows.are;
       adds = rows.adds;
     })
-    rows.chain (head_is s formats order grouped.first grouped.modes.now c.requires.tail) (sink.base + 4 * length sink.levels) end (record {
+    rows.chain (head_is s formats order grouped.first grouped.modes.now c.requires.tail) c.requires.tail.rest
+    (sink.base + 4 * length sink.levels) end (record {
       semiring = c.in_ok-semiring.semiring;
       workspaces = c.args.workspaces;
       lists = emitted.lists;

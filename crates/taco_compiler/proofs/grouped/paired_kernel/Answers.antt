@@ -10,7 +10,7 @@ use Rattle.taco_compiler.proofs.Tails.{tail_many}
 use Rattle.taco_compiler.proofs.grouped.paired_kernel.Goals as goal
 
 pub kernel_around-requires-clause-workspace : goal.kernel_around-requires-clause-workspace
-kernel_around-requires-clause-workspace g c = pair_workspace _
+kernel_around-requires-clause-workspace g c = pair_workspace _ c.requires.several
 
 pub kernel_around-requires-clause-suits : goal.kernel_around-requires-clause-suits
 kernel_around-requires-clause-suits g c = ap (λ spaces. slice_get spaces 0) c.in_ok-workspaces.ensures
