@@ -8,7 +8,7 @@ use Rattle.kernel_code.specs.declared.syntax.Arr.TheVariants.{Key, Sums, ListCoo
 use Rattle.kernel_code.specs.declared.syntax.LoopKind.{LoopKind}
 use Rattle.kernel_code.specs.declared.syntax.KStmt.{KStmt, Set, Combine, Put, AddTo, Push, Extend, Cut, Sort, SortSum, If', While'}
 use Rattle.kernel_code.specs.declared.syntax.KStmt.{Row_of-KStmt, end_of-KStmt, more_of-KStmt}
-use Rattle.kernel_code.specs.Arrays.{same_arr, may_write, may_have, sum_in}
+use Rattle.kernel_code.specs.Arrays.{same_arr, may_write, may_cut, may_have, sum_in}
 use Rattle.kernel_code.specs.Rows.{Row, column_of, list_rows, rows_from, sorted_rows, summed_rows}
 use Rattle.kernel_code.specs.Meaning.{Setting, State, Outcome, Ended, Stuck, Over, More, value, apply_each, combined, one_turn, then_run}
 use Rattle.kernel_code.specs.Meaning.{with_value, if_written, with_array, changed, grown, sort_outcome, sort_sum_outcome, summed}
@@ -131,7 +131,8 @@ mutual
   ends_run c n (Push a e) st = ends_value st (value e st) _ (λ v. ends_array st a _ (λ xs. ends_grown st a _ xs _))
   ends_run c n (Extend a count e) st =
       ends_value st (value count st) _ (λ m. ends_value st (value e st) _ (λ v. ends_array st a _ (λ xs. ends_grown st a _ xs _)))
-  ends_run c n (Cut a e) st = ends_value st (value e st) _ (λ m. ends_array st a _ (λ xs. still_set st a _))
+  ends_run c n (Cut a e) st =
+      ends_value st (value e st) _ (λ m. ends_written st (may_cut c.cuts_results a) (st.arrays a) _ (λ xs. still_set st a _))
   ends_run c n (Sort g) st = ends_sort st g (st.arrays (ListCoordinates g)) (st.arrays (ListPositions g))
   ends_run c n (SortSum w) st = ends_sort_sum c.arithmetic st w (slice_get c.workspaces w) (st.arrays (Sums w))
   ends_run c n (If' e p first q second) st =

@@ -8,7 +8,7 @@ use Rattle.kernel_code.specs.declared.syntax.Arr.TheVariants.{Key, Sums, ListCoo
 use Rattle.kernel_code.specs.declared.syntax.LoopKind.{LoopKind}
 use Rattle.kernel_code.specs.declared.syntax.KStmt.{KStmt, Set, Combine, Put, AddTo, Push, Extend, Cut, Sort, SortSum, If', While'}
 use Rattle.kernel_code.specs.declared.syntax.KStmt.{Row_of-KStmt, end_of-KStmt, more_of-KStmt}
-use Rattle.kernel_code.specs.Arrays.{same_arr, may_write, may_have, sum_in}
+use Rattle.kernel_code.specs.Arrays.{same_arr, may_write, may_cut, may_have, sum_in}
 use Rattle.kernel_code.specs.Rows.{Row}
 use Rattle.kernel_code.specs.Meaning.{Setting, State, Outcome, Ended, Stuck, Over, More, value, apply_each, combined, one_turn, then_run}
 use Rattle.kernel_code.specs.Meaning.{set_array, with_value, if_written, with_array, changed, grown, sort_outcome, sort_sum_outcome, summed}
@@ -16,6 +16,7 @@ use Rattle.kernel_code.specs.Meaning.{key_columns, set_columns, choice, run_turn
 use Rattle.kernel_code.specs.Meaning.{statements_in, statements_in_row}
 use Rattle.kernel_code.specs.Kernels.{all_turns, within}
 use Rattle.kernel_code.proofs.ArrayNames.{same_arr_is}
+use Rattle.kernel_code.proofs.Does.{cut_is_written}
 use Rattle.kernel_machine.specs.Kept.{Keeps}
 
 -- where a run ends, it has kept them
@@ -147,7 +148,9 @@ mutual
   keeps_run c n (Extend a count e) st =
       keeps_value st (value count st) _
       (λ m. keeps_value st (value e st) _ (λ v. keeps_array st a _ (λ may xs. keeps_grown st a _ _ may xs)))
-  keeps_run c n (Cut a e) st = keeps_value st (value e st) _ (λ m. keeps_array st a _ (λ may xs. keeps_set st a _ may))
+  keeps_run c n (Cut a e) st =
+      keeps_value st (value e st) _
+      (λ m. keeps_written st (may_cut c.cuts_results a) (st.arrays a) _ (λ may xs. keeps_set st a _ (cut_is_written c.cuts_results a may)))
   keeps_run c n (Sort g) st = keeps_sort st g (st.arrays (ListCoordinates g)) (st.arrays (ListPositions g))
   keeps_run c n (SortSum w) st = keeps_sort_sum c.arithmetic st w (slice_get c.workspaces w) (st.arrays (Sums w))
   keeps_run c n (If' e p first q second) st =
