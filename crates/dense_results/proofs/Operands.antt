@@ -80,14 +80,14 @@ index_most (x ∷ xs) (suc m) n all = index_most xs m n (λ k d h. all (suc k) d
 
 module _ (s : Statement) (formats : List (List FormatLevel)) (store : Store) (r : IsReadStore s formats store) where
   -- the tensor of an access is that of an operand
-  pub record IsRead (access : Access) : Type 0 where
+  pub record ReadsOperand (access : Access) : Type 0 where
     pub number : ℕ
     pub tensor : access.tensor ≡ suc number
     pub inside : number < length store.operands
     pub operand : IsOperand (format_of formats access.tensor)
         (level_sizes s (slice_index store.ranges) access.tensor (format_of formats access.tensor)) (operand_of store access.tensor)
 
-  is_read : (k : ℕ) (access : Access) → slice_get s.accesses k ≡ Some access → IsRead access
+  is_read : (k : ℕ) (access : Access) → slice_get s.accesses k ≡ Some access → ReadsOperand access
   is_read k access is = by access.tensor refl
     where
       unread : access.tensor ≢ 0
@@ -99,7 +99,7 @@ module _ (s : Statement) (formats : List (List FormatLevel)) (store : Store) (r 
           let many = r.is.operands in
           omega (arith, below, many)
 
-      by : (t : ℕ) → access.tensor ≡ t → IsRead access
+      by : (t : ℕ) → access.tensor ≡ t → ReadsOperand access
       by zero e = absurd (unread e)
       by (suc n) e =
           let inside : n < length store.operands = omega (arith, small, e) in
@@ -124,7 +124,7 @@ module _ (s : Statement) (formats : List (List FormatLevel)) (store : Store) (r 
       (i.operand.storage.letters ∙ ap letters_of i.operand.format_is)
 
   module _ (nothing : ℕ) (arrays : Arrays) (given : IsGiven nothing store arrays) where
-    held_at : (access : Access) → IsRead access → IsHeld (operand_of store access.tensor) access.tensor arrays
+    held_at : (access : Access) → ReadsOperand access → IsHeld (operand_of store access.tensor) access.tensor arrays
     held_at access i =
         let one_more : 1 + i.number ≡ suc i.number = omega arith in
         subst (λ t. IsHeld (operand_of store t) t arrays) (sym i.tensor)
