@@ -1,0 +1,6 @@
+pub mod Bound
+pub mod Inner
+pub mod Multiplied
+pub mod Pieces
+pub mod Support
+pub mod Told

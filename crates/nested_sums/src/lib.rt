@@ -1,0 +1,14 @@
+//! Nested sums in a loop order: `inner` tells which of them are inner, so that each can be computed where its free variables are
+//! fixed (`specs/Inner.antt`), and `multiply_out` makes of a statement one in which each is. `specs/Pieces.antt` and
+//! `specs/Multiplied.antt` say how and what it keeps, with `specs/Support.antt`, and `specs/Bound.antt` of which statements.
+#![tactic(auto)]
+
+mod copies;
+mod cutting;
+mod inner_sums;
+mod multiplying;
+mod opening;
+mod units;
+
+pub use inner_sums::inner;
+pub use multiplying::multiply_out;
