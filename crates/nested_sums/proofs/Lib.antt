@@ -10,6 +10,7 @@ pub mod KeptSums
 pub mod Leaves
 pub mod Meaning
 pub mod MultipliedInner
+pub mod MultipliedMinus
 pub mod MultipliedNumbers
 pub mod MultipliedSupport
 pub mod MultipliedTerms

@@ -143,3 +143,7 @@ pub record KeepsRest (s out : Statement) : Type 0 where
 -- each sum of a statement is inner for an order
 abbrev pub HasInnerSums : List ℕ → Statement → Type 0
 HasInnerSums order s = (n : ℕ) → n < length s.sums → is_inner s order n ≡ true
+
+-- no minus stands where none stood
+abbrev pub KeepsNoMinus : Statement → Statement → Type 0
+KeepsNoMinus s out = has_minus_with_sums s ≡ false → has_minus_with_sums out ≡ false

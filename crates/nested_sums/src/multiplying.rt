@@ -9,7 +9,7 @@ ghost use Rattle.nested_sums.specs.Pieces.{opened_sums};
 ghost use Rattle.nested_sums.specs.Support.{KeepsSupport};
 ghost use Rattle.nested_sums.specs.Multiplied.{final_term, unit_leaf, added, sum_of_terms};
 ghost use Rattle.nested_sums.specs.Multiplied.{term_pieces, all_sums, multiplied_out, multiplied};
-ghost use Rattle.nested_sums.specs.Multiplied.{KeepsValue, KeepsRest, HasInnerSums};
+ghost use Rattle.nested_sums.specs.Multiplied.{KeepsValue, KeepsRest, HasInnerSums, KeepsNoMinus};
 
 use crate::copies::copy_statement;
 use crate::cutting::push_pieces_of_terms;
@@ -288,6 +288,7 @@ fn multiplied_by(
     requires clear { HasNoBadSum statement }
     ensures value { IfOk result (KeepsValue one statement) }
     ensures support { IfOk result (KeepsSupport statement) }
+    ensures meant { IfOk result (KeepsNoMinus statement) }
     ensures numbered { IfOk result IsNumberedWithSums }
     ensures rest { IfOk result (KeepsRest statement) }
     ensures inner { IfOk result (HasInnerSums order.now) }
@@ -310,6 +311,7 @@ pub fn multiply_out<S: Semiring>(
     requires clear { HasNoBadSum statement }
     ensures value { IfOk result (KeepsValue S.arithmetic.one statement) }
     ensures support { IfOk result (KeepsSupport statement) }
+    ensures meant { IfOk result (KeepsNoMinus statement) }
     ensures numbered { IfOk result IsNumberedWithSums }
     ensures rest { IfOk result (KeepsRest statement) }
     ensures inner { IfOk result (HasInnerSums order.now) }
