@@ -2,9 +2,10 @@
 --   statement = access ("=" | "+=") sum end
 --   sum       = product { ("+" | "-") product }, grouped to the left
 --   product   = factor { "*" factor }, grouped to the left
---   factor    = number | access | "(" sum ")" | "-" factor
+--   factor    = number | access | "(" sum ")" | "-" factor | "sum" "(" variable "," sum ")"
 --   access    = name [ "(" variable { "," variable } ")" ]
-use Rattle.std.specs.Prelude.{◌≡◌, ℕ, suc, Bool, true, false, List, [], ◌∷◌, ◌++◌}
+-- The name `sum` is no tensor's.
+use Rattle.std.specs.Prelude.{◌≡◌, ℕ, suc, Bool, true, false, bytes_eq, List, [], ◌∷◌, ◌++◌}
 use Rattle.index_notation.specs.declared.syntax.Name.{Name}
 use Rattle.index_notation.specs.declared.token.Mark.{Mark}
 use Rattle.index_notation.specs.declared.token.Mark.TheVariants.{Equals, PlusEquals, Plus, Minus, Times, Open, Close, Comma}
@@ -21,6 +22,7 @@ mutual
     Read : WrittenAccess → Factor
     Bracketed : Sum → Factor
     Negated : Factor → Factor
+    Summed : Name → Sum → Factor
 
   pub data Product : Type 0 where
     Lone : Factor → Product
@@ -31,9 +33,30 @@ mutual
     Added : Sum → Product → Sum
     Taken : Sum → Product → Sum
 
--- the name that nested sums have in a list of tensors' names; no text has such sums
+-- the name with which a nested sum begins
 abbrev pub sum_name : Name
 sum_name = record { bytes = 115 ∷ 117 ∷ 109 ∷ [] }
+
+abbrev pub is_sum : Name → Bool
+is_sum name = bytes_eq name.bytes sum_name.bytes
+
+-- no access has that name
+abbrev mutual
+  pub FactorNames : Factor → Type 0
+  FactorNames (Digits digits) = Unit {0}
+  FactorNames (Read access) = is_sum access.name ≡ false
+  FactorNames (Bracketed sum) = SumNames sum
+  FactorNames (Negated factor) = FactorNames factor
+  FactorNames (Summed var sum) = SumNames sum
+
+  pub ProductNames : Product → Type 0
+  ProductNames (Lone factor) = FactorNames factor
+  ProductNames (Multiplied product factor) = ProductNames product × FactorNames factor
+
+  pub SumNames : Sum → Type 0
+  SumNames (Alone product) = ProductNames product
+  SumNames (Added sum product) = SumNames sum × ProductNames product
+  SumNames (Taken sum product) = SumNames sum × ProductNames product
 
 -- an access, and whether the right side is added to its old tensor
 pub record LeftSide : Type 0 where
@@ -44,12 +67,17 @@ pub record Tree : Type 0 where
   pub left : LeftSide
   pub right : Sum
 
+pub record HasNames (tree : Tree) : Type 0 where
+  pub left : is_sum tree.left.access.name ≡ false
+  pub right : SumNames tree.right
+
 -- what a symbol does in its sentence: it names an access of the left or right side, is the n-th variable of its
--- access, is a number, opens the n-th level, or none of these
+-- access, is the variable of a nested sum, is a number, opens the n-th level, or none of these
 pub data Role : Type 0 where
   NamesLeft : Role
   NamesRight : Role
   IsVariable : ℕ → Role
+  Binds : Role
   IsNumber : Role
   Opens : ℕ → Role
   Plain : Role
@@ -88,6 +116,9 @@ abbrev mutual
   factor_of n (Read access) = access_of NamesRight access
   factor_of n (Bracketed sum) = written (MarkToken Open) (Opens (suc n)) ∷ (sum_of (suc n) sum ++ (plain Close ∷ []))
   factor_of n (Negated factor) = written (MarkToken Minus) (Opens (suc n)) ∷ factor_of (suc n) factor
+  factor_of n (Summed var sum) =
+      written (NameToken sum_name) Plain ∷ written (MarkToken Open) (Opens (suc n)) ∷ written (NameToken var) Binds ∷ plain Comma ∷
+      (sum_of (suc n) sum ++ (plain Close ∷ []))
 
   pub product_of : ℕ → Product → List Written
   product_of n (Lone factor) = factor_of n factor
@@ -118,5 +149,6 @@ symbols (m ∷ ms) = m.symbol ∷ symbols ms
 -- some sentence begins with these symbols in these roles
 pub record Begins (ms : List Written) : Type 0 where
   pub tree : Tree
+  pub names : HasNames tree
   pub rest : List Written
   pub is : ms ++ rest ≡ sentence_of tree

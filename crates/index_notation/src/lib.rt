@@ -1,6 +1,6 @@
 //! Statements of index notation: one assignment whose right side is made of accesses to tensors, numbers, sums,
 //! differences, products, negations and nested sums over variables. Here stand the types, when a statement is well
-//! formed, and the relation between texts and statements, of which no text has nested sums: the symbols of a text, the
+//! formed, and the relation between texts and statements: the symbols of a text, the
 //! grammar as the symbols of a syntax tree, the statement of a tree, and the one fault of each text that is none.
 #![tactic(auto)]
 
