@@ -20,7 +20,7 @@ fn extend_last(accesses: &mut Items<WrittenAccess>, var: Name) -> Result<(), All
     Ok(())
 }
 
-/// Keeps what a symbol says of the accesses: a name begins one, unless it is a variable of the last.
+/// Keeps what a symbol says of the accesses: a name begins one, unless it is a variable of the last, or a nested sum's.
 pub fn mention(
     alloc: Global,
     accesses: &mut Items<WrittenAccess>,
@@ -32,10 +32,11 @@ pub fn mention(
     let Symbol::Lexeme(Token::Name(name)) = symbol else {
         return Ok(());
     };
-    let name = copy_name(alloc, name)?;
     match lead {
-        Lead::Variable(_) => extend_last(accesses, name),
+        Lead::Sum | Lead::Bound => Ok(()),
+        Lead::Variable(_) => extend_last(accesses, copy_name(alloc, name)?),
         _ => {
+            let name = copy_name(alloc, name)?;
             let vars = Items::new(alloc);
             accesses.push(WrittenAccess { name, vars })?;
             Ok(())
