@@ -1,3 +1,4 @@
+pub mod Alike
 pub mod Loops
 pub mod Merged
 pub mod Parts
