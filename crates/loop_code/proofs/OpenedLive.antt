@@ -22,7 +22,8 @@ use Rattle.loop_code.specs.declared.loops.LoopCode.TheViews.{roll-LoopCode}
 use Rattle.loop_code.specs.declared.loops.LoopCode.TheOpen as view
 use Rattle.loop_code.specs.Loops.{Both', Loop', Sum', Row_of-LoopCode, end_of-LoopCode, more_of-LoopCode}
 use Rattle.loop_code.specs.Opened.{AreOnce, AreOnce_in, HasNoSum, HasNoSum_in, opened, opened_by, put_at, put_in, whole}
-use Rattle.loop_code.specs.Parts.{given, is_live, is_live_in, is_live_below, is_live_below_in, remains, remains_in, remains_below, remains_below_in}
+use Rattle.loop_code.specs.Parts.{given, is_live, is_live_in, is_live_below, is_live_below_in, remains, remains_in, remains_below}
+use Rattle.loop_code.specs.Parts.{remains_below_in}
 use Rattle.loop_code.proofs.Opened.{all_remain, at_sum, put_remains}
 use Rattle.loop_code.proofs.PresentParts.{or_left, or_right}
 
