@@ -124,9 +124,8 @@ abbrev pub multiplied : ℕ → Statement → List ℕ → Statement
 multiplied one s order =
     if list_all (is_inner s order) (numbers_from 0 (length s.sums)) then s else multiplied_out one s order
 
--- at every point both have the same value, whatever the values of their tensors and the ranges of their variables, over every arithmetic
--- with
--- this one; where a minus stands there is one
+-- at every point both have the same value, whatever the values of their tensors and the ranges of their variables, over every
+-- arithmetic that keeps the laws and has this one; where a minus stands it has one that keeps the laws of a minus
 abbrev pub KeepsValue : ℕ → Statement → Statement → Type 0
 KeepsValue one s out = (a : Arithmetic) → Laws a → a.one ≡ one → (has_minus_with_sums s ≡ true → MinusLaws a)
     → (values : ℕ → List ℕ → ℕ) (ranges : ℕ → ℕ) (coords : List ℕ)

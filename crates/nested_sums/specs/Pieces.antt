@@ -1,7 +1,7 @@
--- Pieces of expressions: where products are distributed over sums and differences, as far as sums that aren't inner stand in them, each
--- such
--- sum is a whole piece or a factor of one, and what it sums over is then summed over with the whole piece.
-use Rattle.std.specs.Prelude.{◌≡◌, ℕ, ◌+◌, nat_eq, Bool, true, false, not, ◌||◌, ◌&&◌, if◌then◌else◌, List, [], ◌∷◌, ◌++◌, map}
+-- Pieces of expressions: where products are distributed over sums and differences, as far as sums that aren't inner stand in them,
+-- each such sum is a whole piece or a factor of one, and what it sums over is then summed over with the whole piece.
+use Rattle.std.specs.Prelude.{◌≡◌, ℕ, ◌+◌, nat_eq, Bool, true, false, not, ◌||◌, ◌&&◌, if◌then◌else◌}
+use Rattle.std.specs.Prelude.{List, [], ◌∷◌, ◌++◌, map}
 use Rattle.std.specs.List.{list_any}
 use Rattle.index_notation.specs.declared.operator.Operator.{Operator}
 use Rattle.index_notation.specs.declared.operator.Operator.TheVariants as op

@@ -1,6 +1,7 @@
 //! The sums of a statement that is multiplied out: inner ones stay in their places, and each variable over which a piece is summed without
 //! standing in it has a unit, the sum of a one for each of its coordinates.
-ghost use Rattle.std.specs.Prelude.{◌≡◌, ◌+◌, ◌<◌, ◌≤◌, ◌^◌, ◌++◌, if◌then◌else◌, length, map, filter, not, ◌&&◌, true, false, IfOk, OnOk};
+ghost use Rattle.std.specs.Prelude.{◌≡◌, ◌+◌, ◌<◌, ◌≤◌, ◌^◌, ◌++◌, if◌then◌else◌, length, map, filter};
+ghost use Rattle.std.specs.Prelude.{not, ◌&&◌, true, false, IfOk, OnOk};
 ghost use Rattle.std.specs.List.{list_any};
 ghost use Rattle.expr_terms.specs.Terms.{contains, stands_in};
 ghost use Rattle.nested_sums.specs.Inner.{is_inner};
