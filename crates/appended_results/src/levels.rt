@@ -1,5 +1,6 @@
 //! One level of a result, to which heads of rows are appended.
-ghost use Rattle.std.specs.Prelude.{◌≡◌, ◌≤◌, ◌<◌, ◌*◌, ◌+◌, ◌^◌, ℕ, suc, false, true, List, [], ◌∷◌, ◌++◌, length, IfOk};
+ghost use Rattle.std.specs.Prelude.{◌≡◌, ◌≤◌, ◌<◌, ◌*◌, ◌+◌, ◌^◌, ℕ, suc, false, true, List, [], ◌∷◌, ◌++◌};
+ghost use Rattle.std.specs.Prelude.{length, IfOk};
 ghost use Rattle.kernel_code.specs.declared.syntax.KExpr.{KExpr};
 ghost use Rattle.kernel_code.specs.declared.syntax.KStmt.{KStmt};
 ghost use Rattle.kernel_code.specs.Keeps.{Mentions};

@@ -12,7 +12,8 @@ use Rattle.kernel_code.specs.declared.syntax.KStmt.{KStmt, Set, Combine, Put, Ad
 use Rattle.dead_code.specs.Follows.{Follows}
 use Rattle.dead_code.specs.Gathers.{AreGathered, IsLeftOfChoice, Nothing, Choice, Leaves, last_of}
 use Rattle.dead_code.specs.Live.{is_live, Covers, CoversBut, ReadsLive, Agree, left_of}
-use Rattle.dead_code.proofs.Following.{alike_plain, follows_then, follows_wider, follows_now, set_alike, combine_alike, put_alike, sum_alike}
+use Rattle.dead_code.proofs.Following.{alike_plain, follows_then, follows_wider, follows_now, set_alike, combine_alike}
+use Rattle.dead_code.proofs.Following.{put_alike, sum_alike}
 use Rattle.dead_code.proofs.Following.{push_alike, extend_alike, cut_alike, choice_runs, set_dropped, combine_dropped, choice_dropped}
 use Rattle.dead_code.proofs.Following.{follows_loop, follows_sort, follows_sort_sum}
 use Rattle.dead_code.proofs.Gathering.{gathered, none_last}

@@ -21,7 +21,8 @@ use Rattle.kernel_code.specs.Meaning.{Setting, State, value, set_var, set_array,
 use Rattle.kernel_code.proofs.ArrayNames.{same_arr_is}
 use Rattle.kernel_code.proofs.SortLemmas.{sort_done}
 use Rattle.kernel_code.specs.Does.{Does, Never, Turn, Goes}
-use Rattle.kernel_code.proofs.Does.{does_append, does_set, does_push, does_cut, does_sort, does_nothing, does_if_yes, does_if_no, does_while}
+use Rattle.kernel_code.proofs.Does.{does_append, does_set, does_push, does_cut, does_sort, does_nothing, does_if_yes}
+use Rattle.kernel_code.proofs.Does.{does_if_no, does_while}
 use Rattle.kernel_code.specs.Keeps.{Leaves, NoVariable, EveryArray, no_turns}
 use Rattle.kernel_code.proofs.Keeps.{this_var, other_var, this_array, other_array}
 use Rattle.kernel_code.proofs.Words.{sum_is, less_yes, less_no}

@@ -10,7 +10,8 @@ use Rattle.kernel_code.specs.declared.syntax.KExpr.TheBlock.{hidden-the_row-KExp
 use Rattle.kernel_code.specs.declared.syntax.KStmt.{KStmt, If, While, Row_of-KStmt, end_of-KStmt, more_of-KStmt, items-the_row-KStmt}
 use Rattle.kernel_code.specs.declared.syntax.KStmt.{items_hidden-the_row-KStmt-0}
 use Rattle.kernel_code.specs.declared.syntax.KStmt.TheBlock.{hidden-the_row-KStmt-0}
-use Rattle.kernel_code.specs.Meaning.{Setting, State, value, word_at, width_of, apply_each, apply_both, choice, then_run, behind, run, run_row}
+use Rattle.kernel_code.specs.Meaning.{Setting, State, value, word_at, width_of, apply_each, apply_both, choice}
+use Rattle.kernel_code.specs.Meaning.{then_run, behind, run, run_row}
 use Rattle.kernel_code.specs.Meaning.{run_list, run_turns, statements_in, statements_in_row, statements_in_list}
 
 pub value_at : (a : Arr) (i : KExpr) (s : State) → value (At a i) s ≡ word_at (s.arrays a) (value i s)

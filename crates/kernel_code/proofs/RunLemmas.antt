@@ -1,5 +1,6 @@
 -- Runs of lists of statements and of loops, piece by piece, where at most n turns are told of.
-use Rattle.std.specs.Prelude.{◌≡◌, ℕ, zero, suc, ◌+◌, ◌≤◌, ◌<◌, Bool, true, false, nat_le, if◌then◌else◌, List, ◌∷◌, Option, None, Some, refl}
+use Rattle.std.specs.Prelude.{◌≡◌, ℕ, zero, suc, ◌+◌, ◌≤◌, ◌<◌, Bool, true, false, nat_le, if◌then◌else◌, List, ◌∷◌}
+use Rattle.std.specs.Prelude.{Option, None, Some, refl}
 use Rattle.std.proofs.Common.{◌∙◌, sym, ap, arith}
 use Rattle.std.proofs.lemmas.Bool.Decides.{nat_tests}
 use Rattle.kernel_code.specs.declared.syntax.LoopKind.{LoopKind}
@@ -11,7 +12,8 @@ use Rattle.kernel_code.proofs.Behind.{then_same, within_behind}
 use Rattle.kernel_code.proofs.Equations.{run_if}
 use Rattle.kernel_code.specs.Kernels.{all_turns, within}
 use Rattle.kernel_code.specs.Turns.{AtLeast}
-use Rattle.kernel_code.proofs.TurnsLemmas.{at_least_turns, at_least_list, at_least_rest, one_turn_more, within_then, within_beyond, within_ended}
+use Rattle.kernel_code.proofs.TurnsLemmas.{at_least_turns, at_least_list, at_least_rest, one_turn_more, within_then}
+use Rattle.kernel_code.proofs.TurnsLemmas.{within_beyond, within_ended}
 use Rattle.kernel_code.proofs.TurnsLemmas.{within_stuck, at_least_after_turn}
 
 -- a run that has ended was within the bound

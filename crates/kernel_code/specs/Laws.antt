@@ -41,8 +41,7 @@ abbrev pub StartsAsGiven : Type 0
 StartsAsGiven = (k : Kernel) (given : Arr → Option (List ℕ)) → k.workspaces ≡ [] → k.lists ≡ 0
     → ((a : Arr) → is_scratch a ≡ true → given a ≡ None) → (a : Arr) → start_arrays k given a ≡ given a
 
--- where arrays of the result may not be cut, what stands in them is never taken back: none gets shorter, so that each word that is
--- appended to one is there at the end
+-- where arrays of the result may not be cut, none of them gets shorter, so that each position of one is appended once
 abbrev pub NothingIsTakenBack : Type 0
 NothingIsTakenBack = (c : Setting) → c.cuts_results ≡ false → (n : ℕ) (code : List KStmt) (s s' : State) → run_list c n code s ≡ Ended s'
     → (a : Arr) → is_scratch a ≡ false → (xs : List ℕ) → s.arrays a ≡ Some xs

@@ -30,8 +30,8 @@ IsRightOutcome a s inputs store (TooLong Workspace count) =
     (greatest_position_count < count) × (count ≤ pairs s (standing_order s) inputs) × (AreAllDense store.format → ⊥)
 IsRightOutcome a s inputs store NotFinished = ⊥
 
--- within some number of turns the outcome is such; and it is the same where arrays of the result may not be cut, so that the kernel takes
--- back nothing: each word that it appends to such an array is there at the end
+-- within some number of turns the outcome is such; and it is the same where arrays of the result may not be cut, so that none of them
+-- gets shorter and each position of one is appended once
 pub record Ends (a : Arithmetic) (order : ℕ) (kernel : Kernel) (arrays : Arrays) (P : KernelOutcome → Type 0) : Type 0 where
   pub turns : ℕ
   pub outcome : KernelOutcome

@@ -13,7 +13,8 @@ use Rattle.kernel_code.proofs.RunLemmas.{first_then}
 use Rattle.kernel_interpreter.specs.declared.machine.Machine.{Machine}
 use Rattle.kernel_interpreter.specs.declared.ending.Step.{Step}
 use Rattle.kernel_interpreter.specs.declared.ending.Step.TheVariants as step
-use Rattle.kernel_code.specs.Meaning.{Setting, State, Outcome, Ended, Stuck, Over, More, then_run, behind, run, run_list, statements_in, statements_in_list}
+use Rattle.kernel_code.specs.Meaning.{Setting, State, Outcome, Ended, Stuck, Over, More, then_run, behind, run}
+use Rattle.kernel_code.specs.Meaning.{run_list, statements_in, statements_in_list}
 use Rattle.kernel_interpreter.specs.Store.{state_of, outcome_at, has_ended, IsTold}
 
 -- what hasn't ended stops what follows

@@ -7,13 +7,15 @@ ghost use Rattle.kernel_code.specs.declared.syntax.Arr.{Arr};
 ghost use Rattle.kernel_code.specs.declared.syntax.Arr.TheVariants.{ListCoordinates, ListPositions, Key, Sums};
 ghost use Rattle.kernel_code.specs.Meaning.{Ended, Stuck, Outcome, set_array, one_turn, sort_outcome, sort_sum_outcome, key_columns};
 ghost use Rattle.kernel_code.specs.Meaning.{set_columns, with_array, changed, grown, value, word_at, length_of, set_outcome};
-ghost use Rattle.kernel_code.specs.Meaning.{put_outcome, add_outcome, push_outcome, extend_outcome, cut_outcome, behind, statements_in_list};
+ghost use Rattle.kernel_code.specs.Meaning.{put_outcome, add_outcome, push_outcome, extend_outcome, cut_outcome};
+ghost use Rattle.kernel_code.specs.Meaning.{behind, statements_in_list};
 ghost use Rattle.lent_arrays.specs.Lent.{lent_array};
 ghost use Rattle.machine_parts.specs.ArrayPlaces.{held};
 ghost use Rattle.machine_parts.specs.Rows.{row_of};
 ghost use Rattle.resolved_code.specs.Erase.{erase};
 ghost use Rattle.kernel_interpreter.specs.Memory.{variable_room};
-ghost use Rattle.kernel_interpreter.specs.Store.{count_of, state_of, own_array, outcome_at, outcome_of, made, IsPlaceOf, IsTold, IsWritable};
+ghost use Rattle.kernel_interpreter.specs.Store.{count_of, state_of, own_array, outcome_at, outcome_of, made};
+ghost use Rattle.kernel_interpreter.specs.Store.{IsPlaceOf, IsTold, IsWritable};
 
 use crate::ending::{Ending, Refused, Step};
 use crate::turns::{KeptTurns, NO_TURNS};

@@ -5,7 +5,8 @@ use Rattle.numbers.specs.Arithmetic.{Arithmetic}
 use Rattle.kernel_code.specs.declared.syntax.Kernel.{Kernel}
 use Rattle.kernel_code.specs.declared.syntax.KStmt.{KStmt}
 use Rattle.kernel_code.specs.declared.syntax.LoopKind.{LoopKind}
-use Rattle.kernel_code.specs.Kernels.{KernelOutcome, Finished, GotStuck, NotFinished, all_turns, go, told, within, start_state, start_arrays}
+use Rattle.kernel_code.specs.Kernels.{KernelOutcome, Finished, GotStuck, NotFinished, all_turns, go, told, within}
+use Rattle.kernel_code.specs.Kernels.{start_state, start_arrays}
 use Rattle.kernel_code.specs.Meaning.{State, Ended, run_list}
 use Rattle.kernel_code.proofs.More.{goes_on}
 use Rattle.level_core.specs.Meaning.{Arrays}

@@ -1,5 +1,6 @@
 -- Arrays hold the levels whose words were taken from them, where they came of those with which a run starts.
-use Rattle.std.specs.Prelude.{◌≡◌, ℕ, suc, Bool, true, false, List, [], ◌∷◌, length, map, replicate, All, Option, Some, None, option_map, refl}
+use Rattle.std.specs.Prelude.{◌≡◌, ℕ, suc, Bool, true, false, List, [], ◌∷◌, length, map, replicate, All, Option, Some}
+use Rattle.std.specs.Prelude.{None, option_map, refl}
 use Rattle.std.proofs.Common.{◌∙◌, sym, ap, subst, arith}
 use Rattle.std.proofs.lemmas.List.Elements.{All-nil, All-cons}
 use Rattle.kernel_code.specs.declared.syntax.Arr.TheVariants.{Values, Dimension, Ends, Coordinates, Width}

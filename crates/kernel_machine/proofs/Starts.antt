@@ -29,7 +29,8 @@ use Rattle.lent_arrays.specs.declared.lent.Operand.{Operand}
 use Rattle.lent_arrays.specs.Lent.{numbered, words_of_level, words_of_operand, values_of_operand, one_word, if_there, size_in, lent_array}
 use Rattle.kernel_interpreter.specs.declared.machine.Machine.{Machine}
 use Rattle.kernel_interpreter.specs.Store.{own_array, by_right, state_of}
-use Rattle.machine_starts.specs.Begun.{filled_with, with_zeros, begun, begun_result, with_keys, with_workspaces, with_lists, HasSizes, AreBegun}
+use Rattle.machine_starts.specs.Begun.{filled_with, with_zeros, begun, begun_result, with_keys, with_workspaces}
+use Rattle.machine_starts.specs.Begun.{with_lists, HasSizes, AreBegun}
 use Rattle.level_core.specs.Kinds.{properties, parents_below, zeros_at_start}
 use Rattle.machine_starts.specs.Begun.{IsFew, IsNotMade, sizes_lent}
 use Rattle.machine_starts.proofs.Alone.{result_lacks, result_above, result_behind, no_size}

@@ -25,7 +25,8 @@ use Rattle.kernel_print.specs.KernelTexts.{StatementHasWords, CodeHasWords, AreW
 use Rattle.kernel_print.specs.Text.{array_text, expr_text, statement_text, statements_text, workspaces_text, lists_text}
 use Rattle.kernel_print.specs.Text.{head_text, kernel_text}
 use Rattle.kernel_print.proofs.ArrayNames.{first_true, number_in, behind_digits, second_byte}
-use Rattle.kernel_print.proofs.StatementTexts.{first_byte, first_digit, byte_isnt, digit_isnt, numbered, code_told, code_size, StatementTold, CodeTold}
+use Rattle.kernel_print.proofs.StatementTexts.{first_byte, first_digit, byte_isnt, digit_isnt, numbered, code_told}
+use Rattle.kernel_print.proofs.StatementTexts.{code_size, StatementTold, CodeTold}
 use Rattle.kernel_print.proofs.StatementTexts.{nothing_told, more_told, set_case, combine_case, put_case, add_case, push_case, extend_case}
 use Rattle.kernel_print.proofs.StatementTexts.{cut_case, sort_case, sum_case, if_case, while_case}
 

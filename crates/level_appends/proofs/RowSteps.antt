@@ -29,7 +29,8 @@ use Rattle.level_rows.proofs.Progress.{Progress, Filled}
 use Rattle.level_rows.proofs.RowLaws.{begun_yes, begun_few, begun_some}
 use Rattle.level_rows.proofs.AppendSteps.{none_done, may_turn, turns, turned_begin, may_add, adds, fills}
 use Rattle.level_appends.specs.Appended.{IsOfCursor, LevelAt, LevelFilled}
-use Rattle.level_appends.specs.Codes.{begin_code, turn_code, add_code, end_code, IsBeside, IsAtStart, BeginsCursor, ReservesParents, AppendsRow}
+use Rattle.level_appends.specs.Codes.{begin_code, turn_code, add_code, end_code, IsBeside, IsAtStart, BeginsCursor}
+use Rattle.level_appends.specs.Codes.{ReservesParents, AppendsRow}
 use Rattle.level_appends.specs.Codes.{EndsLevel}
 use Rattle.level_appends.proofs.Logs.{ends_upto, progress_reserved}
 use Rattle.level_appends.proofs.Fragments.{log_kept, log_reserved, log_appended, log_given, edges_coords}

@@ -12,7 +12,8 @@ use Rattle.kernel_code.proofs.Widths.{slot_width_small}
 use Rattle.kernel_code.proofs.Words.{product_is, difference_is, less_yes, less_no}
 use Rattle.kernel_code.specs.declared.syntax.KExpr.{KExpr, Num, Bin, Min}
 use Rattle.kernel_code.specs.declared.syntax.Op.TheVariants.{Mul}
-use Rattle.level_core.specs.GuardedProducts.{greatest_narrow_factor, parents_of_wide, is_wide, most_parents, guarded_product, StandsForProduct}
+use Rattle.level_core.specs.GuardedProducts.{greatest_narrow_factor, parents_of_wide, is_wide, most_parents}
+use Rattle.level_core.specs.GuardedProducts.{guarded_product, StandsForProduct}
 
 -- ---- the numbers
 positions_are_few : greatest_position_count ≤ 2 ^ 40

@@ -8,7 +8,8 @@ use Rattle.kernel_code.specs.declared.syntax.Arr.TheVariants.{Dimension}
 use Rattle.level_core.specs.Arrays.{LevelArray, OfSize, OfEnds, OfCoordinates, OfWidth, array_of}
 use Rattle.level_core.specs.Fragments.{IsOf}
 use Rattle.level_core.specs.Kinds.{Letter, Dense, Compressed, CompressedGroups, Singleton, SingletonGroups, Hashed}
-use Rattle.level_core.specs.Kinds.{Properties, Capabilities, properties, capabilities, AreOfAKind, positions_for, parents_below, zeros_at_start}
+use Rattle.level_core.specs.Kinds.{Properties, Capabilities, properties, capabilities, AreOfAKind, positions_for}
+use Rattle.level_core.specs.Kinds.{parents_below, zeros_at_start}
 use Rattle.level_core.specs.Laws.{AreAtStart}
 use Rattle.level_core.specs.Meaning.{Arrays}
 

@@ -7,7 +7,8 @@ ghost use Rattle.bindings.specs.declared.fault.WordFault.TheVariants.{RangeLimit
 ghost use Rattle.index_notation.specs.declared.fault.NotationFault.TheVariants as notation;
 ghost use Rattle.refusals.specs.Lines.{of_word, of_name, limit_at, too_many_at, notation_line, name_line, word_line, bad_format_text};
 ghost use Rattle.refusals.specs.Lines.{binding_line, no_range_text, conflict_text, above_text, range_line, size_text, workspace_text};
-ghost use Rattle.refusals.specs.Lines.{names_behind, cycle_text, named_line, no_minus_text, kind_text, file_bytes_text, bad_line_text, line_of};
+ghost use Rattle.refusals.specs.Lines.{names_behind, cycle_text, named_line, no_minus_text, kind_text, file_bytes_text};
+ghost use Rattle.refusals.specs.Lines.{bad_line_text, line_of};
 ghost use Rattle.refusals.specs.Lines.{kernel_line_text, trap_text, budget_text, kernel_line};
 ghost use Rattle.refusals.specs.declared.fault.Fault.TheVariants as fault;
 

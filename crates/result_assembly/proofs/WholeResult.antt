@@ -24,14 +24,16 @@ use Rattle.tensor_storage.specs.Storages.{IsStorage, storage_of, in_level_order}
 use Rattle.tensor_storage.specs.Tables.{Table}
 use Rattle.tensor_storage.proofs.Standing.{pack_done, distinct_places}
 use Rattle.tensor_storage.proofs.Tables.{apart}
-use Rattle.result_assembly.specs.Drained.{MayDrain, AreDrained, IsAboveLast, IsCounted, drain_turns, most_passes, passes, passes_at, passes_of}
+use Rattle.result_assembly.specs.Drained.{MayDrain, AreDrained, IsAboveLast, IsCounted, drain_turns, most_passes}
+use Rattle.result_assembly.specs.Drained.{passes, passes_at, passes_of}
 use Rattle.result_assembly.specs.Filling.{without_values, counting_passes, LeavesFilled, FillsLast}
 use Rattle.result_assembly.specs.Levels.{IsReady, LeavesLevels, RefusesLevels, DrainsFirst}
 use Rattle.result_assembly.specs.Stored.{values_code, LeavesValues, LeavesStored, DrainsResult}
 use Rattle.result_assembly.proofs.Holding.{held_along, level_beside}
 use Rattle.result_assembly.proofs.KindLaws.{counted_unordered}
 use Rattle.result_assembly.proofs.Lists.{drop_none, drop_rest, left_long}
-use Rattle.result_assembly.proofs.Turns.{alone_once, last_within, values_within, fewer_passes, one_pass_more, more_turns, fewer_turns, probes_more}
+use Rattle.result_assembly.proofs.Turns.{alone_once, last_within, values_within, fewer_passes, one_pass_more}
+use Rattle.result_assembly.proofs.Turns.{more_turns, fewer_turns, probes_more}
 use Rattle.result_assembly.proofs.AllLevels.{other_level}
 use Rattle.result_assembly.proofs.ValueCode.{values_stored}
 

@@ -1,6 +1,7 @@
 -- The last level of a kernel's result where its coordinates are counted and inserted, filled from the rows of a workspace together with
 -- the values.
-use Rattle.std.specs.Prelude.{◌≡◌, ◌⊎◌, ℕ, zero, suc, ◌+◌, ◌*◌, ◌≤◌, ◌<◌, List, [], ◌∷◌, ◌++◌, drop, replicate, slice_index, Some}
+use Rattle.std.specs.Prelude.{◌≡◌, ◌⊎◌, ℕ, zero, suc, ◌+◌, ◌*◌, ◌≤◌, ◌<◌, List, [], ◌∷◌, ◌++◌, drop}
+use Rattle.std.specs.Prelude.{replicate, slice_index, Some}
 use Rattle.kernel_code.specs.Does.{Does}
 use Rattle.kernel_code.specs.Keeps.{Leaves, NoVariable}
 use Rattle.kernel_code.specs.Meaning.{Setting, State, set_array}

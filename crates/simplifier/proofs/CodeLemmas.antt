@@ -11,7 +11,8 @@ use Rattle.kernel_code.specs.declared.syntax.ValueOp.{ValueOp}
 use Rattle.kernel_code.specs.declared.syntax.ValueOp.TheVariants.{Plus, Times}
 use Rattle.kernel_code.specs.declared.syntax.KExpr.{KExpr, Bin}
 use Rattle.kernel_code.specs.declared.syntax.KStmt.{KStmt, Set, Combine, Put, AddTo, Push, Extend, Cut, If, While}
-use Rattle.kernel_code.specs.Meaning.{Setting, State, Outcome, Ended, Stuck, Over, More, value, apply_each, apply_both, combined, one_turn, then_run}
+use Rattle.kernel_code.specs.Meaning.{Setting, State, Outcome, Ended, Stuck, Over, More, value, apply_each, apply_both}
+use Rattle.kernel_code.specs.Meaning.{combined, one_turn, then_run}
 use Rattle.kernel_code.specs.Meaning.{choice, run_turns, run, run_list, set_outcome, put_outcome, add_outcome, push_outcome, extend_outcome}
 use Rattle.kernel_code.specs.Meaning.{cut_outcome, behind, statements_in}
 use Rattle.kernel_code.proofs.Behind.{then_same}

@@ -1,6 +1,7 @@
 -- Draining: once the list is sorted, its rows are taken from the top. Those that wait have their marks and sums, those that were taken have
 -- their sums in the list, and neither marks nor sums any more. So whether a range is large or not, what is left of rows are their sums.
-use Rattle.std.specs.Prelude.{◌≡◌, ℕ, ◌+◌, ◌<◌, ◌≤◌, List, [], ◌∷◌, ◌++◌, length, replicate, Option, Some, slice_get, slice_index}
+use Rattle.std.specs.Prelude.{◌≡◌, ℕ, ◌+◌, ◌<◌, ◌≤◌, List, [], ◌∷◌, ◌++◌, length, replicate, Option, Some, slice_get}
+use Rattle.std.specs.Prelude.{slice_index}
 use Rattle.limits.specs.Limits.{greatest_workspace_pairs}
 use Rattle.numbers.specs.Arithmetic.{Arithmetic, Laws}
 use Rattle.lists.specs.Each.{Each}
