@@ -5,3 +5,5 @@ pub mod Right
 pub mod Seeking
 pub mod Shapes
 pub mod Stored
+pub mod Sums
+pub mod Wrapped
