@@ -45,6 +45,7 @@ pub record ExecNames (words : List (List ℕ)) (path : List ℕ) (budget : ℕ) 
   pub notation : IsNotationOf text written
   pub names : HasNoNameFault written
   pub stands_for : s ≡ expanded written
+  pub bound : HasNoBadSum s
 
 -- what the words ask for
 pub record AsksExec (words : List (List ℕ)) (r : ExecRequest) : Type 0 where
@@ -70,7 +71,7 @@ IsExecRefused words (Notation fault) =
     (path : List ℕ) × (budget : ℕ) × (text : List ℕ) × (rest : List (List ℕ)) × AsksExecOf words path budget text rest × IsFaultOf text fault
 IsExecRefused words (Named s (Name fault)) =
     (path : List ℕ) × (budget : ℕ) × (text : List ℕ) × (rest : List (List ℕ)) × AsksExecOf words path budget text rest
-    × IsNotationOf text s × IsFirstNameFault s fault
+    × IsNameRefused text s fault
 IsExecRefused words (Named s (Binding fault)) =
     (path : List ℕ) × (budget : ℕ) × (rest : List (List ℕ)) × ExecNames words path budget s rest × IsBindingFault s rest true fault
 IsExecRefused words Memory =
