@@ -11,10 +11,12 @@ pub mod NamedTexts
 pub mod NamesRead
 pub mod OneRequest
 pub mod Paths
+pub mod PlannedSums
 pub mod Prepares
 pub mod Programs
 pub mod Reading
 pub mod Stopped
+pub mod SumsOfTexts
 pub mod TextLaws
 pub mod UsageLaws
 pub mod WellNamed
