@@ -29,7 +29,7 @@ other_false true c h is = h
 other_false false c h is = cc
 
 not_both : {A : Type 0} (b : Bool) → b ≡ true → b ≡ false → A
-not_both b yes no = let wrong : true ≡ false = sym yes ∙ no in absurd cc
+not_both b is isnt = let wrong : true ≡ false = sym is ∙ isnt in absurd cc
 
 first_true : (b c : Bool) → b ≡ true → (b || c) ≡ true
 first_true b c h = ap (λ x. x || c) h
@@ -44,9 +44,10 @@ false_unless false h = refl
 
 each_contained : (P : ℕ → Type 0) (vs : List ℕ) → ((v : ℕ) → contains vs v ≡ true → P v) → Each P vs
 each_contained P [] h = tt
-each_contained P (v ∷ vs) h =
-    (h v (first_true (nat_eq v v) (contains vs v) (eq-eqb v v refl)),
-    each_contained P vs (λ w there. h w (second_true (nat_eq v w) (contains vs w) there)))
+each_contained P (v ∷ vs) h = (
+  h v (first_true (nat_eq v v) (contains vs v) (eq-eqb v v refl)),
+  each_contained P vs (λ w there. h w (second_true (nat_eq v w) (contains vs w) there)),
+)
 
 -- no number stands twice
 abbrev StandOnce : List ℕ → Type 0
@@ -254,31 +255,32 @@ module _ (s : Statement) (numbered : IsNumberedWithSums s) where
       → IsSound accesses told s.expr → AreRead (length s.accesses + first) sums s.expr
       → (j : ℕ) (sum : NestedSum) → slice_get sums j ≡ Some sum → IsSound accesses told (AccessOf (length s.accesses + (first + j)))
   all_sound first [] whole h are j sum at = cc
-  all_sound first (one ∷ sums) whole h are j sum at = by j at
+  all_sound first (one ∷ sums) whole h are j sum at = by (all_sound (first + 1) sums next h rest) j at
     where
       next : (j : ℕ) (sum : NestedSum) → slice_get sums j ≡ Some sum → slice_get s.sums (first + 1 + j) ≡ Some sum
       next j sum at = let same : first + 1 + j ≡ first + suc j = omega arith in ap (slice_get s.sums) same ∙ whole (suc j) sum at
 
-      later : (j : ℕ) (sum : NestedSum) → slice_get sums j ≡ Some sum → IsSound accesses told (AccessOf (length s.accesses + (first + 1 + j)))
-      later =
-          all_sound (first + 1) sums next h
-          (let more : length s.accesses + first + 1 ≡ length s.accesses + (first + 1) = omega arith in
-          subst (λ k. AreRead k sums s.expr) more are.1)
+      rest : AreRead (length s.accesses + (first + 1)) sums s.expr
+      rest =
+          let more : length s.accesses + first + 1 ≡ length s.accesses + (first + 1) = omega arith in
+          subst (λ k. AreRead k sums s.expr) more are.1
 
-      here : IsSound accesses told (AccessOf (length s.accesses + first))
-      here = elim (either (reads_leaf (length s.accesses + first) s.expr) (some_reads (length s.accesses + first) sums) are.0) [
+      here : ((j : ℕ) (sum : NestedSum) → slice_get sums j ≡ Some sum → IsSound accesses told (AccessOf (length s.accesses + (first + 1 + j))))
+          → IsSound accesses told (AccessOf (length s.accesses + first))
+      here later = elim (either (reads_leaf (length s.accesses + first) s.expr) (some_reads (length s.accesses + first) sums) are.0) [
         | inl whole_reads ↦ leaf_sound accesses told (length s.accesses + first) s.expr h whole_reads
         | inr sum_reads ↦
-          (let r = reader_of (length s.accesses + first) sums sum_reads in
-          leaf_sound accesses told (length s.accesses + first) r.sum.inside
-          (inside_sound (first + 1 + r.place) r.sum (next r.place r.sum r.at) (later r.place r.sum r.at)) r.reads)
+            (let r = reader_of (length s.accesses + first) sums sum_reads in
+            leaf_sound accesses told (length s.accesses + first) r.sum.inside
+            (inside_sound (first + 1 + r.place) r.sum (next r.place r.sum r.at) (later r.place r.sum r.at)) r.reads)
       ]
 
-      by : (j : ℕ) → slice_get (one ∷ sums) j ≡ Some sum → IsSound accesses told (AccessOf (length s.accesses + (first + j)))
-      by zero at =
+      by : ((j : ℕ) (sum : NestedSum) → slice_get sums j ≡ Some sum → IsSound accesses told (AccessOf (length s.accesses + (first + 1 + j))))
+          → (j : ℕ) → slice_get (one ∷ sums) j ≡ Some sum → IsSound accesses told (AccessOf (length s.accesses + (first + j)))
+      by later zero at =
           let same : length s.accesses + first ≡ length s.accesses + (first + 0) = omega arith in
-          subst (λ k. IsSound accesses told (AccessOf k)) same here
-      by (suc j) at =
+          subst (λ k. IsSound accesses told (AccessOf k)) same (here later)
+      by later (suc j) at =
           let same : length s.accesses + (first + 1 + j) ≡ length s.accesses + (first + suc j) = omega arith in
           subst (λ k. IsSound accesses told (AccessOf k)) same (later j sum at)
 
@@ -326,16 +328,14 @@ module _ (s : Statement) (numbered : IsNumberedWithSums s) where
     -- no leaf binds a variable twice
     leaves_once : (n : ℕ) → n ≤ length s.accesses + length s.sums → (k : ℕ) → k < n → StandOnce (bound_in told (AccessOf k))
     leaves_once zero most k below = absurd (omega (arith, below))
-    leaves_once (suc n) most k below = by (less_or_same k n below)
+    leaves_once (suc n) most k below = by (leaves_once n (omega (arith, most))) (less_or_same k n below)
       where
         less_or_same : (k n : ℕ) → k < suc n → (k < n) ⊎ (k ≡ n)
         less_or_same k n below = grind (arith, below)
 
-        before : (j : ℕ) → j < n → StandOnce (bound_in told (AccessOf j))
-        before = leaves_once n (omega (arith, most))
-
-        of_sum : (i : ℕ) → n ≡ length s.accesses + i → (sum : NestedSum) → slice_get s.sums i ≡ Some sum → StandOnce (bound_in told (AccessOf n))
-        of_sum i number sum at =
+        of_sum : ((j : ℕ) → j < n → StandOnce (bound_in told (AccessOf j))) → (i : ℕ) → n ≡ length s.accesses + i → (sum : NestedSum)
+            → slice_get s.sums i ≡ Some sum → StandOnce (bound_in told (AccessOf n))
+        of_sum before i number sum at =
             let under : AccessesUnder n sum.inside =
             subst (λ k. AccessesUnder k sum.inside) (sym number)
             (inside_under (length s.vars) (length s.accesses) s.sums i sum numbered.sums at) in
@@ -344,18 +344,18 @@ module _ (s : Statement) (numbered : IsNumberedWithSums s) where
             (once_more sum.var (bound_in told sum.inside) each.own
             (once_of accesses told n before sum.inside under each.sides))
 
-        here : StandOnce (bound_in told (AccessOf n))
-        here = of_either (access_or_sum s.accesses s.sums n (omega (arith, most)))
-          where
-            of_either : ((access : Access) × (slice_get s.accesses n ≡ Some access))
-                ⊎ ((i : ℕ) × (sum : NestedSum) × (n ≡ length s.accesses + i) × (slice_get s.sums i ≡ Some sum))
-                → StandOnce (bound_in told (AccessOf n))
-            of_either (inl a) = subst StandOnce (sym (bound_at_access s n a.0 a.1)) (λ v. refl)
-            of_either (inr b) = of_sum b.0 b.2 b.1 b.3
+        here : ((j : ℕ) → j < n → StandOnce (bound_in told (AccessOf j)))
+            → ((access : Access) × (slice_get s.accesses n ≡ Some access))
+            ⊎ ((i : ℕ) × (sum : NestedSum) × (n ≡ length s.accesses + i) × (slice_get s.sums i ≡ Some sum))
+            → StandOnce (bound_in told (AccessOf n))
+        here before (inl a) = subst StandOnce (sym (bound_at_access s n a.0 a.1)) (λ v. refl)
+        here before (inr b) = of_sum before b.0 b.2 b.1 b.3
 
-        by : (k < n) ⊎ (k ≡ n) → StandOnce (bound_in told (AccessOf k))
-        by (inl less) = before k less
-        by (inr same) = subst (λ j. StandOnce (bound_in told (AccessOf j))) (sym same) here
+        by : ((j : ℕ) → j < n → StandOnce (bound_in told (AccessOf j))) → (k < n) ⊎ (k ≡ n) → StandOnce (bound_in told (AccessOf k))
+        by before (inl less) = before k less
+        by before (inr same) =
+            subst (λ j. StandOnce (bound_in told (AccessOf j))) (sym same)
+            (here before (access_or_sum s.accesses s.sums n (omega (arith, most))))
 
     pub clear_is_fine : AreFine s
     clear_is_fine = each_contained (λ v. is_bad s v ≡ false) (sum_variables s) (λ v there.

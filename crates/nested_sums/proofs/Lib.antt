@@ -10,6 +10,7 @@ pub mod InnerPieces
 pub mod KeptSums
 pub mod Leaves
 pub mod Meaning
+pub mod MeaningOfSums
 pub mod Mentions
 pub mod MultipliedInner
 pub mod MultipliedMinus

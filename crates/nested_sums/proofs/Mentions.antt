@@ -1,11 +1,11 @@
 -- How an expression mentions a variable is told by how its parts do.
 use Rattle.std.specs.Prelude.{◌≡◌, ℕ, zero, suc, ◌+◌, ◌<◌, Bool, true, false, not, nat_eq, ◌&&◌, ◌||◌, List, [], ◌∷◌, ◌++◌, length, map}
-use Rattle.std.specs.Prelude.{Option, None, Some, slice_get, refl}
-use Rattle.std.proofs.Common.{◌∙◌, sym, ap, arith}
+use Rattle.std.specs.Prelude.{Option, None, Some, slice_get, if◌then◌else◌, refl}
+use Rattle.std.proofs.Common.{◌∙◌, sym, ap, subst, arith}
 use Rattle.std.proofs.lemmas.Bool.Decides.{nat_tests}
 use denote.Hole.Carrier.{hidden}
 use Rattle.lists.specs.Each.{Each}
-use Rattle.index_notation.specs.Statement.{IsNumberedWithSums, numbers_from}
+use Rattle.index_notation.specs.Statement.{AccessesUnder, IsNumberedWithSums, numbers_from}
 use Rattle.index_notation.specs.declared.operator.Operator.{Operator}
 use Rattle.index_notation.specs.declared.syntax.Access.{Access}
 use Rattle.index_notation.specs.declared.syntax.Expr.{Expr, Access as AccessOf, Binary, Neg}
@@ -15,7 +15,7 @@ use Rattle.index_notation.specs.declared.syntax.Statement.{Statement}
 use Rattle.expr_terms.specs.Nested.{flat}
 use Rattle.expr_terms.specs.Terms.{contains, is_at_access, stands_in}
 use Rattle.expr_terms.proofs.NestedLaws.{accesses_kept}
-use Rattle.nested_sums.specs.Bad.{Mention, access_mention, both_mention, first_where, mention_of, stands_twice, sum_mention}
+use Rattle.nested_sums.specs.Bad.{Mention, access_mention, both_mention, first_where, is_bad, mention_of, stands_twice, sum_mention}
 use Rattle.nested_sums.specs.Bound.{bound_by, bound_in, bounds, list_or_none, none_bound}
 use Rattle.nested_sums.proofs.AddedPieces.{contains_append}
 use Rattle.nested_sums.proofs.BoundVariables.{bound_by_sum}
@@ -188,3 +188,71 @@ bound_of_binary told o e f = refl
 pub bound_of_neg : (told : List (List ℕ)) (e : Expr) → bound_in told (Neg e) ≡ bound_in told e
 unfolding hidden-the_row-Expr-0 hidden
 bound_of_neg told e = refl
+
+-- what stands in an expression whose accesses are under a number
+pub leaf_under : (n k : ℕ) (whole : Expr) → whole ≡ AccessOf k → AccessesUnder n whole → k < n
+leaf_under n k whole is under = subst (AccessesUnder n) is under
+
+sides_under : (n : ℕ) (o : Operator) (e f : Expr) → AccessesUnder n (Binary o e f) → AccessesUnder n e × AccessesUnder n f
+unfolding hidden-the_row-Expr-0 hidden
+sides_under n o e f h = (h.0, h.1)
+
+inner_under : (n : ℕ) (e : Expr) → AccessesUnder n (Neg e) → AccessesUnder n e
+unfolding hidden-the_row-Expr-0 hidden
+inner_under n e h = h
+
+pub first_under : (n : ℕ) (whole : Expr) (o : Operator) (e f e' : Expr) → whole ≡ Binary o e f → e' ≡ e → AccessesUnder n whole
+    → AccessesUnder n e'
+first_under n whole o e f e' is part h = subst (AccessesUnder n) (sym part) (sides_under n o e f (subst (AccessesUnder n) is h)).0
+
+pub second_under : (n : ℕ) (whole : Expr) (o : Operator) (e f f' : Expr) → whole ≡ Binary o e f → f' ≡ f → AccessesUnder n whole
+    → AccessesUnder n f'
+second_under n whole o e f f' is part h = subst (AccessesUnder n) (sym part) (sides_under n o e f (subst (AccessesUnder n) is h)).1
+
+pub negated_under : (n : ℕ) (whole e e' : Expr) → whole ≡ Neg e → e' ≡ e → AccessesUnder n whole → AccessesUnder n e'
+negated_under n whole e e' is part h = subst (AccessesUnder n) (sym part) (inner_under n e (subst (AccessesUnder n) is h))
+
+-- the first of an expression whose test passes, by its parts
+module _ (s : Statement) where
+  abbrev FirstIn : Expr → Option ℕ
+  FirstIn e = first_where (is_bad s) (bound_in (bounds s) e)
+
+  pub first_at_access : (k n : ℕ) (whole : Expr) → k < n → n ≡ length s.accesses → whole ≡ AccessOf k → None ≡ FirstIn whole
+  first_at_access k n whole below many is =
+      let got = access_got s.accesses k (omega (arith, below, many)) in
+      sym (ap FirstIn is ∙ ap (first_where (is_bad s)) (bound_at_access s k got.0 got.1))
+    where
+      access_got : (xs : List Access) (i : ℕ) → i < length xs → (x : Access) × (slice_get xs i ≡ Some x)
+      access_got [] i h = absurd (omega (arith, h))
+      access_got (x ∷ xs) zero h = (x, refl)
+      access_got (x ∷ xs) (suc i) h = access_got xs i (omega (arith, h))
+
+  module _ (numbered : IsNumberedWithSums s) (k n : ℕ) (sum : NestedSum) (whole : Expr) (is : whole ≡ AccessOf k)
+      (number : k ≡ length s.accesses + n) (at : slice_get s.sums n ≡ Some sum) where
+    of_sum : (b : Bool) → is_bad s sum.var ≡ b → (if b then Some sum.var else FirstIn sum.inside) ≡ FirstIn whole
+    of_sum b e =
+        ap (λ c. if c then Some sum.var else FirstIn sum.inside) (sym e)
+        ∙ sym (ap FirstIn is ∙ ap (λ j. FirstIn (AccessOf j)) number ∙ ap (first_where (is_bad s)) (bound_by_sum s numbered n sum at))
+
+    pub first_is_sum : is_bad s sum.var ≡ true → Some sum.var ≡ FirstIn whole
+    first_is_sum bad = of_sum true bad
+
+    pub first_is_inside : (r : Option ℕ) → is_bad s sum.var ≡ false → r ≡ FirstIn sum.inside → r ≡ FirstIn whole
+    first_is_inside r fine told = told ∙ of_sum false fine
+
+  pub first_of_first : (whole : Expr) (o : Operator) (e f e' : Expr) (r : Option ℕ) (x : ℕ) → whole ≡ Binary o e f → e' ≡ e
+      → r ≡ FirstIn e' → r ≡ Some x → Some x ≡ FirstIn whole
+  first_of_first whole o e f e' r x is part told found =
+      sym (ap FirstIn is ∙ ap (first_where (is_bad s)) (bound_of_binary (bounds s) o e f)
+      ∙ first_before (is_bad s) (bound_in (bounds s) e) (bound_in (bounds s) f) x (ap FirstIn (sym part) ∙ sym told ∙ found))
+
+  pub first_of_second : (whole : Expr) (o : Operator) (e f e' f' : Expr) (r q : Option ℕ) → whole ≡ Binary o e f → e' ≡ e → f' ≡ f
+      → r ≡ FirstIn e' → r ≡ None → q ≡ FirstIn f' → q ≡ FirstIn whole
+  first_of_second whole o e f e' f' r q is first second told none other =
+      other ∙ ap FirstIn second
+      ∙ sym (ap FirstIn is ∙ ap (first_where (is_bad s)) (bound_of_binary (bounds s) o e f)
+      ∙ first_behind (is_bad s) (bound_in (bounds s) e) (bound_in (bounds s) f) (ap FirstIn (sym first) ∙ sym told ∙ none))
+
+  pub first_of_negated : (whole e e' : Expr) (r : Option ℕ) → whole ≡ Neg e → e' ≡ e → r ≡ FirstIn e' → r ≡ FirstIn whole
+  first_of_negated whole e e' r is part told =
+      told ∙ ap FirstIn part ∙ sym (ap FirstIn is ∙ ap (first_where (is_bad s)) (bound_of_neg (bounds s) e))

@@ -8,10 +8,13 @@ mod bad_sums;
 mod copies;
 mod cutting;
 mod inner_sums;
+mod meanings;
 mod multiplying;
 mod opening;
 mod units;
 
 pub use bad_sums::check_sums;
+pub use copies::copy_statement;
 pub use inner_sums::inner;
+pub use meanings::has_meaning_with_sums;
 pub use multiplying::multiply_out;
