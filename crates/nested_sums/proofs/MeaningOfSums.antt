@@ -1,7 +1,7 @@
 -- A statement has a meaning where its expression and the insides of its sums do.
 use Rattle.std.specs.Prelude.{◌≡◌, Bool, true, false, ◌||◌, List, [], ◌∷◌, refl}
 use Rattle.std.specs.List.{list_any}
-use Rattle.std.proofs.Common.{◌∙◌, sym, ap}
+use Rattle.std.proofs.Common.{◌∙◌, ap}
 use Rattle.lists.specs.Each.{Each}
 use Rattle.index_notation.specs.declared.syntax.NestedSum.{NestedSum}
 use Rattle.index_notation.specs.declared.syntax.Statement.{Statement}

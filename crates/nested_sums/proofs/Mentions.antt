@@ -4,7 +4,6 @@ use Rattle.std.specs.Prelude.{Option, None, Some, slice_get, if◌then◌else◌
 use Rattle.std.proofs.Common.{◌∙◌, sym, ap, subst, arith}
 use Rattle.std.proofs.lemmas.Bool.Decides.{nat_tests}
 use denote.Hole.Carrier.{hidden}
-use Rattle.lists.specs.Each.{Each}
 use Rattle.index_notation.specs.Statement.{AccessesUnder, IsNumberedWithSums, numbers_from}
 use Rattle.index_notation.specs.declared.operator.Operator.{Operator}
 use Rattle.index_notation.specs.declared.syntax.Access.{Access}

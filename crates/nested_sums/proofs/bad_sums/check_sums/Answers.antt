@@ -1,6 +1,5 @@
-use Rattle.std.specs.Prelude.{◌≡◌, None, Some}
 use Rattle.std.proofs.Common.{◌∙◌, sym}
-use Rattle.nested_sums.specs.Bad.{first_where, is_bad, sum_variables}
+use Rattle.nested_sums.specs.Bad.{is_bad, sum_variables}
 use Rattle.nested_sums.proofs.BadSums.{bad_is_unclear, fine_is_clear, first_is_bad, none_passes}
 use Rattle.nested_sums.proofs.bad_sums.check_sums.Goals as goal
 
