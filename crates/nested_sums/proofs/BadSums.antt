@@ -231,7 +231,8 @@ module _ (s : Statement) (numbered : IsNumberedWithSums s) where
   abbrev told : List (List ℕ)
   told = bounds s
 
-  module _ (i : ℕ) (sum : NestedSum) (at : slice_get s.sums i ≡ Some sum) (h : IsSound accesses told (AccessOf (length s.accesses + i))) where
+  module _ (i : ℕ) (sum : NestedSum) (at : slice_get s.sums i ≡ Some sum)
+      (h : IsSound accesses told (AccessOf (length s.accesses + i))) where
     once_there : StandOnce (sum.var ∷ bound_in told sum.inside)
     once_there = subst StandOnce (bound_by_sum s numbered i sum at) h.once
 
@@ -265,7 +266,8 @@ module _ (s : Statement) (numbered : IsNumberedWithSums s) where
           let more : length s.accesses + first + 1 ≡ length s.accesses + (first + 1) = omega arith in
           subst (λ k. AreRead k sums s.expr) more are.1
 
-      here : ((j : ℕ) (sum : NestedSum) → slice_get sums j ≡ Some sum → IsSound accesses told (AccessOf (length s.accesses + (first + 1 + j))))
+      here : ((j : ℕ) (sum : NestedSum) → slice_get sums j ≡ Some sum
+          → IsSound accesses told (AccessOf (length s.accesses + (first + 1 + j))))
           → IsSound accesses told (AccessOf (length s.accesses + first))
       here later = elim (either (reads_leaf (length s.accesses + first) s.expr) (some_reads (length s.accesses + first) sums) are.0) [
         | inl whole_reads ↦ leaf_sound accesses told (length s.accesses + first) s.expr h whole_reads
@@ -275,7 +277,8 @@ module _ (s : Statement) (numbered : IsNumberedWithSums s) where
             (inside_sound (first + 1 + r.place) r.sum (next r.place r.sum r.at) (later r.place r.sum r.at)) r.reads)
       ]
 
-      by : ((j : ℕ) (sum : NestedSum) → slice_get sums j ≡ Some sum → IsSound accesses told (AccessOf (length s.accesses + (first + 1 + j))))
+      by : ((j : ℕ) (sum : NestedSum) → slice_get sums j ≡ Some sum
+          → IsSound accesses told (AccessOf (length s.accesses + (first + 1 + j))))
           → (j : ℕ) → slice_get (one ∷ sums) j ≡ Some sum → IsSound accesses told (AccessOf (length s.accesses + (first + j)))
       by later zero at =
           let same : length s.accesses + first ≡ length s.accesses + (first + 0) = omega arith in

@@ -1,4 +1,5 @@
-//! Whether the variable of some nested sum is bound and free, told without memory: what stands inside a sum is read anew for each variable.
+//! Whether the variable of some nested sum is bound and free, told without memory: what stands inside a sum is read anew for each
+//! variable.
 ghost use Rattle.std.specs.Prelude.{◌≡◌, ◌+◌, ◌≤◌, IfErr, IfOk, MatchResult, length};
 ghost use Rattle.index_notation.specs.Statement.{AccessesUnder, IsNumberedWithSums};
 ghost use Rattle.nested_sums.specs.Bad.{is_bad, AreFine, IsFirstBadSum, ReadsItsSums, first_where, mention_of};
@@ -128,8 +129,9 @@ fn first_bad(statement: &Statement, count: usize, expr: &Expr) -> Option<usize>
     }
 }
 
-/// Whether no nested sum's variable stands on the left, in an access outside the sum, or is bound by another sum. Otherwise the variable of
-/// the first such sum in text order, by where they begin. Accesses are checked before, by `check_names` of `expr_terms`. It takes no memory.
+/// Whether no nested sum's variable stands on the left, in an access outside the sum, or is bound by another sum. Otherwise the variable
+/// of the first such sum in text order, by where they begin. Accesses are checked before, by `check_names` of `expr_terms`. It takes no
+/// memory.
 pub fn check_sums(statement: &Statement) -> Result<(), NameFault>
     requires numbered { IsNumberedWithSums statement.now }
     ensures first { MatchResult result (λ _. AreFine statement.now) (IsFirstBadSum statement.now) }
