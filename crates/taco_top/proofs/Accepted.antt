@@ -31,8 +31,10 @@ module _ (words : List (List ℕ)) (r : Request) (asks : AsksFor words r) where
   -- each nested sum is read, and none is bad
   pub is_bound : IsNumberedWithSums r.statement → HasNoBadSum r.statement
   is_bound numbered =
-      fine_is_clear r.statement numbered
-      (named_reads_sums asks.names.text r.statement asks.names.named) asks.names.named.fine
+      fine_is_clear r.statement numbered asks.names.named.fine
+      (subst ReadsItsSums (sym asks.names.named.stands_for)
+      (expanded_reads_sums asks.names.named.written
+      (subst ReadsItsSums (sym asks.names.named.notation.is) (tree_reads_sums asks.names.named.notation.tree))))
 
   -- the formats that were handed in are those of the request
   module _ (numbered : IsNumberedWithSums r.statement) (formats : List (List FormatLevel)) (formats_are : formats ≡ r.formats) where

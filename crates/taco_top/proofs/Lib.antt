@@ -16,8 +16,8 @@ pub mod Prepares
 pub mod Programs
 pub mod Reading
 pub mod Stopped
-pub mod SumsOfTexts
 pub mod TextLaws
+pub mod TreeSums
 pub mod UsageLaws
 pub mod WellNamed
 pub mod WholeLaws
