@@ -10,8 +10,11 @@ use Rattle.expr_terms.specs.Names.{HasNoNameFault, IsFirstNameFault}
 use Rattle.expr_terms.specs.declared.names.NameFault.{NameFault}
 use Rattle.expr_terms.specs.declared.names.NameFault.TheVariants.{ResultRead, Arity, RepeatedVariable, BadSum}
 use Rattle.expr_terms.proofs.NameOnce.{names_never_both}
-use Rattle.nested_sums.specs.Bad.{AreFine, IsFirstBad, is_bad}
-use Rattle.taco_top.specs.Asked.{AreNamed, IsNameRefused}
+use Rattle.nested_sums.specs.Bad.{AreFine, IsFirstBad, IsFirstBadSum, is_bad}
+use Rattle.refusals.specs.declared.fault.NamedFault.TheVariants as named
+use Rattle.refusals.specs.declared.fault.Fault.{Fault}
+use Rattle.refusals.specs.declared.fault.Fault.TheVariants as fault
+use Rattle.taco_top.specs.Asked.{AreNamed, IsNameRefused, IsStatementRefused, IsTextRefused}
 
 pub named_once : (text : List ℕ) (s t : Statement) → AreNamed text s → AreNamed text t → s ≡ t
 named_once text s t is be =
@@ -43,3 +46,31 @@ module _ (text : List ℕ) (s : Statement) (is : AreNamed text s) (t : Statement
       fine_never_bad t var
       (subst AreFine (is.stands_for ∙ ap expanded (notations.statement_once text is.written written is.notation notation) ∙ sym stands_for)
       is.fine) first
+
+-- ---- refusals of a text, as those of a statement of it
+pub access_refused : (text : List ℕ) (s : Statement) (why : NameFault) → IsNotationOf text s → IsFirstNameFault s why
+    → IsStatementRefused text (fault.Named s (named.Name why))
+access_refused text s (ResultRead tensor) notation first = (notation, first)
+access_refused text s (Arity tensor) notation first = (notation, first)
+access_refused text s (RepeatedVariable tensor var) notation first = (notation, first)
+access_refused text s (BadSum var) notation first = absurd first.is
+
+pub sum_refused : (text : List ℕ) (written s : Statement) (why : NameFault) → IsNotationOf text written → HasNoNameFault written
+    → s ≡ expanded written → IsFirstBadSum s why → IsStatementRefused text (fault.Named s (named.Name why))
+sum_refused text written s (BadSum var) notation names same first = (written, notation, names, same, first)
+sum_refused text written s (ResultRead tensor) notation names same first = absurd first
+sum_refused text written s (Arity tensor) notation names same first = absurd first
+sum_refused text written s (RepeatedVariable tensor var) notation names same first = absurd first
+
+pub text_refused : (text : List ℕ) (why : Fault) → IsTextRefused text why → IsStatementRefused text why
+text_refused text (fault.Notation why) is = is
+text_refused text fault.Memory is = tt
+text_refused text fault.Usage is = absurd is
+text_refused text (fault.Named t why) is = absurd is
+text_refused text (fault.NoMinus name) is = absurd is
+text_refused text (fault.WorkspaceLimit count) is = absurd is
+text_refused text (fault.ReadFault path) is = absurd is
+text_refused text (fault.FileBytes path) is = absurd is
+text_refused text (fault.BadFile path number kind) is = absurd is
+text_refused text (fault.Kernel why) is = absurd is
+text_refused text (fault.WriteFault path) is = absurd is
