@@ -1,5 +1,9 @@
 pub mod Groups
+pub mod Here
+pub mod InPlace
+pub mod Leaves
 pub mod Lengths
+pub mod Moves
 pub mod NoMore
 pub mod Opened
 pub mod Packed
@@ -9,6 +13,7 @@ pub mod Probes
 pub mod SharedLoops
 pub mod Slots
 pub mod Steps
+pub mod Summing
 pub mod Trees
 pub mod Walks
 pub mod Whole

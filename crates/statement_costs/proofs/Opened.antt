@@ -1,8 +1,8 @@
 -- Loops with sums are told by their terms, in which what is summed counts in the place of each sum that hasn't started.
 use Rattle.std.specs.Prelude.{◌≡◌, ◌⊎◌, ℕ, zero, suc, ◌+◌, ◌≤◌, ◌<◌, nat_eq, nat_lt, not, Bool, true, false, ◌||◌, ◌&&◌, if◌then◌else◌}
-use Rattle.std.specs.Prelude.{List, [], ◌∷◌, ◌++◌, length, map, Option, Some, None, refl}
+use Rattle.std.specs.Prelude.{List, [], ◌∷◌, ◌++◌, length, map, Option, Some, refl}
 use Rattle.std.proofs.Common.{◌∙◌, sym, ap, subst, arith, inl, inr}
-use Rattle.std.proofs.lemmas.Bool.Decides.{nat_tests, eqb_tells}
+use Rattle.std.proofs.lemmas.Bool.Decides.{nat_tests}
 use Rattle.std.proofs.lemmas.List.{map-append}
 use denote.Hole.Carrier.{hidden}
 use Rattle.index_notation.specs.Statement.{AreSums}
@@ -25,13 +25,13 @@ use Rattle.loop_code.proofs.Opened.{opened_full, opened_remains}
 use Rattle.loop_code.proofs.OpenedLive.{opened_live}
 use Rattle.lowering.specs.Lowered.{concrete_in, concrete_of}
 use Rattle.lowering.specs.Seeking.{uses}
-use Rattle.lowering.specs.Sums.{are_bound, first_sum, inside_of, is_met, reads_any, sum_at, sum_tree, through, vars_at}
+use Rattle.lowering.specs.Sums.{first_sum, inside_of, is_met, reads_any, sum_at, sum_tree, through, vars_at}
 use Rattle.lowering.proofs.Accesses.{each_access, or_left, or_right}
 use Rattle.lowering.proofs.Standing.{all_bound, bound_less, one_bound}
 use Rattle.lowering.proofs.Through.{sum_of_list, through_closed, through_limit, through_more, through_uses, under}
 use Rattle.statement_costs.specs.Costs.{has_started, has_started_before, in_place, opened_group, some_term, with_others}
-use Rattle.statement_costs.specs.Starts.{IsBehind, IsNext, MayStart, StartsInPlace, StartsInPlace_in}
-use Rattle.statement_costs.proofs.Plain.{HasNone, HasNone_in}
+use Rattle.statement_costs.specs.Starts.{IsNext, MayStart, StartsInPlace, StartsInPlace_in}
+use Rattle.statement_costs.proofs.Plain.{HasNone}
 use Rattle.statement_costs.proofs.Trees.{full_terms, live_terms, nests_of, remains_terms}
 
 mutual

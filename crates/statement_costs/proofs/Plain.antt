@@ -1,5 +1,5 @@
 -- Of a statement without nested sums all is as if there were none: its groups are its terms', and no loops have a sum.
-use Rattle.std.specs.Prelude.{◌≡◌, ◌⊎◌, ℕ, zero, suc, ◌+◌, ◌-◌, ◌<◌, ◌≤◌, nat_lt, not, Bool, true, false, ◌&&◌, ◌||◌, if◌then◌else◌}
+use Rattle.std.specs.Prelude.{◌≡◌, ◌⊎◌, ℕ, ◌+◌, ◌≤◌, nat_lt, not, Bool, true, false, ◌&&◌, ◌||◌, if◌then◌else◌}
 use Rattle.std.specs.Prelude.{List, [], ◌∷◌, length, map, Option, Some, None, refl}
 use Rattle.std.proofs.Common.{◌∙◌, sym, ap, subst, arith, inl, inr}
 use Rattle.std.proofs.lemmas.Bool.Decides.{nat_tests}
@@ -27,7 +27,6 @@ use Rattle.loop_code.specs.Turns.{count_below}
 use Rattle.lowering.specs.Held.{path_span}
 use Rattle.lowering.specs.Layouts.{layout_of, variables_of}
 use Rattle.lowering.specs.Seeking.{reached, uses}
-use Rattle.lowering.specs.Shapes.{HasStarts, HasStarts_in, variables_at}
 use Rattle.lowering.specs.Sums.{first_sum, reads_any, starts_at, through}
 use Rattle.statement_costs.specs.Costs.{at, group_length, group_of, group_repeats, groups_length, has_started, in_place, is_full_group}
 use Rattle.statement_costs.specs.Costs.{is_here, is_walked, is_wanted, next_level, of_starting, opened_group, own_group, present_at}
@@ -99,20 +98,6 @@ before_or_behind k n = grind (arith, nat_tests)
 module _ (s : Statement) (none : s.sums ≡ []) where
   no : length s.sums ≡ 0
   no = ap length none
-
-  mutual
-    -- loops of such a statement have none
-    pub none_started : (bound : List ℕ) (started : ℕ → Bool) (c : LoopCode) → HasStarts s bound started c → HasNone c
-    none_started bound started (Loop' v seeks p body) h = none_started_in (v ∷ bound) started body h
-    none_started bound started (Both' p f q g) h = (none_started_in bound started f h.0, none_started_in bound started g h.1)
-    none_started bound started (Add t) h = tt
-    none_started bound started (Sum' k p inside q body) h =
-        let below = h.0.below in absurd (omega (arith, below, no))
-
-    none_started_in : {m : _} (bound : List ℕ) (started : ℕ → Bool) (row : Row_of-LoopCode m) → HasStarts_in s bound started row
-        → HasNone_in row
-    none_started_in bound started end_of-LoopCode h = tt
-    none_started_in bound started (more_of-LoopCode c rest) h = none_started bound started c h
 
   -- what is read is used
   pub reads_plain : (c : Concrete) (k : ℕ) → reads_any s c k ≡ uses c k

@@ -17,10 +17,10 @@ use Rattle.loop_code.specs.declared.loops.LoopCode.TheFolds.{ind-LoopCode}
 use Rattle.loop_code.specs.declared.loops.LoopCode.TheViews.{roll-LoopCode}
 use Rattle.loop_code.specs.declared.loops.LoopCode.TheOpen as view
 use Rattle.loop_code.specs.declared.loops.Seek.{Seek}
-use Rattle.loop_code.specs.Loops.{Layout, Stored, Env, moved}
+use Rattle.loop_code.specs.Loops.{Layout, Stored, Env, at_cursor, moved}
 use Rattle.loop_code.specs.Parts.{given, here, is_full, is_full_below, is_live, is_live_below, is_other, pruned, remains, remains_below}
 use Rattle.loop_code.specs.Places.{depth_after}
-use Rattle.loop_code.specs.Turns.{cost, count_below, dups, lengths, repeated}
+use Rattle.loop_code.specs.Turns.{adds_some, cost, count_below, dups, lengths, repeated, some_if}
 use Rattle.lowering.specs.Lowered.{concrete_of}
 use Rattle.lowering.specs.Seeking.{has_access, uses}
 use Rattle.lowering.specs.Shapes.{AreReached, FindsBelow, FindsReached}
@@ -184,6 +184,10 @@ pub nests_sum : (k : ℕ) (inside body : LoopCode) → nests_of (Sum k inside bo
 unfolding hidden-the_row-LoopCode-0 hidden
 nests_sum k inside body = refl
 
+pub shares_sum : (k : ℕ) (inside body : LoopCode) → SharesLoops (concrete_of (Sum k inside body)) → SharesLoops (concrete_of body)
+unfolding hidden-the_row-LoopCode-0 hidden
+shares_sum k inside body h = h
+
 pub concrete_sum : (k : ℕ) (inside body : LoopCode) → concrete_of (Sum k inside body) ≡ concrete_of body
 unfolding hidden-the_row-LoopCode-0 hidden
 concrete_sum k inside body = refl
@@ -205,7 +209,8 @@ pub live_sum : (P : ℕ → Bool) (k : ℕ) (inside body : LoopCode) (j : ℕ) �
 unfolding hidden-the_row-LoopCode-0 hidden
 live_sum P k inside body j = refl
 
--- a number of loops of which each loop has its own, where a part remains, and the numbers of its body at each coordinate
+-- a number of loops of which each loop has its own, where a part remains, and the numbers of its body at each coordinate; a sum has that of
+-- what is summed, where it is wanted, and that of its body
 pub record IsCount (layout : Layout) (stored : Stored) (ranges : ℕ → ℕ) (own : ℕ → List Seek → LoopCode → Env → ℕ)
     (count : LoopCode → Env → ℕ) : Type 0 where
   pub loop : (v : ℕ) (seeks : List Seek) (body : LoopCode) (env : Env) → count (Loop v seeks body) env
@@ -213,6 +218,9 @@ pub record IsCount (layout : Layout) (stored : Stored) (ranges : ℕ → ℕ) (o
       + count_below (ranges v) (λ x. count body (moved layout stored v seeks (pruned body env) x)) else 0)
   pub both : (f g : LoopCode) (env : Env) → count (Both f g) env ≡ count f env + count g env
   pub add : (t : Term) (env : Env) → count (Add t) env ≡ 0
+  pub sum : (k : ℕ) (inside body : LoopCode) (env : Env) → count (Sum k inside body) env
+      ≡ (if is_live_below (given (here env) k (remains_below (here env) inside)) body k then count inside env else 0)
+      + count body (at_cursor env k (some_if (adds_some layout stored ranges inside env)))
 
 module _ (layout : Layout) (stored : Stored) (ranges : ℕ → ℕ) where
   -- the length of one loop, and its repeated coordinates
@@ -233,8 +241,14 @@ module _ (layout : Layout) (stored : Stored) (ranges : ℕ → ℕ) where
   unfolding hidden-the_row-LoopCode-0 hidden
   cost_both f g env = refl
 
+  cost_sum : (k : ℕ) (inside body : LoopCode) (env : Env) → cost layout stored ranges (Sum k inside body) env
+      ≡ (if is_live_below (given (here env) k (remains_below (here env) inside)) body k then cost layout stored ranges inside env else 0)
+      + cost layout stored ranges body (at_cursor env k (some_if (adds_some layout stored ranges inside env)))
+  unfolding hidden-the_row-LoopCode-0 hidden
+  cost_sum k inside body env = refl
+
   pub cost_counts : IsCount layout stored ranges loop_length (cost layout stored ranges)
-  cost_counts = record { loop = cost_loop; both = cost_both; add = λ t env. refl }
+  cost_counts = record { loop = cost_loop; both = cost_both; add = λ t env. refl; sum = cost_sum }
 
   dups_loop : (v : ℕ) (seeks : List Seek) (body : LoopCode) (env : Env) → dups layout stored ranges (Loop v seeks body) env
       ≡ (if remains_below (here env) body then loop_repeats v seeks body (pruned body env)
@@ -247,5 +261,11 @@ module _ (layout : Layout) (stored : Stored) (ranges : ℕ → ℕ) where
   unfolding hidden-the_row-LoopCode-0 hidden
   dups_both f g env = refl
 
+  dups_sum : (k : ℕ) (inside body : LoopCode) (env : Env) → dups layout stored ranges (Sum k inside body) env
+      ≡ (if is_live_below (given (here env) k (remains_below (here env) inside)) body k then dups layout stored ranges inside env else 0)
+      + dups layout stored ranges body (at_cursor env k (some_if (adds_some layout stored ranges inside env)))
+  unfolding hidden-the_row-LoopCode-0 hidden
+  dups_sum k inside body env = refl
+
   pub dups_count : IsCount layout stored ranges loop_repeats (dups layout stored ranges)
-  dups_count = record { loop = dups_loop; both = dups_both; add = λ t env. refl }
+  dups_count = record { loop = dups_loop; both = dups_both; add = λ t env. refl; sum = dups_sum }
