@@ -12,7 +12,8 @@ use Rattle.index_notation.specs.declared.syntax.Access.{Access}
 use Rattle.index_notation.specs.declared.syntax.Expr.{Expr, Num, Access as AccessOf, Binary', Neg', Row_of-Expr, end_of-Expr, more_of-Expr}
 use Rattle.index_notation.specs.declared.syntax.NestedSum.{NestedSum}
 use Rattle.index_notation.specs.declared.syntax.Statement.{Statement}
-use Rattle.expr_terms.specs.Nested.{accesses_with, flat, flat_values, free_in, nested_value, sum_access, sum_value, values_with, with_tensor}
+use Rattle.expr_terms.specs.Nested.{accesses_with, flat, flat_values, free_in, is_free, nested_value, sum_access, sum_value}
+use Rattle.expr_terms.specs.Nested.{values_with, with_tensor}
 use Rattle.expr_terms.specs.Points.{point_of, sum_over}
 use Rattle.expr_terms.specs.declared.term.Term.{Term}
 use Rattle.expr_terms.specs.Terms.{contains, is_at_access, is_own, own_in, stands_in, stands_inside, statement_value, term_sum}
@@ -95,11 +96,11 @@ module _ (a : Arithmetic) (s t : Statement) (values stored : ℕ → List ℕ �
 
 -- ---- accesses by the same variables, of the same values, and behind them nested sums
 module _ (a : Arithmetic) (ranges : ℕ → ℕ) (vars : ℕ) where
-  IsAlike : (ℕ → List ℕ → ℕ) → (ℕ → List ℕ → ℕ) → Access → Access → Type 0
+  abbrev IsAlike : (ℕ → List ℕ → ℕ) → (ℕ → List ℕ → ℕ) → Access → Access → Type 0
   IsAlike values stored x y =
       (y.vars ≡ x.vars) × ((point : ℕ → ℕ) → stored y.tensor (map point y.vars) ≡ values x.tensor (map point x.vars))
 
-  AreAlike : (ℕ → List ℕ → ℕ) → (ℕ → List ℕ → ℕ) → List Access → List Access → Type 0
+  abbrev AreAlike : (ℕ → List ℕ → ℕ) → (ℕ → List ℕ → ℕ) → List Access → List Access → Type 0
   AreAlike values stored [] [] = Unit {0}
   AreAlike values stored (x ∷ xs) (y ∷ ys) = IsAlike values stored x y × AreAlike values stored xs ys
   AreAlike values stored [] (y ∷ ys) = ⊥
@@ -183,10 +184,18 @@ module _ (a : Arithmetic) (ranges : ℕ → ℕ) (vars : ℕ) where
 
       free_same : free_in vars ys sum ≡ free_in vars xs sum
       free_same =
-          ap (λ is. filter is (numbers_from 0 vars)) (λ i v. stands_same a values stored xs ys (reads_at values stored xs ys h)
-          (stand_at values stored xs ys h) v sum.inside i && not (nat_eq v sum.var))
+          let tests : is_free ys sum ≡ is_free xs sum =
+          λ i v. stands_same a values stored xs ys (reads_at values stored xs ys h)
+          (stand_at values stored xs ys h) v sum.inside i && not (nat_eq v sum.var) in
+          ap (λ is. filter is (numbers_from 0 vars)) tests
 
-      inside_same : (λ p. value_of a stored ys p sum.inside) ≡ (λ p. value_of a values xs p sum.inside)
+      inside_here : (ℕ → ℕ) → ℕ
+      inside_here p = value_of a stored ys p sum.inside
+
+      inside_there : (ℕ → ℕ) → ℕ
+      inside_there p = value_of a values xs p sum.inside
+
+      inside_same : inside_here ≡ inside_there
       inside_same = λ i p. value_same a values stored xs ys (reads_at values stored xs ys h) (stand_at values stored xs ys h) p sum.inside i
 
       told : (point : ℕ → ℕ)
@@ -206,65 +215,83 @@ tensors_below : (tensors vars : ℕ) (accesses : List Access) → Each (IsAccess
 tensors_below tensors vars [] h = tt
 tensors_below tensors vars (access ∷ accesses) h = (h.0.tensor, tensors_below tensors vars accesses h.1)
 
+module _ (a : Arithmetic) (s : Statement) (formats : List (List FormatLevel)) (plan : Planned) (values stored : ℕ → List ℕ → ℕ)
+    (ranges : ℕ → ℕ) (numbered : IsNumberedWithSums s) (p : IsPlanned s formats plan) (store : StoreOrigins plan values stored) where
+  abbrev t : Statement
+  t = plan.statement
+
+  planned_at : (k : ℕ) (old access : Access) → slice_get s.accesses k ≡ Some old → slice_get t.accesses k ≡ Some access
+      → IsAlike a ranges (length s.vars) values stored old access
+  planned_at k old access is stands_there =
+      let at = p.accesses k old access is stands_there in (
+        at.vars,
+        (λ point. store access.tensor (map point access.vars) at.stored.operand at.stored.within
+            ∙ ap (λ tensor. values tensor (map point access.vars)) at.stored.origin_is
+            ∙ ap (λ vars. values old.tensor (map point vars)) at.vars),
+      )
+
+  pairs_of : (xs ys : List Access) → length ys ≡ length xs
+      → ((k : ℕ) (x y : Access) → slice_get xs k ≡ Some x → slice_get ys k ≡ Some y
+      → IsAlike a ranges (length s.vars) values stored x y)
+      → AreAlike a ranges (length s.vars) values stored xs ys
+  pairs_of [] [] long each = tt
+  pairs_of (x ∷ xs) (y ∷ ys) long each = (each 0 x y refl refl, pairs_of xs ys (omega (arith, long)) (λ k. each (suc k)))
+  pairs_of [] (y ∷ ys) long each = absurd (omega (arith, long))
+  pairs_of (x ∷ xs) [] long each = absurd (omega (arith, long))
+
+  below_planned : (ys : List Access)
+      → ((k : ℕ) (y : Access) → slice_get ys k ≡ Some y → y.tensor < length t.tensors)
+      → Each (λ (y : Access). y.tensor < length t.tensors) ys
+  below_planned [] each = tt
+  below_planned (y ∷ ys) each = (each 0 y refl, below_planned ys (λ k. each (suc k)))
+
+  within : (k : ℕ) (access : Access) → slice_get t.accesses k ≡ Some access → access.tensor < length t.tensors
+  within k access is =
+      let at = stands s formats plan p k access is in
+      let inside = at.planned.stored.within in
+      let many = p.tensors_many in
+      omega (arith, inside, many)
+
+  first : AreAlike a ranges (length s.vars) (flat_values a s values ranges)
+      (values_with a ranges (length s.vars) t.accesses (length t.tensors) s.sums stored)
+      (flat s).accesses (accesses_with (length s.vars) t.accesses (length t.tensors) s.sums)
+  first =
+      sums_alike a ranges (length s.vars) s.sums (length s.tensors) (length t.tensors) values stored s.accesses t.accesses
+      (tensors_below (length s.tensors) (length s.vars) s.accesses numbered.right) (below_planned t.accesses within)
+      (pairs_of s.accesses t.accesses p.many planned_at)
+
+  all : AreAlike a ranges (length s.vars) (flat_values a s values ranges) (flat_values a t stored ranges) (flat s).accesses
+      (flat t).accesses
+  all =
+      subst (λ names. AreAlike a ranges (length s.vars) (flat_values a s values ranges)
+      (values_with a ranges (length names) t.accesses (length t.tensors) t.sums stored)
+      (flat s).accesses (accesses_with (length names) t.accesses (length t.tensors) t.sums)) (sym p.vars)
+      (subst (λ sums. AreAlike a ranges (length s.vars) (flat_values a s values ranges)
+      (values_with a ranges (length s.vars) t.accesses (length t.tensors) sums stored)
+      (flat s).accesses (accesses_with (length s.vars) t.accesses (length t.tensors) sums)) (sym p.sums) first)
+
 pub values_kept : (a : Arithmetic) (s : Statement) (formats : List (List FormatLevel)) (plan : Planned)
     (values stored : ℕ → List ℕ → ℕ) (ranges : ℕ → ℕ) (coords : List ℕ) → IsNumberedWithSums s → IsPlanned s formats plan
     → StoreOrigins plan values stored
     → nested_value a plan.statement stored ranges coords ≡ nested_value a s values ranges coords
 values_kept a s formats plan values stored ranges coords numbered p store =
+    let t = plan.statement in
+    let here = all a s formats plan values stored ranges numbered p store in
     statement_same a (flat s) (flat t) (flat_values a s values ranges) (flat_values a t stored ranges)
-    (reads_at a ranges (length s.vars) (flat_values a s values ranges) (flat_values a t stored ranges) (flat s).accesses (flat t).accesses all)
-    (stand_at a ranges (length s.vars) (flat_values a s values ranges) (flat_values a t stored ranges) (flat s).accesses (flat t).accesses all)
+    (reads_at a ranges (length s.vars) (flat_values a s values ranges) (flat_values a t stored ranges) (flat s).accesses (flat t).accesses here)
+    (stand_at a ranges (length s.vars) (flat_values a s values ranges) (flat_values a t stored ranges) (flat s).accesses (flat t).accesses here)
     p.left p.vars p.expr ranges coords
-  where
-    t : Statement
-    t = plan.statement
 
-    planned_at : (k : ℕ) (old access : Access) → slice_get s.accesses k ≡ Some old → slice_get t.accesses k ≡ Some access
-        → IsAlike a ranges (length s.vars) values stored old access
-    planned_at k old access is stands_there =
-        let at = p.accesses k old access is stands_there in (
-          at.vars,
-          (λ point. store access.tensor (map point access.vars) at.stored.operand at.stored.within
-              ∙ ap (λ tensor. values tensor (map point access.vars)) at.stored.origin_is
-              ∙ ap (λ vars. values old.tensor (map point vars)) at.vars),
-        )
-
-    pairs_of : (xs ys : List Access) → length ys ≡ length xs
-        → ((k : ℕ) (x y : Access) → slice_get xs k ≡ Some x → slice_get ys k ≡ Some y
-        → IsAlike a ranges (length s.vars) values stored x y)
-        → AreAlike a ranges (length s.vars) values stored xs ys
-    pairs_of [] [] long each = tt
-    pairs_of (x ∷ xs) (y ∷ ys) long each = (each 0 x y refl refl, pairs_of xs ys (omega (arith, long)) (λ k. each (suc k)))
-    pairs_of [] (y ∷ ys) long each = absurd (omega (arith, long))
-    pairs_of (x ∷ xs) [] long each = absurd (omega (arith, long))
-
-    below_planned : (ys : List Access)
-        → ((k : ℕ) (y : Access) → slice_get ys k ≡ Some y → y.tensor < length t.tensors)
-        → Each (λ (y : Access). y.tensor < length t.tensors) ys
-    below_planned [] each = tt
-    below_planned (y ∷ ys) each = (each 0 y refl, below_planned ys (λ k. each (suc k)))
-
-    within : (k : ℕ) (access : Access) → slice_get t.accesses k ≡ Some access → access.tensor < length t.tensors
-    within k access is =
-        let at = stands s formats plan p k access is in
-        let inside = at.planned.stored.within in
-        let many = p.tensors_many in
-        omega (arith, inside, many)
-
-    first : AreAlike a ranges (length s.vars) (flat_values a s values ranges)
-        (values_with a ranges (length s.vars) t.accesses (length t.tensors) s.sums stored)
-        (flat s).accesses (accesses_with (length s.vars) t.accesses (length t.tensors) s.sums)
-    first =
-        sums_alike a ranges (length s.vars) s.sums (length s.tensors) (length t.tensors) values stored s.accesses t.accesses
-        (tensors_below (length s.tensors) (length s.vars) s.accesses numbered.right) (below_planned t.accesses within)
-        (pairs_of s.accesses t.accesses p.many planned_at)
-
-    all : AreAlike a ranges (length s.vars) (flat_values a s values ranges) (flat_values a t stored ranges) (flat s).accesses
-        (flat t).accesses
-    all =
-        subst (λ names. AreAlike a ranges (length s.vars) (flat_values a s values ranges)
-        (values_with a ranges (length names) t.accesses (length t.tensors) t.sums stored)
-        (flat s).accesses (accesses_with (length names) t.accesses (length t.tensors) t.sums)) (sym p.vars)
-        (subst (λ sums. AreAlike a ranges (length s.vars) (flat_values a s values ranges)
-        (values_with a ranges (length s.vars) t.accesses (length t.tensors) sums stored)
-        (flat s).accesses (accesses_with (length s.vars) t.accesses (length t.tensors) sums)) (sym p.sums) first)
+-- the same variables stand in what its accesses and sums read
+pub planned_stands : (a : Arithmetic) (s : Statement) (formats : List (List FormatLevel)) (plan : Planned) → IsNumberedWithSums s
+    → IsPlanned s formats plan → (v : ℕ) (e : Expr)
+    → stands_in (flat plan.statement).accesses v e ≡ stands_in (flat s).accesses v e
+planned_stands a s formats plan numbered p v e =
+    let t = plan.statement in
+    let none : ℕ → List ℕ → ℕ = λ tensor coords. 0 in
+    let ranges : ℕ → ℕ = λ v. 0 in
+    let here = all a s formats plan none none ranges numbered p (λ tensor coords some within. refl) in
+    stands_same a (flat_values a s none ranges) (flat_values a t none ranges) (flat s).accesses (flat t).accesses
+    (reads_at a ranges (length s.vars) (flat_values a s none ranges) (flat_values a t none ranges) (flat s).accesses (flat t).accesses here)
+    (stand_at a ranges (length s.vars) (flat_values a s none ranges) (flat_values a t none ranges) (flat s).accesses (flat t).accesses here)
+    v e
