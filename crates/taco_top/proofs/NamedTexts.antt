@@ -12,9 +12,8 @@ use Rattle.expr_terms.specs.declared.names.NameFault.TheVariants.{ResultRead, Ar
 use Rattle.expr_terms.proofs.NameOnce.{names_never_both}
 use Rattle.nested_sums.specs.Bad.{AreFine, IsFirstBad, IsFirstBadSum, is_bad}
 use Rattle.refusals.specs.declared.fault.NamedFault.TheVariants as named
-use Rattle.refusals.specs.declared.fault.Fault.{Fault}
 use Rattle.refusals.specs.declared.fault.Fault.TheVariants as fault
-use Rattle.taco_top.specs.Asked.{AreNamed, IsNameRefused, IsStatementRefused, IsTextRefused}
+use Rattle.taco_top.specs.Asked.{AreNamed, IsNameRefused, IsStatementRefused}
 
 pub named_once : (text : List ℕ) (s t : Statement) → AreNamed text s → AreNamed text t → s ≡ t
 named_once text s t is be =
@@ -61,16 +60,3 @@ sum_refused text written s (BadSum var) notation names same first = (written, no
 sum_refused text written s (ResultRead tensor) notation names same first = absurd first
 sum_refused text written s (Arity tensor) notation names same first = absurd first
 sum_refused text written s (RepeatedVariable tensor var) notation names same first = absurd first
-
-pub text_refused : (text : List ℕ) (why : Fault) → IsTextRefused text why → IsStatementRefused text why
-text_refused text (fault.Notation why) is = is
-text_refused text fault.Memory is = tt
-text_refused text fault.Usage is = absurd is
-text_refused text (fault.Named t why) is = absurd is
-text_refused text (fault.NoMinus name) is = absurd is
-text_refused text (fault.WorkspaceLimit count) is = absurd is
-text_refused text (fault.ReadFault path) is = absurd is
-text_refused text (fault.FileBytes path) is = absurd is
-text_refused text (fault.BadFile path number kind) is = absurd is
-text_refused text (fault.Kernel why) is = absurd is
-text_refused text (fault.WriteFault path) is = absurd is

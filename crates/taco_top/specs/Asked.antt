@@ -74,11 +74,6 @@ IsLineRefused words Usage = command_line_of words ≡ None
 IsLineRefused words Memory = Unit {0}
 IsLineRefused words _ = ⊥
 
-abbrev pub IsTextRefused : List ℕ → Fault → Type 0
-IsTextRefused text (Notation fault) = IsFaultOf text fault
-IsTextRefused text Memory = Unit {0}
-IsTextRefused text _ = ⊥
-
 -- why the names of a statement of a text are refused: the fault of an access as it is written, or else of a nested sum
 abbrev pub IsNameRefused : List ℕ → Statement → NameFault → Type 0
 IsNameRefused text s (BadSum var) =

@@ -5,7 +5,7 @@ ghost use Rattle.command_line.specs.CommandLine.{command_line_of};
 ghost use Rattle.command_line.specs.Told.{told};
 ghost use Rattle.bindings.specs.Tables.{file_in};
 ghost use Rattle.bindings.specs.Outcome.{Binds};
-ghost use Rattle.taco_top.specs.Asked.{AreNamed, Asks, AsksOf, IsRefusedByWords, IsLineRefused, IsStatementRefused, IsTextRefused};
+ghost use Rattle.taco_top.specs.Asked.{AreNamed, Asks, AsksOf, IsRefusedByWords, IsLineRefused, IsStatementRefused};
 ghost use Rattle.taco_top.specs.Work.{IsAsked, IsUnasked};
 ghost use Rattle.taco_top.specs.Exec.{AsksExec, AsksExecOf, IsExecRefused, exec_request};
 ghost use Rattle.taco_top.specs.Asked.{IsBindingRefused, IsMinusRefused, needs_files, texts_in};
@@ -81,7 +81,7 @@ fn reads_files(task: Task) -> bool
 /// The statement of a text, as the program's faults tell what it isn't.
 fn read_statement<'a>(alloc: Global, text: &str) -> Result<Statement, Fault<'a>>
     ensures statement { IfOk result (λ s. IsNotationOf text.now s × IsNumberedWithSums s) }
-    ensures refused { IfErr result (IsTextRefused text.now) }
+    ensures refused { IfErr result (IsStatementRefused text.now) }
 {
     match parse(alloc, text) {
         Ok(statement) => Ok(statement),
