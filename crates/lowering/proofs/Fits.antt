@@ -32,11 +32,12 @@ use Rattle.lowering.specs.Layouts.{levels_of, variables_of}
 use Rattle.lowering.specs.Lowered.{IsInOrder}
 use Rattle.lowering.specs.Seeking.{has_access, reached}
 use Rattle.lowering.specs.Shapes.{Allows, AreGood, MayLoop, Fits, AllFit, IsLowered, variables_at}
+use Rattle.lowering.specs.Starts.{StartsInPlace}
 use Rattle.lowering.specs.Sums.{AreInner, HasSums, SuitsFormats, are_bound, first_sum, reads, stands_before, sum_at, vars_at, vars_of}
 use Rattle.lowering.specs.Wrapped.{wrapped}
 use Rattle.lowering.proofs.Accesses.{each_access, or_left, or_right}
 use Rattle.lowering.proofs.Reached.{reached_bound, reached_stops, reached_within}
-use Rattle.lowering.proofs.Shapes.{root_good}
+use Rattle.lowering.proofs.Shapes.{root_good, root_in_place}
 use Rattle.lowering.proofs.Standing.{all_bound, number_in, one_bound, same_by, self_test, stands_by}
 use Rattle.lowering.proofs.Through.{sum_of_list, under_in}
 
@@ -580,4 +581,15 @@ root_from s formats c numbered sums suits formed h limit loops all top low is =
     subst (AreGood s formats [] (λ k. 0) (λ k. false))
     (sym (is ∙ ap (λ n. wrapped s formats (reads s n c) None [] n loops) top))
     (root_good s formats h.order (all_allowed s formats numbered formed suits h.order h.is_order sums h.inner) c
+    (all_fit s formats numbered formed suits c h) loops low)
+
+-- and each of their sums starts in place
+pub root_placed : (s : Statement) (formats : List (List FormatLevel)) (c : Concrete) → IsNumbered s → HasSums s formats
+    → Each (SuitsFormats formats) s.accesses → AreFormed formats s.accesses → IsInOrder s formats c → (limit : ℕ) (loops all : LoopCode)
+    → limit ≡ length s.sums → IsLowered s formats [] c loops → all ≡ wrapped s formats (reads s limit c) None [] limit loops
+    → StartsInPlace s None [] 0 all
+root_placed s formats c numbered sums suits formed h limit loops all top low is =
+    subst (StartsInPlace s None [] 0)
+    (sym (is ∙ ap (λ n. wrapped s formats (reads s n c) None [] n loops) top))
+    (root_in_place s formats h.order (all_allowed s formats numbered formed suits h.order h.is_order sums h.inner) c
     (all_fit s formats numbered formed suits c h) loops low)

@@ -4,6 +4,7 @@ pub mod Equations
 pub mod Fits
 pub mod FlatSums
 pub mod HeldStorages
+pub mod InPlace
 pub mod PlainSums
 pub mod Reached
 pub mod RightLoops

@@ -83,7 +83,7 @@ Leads order None bound = bound ≡ []
 Leads order (Some v) bound = Each (λ w. (w ≡ v) ⊎ (stands_before order w v ≡ true)) bound
 
 module _ (s : Statement) (formats : List (List FormatLevel)) where
-  sum_shape : (k : ℕ) (inside body : LoopCode) → concrete_of (Sum k inside body) ≡ concrete_of body
+  pub sum_shape : (k : ℕ) (inside body : LoopCode) → concrete_of (Sum k inside body) ≡ concrete_of body
   unfolding hidden-the_row-LoopCode-0 hidden
   sum_shape k inside body = refl
 
@@ -105,21 +105,21 @@ module _ (s : Statement) (formats : List (List FormatLevel)) where
   unfolding hidden-the_row-LoopCode-0 hidden-the_row-Concrete-0 hidden
   loop_shape v seeks body c h = ap (Forall v) h
 
-  abbrev seeks_inside : List ℕ → ℕ → List Seek
+  abbrev pub seeks_inside : List ℕ → ℕ → List Seek
   seeks_inside bound n =
       seeks_at s formats (reads s n (inside_of s n)) bound ((sum_at s n).var ∷ bound) (numbers_from 0 (length s.accesses))
 
-  abbrev body_inside : List ℕ → ℕ → LoopCode
+  abbrev pub body_inside : List ℕ → ℕ → LoopCode
   body_inside bound n =
       wrapped s formats (reads s n (inside_of s n)) (Some (sum_at s n).var) ((sum_at s n).var ∷ bound) n
       (Add (plain_term (sum_at s n).inside))
 
-  body_shape : (bound : List ℕ) (n : ℕ) → concrete_of (body_inside bound n) ≡ inside_of s n
+  pub body_shape : (bound : List ℕ) (n : ℕ) → concrete_of (body_inside bound n) ≡ inside_of s n
   body_shape bound n =
       wrapped_shape n (reads s n (inside_of s n)) (Some (sum_at s n).var) ((sum_at s n).var ∷ bound)
       (Add (plain_term (sum_at s n).inside))
 
-  inside_shape : (bound : List ℕ) (n : ℕ) → concrete_of (inside_code s formats bound n) ≡ sum_tree s n
+  pub inside_shape : (bound : List ℕ) (n : ℕ) → concrete_of (inside_code s formats bound n) ≡ sum_tree s n
   inside_shape bound n =
       loop_shape (sum_at s n).var (seeks_inside bound n) (body_inside bound n) (inside_of s n) (body_shape bound n)
 
@@ -190,7 +190,7 @@ module _ (s : Statement) (formats : List (List FormatLevel)) where
           → is_met at (vars_of_sum m) ≡ false → started (first_sum s + m) ≡ true
 
     -- the variable of a sum that starts stands behind all that are bound
-    behind_all : (at : Option ℕ) (bound : List ℕ) (n : ℕ) → n < length s.sums → Leads order at bound → is_met at (vars_of_sum n) ≡ true
+    pub behind_all : (at : Option ℕ) (bound : List ℕ) (n : ℕ) → n < length s.sums → Leads order at bound → is_met at (vars_of_sum n) ≡ true
         → Each (λ w. stands_before order w (sum_at s n).var ≡ true) bound
     behind_all None bound n l leads met = subst (Each (λ w. stands_before order w (sum_at s n).var ≡ true)) (sym leads) tt
     behind_all (Some v) bound n l leads met =

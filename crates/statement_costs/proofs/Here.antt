@@ -24,7 +24,7 @@ use Rattle.lowering.specs.Seeking.{has_access}
 use Rattle.lowering.specs.Shapes.{AreReached, FindsBelow, FindsReached}
 use Rattle.lowering.specs.Sums.{HasSums, first_sum, reads_any}
 use Rattle.statement_costs.specs.Costs.{at, is_there, opened_group, present_at, some_term}
-use Rattle.statement_costs.specs.Starts.{StartsInPlace}
+use Rattle.lowering.specs.Starts.{StartsInPlace}
 use Rattle.statement_costs.proofs.Leaves.{leaf_told, uses_whole}
 use Rattle.statement_costs.proofs.Opened.{Started, full_here, live_here, none_opened, remains_here, same_by, terms_are}
 use Rattle.statement_costs.proofs.Parts.{AreLess, AreLive, alike_live, full_same, less_remains, live_same, remains_same, some_less}

@@ -19,7 +19,7 @@ use Rattle.lowering.specs.Sums.{first_sum, reads_any}
 use Rattle.lowering.proofs.Accesses.{of_access, or_left, or_right}
 use Rattle.lowering.proofs.Through.{through_uses}
 use Rattle.statement_costs.specs.Costs.{has_started}
-use Rattle.statement_costs.specs.Starts.{MayStart, StartsInPlace, StartsInPlace_in}
+use Rattle.lowering.specs.Starts.{MayStart, StartsInPlace, StartsInPlace_in}
 use Rattle.statement_costs.proofs.Opened.{Started, before_it, but_it, inside_read, into, less_or_not, started_outside, started_so}
 
 -- by either side

@@ -1,6 +1,5 @@
 pub mod Groups
 pub mod Here
-pub mod InPlace
 pub mod Leaves
 pub mod Lengths
 pub mod Moves

@@ -31,7 +31,7 @@ use Rattle.lowering.specs.Sums.{first_sum, reads_any, sum_at, through, vars_at}
 use Rattle.lowering.proofs.Reached.{reached_bound, reached_within}
 use Rattle.lowering.proofs.Standing.{all_bound, at_access, none_behind, one_bound, or_so, stands_by}
 use Rattle.statement_costs.specs.Costs.{at, has_started, in_place, is_there, opened_group, present_at, some_term}
-use Rattle.statement_costs.specs.Starts.{IsBehind, StartsInPlace}
+use Rattle.lowering.specs.Starts.{IsBehind, StartsInPlace}
 use Rattle.statement_costs.proofs.Here.{IsLaid, IsThere, in_part, leaf, leaf_started, less_there, live_there, place, place_there, some_told}
 use Rattle.statement_costs.proofs.Here.{terms_of}
 use Rattle.statement_costs.proofs.Opened.{inside_others, less_or_not, started_inside, started_known, started_outside, started_so}

@@ -17,7 +17,7 @@ use Rattle.lowering.specs.Shapes.{FindsBelow, FindsReached}
 use Rattle.lowering.specs.Sums.{HasSums, SuitsFormats}
 use Rattle.lowering.proofs.Fits.{all_allowed}
 use Rattle.statement_costs.specs.Costs.{HaveGroups, group_length, group_repeats, statement_cost, statement_repeats}
-use Rattle.statement_costs.specs.Starts.{StartsInPlace}
+use Rattle.lowering.specs.Starts.{StartsInPlace}
 use Rattle.statement_costs.proofs.Steps.{length_most, repeats_most}
 use Rattle.statement_costs.proofs.Trees.{cost_counts, dups_count, loop_length, loop_repeats}
 use Rattle.statement_costs.proofs.Whole.{length_same, repeats_same, whole}

@@ -30,7 +30,7 @@ use Rattle.lowering.proofs.Accesses.{each_access, or_left, or_right}
 use Rattle.lowering.proofs.Standing.{all_bound, bound_less, one_bound}
 use Rattle.lowering.proofs.Through.{sum_of_list, through_closed, through_limit, through_more, through_uses, under}
 use Rattle.statement_costs.specs.Costs.{has_started, has_started_before, in_place, opened_group, some_term, with_others}
-use Rattle.statement_costs.specs.Starts.{IsNext, MayStart, StartsInPlace, StartsInPlace_in}
+use Rattle.lowering.specs.Starts.{IsNext, MayStart, StartsInPlace, StartsInPlace_in}
 use Rattle.statement_costs.proofs.Plain.{HasNone}
 use Rattle.statement_costs.proofs.Trees.{full_terms, live_terms, nests_of, remains_terms}
 

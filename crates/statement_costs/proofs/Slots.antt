@@ -24,7 +24,7 @@ use Rattle.lowering.specs.Sums.{HasSums, SuitsFormats, reads_any}
 use Rattle.lowering.proofs.Fits.{all_allowed}
 use Rattle.statement_costs.specs.Costs.{at, is_walked, next_level}
 use Rattle.statement_costs.specs.Slots.{group_slots, level_slots, slots, slots_here, statement_slots}
-use Rattle.statement_costs.specs.Starts.{StartsInPlace}
+use Rattle.lowering.specs.Starts.{StartsInPlace}
 use Rattle.statement_costs.proofs.Groups.{AreSame}
 use Rattle.statement_costs.proofs.Lengths.{seeks_most}
 use Rattle.statement_costs.proofs.Steps.{IsStep, group_at, in_group, step_real, step_walked}

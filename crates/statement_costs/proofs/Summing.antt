@@ -32,7 +32,7 @@ use Rattle.lowering.specs.Sums.{first_sum, reads_any, sum_at, sum_tree}
 use Rattle.lowering.proofs.Accesses.{of_access}
 use Rattle.lowering.proofs.Through.{so_both, sum_of_list, through_uses, under}
 use Rattle.statement_costs.specs.Costs.{at, has_started, in_place, is_there, opened_group, present_at, some_term, with_others}
-use Rattle.statement_costs.specs.Starts.{IsBehind, IsNext, MayStart, StartsInPlace}
+use Rattle.lowering.specs.Starts.{IsBehind, IsNext, MayStart, StartsInPlace}
 use Rattle.statement_costs.proofs.Here.{IsLaid, IsThere, in_part, leaf, leaf_is, place, place_there, remains_is}
 use Rattle.statement_costs.proofs.Here.{remains_less, some_told, terms_of}
 use Rattle.statement_costs.proofs.Leaves.{by_side, whole_follows}

@@ -26,7 +26,7 @@ use Rattle.lowering.proofs.Reached.{none_reached}
 use Rattle.lowering.proofs.RightLoops.{same_nests}
 use Rattle.statement_costs.specs.Costs.{at, group_length, group_repeats, groups_length, is_here, is_there, is_walked, present_at}
 use Rattle.statement_costs.specs.Costs.{segment_length, some_term, sum_walked, whole_total}
-use Rattle.statement_costs.specs.Starts.{StartsInPlace}
+use Rattle.lowering.specs.Starts.{StartsInPlace}
 use Rattle.statement_costs.proofs.Groups.{AreAlong, AreSame, IsAlong, filtered_along, permutation_same, some_same, starting_same}
 use Rattle.statement_costs.proofs.Groups.{total_same}
 use Rattle.statement_costs.proofs.Here.{IsLaid, IsThere, leaf, place, terms_of}

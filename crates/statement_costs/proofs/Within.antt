@@ -33,7 +33,7 @@ use Rattle.lowering.proofs.Standing.{none_behind}
 use Rattle.lowering.proofs.Through.{so_both}
 use Rattle.statement_costs.specs.Costs.{at, group_of, has_started, has_started_before, inside_of, is_here, is_there, is_wanted}
 use Rattle.statement_costs.specs.Costs.{opened_group, own_group, present_at, some_term, total}
-use Rattle.statement_costs.specs.Starts.{IsBehind, IsNext, MayStart}
+use Rattle.lowering.specs.Starts.{IsBehind, IsNext, MayStart}
 use Rattle.statement_costs.proofs.Groups.{AreAlong, IsAlong, along_one, entered, group_other, starting, total_both, total_loop}
 use Rattle.statement_costs.proofs.Here.{IsLaid, IsThere, full_is, laid_by, leaf, less_there, live_is, remains_is, remains_less, terms_of}
 use Rattle.statement_costs.proofs.Here.{there_by, there_pruned}

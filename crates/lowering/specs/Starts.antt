@@ -7,14 +7,13 @@ use Rattle.concrete_notation.specs.declared.concrete.Concrete.{Concrete}
 use Rattle.loop_code.specs.declared.loops.LoopCode.{LoopCode, Add, Both', Loop', Sum', Row_of-LoopCode, end_of-LoopCode, more_of-LoopCode}
 use Rattle.loop_code.specs.Places.{EachAccess}
 use Rattle.lowering.specs.Lowered.{concrete_in}
-use Rattle.lowering.specs.Sums.{first_sum, is_met, reads_any, sum_tree, vars_at}
-use Rattle.statement_costs.specs.Costs.{has_started}
+use Rattle.lowering.specs.Sums.{are_bound, first_sum, is_met, reads_any, sum_tree, vars_at}
 
 module _ (s : Statement) where
   -- inside loops over bound variables, the innermost of which is told, a sum starts at its loop: all its variables are bound, and the
   -- innermost is one of them
   pub record MayStart (innermost : Option ℕ) (bound : List ℕ) (k : ℕ) : Type 0 where
-    pub known : has_started s bound k ≡ true
+    pub known : are_bound bound (vars_at s k) ≡ true
     pub met : is_met innermost (vars_at s k) ≡ true
 
   -- behind all sums that start there, of those that are read
@@ -42,7 +41,7 @@ module _ (s : Statement) where
         IsBehind innermost bound from (concrete_in f) × IsBehind innermost bound from (concrete_in g)
         × StartsInPlace_in innermost bound from f × StartsInPlace_in innermost bound from g
     StartsInPlace innermost bound from (Add t) =
-        EachAccess (λ k. first_sum s ≤ k → (k < first_sum s + length s.sums) × (has_started s bound k ≡ true)
+        EachAccess (λ k. first_sum s ≤ k → (k < first_sum s + length s.sums) × (are_bound bound (vars_at s k) ≡ true)
         × (MayStart innermost bound k → k < from)) t.expr
     StartsInPlace innermost bound from (Sum' k p inside q body) =
         IsNext innermost bound from k (concrete_in inside) (concrete_in body) × StartsInPlace_in innermost bound k inside
