@@ -93,10 +93,10 @@ pub record AddsFromTop (a : Arithmetic) (k : AppendedSink) (s : Statement) (form
   pub most : Store → LoopKind → ℕ
   pub appends : (c : Setting) → c.arithmetic ≡ a → (store : Store) → IsReadStore s formats store
       → TakesAll appended_sink k store.ranges []
-      (rows_to a s formats (told_by a store) (stored_in (operands_in s store)) keys loops)
+      (rows_to a s formats (told_by a s store) (stored_in (operands_in s store)) keys loops)
       → (st : State) → IsAtTop a k s formats store places st → HasLists list past st
       → Adds (beside_lists appended_sink list past) k c store.ranges code free (most store) []
-      (rows_to a s formats (told_by a store) (stored_in (operands_in s store)) keys loops) st
+      (rows_to a s formats (told_by a s store) (stored_in (operands_in s store)) keys loops) st
 
 -- the workspaces of a kernel, which have these numbers of keys, have no rows
 abbrev pub HaveNoRows : List ℕ → State → Type 0
@@ -111,7 +111,7 @@ pub record HasAppended (a : Arithmetic) (k : AppendedSink) (ranges : List ℕ) (
 -- a growth that a kernel may be refused on a store, of such a place and to so many
 pub record MayBeRefused (a : Arithmetic) (s : Statement) (store : Store) (Allowed : Store → Place → ℕ → Type 0) (b : Arr) (count : ℕ)
     : Type 0 where
-  pub right : IsRightOutcome a s (told_by a store) store (TooLong (place_of (length store.format) b) count)
+  pub right : IsRightOutcome a s (told_by a s store) store (TooLong (place_of (length store.format) b) count)
   pub allowed : Allowed store (place_of (length store.format) b) count
 
 -- From the top the code appends rows that have the sums of those that the loops add to these keys, whatever the store; the kernel's
@@ -123,7 +123,7 @@ pub record AppendsFromTop (a : Arithmetic) (k : AppendedSink) (s : Statement) (f
   pub held : Store → List Entry
   pub each : (store : Store) → IsStoreOf s formats store → Each (IsRow (length store.format)) (held store)
   pub same : (store : Store) → IsStoreOf s formats store → sums_of a (held store)
-      ≡ sums_of a (rows_to a s formats (told_by a store) (stored_in (operands_in s store)) keys loops)
+      ≡ sums_of a (rows_to a s formats (told_by a s store) (stored_in (operands_in s store)) keys loops)
   pub appends : (c : Setting) → c.arithmetic ≡ a → c.workspaces ≡ spaces → (store : Store) → IsStoreOf s formats store
       → (st : State) → IsAtTop a k s formats store places st → HaveNoRows spaces st → HasLists list past st
       → Does c code st (HasAppended a k store.ranges (held store) (most store) st)
@@ -164,5 +164,5 @@ AppendedKernelsAreRight = (a : Arithmetic) → Laws a → (s : Statement) (forma
     → (free : ℕ) → EndsFirst (letters_in k) k.base free (length k.levels) end
     → (kernel : Kernel) → past ≤ kernel.lists → kernel.workspaces ≡ spaces → kernel.body ≡ ((top ++ begin) ++ code) ++ end
     → (store : Store) → IsStoreOf s formats store → (arrays : Arrays) → IsGiven a.zero store arrays
-    → Ends a (length store.format) kernel arrays (λ outcome. IsRightOutcome a s (told_by a store) store outcome
+    → Ends a (length store.format) kernel arrays (λ outcome. IsRightOutcome a s (told_by a s store) store outcome
     × MakesNoMore (appends.most store) outcome × RefusesOnly (Allowed store) outcome)

@@ -109,11 +109,11 @@ starts_are_tops a k s formats store d r modes base places at st given left = rec
 
 -- a run that ends as told is right where its end is, and where no growth is refused
 right_told : (a : Arithmetic) (s : Statement) (store : Store) (order : ℕ) (P : State → Type 0) (R : Refusal)
-    → ((t : State) → P t → LeavesResult a s (told_by a store) store t.arrays)
+    → ((t : State) → P t → LeavesResult a s (told_by a s store) store t.arrays)
     → ((t : LoopKind → ℕ) (b : Arr) (count : ℕ) → R t b count → ⊥)
-    → (o : KernelOutcome) → ToldOf order P R o → IsRightOutcome a s (told_by a store) store o
+    → (o : KernelOutcome) → ToldOf order P R o → IsRightOutcome a s (told_by a s store) store o
 right_told a s store order P R leaves never (Finished arrays turns) h =
-    subst (LeavesResult a s (told_by a store) store) h.2 (leaves h.0 h.1)
+    subst (LeavesResult a s (told_by a s store) store) h.2 (leaves h.0 h.1)
 right_told a s store order P R leaves never (GotStuck statement) h = absurd h
 right_told a s store order P R leaves never (TooLong place count) h = absurd (never h.0 h.1.0 count h.1.1)
 right_told a s store order P R leaves never NotFinished h = absurd h
@@ -128,16 +128,16 @@ module _ (a : Arithmetic) (laws : Laws a) (s : Statement) (formats : List (List 
   read_store = record { numbered = f.numbered; named = f.named; read = f.read; is = is }
 
   abbrev rows : List Entry
-  rows = rows_to a s formats (told_by a store) (stored_in (operands_in s store)) s.left.vars loops
+  rows = rows_to a s formats (told_by a s store) (stored_in (operands_in s store)) s.left.vars loops
 
-  have_values : HaveValues a s (told_by a store) rows
+  have_values : HaveValues a s (told_by a s store) rows
   have_values =
       let t = told s formats store read_store a laws in
-      (are_right s f.numbered formats c in_order f.named loops adds).added a laws (told_by a store) (stored_in (operands_in s store)) t.held
+      (are_right s f.numbered formats c in_order f.named loops adds).added a laws (told_by a s store) (stored_in (operands_in s store)) t.held
       t.elsewhere
 
   leaves : (arrays : Arrays) → HoldsSums (modes_of store.format) a (left_ranges s store) rows arrays
-      → LeavesResult a s (told_by a store) store arrays
+      → LeavesResult a s (told_by a s store) store arrays
   leaves arrays h = sums_are_results a laws s formats store dense_store rows have_values arrays h
 
   -- from the start of a run, behind code that puts each access at its top, the rows are added
@@ -178,7 +178,7 @@ module _ (a : Arithmetic) (laws : Laws a) (s : Statement) (formats : List (List 
         (λ turns b count r. r.1)
 
     ends : kernel.body ≡ top ++ code
-        → EndsSo a (length store.format) kernel arrays (IsRightOutcome a s (told_by a store) store)
+        → EndsSo a (length store.format) kernel arrays (IsRightOutcome a s (told_by a s store) store)
     ends body =
         let e = ends_as_code_does a (length store.format) kernel arrays HoldsRows Never
         (subst (λ (b : List KStmt). Does setting b begin HoldsRows Never) (sym body)

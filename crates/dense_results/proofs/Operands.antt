@@ -206,11 +206,11 @@ module _ (s : Statement) (formats : List (List FormatLevel)) (store : Store) (r 
       by None (suc p) = omega arith
       by (Some access) p = words_small access.tensor p
 
-  pub has_storages : (a : Arithmetic) → Each (HasStorage a formats (operand_of store) (told_by a store)) s.accesses
-  has_storages a = each_from (HasStorage a formats (operand_of store) (told_by a store)) s.accesses at
+  pub has_storages : (a : Arithmetic) → Each (HasStorage a formats (operand_of store) (told_by a s store)) s.accesses
+  has_storages a = each_from (HasStorage a formats (operand_of store) (told_by a s store)) s.accesses at
     where
       at : (k : ℕ) (access : Access) → slice_get s.accesses k ≡ Some access
-          → HasStorage a formats (operand_of store) (told_by a store) access
+          → HasStorage a formats (operand_of store) (told_by a s store) access
       at k access is =
           let i = is_read k access is in
           record {
@@ -223,8 +223,8 @@ module _ (s : Statement) (formats : List (List FormatLevel)) (store : Store) (r 
   pub told : (a : Arithmetic) → Laws a → AreTold a s formats store
   told a laws = record {
     stored = stored_same;
-    held = subst (λ stored. AreHeld a (layout_of s formats) stored s.accesses (told_by a store)) (sym stored_same)
-        (storages_held a s formats (operand_of store) (told_by a store)
+    held = subst (λ stored. AreHeld a (layout_of s formats) stored s.accesses (told_by a s store)) (sym stored_same)
+        (storages_held a s formats (operand_of store) (told_by a s store)
         (storages_words a laws (operand_of store) (slice_index store.ranges) words_small) (has_storages a));
     elsewhere = storages_zero a (operand_of store) (slice_index store.ranges);
   }

@@ -122,7 +122,7 @@ each_to_all P (x ∷ xs) h (suc k) d l = each_to_all P xs h.1 k d (omega (arith,
 
 -- rows that have the statement's values
 within_all : (a : Arithmetic) (s : Statement) (formats : List (List FormatLevel)) (store : Store) → IsDenseStore s formats store
-    → (rows : List Entry) → HaveValues a s (told_by a store) rows → All (λ (row : Entry). row.value < 2 ^ 64) rows
+    → (rows : List Entry) → HaveValues a s (told_by a s store) rows → All (λ (row : Entry). row.value < 2 ^ 64) rows
     → All (IsWithin (modes_of store.format) (left_ranges s store)) rows
 within_all a s formats store d rows have words k e l =
     let m = has_modes s formats store d in
@@ -138,8 +138,8 @@ pub rows_are_taken : RowsAreTaken
 rows_are_taken a laws s formats store d r c in_order loops adds words =
     let t = told s formats store r a laws in
     let right = are_right s r.numbered formats c in_order r.named loops adds in
-    let rows : List Entry = rows_to a s formats (told_by a store) (stored_in (operands_in s store)) s.left.vars loops in
-    within_all a s formats store d rows (right.added a laws (told_by a store) (stored_in (operands_in s store)) t.held t.elsewhere)
+    let rows : List Entry = rows_to a s formats (told_by a s store) (stored_in (operands_in s store)) s.left.vars loops in
+    within_all a s formats store d rows (right.added a laws (told_by a s store) (stored_in (operands_in s store)) t.held t.elsewhere)
     (each_to_all (λ (row : Entry). row.value < 2 ^ 64) rows
     (rows_words a laws (layout_of s formats) (stored_in (operands_in s store)) (slice_index store.ranges) s.left.vars
     (λ k position. word_small s formats store r k position) loops words start))

@@ -65,7 +65,7 @@ pub record AddsFromTop (a : Arithmetic) (k : DenseSink) (s : Statement) (formats
   pub adds : (c : Setting) → c.arithmetic ≡ a → (store : Store) → IsDenseStore s formats store → IsReadStore s formats store
       → (st : State) → IsAtTop a k s formats store places st → HasLists list past st
       → Adds (beside_lists dense_sink list past) k c (left_ranges s store) code free (most store) []
-      (rows_to a s formats (told_by a store) (stored_in (operands_in s store)) s.left.vars loops) st
+      (rows_to a s formats (told_by a s store) (stored_in (operands_in s store)) s.left.vars loops) st
 
 -- a statement with a format for each tensor, a dense one for its result
 pub record IsForDense (s : Statement) (formats : List (List FormatLevel)) : Type 0 where

@@ -39,7 +39,7 @@ RowsAreTaken = (a : Arithmetic) → Laws a → (s : Statement) (formats : List (
     → IsDenseStore s formats store → IsReadStore s formats store → (c : Concrete) → IsInOrder s formats c
     → (loops : LoopCode) → AddsRows s formats c loops → shapes.EachTerm (λ t. HasWords t.expr) loops
     → All (IsWithin (modes_of store.format) (left_ranges s store))
-    (rows_to a s formats (told_by a store) (stored_in (operands_in s store)) s.left.vars loops)
+    (rows_to a s formats (told_by a s store) (stored_in (operands_in s store)) s.left.vars loops)
 
 -- there are as many pairs of a term and a point in one order of the variables as in another
 abbrev pub PairsInAnyOrder : Type 0

@@ -59,8 +59,8 @@ ArraysStandForOperands = (s : Statement) (formats : List (List FormatLevel)) (st
 -- what is stored of the accesses is what the store's operands store, and tells what the store tells, which is zero elsewhere
 pub record AreTold (a : Arithmetic) (s : Statement) (formats : List (List FormatLevel)) (store : Store) : Type 0 where
   pub stored : stored_in (operands_in s store) ≡ stored_of s (operand_of store)
-  pub held : AreHeld a (layout_of s formats) (stored_in (operands_in s store)) s.accesses (told_by a store)
-  pub elsewhere : AreZeroElsewhere a (told_by a store).paths (told_by a store).values
+  pub held : AreHeld a (layout_of s formats) (stored_in (operands_in s store)) s.accesses (told_by a s store)
+  pub elsewhere : AreZeroElsewhere a (told_by a s store).paths (told_by a s store).values
 
 abbrev pub OperandsAreTold : Type 0
 OperandsAreTold = (a : Arithmetic) → Laws a → (s : Statement) (formats : List (List FormatLevel)) (store : Store)

@@ -2,7 +2,7 @@
 -- value at coordinates of these is the sum of what stands inside, over the whole range of its own variable.
 use Rattle.std.specs.Prelude.{ℕ, ◌+◌, nat_eq, not, ◌&&◌, Bool, if◌then◌else◌, List, [], ◌∷◌, ◌++◌, length, filter}
 use Rattle.numbers.specs.Arithmetic.{Arithmetic}
-use Rattle.index_notation.specs.Grammar.{sum_name}
+use Rattle.index_notation.specs.Numbering.{sum_name}
 use Rattle.index_notation.specs.Statement.{numbers_from}
 use Rattle.index_notation.specs.declared.syntax.Access.{Access}
 use Rattle.index_notation.specs.declared.syntax.Name.{Name}

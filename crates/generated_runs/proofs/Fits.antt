@@ -107,12 +107,12 @@ module _ (a : Arithmetic) (n : ℕ) (first second third : Entries) (few : n ≤ 
 
   -- ---- a store of the operands
   module _ (store : Store) (for : IsStoreFor a workload_statement workload_formats (n ∷ n ∷ []) (first ∷ second ∷ third ∷ []) store) where
-    listed_at_first : (x y : ℕ) → (told_by a store).paths 1 (x ∷ y ∷ []) ≡ true → Listed first.list (x ∷ y ∷ [])
+    listed_at_first : (x y : ℕ) → (told_by a s store).paths 1 (x ∷ y ∷ []) ≡ true → Listed first.list (x ∷ y ∷ [])
     listed_at_first x y path =
         operand_listed a workload_statement workload_formats (n ∷ n ∷ []) (first ∷ second ∷ third ∷ []) store for 0 first refl
         (format_at 0 (omega arith)) x y path
 
-    listed_at_third : (x y : ℕ) → (told_by a store).paths 3 (x ∷ y ∷ []) ≡ true → Listed third.list (x ∷ y ∷ [])
+    listed_at_third : (x y : ℕ) → (told_by a s store).paths 3 (x ∷ y ∷ []) ≡ true → Listed third.list (x ∷ y ∷ [])
     listed_at_third x y path =
         operand_listed a workload_statement workload_formats (n ∷ n ∷ []) (first ∷ second ∷ third ∷ []) store for 2 third refl
         (format_at 2 (omega arith)) x y path
@@ -122,7 +122,7 @@ module _ (a : Arithmetic) (n : ℕ) (first second third : Entries) (few : n ≤ 
     either x y l = (listed_append (x ∷ y ∷ []) first.list third.list).1 l
 
     -- each point of the support is listed in the first operand or in the third
-    support_listed : (coords : List ℕ) → IsInSupport workload_statement (told_by a store) coords
+    support_listed : (coords : List ℕ) → IsInSupport workload_statement (told_by a s store) coords
         → Listed (first.list ++ third.list) (slice_index coords 0 ∷ slice_index coords 1 ∷ [])
     unfolding workload_statement hidden-the_row-Expr-0 hidden
     support_listed [] support = absurd support.0
@@ -133,13 +133,13 @@ module _ (a : Arithmetic) (n : ℕ) (first second third : Entries) (few : n ≤ 
           let row : p.point 0 ≡ x = p.others 0 refl in
           let column : p.point 1 ≡ y = p.others 1 refl in
           let here : p.point 0 ∷ p.point 1 ∷ [] ≡ x ∷ y ∷ [] = cc in
-          either x y (inl (listed_at_first x y (subst (λ cs. (told_by a store).paths 1 cs ≡ true) here (both_true _ _ p.present).0)))
+          either x y (inl (listed_at_first x y (subst (λ cs. (told_by a s store).paths 1 cs ≡ true) here (both_true _ _ p.present).0)))
       | inr more ↦ elim more [
         | inl p ↦
             let row : p.point 0 ≡ x = p.others 0 refl in
             let column : p.point 1 ≡ y = p.others 1 refl in
             let here : p.point 0 ∷ p.point 1 ∷ [] ≡ x ∷ y ∷ [] = cc in
-            either x y (inr (listed_at_third x y (subst (λ cs. (told_by a store).paths 3 cs ≡ true) here p.present)))
+            either x y (inr (listed_at_third x y (subst (λ cs. (told_by a s store).paths 3 cs ≡ true) here p.present)))
         | inr none ↦ absurd none
       ]
     ]
@@ -151,7 +151,7 @@ module _ (a : Arithmetic) (n : ℕ) (first second third : Entries) (few : n ≤ 
         let other = are.2.few in
         omega (arith, long, one, other, few, twice)
 
-    result_fits : (table : Table) → IsNamedResult a workload_statement (told_by a store) store.format table
+    result_fits : (table : Table) → IsNamedResult a workload_statement (told_by a s store) store.format table
         → AreFew (positions_of store.format store.ranges table)
     unfolding workload_formats
     result_fits table named =
@@ -165,16 +165,16 @@ module _ (a : Arithmetic) (n : ℕ) (first second third : Entries) (few : n ≤ 
         (subst (λ rs. AreFew (positions_of by_rows rs table)) (sym for.ranges_are)
         (few_positions table n n (first.list ++ third.list) small most rows))
 
-    pairs_fit : pairs workload_statement (standing_order workload_statement) (told_by a store) ≤ greatest_position_count
+    pairs_fit : pairs workload_statement (standing_order workload_statement) (told_by a s store) ≤ greatest_position_count
     unfolding workload_statement hidden-the_row-Expr-0 hidden
     pairs_fit =
-        let paths = (told_by a store).paths in
-        let rows = (told_by a store).ranges 0 in
-        let columns = (told_by a store).ranges 1 in
+        let paths = (told_by a s store).paths in
+        let rows = (told_by a s store).ranges 0 in
+        let columns = (told_by a s store).ranges 1 in
         let products = few_pass rows columns (λ x y. paths 1 (x ∷ y ∷ []) && paths 2 (x ∷ y ∷ [])) first.list
         (λ x y h k is. listed_at_first x y (both_true _ _ is).0) in
         let others = few_pass rows columns (λ x y. paths 3 (x ∷ y ∷ [])) third.list (λ x y h k is. listed_at_third x y is) in
-        let both : pairs workload_statement (standing_order workload_statement) (told_by a store)
+        let both : pairs workload_statement (standing_order workload_statement) (told_by a s store)
         ≡ 0 + count_below rows (λ x. count_below columns (λ y. one_if (paths 1 (x ∷ y ∷ []) && paths 2 (x ∷ y ∷ []))))
         + count_below rows (λ x. count_below columns (λ y. one_if (paths 3 (x ∷ y ∷ [])))) = refl in
         let one = are.0.few in

@@ -133,7 +133,7 @@ operand_packed a s formats ranges operands store is n entries at format =
 -- what a store tells to be a path of it is listed among the operand's entries
 pub operand_listed : (a : Arithmetic) (s : Statement) (formats : List (List FormatLevel)) (ranges : List ℕ) (operands : List Entries)
     (store : Store) → IsStoreFor a s formats ranges operands store → (n : ℕ) (entries : Entries) → slice_get operands n ≡ Some entries
-    → format_of formats (suc n) ≡ by_rows → (x y : ℕ) → (told_by a store).paths (suc n) (x ∷ y ∷ []) ≡ true
+    → format_of formats (suc n) ≡ by_rows → (x y : ℕ) → (told_by a s store).paths (suc n) (x ∷ y ∷ []) ≡ true
     → Listed entries.list (x ∷ y ∷ [])
 operand_listed a s formats ranges operands store is n entries at format x y path =
     let whole = operand_packed a s formats ranges operands store is n entries at format in

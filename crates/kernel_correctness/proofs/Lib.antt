@@ -1,3 +1,4 @@
 pub mod CodeEnds
+pub mod FlatStores
 pub mod Sound
 pub mod Starts

@@ -90,4 +90,4 @@ sound_outcome a s inputs store NotFinished is_format r = absurd r
 pub right_is_sound : RightIsSound
 right_is_sound a s formats kernel right store is arrays given =
     let e = right store is arrays given in
-    record { turns = e.turns; outcome = e.outcome; is = e.is; appends = e.appends; so = sound_outcome a s (told_by a store) store e.outcome is.format e.so }
+    record { turns = e.turns; outcome = e.outcome; is = e.is; appends = e.appends; so = sound_outcome a s (told_by a s store) store e.outcome is.format e.so }

@@ -42,7 +42,7 @@ pub record Ends (a : Arithmetic) (order : ℕ) (kernel : Kernel) (arrays : Array
 -- the kernel is right for the statement and formats: on every store, whatever the ranges and the operands
 abbrev pub IsRightKernel : Arithmetic → Statement → List (List FormatLevel) → Kernel → Type 0
 IsRightKernel a s formats kernel = (store : Store) → IsStoreOf s formats store → (arrays : Arrays) → IsGiven a.zero store arrays
-    → Ends a (length store.format) kernel arrays (IsRightOutcome a s (told_by a store) store)
+    → Ends a (length store.format) kernel arrays (IsRightOutcome a s (told_by a s store) store)
 
 -- it finishes with a storage that keeps the rules, or is refused a growth; it is never stuck, and its turns come to an end
 abbrev pub IsSoundOutcome : ℕ → Store → KernelOutcome → Type 0

@@ -54,7 +54,7 @@ pub record NeedsPairsBy (a : Arithmetic) (s : Statement) (formats : List (List F
   pub store : Store
   pub is_store : IsStoreFor a s formats ranges operands store
   pub passes : greatest_position_count < count
-  pub most : count ≤ pairs s (standing_order s) (told_by a store)
+  pub most : count ≤ pairs s (standing_order s) (told_by a s store)
   pub sparse : AreAllDense (format_of formats 0) → ⊥
   pub stops : StopsOn a kernel store place.Workspace count
 
@@ -102,10 +102,10 @@ module _ (a : Arithmetic) (laws : Laws a) (s : Statement) (formats : List (List 
     sound few = right_is_sound a s formats kernel right (store_of ranges storages format) (store_for few).is_store
 
     stopped : (at : Place) (count : ℕ) (stops : StopsOn a kernel (store_of ranges storages format) at count)
-        → IsRightOutcome a s (told_by a (store_of ranges storages format)) (store_of ranges storages format) (TooLong at count)
+        → IsRightOutcome a s (told_by a s (store_of ranges storages format)) (store_of ranges storages format) (TooLong at count)
     stopped at count stops =
         outcome_is a (length format) kernel stops.given
-        (IsRightOutcome a s (told_by a (store_of ranges storages format)) (store_of ranges storages format)) (TooLong at count)
+        (IsRightOutcome a s (told_by a s (store_of ranges storages format)) (store_of ranges storages format)) (TooLong at count)
         (right (store_of ranges storages format) (store_for stops.few).is_store stops.given stops.is_given) (λ none. none) stops.ends apart
       where
         apart : TooLong at count ≡ NotFinished → ⊥
@@ -165,9 +165,9 @@ module _ (a : Arithmetic) (laws : Laws a) (s : Statement) (formats : List (List 
         ends : EndsOn a kernel (store_of ranges storages format) tensor turns
         ends = run.ends
 
-        leaves : LeavesResult a s (told_by a (store_of ranges storages format)) (store_of ranges storages format) ends.has_run.arrays
+        leaves : LeavesResult a s (told_by a s (store_of ranges storages format)) (store_of ranges storages format) ends.has_run.arrays
         leaves = outcome_is a (length format) kernel ends.given
-            (IsRightOutcome a s (told_by a (store_of ranges storages format)) (store_of ranges storages format))
+            (IsRightOutcome a s (told_by a s (store_of ranges storages format)) (store_of ranges storages format))
             (Finished ends.has_run.arrays (count_of turns))
             (right (store_of ranges storages format) (store_for ends.few).is_store ends.given ends.is_given) (λ none. none)
             ends.has_run.ends apart

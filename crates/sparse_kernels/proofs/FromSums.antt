@@ -64,7 +64,7 @@ module _ (a : Arithmetic) (s : Statement) (formats : List (List FormatLevel)) (s
 
   module _ (within : (j : LoopKind) → same_kind Drain j ≡ false → made j ≤ most j)
       (drained : (u : State) → Stored u → u.turns Drain ≤ most Drain + 2 * length (letters_of store.format) * length sums) where
-    turns_made : (u : State) → Stored u → AreTurns s (told_by a store) (letters_of store.format) most u.turns u.arrays
+    turns_made : (u : State) → Stored u → AreTurns s (told_by a s store) (letters_of store.format) most u.turns u.arrays
     turns_made u l = record {
       points = length sums;
       have = has_points a s store sums are_rows is.format left_many;

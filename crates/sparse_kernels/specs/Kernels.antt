@@ -71,7 +71,7 @@ pub record PushesFromTop (a : Arithmetic) (k : WorkspaceSink) (s : Statement) (f
   pub pushes : (c : Setting) → c.arithmetic ≡ a → (store : Store) → IsReadStore s formats store
       → (st : State) → IsAtTop a k s formats store places st → HasLists list past st
       → Adds (beside_lists workspace_sink list past) k c (left_ranges s store) code free (most store) []
-      (rows_to a s formats (told_by a store) (stored_in (operands_in s store)) keys loops) st
+      (rows_to a s formats (told_by a s store) (stored_in (operands_in s store)) keys loops) st
 
 -- the rows of workspace w are sorted and summed, and in scratch list g each is given the one position above all levels
 abbrev pub sorting_code : ℕ → ℕ → List KStmt
@@ -90,5 +90,5 @@ SparseKernelsAreRight = (a : Arithmetic) → Laws a → (s : Statement) (formats
     → (kernel : Kernel) → slice_get kernel.workspaces k.number ≡ Some k.keys → g < kernel.lists → past ≤ kernel.lists
     → kernel.body ≡ (top ++ code) ++ (sorting_code k.number g ++ drain)
     → (store : Store) → IsStoreOf s formats store → (arrays : Arrays) → IsGiven a.zero store arrays
-    → Ends a (length store.format) kernel arrays (λ outcome. IsRightOutcome a s (told_by a store) store outcome
-    × MakesTurns s (told_by a store) (letters_of store.format) (pushes.most store) outcome)
+    → Ends a (length store.format) kernel arrays (λ outcome. IsRightOutcome a s (told_by a s store) store outcome
+    × MakesTurns s (told_by a s store) (letters_of store.format) (pushes.most store) outcome)

@@ -70,7 +70,7 @@ both_so n (row ∷ rows) many words = (record { many = many.0; word = words.0 },
 
 pub loops_add_rows : LoopsAddRows
 loops_add_rows a laws s formats store r loops words keys =
-    both_so (length keys) (rows_to a s formats (told_by a store) (stored_in (operands_in s store)) keys loops)
+    both_so (length keys) (rows_to a s formats (told_by a s store) (stored_in (operands_in s store)) keys loops)
     (rows_many a (layout_of s formats) (stored_in (operands_in s store)) (slice_index store.ranges) keys loops start)
     (rows_words a laws (layout_of s formats) (stored_in (operands_in s store)) (slice_index store.ranges) keys
     (λ k position. word_small s formats store r k position) loops words start)
@@ -92,9 +92,9 @@ loops_sum_to_result a laws s formats h store r c in_order loops adds words =
     let t = told s formats store r a laws in
     let right = are_right s r.numbered formats c in_order r.named loops adds in
     are_rows a laws s formats store (result_store a laws s formats h store r) keys level
-    (rows_to a s formats (told_by a store) (stored_in (operands_in s store)) keys loops)
+    (rows_to a s formats (told_by a s store) (stored_in (operands_in s store)) keys loops)
     (loops_add_rows a laws s formats store r loops words keys)
-    (right.summed a laws (told_by a store) (stored_in (operands_in s store)) t.held t.elsewhere keys level.keys_are)
+    (right.summed a laws (told_by a s store) (stored_in (operands_in s store)) t.held t.elsewhere keys level.keys_are)
 
 levels_small : (format : List FormatLevel) (ranges : List ℕ) → All (λ range. range ≤ greatest_position_count) ranges
     → All (λ size. size ≤ greatest_position_count) (in_level_order format ranges)

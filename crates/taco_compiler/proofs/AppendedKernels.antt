@@ -207,7 +207,7 @@ module _ (a : Arithmetic) (laws : Laws a) (s : Statement) (formats : List (List 
     module _ (store : Store) (is : IsStoreOf s formats store) (arrays : Arrays) (given : IsGiven a.zero store arrays) where
       abbrev IsTold : KernelOutcome → Type 0
       IsTold outcome =
-          IsRightOutcome a s (told_by a store) store outcome × MakesNoMore (appends.most store) outcome
+          IsRightOutcome a s (told_by a s store) store outcome × MakesNoMore (appends.most store) outcome
           × RefusesOnly (OnlyLevels store) outcome
 
       told : Ends a (length store.format) kernel arrays IsTold
@@ -223,7 +223,7 @@ module _ (a : Arithmetic) (laws : Laws a) (s : Statement) (formats : List (List 
       few_turns (TooLong place count) h = tt
       few_turns NotFinished h = absurd h.1
 
-      no_drains : (o : KernelOutcome) → IsTold o → DrainsFew s formats order (told_by a store) store.format o
+      no_drains : (o : KernelOutcome) → IsTold o → DrainsFew s formats order (told_by a s store) store.format o
       no_drains (Finished left turns) h =
           let most = h.1 Drain in
           let none = (e.few (operands_in s store) (slice_index store.ranges) start).drains in
@@ -236,7 +236,7 @@ module _ (a : Arithmetic) (laws : Laws a) (s : Statement) (formats : List (List 
       no_drains (TooLong place count) h = tt
       no_drains NotFinished h = absurd h.1
 
-      few_probes : (o : KernelOutcome) → IsTold o → ProbesFew s formats order store (told_by a store) o
+      few_probes : (o : KernelOutcome) → IsTold o → ProbesFew s formats order store (told_by a s store) o
       few_probes (Finished left turns) h = record {
         none = λ uncalled. within_searches a laws s formats order loops l store (read_store store is) (appends.most store)
             (e.few (operands_in s store) (slice_index store.ranges) start) (turns Probe) (h.1 Probe);
@@ -254,7 +254,7 @@ module _ (a : Arithmetic) (laws : Laws a) (s : Statement) (formats : List (List 
 
     right_kernel : IsRightKernel a s formats kernel
     right_kernel store is arrays given =
-        ends_weaker a (length store.format) kernel arrays (IsTold store is arrays given) (IsRightOutcome a s (told_by a store) store)
+        ends_weaker a (length store.format) kernel arrays (IsTold store is arrays given) (IsRightOutcome a s (told_by a s store) store)
         (λ o h. h.0) (told store is arrays given)
 
     pub appended_compiled : IsCompiled a s formats order kernel
@@ -264,15 +264,15 @@ module _ (a : Arithmetic) (laws : Laws a) (s : Statement) (formats : List (List 
       few = λ store is arrays given. ends_weaker a (length store.format) kernel arrays (IsTold store is arrays given)
           (AreFewTurns s formats order store) (few_turns store is arrays given) (told store is arrays given);
       drains = λ store is arrays given. ends_weaker a (length store.format) kernel arrays (IsTold store is arrays given)
-          (DrainsFew s formats order (told_by a store) store.format) (no_drains store is arrays given) (told store is arrays given);
+          (DrainsFew s formats order (told_by a s store) store.format) (no_drains store is arrays given) (told store is arrays given);
       probes = λ store is arrays given. ends_weaker a (length store.format) kernel arrays (IsTold store is arrays given)
-          (ProbesFew s formats order store (told_by a store)) (few_probes store is arrays given) (told store is arrays given);
+          (ProbesFew s formats order store (told_by a s store)) (few_probes store is arrays given) (told store is arrays given);
       bare = λ none. spaces;
       keyed = λ called. absurd (clash (calls_for_workspace s formats order) called direct);
       marked = λ called. absurd (clash (calls_for_workspace s formats order) called direct);
       direct = λ none store is arrays given. ends_weaker a (length store.format) kernel arrays (IsTold store is arrays given) IsUnrefused
           (unrefused store is arrays given) (told store is arrays given);
       heads = λ sorted store is arrays given. ends_weaker a (length store.format) kernel arrays (IsTold store is arrays given)
-          (NeedsOneHead s order (told_by a store))
-          (λ o h. needs_no_head s order (told_by a store) o (unrefused store is arrays given o h)) (told store is arrays given);
+          (NeedsOneHead s order (told_by a s store))
+          (λ o h. needs_no_head s order (told_by a s store) o (unrefused store is arrays given o h)) (told store is arrays given);
     }

@@ -122,7 +122,7 @@ module _ (a : Arithmetic) (laws : Laws a) (s : Statement) (formats : List (List 
     module _ (store : Store) (is : IsStoreOf s formats store) (arrays : Arrays) (given : IsGiven a.zero store arrays) where
       abbrev IsTold : KernelOutcome → Type 0
       IsTold outcome =
-          IsRightOutcome a s (told_by a store) store outcome × MakesNoMore (appends.most store) outcome
+          IsRightOutcome a s (told_by a s store) store outcome × MakesNoMore (appends.most store) outcome
           × RefusesOnly (Allowed store) outcome
 
       told : Ends a (length store.format) kernel arrays IsTold
@@ -148,7 +148,7 @@ module _ (a : Arithmetic) (laws : Laws a) (s : Statement) (formats : List (List 
 
       -- the sums are as many as the support has points
       abbrev sums : List Entry
-      sums = sums_of a (rows_to a s formats (told_by a store) (stored_in (operands_in s store)) keys loops)
+      sums = sums_of a (rows_to a s formats (told_by a s store) (stored_in (operands_in s store)) keys loops)
 
       are : AreRowsOfResult a s store sums
       are = are_rows a laws s formats c in_order f loops own_loops store is
@@ -175,7 +175,7 @@ module _ (a : Arithmetic) (laws : Laws a) (s : Statement) (formats : List (List 
           (take-append-drop g.first keys) in
           omega (arith, few, all, whole)
 
-      drains_few : (o : KernelOutcome) → IsTold o → DrainsFew s formats order (told_by a store) store.format o
+      drains_few : (o : KernelOutcome) → IsTold o → DrainsFew s formats order (told_by a s store) store.format o
       drains_few (Finished left turns) h = record {
         none = λ free. absurd (clash (calls_for_workspace s formats order) called free);
         within = λ some. record {
@@ -201,7 +201,7 @@ module _ (a : Arithmetic) (laws : Laws a) (s : Statement) (formats : List (List 
       abbrev searches : ℕ
       searches = length s.accesses * statement_cost s formats order (stored_of s (operand_of store)) (slice_index store.ranges)
 
-      few_probes : (o : KernelOutcome) → IsTold o → ProbesFew s formats order store (told_by a store) o
+      few_probes : (o : KernelOutcome) → IsTold o → ProbesFew s formats order store (told_by a s store) o
       few_probes (Finished left turns) h = record {
         none = λ free. absurd (clash (calls_for_workspace s formats order) called free);
         within = λ some. record {
@@ -218,11 +218,11 @@ module _ (a : Arithmetic) (laws : Laws a) (s : Statement) (formats : List (List 
       few_probes (TooLong place count) h = tt
       few_probes NotFinished h = absurd h.1
 
-      one_head : (o : KernelOutcome) → IsTold o → NeedsOneHead s order (told_by a store) o
+      one_head : (o : KernelOutcome) → IsTold o → NeedsOneHead s order (told_by a s store) o
       one_head (Finished left turns) h = tt
       one_head (GotStuck statement) h = absurd h.1
       one_head (TooLong (Level level) count) h = tt
-      one_head (TooLong Workspace count) h = subst (λ vars. AreAtOneHead s order vars (told_by a store) count) head h.2.few
+      one_head (TooLong Workspace count) h = subst (λ vars. AreAtOneHead s order vars (told_by a s store) count) head h.2.few
       one_head NotFinished h = absurd h.1
 
       tail_keys : workspace_keys s formats order ≡ drop g.first keys
@@ -237,7 +237,7 @@ module _ (a : Arithmetic) (laws : Laws a) (s : Statement) (formats : List (List 
 
     right_kernel : IsRightKernel a s formats kernel
     right_kernel store is arrays given =
-        ends_weaker a (length store.format) kernel arrays (IsTold store is arrays given) (IsRightOutcome a s (told_by a store) store)
+        ends_weaker a (length store.format) kernel arrays (IsTold store is arrays given) (IsRightOutcome a s (told_by a s store) store)
         (λ o h. h.0) (told store is arrays given)
 
     pub grouped_compiled : IsCompiled a s formats order kernel
@@ -247,13 +247,13 @@ module _ (a : Arithmetic) (laws : Laws a) (s : Statement) (formats : List (List 
       few = λ store is arrays given. ends_weaker a (length store.format) kernel arrays (IsTold store is arrays given)
           (AreFewTurns s formats order store) (few_turns store is arrays given) (told store is arrays given);
       drains = λ store is arrays given. ends_weaker a (length store.format) kernel arrays (IsTold store is arrays given)
-          (DrainsFew s formats order (told_by a store) store.format) (drains_few store is arrays given) (told store is arrays given);
+          (DrainsFew s formats order (told_by a s store) store.format) (drains_few store is arrays given) (told store is arrays given);
       probes = λ store is arrays given. ends_weaker a (length store.format) kernel arrays (IsTold store is arrays given)
-          (ProbesFew s formats order store (told_by a store)) (few_probes store is arrays given) (told store is arrays given);
+          (ProbesFew s formats order store (told_by a s store)) (few_probes store is arrays given) (told store is arrays given);
       bare = λ free. absurd (clash (calls_for_workspace s formats order) called free);
       direct = λ free. absurd (clash (calls_for_workspace s formats order) called free);
       heads = λ sorted store is arrays given. ends_weaker a (length store.format) kernel arrays (IsTold store is arrays given)
-          (NeedsOneHead s order (told_by a store)) (one_head store is arrays given) (told store is arrays given);
+          (NeedsOneHead s order (told_by a s store)) (one_head store is arrays given) (told store is arrays given);
       keyed = λ some. declared ∙ sized
           ∙ sym (ap (λ b. if b then tail_workspaces (length s.left.vars) else tail_workspaces (length (tail_of s order))) f.sorted);
       marked = λ some store is arrays given. ends_weaker a (length store.format) kernel arrays (IsTold store is arrays given)

@@ -61,7 +61,7 @@ module _ (a : Arithmetic) (laws : Laws a) (s : Statement) (formats : List (List 
   merges_most =
       let stored = stored_of s (operand_of store) in
       let ranges = slice_index store.ranges in
-      let groups = packed_groups a s formats (operand_of store) (told_by a store) (has_storages s formats store read_store a) in
+      let groups = packed_groups a s formats (operand_of store) (told_by a s store) (has_storages s formats store read_store a) in
       let turns = turns_within (layout_of s formats) stored ranges loops start in
       let costs = loops_cost_no_more s formats c in_order shared loops l.shape l.placed l.found l.needed stored ranges groups in
       subst (λ held. merge_turns (layout_of s formats) held ranges loops start ≤ statement_cost s formats order stored ranges)

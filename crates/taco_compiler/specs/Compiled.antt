@@ -92,7 +92,7 @@ DrainsFew s formats order inputs format NotFinished = ⊥
 abbrev pub KeepsDrains : Arithmetic → Statement → List (List FormatLevel) → List ℕ → Kernel → Type 0
 KeepsDrains a s formats order kernel =
     (store : Store) → IsStoreOf s formats store → (arrays : Arrays) → IsGiven a.zero store arrays
-    → Ends a (length store.format) kernel arrays (DrainsFew s formats order (told_by a store) store.format)
+    → Ends a (length store.format) kernel arrays (DrainsFew s formats order (told_by a s store) store.format)
 
 -- so many points the support has; and a coordinate is sought in each access at most for each merge turn that the cost allows, and in each
 -- level of the result for each point, within so many probe turns as the widest level without order has slots, of an operand or of the result
@@ -123,7 +123,7 @@ ProbesFew s formats order store inputs NotFinished = ⊥
 abbrev pub KeepsProbes : Arithmetic → Statement → List (List FormatLevel) → List ℕ → Kernel → Type 0
 KeepsProbes a s formats order kernel =
     (store : Store) → IsStoreOf s formats store → (arrays : Arrays) → IsGiven a.zero store arrays
-    → Ends a (length store.format) kernel arrays (ProbesFew s formats order store (told_by a store))
+    → Ends a (length store.format) kernel arrays (ProbesFew s formats order store (told_by a s store))
 
 -- a run is neither stuck nor unfinished, and no workspace is refused a growth
 abbrev pub IsUnrefused : KernelOutcome → Type 0
@@ -150,7 +150,7 @@ NeedsOneHead s order inputs NotFinished = ⊥
 abbrev pub KeepsHeads : Arithmetic → Statement → List (List FormatLevel) → List ℕ → Kernel → Type 0
 KeepsHeads a s formats order kernel =
     (store : Store) → IsStoreOf s formats store → (arrays : Arrays) → IsGiven a.zero store arrays
-    → Ends a (length store.format) kernel arrays (NeedsOneHead s order (told_by a store))
+    → Ends a (length store.format) kernel arrays (NeedsOneHead s order (told_by a s store))
 
 -- a run is neither stuck nor unfinished, and a workspace whose key is one variable alone is refused a growth only where that one's range is
 -- too large for marks

@@ -13,7 +13,7 @@ use Rattle.expr_terms.specs.Minus.{HasMeaning, has_minus, has_minus_in}
 use Rattle.expr_terms.proofs.ExpandLaws.{expanded_named, expanded_plain}
 use Rattle.expr_terms.proofs.Meanings.{has_minus_binary}
 use Rattle.index_notation.specs.declared.operator.Operator.TheVariants as op
-use Rattle.expr_terms.proofs.WellNamed.{notation_well_named}
+use Rattle.taco_top.proofs.WellNamed.{notation_well_named}
 use Rattle.notation_reader.proofs.TreeNumbers.{notation_is_plain}
 use Rattle.operand_packing.proofs.FormatsBound.{formats_fit}
 use Rattle.taco_top.specs.Values.{values_of}

@@ -1,7 +1,7 @@
 -- What the words bind to a statement's names is what they ask for.
 use Rattle.std.specs.Prelude.{◌≡◌, ℕ, true, List, map, Result, Ok, Err, IsErrAnd, MatchResult}
 use Rattle.std.proofs.Common.{sym, subst}
-use Rattle.index_notation.specs.Notation.{IsNotationOf}
+use Rattle.notation_grammar.specs.Notation.{IsNotationOf}
 use Rattle.index_notation.specs.Statement.{IsNumberedWithSums}
 use Rattle.index_notation.specs.declared.syntax.Statement.{Statement}
 use Rattle.command_line.specs.declared.Over.{Over}

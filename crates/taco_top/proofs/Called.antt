@@ -61,9 +61,9 @@ pairs_called over s formats (Some plan) order kernel given entries bounds count 
 at_one_head : (over : Values) (s : Statement) (formats : List (List FormatLevel)) (order : List ℕ) (kernel : Kernel)
     → IsKernelOf over s formats order kernel → (store : Store) → IsStoreOf s formats store → (count : ℕ)
     → StopsOn over.arithmetic kernel store Workspace count → list_any is_unordered (result_levels s formats) ≡ false
-    → AreAtOneHead s order (head_variables s order) (told_by over.arithmetic store) count
+    → AreAtOneHead s order (head_variables s order) (told_by over.arithmetic s store) count
 at_one_head over s formats order kernel is store of_s count stops sorted =
-    outcome_is over.arithmetic (length store.format) kernel stops.given (NeedsOneHead s order (told_by over.arithmetic store))
+    outcome_is over.arithmetic (length store.format) kernel stops.given (NeedsOneHead s order (told_by over.arithmetic s store))
     (TooLong Workspace count) (is.compiled.heads sorted store of_s stops.given stops.is_given) (λ none. none) stops.ends
     (apart count)
 
@@ -101,7 +101,7 @@ same_ranges (Err fault) xs ys x y = absurd cc
 
 passes_none : (a : Arithmetic) (s : Statement) (formats : List (List FormatLevel)) (order ranges own : List ℕ) (entries : List Entries)
     (store : Store) (count : ℕ) → ranges ≡ own → IsStoreFor a s formats own entries store → greatest_position_count < count
-    → HeadsFit a s formats order ranges entries → AreAtOneHead s order (head_variables s order) (told_by a store) count → ⊥
+    → HeadsFit a s formats order ranges entries → AreAtOneHead s order (head_variables s order) (told_by a s store) count → ⊥
 passes_none a s formats order ranges own entries store count same for passes fit one =
     let few = subst (λ rs. HeadsFit a s formats order rs entries) same fit store for one.coords in
     let many = one.many in

@@ -17,7 +17,7 @@ use Rattle.numbers.specs.Arithmetic.{Arithmetic}
 use Rattle.tensor_map.specs.Entries.{Entries}
 use Rattle.tensor_storage.specs.Counts.{AreFew}
 use Rattle.format_spec.specs.declared.format.FormatLevel.{FormatLevel}
-use Rattle.index_notation.specs.Notation.{IsNotationOf}
+use Rattle.notation_grammar.specs.Notation.{IsNotationOf}
 use Rattle.index_notation.specs.declared.syntax.Statement.{Statement}
 use Rattle.notation_reader.proofs.NotationLaws as notations
 use Rattle.expr_terms.proofs.NameOnce.{names_never_both}

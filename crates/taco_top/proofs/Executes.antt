@@ -13,7 +13,7 @@ use Rattle.format_spec.specs.declared.format.FormatLevel.{FormatLevel}
 use Rattle.index_notation.specs.Statement.{IsNumberedWithSums, IsWellNamed}
 use Rattle.expr_terms.specs.declared.bound.Bound.{Bound}
 use Rattle.expr_terms.proofs.ExpandLaws.{expanded_named}
-use Rattle.expr_terms.proofs.WellNamed.{notation_well_named}
+use Rattle.taco_top.proofs.WellNamed.{notation_well_named}
 use Rattle.kernel_code.specs.declared.syntax.Kernel.{Kernel}
 use Rattle.mtx_io.specs.Progress.{IsMatrixOrder}
 use Rattle.bindings.specs.Tables.{path_to}
@@ -25,7 +25,7 @@ use Rattle.operand_files.specs.declared.fault.OperandFault.TheVariants as operan
 use Rattle.operand_files.specs.declared.kernel_file.KernelFileFault.{KernelFileFault}
 use Rattle.operand_files.specs.declared.kernel_file.KernelFileFault.TheVariants as file
 use Rattle.operand_packing.specs.Runnable.{IsRunnable}
-use Rattle.operand_packing.proofs.NamesRead.{text_read, text_keeps_orders}
+use Rattle.taco_top.proofs.NamesRead.{text_read, text_keeps_orders}
 use Rattle.operand_packing.proofs.Runnable.{read_is_runnable}
 use Rattle.kernel_runs.specs.Given.{IsGivenRun, MayRefuseGiven}
 use Rattle.kernel_runs.specs.declared.fault.GivenFault.{GivenFault}

@@ -7,6 +7,7 @@ pub mod ExecLines
 pub mod Executes
 pub mod ExecWhole
 pub mod Mended
+pub mod NamesRead
 pub mod OneRequest
 pub mod Paths
 pub mod Prepares
@@ -15,4 +16,5 @@ pub mod Reading
 pub mod Stopped
 pub mod TextLaws
 pub mod UsageLaws
+pub mod WellNamed
 pub mod WholeLaws

@@ -4,7 +4,7 @@ use Rattle.std.proofs.Common.{◌∙◌, sym, ap, subst, true≢false}
 use Rattle.format_spec.specs.declared.format.FormatLevel.{FormatLevel}
 use Rattle.index_notation.specs.declared.syntax.Statement.{Statement}
 use Rattle.index_notation.specs.declared.syntax.Expr.{Expr}
-use Rattle.index_notation.specs.Notation.{IsNotationOf}
+use Rattle.notation_grammar.specs.Notation.{IsNotationOf}
 use Rattle.notation_reader.proofs.NotationLaws as notations
 use Rattle.expr_terms.proofs.NameOnce.{names_never_both}
 use Rattle.expr_terms.specs.Expanded.{expanded}

@@ -7,7 +7,7 @@ use Rattle.tensor_map.specs.Entries.{Entries}
 use Rattle.format_spec.specs.declared.format.FormatLevel.{FormatLevel}
 use Rattle.index_notation.specs.Statement.{IsNumberedWithSums, IsWellNamed}
 use Rattle.expr_terms.specs.declared.bound.Bound.{Bound}
-use Rattle.expr_terms.proofs.WellNamed.{notation_well_named}
+use Rattle.taco_top.proofs.WellNamed.{notation_well_named}
 use Rattle.operand_files.specs.Decoded.{AreReadable}
 use Rattle.operand_files.specs.Reads.{HaveRead, IsRefused}
 use Rattle.operand_files.specs.declared.fault.OperandFault.{OperandFault}
@@ -17,7 +17,7 @@ use Rattle.kernel_code.specs.declared.syntax.Turns.{Turns}
 use Rattle.tensor_storage.specs.Storages.{Storage}
 use Rattle.mode_planner.specs.declared.planned.Planned.{Planned}
 use Rattle.operand_packing.specs.Runnable.{IsRunnable}
-use Rattle.operand_packing.proofs.NamesRead.{text_read, text_keeps_orders}
+use Rattle.taco_top.proofs.NamesRead.{text_read, text_keeps_orders}
 use Rattle.operand_packing.proofs.Runnable.{read_is_runnable}
 use Rattle.refusals.specs.declared.fault.Fault.{Fault}
 use Rattle.refusals.specs.declared.fault.Fault.TheVariants as fault

@@ -7,7 +7,7 @@ use Rattle.std.specs.declared.alloc.Global.{Global}
 use Rattle.outside.specs.Count.{Rose}
 use Rattle.outside.specs.Folder.{FolderState}
 use Rattle.outside.specs.Sink.{SinkState}
-use Rattle.index_notation.specs.declared.fault.NotationFault.{NotationFault}
+use Rattle.notation_grammar.specs.declared.fault.NotationFault.{NotationFault}
 use Rattle.index_notation.specs.declared.syntax.Statement.{Statement}
 use Rattle.expr_terms.specs.declared.names.NameFault.{NameFault}
 use Rattle.bindings.specs.declared.fault.BindingFault.{BindingFault}

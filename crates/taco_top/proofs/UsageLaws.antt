@@ -5,8 +5,8 @@ use Rattle.std.proofs.Common.{◌∙◌, sym, subst, inl, inr}
 use Rattle.std.specs.declared.alloc.Global.{Global}
 use Rattle.outside.specs.Folder.{FolderState}
 use Rattle.outside.specs.Sink.{SinkState}
-use Rattle.index_notation.specs.declared.fault.NotationFault.{NotationFault}
-use Rattle.index_notation.specs.declared.fault.NotationFault.TheVariants as notation
+use Rattle.notation_grammar.specs.declared.fault.NotationFault.{NotationFault}
+use Rattle.notation_grammar.specs.declared.fault.NotationFault.TheVariants as notation
 use Rattle.expr_terms.specs.declared.range_fault.RangeFault.TheVariants as range
 use Rattle.bindings.specs.declared.fault.WordFault.{WordFault}
 use Rattle.bindings.specs.declared.fault.WordFault.TheVariants.{BadBinding, UnknownName, Twice, NotMatrix, RangeLimit}

@@ -4,7 +4,7 @@ use Rattle.std.specs.Prelude.{◌≡◌, ℕ, Bool, List, Option, Some, None, ma
 use denote.Ref.{Bor}
 use Rattle.format_spec.specs.declared.format.FormatLevel.{FormatLevel}
 use Rattle.index_notation.specs.declared.syntax.Statement.{Statement}
-use Rattle.index_notation.specs.Notation.{IsNotationOf, IsFaultOf}
+use Rattle.notation_grammar.specs.Notation.{IsNotationOf, IsFaultOf}
 use Rattle.expr_terms.specs.Expanded.{expanded}
 use Rattle.expr_terms.specs.Minus.{HasMeaning, has_minus}
 use Rattle.expr_terms.specs.Names.{HasNoNameFault, IsFirstNameFault}

@@ -2,7 +2,7 @@
 use Rattle.std.specs.Prelude.{◌≡◌, ℕ, List, Option, Some, map, true}
 use Rattle.format_spec.specs.declared.format.FormatLevel.{FormatLevel}
 use Rattle.index_notation.specs.declared.syntax.Statement.{Statement}
-use Rattle.index_notation.specs.Notation.{IsNotationOf, IsFaultOf}
+use Rattle.notation_grammar.specs.Notation.{IsNotationOf, IsFaultOf}
 use Rattle.expr_terms.specs.Expanded.{expanded}
 use Rattle.expr_terms.specs.Names.{HasNoNameFault, IsFirstNameFault}
 use Rattle.command_line.specs.CommandLine.{Exec, command_line_of}

@@ -73,6 +73,6 @@ pub record NeedsStoredWorkspace (over : Values) (s : Statement) (formats : List 
   pub pairs : NeedsStoredPairs over s formats plan kernel given entries bounds count
   pub head : list_any is_unordered (result_levels (stored_statement s plan) (stored_formats formats plan)) ≡ false
       → AreAtOneHead (stored_statement s plan) order (head_variables (stored_statement s plan) order)
-      (told_by over.arithmetic (needing_store over s formats plan kernel given entries bounds count pairs)) count
+      (told_by over.arithmetic s (needing_store over s formats plan kernel given entries bounds count pairs)) count
   pub large : HasLargeKey (stored_statement s plan) (stored_formats formats plan) order
       (needing_store over s formats plan kernel given entries bounds count pairs).ranges

@@ -43,7 +43,7 @@ ranges_told s given operands = ranges_of s (given_at given) (bound_told (map (λ
 abbrev pub HeadsFit : Arithmetic → Statement → List (List FormatLevel) → List ℕ → List ℕ → List Entries → Type 0
 HeadsFit a s formats order ranges operands =
     (store : Store) → IsStoreFor a s formats ranges operands store → (coords : List ℕ)
-    → pairs_at s order (head_variables s order) coords (told_by a store) ≤ greatest_position_count
+    → pairs_at s order (head_variables s order) coords (told_by a s store) ≤ greatest_position_count
 
 -- all points together don't, where some level of the result has no order; else no head does
 pub record WorkspacesFit (a : Arithmetic) (s : Statement) (formats : List (List FormatLevel)) (order ranges : List ℕ)

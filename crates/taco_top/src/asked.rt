@@ -1,5 +1,5 @@
 ghost use Rattle.std.specs.Prelude.{◌≡◌, ℕ, Bool, true, List, Some, None, map, string_bytes, IfOk, IfErr, OnOk, MatchResult, IsTrue};
-ghost use Rattle.index_notation.specs.Notation.{IsNotationOf};
+ghost use Rattle.notation_grammar.specs.Notation.{IsNotationOf};
 ghost use Rattle.index_notation.specs.Statement.{IsNumberedWithSums};
 ghost use Rattle.command_line.specs.CommandLine.{command_line_of};
 ghost use Rattle.command_line.specs.Told.{told};
@@ -16,7 +16,8 @@ ghost use Rattle.refusals.specs.declared.fault.Fault.TheVariants.{Named};
 use bindings::{BindingFault, Bindings, bind};
 use command_line::{Over, Request, RequestFault, Task, read_request};
 use expr_terms::{check_names, expand, has_meaning};
-use index_notation::{Expr, NotationFault, Statement};
+use index_notation::{Expr, Statement};
+use notation_grammar::NotationFault;
 use notation_reader::parse;
 use numbers::{Ring, Semiring};
 use refusals::{Fault, NamedFault};

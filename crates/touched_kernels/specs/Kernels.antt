@@ -86,10 +86,10 @@ pub record AddsFromTop (a : Arithmetic) (k : TouchedSink) (s : Statement) (forma
   pub most : Store → LoopKind → ℕ
   pub adds : (c : Setting) → c.arithmetic ≡ a → (store : Store) → IsReadStore s formats store
       → TakesAll touched_sink k (ranges_on k store) []
-      (rows_to a s formats (told_by a store) (stored_in (operands_in s store)) keys loops)
+      (rows_to a s formats (told_by a s store) (stored_in (operands_in s store)) keys loops)
       → (st : State) → IsAtTop a k s formats store places st → HasLists list past st
       → Adds (beside_lists touched_sink list past) k c (ranges_on k store) code free (most store) []
-      (rows_to a s formats (told_by a store) (stored_in (operands_in s store)) keys loops) st
+      (rows_to a s formats (told_by a s store) (stored_in (operands_in s store)) keys loops) st
 
 -- where the range is one of marks, a level alone is refused a growth
 abbrev pub RefusesLevels : TouchedSink → Store → KernelOutcome → Type 0
@@ -110,5 +110,5 @@ TouchedKernelsAreRight = (a : Arithmetic) → Laws a → (s : Statement) (format
     → (kernel : Kernel) → IsSinkOf a s formats kernel.workspaces k → g < kernel.lists → past ≤ kernel.lists
     → kernel.body ≡ (top ++ (begin ++ code)) ++ (summed ++ Extend (ListPositions g) (Len (Sums k.list)) (Num 0) ∷ drain)
     → (store : Store) → IsStoreOf s formats store → (arrays : Arrays) → IsGiven a.zero store arrays
-    → Ends a (length store.format) kernel arrays (λ outcome. IsRightOutcome a s (told_by a store) store outcome
-    × MakesTurns s (told_by a store) (letters_of store.format) (adds.most store) outcome × RefusesLevels k store outcome)
+    → Ends a (length store.format) kernel arrays (λ outcome. IsRightOutcome a s (told_by a s store) store outcome
+    × MakesTurns s (told_by a s store) (letters_of store.format) (adds.most store) outcome × RefusesLevels k store outcome)

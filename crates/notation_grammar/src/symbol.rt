@@ -1,4 +1,4 @@
-use crate::token::Token;
+use index_notation::Token;
 
 /// A terminal symbol of a statement's text: a token, the end of the text, or a byte that begins no token.
 #[derive(Debug, Drop)]

@@ -7,18 +7,19 @@ use Rattle.limits.specs.Limits.{greatest_literal}
 use Rattle.index_notation.specs.Numbering.{distinct}
 use Rattle.index_notation.specs.declared.syntax.Name.{Name}
 use Rattle.index_notation.specs.declared.token.Token.TheVariants.{Name as NameToken, Number as NumberToken}
-use Rattle.index_notation.specs.declared.symbol.PlacedSymbol.{PlacedSymbol}
-use Rattle.index_notation.specs.declared.symbol.Symbol.{Symbol}
-use Rattle.index_notation.specs.declared.symbol.Symbol.TheVariants.{Lexeme}
-use Rattle.index_notation.specs.declared.fault.Counted.TheVariants.{Order, Variables, Accesses, Operands}
-use Rattle.index_notation.specs.declared.fault.SymbolFault.{SymbolFault}
-use Rattle.index_notation.specs.declared.fault.SymbolFault.TheVariants.{BadNotation, TooDeep, TooMany, LiteralRange}
-use Rattle.index_notation.specs.Grammar.{Tree, Role, NamesRight, IsVariable, IsNumber, Opens, Written, sentence_of}
-use Rattle.index_notation.specs.Grammar.{symbols, Begins}
+use Rattle.notation_grammar.specs.declared.symbol.PlacedSymbol.{PlacedSymbol}
+use Rattle.notation_grammar.specs.declared.symbol.Symbol.{Symbol}
+use Rattle.notation_grammar.specs.declared.symbol.Symbol.TheVariants.{Lexeme}
+use Rattle.notation_grammar.specs.declared.fault.Counted.TheVariants.{Order, Variables, Accesses, Operands}
+use Rattle.notation_grammar.specs.declared.fault.SymbolFault.{SymbolFault}
+use Rattle.notation_grammar.specs.declared.fault.SymbolFault.TheVariants.{BadNotation, TooDeep, TooMany, LiteralRange}
+use Rattle.notation_grammar.specs.Grammar.{Tree, Role, NamesRight, IsVariable, Binds, IsNumber, Opens, Written, sentence_of}
+use Rattle.notation_grammar.specs.Grammar.{symbols, Begins, HasNames}
 
 -- the variable that a symbol is, and how many accesses of the right side and operands
 abbrev pub variable_at : Role → Symbol → List Name
 variable_at (IsVariable n) (Lexeme (NameToken name)) = name ∷ []
+variable_at Binds (Lexeme (NameToken name)) = name ∷ []
 variable_at _ _ = []
 
 abbrev pub access_at : Role → ℕ
@@ -61,6 +62,7 @@ limit_passed (Opens n) symbol all = above greatest_nesting n TooDeep None
 limit_passed (IsVariable n) symbol all =
     above greatest_order n (TooMany Order)
     (above greatest_variables (length (distinct (variables_in all))) (TooMany Variables) None)
+limit_passed Binds symbol all = above greatest_variables (length (distinct (variables_in all))) (TooMany Variables) None
 limit_passed NamesRight symbol all =
     above greatest_accesses (accesses_in all) (TooMany Accesses)
     (above greatest_operands (operands_in all) (TooMany Operands) None)
@@ -112,4 +114,5 @@ pub record IsFirstFault (all : List PlacedSymbol) (at : ℕ) (fault : SymbolFaul
 -- the symbols are this tree's, within the limits
 pub record IsTreeOf (ts : List Symbol) (tree : Tree) : Type 0 where
   pub is : ts ≡ symbols (sentence_of tree)
+  pub names : HasNames tree
   pub within : HaveNoFault [] ts

@@ -46,7 +46,7 @@ pub enum NotationFault {
 
 impl From<AllocError> for NotationFault {
     ghost use Rattle.std.specs.Prelude.{◌≡◌};
-    ghost use Rattle.index_notation.specs.declared.fault.NotationFault.TheVariants as notation;
+    ghost use Rattle.notation_grammar.specs.declared.fault.NotationFault.TheVariants as notation;
 
     ghost from_gives = { λ error fault. fault ≡ notation.Memory error };
 

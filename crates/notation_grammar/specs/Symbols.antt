@@ -1,9 +1,9 @@
 -- The symbols of a text: its tokens, taken as long as possible, and then its end or the first byte that begins none.
 use Rattle.std.specs.Prelude.{◌≡◌, ◌≢◌, ℕ, ◌-◌, List, [], ◌∷◌, length}
 use Rattle.index_notation.specs.declared.token.Token.{Token}
-use Rattle.index_notation.specs.declared.symbol.Symbol.{Symbol}
-use Rattle.index_notation.specs.declared.symbol.Symbol.TheVariants.{Lexeme, End, Stray}
-use Rattle.index_notation.specs.declared.symbol.PlacedSymbol.{PlacedSymbol}
+use Rattle.notation_grammar.specs.declared.symbol.Symbol.{Symbol}
+use Rattle.notation_grammar.specs.declared.symbol.Symbol.TheVariants.{Lexeme, End, Stray}
+use Rattle.notation_grammar.specs.declared.symbol.PlacedSymbol.{PlacedSymbol}
 use Rattle.index_notation.specs.Tokens.{behind_blanks, IsNext}
 
 -- behind its blanks a text begins with no token

@@ -2,15 +2,15 @@
 use Rattle.std.specs.Prelude.{◌≡◌, ℕ, ◌<◌, ◌≤◌, List, length}
 use Rattle.limits.specs.Limits.{greatest_text_bytes}
 use Rattle.index_notation.specs.declared.syntax.Statement.{Statement}
-use Rattle.index_notation.specs.declared.symbol.PlacedSymbol.{PlacedSymbol}
-use Rattle.index_notation.specs.declared.fault.SymbolFault.{SymbolFault}
-use Rattle.index_notation.specs.declared.fault.SymbolFault.TheVariants as symbol_fault
-use Rattle.index_notation.specs.declared.fault.NotationFault.{NotationFault}
-use Rattle.index_notation.specs.declared.fault.NotationFault.TheVariants.{TextLength, BadNotation, TooDeep, TooMany, LiteralRange, Memory}
-use Rattle.index_notation.specs.Grammar.{Tree}
-use Rattle.index_notation.specs.Faults.{symbols_of, IsFirstFault, IsTreeOf}
-use Rattle.index_notation.specs.Symbols.{AreSymbols}
-use Rattle.index_notation.specs.TreeStatement.{statement_of_tree}
+use Rattle.notation_grammar.specs.declared.symbol.PlacedSymbol.{PlacedSymbol}
+use Rattle.notation_grammar.specs.declared.fault.SymbolFault.{SymbolFault}
+use Rattle.notation_grammar.specs.declared.fault.SymbolFault.TheVariants as symbol_fault
+use Rattle.notation_grammar.specs.declared.fault.NotationFault.{NotationFault}
+use Rattle.notation_grammar.specs.declared.fault.NotationFault.TheVariants.{TextLength, BadNotation, TooDeep, TooMany, LiteralRange, Memory}
+use Rattle.notation_grammar.specs.Grammar.{Tree}
+use Rattle.notation_grammar.specs.Faults.{symbols_of, IsFirstFault, IsTreeOf}
+use Rattle.notation_grammar.specs.Symbols.{AreSymbols}
+use Rattle.notation_grammar.specs.TreeStatement.{statement_of_tree}
 
 -- the text has not too many bytes, its symbols are those of a tree within the limits, and the statement is the tree's
 pub record IsNotationOf (text : List ℕ) (s : Statement) : Type 0 where

@@ -2,17 +2,19 @@
 --   statement = access ("=" | "+=") sum end
 --   sum       = product { ("+" | "-") product }, grouped to the left
 --   product   = factor { "*" factor }, grouped to the left
---   factor    = number | access | "(" sum ")" | "-" factor
+--   factor    = number | access | "(" sum ")" | "-" factor | "sum" "(" variable "," sum ")"
 --   access    = name [ "(" variable { "," variable } ")" ]
-use Rattle.std.specs.Prelude.{◌≡◌, ℕ, suc, Bool, true, false, List, [], ◌∷◌, ◌++◌}
+-- The name `sum` is no tensor's.
+use Rattle.std.specs.Prelude.{◌≡◌, ℕ, suc, Bool, true, false, bytes_eq, List, [], ◌∷◌, ◌++◌}
 use Rattle.index_notation.specs.declared.syntax.Name.{Name}
 use Rattle.index_notation.specs.declared.token.Mark.{Mark}
 use Rattle.index_notation.specs.declared.token.Mark.TheVariants.{Equals, PlusEquals, Plus, Minus, Times, Open, Close, Comma}
 use Rattle.index_notation.specs.declared.token.Token.{Token}
 use Rattle.index_notation.specs.declared.token.Token.TheVariants.{Name as NameToken, Number as NumberToken, Mark as MarkToken}
 use Rattle.index_notation.specs.declared.token.WrittenAccess.{WrittenAccess}
-use Rattle.index_notation.specs.declared.symbol.Symbol.{Symbol}
-use Rattle.index_notation.specs.declared.symbol.Symbol.TheVariants.{Lexeme, End}
+pub use Rattle.index_notation.specs.Numbering.{sum_name}
+use Rattle.notation_grammar.specs.declared.symbol.Symbol.{Symbol}
+use Rattle.notation_grammar.specs.declared.symbol.Symbol.TheVariants.{Lexeme, End}
 
 -- trees keep brackets and prefix minuses
 mutual
@@ -21,6 +23,7 @@ mutual
     Read : WrittenAccess → Factor
     Bracketed : Sum → Factor
     Negated : Factor → Factor
+    Summed : Name → Sum → Factor
 
   pub data Product : Type 0 where
     Lone : Factor → Product
@@ -31,9 +34,26 @@ mutual
     Added : Sum → Product → Sum
     Taken : Sum → Product → Sum
 
--- the name that nested sums have in a list of tensors' names; no text has such sums
-abbrev pub sum_name : Name
-sum_name = record { bytes = 115 ∷ 117 ∷ 109 ∷ [] }
+abbrev pub is_sum : Name → Bool
+is_sum name = bytes_eq name.bytes sum_name.bytes
+
+-- no access has that name
+abbrev mutual
+  pub FactorNames : Factor → Type 0
+  FactorNames (Digits digits) = Unit {0}
+  FactorNames (Read access) = is_sum access.name ≡ false
+  FactorNames (Bracketed sum) = SumNames sum
+  FactorNames (Negated factor) = FactorNames factor
+  FactorNames (Summed var sum) = SumNames sum
+
+  pub ProductNames : Product → Type 0
+  ProductNames (Lone factor) = FactorNames factor
+  ProductNames (Multiplied product factor) = ProductNames product × FactorNames factor
+
+  pub SumNames : Sum → Type 0
+  SumNames (Alone product) = ProductNames product
+  SumNames (Added sum product) = SumNames sum × ProductNames product
+  SumNames (Taken sum product) = SumNames sum × ProductNames product
 
 -- an access, and whether the right side is added to its old tensor
 pub record LeftSide : Type 0 where
@@ -44,12 +64,17 @@ pub record Tree : Type 0 where
   pub left : LeftSide
   pub right : Sum
 
+pub record HasNames (tree : Tree) : Type 0 where
+  pub left : is_sum tree.left.access.name ≡ false
+  pub right : SumNames tree.right
+
 -- what a symbol does in its sentence: it names an access of the left or right side, is the n-th variable of its
--- access, is a number, opens the n-th level, or none of these
+-- access, is the variable of a nested sum, is a number, opens the n-th level, or none of these
 pub data Role : Type 0 where
   NamesLeft : Role
   NamesRight : Role
   IsVariable : ℕ → Role
+  Binds : Role
   IsNumber : Role
   Opens : ℕ → Role
   Plain : Role
@@ -88,6 +113,9 @@ abbrev mutual
   factor_of n (Read access) = access_of NamesRight access
   factor_of n (Bracketed sum) = written (MarkToken Open) (Opens (suc n)) ∷ (sum_of (suc n) sum ++ (plain Close ∷ []))
   factor_of n (Negated factor) = written (MarkToken Minus) (Opens (suc n)) ∷ factor_of (suc n) factor
+  factor_of n (Summed var sum) =
+      written (NameToken sum_name) Plain ∷ written (MarkToken Open) (Opens (suc n)) ∷ written (NameToken var) Binds ∷ plain Comma ∷
+      (sum_of (suc n) sum ++ (plain Close ∷ []))
 
   pub product_of : ℕ → Product → List Written
   product_of n (Lone factor) = factor_of n factor
@@ -118,5 +146,6 @@ symbols (m ∷ ms) = m.symbol ∷ symbols ms
 -- some sentence begins with these symbols in these roles
 pub record Begins (ms : List Written) : Type 0 where
   pub tree : Tree
+  pub names : HasNames tree
   pub rest : List Written
   pub is : ms ++ rest ≡ sentence_of tree

@@ -6,12 +6,12 @@ use Rattle.lists.specs.Each.{Each}
 use Rattle.index_notation.specs.declared.syntax.Name.{Name}
 use Rattle.index_notation.specs.declared.syntax.Access.{Access}
 use Rattle.index_notation.specs.declared.syntax.Statement.{Statement}
-use Rattle.index_notation.specs.Grammar.{Tree}
-use Rattle.index_notation.specs.Numbering.{is_same, place_of, without, distinct, name_of, variables_of}
+use Rattle.notation_grammar.specs.Grammar.{Tree}
+use Rattle.index_notation.specs.Numbering.{is_same, place_of, without, distinct, name_of}
 use Rattle.index_notation.specs.NumberingLaws.{yes, no}
 use Rattle.index_notation.specs.Statement.{HaveOneOrder, HaveOrders, IsDistinct, IsWellNamed, numbers_from}
-use Rattle.index_notation.specs.TreeStatement.{accesses_of_sum, statement_of_tree}
-use Rattle.index_notation.specs.Notation.{IsNotationOf}
+use Rattle.notation_grammar.specs.TreeStatement.{accesses_of_sum, variables_of_sum, statement_of_tree}
+use Rattle.notation_grammar.specs.Notation.{IsNotationOf}
 use Rattle.index_notation.proofs.NumberingLaws.{tested, same_names, same_self, place_here, place_later, without_keeps}
 use Rattle.expr_terms.specs.Names.{AreFaultless, HasNoNameFault}
 
@@ -140,7 +140,7 @@ tree_well_named w h =
       orders = orders_each s.left [] (s.left ∷ s.accesses) h;
       left_once = h.0.once;
       right_once = once_each s.left (s.left ∷ []) s.accesses h.1;
-      standing = standing w.left.access.vars (variables_of (accesses_of_sum w.right)) h.0.once;
+      standing = standing w.left.access.vars (variables_of_sum w.right) h.0.once;
     }
 
 pub notation_well_named : (text : List ℕ) (s : Statement) → IsNotationOf text s → HasNoNameFault s → IsWellNamed s

@@ -8,12 +8,12 @@ use Rattle.index_notation.specs.declared.syntax.Name.{Name}
 use Rattle.index_notation.specs.declared.syntax.Access.{Access}
 use Rattle.index_notation.specs.declared.syntax.Statement.{Statement}
 use Rattle.index_notation.specs.declared.token.WrittenAccess.{WrittenAccess}
-use Rattle.index_notation.specs.Grammar.{Tree}
+use Rattle.notation_grammar.specs.Grammar.{Tree}
 use Rattle.index_notation.specs.Numbering.{is_same, place_of, without, distinct, name_of, numbered}
 use Rattle.index_notation.specs.NumberingLaws.{yes, no}
-use Rattle.index_notation.specs.Notation.{IsNotationOf}
-use Rattle.index_notation.specs.TreeStatement.{accesses_of_sum}
-use Rattle.index_notation.specs.TreeStatement.{statement_of_tree}
+use Rattle.notation_grammar.specs.Notation.{IsNotationOf}
+use Rattle.notation_grammar.specs.TreeStatement.{accesses_of_sum}
+use Rattle.notation_grammar.specs.TreeStatement.{statement_of_tree}
 use Rattle.index_notation.proofs.NumberingLaws.{tested, same_self, place_here, place_later, without_keeps, without_drops}
 use Rattle.expr_terms.specs.Expanded.{moved_access, names_with_old, old_access, with_old, expanded}
 use Rattle.expr_terms.proofs.ExpandLaws.{by_mark}
@@ -23,6 +23,7 @@ use Rattle.bindings.specs.Outcome.{first_named}
 use Rattle.bindings.proofs.FirstNamed.{first_before}
 use Rattle.operand_packing.specs.Operands.{IsRead}
 use Rattle.operand_packing.proofs.FilesReadable.{KeepOrders}
+use Rattle.operand_packing.proofs.Runnable.{EachIsRead}
 
 -- names that differ from one, and from each other
 abbrev Apart : Name → List Name → Type 0
@@ -162,10 +163,6 @@ tree_read w n h = by there.place there.stands
         }
 
 -- ---- the statement of a text
--- each tensor but the result is read
-abbrev pub EachIsRead : Statement → Type 0
-EachIsRead s = (n : ℕ) → n + 1 < length s.tensors → IsRead s.accesses (n + 1)
-
 notation_read : (text : List ℕ) (s : Statement) → IsNotationOf text s → EachIsRead s
 notation_read text s is = subst EachIsRead (sym is.is) (tree_read is.tree)
 
