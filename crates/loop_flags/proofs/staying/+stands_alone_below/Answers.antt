@@ -1,6 +1,8 @@
-use Rattle.std.proofs.Common.{sym, subst}
+use Rattle.std.specs.Prelude.{◌≡◌, nat_eq, false}
+use Rattle.std.proofs.Common.{sym, subst, arith}
+use Rattle.std.proofs.lemmas.Bool.Decides.{nat_tests}
 use Rattle.loop_flags.specs.Liveness.{StandsAloneBelow}
-use Rattle.loop_flags.proofs.LiveLaws.{alone_loop, alone_both_first, alone_both_second}
+use Rattle.loop_flags.proofs.LiveLaws.{alone_loop, alone_both_first, alone_both_second, alone_sum}
 use Rattle.loop_flags.proofs.staying.+stands_alone_below.Goals as goal
 
 pub returns-in-Loop : goal.returns-in-Loop
