@@ -34,7 +34,7 @@ use Rattle.term_code.specs.declared.places.AccessPlace.{AccessPlace}
 use Rattle.operand_arrays.specs.Operands.{stored_in, HasRanges}
 use Rattle.dense_results.specs.Operands.{values_at, operands_in, IsReadStore, ArePlacesOf, ArraysStandForOperands}
 use Rattle.dense_results.specs.Operands.{AreTold, OperandsAreTold, first_summed}
-use Rattle.dense_results.proofs.SumAccesses.{default_outside, get_taken, place_tells, sum_read}
+use Rattle.dense_results.proofs.SumAccesses.{below_or_not, default_outside, get_taken, place_tells, sum_read}
 
 -- the operand of this number, counted from 0, is one of the tensor behind the first ones
 operand_is : (s : Statement) (formats : List (List FormatLevel)) (ranges : ℕ → ℕ) (operands : List Storage) (first n : ℕ)
@@ -121,10 +121,7 @@ module _ (s : Statement) (formats : List (List FormatLevel)) (store : Store) (r 
 
   -- an access is one of a tensor, or it reads a sum, of which nothing is stored
   real_or_sum : (k : ℕ) → (k < first_sum s) ⊎ (first_sum s ≤ k)
-  real_or_sum k = by k (first_sum s)
-    where
-      by : (k n : ℕ) → (k < n) ⊎ (n ≤ k)
-      by k n = grind arith
+  real_or_sum k = below_or_not k (first_sum s)
 
   real_by : (k : ℕ) → nat_lt k (first_sum s) ≡ true → k < first_sum s
   real_by k is = by k (first_sum s) is

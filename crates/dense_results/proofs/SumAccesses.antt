@@ -1,5 +1,5 @@
 -- The accesses of a flat statement that read its sums: their tensors are numbered behind those that the store has operands for.
-use Rattle.std.specs.Prelude.{◌≡◌, ◌⊎◌, ℕ, zero, suc, ◌+◌, ◌-◌, ◌≤◌, ◌<◌, nat_lt, nat_le, not, true, false, List, [], ◌∷◌, ◌++◌, length}
+use Rattle.std.specs.Prelude.{◌≡◌, ◌⊎◌, ℕ, zero, suc, ◌+◌, ◌-◌, ◌≤◌, ◌<◌, nat_lt, nat_le, not, Bool, true, false, List, [], ◌∷◌, ◌++◌, length}
 use Rattle.std.specs.Prelude.{take, Option, Some, None, slice_get, slice_index_or, refl}
 use Rattle.std.proofs.Common.{◌∙◌, sym, ap, subst, arith, inl, inr, length-append}
 use Rattle.std.proofs.lemmas.Bool.Decides.{nat_tests}
@@ -30,6 +30,13 @@ get_taken [] (suc n) k h = refl
 get_taken (x ∷ xs) (suc n) zero h = refl
 get_taken (x ∷ xs) (suc n) (suc k) h = get_taken xs n k (omega (arith, h))
 
+pub below_or_not : (k n : ℕ) → (k < n) ⊎ (n ≤ k)
+below_or_not k n = by (nat_lt k n) refl
+  where
+    by : (b : Bool) → nat_lt k n ≡ b → (k < n) ⊎ (n ≤ k)
+    by true is = inl (grind (arith, nat_tests, is))
+    by false is = inr (grind (arith, nat_tests, is))
+
 get_first : (xs ys : List Access) (k : ℕ) → k < length xs → slice_get (xs ++ ys) k ≡ slice_get xs k
 get_first [] ys k l = absurd (omega (arith, l))
 get_first (x ∷ xs) ys zero l = refl
@@ -47,19 +54,17 @@ sums_behind : (vars : ℕ) (accesses : List Access) (tensor : ℕ) (sums : List 
     → slice_get (accesses_with vars accesses tensor sums) k ≡ Some access → tensor ≤ access.tensor
 sums_behind vars accesses tensor [] k access behind at = absurd (let none = outside accesses k behind in
     let no : ◌≡◌ {A = Option Access} None (Some access) = sym none ∙ at in cc)
-sums_behind vars accesses tensor (sum ∷ sums) k access behind at = by (first_or_later (length accesses) k behind)
+sums_behind vars accesses tensor (sum ∷ sums) k access behind at = by (below_or_not (length accesses) k)
   where
     one : Access
     one = sum_access vars accesses tensor sum
 
-    first_or_later : (n k : ℕ) → n ≤ k → (k ≡ n) ⊎ (n + 1 ≤ k)
-    first_or_later n k h = grind (arith, h)
-
     longer : length (accesses ++ (one ∷ [])) ≡ length accesses + 1
     longer = length-append accesses (one ∷ [])
 
-    by : (k ≡ length accesses) ⊎ (length accesses + 1 ≤ k) → tensor ≤ access.tensor
-    by (inl here) =
+    by : (length accesses < k) ⊎ (k ≤ length accesses) → tensor ≤ access.tensor
+    by (inr low) =
+        let here : k ≡ length accesses = omega (arith, low, behind) in
         let kept = accesses_kept vars (accesses ++ (one ∷ [])) (tensor + 1) sums in
         let found : ◌≡◌ {A = Option Access} (Some one) (Some access) =
         sym (get_last accesses one) ∙ sym (get_first (accesses ++ (one ∷ [])) kept.0 (length accesses) (omega (arith, longer)))
@@ -68,7 +73,7 @@ sums_behind vars accesses tensor (sum ∷ sums) k access behind at = by (first_o
         let same = some_tensor one access found in
         let is : one.tensor ≡ tensor = refl in
         omega (arith, same, is)
-    by (inr later) =
+    by (inl later) =
         let more = sums_behind vars (accesses ++ (one ∷ [])) (tensor + 1) sums k access (omega (arith, later, longer)) at in
         omega (arith, more)
 
@@ -93,9 +98,6 @@ module _ (s : Statement) (formats : List (List FormatLevel)) (is : IsFlat s form
       → nat_le (first_summed s) access.tensor ≡ not (nat_lt k (first_sum s))
   place_tells k access at = by (below_or_not k (first_sum s))
     where
-      below_or_not : (k n : ℕ) → (k < n) ⊎ (n ≤ k)
-      below_or_not k n = grind arith
-
       stored : (k n t m : ℕ) → k < n → t < m → nat_le m t ≡ not (nat_lt k n)
       stored k n t m h l = grind (arith, nat_tests, h, l)
 
