@@ -1,7 +1,7 @@
 -- What is told of a statement that reads each nested sum of a written one as a tensor: of the written one's tensors what was told, and of a
 -- sum the sum of what stands inside.
 use Rattle.std.specs.Prelude.{◌≡◌, ℕ, zero, suc, ◌+◌, ◌-◌, ◌^◌, ◌≤◌, ◌<◌, Bool, true, false, nat_eq, cond, List, [], ◌∷◌, ◌++◌, length}
-use Rattle.std.specs.Prelude.{take, Some, slice_get, slice_index_or, refl}
+use Rattle.std.specs.Prelude.{if◌then◌else◌, map, option_to_list, take, Some, slice_get, slice_index_or, refl}
 use Rattle.std.proofs.Common.{◌∙◌, sym, ap, subst, arith}
 use Rattle.std.proofs.Math.Seq.{take-append_seam}
 use Rattle.lists.specs.Each.{Each}
@@ -15,10 +15,12 @@ use Rattle.index_notation.specs.declared.syntax.NestedSum.{NestedSum}
 use Rattle.index_notation.specs.declared.syntax.Statement.{Statement}
 use Rattle.expr_terms.specs.Nested.{accesses_with, flat, flat_values, free_in, sum_access, sum_value, values_with, with_tensor}
 use Rattle.expr_terms.specs.Points.{point_of, with_coordinate}
+use Rattle.expr_terms.specs.Ranges.{greatest_of, mode_size, ranges_at}
 use Rattle.expr_terms.specs.Value.{access_value_or_zero, value_of}
 use Rattle.expr_terms.specs.ValueLaws.{AreWords}
 use Rattle.expr_terms.proofs.NestedLaws.{accesses_kept, accesses_longer, flat_plain, names_longer}
 use Rattle.expr_terms.proofs.NestedValues.{sum_is_read, values_kept}
+use Rattle.expr_terms.proofs.PointLaws.{unequal}
 use Rattle.workspaces.specs.Nested.{flat_paths, paths_with}
 use Rattle.workspaces.specs.Presence.{access_is_present}
 use Rattle.workspaces.specs.PresenceLaws.{AreZeroElsewhere}
@@ -28,7 +30,7 @@ use Rattle.nested_sums.proofs.PathReadings.{paths_kept, sum_is_there}
 use Rattle.concrete_notation.specs.Contributions.{Inputs}
 use Rattle.lowering.specs.Sums.{AreSummed, HasSums, first_sum, no_sum, sum_at}
 use Rattle.lowering.proofs.FlatSums.{flat_has_sums}
-use Rattle.kernel_correctness.specs.Stores.{IsFlat, told_with_sums}
+use Rattle.kernel_correctness.specs.Stores.{IsFlat, level_sizes, told_with_sums}
 
 -- what is told of a written statement's tensors and sums
 abbrev pub flat_inputs : Arithmetic → Statement → Inputs → Inputs
@@ -170,3 +172,33 @@ flat_sums s formats is =
 pub plain_is_flat : (s : Statement) (formats : List (List FormatLevel)) → IsNumberedWithSums s → s.sums ≡ []
     → length formats ≤ length s.tensors → IsFlat s formats
 plain_is_flat s formats numbered none few = record { written = s; numbered = numbered; is = sym (flat_plain s none); few = few }
+
+-- ---- the sizes of a tensor's levels
+module _ (ranges : ℕ → ℕ) (tensor mode : ℕ) where
+  behind_last : (accesses : List Access) (last : Access) → (last.tensor ≡ tensor → ⊥)
+      → ranges_at ranges tensor mode (accesses ++ (last ∷ [])) ≡ ranges_at ranges tensor mode accesses
+  behind_last [] last apart = ap (λ b. if b then (map ranges (option_to_list (slice_get last.vars mode)) ++ []) else [])
+      (unequal last.tensor tensor apart)
+  behind_last (access ∷ accesses) last apart =
+      ap (λ rest. if nat_eq access.tensor tensor then (map ranges (option_to_list (slice_get access.vars mode)) ++ rest) else rest)
+      (behind_last accesses last apart)
+
+  ranges_behind : (vars : ℕ) (accesses : List Access) (first : ℕ) (sums : List NestedSum) → tensor < first
+      → ranges_at ranges tensor mode (accesses_with vars accesses first sums) ≡ ranges_at ranges tensor mode accesses
+  ranges_behind vars accesses first [] below = refl
+  ranges_behind vars accesses first (sum ∷ sums) below =
+      ranges_behind vars (accesses ++ (sum_access vars accesses first sum ∷ [])) (first + 1) sums (omega (arith, below))
+      ∙ behind_last accesses (sum_access vars accesses first sum) (λ same. absurd (omega (arith, below, same)))
+
+  -- accesses of sums read other tensors
+  pub mode_size_flat : (s : Statement) → tensor < length s.tensors → mode_size s ranges tensor mode ≡ mode_size (flat s) ranges tensor mode
+  mode_size_flat s below =
+      ap (λ rest. greatest_of (if nat_eq s.left.tensor tensor
+      then (map ranges (option_to_list (slice_get s.left.vars mode)) ++ rest) else rest))
+      (sym (ranges_behind (length s.vars) s.accesses (length s.tensors) s.sums below))
+
+pub sizes_flat : (s : Statement) (ranges : ℕ → ℕ) (tensor : ℕ) (format : List FormatLevel) → tensor < length s.tensors
+    → level_sizes s ranges tensor format ≡ level_sizes (flat s) ranges tensor format
+sizes_flat s ranges tensor [] below = refl
+sizes_flat s ranges tensor (level ∷ format) below =
+    λ i. mode_size_flat ranges tensor level.mode s below i ∷ sizes_flat s ranges tensor format below i

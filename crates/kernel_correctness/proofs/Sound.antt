@@ -91,3 +91,24 @@ pub right_is_sound : RightIsSound
 right_is_sound a s formats kernel right store is arrays given =
     let e = right store is arrays given in
     record { turns = e.turns; outcome = e.outcome; is = e.is; appends = e.appends; so = sound_outcome a s (told_by a s store) store e.outcome is.format e.so }
+
+-- so is one that is right for a written statement
+outcome_for : (a : Arithmetic) (s : Statement) (formats : List (List FormatLevel)) (store : Store) (o : KernelOutcome)
+    → IsFormat store.format → IsRightOutcomeFor a s formats store o → IsSoundOutcome a.zero store o
+outcome_for a s formats store (Finished arrays turns) is_format r =
+    keeps_rules a (flat s) (told_by a (flat s) store) store arrays is_format r
+outcome_for a s formats store (GotStuck statement) is_format r = absurd r
+outcome_for a s formats store (TooLong place count) is_format r = tt
+outcome_for a s formats store NotFinished is_format r = absurd r
+
+pub right_for_is_sound : (a : Arithmetic) (s : Statement) (formats : List (List FormatLevel)) (kernel : Kernel)
+    → IsRightFor a s formats kernel → IsSoundKernel a (flat s) formats kernel
+right_for_is_sound a s formats kernel right store is arrays given =
+    let e = right store is arrays given in
+    record {
+      turns = e.turns;
+      outcome = e.outcome;
+      is = e.is;
+      appends = e.appends;
+      so = outcome_for a s formats store e.outcome is.format e.so;
+    }

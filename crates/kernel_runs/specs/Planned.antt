@@ -69,7 +69,7 @@ pub record NeedsPlannedPairs (a : Arithmetic) (s : Statement) (plan : Planned) (
   pub store : Store
   pub is_store : IsPlannedStore a plan ranges operands store
   pub passes : greatest_position_count < count
-  pub most : count ≤ pairs plan.statement (standing_order plan.statement) (told_by a s store)
+  pub most : AreFewPairs a plan.statement plan.formats store count
   pub sparse : AreAllDense (format_of plan.formats 0) → ⊥
   pub stops : StopsOn a kernel store place.Workspace count
 

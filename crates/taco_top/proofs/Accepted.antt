@@ -41,17 +41,17 @@ expanded_meant false false s meant = meant
 
 module _ (words : List (List ℕ)) (r : Request) (asks : AsksFor words r) where
   pub asked_meant : HasMeaning (values_of r.over).has_minus r.statement.expr
-  asked_meant = subst (λ s. HasMeaning (values_of r.over).has_minus s.expr) (sym asks.names.stands_for)
-      (expanded_meant (values_of r.over).has_minus asks.names.written.accumulate asks.names.written asks.names.meant)
+  asked_meant = subst (λ s. HasMeaning (values_of r.over).has_minus s.expr) (sym asks.names.named.stands_for)
+      (expanded_meant (values_of r.over).has_minus asks.names.named.written.accumulate asks.names.named.written asks.names.meant)
 
   pub well_named : IsWellNamed r.statement
-  well_named = subst IsWellNamed (sym asks.names.stands_for)
-      (expanded_named asks.names.written (notation_well_named asks.names.text asks.names.written asks.names.notation asks.names.names))
+  well_named = subst IsWellNamed (sym asks.names.named.stands_for)
+      (expanded_named asks.names.named.written (notation_well_named asks.names.text asks.names.named.written asks.names.named.notation asks.names.named.names))
 
   -- no text has nested sums
   pub is_plain : r.statement.sums ≡ []
-  is_plain = subst (λ s. s.sums ≡ []) (sym asks.names.stands_for)
-      (expanded_plain asks.names.written (notation_is_plain asks.names.text asks.names.written asks.names.notation))
+  is_plain = subst (λ s. s.sums ≡ []) (sym asks.names.named.stands_for)
+      (expanded_plain asks.names.named.written (notation_is_plain asks.names.text asks.names.named.written asks.names.named.notation))
 
   -- the formats that were handed in are those of the request
   module _ (numbered : IsNumberedWithSums r.statement) (formats : List (List FormatLevel)) (formats_are : formats ≡ r.formats) where

@@ -55,16 +55,16 @@ module _ (words : List (List ℕ)) (r : ExecRequest) (asks : AsksExec words r) w
   abbrev names : ExecNames words r.path r.budget r.statement asks.rest
   names = asks.names
 
-  written : IsWellNamed names.written
-  written = notation_well_named names.text names.written names.notation names.names
+  written : IsWellNamed names.named.written
+  written = notation_well_named names.text names.named.written names.named.notation names.named.names
 
   well_named : IsWellNamed r.statement
-  well_named = subst IsWellNamed (sym names.stands_for) (expanded_named names.written written)
+  well_named = subst IsWellNamed (sym names.named.stands_for) (expanded_named names.named.written written)
 
   readable_paths : IsNumberedWithSums r.statement → AreReadable (exec_orders r) (exec_paths r)
   readable_paths numbered =
       paths_readable r.statement asks.rest true refl r.formats r.files r.given asks.binds numbered
-      (text_keeps_orders names.text names.written r.statement names.notation written.result names.stands_for)
+      (text_keeps_orders names.text names.named.written r.statement names.named.notation written.result names.named.stands_for)
 
   -- as they were handed in
   module _ (orders : List ℕ) (paths : List (List ℕ)) (orders_are : orders ≡ exec_orders r) (paths_are : paths ≡ exec_paths r) where
@@ -79,7 +79,7 @@ module _ (words : List (List ℕ)) (r : ExecRequest) (asks : AsksExec words r) w
       → IsNumberedWithSums r.statement → IsRunnable r.statement r.formats r.given entries bounds
   exec_runnable over old new entries bounds read numbered =
       read_is_runnable over.arithmetic over.has_minus over.is_signed r.statement numbered well_named
-      (text_read names.text names.written r.statement names.notation names.stands_for) asks.rest true r.formats r.files r.given asks.binds
+      (text_read names.text names.named.written r.statement names.named.notation names.named.stands_for) asks.rest true r.formats r.files r.given asks.binds
       old new (exec_paths r) (length (exec_paths r)) entries bounds (readable_paths numbered) refl read
 
   exec_matrix : asks_matrix (path_of r.files 0) ≡ true → IsMatrixOrder (length r.statement.left.vars)

@@ -7,6 +7,7 @@ pub mod ExecLines
 pub mod Executes
 pub mod ExecWhole
 pub mod Mended
+pub mod NamedTexts
 pub mod NamesRead
 pub mod OneRequest
 pub mod Paths

@@ -36,15 +36,12 @@ exec_paths r = paths_of r.statement r.files
 abbrev pub AsksExecOf : List (List ℕ) → List ℕ → ℕ → List ℕ → List (List ℕ) → Type 0
 AsksExecOf words path budget text rest = command_line_of words ≡ Some (Exec path budget text rest)
 
--- and for a statement, whose names are in order as it is written; this is the one that it stands for. A minus is never refused: what the
--- statement says counts for its operands, ranges and formats alone
+-- and for a statement that the text stands for. A minus is never refused: what the statement says counts for its operands, ranges and formats
+-- alone
 pub record ExecNames (words : List (List ℕ)) (path : List ℕ) (budget : ℕ) (s : Statement) (rest : List (List ℕ)) : Type 0 where
   pub text : List ℕ
   pub line : AsksExecOf words path budget text rest
-  pub written : Statement
-  pub notation : IsNotationOf text written
-  pub names : HasNoNameFault written
-  pub stands_for : s ≡ expanded written
+  pub named : AreNamed text s
 
 -- what the words ask for
 pub record AsksExec (words : List (List ℕ)) (r : ExecRequest) : Type 0 where
@@ -70,7 +67,7 @@ IsExecRefused words (Notation fault) =
     (path : List ℕ) × (budget : ℕ) × (text : List ℕ) × (rest : List (List ℕ)) × AsksExecOf words path budget text rest × IsFaultOf text fault
 IsExecRefused words (Named s (Name fault)) =
     (path : List ℕ) × (budget : ℕ) × (text : List ℕ) × (rest : List (List ℕ)) × AsksExecOf words path budget text rest
-    × IsNotationOf text s × IsFirstNameFault s fault
+    × IsNameRefused text s fault
 IsExecRefused words (Named s (Binding fault)) =
     (path : List ℕ) × (budget : ℕ) × (rest : List (List ℕ)) × ExecNames words path budget s rest × IsBindingFault s rest true fault
 IsExecRefused words Memory =

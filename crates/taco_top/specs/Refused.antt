@@ -85,7 +85,8 @@ pub record HasManyPairs (over : Values) (words : List (List ℕ)) (old new : Fol
   pub order : List ℕ
   pub kernel : Kernel
   pub is_kernel : IsKernelOf over (stored_statement request.statement plan) (stored_formats request.formats plan) order kernel
-  pub called : calls_for_workspace (stored_statement request.statement plan) (stored_formats request.formats plan) order ≡ true
+  pub called : calls_for_workspace (looped over.arithmetic (stored_statement request.statement plan) order)
+      (stored_formats request.formats plan) order ≡ true
   pub entries : List Entries
   pub bounds : List (Vec Bound Global)
   pub operands : HasOperands over words old new request entries bounds

@@ -72,7 +72,9 @@ pub record NeedsStoredWorkspace (over : Values) (s : Statement) (formats : List 
     : Type 0 where
   pub pairs : NeedsStoredPairs over s formats plan kernel given entries bounds count
   pub head : list_any is_unordered (result_levels (stored_statement s plan) (stored_formats formats plan)) ≡ false
-      → AreAtOneHead (stored_statement s plan) order (head_variables (stored_statement s plan) order)
-      (told_by over.arithmetic s (needing_store over s formats plan kernel given entries bounds count pairs)) count
-  pub large : HasLargeKey (stored_statement s plan) (stored_formats formats plan) order
+      → AreAtOneHead (looped over.arithmetic (stored_statement s plan) order) order
+      (head_variables (looped over.arithmetic (stored_statement s plan) order) order)
+      (told_by over.arithmetic (looped over.arithmetic (stored_statement s plan) order)
+      (needing_store over s formats plan kernel given entries bounds count pairs)) count
+  pub large : HasLargeKey (looped over.arithmetic (stored_statement s plan) order) (stored_formats formats plan) order
       (needing_store over s formats plan kernel given entries bounds count pairs).ranges
