@@ -1,16 +1,18 @@
 -- What code reads of a level that is sought.
-use Rattle.std.specs.Prelude.{◌≡◌, ℕ, zero, suc, ◌+◌, ◌-◌, ◌<◌, List, [], ◌∷◌, length, Some, slice_get, slice_index}
+use Rattle.std.specs.Prelude.{◌≡◌, ℕ, zero, suc, ◌+◌, ◌-◌, ◌≤◌, ◌<◌, nat_lt, Bool, true, false, List, [], ◌∷◌, length, Some, slice_get, slice_index}
 use Rattle.std.specs.Prelude.{slice_index_or, refl}
 use Rattle.std.proofs.Common.{◌∙◌, sym, ap, subst, arith}
+use Rattle.std.proofs.lemmas.Bool.Decides.{nat_tests}
 use Rattle.std.proofs.lemmas.Option.{slice_get-get_or}
 use Rattle.format_spec.specs.declared.format.FormatLevel.{FormatLevel}
 use Rattle.format_spec.specs.Formats.{modes_of}
-use Rattle.iteration_graph.specs.Edges.{by_level, format_of, HasFormat}
+use Rattle.iteration_graph.specs.Edges.{by_level, format_of}
 use Rattle.index_notation.specs.declared.syntax.Access.{Access}
 use Rattle.index_notation.specs.declared.syntax.Statement.{Statement}
 use Rattle.lists.specs.Each.{Each}
 use Rattle.loop_code.specs.declared.loops.Seek.{Seek}
 use Rattle.lowering.specs.Layouts.{at_level, layout_of, variables_of}
+use Rattle.lowering.specs.Sums.{SuitsFormats}
 use Rattle.lowering.proofs.Steps.{format_read, level_variable}
 use Rattle.level_location.specs.Walked.{IsLevel}
 
@@ -30,12 +32,39 @@ pub record IsRead (s : Statement) (formats : List (List FormatLevel)) (seek : Se
   pub format_is : format ≡ format_of formats access.tensor
   pub order : length format ≡ length access.vars
 
+-- a tensor without a format has no levels
+no_format : (formats : List (List FormatLevel)) (tensor : ℕ) → length formats ≤ tensor → format_of formats tensor ≡ []
+no_format [] tensor l = refl
+no_format (f ∷ formats) zero l = absurd (omega (arith, l))
+no_format (f ∷ formats) (suc tensor) l = no_format formats tensor (omega (arith, l))
+
+-- so the tensor of which a level is sought has one
+pub format_there : (s : Statement) (formats : List (List FormatLevel)) (seek : Seek) (access : Access) → IsLevel s formats seek
+    → access ≡ slice_index_or s.accesses seek.access access → access.tensor < length formats
+format_there s formats seek access is read = by_size (nat_lt access.tensor (length formats)) refl
+  where
+    levels : length (by_level (format_of formats access.tensor) access.vars) ≡ (layout_of s formats).levels seek.access
+    levels = ap (λ o. length (variables_of formats o)) (sym (get_read s.accesses seek.access access is.access read))
+
+    none : length formats ≤ access.tensor → ⊥
+    none l =
+        let empty : length (by_level (format_of formats access.tensor) access.vars) ≡ 0 =
+        ap (λ f. length (by_level f access.vars)) (no_format formats access.tensor l) in
+        let first = is.first in
+        let last = is.last in
+        omega (arith, levels, empty, first, last)
+
+    by_size : (b : Bool) → nat_lt access.tensor (length formats) ≡ b → access.tensor < length formats
+    by_size true h = grind (arith, nat_tests, h)
+    by_size false h = absurd (none (grind (arith, nat_tests, h)))
+
 pub is_read : (s : Statement) (formats : List (List FormatLevel)) (seek : Seek) (access : Access) (format : List FormatLevel)
-    → Each (HasFormat formats) s.accesses → IsLevel s formats seek → access ≡ slice_index_or s.accesses seek.access access
+    → Each (SuitsFormats formats) s.accesses → IsLevel s formats seek → access ≡ slice_index_or s.accesses seek.access access
     → format ≡ slice_index_or formats access.tensor format → IsRead s formats seek access format
 is_read s formats seek access format each is read same =
-    let format_is = format_read formats s.accesses seek.access access format each is.access read same in
-    let has = each_at (HasFormat formats) s.accesses seek.access access each is.access read in record {
+    let below = format_there s formats seek access is read in
+    let format_is = format_read formats access format below same in
+    let has = each_at (SuitsFormats formats) s.accesses seek.access access each is.access read below in record {
       there = get_read s.accesses seek.access access is.access read;
       format_is = format_is;
       order = ap length format_is ∙ has.order;
