@@ -24,7 +24,8 @@ use Rattle.expr_terms.specs.ValueLaws.{HasWords, HasWords_in}
 use Rattle.concrete_notation.specs.Contributions.{rows_below}
 use Rattle.loop_code.specs.declared.loops.LoopCode.{LoopCode, Add, Both', Loop', Sum', Row_of-LoopCode, end_of-LoopCode}
 use Rattle.loop_code.specs.declared.loops.LoopCode.{more_of-LoopCode}
-use Rattle.loop_code.specs.Loops.{Seek, Layout, Stored, Env, start, follow, at_variable, at_cursor, sought, found, moved, word_of}
+use Rattle.loop_code.specs.declared.loops.Seek.{Seek}
+use Rattle.loop_code.specs.Loops.{Layout, Stored, Env, start, follow, at_variable, at_cursor, sought, found, moved, word_of}
 use Rattle.loop_code.specs.Loops.{access_values, term_value, row_of, sum_of, contributions, contributions_in}
 use Rattle.loop_code.specs.PresentValues.{both, either, each, present_applied, present_value, present_value_in, signed}
 use Rattle.lowering.specs.Layouts.{layout_of}

@@ -54,7 +54,9 @@ sums_behind : (vars : ℕ) (accesses : List Access) (tensor : ℕ) (sums : List 
     → slice_get (accesses_with vars accesses tensor sums) k ≡ Some access → tensor ≤ access.tensor
 sums_behind vars accesses tensor [] k access behind at = absurd (let none = outside accesses k behind in
     let no : ◌≡◌ {A = Option Access} None (Some access) = sym none ∙ at in cc)
-sums_behind vars accesses tensor (sum ∷ sums) k access behind at = by (below_or_not (length accesses) k)
+sums_behind vars accesses tensor (sum ∷ sums) k access behind at =
+    by (below_or_not (length accesses) k)
+    (λ later. sums_behind vars (accesses ++ (one ∷ [])) (tensor + 1) sums k access (omega (arith, later, longer)) at)
   where
     one : Access
     one = sum_access vars accesses tensor sum
@@ -62,8 +64,8 @@ sums_behind vars accesses tensor (sum ∷ sums) k access behind at = by (below_o
     longer : length (accesses ++ (one ∷ [])) ≡ length accesses + 1
     longer = length-append accesses (one ∷ [])
 
-    by : (length accesses < k) ⊎ (k ≤ length accesses) → tensor ≤ access.tensor
-    by (inr low) =
+    by : (length accesses < k) ⊎ (k ≤ length accesses) → (length accesses < k → tensor + 1 ≤ access.tensor) → tensor ≤ access.tensor
+    by (inr low) rest =
         let here : k ≡ length accesses = omega (arith, low, behind) in
         let kept = accesses_kept vars (accesses ++ (one ∷ [])) (tensor + 1) sums in
         let found : ◌≡◌ {A = Option Access} (Some one) (Some access) =
@@ -73,9 +75,7 @@ sums_behind vars accesses tensor (sum ∷ sums) k access behind at = by (below_o
         let same = some_tensor one access found in
         let is : one.tensor ≡ tensor = refl in
         omega (arith, same, is)
-    by (inl later) =
-        let more = sums_behind vars (accesses ++ (one ∷ [])) (tensor + 1) sums k access (omega (arith, later, longer)) at in
-        omega (arith, more)
+    by (inl later) rest = let more = rest later in omega (arith, more)
 
 module _ (s : Statement) (formats : List (List FormatLevel)) (is : IsFlat s formats) where
   -- an access behind the first ones reads a sum

@@ -95,9 +95,10 @@ pub(crate) fn starts_no_sum(loops: &LoopCode, access: usize) -> bool
         }
         LoopCode::Add(_) => true,
         LoopCode::Sum { sum, inside, body } => {
-            *sum != access
-                && starts_no_sum(inside.get(), access)
-                && starts_no_sum(body.get(), access)
+            if *sum == access {
+                return false;
+            }
+            starts_no_sum(inside.get(), access) && starts_no_sum(body.get(), access)
         }
     }
 }
