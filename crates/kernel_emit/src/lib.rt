@@ -13,6 +13,9 @@ mod gathering;
 mod head;
 mod opening;
 mod presence;
+mod summing;
+mod told;
+mod within;
 
 pub use beginning::{Begun, begin_loop, end_loop};
 pub use emitting::{Emitted, emit};
