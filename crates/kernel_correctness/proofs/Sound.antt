@@ -3,12 +3,15 @@ use Rattle.std.specs.Prelude.{◌≡◌, ◌+◌, ◌<◌, ℕ, suc, List, [], �
 use Rattle.std.proofs.Common.{◌∙◌, sym, ap, subst, arith}
 use Rattle.std.proofs.lemmas.List.Elements.{All-cons}
 use Rattle.numbers.specs.Arithmetic.{Arithmetic}
+use Rattle.kernel_code.specs.declared.syntax.Kernel.{Kernel}
 use Rattle.kernel_code.specs.Kernels.{KernelOutcome, Finished, GotStuck, TooLong, NotFinished}
 use Rattle.level_core.specs.Meaning.{Arrays}
 use Rattle.level_core.specs.declared.letter.Letter.{Letter}
 use Rattle.level_rows.specs.Stacks.{Column}
 use Rattle.level_rows.proofs.StackLaws.{place_within}
 use Rattle.format_spec.specs.Formats.{letters_of, IsFormat}
+use Rattle.format_spec.specs.declared.format.FormatLevel.{FormatLevel}
+use Rattle.expr_terms.specs.Nested.{flat}
 use Rattle.index_notation.specs.declared.syntax.Statement.{Statement}
 use Rattle.concrete_notation.specs.Contributions.{Inputs}
 use Rattle.tensor_storage.specs.Built.{counts_of, AreBuilt}
@@ -23,7 +26,7 @@ use Rattle.tensor_storage.specs.Tables.{Table}
 use Rattle.storage_arrays.specs.Arrays.{positions_in}
 use Rattle.storage_arrays.proofs.Packed.{packed_are_done, positions_same, heads, tails}
 use Rattle.kernel_correctness.specs.Laws.{RightIsSound}
-use Rattle.kernel_correctness.specs.Kernels.{IsRightOutcome, IsSoundOutcome}
+use Rattle.kernel_correctness.specs.Kernels.{IsRightFor, IsRightOutcome, IsRightOutcomeFor, IsSoundKernel, IsSoundOutcome}
 use Rattle.kernel_correctness.specs.Results.{LeavesResult, LeavesStorage, positions_below}
 use Rattle.kernel_correctness.specs.Stores.{Store, told_by, result_sizes}
 

@@ -76,7 +76,7 @@ fn copy_sums(alloc: Global, sums: &[NestedSum]) -> Result<Items<NestedSum>, Allo
 }
 
 /// An equal statement. Refused only for want of memory.
-pub(crate) fn copy_statement(alloc: Global, statement: &Statement) -> Result<Statement, AllocError>
+pub fn copy_statement(alloc: Global, statement: &Statement) -> Result<Statement, AllocError>
     ensures { IfOk result (λ copy. copy ≡ statement.now) }
 {
     let tensors = copy_names(alloc, statement.tensors.as_slice())?;

@@ -286,6 +286,7 @@ fn multiplied_by(
 ) -> Result<Statement, AllocError>
     requires numbered { IsNumberedWithSums statement }
     requires clear { HasNoBadSum statement }
+    ensures is { IfOk result (λ out. out ≡ multiplied one statement order.now) }
     ensures value { IfOk result (KeepsValue one statement) }
     ensures support { IfOk result (KeepsSupport statement) }
     ensures meant { IfOk result (KeepsNoMinus statement) }
@@ -309,6 +310,7 @@ pub fn multiply_out<S: Semiring>(
 ) -> Result<Statement, AllocError>
     requires numbered { IsNumberedWithSums statement }
     requires clear { HasNoBadSum statement }
+    ensures is { IfOk result (λ out. out ≡ multiplied S.arithmetic.one statement order.now) }
     ensures value { IfOk result (KeepsValue S.arithmetic.one statement) }
     ensures support { IfOk result (KeepsSupport statement) }
     ensures meant { IfOk result (KeepsNoMinus statement) }

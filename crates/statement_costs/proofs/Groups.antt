@@ -19,7 +19,8 @@ use Rattle.concrete_notation.specs.Nests.{Nest, inside}
 use Rattle.loop_code.specs.Loops.{Stored}
 use Rattle.loop_code.specs.Parts.{remains}
 use Rattle.loop_code.specs.Turns.{count_below}
-use Rattle.statement_costs.specs.Costs.{group_of, inside_of, is_here, some_term, total}
+use Rattle.statement_costs.specs.Costs.{group_of, inside_of, some_term}
+use Rattle.statement_costs.specs.Plain.{plain_here, plain_total}
 use Rattle.statement_costs.proofs.Parts.{same_if}
 
 -- each number of a term, summed, is the same
@@ -150,22 +151,22 @@ module _ (s : Statement) (formats : List (List FormatLevel)) (stored : Stored) (
   -- a group and those that it falls into
   abbrev pub entered : ℕ → List ℕ → List Nest → List ℕ → (ℕ → ℕ) → ℕ
   entered v order group bound point =
-      if some_term (remains (is_here s formats stored bound point)) group
+      if some_term (remains (plain_here s formats stored bound point)) group
       then number group bound point v
-      + count_below (ranges v) (λ x. total s formats stored ranges number order group (v ∷ bound) (with_coordinate point v x)) else 0
+      + count_below (ranges v) (λ x. plain_total s formats stored ranges number order group (v ∷ bound) (with_coordinate point v x)) else 0
 
   -- the order of terms doesn't matter
   pub total_same : ((xs ys : List Nest) (bound : List ℕ) (point : ℕ → ℕ) (v : ℕ) → AreSame xs ys
       → number xs bound point v ≡ number ys bound point v)
       → (order : List ℕ) (xs ys : List Nest) → AreSame xs ys → (bound : List ℕ) (point : ℕ → ℕ)
-      → total s formats stored ranges number order xs bound point ≡ total s formats stored ranges number order ys bound point
+      → plain_total s formats stored ranges number order xs bound point ≡ plain_total s formats stored ranges number order ys bound point
   total_same numbers [] xs ys same bound point = refl
   total_same numbers (v ∷ order) xs ys same bound point =
       let groups : AreSame (group_of v xs) (group_of v ys) = same_group v xs ys same in
-      let left = some_same (remains (is_here s formats stored bound point)) (group_of v xs) (group_of v ys) groups in
+      let left = some_same (remains (plain_here s formats stored bound point)) (group_of v xs) (group_of v ys) groups in
       let own = numbers (group_of v xs) (group_of v ys) bound point v groups in
-      let more : (x : ℕ) → total s formats stored ranges number order (group_of v xs) (v ∷ bound) (with_coordinate point v x)
-      ≡ total s formats stored ranges number order (group_of v ys) (v ∷ bound) (with_coordinate point v x) =
+      let more : (x : ℕ) → plain_total s formats stored ranges number order (group_of v xs) (v ∷ bound) (with_coordinate point v x)
+      ≡ plain_total s formats stored ranges number order (group_of v ys) (v ∷ bound) (with_coordinate point v x) =
       λ x. total_same numbers order (group_of v xs) (group_of v ys) groups (v ∷ bound) (with_coordinate point v x) in
       let rest = total_same numbers order xs ys same bound point in
       λ i. (if left i then own i + count_below (ranges v) (λ x. more x i) else 0) + rest i
@@ -179,8 +180,8 @@ module _ (s : Statement) (formats : List (List FormatLevel)) (stored : Stored) (
   -- terms that share no loop
   pub total_both : (order : List ℕ) (xs ys : List Nest) → ((v : ℕ) → (group_of v xs ≡ []) ⊎ (group_of v ys ≡ [])) → (bound : List ℕ)
       (point : ℕ → ℕ)
-      → total s formats stored ranges number order xs bound point + total s formats stored ranges number order ys bound point
-      ≡ total s formats stored ranges number order (xs ++ ys) bound point
+      → plain_total s formats stored ranges number order xs bound point + plain_total s formats stored ranges number order ys bound point
+      ≡ plain_total s formats stored ranges number order (xs ++ ys) bound point
   total_both [] xs ys apart bound point = refl
   total_both (v ∷ order) xs ys apart bound point =
       let rest = total_both order xs ys apart bound point in
@@ -207,7 +208,7 @@ module _ (s : Statement) (formats : List (List FormatLevel)) (stored : Stored) (
   pub total_loop : (v : ℕ) (nests : List Nest) (bound : List ℕ) (point : ℕ → ℕ) (m : ℕ)
       → ((rest : List ℕ) → AreAlong rest nests → m ≤ entered v rest nests bound point)
       → (order : List ℕ) → AreAlong order (map (inside v) nests)
-      → m ≤ total s formats stored ranges number order (map (inside v) nests) bound point
+      → m ≤ plain_total s formats stored ranges number order (map (inside v) nests) bound point
   total_loop v [] bound point m f [] along = f [] tt
   total_loop v (n ∷ nests) bound point m f [] along = absurd along.0
   total_loop v nests bound point m f (u ∷ order) along =
@@ -218,7 +219,7 @@ module _ (s : Statement) (formats : List (List FormatLevel)) (stored : Stored) (
           subst (λ w. m ≤ entered w order (group_of w (map (inside v) nests)) bound point) (sym same)
           (subst (λ g. m ≤ entered v order g bound point) (sym (group_inside v nests)) (f order (along_taken u v order nests is along)))
 
-      by : (AreAlong order (map (inside v) nests) → m ≤ total s formats stored ranges number order (map (inside v) nests) bound point)
-          → (b : Bool) → nat_eq u v ≡ b → m ≤ total s formats stored ranges number (u ∷ order) (map (inside v) nests) bound point
+      by : (AreAlong order (map (inside v) nests) → m ≤ plain_total s formats stored ranges number order (map (inside v) nests) bound point)
+          → (b : Bool) → nat_eq u v ≡ b → m ≤ plain_total s formats stored ranges number (u ∷ order) (map (inside v) nests) bound point
       by more true is = let most = taken (same_by u v is) is in omega (arith, most)
       by more false is = let most = more (along_passed u v order nests is along) in omega (arith, most)

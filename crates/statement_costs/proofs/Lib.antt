@@ -1,8 +1,10 @@
 pub mod Groups
 pub mod Lengths
 pub mod NoMore
+pub mod Opened
 pub mod Packed
 pub mod Parts
+pub mod Plain
 pub mod Probes
 pub mod SharedLoops
 pub mod Slots

@@ -1,4 +1,5 @@
--- The loops of a concrete statement that shares loops have at most as many slots as the statement, whatever is stored of its accesses.
+-- The loops of a concrete statement that shares loops have at most as many slots as the statement, whatever is stored of its accesses,
+-- where it has no nested sums.
 use Rattle.std.specs.Prelude.{◌≡◌, ℕ, suc, ◌+◌, ◌≤◌, ◌<◌, Bool, true, false, ◌&&◌, if◌then◌else◌, List, [], length}
 use Rattle.std.specs.Prelude.{Option, Some, None, refl}
 use Rattle.std.proofs.Common.{◌∙◌, sym, ap, subst, arith}
@@ -17,11 +18,13 @@ use Rattle.loop_code.specs.Turns.{count_below}
 use Rattle.lowering.specs.Layouts.{layout_of}
 use Rattle.lowering.specs.Lowered.{IsInOrder, IsInPlace, concrete_of, plain}
 use Rattle.lowering.specs.Seeking.{uses}
-use Rattle.lowering.specs.Shapes.{FindsBelow, FindsReached}
+use Rattle.lowering.specs.Shapes.{FindsBelow, FindsReached, HasStarts}
 use Rattle.statement_costs.specs.Costs.{at, is_walked, next_level}
-use Rattle.statement_costs.specs.Slots.{group_slots, level_slots, slots, slots_here, statement_slots}
+use Rattle.statement_costs.specs.Plain.{plain_slots}
+use Rattle.statement_costs.specs.Slots.{level_slots, slots, slots_here, statement_slots}
 use Rattle.statement_costs.proofs.Groups.{AreSame}
 use Rattle.statement_costs.proofs.Lengths.{seeks_most}
+use Rattle.statement_costs.proofs.Plain.{slots_are_plain}
 use Rattle.statement_costs.proofs.Steps.{IsStep, in_part, step_walked}
 use Rattle.statement_costs.proofs.Trees.{IsCount, nests_of}
 use Rattle.statement_costs.proofs.Whole.{walked_sums, whole}
@@ -46,7 +49,7 @@ module _ (layout : Layout) (stored : Stored) (ranges : ℕ → ℕ) (of_level : 
 
 module _ (s : Statement) (formats : List (List FormatLevel)) (stored : Stored) (ranges : ℕ → ℕ) (widths : ℕ → ℕ → ℕ) where
   slots_same : (xs ys : List Nest) (bound : List ℕ) (point : ℕ → ℕ) (v : ℕ) → AreSame xs ys
-      → group_slots s formats widths stored xs bound point v ≡ group_slots s formats widths stored ys bound point v
+      → plain_slots s formats stored ranges widths xs bound point v ≡ plain_slots s formats stored ranges widths ys bound point v
   slots_same xs ys bound point v same =
       walked_sums s formats stored ranges (λ k. level_slots s formats widths k (next_level s formats bound k)) xs ys bound point v same
 
@@ -82,7 +85,8 @@ module _ (s : Statement) (formats : List (List FormatLevel)) (stored : Stored) (
         by true (Some p) n = omega arith
         by false o n = omega arith
 
-    slots_most : slots_here (level_slots s formats widths) seeks env ≤ group_slots s formats widths stored (nests_of body) bound env.point v
+    slots_most : slots_here (level_slots s formats widths) seeks env
+        ≤ plain_slots s formats stored ranges widths (nests_of body) bound env.point v
     slots_most =
         seeks_most (layout_of s formats) (length s.accesses) v bound depth (uses (concrete_of body))
         (λ x. if here env x.access then level_slots s formats widths x.access x.level else 0)
@@ -91,14 +95,16 @@ module _ (s : Statement) (formats : List (List FormatLevel)) (stored : Stored) (
 
 module _ (s : Statement) (formats : List (List FormatLevel)) (c : Concrete) (in_order : IsInOrder s formats c)
     (shares : SharesLoops (plain c)) (loops : LoopCode) (shape : concrete_of loops ≡ plain c) (placed : IsInPlace s formats loops)
-    (finds : FindsReached s formats [] (λ k. 0) loops) (below : FindsBelow loops) (stored : Stored) (ranges : ℕ → ℕ)
-    (widths : ℕ → ℕ → ℕ) where
+    (finds : FindsReached s formats [] (λ k. 0) loops) (starts : HasStarts s [] (λ k. false) loops) (below : FindsBelow s loops)
+    (none : s.sums ≡ []) (stored : Stored) (ranges : ℕ → ℕ) (widths : ℕ → ℕ → ℕ) where
   pub loops_gather_no_more : slots (layout_of s formats) stored ranges (level_slots s formats widths) loops start
       ≤ statement_slots s formats in_order.order stored widths ranges
   loops_gather_no_more =
-      whole s formats stored ranges c in_order shares loops shape placed finds below
+      subst (λ n. slots (layout_of s formats) stored ranges (level_slots s formats widths) loops start ≤ n)
+      (sym (slots_are_plain s none formats stored ranges in_order.order widths))
+      (whole s formats stored ranges c in_order shares loops shape placed finds starts below none
       (own (layout_of s formats) stored ranges (level_slots s formats widths))
       (slots (layout_of s formats) stored ranges (level_slots s formats widths))
-      (slots_count (layout_of s formats) stored ranges (level_slots s formats widths)) (group_slots s formats widths stored)
+      (slots_count (layout_of s formats) stored ranges (level_slots s formats widths)) (plain_slots s formats stored ranges widths)
       (λ bound depth v seeks body env step. slots_most s formats stored ranges widths bound depth v seeks body env step)
-      (slots_same s formats stored ranges widths)
+      (slots_same s formats stored ranges widths))

@@ -8,6 +8,7 @@ use Rattle.format_spec.specs.declared.format.FormatLevel.{FormatLevel}
 use Rattle.index_notation.specs.declared.syntax.Statement.{Statement}
 use Rattle.lists.specs.Each.{Each}
 use Rattle.expr_terms.specs.Terms.{contains}
+use Rattle.concrete_notation.specs.declared.concrete.Concrete.{Concrete}
 use Rattle.concrete_notation.specs.Nests.{Nest}
 use Rattle.loop_code.specs.declared.loops.LoopCode.{LoopCode}
 use Rattle.loop_code.specs.declared.loops.Seek.{Seek}
@@ -18,18 +19,23 @@ use Rattle.loop_code.specs.Turns.{lengths, repeated, repeats, weight_of}
 use Rattle.lowering.specs.Layouts.{layout_of}
 use Rattle.lowering.specs.Lowered.{concrete_of}
 use Rattle.lowering.specs.Seeking.{reached, uses}
-use Rattle.lowering.specs.Shapes.{AreReached, variables_at}
-use Rattle.statement_costs.specs.Costs.{HaveGroups, at, group_length, group_repeats, groups_length, is_full_group, is_here, is_walked}
-use Rattle.statement_costs.specs.Costs.{next_level, segment, segment_length, some_term, sum_walked}
+use Rattle.lowering.specs.Shapes.{variables_at}
+use Rattle.statement_costs.specs.Costs.{HaveGroups, at, groups_length, is_walked, next_level, segment, segment_length, some_term}
+use Rattle.statement_costs.specs.Plain.{plain_full, plain_here, plain_length, plain_repeats, plain_walked}
 use Rattle.statement_costs.proofs.Parts.{AreLive, full_other, full_same, some_present, some_stands}
+use Rattle.statement_costs.proofs.Plain.{HasNone}
 use Rattle.statement_costs.proofs.Trees.{full_terms, loop_length, loop_repeats, nests_of, uses_terms}
 use Rattle.statement_costs.proofs.Walks.{is_some_of_none, walked_at, walked_same}
 use Rattle.statement_costs.proofs.Lengths.{length_weight, seeks_most, weight_none}
 
+-- the levels that the bound variables reach are those found so far, of each access that stands in a term below
+abbrev pub AreFound : Statement → List (List FormatLevel) → List ℕ → (ℕ → ℕ) → Concrete → Type 0
+AreFound s formats bound depth c = (k : ℕ) → uses c k ≡ true → depth k ≡ reached bound (variables_at s formats k)
+
 module _ (s : Statement) (formats : List (List FormatLevel)) (stored : Stored) where
   -- whether an access stands in the part of some terms that remains
   abbrev pub in_part : List ℕ → (ℕ → ℕ) → List Nest → ℕ → Bool
-  in_part bound point nests k = some_term (λ e. is_live (is_here s formats stored bound point) e k) nests
+  in_part bound point nests k = some_term (λ e. is_live (plain_here s formats stored bound point) e k) nests
 
   -- loops stand inside those of bound variables: no access is elsewhere than the coordinates lead, and each that stands in the part that
   -- remains is there
@@ -42,8 +48,9 @@ module _ (s : Statement) (formats : List (List FormatLevel)) (stored : Stored) w
     pub fresh : contains bound v ≡ false
     pub are : AreSeeks (layout_of s formats) (length s.accesses) v bound depth depth seeks
     pub below : Each (λ (x : Seek). uses (concrete_of body) x.access ≡ true) seeks
-    pub outer : AreReached s formats bound depth (concrete_of body)
-    pub inner : AreReached s formats (v ∷ bound) (depth_after seeks depth) (concrete_of body)
+    pub none : HasNone body
+    pub outer : AreFound s formats bound depth (concrete_of body)
+    pub inner : AreFound s formats (v ∷ bound) (depth_after seeks depth) (concrete_of body)
     pub cursor : (k : ℕ) → env.cursor k
         ≡ (if in_part bound env.point (nests_of body) k then at s formats stored bound env.point k else None)
 
@@ -52,16 +59,16 @@ module _ (s : Statement) (formats : List (List FormatLevel)) (stored : Stored) w
   some_of false o h = absurd (is_some_of_none h)
 
   module _ (bound : List ℕ) (nests : List Nest) (env : Env) (inside : IsInside bound nests env) where
-    pub inside_less : (k : ℕ) → here env k ≡ true → is_here s formats stored bound env.point k ≡ true
+    pub inside_less : (k : ℕ) → here env k ≡ true → plain_here s formats stored bound env.point k ≡ true
     inside_less k h = by (inside.some k)
       where
         by : (env.cursor k ≡ at s formats stored bound env.point k) ⊎ (env.cursor k ≡ None)
-            → is_here s formats stored bound env.point k ≡ true
+            → plain_here s formats stored bound env.point k ≡ true
         by (inl there) = ap is_some (sym there) ∙ h
         by (inr none) = absurd (is_some_of_none (sym (ap is_some none) ∙ h))
 
-    pub inside_live : AreLive (is_here s formats stored bound env.point) (here env) nests
-    inside_live k h = ap is_some (inside.live k h) ∙ some_present (is_here s formats stored bound env.point) k nests h
+    pub inside_live : AreLive (plain_here s formats stored bound env.point) (here env) nests
+    inside_live k h = ap is_some (inside.live k h) ∙ some_present (plain_here s formats stored bound env.point) k nests h
 
   module _ (bound : List ℕ) (depth : ℕ → ℕ) (v : ℕ) (seeks : List Seek) (body : LoopCode) (env : Env)
       (step : IsStep bound depth v seeks body env) where
@@ -69,24 +76,25 @@ module _ (s : Statement) (formats : List (List FormatLevel)) (stored : Stored) w
     live = in_part bound env.point (nests_of body)
 
     live_used : (k : ℕ) → live k ≡ true → uses (concrete_of body) k ≡ true
-    live_used k h = uses_terms body k ∙ some_stands (is_here s formats stored bound env.point) (nests_of body) k h
+    live_used k h = uses_terms body step.none k ∙ some_stands (plain_here s formats stored bound env.point) (nests_of body) k h
 
-    step_less : (k : ℕ) → here env k ≡ true → is_here s formats stored bound env.point k ≡ true
+    step_less : (k : ℕ) → here env k ≡ true → plain_here s formats stored bound env.point k ≡ true
     step_less k h = some_of (live k) (at s formats stored bound env.point k) (sym (ap is_some (step.cursor k)) ∙ h)
 
-    step_live : AreLive (is_here s formats stored bound env.point) (here env) (nests_of body)
+    step_live : AreLive (plain_here s formats stored bound env.point) (here env) (nests_of body)
     step_live k h =
         ap is_some (step.cursor k) ∙ ap (λ b. is_some (if b then at s formats stored bound env.point k else None)) h
-        ∙ some_present (is_here s formats stored bound env.point) k (nests_of body) h
+        ∙ some_present (plain_here s formats stored bound env.point) k (nests_of body) h
 
     -- the loop is full where its group is
-    step_full : is_full_below (is_other seeks) (here env) body ≡ is_full_group s formats stored (nests_of body) bound env.point v
+    step_full : is_full_below (is_other seeks) (here env) body ≡ plain_full s formats stored (nests_of body) bound env.point v
     step_full =
-        full_terms (is_other seeks) (here env) body
-        ∙ full_same (is_here s formats stored bound env.point) (here env) step_less (nests_of body) step_live (is_other seeks)
-        ∙ full_other (is_other seeks) (λ k. not (is_walked s formats bound v k)) (is_here s formats stored bound env.point) (nests_of body)
+        full_terms (is_other seeks) (here env) body step.none
+        ∙ full_same (plain_here s formats stored bound env.point) (here env) step_less (nests_of body) step_live (is_other seeks)
+        ∙ full_other (is_other seeks) (λ k. not (is_walked s formats bound v k)) (plain_here s formats stored bound env.point)
+        (nests_of body)
         (λ k is. ap not (walked_same s formats stored bound (length s.accesses) v depth seeks k step.are
-        (step.outer k (uses_terms body k ∙ is)) (step.inner k (uses_terms body k ∙ is))))
+        (step.outer k (uses_terms body step.none k ∙ is)) (step.inner k (uses_terms body step.none k ∙ is))))
 
     -- what is stored below an access that is gone through
     step_entries : (x : Seek) → uses (concrete_of body) x.access ≡ true → x.level ≡ suc (depth x.access)
@@ -138,7 +146,7 @@ module _ (s : Statement) (formats : List (List FormatLevel)) (stored : Stored) w
 
       pub sum_most : (sum : List Seek → ℕ) → sum [] ≡ 0
           → ((x : Seek) (xs : List Seek) → sum (x ∷ xs) ≡ (if x.full then 0 else of_seek x (entries_at stored env x)) + sum xs)
-          → sum seeks ≤ sum_walked s formats stored of_access (nests_of body) bound env.point v
+          → sum seeks ≤ plain_walked s formats stored of_access (nests_of body) bound env.point v
       sum_most sum none next =
           seeks_most (layout_of s formats) (length s.accesses) v bound depth (uses (concrete_of body))
           (λ x. of_seek x (entries_at stored env x))
@@ -146,7 +154,7 @@ module _ (s : Statement) (formats : List (List FormatLevel)) (stored : Stored) w
 
     -- the repeated coordinates of the loop
     pub repeats_most : (ranges : ℕ → ℕ) → loop_repeats (layout_of s formats) stored ranges v seeks body env
-        ≤ group_repeats s formats stored ranges (nests_of body) bound env.point v
+        ≤ plain_repeats s formats stored ranges (nests_of body) bound env.point v
     repeats_most ranges =
         sum_most (λ x es. weight_of (repeats (layout_of s formats) x) es) (groups_length s formats stored bound env.point) (λ x. refl)
         (λ x used below level within. at_level x.access x.level (level ∙ ap suc (step.outer x.access used)))
@@ -168,10 +176,10 @@ module _ (s : Statement) (formats : List (List FormatLevel)) (stored : Stored) w
 
     -- and its length
     pub length_most : HaveGroups s formats stored → (ranges : ℕ → ℕ) → loop_length (layout_of s formats) stored ranges v seeks body env
-        ≤ group_length s formats stored ranges (nests_of body) bound env.point v
+        ≤ plain_length s formats stored ranges (nests_of body) bound env.point v
     length_most groups ranges =
         subst (λ b. (if is_full_below (is_other seeks) (here env) body then ranges v else lengths stored env seeks)
-        ≤ (if b then ranges v else sum_walked s formats stored (segment_length s formats stored bound env.point) (nests_of body) bound
+        ≤ (if b then ranges v else plain_walked s formats stored (segment_length s formats stored bound env.point) (nests_of body) bound
         env.point v))
         step_full
         (by (is_full_below (is_other seeks) (here env) body)

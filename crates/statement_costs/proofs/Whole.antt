@@ -1,6 +1,6 @@
 -- All loops of a statement count no more than its groups.
 use Rattle.std.specs.Prelude.{◌≡◌, ℕ, zero, suc, ◌≤◌, ◌<◌, not, ◌||◌, ◌&&◌, if◌then◌else◌, List, [], ◌∷◌, length, map}
-use Rattle.std.specs.Prelude.{slice_index_or}
+use Rattle.std.specs.Prelude.{false, slice_index_or}
 use Rattle.std.specs.List.{All}
 use Rattle.std.proofs.Common.{◌∙◌, sym, ap, subst, arith, inl}
 use Rattle.std.proofs.lemmas.List.Sorted.{All-permutation}
@@ -20,12 +20,13 @@ use Rattle.lowering.specs.Held.{path_span}
 use Rattle.lowering.specs.Layouts.{layout_of}
 use Rattle.lowering.specs.Lowered.{IsInOrder, IsInPlace, concrete_of, plain}
 use Rattle.lowering.specs.Seeking.{reached}
-use Rattle.lowering.specs.Shapes.{FindsBelow, FindsReached, variables_at}
+use Rattle.lowering.specs.Shapes.{FindsBelow, FindsReached, HasStarts, variables_at}
 use Rattle.lowering.proofs.Reached.{none_reached}
 use Rattle.lowering.proofs.RightLoops.{same_nests}
-use Rattle.statement_costs.specs.Costs.{group_length, group_repeats, groups_length, is_here, is_walked, segment_length}
-use Rattle.statement_costs.specs.Costs.{some_term, sum_walked, total}
+use Rattle.statement_costs.specs.Costs.{groups_length, is_walked, segment_length, some_term}
+use Rattle.statement_costs.specs.Plain.{plain_here, plain_length, plain_repeats, plain_total, plain_walked}
 use Rattle.statement_costs.proofs.Groups.{AreAlong, AreSame, IsAlong, filtered_along, permutation_same, some_same, total_same}
+use Rattle.statement_costs.proofs.Plain.{none_started}
 use Rattle.statement_costs.proofs.Steps.{IsInside, IsStep}
 use Rattle.statement_costs.proofs.Trees.{IsCount, nests_of}
 use Rattle.statement_costs.proofs.Within.{within}
@@ -44,27 +45,27 @@ all_each P (x ∷ xs) g = (g 0 x (omega arith), all_each P xs (λ k d l. g (suc 
 
 module _ (s : Statement) (formats : List (List FormatLevel)) (stored : Stored) (ranges : ℕ → ℕ) where
   pub walked_sums : (of_access : ℕ → ℕ) (xs ys : List Nest) (bound : List ℕ) (point : ℕ → ℕ) (v : ℕ) → AreSame xs ys
-      → sum_walked s formats stored of_access xs bound point v ≡ sum_walked s formats stored of_access ys bound point v
+      → plain_walked s formats stored of_access xs bound point v ≡ plain_walked s formats stored of_access ys bound point v
   walked_sums of_access xs ys bound point v same =
-      let alike : (k : ℕ) → some_term (λ e. is_live (is_here s formats stored bound point) e k) xs
-      ≡ some_term (λ e. is_live (is_here s formats stored bound point) e k) ys =
-      λ k. some_same (λ e. is_live (is_here s formats stored bound point) e k) xs ys same in
+      let alike : (k : ℕ) → some_term (λ e. is_live (plain_here s formats stored bound point) e k) xs
+      ≡ some_term (λ e. is_live (plain_here s formats stored bound point) e k) ys =
+      λ k. some_same (λ e. is_live (plain_here s formats stored bound point) e k) xs ys same in
       λ i. count_below (length s.accesses) (λ k. if alike k i && is_walked s formats bound v k then of_access k else 0)
 
   pub repeats_same : (xs ys : List Nest) (bound : List ℕ) (point : ℕ → ℕ) (v : ℕ) → AreSame xs ys
-      → group_repeats s formats stored ranges xs bound point v ≡ group_repeats s formats stored ranges ys bound point v
+      → plain_repeats s formats stored ranges xs bound point v ≡ plain_repeats s formats stored ranges ys bound point v
   repeats_same xs ys bound point v same = walked_sums (groups_length s formats stored bound point) xs ys bound point v same
 
   pub length_same : (xs ys : List Nest) (bound : List ℕ) (point : ℕ → ℕ) (v : ℕ) → AreSame xs ys
-      → group_length s formats stored ranges xs bound point v ≡ group_length s formats stored ranges ys bound point v
+      → plain_length s formats stored ranges xs bound point v ≡ plain_length s formats stored ranges ys bound point v
   length_same xs ys bound point v same =
-      let full = some_same (is_full (λ k. not (is_walked s formats bound v k)) (is_here s formats stored bound point)) xs ys same in
+      let full = some_same (is_full (λ k. not (is_walked s formats bound v k)) (plain_here s formats stored bound point)) xs ys same in
       let sums = walked_sums (segment_length s formats stored bound point) xs ys bound point v same in
       λ i. if full i then ranges v else sums i
 
   module _ (c : Concrete) (in_order : IsInOrder s formats c) (shares : SharesLoops (plain c)) (loops : LoopCode)
       (shape : concrete_of loops ≡ plain c) (placed : IsInPlace s formats loops) (finds : FindsReached s formats [] (λ k. 0) loops)
-      (below : FindsBelow loops) where
+      (starts : HasStarts s [] (λ k. false) loops) (below : FindsBelow s loops) (none : s.sums ≡ []) where
     nests_are : nests_of loops ≡ nests c
     nests_are = ap nests shape ∙ same_nests c
 
@@ -96,12 +97,13 @@ module _ (s : Statement) (formats : List (List FormatLevel)) (stored : Stored) (
         → ((xs ys : List Nest) (bound : List ℕ) (point : ℕ → ℕ) (v : ℕ) → AreSame xs ys
         → number xs bound point v ≡ number ys bound point v)
         → count loops start
-        ≤ total s formats stored ranges number in_order.order (map (nest_of s in_order.order) (terms s.expr)) [] (λ v. 0)
+        ≤ plain_total s formats stored ranges number in_order.order (map (nest_of s in_order.order) (terms s.expr)) [] (λ v. 0)
     whole own count counts number most numbers =
         subst (λ m. count loops start ≤ m) same
-        (within s formats stored ranges own count counts number most loops [] (λ k. 0) in_order.order start (record {
+        (within s formats stored ranges own count counts number most none loops [] (λ k. 0) in_order.order start (record {
           placed = placed;
           finds = finds;
+          none = none_started s none [] (λ k. false) loops starts;
           reached = λ k is. none_reached (variables_at s formats k);
           below = below;
           shares = subst SharesLoops (sym shape) shares;
@@ -109,10 +111,10 @@ module _ (s : Statement) (formats : List (List FormatLevel)) (stored : Stored) (
           inside = start_inside;
         }))
       where
-        same : total s formats stored ranges number in_order.order (nests_of loops) [] (λ v. 0)
-            ≡ total s formats stored ranges number in_order.order (map (nest_of s in_order.order) (terms s.expr)) [] (λ v. 0)
+        same : plain_total s formats stored ranges number in_order.order (nests_of loops) [] (λ v. 0)
+            ≡ plain_total s formats stored ranges number in_order.order (map (nest_of s in_order.order) (terms s.expr)) [] (λ v. 0)
         same =
-            ap (λ ns. total s formats stored ranges number in_order.order ns [] (λ v. 0)) nests_are
+            ap (λ ns. plain_total s formats stored ranges number in_order.order ns [] (λ v. 0)) nests_are
             ∙ sym (total_same s formats stored ranges number numbers in_order.order (map (nest_of s in_order.order) (terms s.expr))
             (nests c)
             (permutation_same (map (nest_of s in_order.order) (terms s.expr)) (nests c) in_order.terms) [] (λ v. 0))

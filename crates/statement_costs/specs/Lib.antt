@@ -1,4 +1,6 @@
 pub mod Costs
+pub mod Plain
 pub mod Probes
 pub mod Slots
+pub mod Starts
 pub mod Worked

@@ -20,38 +20,21 @@ use Rattle.taco_top.specs.Values.{values_of}
 use Rattle.taco_top.specs.Asked.{needs_files}
 use Rattle.taco_top.specs.Run.{Request, AsksFor}
 
--- over the accesses behind one more the same minus stands
-abbrev mutual
-  moved_minus : (e : Expr) → has_minus (moved e) ≡ has_minus e
-  moved_minus (Num n) = refl
-  moved_minus (AccessOf k) = refl
-  moved_minus (Binary' o p e q f) = ap₂ (λ x y. is_minus o || (x || y)) (moved_minus_in e) (moved_minus_in f)
-  moved_minus (Neg' p e) = refl
-
-  moved_minus_in : {m : _} (row : Row_of-Expr m) → has_minus_in (moved_in row) ≡ has_minus_in row
-  moved_minus_in end_of-Expr = refl
-  moved_minus_in (more_of-Expr e rest) = moved_minus e
-
--- a statement has the minus of the one that it stands for
-expanded_meant : (b accumulate : Bool) (s : Statement) → HasMeaning b s.expr
-    → HasMeaning b (if accumulate then with_old s else s).expr
-expanded_meant true accumulate s meant = tt
-expanded_meant false true s meant = has_minus_binary op.Add (AccessOf 0) (moved s.expr) ∙ moved_minus s.expr ∙ meant
-expanded_meant false false s meant = meant
-
 module _ (words : List (List ℕ)) (r : Request) (asks : AsksFor words r) where
-  pub asked_meant : HasMeaning (values_of r.over).has_minus r.statement.expr
-  asked_meant = subst (λ s. HasMeaning (values_of r.over).has_minus s.expr) (sym asks.names.named.stands_for)
-      (expanded_meant (values_of r.over).has_minus asks.names.named.written.accumulate asks.names.named.written asks.names.meant)
+  pub asked_meant : HasMeaningWithSums (values_of r.over).has_minus r.statement
+  asked_meant = asks.names.meant
 
   pub well_named : IsWellNamed r.statement
   well_named = subst IsWellNamed (sym asks.names.named.stands_for)
       (expanded_named asks.names.named.written (notation_well_named asks.names.text asks.names.named.written asks.names.named.notation asks.names.named.names))
 
-  -- no text has nested sums
-  pub is_plain : r.statement.sums ≡ []
-  is_plain = subst (λ s. s.sums ≡ []) (sym asks.names.named.stands_for)
-      (expanded_plain asks.names.named.written (notation_is_plain asks.names.text asks.names.named.written asks.names.named.notation))
+  -- each nested sum is read, and none is bad
+  pub is_bound : IsNumberedWithSums r.statement → HasNoBadSum r.statement
+  is_bound numbered =
+      fine_is_clear r.statement numbered asks.names.named.fine
+      (subst ReadsItsSums (sym asks.names.named.stands_for)
+      (expanded_reads_sums asks.names.named.written
+      (subst ReadsItsSums (sym asks.names.named.notation.is) (tree_reads_sums asks.names.named.notation.tree))))
 
   -- the formats that were handed in are those of the request
   module _ (numbered : IsNumberedWithSums r.statement) (formats : List (List FormatLevel)) (formats_are : formats ≡ r.formats) where

@@ -2,7 +2,7 @@
 ghost use Rattle.std.specs.Prelude.{◌≡◌, ℕ, List, Option, true, IfOk, IfErr, Vec};
 ghost use Rattle.std.specs.declared.alloc.Global.{Global as AGlobal};
 ghost use Rattle.taco_top.specs.Values.{Values, semiring};
-ghost use Rattle.kernel_correctness.specs.Kernels.{IsRightKernel};
+ghost use Rattle.kernel_correctness.specs.Kernels.{IsRightFor};
 ghost use Rattle.mode_planner.specs.Planned.{Answers};
 ghost use Rattle.operand_packing.specs.Runnable.{IsRunnable};
 ghost use Rattle.tensor_map.specs.Entries.{AreEntries, Entries};
