@@ -1,5 +1,5 @@
 use Rattle.std.specs.Prelude.{◌<◌, length, []}
-use Rattle.std.proofs.Common.{◌∙◌}
+use Rattle.std.proofs.Common.{subst}
 use Rattle.loop_code.specs.declared.loops.LoopCode.{Loop, Both, Sum}
 use Rattle.loop_code.specs.Parts.{is_live_below}
 use Rattle.loop_code.specs.Places.{EachAccess}
@@ -100,8 +100,14 @@ returns-in_ok-flag-in-Both t c = λ P are.
 
 pub returns-in_ok-flag-in-Sum : goal.returns-in_ok-flag-in-Sum
 returns-in_ok-flag-in-Sum t c =
+    let places = c.args.places.now in
+    let body = c.get-body.result.now in
     live_summed c.args.places.now c.args.told.now c.args.loops.now c.in-Sum.sum c.in-Sum.inside c.in-Sum.body c.get-inside.result.now
     c.get-body.result.now c.in-Sum.is c.get-inside.ensures c.get-body.ensures c.args.access c.in_ok-remains.remains c.in_ok-direct.direct
     c.in_ok-summed.summed c.in_ok-within.within c.in_ok-through.through c.in_ok-flag-in-Sum.flag c.in_ok-more.more c.in_ok-more.ensures
-    c.in_ok-remains.ensures c.in_ok-direct.ensures c.in_ok-summed.ensures c.in_ok-within.ensures c.in_ok-through.ensures
+    c.in_ok-remains.ensures
+    (subst (λ m. TellsOf places m [] (λ P. is_live_below P body c.args.access) c.in_ok-direct.direct) c.as_slice.ensures
+    c.in_ok-direct.ensures)
+    (subst (λ m. TellsOf places m [] (λ P. is_live_below P body c.in-Sum.sum) c.in_ok-summed.summed) c.as_slice-2.ensures
+    c.in_ok-summed.ensures) c.in_ok-within.ensures c.in_ok-through.ensures
     c.in_ok-flag-in-Sum.ensures

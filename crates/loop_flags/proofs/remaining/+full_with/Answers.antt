@@ -1,7 +1,7 @@
-use Rattle.std.specs.Prelude.{ℕ, Bool, ◌<◌, length}
+use Rattle.std.specs.Prelude.{◌<◌, length}
+use Rattle.std.proofs.Common.{◌∙◌}
 use Rattle.loop_code.specs.declared.loops.LoopCode.{Loop, Both, Sum}
-use Rattle.loop_code.specs.Loops.{Env}
-use Rattle.loop_code.specs.Parts.{remains, remains_below}
+use Rattle.loop_code.specs.Parts.{remains_below}
 use Rattle.loop_code.specs.Places.{EachAccess}
 use Rattle.loop_flags.specs.Told.{TellsOf}
 use Rattle.loop_flags.proofs.LoopHeights.{falls, body_of_loop, parts_of_both, parts_of_sum}
@@ -95,5 +95,5 @@ returns-in_ok-more t c =
     (TellsOf places told seeks (λ P. remains_below P c.args.loops.now))
     (λ x h. remains_summed places told c.args.loops.now k f g c.get-in-Sum.result.now c.get-in_ok-more.result.now c.in-Sum.is
     c.get-in-Sum.ensures c.get-in_ok-more.ensures seeks c.in_ok-within.within x c.as_slice.result.now
-    ? c.in_ok-within.ensures h)
+    (c.as_slice.ensures ∙ c.in_ok-more.ensures) c.in_ok-within.ensures h)
     c.full_with-in_ok-more.ensures
