@@ -18,7 +18,7 @@ use Rattle.tensor_map.specs.Entries.{Entry}
 use Rattle.result_targets.specs.Sinks.{AddsTo}
 use Rattle.loop_code.specs.Loops.{sum_of}
 use Rattle.loop_code.proofs.Summed.{has_rows}
-use Rattle.term_code.specs.SumSinks.{BeginsSum, EndsSum, HoldsSum, SumSink, add_code, sum_sink}
+use Rattle.term_code.specs.SumSinks.{BeginsSum, EndsSum, HoldsSum, SumSink, add_code, begin_code, sum_sink}
 
 abbrev values : List Entry → List ℕ
 values rows = map (λ (row : Entry). row.value) rows
@@ -58,7 +58,7 @@ adds_value k keys v free = λ c laws apart ranges rows row ok s vars at h.
       },
     )))
 
-pub begins_sum : (a : Arithmetic) (at : ℕ) → BeginsSum a at (Set at (Num 0) ∷ Set (at + 1) (Num a.zero) ∷ [])
+pub begins_sum : (a : Arithmetic) (at : ℕ) → BeginsSum a at (begin_code at a.zero)
 begins_sum a at = λ c is s.
     let t = set_var s at 0 in
     does_set c at (Num 0) _ s 0 _ Never refl
@@ -77,24 +77,24 @@ begins_sum a at = λ c is s.
 
 -- behind its last row
 left_as_span : (a : Arithmetic) (at : ℕ) (rows : List Entry) (s : State) → HoldsSum at a rows s
-    → ChildLeft at (sum_of a rows) (set_var s (at + 2) (total_of a (values rows)))
-left_as_span a at [] s h = other_var s (at + 2) at (total_of a []) (λ q. omega (arith, q)) ∙ h.there
+    → ChildLeft at (sum_of a rows) (set_var s (at + 1 + 1) (total_of a (values rows)))
+left_as_span a at [] s h = other_var s (at + 1 + 1) at (total_of a []) (λ q. omega (arith, q)) ∙ h.there
 left_as_span a at (row ∷ rows) s h =
     let total = total_of a (values (row ∷ rows)) in (
-      other_var s (at + 2) at total (λ q. omega (arith, q)) ∙ h.there,
+      other_var s (at + 1 + 1) at total (λ q. omega (arith, q)) ∙ h.there,
       record {
-        lo = other_var s (at + 2) (at + 1) total (λ q. omega (arith, q)) ∙ h.total;
-        hi = this_var s (at + 2) total;
+        lo = other_var s (at + 1 + 1) (at + 1) total (λ q. omega (arith, q)) ∙ h.total;
+        hi = this_var s (at + 1 + 1) total;
       },
     )
 
-pub ends_sum : (at : ℕ) → EndsSum at (Set (at + 2) (Var (at + 1)) ∷ [])
+pub ends_sum : (at : ℕ) → EndsSum at (Set (at + 1 + 1) (Var (at + 1)) ∷ [])
 ends_sum at = λ c rows s h.
     let total = total_of c.arithmetic (values rows) in
-    does_set c (at + 2) (Var (at + 1)) [] s total _ Never h.total
-    (does_nothing c (set_var s (at + 2) total) _ Never (
+    does_set c (at + 1 + 1) (Var (at + 1)) [] s total _ Never h.total
+    (does_nothing c (set_var s (at + 1 + 1) total) _ Never (
       record {
-        below = λ y b z. other_var s (at + 2) y total (λ q. omega (arith, b, q));
+        below = λ y b z. other_var s (at + 1 + 1) y total (λ q. omega (arith, b, q));
         arrays = λ b z. refl;
         turns = λ j. omega arith;
       },

@@ -1,6 +1,6 @@
 //! A sum that is kept in variables, as the place where rows go.
 ghost use Rattle.std.specs.Prelude.{◌≡◌, ◌≤◌, ◌^◌, IfOk};
-ghost use Rattle.term_code.specs.SumSinks.{BeginsSum, EndsSum, add_code, sum_sink};
+ghost use Rattle.term_code.specs.SumSinks.{BeginsSum, EndsSum, add_code, begin_code, sum_sink};
 ghost use Rattle.term_code.specs.SinkLaws.{sum_laws};
 
 use kernel_code::{KExpr, KStmt, ValueOp, one_statement};
@@ -21,8 +21,7 @@ impl SumSink {
         requires { self.now.at ≤ 2 ^ 62 }
         ensures { IfOk result (BeginsSum S.arithmetic self.now.at) }
     {
-        let mut code = one_statement(alloc, KStmt::Set(self.at, KExpr::Num(0)))?;
-        code.push(KStmt::Set(self.at + 1, KExpr::Num(S::zero())))?;
+        let code = no_rows(alloc, self.at, S::zero())?;
         Ok(code)
     }
 
@@ -32,8 +31,19 @@ impl SumSink {
         requires { self.now.at ≤ 2 ^ 62 }
         ensures { IfOk result (EndsSum self.now.at) }
     {
-        one_statement(alloc, KStmt::Set(self.at + 2, KExpr::Var(self.at + 1)))
+        let code = one_statement(alloc, KStmt::Set(self.at + 1 + 1, KExpr::Var(self.at + 1)))?;
+        Ok(code)
     }
+}
+
+/// There is no row, and the sum is zero.
+fn no_rows(alloc: Global, at: u64, zero: u64) -> Result<Items<KStmt>, AllocError>
+    requires { at ≤ 2 ^ 62 }
+    ensures { IfOk result (λ code. code ≡ begin_code at zero) }
+{
+    let mut code = one_statement(alloc, KStmt::Set(at, KExpr::Num(0)))?;
+    code.push(KStmt::Set(at + 1, KExpr::Num(zero)))?;
+    Ok(code)
 }
 
 /// Adds a value to the sum.
