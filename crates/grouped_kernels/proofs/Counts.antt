@@ -12,9 +12,10 @@ use Rattle.expr_terms.specs.Points.{with_coordinate}
 use Rattle.expr_terms.specs.Terms.{contains}
 use Rattle.expr_terms.proofs.PointLaws.{coordinate_same}
 use Rattle.concrete_notation.specs.Contributions.{rows_below, sums_of}
-use Rattle.loop_code.specs.declared.loops.LoopCode.{LoopCode, Add, Both', Loop', Row_of-LoopCode, end_of-LoopCode, more_of-LoopCode}
+use Rattle.loop_code.specs.declared.loops.LoopCode.{LoopCode, Add, Both', Loop', Sum', Row_of-LoopCode, end_of-LoopCode}
+use Rattle.loop_code.specs.declared.loops.LoopCode.{more_of-LoopCode}
 use Rattle.loop_code.specs.declared.loops.Seek.{Seek}
-use Rattle.loop_code.specs.Loops.{Env, contributions, contributions_in, moved}
+use Rattle.loop_code.specs.Loops.{Env, at_cursor, contributions, contributions_in, moved, sum_of}
 use Rattle.loop_code.specs.Parts.{here, is_live_below_in, only}
 use Rattle.loop_code.specs.Places.{IsWellPlaced, IsWellPlaced_in, depth_after}
 use Rattle.loop_code.specs.Turns.{count_below}
@@ -110,6 +111,9 @@ module _ (a : Arithmetic) (s : Statement) (formats : List (List FormatLevel)) (t
         omega (arith, more, together, same)
     sums_few (v ∷ vs) bound depth (Both' p f q g) env placed chain = absurd chain
     sums_few (v ∷ vs) bound depth (Add t) env placed chain = absurd chain
+    sums_few (v ∷ vs) bound depth (Sum' k p inside q body) env placed chain =
+        sums_few_in (v ∷ vs) bound depth body
+        (at_cursor env k (sum_of a (contributions_in a (layout_of s formats) (stored_in o) ranges [] inside env))) placed.3 chain
 
     sums_few_in : {m : _} (vs bound : List ℕ) (depth : ℕ → ℕ) (row : Row_of-LoopCode m) (env : Env)
         → IsWellPlaced_in (layout_of s formats) (length s.accesses) bound depth row → IsChain_in vs row
