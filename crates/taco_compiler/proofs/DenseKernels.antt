@@ -45,6 +45,7 @@ use Rattle.dense_results.specs.Operands.{IsReadStore, operands_in}
 use Rattle.dense_results.specs.Results.{IsDenseStore, left_ranges}
 use Rattle.dense_results.proofs.Kernels.{dense_kernels_are_right, starts_are_tops}
 use Rattle.dense_results.proofs.Loops.{lowered_loops_go_through}
+use Rattle.kernel_correctness.proofs.FlatStores.{flat_sums}
 use Rattle.dense_results.proofs.Rows.{rows_are_taken}
 use Rattle.result_targets.specs.Beside.{LeavesLists, beside_lists}
 use Rattle.result_targets.specs.Sinks.{Sink, TakesAll}
@@ -70,7 +71,7 @@ module _ (a : Arithmetic) (laws : Laws a) (s : Statement) (formats : List (List 
   in_order = in_order_of s formats order loops l
 
   read_store : (store : Store) → IsStoreOf s formats store → IsReadStore s formats store
-  read_store store is = record { numbered = f.numbered; named = f.named; read = f.read; is = is }
+  read_store store is = record { numbered = f.numbered; named = f.named; flat = f.flat; read = f.read; is = is }
 
   module _ (k : DenseSink) (modes : k.modes ≡ modes_of (format_of formats 0)) (places : Places) (at : AreAtBase s 0 places)
       (top : List KStmt) (emitted : Emitted) (tops : StartsAt 0 top) (free : ℕ)
@@ -93,7 +94,7 @@ module _ (a : Arithmetic) (laws : Laws a) (s : Statement) (formats : List (List 
     lists_left (ListPositions n) h = refl
 
     bound_there : TargetIsBound s.left.vars [] loops
-    bound_there = (lowered_loops_go_through s f.numbered formats c in_order loops l.shape true).bound
+    bound_there = (lowered_loops_go_through s f.numbered formats (flat_sums s formats f.flat) c in_order loops l.shape l.starts true).bound
 
     taken : (store : Store) (d : IsDenseStore s formats store) (r : IsReadStore s formats store)
         → TakesAll dense_sink k (left_ranges s store) []
@@ -112,6 +113,8 @@ module _ (a : Arithmetic) (laws : Laws a) (s : Statement) (formats : List (List 
       adds = λ setting same store d r st t has.
           e.adds setting same laws 0 (omega arith) lists_left [] (λ j. 0) (operands_in s store) (slice_index store.ranges) start
           (left_ranges s store) [] st l.placed bound_there (taken store d r) (record {
+            least = 0;
+            mine_from = λ y mine. omega arith;
             mine_below = t.none;
             from = t.from;
             kept = λ b of. (t.kept b of, operand_apart 0 emitted.lists b of);

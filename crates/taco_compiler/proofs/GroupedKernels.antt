@@ -30,7 +30,7 @@ use Rattle.lowering.specs.Stored.{stored_of}
 use Rattle.result_targets.specs.Sinks.{Sink}
 use Rattle.term_code.specs.declared.places.Places.{Places}
 use Rattle.term_code.specs.Places.{StartsAt}
-use Rattle.operand_arrays.specs.Apart.{AreFrom}
+use Rattle.operand_arrays.specs.Apart.{AreOutside}
 use Rattle.operand_arrays.specs.Operands.{stored_in}
 use Rattle.operand_arrays.specs.Terms.{TargetIsBound}
 use Rattle.kernel_correctness.specs.Kernels.{Ends, IsRightKernel, IsRightOutcome}
@@ -39,6 +39,7 @@ use Rattle.kernel_correctness.specs.Stores.{Store, IsStoreOf, IsGiven, operand_o
 use Rattle.dense_results.specs.Kernels.{AreAtBase}
 use Rattle.dense_results.specs.Operands.{IsReadStore, operands_in}
 use Rattle.dense_results.proofs.Loops.{lowered_loops_go_through}
+use Rattle.kernel_correctness.proofs.FlatStores.{flat_sums}
 use Rattle.kernel_emit.specs.Emitted.{AreFew}
 use Rattle.row_orders.specs.Takings.{calls_for_workspace}
 use Rattle.row_orders.proofs.Lists.{clash}
@@ -89,7 +90,7 @@ module _ (a : Arithmetic) (laws : Laws a) (s : Statement) (formats : List (List 
   keys = left_in_order s order
 
   read_store : (store : Store) → IsStoreOf s formats store → IsReadStore s formats store
-  read_store store is = record { numbered = f.ordered.numbered; named = f.ordered.named; read = f.read; is = is }
+  read_store store is = record { numbered = f.ordered.numbered; named = f.ordered.named; flat = f.flat; read = f.read; is = is }
 
   own_loops : AreAppendedLoops s formats c loops
   own_loops = record { shares = l.shares; none = l.none; rows = l.rows; shape = l.shape; words = l.words }
@@ -97,10 +98,10 @@ module _ (a : Arithmetic) (laws : Laws a) (s : Statement) (formats : List (List 
   pub bound_there : TargetIsBound (left_in_order s order) [] loops
   bound_there =
       keys_bound s formats f.ordered order l.is_order loops
-      (lowered_loops_go_through s f.ordered.numbered formats c in_order loops l.shape true).bound
+      (lowered_loops_go_through s f.ordered.numbered formats (flat_sums s formats f.flat) c in_order loops l.shape l.starts true).bound
 
   module _ {W : Type 0} (within : Sink W) (drains : Draining W) (g : Grouped W AppendedSink) (own : IsSinkOf a formats g.outer.now)
-      (places : Places) (at : AreAtBase s (behind g.outer.now) places) (from : AreFrom (behind g.outer.now) places)
+      (places : Places) (at : AreAtBase s (behind g.outer.now) places) (from : AreOutside 0 (behind g.outer.now) places)
       (top begin ready emitted end : List KStmt) (tops : StartsAt (behind g.outer.now) top)
       (begins : BeginsFirst (letters_in g.outer.now) (length g.outer.now.levels) g.outer.now.base (length g.outer.now.levels) begin)
       (free past : ℕ) (spaces : List ℕ) (groups : GroupsFromTop a within drains g s formats order places loops free past spaces ready emitted)

@@ -44,6 +44,7 @@ use Rattle.dense_results.specs.Kernels.{AreAtBase}
 use Rattle.dense_results.specs.Operands.{IsReadStore, operands_in}
 use Rattle.dense_results.specs.Results.{left_ranges}
 use Rattle.dense_results.proofs.Loops.{lowered_loops_go_through}
+use Rattle.kernel_correctness.proofs.FlatStores.{flat_sums}
 use Rattle.result_targets.specs.Beside.{LeavesLists}
 use Rattle.result_targets.specs.Sinks.{TakesAll}
 use Rattle.kernel_emit.specs.Emitted.{AddsLoops}
@@ -116,7 +117,7 @@ module _ (a : Arithmetic) (laws : Laws a) (s : Statement) (formats : List (List 
   ordered = record { numbered = f.numbered; named = f.named; left = f.left; format = f.format; some = f.some }
 
   read_store : (store : Store) → IsStoreOf s formats store → IsReadStore s formats store
-  read_store store is = record { numbered = f.numbered; named = f.named; read = f.read; is = is }
+  read_store store is = record { numbered = f.numbered; named = f.named; flat = f.flat; read = f.read; is = is }
 
   many : length keys ≡ length s.left.vars
   many = keys_many s formats ordered order l.is_order
@@ -124,7 +125,7 @@ module _ (a : Arithmetic) (laws : Laws a) (s : Statement) (formats : List (List 
   bound_there : TargetIsBound keys [] loops
   bound_there =
       keys_bound s formats ordered order l.is_order loops
-      (lowered_loops_go_through s f.numbered formats c in_order loops l.shape true).bound
+      (lowered_loops_go_through s f.numbered formats (flat_sums s formats f.flat) c in_order loops l.shape l.starts true).bound
 
   module _ (places : Places) (at : AreAtBase s 0 places) (top fill : List KStmt) (emitted : Emitted)
       (tops : StartsAt 0 top) (free : ℕ)
@@ -166,6 +167,8 @@ module _ (a : Arithmetic) (laws : Laws a) (s : Statement) (formats : List (List 
       pushes = λ setting same store r st t has.
           e.adds setting same laws 0 (omega arith) lists_left [] (λ j. 0) (operands_in s store) (slice_index store.ranges) start
           (left_ranges s store) [] st l.placed bound_there (taken store r) (record {
+            least = 0;
+            mine_from = λ y mine. omega arith;
             mine_below = t.none;
             from = t.from;
             kept = λ b of. (t.kept b of, operand_apart 1 emitted.lists b of);

@@ -34,6 +34,7 @@ use Rattle.statement_costs.specs.Costs.{statement_cost}
 use Rattle.dense_results.specs.Kernels.{AreAtBase}
 use Rattle.dense_results.specs.Operands.{IsReadStore, operands_in}
 use Rattle.dense_results.proofs.Loops.{lowered_loops_go_through}
+use Rattle.kernel_correctness.proofs.FlatStores.{flat_sums}
 use Rattle.kernel_emit.specs.Emitted.{AddsLoops}
 use Rattle.kernel_emit.specs.declared.emitting.Emitted.{Emitted}
 use Rattle.kernel_emit.proofs.ListLaws.{operand_apart}
@@ -122,12 +123,12 @@ module _ (a : Arithmetic) (laws : Laws a) (s : Statement) (formats : List (List 
   }
 
   read_store : (store : Store) → IsStoreOf s formats store → IsReadStore s formats store
-  read_store store is = record { numbered = f.sparse.numbered; named = f.sparse.named; read = f.sparse.read; is = is }
+  read_store store is = record { numbered = f.sparse.numbered; named = f.sparse.named; flat = f.sparse.flat; read = f.sparse.read; is = is }
 
   bound_there : TargetIsBound keys [] loops
   bound_there =
       keys_bound s formats ordered order l.is_order loops
-      (lowered_loops_go_through s f.sparse.numbered formats c in_order loops l.shape true).bound
+      (lowered_loops_go_through s f.sparse.numbered formats (flat_sums s formats f.sparse.flat) c in_order loops l.shape l.starts true).bound
 
   module _ (k : TouchedSink) (places : Places) (at : AreAtBase s 0 places) (below : AreBelow 3 places) (top begin fill : List KStmt)
       (emitted : Emitted) (tops : StartsAt 0 top) (begins : BeginsTouched k begin)
@@ -148,6 +149,8 @@ module _ (a : Arithmetic) (laws : Laws a) (s : Statement) (formats : List (List 
       adds = λ setting same store r takes st t has.
           e.adds setting same laws 0 (omega arith) (touched_draining_laws.lists k) [] (λ j. 0) (operands_in s store)
           (slice_index store.ranges) start (ranges_on k store) [] st l.placed bound_there takes (record {
+            least = 0;
+            mine_from = λ y mine. omega arith;
             mine_below = λ y none. absurd none;
             from = t.from;
             kept = λ b of. (t.kept b of, operand_apart 1 emitted.lists b of);
@@ -282,7 +285,8 @@ for_touched s formats order ready some unordered one =
         numbered = ready.numbered;
         named = ready.named;
         left = ready.left;
-        read = ready.right;
+        flat = ready.flat;
+        read = ready.read;
         format = subst (λ t. IsFormat (format_of formats t)) result ready.formed.0;
         some = λ dense. some (subst (λ t. AreAllDense (format_of formats t)) (sym result) dense);
       };
